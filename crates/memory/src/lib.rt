@@ -1,0 +1,137 @@
+//! The memory that every collection of the archive keeps: a handle, passed by value and cloned
+//! where a second owner needs it, that a test can make run out at the growth of its choice.
+#![tactic(auto)]
+
+use std::alloc::{AllocError, Allocator, Global};
+use std::cell::Cell;
+use std::rc::Rc;
+
+/// There was no memory for what was asked.
+pub use std::alloc::AllocError as NoMemory;
+
+/// The memory that the archive's types keep.
+pub type Heap = Memory<Global>;
+
+/// A handle to the memory of `B`: it passes each call on, and refuses every growth once its
+/// growths are used up. A clone shares what is left.
+///
+/// A growth is an allocation, also where a collection asks for a larger block in the place of its
+/// own. The contract of an allocator does not say when it refuses, so that the count is kept is
+/// shown by this crate's tests and by no clause.
+pub struct Memory<B: Allocator> {
+    inner: B,
+    growths: Rc<Cell<u64>>,
+}
+
+impl Memory<Global> {
+    /// Memory that refuses only what `global` refuses: it has 2^64 - 1 growths. `NoMemory` where
+    /// there is no room for the count of the growths.
+    pub fn new(global: Global) -> Result<Heap, NoMemory> {
+        Heap::with_growths(global, u64::MAX)
+    }
+
+    /// Memory that grants `growths` growths, fewer where `global` refuses one, and then none.
+    /// `NoMemory` where there is no room for the count of the growths.
+    pub fn with_growths(global: Global, growths: u64) -> Result<Heap, NoMemory> {
+        Ok(Memory {
+            inner: global,
+            growths: Rc::new(global, Cell::new(growths))?,
+        })
+    }
+}
+
+impl<B: Allocator + Clone> Clone for Memory<B> {
+    fn clone(&self) -> Result<Self, AllocError> {
+        Ok(Memory {
+            inner: self.inner.clone()?,
+            growths: self.growths.clone()?,
+        })
+    }
+}
+
+impl<B: Allocator> Drop for Memory<B> {
+    fn drop(self) {
+        let Self {
+            inner: _,
+            growths: _,
+        } = self;
+    }
+}
+
+// Whether a growth was left: it is used up now.
+fn take_growth(growths: &Rc<Cell<u64>>) -> bool {
+    let left = growths.get();
+    if left == 0 {
+        return false;
+    }
+    growths.set(left - 1);
+    true
+}
+
+unsafe impl<B: Allocator> Allocator for Memory<B> {
+    ghost dealloc_token = { λ memory ty ptr. B.dealloc_token memory.inner ty ptr };
+
+    fn allocate(&self, size: usize, align: usize) -> Result<*mut u8, AllocError> {
+        if !take_growth(&self.growths) {
+            return Err(AllocError);
+        }
+        self.inner.allocate(size, align)
+    }
+
+    unsafe fn deallocate(&self, ptr: *mut u8, size: usize, align: usize) {
+        self.inner.deallocate(ptr, size, align);
+    }
+}
+
+#[cfg(test)]
+mod tests {
+    use super::*;
+    use std::test::Fail;
+
+    #[test]
+    fn refuses_once_its_growths_are_used_up(rt: HostRuntime) -> Result<(), Fail> {
+        // A vector of numbers has room for 4 once it has grown, and then for twice as many.
+        for (growths, room) in [(0, 0), (1, 4), (2, 8), (3, 16)] {
+            let mut numbers = Vec::new(Heap::with_growths(rt.alloc(), growths)?);
+            for number in 0..room {
+                numbers.push(number)?;
+            }
+            for _ in 0..2 {
+                assert!(rt; numbers.push(room).is_err(), "after {growths} growths");
+                assert!(rt;
+                    numbers.iter().copied().eq(0..room),
+                    "after {growths} growths"
+                );
+            }
+        }
+        Ok(())
+    }
+
+    #[test]
+    fn grants_each_growth_while_some_are_left(rt: HostRuntime) -> Result<(), Fail> {
+        for heap in [Heap::new(rt.alloc())?, Heap::with_growths(rt.alloc(), 9)?] {
+            let mut numbers = Vec::new(heap);
+            for number in 0..1000u64 {
+                numbers.push(number)?;
+            }
+            assert!(rt; numbers.iter().copied().eq(0..1000));
+        }
+        Ok(())
+    }
+
+    #[test]
+    fn a_clone_shares_what_is_left(rt: HostRuntime) -> Result<(), Fail> {
+        let heap = Heap::with_growths(rt.alloc(), 2)?;
+        let mut first = Vec::new(heap.clone()?);
+        let mut second = Vec::new(heap.clone()?);
+        let mut third = Vec::new(heap);
+        first.push(1u8)?;
+        second.push(2u8)?;
+        assert!(rt; third.push(3u8).is_err());
+
+        // A block that goes back is no growth that comes back.
+        drop(first);
+        assert!(rt; third.push(3).is_err());
+        Ok(())
+    }
+}
