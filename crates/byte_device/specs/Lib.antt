@@ -1,0 +1,4 @@
+pub mod Devices
+pub mod Limits
+pub mod Taking
+pub mod Writes

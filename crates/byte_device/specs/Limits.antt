@@ -1,0 +1,16 @@
+-- Where the devices for tests fail.
+use Rattle.std.specs.Prelude.{ℕ}
+use Rattle.byte_device.specs.declared.testing.Pieces.{Pieces}
+use Rattle.byte_device.specs.declared.testing.Short.{Short}
+
+-- the most bytes that it gives at once
+abbrev pub piece_size : Pieces → ℕ
+piece_size p = p.size
+
+-- how many bytes it still gives before it fails
+abbrev pub pieces_limit : Pieces → ℕ
+pieces_limit p = p.limit
+
+-- how many bytes it still takes before it fails
+abbrev pub short_limit : Short → ℕ
+short_limit s = s.limit

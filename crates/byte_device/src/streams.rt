@@ -1,0 +1,86 @@
+//! Devices over the readers and writers of `std`.
+
+ghost use Rattle.std.specs.Prelude.{◌≡◌, ℕ};
+
+use crate::{Failed, Sink, Source};
+use std::io::{Read, Write};
+
+/// The bytes of a reader. Each error of the reader, `Interrupted` too, is a failure.
+#[derive(Drop)]
+pub struct Reading<R> {
+    reader: R,
+    failures: u64,
+}
+
+impl<R: Read + Drop> Reading<R> {
+    /// A device that gives the reader's bytes from here on.
+    pub fn new(reader: R) -> Self
+        ensures left { ⟦<Reading<R> as Source>⟧.left result ≡ R.remaining reader }
+        ensures failures { ⟦<Reading<R> as Source>⟧.failures result ≡ 0 }
+    {
+        Reading {
+            reader,
+            failures: 0,
+        }
+    }
+}
+
+impl<R: Read + Drop> Source for Reading<R> {
+    ghost left = { λ s. R.remaining s.reader };
+
+    ghost failures = { λ s. s.failures };
+
+    fn pull(&mut self, buf: &mut [u8]) -> Result<usize, Failed> {
+        if self.failures == u64::MAX {
+            return Err(Failed);
+        }
+        match self.reader.read(buf) {
+            Ok(n) => Ok(n),
+            Err(_) => {
+                self.failures += 1;
+                Err(Failed)
+            }
+        }
+    }
+}
+
+/// The bytes of a writer. Each error of the writer, and a write of bytes that takes none, is a failure.
+///
+/// It never flushes: a writer that keeps bytes back is flushed by its owner.
+#[derive(Drop)]
+pub struct Writing<W> {
+    writer: W,
+    failures: u64,
+}
+
+impl<W: Write + Drop> Writing<W> {
+    /// A device that takes bytes behind those of the writer.
+    pub fn new(writer: W) -> Self
+        ensures held { ⟦<Writing<W> as Sink>⟧.held result ≡ W.contents writer }
+        ensures failures { ⟦<Writing<W> as Sink>⟧.failures result ≡ 0 }
+    {
+        Writing {
+            writer,
+            failures: 0,
+        }
+    }
+}
+
+impl<W: Write + Drop> Sink for Writing<W> {
+    ghost held = { λ s. W.contents s.writer };
+
+    ghost failures = { λ s. s.failures };
+
+    fn push(&mut self, bytes: &[u8]) -> Result<usize, Failed> {
+        if self.failures == u64::MAX {
+            return Err(Failed);
+        }
+        match self.writer.write(bytes) {
+            Ok(n) if n > 0 || bytes.is_empty() => Ok(n),
+            _ => {
+                self.failures += 1;
+                Err(Failed)
+            }
+        }
+    }
+}

@@ -1,0 +1,153 @@
+//! Devices for tests: they give or take a part at a time, and fail where a test wants it.
+
+ghost use Rattle.std.specs.Prelude.{◌≡◌, ◌<◌, ◌≤◌, ◌+◌, ◌⊎◌, ◌↔◌, Some, [], IfOk, IsErr, OnErr, length, min, vec_capacity, MatchResult};
+ghost use Rattle.std.specs.Io.KnownBytes.{ReadConsumes, WriteAppends};
+ghost use Rattle.byte_device.specs.Devices.{CountsFailure, most_failures};
+
+use crate::{Failed, Sink, Source};
+use memory::Heap;
+
+/// The bytes of a slice, a few at a time. It fails at each pull once it gave as many bytes as its
+/// limit, also at the end of the slice.
+#[derive(Drop)]
+pub struct Pieces<'a> {
+    rest: &'a [u8],
+    size: usize,
+    limit: usize,
+    failures: u64,
+    ghost gives: { 0 < size },
+}
+
+impl<'a> Pieces<'a> {
+    ghost use Rattle.byte_device.specs.Limits.{piece_size, pieces_limit};
+
+    /// A device that will give these bytes, at most `size` at a time, and `limit` in all before it
+    /// fails. With the limit `usize::MAX` it comes to the end of any slice.
+    pub fn new(bytes: &'a [u8], size: usize, limit: usize) -> Self
+        requires { 0 < size }
+        ensures left { ⟦<Pieces<'a> as Source>⟧.left result ≡ Some bytes.now }
+        ensures failures { ⟦<Pieces<'a> as Source>⟧.failures result ≡ 0 }
+        ensures size { piece_size result ≡ size }
+        ensures limit { pieces_limit result ≡ limit }
+    {
+        Pieces {
+            rest: bytes,
+            size,
+            limit,
+            failures: 0,
+        }
+    }
+}
+
+impl<'a> Source for Pieces<'a> {
+    ghost use Rattle.byte_device.specs.Limits.{piece_size, pieces_limit};
+
+    ghost left = { λ s. Some s.rest.now };
+
+    ghost failures = { λ s. s.failures };
+
+    fn pull(&mut self, buf: &mut [u8]) -> Result<usize, Failed>
+        ensures bound { IfOk result (λ n. n ≤ length buf.new) }
+        ensures bytes { ReadConsumes (Some self.old.rest.now) (Some self.new.rest.now) result buf.new }
+        ensures count { CountsFailure self.old.failures self.new.failures result }
+
+        // It fails exactly where its limit is reached, or its count of failures is at its greatest.
+        ensures fails { IsErr result ↔ ((pieces_limit self.old ≡ 0) ⊎ (self.old.failures ≡ most_failures)) }
+        ensures piece { IfOk result (λ n. n ≡
+            min (min (length self.old.rest.now) (length buf.new))
+            (min (piece_size self.old) (pieces_limit self.old))) }
+        ensures limit { MatchResult result
+            (λ n. pieces_limit self.new + n ≡ pieces_limit self.old)
+            (λ _. pieces_limit self.new ≡ pieces_limit self.old) }
+        ensures size { piece_size self.new ≡ piece_size self.old }
+    {
+        if self.failures == u64::MAX {
+            return Err(Failed);
+        }
+        if self.limit == 0 {
+            self.failures += 1;
+            return Err(Failed);
+        }
+        let most = self.size.min(self.limit);
+        let n = self.rest.len().min(buf.len()).min(most);
+        let (front, back) = self.rest.split_at(n);
+        buf[..n].copy_from_slice(front);
+        self.rest = back;
+        self.limit -= n;
+        Ok(n)
+    }
+}
+
+/// Bytes in memory, up to a limit. It fails at each push once it took as many bytes as its limit,
+/// and where its growth was refused.
+#[derive(Drop)]
+pub struct Short {
+    bytes: Vec<u8, Heap>,
+    limit: usize,
+    failures: u64,
+}
+
+impl Short {
+    ghost use Rattle.byte_device.specs.Limits.{short_limit};
+
+    /// A device that holds no byte, and takes `limit` before it fails.
+    pub fn new(heap: Heap, limit: usize) -> Self
+        ensures held { ⟦<Short as Sink>⟧.held result ≡ Some [] }
+        ensures failures { ⟦<Short as Sink>⟧.failures result ≡ 0 }
+        ensures limit { short_limit result ≡ limit }
+    {
+        Short {
+            bytes: Vec::new(heap),
+            limit,
+            failures: 0,
+        }
+    }
+
+    /// The bytes that it holds.
+    pub fn as_slice(&self) -> &[u8]
+        ensures { ⟦<Short as Sink>⟧.held self.now ≡ Some result.now }
+    {
+        &self.bytes
+    }
+}
+
+impl Sink for Short {
+    ghost use Rattle.byte_device.specs.Limits.{short_limit};
+
+    ghost held = { λ s. Some s.bytes.items };
+
+    ghost failures = { λ s. s.failures };
+
+    fn push(&mut self, bytes: &[u8]) -> Result<usize, Failed>
+        ensures bound { IfOk result (λ n. n ≤ length bytes.now) }
+        ensures some { 0 < length bytes.now → IfOk result (λ n. 0 < n) }
+        ensures bytes { WriteAppends (Some self.old.bytes.items) (Some self.new.bytes.items) result bytes.now }
+        ensures count { CountsFailure self.old.failures self.new.failures result }
+
+        // It fails where its limit is reached, and else only where its growth was refused or its
+        // count of failures is at its greatest.
+        ensures reached { short_limit self.old ≡ 0 → IsErr result }
+        ensures refused { OnErr result (
+            (short_limit self.old ≡ 0)
+            ⊎ (vec_capacity self.old.bytes <
+            length self.old.bytes.items + min (length bytes.now) (short_limit self.old))
+            ⊎ (self.old.failures ≡ most_failures)) }
+        ensures part { IfOk result (λ n. n ≡ min (length bytes.now) (short_limit self.old)) }
+        ensures limit { MatchResult result
+            (λ n. short_limit self.new + n ≡ short_limit self.old)
+            (λ _. short_limit self.new ≡ short_limit self.old) }
+    {
+        if self.failures == u64::MAX {
+            return Err(Failed);
+        }
+        if self.limit > 0 {
+            let n = bytes.len().min(self.limit);
+            if let Ok(()) = self.bytes.extend_from_slice(&bytes[..n]) {
+                self.limit -= n;
+                return Ok(n);
+            }
+        }
+        self.failures += 1;
+        Err(Failed)
+    }
+}

@@ -1,0 +1,55 @@
+//! Texts that are given to a sink whole.
+
+ghost use Rattle.std.specs.Prelude.{◌≡◌, ℕ, ◌+◌, ◌^◌, ◌<◌, length, OnOk, IfOk, IfErr, OnErr};
+ghost use Rattle.std.specs.Io.KnownBytes.{Appends};
+ghost use Rattle.byte_device.specs.Devices.{FailedIn};
+ghost use Rattle.byte_device.specs.Writes.{WritesFirst};
+
+use crate::{Failed, Sink};
+
+/// The writer failed after it had taken exactly this many first bytes of the text.
+#[derive(Clone, Copy, Debug, PartialEq, Eq)]
+pub struct WriteFault {
+    pub written: u128,
+}
+
+/// Gives all the bytes to the writer.
+pub fn push_all<W: Sink>(w: &mut W, bytes: &[u8]) -> Result<(), WriteFault>
+    ensures ok { OnOk result (Appends (W.held w.old) (W.held w.new) bytes.now) }
+    ensures unfailed { OnOk result (W.failures w.new ≡ W.failures w.old) }
+    ensures err { IfErr result (λ e. WritesFirst (W.held w.old) (W.held w.new) bytes.now e.written) }
+    ensures failed { OnErr result (FailedIn (W.failures w.old) (W.failures w.new)) }
+{
+    let mut at = 0;
+    'pushing: while at < bytes.len() {
+        match w.push(&bytes[at..]) {
+            Ok(n) => at += n,
+            Err(Failed) => {
+                return Err(WriteFault {
+                    written: at as u128,
+                });
+            }
+        }
+    }
+    Ok(())
+}
+
+/// Gives the writer the bytes that stand behind the first `written` bytes of a text, and says how
+/// many bytes of the text it has then. A fault, too, counts from the beginning of the text.
+pub fn put<W: Sink>(w: &mut W, written: u128, bytes: &[u8]) -> Result<u128, WriteFault>
+    requires { written + length bytes.now < 2 ^ 128 }
+    ensures ok { IfOk result (λ n.
+        (n ≡ written + length bytes.now) × Appends (W.held w.old) (W.held w.new) bytes.now) }
+    ensures unfailed { OnOk result (W.failures w.new ≡ W.failures w.old) }
+    ensures err { IfErr result (λ e. (k : ℕ)
+        × (e.written ≡ written + k)
+        × WritesFirst (W.held w.old) (W.held w.new) bytes.now k) }
+    ensures failed { OnErr result (FailedIn (W.failures w.old) (W.failures w.new)) }
+{
+    match push_all(w, bytes) {
+        Ok(()) => Ok(written + bytes.len() as u128),
+        Err(fault) => Err(WriteFault {
+            written: written + fault.written,
+        }),
+    }
+}
