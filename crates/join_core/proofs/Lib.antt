@@ -1,0 +1,7 @@
+pub mod Bounds
+pub mod Subset
+pub mod Members
+pub mod Place
+pub mod Listing
+pub mod Search
+pub mod Merge

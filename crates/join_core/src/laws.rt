@@ -1,0 +1,60 @@
+//! What follows for each type that joins, from the three laws of its order alone.
+//!
+//! Each law is the contract of a function with an empty body, and speaks of contents and their least
+//! bounds: `IsLeastAbove is_content below x y z` says that `z` is the join of `x` and `y`. A caller
+//! that wants a law calls its function. The laws are those of a join semilattice, on which the
+//! convergence of state-based objects rests (INRIA RR-7506, 2011).
+ghost use Rattle.std.specs.Prelude.{◌≡◌};
+ghost use Rattle.join_core.specs.Bound.{IsLeastAbove};
+
+use crate::Join;
+
+/// Two contents have one join at most.
+pub fn unique<J: Join>()
+    ensures { (x y joined again : J.Content)
+        → IsLeastAbove J.is_content J.below x y joined
+        → IsLeastAbove J.is_content J.below x y again
+        → joined ≡ again }
+{}
+
+/// Joining in either grouping gives one content: `(x ∨ y) ∨ z` is `x ∨ (y ∨ z)`.
+pub fn associative<J: Join>()
+    ensures { (x y z xy yz left right : J.Content)
+        → IsLeastAbove J.is_content J.below x y xy
+        → IsLeastAbove J.is_content J.below xy z left
+        → IsLeastAbove J.is_content J.below y z yz
+        → IsLeastAbove J.is_content J.below x yz right
+        → left ≡ right }
+{}
+
+/// Joining in either order gives one content: `x ∨ y` is `y ∨ x`.
+pub fn commutative<J: Join>()
+    ensures { (x y left right : J.Content)
+        → IsLeastAbove J.is_content J.below x y left
+        → IsLeastAbove J.is_content J.below y x right
+        → left ≡ right }
+{}
+
+/// Joining a content with itself changes nothing: `x ∨ x` is `x`.
+pub fn idempotent<J: Join>()
+    ensures { (x : J.Content) → J.is_content x → IsLeastAbove J.is_content J.below x x x }
+{}
+
+/// What holds no more joins to no more: where `x` is below `y`, `x ∨ z` is below `y ∨ z`.
+pub fn monotone<J: Join>()
+    ensures { (x y z xz yz : J.Content)
+        → J.below x y
+        → IsLeastAbove J.is_content J.below x z xz
+        → IsLeastAbove J.is_content J.below y z yz
+        → J.below xz yz }
+{}
+
+/// A join that stopped half way and is asked for again gives what it would have given: `mid ∨ other`
+/// is `old ∨ other` wherever `mid` is above `old` and below that join.
+pub fn resumed<J: Join>()
+    ensures { (old mid other joined : J.Content)
+        → IsLeastAbove J.is_content J.below old other joined
+        → J.below old mid
+        → J.below mid joined
+        → IsLeastAbove J.is_content J.below mid other joined }
+{}
