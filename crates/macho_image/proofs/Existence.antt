@@ -1,0 +1,72 @@
+-- Bytes that are no image have a fault: the walk over their commands, as a proof.
+use Rattle.std.proofs.Common.{◌≡◌, ℕ, zero, suc, ◌+◌, Bool, true, false, List, [], ◌∷◌, ◌++◌, length, take, drop, Option, Some, None, refl, sym, ◌⊎◌, inl, inr, arith}
+use Rattle.std.specs.List.{list_any}
+use Rattle.std.specs.Option.{option_or, is_some}
+use Rattle.std.proofs.lemmas.List.{take-append-drop}
+use Rattle.std.proofs.lemmas.Bool.{cases_lt}
+use Rattle.macho_image.specs.Layout.{u32_at, ncmds, command_bytes}
+use Rattle.macho_image.specs.Commands.{IsCommand, HasNoCommand, is_uuid}
+use Rattle.macho_image.specs.Contents.{uuid_among, symtab_among}
+use Rattle.macho_image.specs.Fault.{header_fault, command_fault, IsFirstFault, AreCommands, IsImageFault, IsImage}
+use Rattle.macho_image.specs.declared.fault.ImageFault.{ImageFault}
+use Rattle.macho_image.specs.declared.fault.ImageFault.TheVariants.{BadCommand, NoUuid}
+use Rattle.macho_image.specs.declared.symtab_command.Symtab.{Symtab}
+use Rattle.macho_image.proofs.Fronts.{no_short_command, no_outside_command, no_command_in_few, command_of_size}
+use Rattle.macho_image.proofs.Walk.{Reached, reached_start, reached_next, reached_fault, reached_end, reached_all}
+
+-- bytes begin with a command
+record IsCut (bytes : List ℕ) : Type 0 where
+  command : List ℕ
+  after : List ℕ
+  whole : IsCommand command
+  begins : bytes ≡ command ++ after
+
+-- or with none
+cut_or_none : (bytes : List ℕ) → IsCut bytes ⊎ HasNoCommand bytes
+cut_or_none bytes = elim (cases_lt (length bytes) 8) [
+  | inl few ↦ inr (no_command_in_few bytes few)
+  | inr enough ↦ elim (cases_lt (u32_at bytes 4) 8) [
+    | inl low ↦ inr (no_short_command bytes low)
+    | inr high ↦ elim (cases_lt (length bytes) (u32_at bytes 4)) [
+      | inl outside ↦ inr (no_outside_command bytes outside)
+      | inr inside ↦ inl (record {
+        command = take (u32_at bytes 4) bytes;
+        after = drop (u32_at bytes 4) bytes;
+        whole = command_of_size bytes (u32_at bytes 4) refl high inside;
+        begins = sym (take-append-drop (u32_at bytes 4) bytes);
+      })
+    ]
+  ]
+]
+
+-- a walk ends with a fault or with all commands
+abbrev Ends : List ℕ → ℕ → Type 0
+Ends area count = ((fault : ImageFault) × IsFirstFault area count fault) ⊎ ((commands : List (List ℕ)) × AreCommands area count commands)
+
+walk_on : (steps : ℕ) (area : List ℕ) (place count : ℕ) (rest : List ℕ) (uuid : Option (List ℕ)) (symtab : Option Symtab) → place + steps ≡ count → Reached area place rest uuid symtab → Ends area count
+walk_on zero area place count rest uuid symtab e reached =
+    let all = reached_all area place count rest uuid symtab reached (omega arith) in
+    inr (all.commands, all.sound)
+walk_on (suc steps) area place count rest uuid symtab e reached = elim (cut_or_none rest) [
+  | inr none ↦ inl (BadCommand place, reached_end area place rest uuid symtab reached count (omega arith) none)
+  | inl cut ↦ by_fault cut (command_fault place (is_some uuid) (is_some symtab) cut.command) refl (walk_on steps area (place + 1) count cut.after (option_or uuid (uuid_among (cut.command ∷ []))) (option_or symtab (symtab_among (cut.command ∷ []))) (omega arith))
+]
+  where
+    by_fault : (cut : IsCut rest) (o : Option ImageFault) → command_fault place (is_some uuid) (is_some symtab) cut.command ≡ o
+        → (Reached area (place + 1) cut.after (option_or uuid (uuid_among (cut.command ∷ []))) (option_or symtab (symtab_among (cut.command ∷ []))) → Ends area count) → Ends area count
+    by_fault cut None fine more = more (reached_next area place rest uuid symtab reached cut.command cut.after cut.whole cut.begins fine)
+    by_fault cut (Some fault) faulty more = inl (fault, reached_fault area place rest uuid symtab reached cut.command cut.after cut.whole cut.begins count fault (omega arith) faulty)
+
+pub image_or_fault : (bytes : List ℕ) → IsImage bytes ⊎ ((fault : ImageFault) × IsImageFault bytes fault)
+image_or_fault bytes = by_header (header_fault bytes) refl
+  where
+    by_uuid : header_fault bytes ≡ None → (commands : List (List ℕ)) → AreCommands (command_bytes bytes) (ncmds bytes) commands → (b : Bool) → list_any is_uuid commands ≡ b → IsImage bytes ⊎ ((fault : ImageFault) × IsImageFault bytes fault)
+    by_uuid fine commands sound true h = inl (record { header = fine; commands = commands; sound = sound; has_uuid = h })
+    by_uuid fine commands sound false h = inr (NoUuid, inr (inr (fine, refl, commands, sound, h)))
+
+    by_header : (o : Option ImageFault) → header_fault bytes ≡ o → IsImage bytes ⊎ ((fault : ImageFault) × IsImageFault bytes fault)
+    by_header (Some fault) faulty = inr (fault, inl faulty)
+    by_header None fine = elim (walk_on (ncmds bytes) (command_bytes bytes) 0 (ncmds bytes) (command_bytes bytes) None None (omega arith) (reached_start (command_bytes bytes))) [
+      | inl first ↦ inr (first.0, inr (inl (fine, first.1)))
+      | inr all ↦ by_uuid fine all.0 all.1 (list_any is_uuid all.0) refl
+    ]

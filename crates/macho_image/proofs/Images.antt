@@ -1,0 +1,103 @@
+-- What the walk over the commands shows of the whole image.
+use Rattle.std.proofs.Common.{◌≡◌, ℕ, zero, suc, ◌<◌, ◌≤◌, Bool, true, false, cond, nat_le, ◌&&◌, List, [], ◌∷◌, ◌++◌, length, take, drop, Option, Some, None, refl, sym, ap, ◌∙◌, inl, inr, arith, append_assoc, length-append, unwrap_or, sub-one, ◌-◌}
+use Rattle.std.specs.List.{concat, AllByRecursion}
+use Rattle.std.specs.Option.{is_some}
+use Rattle.std.proofs.lemmas.List.{take-append-drop}
+use Rattle.std.proofs.Math.Seq.{take-append_seam, drop-append_seam}
+use Rattle.std.proofs.lemmas.Bool.Decides.{nat_tests}
+use Rattle.macho_image.specs.Layout.{u32_at, ncmds, command_bytes}
+use Rattle.macho_image.specs.Commands.{IsCommand, IsFront, first_commands, commands, is_uuid, HasNoCommand}
+use Rattle.macho_image.specs.Fault.{header_fault, IsFirstFault, AreCommands, IsImageFault}
+use Rattle.macho_image.specs.Contents.{uuid_bytes, uuid_among, symtab_among, IsSurveyed, IsRead}
+use Rattle.macho_image.specs.declared.fault.ImageFault.{ImageFault}
+use Rattle.macho_image.specs.declared.fault.ImageFault.TheVariants.{NoUuid}
+use Rattle.macho_image.specs.declared.symtab_command.Symtab.{Symtab}
+use Rattle.macho_image.proofs.Fronts.{size_in_front, command_of_size}
+use Rattle.macho_image.proofs.Walk.{is_some-found}
+
+fits_in : (n m : ℕ) → 8 ≤ n → n ≤ m → (nat_le 8 n && nat_le 8 m && nat_le n m) ≡ true
+fits_in n m low high = grind (arith, nat_tests)
+
+pub low_of : (n m : ℕ) → (nat_le 8 n && nat_le 8 m && nat_le n m) ≡ true → 8 ≤ n
+low_of n m h = grind (arith, nat_tests)
+
+pub high_of : (n m : ℕ) → (nat_le 8 n && nat_le 8 m && nat_le n m) ≡ true → n ≤ m
+high_of n m h = grind (arith, nat_tests)
+
+cut_front : (count : ℕ) (cs : List (List ℕ)) (rest area : List ℕ) → length cs ≡ count → AllByRecursion IsCommand cs → area ≡ concat cs ++ rest → first_commands count area ≡ cs
+unfolding first_commands
+cut_front zero [] rest area h p e = refl
+cut_front zero (c ∷ cs) rest area h p e = absurd (omega arith)
+cut_front (suc count) [] rest area h p e = absurd (omega arith)
+cut_front (suc count) (c ∷ cs) rest area h p e =
+    let split : area ≡ c ++ (concat cs ++ rest) = e ∙ append_assoc c (concat cs) rest in
+    let size : u32_at area 4 ≡ length c = size_in_front area c (concat cs ++ rest) p.0 split in
+    let long : length c ≤ length area = omega (arith, ap length split, length-append c (concat cs ++ rest)) in
+    let low : 8 ≤ length c = p.0.long in
+    let test = fits_in (length c) (length area) low long in
+    let front : take (length c) area ≡ c = ap (take (length c)) split ∙ take-append_seam c (concat cs ++ rest) in
+    let after : drop (length c) area ≡ concat cs ++ rest = ap (drop (length c)) split ∙ drop-append_seam c (concat cs ++ rest) in
+    let more = cut_front count cs rest (drop (length c) area) (omega arith) p.1 after in
+    rw (size, test, front, more) refl
+
+-- the first of the commands that are left
+pub one_command : (count : ℕ) (area command after : List ℕ) → IsCommand command → area ≡ command ++ after → 0 < count → first_commands count area ≡ command ∷ first_commands (count - 1) after
+unfolding first_commands
+one_command zero area c after p e h = absurd (omega arith)
+one_command (suc count) area c after p e h =
+    let size : u32_at area 4 ≡ length c = size_in_front area c after p e in
+    let long : length c ≤ length area = omega (arith, ap length e, length-append c after) in
+    let test = fits_in (length c) (length area) p.long long in
+    let front : take (length c) area ≡ c = ap (take (length c)) e ∙ take-append_seam c after in
+    let behind : drop (length c) area ≡ after = ap (drop (length c)) e ∙ drop-append_seam c after in
+    rw (size, test, front, behind, sub-one) refl
+
+-- where none is left
+pub no_command : (count : ℕ) (area : List ℕ) → count ≡ 0 → first_commands count area ≡ []
+unfolding first_commands
+no_command count area h = rw h refl
+
+-- nor where none stands there
+pub not_a_command : (count : ℕ) (area : List ℕ) → HasNoCommand area → first_commands count area ≡ []
+unfolding first_commands
+not_a_command zero area none = refl
+not_a_command (suc count) area none = elim_test (nat_le 8 (u32_at area 4) && nat_le 8 (length area) && nat_le (u32_at area 4) (length area)) refl
+  where
+    elim_test : (b : Bool) → (nat_le 8 (u32_at area 4) && nat_le 8 (length area) && nat_le (u32_at area 4) (length area)) ≡ b → cond b (take (u32_at area 4) area ∷ first_commands count (drop (u32_at area 4) area)) [] ≡ []
+    elim_test false h = refl
+    elim_test true h =
+        let low : 8 ≤ u32_at area 4 = low_of (u32_at area 4) (length area) h in
+        let high : u32_at area 4 ≤ length area = high_of (u32_at area 4) (length area) h in
+        absurd (none (take (u32_at area 4) area) (drop (u32_at area 4) area) (command_of_size area (u32_at area 4) refl low high) (sym (take-append-drop (u32_at area 4) area)))
+
+pub ruleset of_commands = (one_command, no_command, not_a_command)
+
+-- the commands that the definition cuts are those in front
+pub first_commands-front : (count : ℕ) (area : List ℕ) (cs : List (List ℕ)) → IsFront area count cs → first_commands count area ≡ cs
+first_commands-front count area cs front = cut_front count cs front.rest area front.number front.each front.begins
+
+module _ (bytes area : List ℕ) (count : ℕ) (header : header_fault bytes ≡ None) (number : count ≡ ncmds bytes) (place : area ≡ command_bytes bytes) where
+  -- a fault of the walk is that of the image
+  pub faulty_walk : (fault : ImageFault) → IsFirstFault area count fault → IsImageFault bytes fault
+  faulty_walk fault first = inr (inl (header, rw (place, number) at first))
+
+  module _ (uuid : Option (List ℕ)) (symtab : Option Symtab) (surveyed : IsSurveyed area count uuid symtab) where
+    here : AreCommands (command_bytes bytes) (ncmds bytes) surveyed.commands
+    here = rw (place, number) at surveyed.sound
+
+    -- as is the lack of a UUID
+    pub no_uuid_walk : uuid ≡ None → IsImageFault bytes NoUuid
+    no_uuid_walk none =
+        inr (inr (header, refl, surveyed.commands, here, sym (is_some-found uuid_bytes is_uuid surveyed.commands) ∙ ap is_some (sym surveyed.uuid_is ∙ none)))
+
+    -- and what the walk found is what the image says
+    pub sound_walk : (found : List ℕ) → uuid ≡ Some found → IsRead bytes found symtab
+    sound_walk found u =
+        let all : commands bytes ≡ surveyed.commands = first_commands-front (ncmds bytes) (command_bytes bytes) surveyed.commands here.1 in
+        let first : Some found ≡ uuid_among surveyed.commands = sym u ∙ surveyed.uuid_is in
+        record {
+          sound = record { header = header; commands = surveyed.commands; sound = here; has_uuid = sym (is_some-found uuid_bytes is_uuid surveyed.commands) ∙ ap is_some (sym first) };
+          room = rw all surveyed.room;
+          uuid_is = ap (λ o. unwrap_or o []) first ∙ ap (λ xs. unwrap_or (uuid_among xs) []) (sym all);
+          symtab_is = surveyed.symtab_is ∙ ap symtab_among (sym all);
+        }

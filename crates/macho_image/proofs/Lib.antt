@@ -1,0 +1,9 @@
+pub mod Fronts
+pub mod Walk
+pub mod Images
+pub mod FaultLemmas
+pub mod Existence
+pub mod SectionLemmas
+pub mod SectionPlaces
+pub mod Room
+pub mod Told

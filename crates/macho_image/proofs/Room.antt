@@ -1,0 +1,50 @@
+-- Commands and sections have room in an image, so there are not too many of them.
+use Rattle.std.proofs.Common.{◌≡◌, ℕ, zero, suc, ◌*◌, ◌≤◌, Bool, true, false, cond, nat_le, ◌&&◌, List, [], ◌∷◌, ◌++◌, length, take, drop, filter, refl, arith, length-append, length-drop, length-take}
+use Rattle.std.specs.List.{concat, AllByRecursion, flat_map}
+use Rattle.macho_image.specs.Layout.{u32_at, command_bytes, ncmds}
+use Rattle.macho_image.specs.Commands.{HasRoom, is_segment, first_commands, commands}
+use Rattle.macho_image.specs.Sections.{sections_in, sections}
+use Rattle.macho_image.proofs.Images.{high_of}
+use Rattle.macho_image.proofs.SectionPlaces.{length-sections_in}
+
+-- the commands that are cut from bytes are no longer than these
+length-first_commands : (count : ℕ) (area : List ℕ) → length (concat (first_commands count area)) ≤ length area
+unfolding first_commands
+length-first_commands zero area = omega arith
+length-first_commands (suc count) area = by_test (nat_le 8 (u32_at area 4) && nat_le 8 (length area) && nat_le (u32_at area 4) (length area)) refl (length-first_commands count (drop (u32_at area 4) area))
+  where
+    by_test : (b : Bool) → (nat_le 8 (u32_at area 4) && nat_le 8 (length area) && nat_le (u32_at area 4) (length area)) ≡ b
+        → length (concat (first_commands count (drop (u32_at area 4) area))) ≤ length (drop (u32_at area 4) area)
+        → length (concat (cond b (take (u32_at area 4) area ∷ first_commands count (drop (u32_at area 4) area)) [])) ≤ length area
+    by_test false e below = omega arith
+    by_test true e below =
+        let high : u32_at area 4 ≤ length area = high_of (u32_at area 4) (length area) e in
+        omega (arith, below, length-append (take (u32_at area 4) area) (concat (first_commands count (drop (u32_at area 4) area))), length-take (u32_at area 4) area, length-drop (u32_at area 4) area)
+
+-- sections have room in their commands
+sections_fit : (cs : List (List ℕ)) → AllByRecursion HasRoom cs → 80 * length (flat_map sections_in (filter is_segment cs)) ≤ length (concat cs)
+sections_fit [] h = omega arith
+sections_fit (c ∷ cs) h = by_kind (is_segment c) refl (sections_fit cs h.1)
+  where
+    by_kind : (b : Bool) → is_segment c ≡ b → 80 * length (flat_map sections_in (filter is_segment cs)) ≤ length (concat cs)
+        → 80 * length (flat_map sections_in (cond b (c ∷ filter is_segment cs) (filter is_segment cs))) ≤ length (c ++ concat cs)
+    by_kind false e below = omega (arith, below, length-append c (concat cs))
+    by_kind true e below =
+        omega (arith, below, h.0.sections e, length-sections_in c, length-append c (concat cs), length-append (sections_in c) (flat_map sections_in (filter is_segment cs)))
+
+-- each command has eight bytes
+commands_fit : (cs : List (List ℕ)) → AllByRecursion HasRoom cs → 8 * length cs ≤ length (concat cs)
+commands_fit [] h = omega arith
+commands_fit (c ∷ cs) h = omega (arith, commands_fit cs h.1, h.0.long, length-append c (concat cs))
+
+length-area : (image : List ℕ) → length (command_bytes image) ≤ length image
+length-area image = simp (length-take, length-drop) (omega arith)
+
+pub length-commands : (image : List ℕ) → AllByRecursion HasRoom (commands image) → 8 * length (commands image) ≤ length image
+length-commands image room =
+    omega (arith, commands_fit (commands image) room, length-first_commands (ncmds image) (command_bytes image), length-area image)
+
+pub length-sections : (image : List ℕ) → AllByRecursion HasRoom (commands image) → 80 * length (sections image) ≤ length image
+unfolding sections
+length-sections image room =
+    omega (arith, sections_fit (commands image) room, length-first_commands (ncmds image) (command_bytes image), length-area image)

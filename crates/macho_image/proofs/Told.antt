@@ -1,0 +1,175 @@
+-- What is known of each image: how long it is, that its commands have no fault, and that its UUID has sixteen bytes.
+use Rattle.std.proofs.Common.{◌≡◌, ℕ, zero, suc, ◌+◌, ◌*◌, ◌^◌, ◌<◌, ◌≤◌, Bool, true, false, cond, nat_lt, ◌&&◌, ◌||◌, List, [], ◌∷◌, ◌++◌, length, Option, Some, None, refl, sym, ap, ◌∙◌, inr, arith, append_assoc, length-append, length-take, length-drop, unwrap_or}
+use Rattle.std.specs.List.{concat, AllByRecursion, list_any, find, starts_with}
+use Rattle.std.specs.Option.{option_map}
+use Rattle.std.specs.Prelude.{nat_eq, Contains, slice_index_or}
+use Rattle.std.proofs.lemmas.Option.{none-some}
+use Rattle.std.proofs.lemmas.List.{append-nil}
+use Rattle.std.proofs.lemmas.List.Folds.{concat-append}
+use Rattle.std.proofs.lemmas.Bool.Decides.{nat_tests}
+use Rattle.macho_image.specs.Layout.{magic, sizeofcmds, ncmds, command_bytes}
+use Rattle.macho_image.specs.Commands.{IsCommand, IsFront, commands, is_segment, is_uuid, is_symtab, nsects}
+use Rattle.macho_image.specs.Fault.{header_fault, command_fault, IsImage}
+use Rattle.macho_image.specs.Contents.{uuid_bytes, uuid_of, symtab_fields, symtab_of}
+use Rattle.macho_image.specs.declared.fault.ImageFault.{ImageFault}
+use Rattle.macho_image.proofs.Images.{first_commands-front}
+
+-- a choice that gives nothing did not take the fault
+not_taken : {A : Type 0} (b : Bool) (fault : A) (o : Option A) → cond b (Some fault) o ≡ None → (b ≡ false) × (o ≡ None)
+not_taken true fault o h = absurd (none-some fault (sym h))
+not_taken false fault o h = (refl, h)
+
+not_untaken : {A : Type 0} (b : Bool) (fault : A) (o : Option A) → cond b o (Some fault) ≡ None → (b ≡ true) × (o ≡ None)
+not_untaken true fault o h = (refl, h)
+not_untaken false fault o h = absurd (none-some fault (sym h))
+
+not_below : (a b : ℕ) → nat_lt a b ≡ false → b ≤ a
+not_below a b h = grind (arith, nat_tests)
+
+-- bytes without a fault in the header are at least as long as it and the commands, and not too long
+pub record HasHeader (bytes : List ℕ) : Type 0 where
+  pub small : length bytes < 2 ^ 32
+  pub header : 32 ≤ length bytes
+  pub commands : 32 + sizeofcmds bytes ≤ length bytes
+
+pub has_header : (bytes : List ℕ) → header_fault bytes ≡ None → HasHeader bytes
+has_header bytes fine =
+    let first = not_taken (nat_lt 4294967295 (length bytes)) _ _ fine in
+    let second = not_untaken (starts_with nat_eq bytes magic) _ _ first.1 in
+    let third = not_taken (nat_lt (length bytes) 32) _ _ second.1 in
+    let fourth = not_taken (nat_lt (length bytes) (32 + sizeofcmds bytes)) _ _ third.1 in
+    let small : length bytes ≤ 4294967295 = not_below _ _ first.0 in
+    record {
+      small = omega arith;
+      header = not_below _ _ third.0;
+      commands = not_below _ _ fourth.0;
+    }
+
+pub length-image : (image : List ℕ) → IsImage image → length image < 2 ^ 32
+length-image image sound = (has_header image sound.header).small
+
+pub header-image : (image : List ℕ) → IsImage image → 32 ≤ length image
+header-image image sound = (has_header image sound.header).header
+
+-- a front ends behind each of its commands
+front_to : (area : List ℕ) (count : ℕ) (before after : List (List ℕ)) (command : List ℕ) → IsFront area count (before ++ command ∷ after) → IsFront area (length before + 1) (before ++ command ∷ [])
+front_to area count before after command front = record {
+  number = length-append before (command ∷ []);
+  each = each_to before front.each;
+  rest = concat after ++ front.rest;
+  begins = front.begins ∙ ap (λ s. s ++ front.rest) (concat-append before (command ∷ after)) ∙ moved (concat before) command (concat after) front.rest ∙ ap (λ s. s ++ (concat after ++ front.rest)) (ap (λ s. concat before ++ s) (sym (append-nil command)) ∙ sym (concat-append before (command ∷ [])));
+}
+  where
+    each_to : (xs : List (List ℕ)) → AllByRecursion IsCommand (xs ++ command ∷ after) → AllByRecursion IsCommand (xs ++ command ∷ [])
+    each_to [] h = (h.0, tt)
+    each_to (x ∷ xs) h = (h.0, each_to xs h.1)
+
+    moved : (a b c d : List ℕ) → (a ++ (b ++ c)) ++ d ≡ (a ++ b) ++ (c ++ d)
+    moved a b c d = simp append_assoc
+
+-- no command of an image has a fault
+pub command_fault-image : (image : List ℕ) → IsImage image → (before after : List (List ℕ)) (command : List ℕ) → commands image ≡ before ++ command ∷ after
+    → command_fault (length before) (list_any is_uuid before) (list_any is_symtab before) command ≡ None
+command_fault-image image sound before after command split = none_of (command_fault (length before) (list_any is_uuid before) (list_any is_symtab before) command) refl
+  where
+    same : sound.commands ≡ before ++ command ∷ after
+    same = sym (first_commands-front (ncmds image) (command_bytes image) sound.commands sound.sound.1) ∙ split
+
+    front : IsFront (command_bytes image) (ncmds image) (before ++ command ∷ after)
+    front = rw same at sound.sound.1
+
+    below : length before < ncmds image
+    below = omega (arith, front.number, length-append before (command ∷ after))
+
+    none_of : (o : Option ImageFault) → command_fault (length before) (list_any is_uuid before) (list_any is_symtab before) command ≡ o → command_fault (length before) (list_any is_uuid before) (list_any is_symtab before) command ≡ None
+    none_of None e = e
+    none_of (Some fault) e = absurd (sound.sound.0 (length before) below fault (inr (before, command, front_to (command_bytes image) (ncmds image) before after command front, e)))
+
+-- an LC_UUID without a fault has room for the UUID
+pub uuid_fits : (place : ℕ) (has_uuid has_symtab : Bool) (command : List ℕ) → is_uuid command ≡ true → command_fault place has_uuid has_symtab command ≡ None → 24 ≤ length command
+uuid_fits place has_uuid has_symtab command uuid fine =
+    let first = not_taken (is_segment command && nat_lt (length command) (72 + 80 * nsects command)) _ _ fine in
+    let second = not_taken (is_uuid command && nat_lt (length command) 24) _ _ first.1 in
+    not_below _ _ (rw uuid at second.0)
+
+-- what passes first stands between others
+pub record FirstBetween (p : List ℕ → Bool) (xs : List (List ℕ)) : Type 0 where
+  pub before : List (List ℕ)
+  pub command : List ℕ
+  pub after : List (List ℕ)
+  pub split : xs ≡ before ++ command ∷ after
+  pub passes : p command ≡ true
+  pub found : find p xs ≡ Some command
+
+first_between : (p : List ℕ → Bool) (xs : List (List ℕ)) → list_any p xs ≡ true → FirstBetween p xs
+first_between p [] h = absurd (false_true h)
+  where
+    false_true : false ≡ true → ⊥
+    false_true e = cc
+first_between p (y ∷ ys) h = by_test (p y) refl (first_between p ys)
+  where
+    by_test : (b : Bool) → p y ≡ b → (list_any p ys ≡ true → FirstBetween p ys) → FirstBetween p (y ∷ ys)
+    by_test true e below = record { before = []; command = y; after = ys; split = refl; passes = e; found = rw e refl }
+    by_test false e below =
+        let more = below (rw e at h) in
+        record { before = y ∷ more.before; command = more.command; after = more.after; split = ap (λ s. y ∷ s) more.split; passes = more.passes; found = rw e more.found }
+
+-- the UUID of an image has sixteen bytes
+pub uuid_of-length : (image : List ℕ) → IsImage image → length (uuid_of image) ≡ 16
+uuid_of-length image sound =
+    let same : sound.commands ≡ commands image = sym (first_commands-front (ncmds image) (command_bytes image) sound.commands sound.sound.1) in
+    let first = first_between is_uuid (commands image) (rw same at sound.has_uuid) in
+    let long : 24 ≤ length first.command = uuid_fits _ _ _ first.command first.passes (command_fault-image image sound first.before first.after first.command first.split) in
+    rw first.found (simp (length-take, length-drop) (omega arith))
+
+-- what a list contains stands between others
+split_contained : (xs : List (List ℕ)) (x : List ℕ) (k : ℕ) → k < length xs → slice_index_or xs k x ≡ x → (before : List (List ℕ)) × (after : List (List ℕ)) × (xs ≡ before ++ x ∷ after)
+split_contained [] x k h e = absurd (omega arith)
+split_contained (y ∷ ys) x zero h e = ([], ys, ap (λ z. z ∷ ys) e)
+split_contained (y ∷ ys) x (suc k) h e =
+    let more = split_contained ys x k (omega arith) e in
+    (y ∷ more.0, more.1, ap (λ s. y ∷ s) more.2)
+
+-- what passes behind others that do not is found
+find_behind : (p : List ℕ → Bool) (before after : List (List ℕ)) (x : List ℕ) → list_any p before ≡ false → p x ≡ true → find p (before ++ x ∷ after) ≡ Some x
+find_behind p [] after x none passes = rw passes refl
+find_behind p (y ∷ before) after x none passes =
+    let parts = neither (p y) (list_any p before) none in
+    rw parts.0 (find_behind p before after x parts.1 passes)
+  where
+    neither : (a b : Bool) → (a || b) ≡ false → (a ≡ false) × (b ≡ false)
+    neither false b h = (refl, h)
+    neither true b h = absurd (true_false h)
+      where
+        true_false : true ≡ false → ⊥
+        true_false e = cc
+
+-- no LC_UUID stands behind another, and no LC_SYMTAB
+first_uuid : (place : ℕ) (has_uuid has_symtab : Bool) (command : List ℕ) → is_uuid command ≡ true → command_fault place has_uuid has_symtab command ≡ None → has_uuid ≡ false
+first_uuid place has_uuid has_symtab command uuid fine =
+    let first = not_taken (is_segment command && nat_lt (length command) (72 + 80 * nsects command)) _ _ fine in
+    let second = not_taken (is_uuid command && nat_lt (length command) 24) _ _ first.1 in
+    let third = not_taken (is_uuid command && has_uuid) _ _ second.1 in
+    rw uuid at third.0
+
+first_symtab : (place : ℕ) (has_uuid has_symtab : Bool) (command : List ℕ) → is_symtab command ≡ true → command_fault place has_uuid has_symtab command ≡ None → has_symtab ≡ false
+first_symtab place has_uuid has_symtab command symtab fine =
+    let first = not_taken (is_segment command && nat_lt (length command) (72 + 80 * nsects command)) _ _ fine in
+    let second = not_taken (is_uuid command && nat_lt (length command) 24) _ _ first.1 in
+    let third = not_taken (is_uuid command && has_uuid) _ _ second.1 in
+    let fourth = not_taken (is_symtab command && nat_lt (length command) 24) _ _ third.1 in
+    let fifth = not_taken (is_symtab command && has_symtab) _ _ fourth.1 in
+    rw symtab at fifth.0
+
+-- so the UUID of an image is that of any LC_UUID in it, and likewise the symbol table
+pub uuid_of-any : (image command : List ℕ) → IsImage image → Contains (commands image) command → is_uuid command ≡ true → uuid_of image ≡ uuid_bytes command
+uuid_of-any image command sound contained uuid =
+    let split = split_contained (commands image) command contained.0 contained.1 contained.2 in
+    let alone = first_uuid _ _ _ command uuid (command_fault-image image sound split.0 split.1 command split.2) in
+    ap (λ o. unwrap_or (option_map uuid_bytes o) []) (ap (find is_uuid) split.2 ∙ find_behind is_uuid split.0 split.1 command alone uuid)
+
+pub symtab_of-any : (image command : List ℕ) → IsImage image → Contains (commands image) command → is_symtab command ≡ true → symtab_of image ≡ Some (symtab_fields command)
+symtab_of-any image command sound contained symtab =
+    let split = split_contained (commands image) command contained.0 contained.1 contained.2 in
+    let alone = first_symtab _ _ _ command symtab (command_fault-image image sound split.0 split.1 command split.2) in
+    ap (λ o. option_map symtab_fields o) (ap (find is_symtab) split.2 ∙ find_behind is_symtab split.0 split.1 command alone symtab)

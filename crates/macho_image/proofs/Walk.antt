@@ -1,0 +1,161 @@
+-- How far a walk over the load commands has come, and what it shows where it ends.
+use Rattle.std.proofs.Common.{◌≡◌, ℕ, ◌+◌, ◌*◌, nat_lt, ◌<◌, ◌≤◌, Bool, true, false, cond, ◌||◌, List, [], ◌∷◌, ◌++◌, length, Option, Some, None, refl, sym, ap, ◌∙◌, inl, inr, arith, append_assoc, length-append, below_more, subst}
+use Rattle.std.specs.List.{concat, AllByRecursion, list_any, find}
+use Rattle.std.specs.Option.{option_map, option_or, is_some}
+use Rattle.std.proofs.lemmas.List.{append-nil}
+use Rattle.std.proofs.lemmas.List.Folds.{concat-append, find-append}
+use Rattle.macho_image.specs.Commands.{IsCommand, IsFront, HasNoCommand, HasRoom, is_segment, nsects, is_uuid, is_symtab}
+use Rattle.macho_image.specs.Fault.{command_fault, IsFaultAt, NoneBelow, IsFirstFault}
+use Rattle.macho_image.specs.Contents.{uuid_bytes, symtab_fields, uuid_among, symtab_among, IsSurveyed}
+use Rattle.macho_image.specs.declared.fault.ImageFault.{ImageFault}
+use Rattle.macho_image.specs.declared.fault.ImageFault.TheVariants.{BadCommand}
+use Rattle.macho_image.specs.declared.symtab_command.Symtab.{Symtab}
+use Rattle.macho_image.proofs.Fronts.{fronts_agree, one_front}
+use Rattle.std.proofs.lemmas.Option.{none-some}
+use Rattle.std.proofs.lemmas.Bool.Decides.{nat_tests}
+
+-- Before this place stand commands without a fault, the rest is behind them, and they say this.
+pub record Reached (area : List ℕ) (place : ℕ) (rest : List ℕ) (uuid : Option (List ℕ)) (symtab : Option Symtab) : Type 0 where
+  pub before : List (List ℕ)
+  pub number : length before ≡ place
+  pub each : AllByRecursion IsCommand before
+  pub begins : area ≡ concat before ++ rest
+  pub fine : NoneBelow area place
+  pub room : AllByRecursion HasRoom before
+  pub uuid_is : uuid ≡ uuid_among before
+  pub symtab_is : symtab ≡ symtab_among before
+
+-- what is found in a list is there
+pub is_some-found : {X : Type 0} (f : List ℕ → X) (p : List ℕ → Bool) (xs : List (List ℕ)) → is_some (option_map f (find p xs)) ≡ list_any p xs
+is_some-found f p [] = refl
+is_some-found f p (x ∷ xs) = elim (p x) as (λ b. is_some (option_map f (cond b (Some x) (find p xs))) ≡ (b || list_any p xs)) [
+  | true ↦ refl
+  | false ↦ is_some-found f p xs
+]
+
+-- what two lists say, the first one first
+found-append : {X : Type 0} (f : List ℕ → X) (p : List ℕ → Bool) (xs ys : List (List ℕ)) → option_map f (find p (xs ++ ys)) ≡ option_or (option_map f (find p xs)) (option_map f (find p ys))
+found-append f p xs ys = ap (option_map f) (find-append p xs ys) ∙ elim (find p xs) as (λ o. option_map f (option_or o (find p ys)) ≡ option_or (option_map f o) (option_map f (find p ys))) [
+  | None ↦ refl
+  | Some x ↦ refl
+]
+
+-- one more command
+each_more : (P : List ℕ → Type 0) (xs : List (List ℕ)) (x : List ℕ) → AllByRecursion P xs → P x → AllByRecursion P (xs ++ x ∷ [])
+each_more P [] x h p = (p, tt)
+each_more P (y ∷ xs) x h p = (h.0, each_more P xs x h.1 p)
+
+-- a command without a fault has room for its sections
+room_of : (i : ℕ) (u s : Bool) (command : List ℕ) → 8 ≤ length command → command_fault i u s command ≡ None → HasRoom command
+room_of i u s command long fine = record { long = long; sections = λ segment. short segment (nat_lt (length command) (72 + 80 * nsects command)) refl }
+  where
+    short : is_segment command ≡ true → (b : Bool) → nat_lt (length command) (72 + 80 * nsects command) ≡ b → 72 + 80 * nsects command ≤ length command
+    short segment false h = grind (arith, nat_tests)
+    short segment true h = absurd (none-some _ (sym (rw (segment, h) at fine)))
+
+-- the last one of a list
+pub last_same : (xs ys : List (List ℕ)) (x y : List ℕ) → length xs ≡ length ys → xs ++ x ∷ [] ≡ ys ++ y ∷ [] → (xs ≡ ys) × (x ≡ y)
+last_same [] [] x y h e = (refl, cc)
+last_same [] (b ∷ ys) x y h e = absurd (omega arith)
+last_same (a ∷ xs) [] x y h e = absurd (omega arith)
+last_same (a ∷ xs) (b ∷ ys) x y h e =
+    let below = last_same xs ys x y (omega arith) (cc) in
+    let heads : a ≡ b = cc in
+    (cc (heads, below.0), below.1)
+
+module _ (area : List ℕ) (place : ℕ) (rest : List ℕ) (uuid : Option (List ℕ)) (symtab : Option Symtab) (reached : Reached area place rest uuid symtab) where
+  -- what was seen, as a list has it
+  seen_uuid : is_some uuid ≡ list_any is_uuid reached.before
+  seen_uuid = ap is_some reached.uuid_is ∙ is_some-found uuid_bytes is_uuid reached.before
+
+  seen_symtab : is_some symtab ≡ list_any is_symtab reached.before
+  seen_symtab = ap is_some reached.symtab_is ∙ is_some-found symtab_fields is_symtab reached.before
+
+  -- where no command is left, that is the first fault
+  pub reached_end : (count : ℕ) → place < count → HasNoCommand rest → IsFirstFault area count (BadCommand place)
+  reached_end count h none = (
+    place,
+    h,
+    reached.fine,
+    inl (
+      (λ front.
+          let found = fronts_agree reached.before front.0 rest front.1.rest reached.each front.1.each (sym reached.begins ∙ front.1.begins) (omega (arith, reached.number, front.1.number)) in
+          no_more found.0 front.1.rest (omega (arith, reached.number, front.1.number, ap length found.1, length-append reached.before found.0)) found.2 found.3),
+      refl,
+    ),
+  )
+    where
+      no_more : (zs : List (List ℕ)) (t : List ℕ) → 0 < length zs → AllByRecursion IsCommand zs → rest ≡ concat zs ++ t → ⊥
+      no_more [] t h p e = absurd (omega arith)
+      no_more (z ∷ zs) t h p e = none z (concat zs ++ t) p.0 (e ∙ append_assoc z (concat zs) t)
+
+  module _ (command after : List ℕ) (whole : IsCommand command) (cut : rest ≡ command ++ after) where
+    -- the commands with this one
+    front_more : IsFront area (place + 1) (reached.before ++ command ∷ [])
+    front_more = record {
+      number = length-append reached.before (command ∷ []) ∙ omega (arith, reached.number);
+      each = each_more IsCommand reached.before command reached.each whole;
+      rest = after;
+      begins = reached.begins ∙ ap (λ s. concat reached.before ++ s) cut ∙ sym (append_assoc (concat reached.before) command after)
+          ∙ ap (λ s. s ++ after) (sym (concat-append reached.before (command ∷ []) ∙ ap (λ s. concat reached.before ++ s) (append-nil command)));
+    }
+
+    -- the fault of this command is the first
+    pub reached_fault : (count : ℕ) (fault : ImageFault) → place < count → command_fault place (is_some uuid) (is_some symtab) command ≡ Some fault → IsFirstFault area count fault
+    reached_fault count fault h e = (
+      place,
+      h,
+      reached.fine,
+      inr (
+        reached.before,
+        command,
+        front_more,
+        ap (λ b. command_fault place b (list_any is_symtab reached.before) command) (sym seen_uuid) ∙ ap (λ b. command_fault place (is_some uuid) b command) (sym seen_symtab) ∙ e,
+      ),
+    )
+
+    -- any command at this place is this one
+    this_one : (xs : List (List ℕ)) (x : List ℕ) → IsFront area (place + 1) (xs ++ x ∷ []) → (reached.before ≡ xs) × (command ≡ x)
+    this_one xs x front =
+        let same = one_front area (place + 1) (reached.before ++ command ∷ []) (xs ++ x ∷ []) front_more front in
+        last_same reached.before xs command x (omega (arith, reached.number, front.number, length-append xs (x ∷ []))) same
+
+    -- a command without a fault leads on
+    pub reached_next : command_fault place (is_some uuid) (is_some symtab) command ≡ None
+        → Reached area (place + 1) after (option_or uuid (uuid_among (command ∷ []))) (option_or symtab (symtab_among (command ∷ [])))
+    unfolding front_more
+    reached_next fine = record {
+      before = reached.before ++ command ∷ [];
+      number = front_more.number;
+      each = front_more.each;
+      begins = front_more.begins;
+      fine = below_more (λ j. (fault : ImageFault) → IsFaultAt area j fault → ⊥) place reached.fine (λ fault wrong. elim wrong [
+        | inl none ↦ none.0 (reached.before ++ command ∷ [], front_more)
+        | inr at ↦
+            let same = this_one at.0 at.1 at.2 in
+            let clear : command_fault place (list_any is_uuid at.0) (list_any is_symtab at.0) at.1 ≡ None =
+            ap (λ xs. command_fault place (list_any is_uuid xs) (list_any is_symtab xs) at.1) (sym same.0)
+            ∙ ap (λ x. command_fault place (list_any is_uuid reached.before) (list_any is_symtab reached.before) x) (sym same.1)
+            ∙ ap (λ b. command_fault place b (list_any is_symtab reached.before) command) (sym seen_uuid) ∙ ap (λ b. command_fault place (is_some uuid) b command) (sym seen_symtab) ∙ fine in
+            none-some fault (sym clear ∙ at.3)
+      ]);
+      room = each_more HasRoom reached.before command reached.room (room_of place (is_some uuid) (is_some symtab) command whole.long fine);
+      uuid_is = ap (λ o. option_or o (uuid_among (command ∷ []))) reached.uuid_is ∙ sym (found-append uuid_bytes is_uuid reached.before (command ∷ []));
+      symtab_is = ap (λ o. option_or o (symtab_among (command ∷ []))) reached.symtab_is ∙ sym (found-append symtab_fields is_symtab reached.before (command ∷ []));
+    }
+
+-- nothing is read at the start
+pub reached_start : (area : List ℕ) → Reached area 0 area None None
+reached_start area = record { before = []; number = refl; each = tt; room = tt; begins = refl; fine = λ j h. absurd (omega arith); uuid_is = refl; symtab_is = refl }
+
+-- at the end, these are all commands
+pub reached_all : (area : List ℕ) (place count : ℕ) (rest : List ℕ) (uuid : Option (List ℕ)) (symtab : Option Symtab) → Reached area place rest uuid symtab → place ≡ count → IsSurveyed area count uuid symtab
+reached_all area place count rest uuid symtab reached e =
+    let all : Reached area count rest uuid symtab = subst (λ n. Reached area n rest uuid symtab) e reached in
+    record {
+      commands = all.before;
+      sound = (all.fine, record { number = all.number; each = all.each; rest = rest; begins = all.begins });
+      room = all.room;
+      uuid_is = all.uuid_is;
+      symtab_is = all.symtab_is;
+    }

@@ -1,0 +1,58 @@
+-- Load commands: how the bytes behind the header fall into them (mach-o/loader.h).
+use Rattle.std.specs.Prelude.{ℕ, suc, zero, Bool, true, ◌+◌, ◌*◌, List, [], ◌∷◌, ◌++◌, length, take, drop, ◌≡◌, ◌≢◌, ◌≤◌, ◌==◌, ◌&&◌, nat_le, if◌then◌else◌}
+use Rattle.std.specs.List.{concat, AllByRecursion}
+use Rattle.macho_image.specs.Layout.{u32_at, command_bytes, ncmds}
+
+-- load_command: cmd and cmdsize, eight bytes, begin it, and cmdsize is the size of the whole
+pub record IsCommand (command : List ℕ) : Type 0 where
+  pub long : 8 ≤ length command
+  pub sized : length command ≡ u32_at command 4
+
+-- these are the first `count` commands of the bytes
+pub record IsFront (bytes : List ℕ) (count : ℕ) (commands : List (List ℕ)) : Type 0 where
+  pub number : length commands ≡ count
+  pub each : AllByRecursion IsCommand commands
+  pub rest : List ℕ
+  pub begins : bytes ≡ concat commands ++ rest
+
+-- so many commands begin the bytes
+abbrev pub HasFront : List ℕ → ℕ → Type 0
+HasFront bytes count = (commands : List (List ℕ)) × IsFront bytes count commands
+
+-- no command begins the bytes
+abbrev pub HasNoCommand : List ℕ → Type 0
+HasNoCommand bytes = (command rest : List ℕ) → IsCommand command → bytes ≢ command ++ rest
+
+-- load_command.cmd is LC_SEGMENT_64 (0x19)
+abbrev pub is_segment : List ℕ → Bool
+is_segment command = u32_at command 0 == 0x19
+
+-- load_command.cmd is LC_UUID (0x1b)
+abbrev pub is_uuid : List ℕ → Bool
+is_uuid command = u32_at command 0 == 0x1b
+
+-- load_command.cmd is LC_SYMTAB (0x2)
+abbrev pub is_symtab : List ℕ → Bool
+is_symtab command = u32_at command 0 == 0x2
+
+-- segment_command_64.nsects: the number of its sections
+abbrev pub nsects : List ℕ → ℕ
+nsects segment = u32_at segment 64
+
+-- a command has its eight bytes, and a segment_command_64 (72 bytes) each section_64 (80 bytes) behind it
+pub record HasRoom (command : List ℕ) : Type 0 where
+  pub long : 8 ≤ length command
+  pub sections : is_segment command ≡ true → 72 + 80 * nsects command ≤ length command
+
+-- the commands that begin the bytes, at most so many; laws.one_front says that they are the front, where there is one
+unfoldable pub first_commands : ℕ → List ℕ → List (List ℕ)
+first_commands zero bytes = []
+first_commands (suc count) bytes =
+    let size = u32_at bytes 4 in
+    if nat_le 8 size && nat_le 8 (length bytes) && nat_le size (length bytes)
+    then take size bytes ∷ first_commands count (drop size bytes)
+    else []
+
+-- the load commands of an image
+abbrev pub commands : List ℕ → List (List ℕ)
+commands image = first_commands (ncmds image) (command_bytes image)

@@ -1,0 +1,6 @@
+pub mod Layout
+pub mod Commands
+pub mod Fault
+pub mod Contents
+pub mod Sections
+pub mod SectionViews

@@ -1,0 +1,7 @@
+-- What a section of the code is in the definitions.
+use Rattle.macho_image.specs.Sections.{SectionRecord}
+use Rattle.macho_image.specs.declared.section.Section.{Section}
+
+-- a section, without where its names lie
+abbrev pub section_view : Section → SectionRecord
+section_view s = record { segment = s.segment.now; section = s.section.now; addr = s.addr; size = s.size }

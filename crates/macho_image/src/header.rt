@@ -1,0 +1,86 @@
+//! `mach_header_64`, with which an image begins.
+
+ghost use Rattle.std.specs.Prelude.{◌≡◌, ◌+◌, ◌≤◌, Some, None, IfOk, IfErr, length};
+ghost use Rattle.macho_image.specs.Layout.{cputype, cpusubtype, filetype, ncmds, sizeofcmds, command_bytes};
+ghost use Rattle.macho_image.specs.Fault.{header_fault};
+
+use crate::fault::ImageFault;
+use crate::number::number32;
+
+const MH_MAGIC_64: u32 = 0xfeed_facf;
+
+/// A file type: a companion with debug information, and no contents for most sections.
+pub(crate) const MH_DSYM: u32 = 0xa;
+
+/// The bits of `cpusubtype` that tell capabilities (mach/machine.h).
+pub(crate) const CPU_SUBTYPE_MASK: u32 = 0xff00_0000;
+
+const HEADER_LEN: usize = 32;
+
+/// `cputype`.
+pub(crate) fn cputype(image: &[u8]) -> u32
+    requires { 32 ≤ length image.now }
+    ensures { result ≡ cputype image.now }
+{
+    number32(image, 4)
+}
+
+/// `cpusubtype`.
+pub(crate) fn cpusubtype(image: &[u8]) -> u32
+    requires { 32 ≤ length image.now }
+    ensures { result ≡ cpusubtype image.now }
+{
+    number32(image, 8)
+}
+
+/// `filetype`.
+pub(crate) fn filetype(image: &[u8]) -> u32
+    requires { 32 ≤ length image.now }
+    ensures { result ≡ filetype image.now }
+{
+    number32(image, 12)
+}
+
+/// `ncmds`.
+pub(crate) fn ncmds(image: &[u8]) -> u32
+    requires { 32 ≤ length image.now }
+    ensures { result ≡ ncmds image.now }
+{
+    number32(image, 16)
+}
+
+/// `sizeofcmds`.
+fn sizeofcmds(image: &[u8]) -> u32
+    requires { 32 ≤ length image.now }
+    ensures { result ≡ sizeofcmds image.now }
+{
+    number32(image, 20)
+}
+
+/// The bytes of the load commands.
+pub(crate) fn command_bytes(image: &[u8]) -> &[u8]
+    requires { 32 + sizeofcmds image.now ≤ length image.now }
+    ensures { result.now ≡ command_bytes image.now }
+{
+    &image[HEADER_LEN..][..sizeofcmds(image) as usize]
+}
+
+/// Whether the bytes begin with a header and have room for the load commands behind it.
+pub(crate) fn check_header(bytes: &[u8]) -> Result<(), ImageFault>
+    ensures faulty { IfErr result (λ fault. header_fault bytes.now ≡ Some fault) }
+    ensures sound { IfOk result (λ _. header_fault bytes.now ≡ None) }
+{
+    if bytes.len() > u32::MAX as usize {
+        return Err(ImageFault::TooLarge);
+    }
+    if !bytes.starts_with(&MH_MAGIC_64.to_le_bytes()) {
+        return Err(ImageFault::NotMachO64);
+    }
+    if bytes.len() < HEADER_LEN {
+        return Err(ImageFault::HeaderTruncated);
+    }
+    if bytes.len() < HEADER_LEN + sizeofcmds(bytes) as usize {
+        return Err(ImageFault::CommandsOutside);
+    }
+    Ok(())
+}

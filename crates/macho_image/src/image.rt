@@ -1,0 +1,158 @@
+//! An image as a whole.
+
+ghost use Rattle.std.specs.Prelude.{◌≡◌, ◌*◌, ◌^◌, ◌≤◌, ◌<◌, IfOk, IfErr, length};
+ghost use Rattle.std.specs.List.{AllByRecursion};
+ghost use Rattle.std.specs.Option.{option_map};
+ghost use Rattle.macho_image.specs.Commands.{commands, HasRoom};
+ghost use Rattle.macho_image.specs.Contents.{uuid_of, symtab_of, arch_of, is_dsym_image};
+ghost use Rattle.macho_image.specs.Fault.{IsImageFault, IsImage};
+ghost use Rattle.macho_image.specs.Sections.{sections, section_of, text_base_of};
+
+use crate::fault::ImageFault;
+use crate::header::{
+    CPU_SUBTYPE_MASK, MH_DSYM, check_header, command_bytes, cpusubtype, cputype, filetype, ncmds,
+};
+use crate::load_command::LoadCommands;
+use crate::section::Section;
+use crate::segment::{Sections, is_text, vmaddr};
+use crate::survey::survey;
+use crate::symtab_command::Symtab;
+use std::marker::Model;
+use uuid::Uuid;
+
+/// A thin 64-bit image, which borrows its bytes. A contract sees it as these bytes.
+#[derive(Drop)]
+pub struct Image<'a> {
+    bytes: &'a [u8],
+    uuid: Uuid,
+    symtab: Option<Symtab>,
+}
+
+impl<'a> Model for Image<'a> {
+    ghost use Rattle.std.specs.Prelude.{ℕ, List};
+    ghost use Rattle.macho_image.specs.Contents.{IsRead};
+
+    ghost Value = { List ℕ };
+
+    ghost view = { λ a. a.bytes.now };
+
+    ghost invariant = { λ a. IsRead a.bytes.now a.uuid a.symtab };
+}
+
+impl<'a> Image<'a> {
+    ghost use Rattle.macho_image.specs.SectionViews.{section_view};
+
+    /// Reads an image in one pass over its load commands, or says what is wrong with it, as `ImageFault`
+    /// tells. Bytes may follow the last command, and each command may be longer than its structure;
+    /// commands of other kinds are passed over.
+    pub fn read(bytes: &'a [u8]) -> Result<Image<'a>, ImageFault>
+        ensures faulty { IfErr result (λ fault. IsImageFault bytes.now fault) }
+        ensures sound { IfOk result (λ _. IsImage bytes.now) }
+        ensures bytes { IfOk result (λ image. image ≡ bytes.now) }
+    {
+        check_header(bytes)?;
+        let found = survey(command_bytes(bytes), ncmds(bytes))?;
+        let Some(uuid) = found.uuid else {
+            return Err(ImageFault::NoUuid);
+        };
+        Ok(Image {
+            bytes,
+            uuid,
+            symtab: found.symtab,
+        })
+    }
+
+    /// The same image once more, of the same borrowed bytes.
+    pub fn copy(&self) -> Image<'a>
+        ensures { result ≡ self.now }
+    {
+        Image {
+            bytes: self.bytes,
+            uuid: self.uuid,
+            symtab: self.symtab,
+        }
+    }
+
+    /// The bytes of the image, all that were read.
+    pub fn bytes(&self) -> &'a [u8]
+        ensures bytes { result.now ≡ self.now }
+        ensures sound { IsImage self.now }
+        ensures small { length self.now < 2 ^ 32 }
+    {
+        self.bytes
+    }
+
+    /// The UUID of the build: `uuid` of LC_UUID. A companion has that of its image.
+    pub fn uuid(&self) -> Uuid
+        ensures { result ≡ uuid_of self.now }
+    {
+        self.uuid
+    }
+
+    /// The architecture: `cputype`, and `cpusubtype` without its capability bits, in which an image and its
+    /// companion may differ.
+    pub fn arch(&self) -> (u32, u32)
+        ensures { result ≡ arch_of self.now }
+    {
+        (
+            cputype(self.bytes),
+            cpusubtype(self.bytes) & !CPU_SUBTYPE_MASK,
+        )
+    }
+
+    /// Whether the image is a companion with debug information: its `filetype` is MH_DSYM.
+    pub fn is_dsym(&self) -> bool
+        ensures { result ≡ is_dsym_image self.now }
+    {
+        filetype(self.bytes) == MH_DSYM
+    }
+
+    /// Where the symbol table lies; `None` where there is no LC_SYMTAB.
+    pub fn symtab(&self) -> Option<Symtab>
+        ensures { result ≡ symtab_of self.now }
+    {
+        self.symtab
+    }
+
+    /// The load commands, in the order of the file. Each has at least its 8 bytes.
+    pub fn commands(&self) -> LoadCommands<'a>
+        ensures all { result ≡ commands self.now }
+        ensures room { AllByRecursion HasRoom (commands self.now) }
+        ensures fit { 8 * length (commands self.now) ≤ length self.now }
+    {
+        LoadCommands::new(command_bytes(self.bytes), ncmds(self.bytes))
+    }
+
+    /// The sections of all segments, in the order of the load commands. Each has its 80 bytes.
+    #[tactic(auto, unfolding(crate::specs::Sections::sections))]
+    pub fn sections(&self) -> Sections<'a>
+        ensures all { result ≡ sections self.now }
+        ensures fit { 80 * length (sections self.now) ≤ length self.now }
+    {
+        Sections::of_commands(self.commands())
+    }
+
+    /// The section of a number. The first is 1, as `n_sect` of a symbol counts them; `None` for 0 and past
+    /// the last.
+    pub fn section(&self, number: u8) -> Option<Section<'a>>
+        ensures { option_map section_view result ≡ section_of self.now number }
+    {
+        if number == 0 {
+            return None;
+        }
+        self.sections().nth(number as usize - 1)
+    }
+
+    /// `vmaddr` of the first segment named `__TEXT`, the address at which the image's text expects to
+    /// stand; `None` where there is no such segment.
+    pub fn text_base(&self) -> Option<u64>
+        ensures { result ≡ text_base_of self.now }
+    {
+        for command in self.commands() {
+            if is_text(command) {
+                return Some(vmaddr(command));
+            }
+        }
+        None
+    }
+}

@@ -1,0 +1,40 @@
+//! What the definitions say of each other, for every list of bytes. Each law is the contract of a function
+//! that does nothing.
+
+ghost use Rattle.std.specs.Prelude.{◌≡◌, ◌+◌, ◌*◌, ◌<◌, ◌⊎◌, ℕ, List, true, Some, Contains, drop, length, slice_get};
+ghost use Rattle.macho_image.specs.Commands.{IsFront, first_commands, commands, is_uuid, is_symtab, nsects};
+ghost use Rattle.macho_image.specs.Contents.{uuid_bytes, uuid_of, symtab_fields, symtab_of};
+ghost use Rattle.macho_image.specs.Fault.{IsImageFault, IsImage};
+ghost use Rattle.macho_image.specs.Sections.{section_record, sections_in};
+ghost use Rattle.macho_image.specs.declared.fault.ImageFault.{ImageFault};
+
+/// There is at most one front of a length, and it is what the definition cuts.
+pub fn one_front()
+    ensures is_cut { (count : ℕ) (area : List ℕ) (commands : List (List ℕ)) →
+        IsFront area count commands → first_commands count area ≡ commands }
+    ensures cut_is { (count : ℕ) (area : List ℕ) →
+        length (first_commands count area) ≡ count → IsFront area count (first_commands count area) }
+{}
+
+/// Bytes are an image or have a fault, never both and never two faults.
+pub fn one_fault()
+    ensures some { (bytes : List ℕ) → IsImage bytes ⊎ ((f : ImageFault) × IsImageFault bytes f) }
+    ensures one { (bytes : List ℕ) (f g : ImageFault) → IsImageFault bytes f → IsImageFault bytes g → f ≡ g }
+    ensures none { (bytes : List ℕ) (f : ImageFault) → IsImage bytes → IsImageFault bytes f → ⊥ }
+{}
+
+/// Any LC_UUID of an image has its UUID, which has sixteen bytes, and any LC_SYMTAB has its symbol table.
+pub fn one_of_each()
+    ensures uuid { (image command : List ℕ) → IsImage image → Contains (commands image) command →
+        is_uuid command ≡ true → uuid_of image ≡ uuid_bytes command }
+    ensures sixteen { (image : List ℕ) → IsImage image → length (uuid_of image) ≡ 16 }
+    ensures symtab { (image command : List ℕ) → IsImage image → Contains (commands image) command →
+        is_symtab command ≡ true → symtab_of image ≡ Some (symtab_fields command) }
+{}
+
+/// The sections of a segment stand behind its 72 bytes, as many as it says and 80 bytes apart.
+pub fn section_places()
+    ensures number { (segment : List ℕ) → length (sections_in segment) ≡ nsects segment }
+    ensures places { (segment : List ℕ) (i : ℕ) → i < nsects segment →
+        slice_get (sections_in segment) i ≡ Some (section_record (drop (72 + 80 * i) segment)) }
+{}
