@@ -1,0 +1,63 @@
+-- What a plain archive keeps, as records.
+use Rattle.std.proofs.Common.{◌≡◌, ℕ, zero, suc, true, false, ◌||◌, List, [], ◌∷◌, map, refl, sym, ap, ◌∙◌, subst}
+use mathlib.Core.Bool.{true≢false}
+use Rattle.std.specs.Ordering.{nat_cmp, eq_by_cmp}
+use Rattle.std.specs.Cmp.{Equal-is}
+use Rattle.std.specs.Cmp.Lexicographic.{slice_cmp, nat_list_cmp_total}
+use Rattle.std.specs.List.{AllByRecursion, insert as insert_at}
+use Rattle.std.specs.List.Sorted.{IsStrictlySortedBy}
+use Rattle.std.specs.FinSet as set
+use Rattle.std.specs.FinSet.{from_list, contains, contains-empty, contains-insert, IsAntisymmetric, nat_cmp-IsAntisymmetric, slice_cmp-IsAntisymmetric}
+use Rattle.join_core.specs.Listing.{IsPlaceFor}
+use Rattle.join_core.proofs.Place.{from_list_insert}
+use Rattle.archive_core.specs.Record.{rec, IsRecord}
+use Rattle.archive_core.specs.Content.{IsContent}
+use Rattle.archive_core.specs.Held.{IsHeld}
+use Rattle.archive_core.specs.declared.operations.Operation.{Operation}
+
+-- byte strings that the byte order ties are one
+pub bytes_same : IsAntisymmetric (slice_cmp nat_cmp)
+bytes_same = slice_cmp-IsAntisymmetric nat_cmp-IsAntisymmetric
+
+-- what holds along a list holds of each member of its set
+each_member : (P : List ℕ → Type 0) (ks : List (List ℕ)) → AllByRecursion P ks → (r : List ℕ) → contains (from_list {R = slice_cmp nat_cmp} ks) r ≡ true → P r
+each_member P [] all r h = absurd (true≢false (sym h ∙ contains-empty (slice_cmp nat_cmp) r))
+each_member P (k ∷ ks) all r h =
+    elim (eq_by_cmp (slice_cmp nat_cmp) r k) as (λ b. eq_by_cmp (slice_cmp nat_cmp) r k ≡ b → (b || contains (from_list {R = slice_cmp nat_cmp} ks) r) ≡ true → P r) [
+      | true ↦ λ e _. subst P (sym (bytes_same r k ((Equal-is (slice_cmp nat_cmp r k)).0 e))) all.0
+      | false ↦ λ _ rest. each_member P ks all.1 r rest
+    ] refl (sym (contains-insert nat_list_cmp_total (from_list ks) k r) ∙ h)
+
+-- what is held makes a content
+pub content_of_held : (operations : List Operation) → IsHeld operations → IsContent (from_list (map rec operations))
+content_of_held operations held = record { itself = refl; records = each_member IsRecord (map rec operations) held.records }
+
+-- an operation that goes in brings its record to that place
+map_insert : (xs : List Operation) (i : ℕ) (x : Operation) → map rec (insert_at xs i x) ≡ insert_at (map rec xs) i (rec x)
+map_insert [] zero x = refl
+map_insert [] (suc i) x = refl
+map_insert (y ∷ xs) zero x = refl
+map_insert (y ∷ xs) (suc i) x = ap (λ l. rec y ∷ l) (map_insert xs i x)
+
+-- a list keeps a fact of each element where one goes in that has it
+along_insert : (P : List ℕ → Type 0) (xs : List (List ℕ)) (i : ℕ) (x : List ℕ) → P x → AllByRecursion P xs → AllByRecursion P (insert_at xs i x)
+along_insert P [] zero x p h = (p, tt)
+along_insert P [] (suc i) x p h = (p, tt)
+along_insert P (y ∷ xs) zero x p h = (p, h)
+along_insert P (y ∷ xs) (suc i) x p h = (h.0, along_insert P xs i x p h.1)
+
+-- an operation may go in at the place of its record
+pub held_insert : (operations : List Operation) (i : ℕ) (operation : Operation) → IsHeld operations → IsRecord (rec operation) → IsPlaceFor (slice_cmp nat_cmp) (map rec operations) (rec operation) i → IsHeld (insert_at operations i operation)
+held_insert operations i operation held one place = record {
+  ascending = rw (map_insert operations i operation) place.ascending;
+  records = rw (map_insert operations i operation) (along_insert IsRecord (map rec operations) i (rec operation) one held.records);
+}
+
+-- no operations are held in order
+pub held_none : IsHeld []
+unfolding IsStrictlySortedBy
+held_none = record { ascending = tt; records = tt }
+
+-- and the content gains its record
+pub records_insert : (operations : List Operation) (i : ℕ) (operation : Operation) → from_list {R = slice_cmp nat_cmp} (map rec (insert_at operations i operation)) ≡ set.insert (from_list (map rec operations)) (rec operation)
+records_insert operations i operation = ap from_list (map_insert operations i operation) ∙ from_list_insert nat_list_cmp_total bytes_same (map rec operations) i (rec operation)

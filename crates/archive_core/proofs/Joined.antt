@@ -1,0 +1,56 @@
+-- The union is the least content above both.
+use Rattle.std.proofs.Common.{◌≡◌, Bool, true, false, ◌||◌, refl, sym, ◌∙◌}
+use Rattle.std.specs.Cmp.Lexicographic.{nat_list_cmp_total}
+use Rattle.std.specs.FinSet.{contains, union, contains-union, is_subset-contains}
+use Rattle.join_core.proofs.Subset.{union_left, union_right, union_least, subset_reflexive}
+use Rattle.join_core.specs.Bound.{IsLeastAbove, IsTowards}
+use Rattle.archive_core.specs.Record.{IsRecord}
+use Rattle.archive_core.specs.Content.{Operations, IsContent, IsBelow, joined as joined_of}
+use Rattle.std.proofs.Common.{◌↔◌}
+use Rattle.join_core.proofs.Subset.{union_is_least}
+use Rattle.archive_core.proofs.Held.{bytes_same}
+
+either : (P : Type 0) (a b : Bool) → (a ≡ true → P) → (b ≡ true → P) → (a || b) ≡ true → P
+either P true b f g h = f refl
+either P false b f g h = g h
+
+-- what is below the union of two contents is one
+pub content_within : (o p m : Operations) → IsContent o → IsContent p → IsBelow m (union o p) → IsContent m
+content_within o p m a b h = record {
+  itself = refl;
+  records = λ r in_m. either (IsRecord r) (contains o r) (contains p r) (a.records r) (b.records r) (sym (contains-union nat_list_cmp_total o p r) ∙ is_subset-contains nat_list_cmp_total m (union o p) h r in_m);
+}
+
+-- the union is a content, and the least above both
+pub joined : (o p m : Operations) → IsContent o → IsContent p → m ≡ union o p → IsLeastAbove IsContent IsBelow o p m
+joined o p m a b e = rw e (record {
+  content = content_within o p (union o p) a b (subset_reflexive nat_list_cmp_total (union o p));
+  left = union_left nat_list_cmp_total o p;
+  right = union_right nat_list_cmp_total o p;
+  least = λ w _ f g. union_least nat_list_cmp_total o p w f g;
+})
+
+-- under the laws of an archive, the least above both is what the union makes
+pub least_is_joined : (content : Operations → Type 0) (below : Operations → Operations → Type 0) → ((o : Operations) → content o ↔ IsContent o) → ((o p : Operations) → below o p ↔ IsBelow o p) → (o p m : Operations) → content o → content p → IsLeastAbove content below o p m → m ≡ joined_of o p
+least_is_joined content below content_is below_is o p m a b l =
+    let both = union o p in
+    let is : IsContent both = content_within o p both ((content_is o).0 a) ((content_is p).0 b) (subset_reflexive nat_list_cmp_total both) in
+    union_is_least nat_list_cmp_total bytes_same o p m ((below_is o m).0 l.left) ((below_is p m).0 l.right)
+    ((below_is m both).0 (l.least both ((content_is both).1 is) ((below_is o both).1 (union_left nat_list_cmp_total o p)) ((below_is p both).1 (union_right nat_list_cmp_total o p))))
+
+-- and where an archive's join stops, in the words of contents
+pub towards_in_words : (content : Operations → Type 0) (below : Operations → Operations → Type 0) → ((o : Operations) → content o ↔ IsContent o) → ((o p : Operations) → below o p ↔ IsBelow o p) → (o p m : Operations) → IsTowards content below o p m → IsTowards IsContent IsBelow o p m
+towards_in_words content below content_is below_is o p m t = record {
+  content = (content_is m).0 t.content;
+  above_old = (below_is o m).0 t.above_old;
+  below_join = λ z l. (below_is m z).0 (t.below_join z (record {
+    content = (content_is z).1 l.content;
+    left = (below_is o z).1 l.left;
+    right = (below_is p z).1 l.right;
+    least = λ w a f g. (below_is z w).1 (l.least w ((content_is w).0 a) ((below_is o w).0 f) ((below_is p w).0 g));
+  }));
+}
+
+-- where nothing was taken, the content is on the way
+pub unmoved : (o p : Operations) → IsContent o → IsTowards IsContent IsBelow o p o
+unmoved o p a = record { content = a; above_old = subset_reflexive nat_list_cmp_total o; below_join = λ z l. l.left }

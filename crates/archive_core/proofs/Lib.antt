@@ -1,0 +1,6 @@
+pub mod Compare
+pub mod Records
+pub mod Held
+pub mod Joined
+pub mod Merged
+pub mod Taken

@@ -1,0 +1,56 @@
+-- What a join of plain archives leaves: the operations of both, ascending.
+use Rattle.std.proofs.Common.{◌≡◌, ◌+◌, ◌<◌, true, false, not, cond, List, [], ◌∷◌, ◌++◌, length, map, filter, refl, sym, ap, ◌∙◌, arith, subst}
+use Rattle.std.specs.Ordering.{nat_cmp, is_lt}
+use Rattle.std.specs.Cmp.Lexicographic.{slice_cmp, nat_list_cmp_total}
+use Rattle.std.specs.List.Sorted.{IsSorted, IsSortedBy, IsPermutation}
+use Rattle.std.specs.FinSet.{from_list, contains, union}
+use Rattle.std.proofs.lemmas.List.{map-append, get_or-map}
+use Rattle.std.proofs.Math.ListN.{length-map}
+use Rattle.std.proofs.lemmas.List.Sorted.{IsPermutation-map}
+use Rattle.join_core.proofs.Subset.{subset_reflexive}
+use Rattle.join_core.proofs.Merge.{merged_is, along_members}
+use Rattle.archive_core.specs.Record.{rec, IsRecord}
+use Rattle.archive_core.specs.Content.{Operations}
+use Rattle.archive_core.specs.Held.{IsHeld}
+use Rattle.archive_core.specs.declared.operations.Operation.{Operation}
+use Rattle.archive_core.proofs.Held.{bytes_same, content_of_held}
+use Rattle.archive_core.proofs.Joined.{content_within}
+
+-- the operations that are sorted by their records have sorted records
+sorted_records : (operations : List Operation) → IsSortedBy (λ x y. is_lt (slice_cmp nat_cmp (rec x) (rec y))) operations → IsSorted (slice_cmp nat_cmp) (map rec operations)
+sorted_records [] up k d low high = absurd (omega arith)
+sorted_records (x ∷ xs) up k d low high =
+    let lt : k + 1 < length (x ∷ xs) = rw (length-map {A = Operation}) at high in
+    rw (get_or-map rec (x ∷ xs) (k + 1) x d lt, get_or-map rec (x ∷ xs) k x d (omega arith)) (up k x (omega arith) lt)
+
+-- the records of the missing operations are the missing records
+missing_records : (o : Operations) (operations : List Operation) → map rec (filter (λ operation. not (contains o (rec operation))) operations) ≡ filter (λ r. not (contains o r)) (map rec operations)
+missing_records o [] = refl
+missing_records o (x ∷ xs) = elim (contains o (rec x)) as (λ b. map rec (cond (not b) (x ∷ filter (λ operation. not (contains o (rec operation))) xs) (filter (λ operation. not (contains o (rec operation))) xs)) ≡ cond (not b) (rec x ∷ filter (λ r. not (contains o r)) (map rec xs)) (filter (λ r. not (contains o r)) (map rec xs))) [
+  | true ↦ missing_records o xs
+  | false ↦ ap (λ l. rec x ∷ l) (missing_records o xs)
+]
+
+-- the operations of both, held
+pub record HoldsBoth (mine theirs merged : List Operation) : Type 0 where
+  pub held : IsHeld merged
+  pub members : from_list {R = slice_cmp nat_cmp} (map rec merged) ≡ union (from_list (map rec mine)) (from_list (map rec theirs))
+
+pub holds_both : (mine theirs merged : List Operation) → IsHeld mine → IsHeld theirs
+    → IsPermutation (mine ++ filter (λ operation. not (contains (from_list {R = slice_cmp nat_cmp} (map rec mine)) (rec operation))) theirs) merged
+    → IsSortedBy (λ x y. is_lt (slice_cmp nat_cmp (rec x) (rec y))) merged → HoldsBoth mine theirs merged
+holds_both mine theirs merged held_mine held_theirs permuted sorted =
+    let o : Operations = from_list (map rec mine) in
+    let p : Operations = from_list (map rec theirs) in
+    let missing = filter (λ operation. not (contains o (rec operation))) theirs in
+    let records : map rec (mine ++ missing) ≡ map rec mine ++ filter (λ r. not (contains o r)) (map rec theirs) = map-append rec mine missing ∙ ap (λ l. map rec mine ++ l) (missing_records o theirs) in
+    let together : IsPermutation (map rec mine ++ filter (λ r. not (contains o r)) (map rec theirs)) (map rec merged) = subst (λ l. IsPermutation l (map rec merged)) records (IsPermutation-map rec (mine ++ missing) merged permuted) in
+    let both = merged_is nat_list_cmp_total bytes_same (map rec mine) (map rec theirs) (map rec merged) held_mine.ascending held_theirs.ascending together (sorted_records merged sorted) in
+    let within = content_within o p (union o p) (content_of_held mine held_mine) (content_of_held theirs held_theirs) (subset_reflexive nat_list_cmp_total (union o p)) in
+    record {
+      held = record {
+        ascending = both.ascending;
+        records = along_members nat_list_cmp_total IsRecord (map rec merged) (λ r h. within.records r (ap (λ s. contains s r) (sym both.members) ∙ h));
+      };
+      members = both.members;
+    }

@@ -1,0 +1,117 @@
+-- Records: how long they are, that none begins another, and that each stands for one operation.
+use Rattle.std.proofs.Common.{◌≡◌, ℕ, ◌+◌, ◌^◌, ◌<◌, List, [], ◌∷◌, ◌++◌, length, refl, sym, ap, ◌∙◌, inl, inr, arith, append_assoc, length-append, w32, w64}
+use Rattle.std.specs.Int.{to_be_bytes, from_be_bytes}
+use Rattle.std.proofs.lemmas.List.{append-nil}
+use Rattle.std.proofs.lemmas.Nat.{from_be_bytes-to_be_bytes_4, from_be_bytes-to_be_bytes_8}
+use Rattle.macho_image.proofs.Told.{uuid_of-length, length-image}
+use Rattle.archive_core.specs.Key.{IsKey, key_bytes}
+use Rattle.archive_core.specs.Valid.{IsValid, key_of}
+use Rattle.archive_core.specs.Record.{admission, admission_record, retirement_record, IsRecord, IsOperation, rec}
+use Rattle.archive_core.specs.declared.keys.SliceKey.{SliceKey}
+use Rattle.archive_core.specs.declared.operations.Operation.{Operation}
+use Rattle.archive_core.specs.declared.operations.Operation.TheVariants.{Admit, Retire}
+use Rattle.archive_core.proofs.Compare.{length_key_bytes}
+
+-- texts whose first parts are as long fall into the same parts
+same_parts : (a b x y : List ℕ) → length a ≡ length b → a ++ x ≡ b ++ y → (a ≡ b) × (x ≡ y)
+same_parts [] [] x y long e = (refl, e)
+same_parts [] (c ∷ b) x y long e = absurd (omega arith)
+same_parts (d ∷ a) [] x y long e = absurd (omega arith)
+same_parts (d ∷ a) (c ∷ b) x y long e =
+    let head : d ≡ c = cc in
+    let tail : a ++ x ≡ b ++ y = cc in
+    let more = same_parts a b x y (omega arith) tail in
+    (cc (head, more.0), more.1)
+
+-- a text of no bytes is empty
+nothing : (xs : List ℕ) → length xs ≡ 0 → xs ≡ []
+nothing [] h = refl
+nothing (x ∷ xs) h = absurd (omega arith)
+
+-- the key of a slice has 24 bytes in its record
+pub length-key_of : (slice : List ℕ) → IsValid slice → length (key_bytes (key_of slice)) ≡ 24
+unfolding key_of
+length-key_of slice valid = length_key_bytes (key_of slice) (uuid_of-length slice valid)
+
+-- an admission's record has 33 bytes before the slice
+pub length-admission_record : (slice : List ℕ) → IsValid slice → length (admission_record slice) ≡ 33 + length slice
+unfolding admission
+length-admission_record slice valid =
+    omega (arith, length-append (key_bytes (key_of slice)) (to_be_bytes w64 (length slice) ++ slice), length-append (to_be_bytes w64 (length slice)) slice, length-key_of slice valid)
+
+-- a retirement's record has 57 bytes
+pub length-retirement_record : (key : SliceKey) (digest : List ℕ) → IsKey key → length digest ≡ 32 → length (retirement_record key digest) ≡ 57
+length-retirement_record key digest is_key long =
+    omega (arith, length-append (key_bytes key) digest, length_key_bytes key is_key.uuid, long)
+
+-- what follows an admission within another is nothing, and both are of one slice
+same_admissions : (a b rest : List ℕ) → IsValid a → IsValid b → admission b ≡ admission a ++ rest → (b ≡ a) × (rest ≡ [])
+unfolding admission
+same_admissions a b rest valid_a valid_b e =
+    let split : key_bytes (key_of b) ++ (to_be_bytes w64 (length b) ++ b) ≡ key_bytes (key_of a) ++ (to_be_bytes w64 (length a) ++ (a ++ rest)) = e ∙ append_assoc (key_bytes (key_of a)) _ rest ∙ ap (λ s. key_bytes (key_of a) ++ s) (append_assoc (to_be_bytes w64 (length a)) a rest) in
+    let behind_key = (same_parts _ _ _ _ (length-key_of b valid_b ∙ sym (length-key_of a valid_a)) split).1 in
+    let parts = same_parts (to_be_bytes w64 (length b)) (to_be_bytes w64 (length a)) b (a ++ rest) refl behind_key in
+    let short_a : length a < 2 ^ 32 = length-image a valid_a in
+    let short_b : length b < 2 ^ 32 = length-image b valid_b in
+    let long : length b ≡ length a = sym (from_be_bytes-to_be_bytes_8 (length b) (omega arith)) ∙ ap (from_be_bytes w64) parts.0 ∙ from_be_bytes-to_be_bytes_8 (length a) (omega arith) in
+    let none : rest ≡ [] = nothing rest (omega (arith, long, ap length parts.1, length-append a rest)) in
+    (parts.1 ∙ ap (λ s. a ++ s) none ∙ append-nil a, none)
+
+-- no record begins another
+pub no_record_begins : (r s rest : List ℕ) → IsRecord r → IsRecord s → s ≡ r ++ rest → rest ≡ []
+no_record_begins r s rest (inl a) (inl b) e = (same_admissions a.slice b.slice rest a.valid b.valid (behind_tag (sym b.is ∙ e ∙ ap (λ t. t ++ rest) a.is))).1
+  where
+    behind_tag : 2 ∷ admission b.slice ≡ 2 ∷ (admission a.slice ++ rest) → admission b.slice ≡ admission a.slice ++ rest
+    behind_tag h = cc
+no_record_begins r s rest (inl a) (inr b) e = absurd (apart (sym b.is ∙ e ∙ ap (λ t. t ++ rest) a.is))
+  where
+    apart : 1 ∷ (key_bytes b.key ++ b.digest) ≡ 2 ∷ (admission a.slice ++ rest) → ⊥
+    apart h = cc
+no_record_begins r s rest (inr a) (inl b) e = absurd (apart (sym b.is ∙ e ∙ ap (λ t. t ++ rest) a.is))
+  where
+    apart : 2 ∷ admission b.slice ≡ 1 ∷ ((key_bytes a.key ++ a.digest) ++ rest) → ⊥
+    apart h = cc
+no_record_begins r s rest (inr a) (inr b) e =
+    nothing rest (omega (arith, length-retirement_record a.key a.digest a.is_key a.long, length-retirement_record b.key b.digest b.is_key b.long, ap length a.is, ap length b.is, ap length e, length-append r rest))
+
+-- keys with the same bytes are the same
+one_key : (k l : SliceKey) → IsKey k → IsKey l → key_bytes k ≡ key_bytes l → k ≡ l
+unfolding key_bytes
+one_key k l is_k is_l e =
+    let uuid = same_parts k.uuid l.uuid _ _ (is_k.uuid ∙ sym is_l.uuid) e in
+    let arch = same_parts (to_be_bytes w32 k.arch.cputype) (to_be_bytes w32 l.arch.cputype) (to_be_bytes w32 k.arch.subtype) (to_be_bytes w32 l.arch.subtype) refl uuid.1 in
+    let cputype : k.arch.cputype ≡ l.arch.cputype = sym (from_be_bytes-to_be_bytes_4 k.arch.cputype is_k.cputype) ∙ ap (from_be_bytes w32) arch.0 ∙ from_be_bytes-to_be_bytes_4 l.arch.cputype is_l.cputype in
+    let subtype : k.arch.subtype ≡ l.arch.subtype = sym (from_be_bytes-to_be_bytes_4 k.arch.subtype is_k.subtype) ∙ ap (from_be_bytes w32) arch.1 ∙ from_be_bytes-to_be_bytes_4 l.arch.subtype is_l.subtype in
+    λ i. record { uuid = uuid.0 i; arch = record { cputype = cputype i; subtype = subtype i } }
+
+-- different operations have different records
+pub one_operation : (a b : Operation) → IsOperation a → IsOperation b → rec a ≡ rec b → a ≡ b
+one_operation (Admit a) (Admit b) valid_a valid_b e = ap Admit (sym (same_admissions a b [] valid_a valid_b (behind_tag e)).0)
+  where
+    behind_tag : 2 ∷ admission a ≡ 2 ∷ admission b → admission b ≡ admission a ++ []
+    behind_tag h = let same : admission a ≡ admission b = cc in sym same ∙ sym (append-nil (admission a))
+one_operation (Admit a) (Retire l e) valid_a is_b h = absurd (apart h)
+  where
+    apart : 2 ∷ admission a ≡ 1 ∷ (key_bytes l ++ e.0) → ⊥
+    apart h = cc
+one_operation (Retire k d) (Admit b) is_a valid_b h = absurd (apart h)
+  where
+    apart : 1 ∷ (key_bytes k ++ d.0) ≡ 2 ∷ admission b → ⊥
+    apart h = cc
+one_operation (Retire k d) (Retire l e) is_a is_b h =
+    let parts = same_parts (key_bytes k) (key_bytes l) d.0 e.0 (length_key_bytes k is_a.0.uuid ∙ sym (length_key_bytes l is_b.0.uuid)) (behind_tag h) in
+    let key : k ≡ l = one_key k l is_a.0 is_b.0 parts.0 in
+    λ i. Retire (key i) (record { 0 = parts.1 i })
+  where
+    behind_tag : 1 ∷ (key_bytes k ++ d.0) ≡ 1 ∷ (key_bytes l ++ e.0) → key_bytes k ++ d.0 ≡ key_bytes l ++ e.0
+    behind_tag h = cc
+
+-- each operation has a record
+pub record_of_operation : (a : Operation) → IsOperation a → IsRecord (rec a)
+record_of_operation (Admit slice) valid = inl (record { slice = slice; valid = valid; is = refl })
+record_of_operation (Retire key digest) is = inr (record { key = key; digest = digest.0; is_key = is.0; long = is.1; is = refl })
+
+-- each record is that of an operation
+pub operation_of_record : (r : List ℕ) → IsRecord r → (a : Operation) × IsOperation a × (rec a ≡ r)
+operation_of_record r (inl admits) = (Admit admits.slice, admits.valid, sym admits.is)
+operation_of_record r (inr retires) = (Retire retires.key (record { 0 = retires.digest }), (retires.is_key, retires.long), sym retires.is)

@@ -1,0 +1,52 @@
+-- What an archive holds: a set of operations, the order on such sets, and what is live in one.
+use Rattle.std.specs.Prelude.{◌≡◌, ◌↔◌, ℕ, List, true, false, fold, Contains}
+use Rattle.std.specs.Ordering.{nat_cmp}
+use Rattle.std.specs.Cmp.Lexicographic.{slice_cmp}
+use Rattle.std.specs.FinSet as set
+use Rattle.sha2.specs.Sha256.{sha256}
+use Rattle.archive_core.specs.Valid.{key_of}
+use Rattle.archive_core.specs.Record.{IsRecord, admission_record, retirement_record}
+use Rattle.archive_core.specs.declared.keys.SliceKey.{SliceKey}
+
+-- a finite set of operations, each by its record, in byte order
+abbrev pub Operations : Type 0
+Operations = set.FinSet (slice_cmp nat_cmp)
+
+-- the content that a set of operations makes: the set itself. Added and retired slices only grow, as in the two-phase set (INRIA RR-7506, 2P-Set)
+abbrev pub made : Operations → Operations
+made o = o
+
+-- a set that makes itself
+abbrev pub IsMade : Operations → Type 0
+IsMade o = made o ≡ o
+
+-- a content: a set that makes itself, whose members are records
+pub record IsContent (o : Operations) : Type 0 where
+  pub itself : IsMade o
+  pub records : (r : List ℕ) → set.contains o r ≡ true → IsRecord r
+
+-- the order on contents: each operation of the one is in the other
+abbrev pub IsBelow : Operations → Operations → Type 0
+IsBelow o p = set.is_subset o p ≡ true
+
+-- the content after one operation was taken
+abbrev pub with_record : Operations → List ℕ → Operations
+with_record o r = made (set.insert o r)
+
+-- the content after operations were taken, one after another
+abbrev pub with_records : Operations → List (List ℕ) → Operations
+with_records o rs = fold with_record o rs
+
+-- the join of two contents: what the operations of both make
+abbrev pub joined : Operations → Operations → Operations
+joined o p = made (set.union o p)
+
+-- the same operations, in any order and with any repeats
+abbrev pub HaveSameMembers : List (List ℕ) → List (List ℕ) → Type 0
+HaveSameMembers rs ss = (r : List ℕ) → Contains rs r ↔ Contains ss r
+
+-- a live slice of a key: it was admitted, and no retirement covers it
+pub record IsLive (o : Operations) (key : SliceKey) (slice : List ℕ) : Type 0 where
+  pub admitted : set.contains o (admission_record slice) ≡ true
+  pub under : key_of slice ≡ key
+  pub kept : set.contains o (retirement_record key (sha256 slice)) ≡ false

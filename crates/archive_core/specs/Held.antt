@@ -1,0 +1,13 @@
+-- What a plain archive keeps.
+use Rattle.std.specs.Prelude.{List, map}
+use Rattle.std.specs.List.{AllByRecursion}
+use Rattle.std.specs.List.Sorted.{IsStrictlySortedBy}
+use Rattle.std.specs.Ordering.{nat_cmp}
+use Rattle.std.specs.Cmp.Lexicographic.{slice_cmp}
+use Rattle.archive_core.specs.Record.{rec, IsRecord}
+use Rattle.archive_core.specs.declared.operations.Operation.{Operation}
+
+-- operations strictly ascending by their records
+pub record IsHeld (operations : List Operation) : Type 0 where
+  pub ascending : IsStrictlySortedBy (slice_cmp nat_cmp) (map rec operations)
+  pub records : AllByRecursion IsRecord (map rec operations)

@@ -1,0 +1,34 @@
+-- Which bytes are a slice, why others are none, and the key of a slice.
+use Rattle.std.specs.Prelude.{◌≡◌, ℕ, List}
+use Rattle.macho_image.specs.Fault.{IsImage, IsImageFault}
+use Rattle.macho_image.specs.Contents.{uuid_of, arch_of}
+use Rattle.archive_core.specs.declared.keys.SliceKey.{SliceKey}
+use Rattle.archive_core.specs.declared.faults.SliceFault.{SliceFault}
+use Rattle.archive_core.specs.declared.faults.SliceFault.TheVariants.{Image}
+use Rattle.archive_core.specs.declared.faults.AdmitFault.{AdmitFault}
+use Rattle.archive_core.specs.declared.faults.AdmitFault.TheVariants.{Slice, OutOfMemory}
+
+-- a slice is a thin 64-bit image without a fault (mach-o/loader.h: mach_header_64 and its load commands)
+abbrev pub IsValid : List ℕ → Type 0
+IsValid bytes = IsImage bytes
+
+-- why bytes are no slice
+abbrev pub IsSliceFault : List ℕ → SliceFault → Type 0
+IsSliceFault bytes (Image fault) = IsImageFault bytes fault
+
+-- why bytes are not admitted: they are no slice, or they are one and memory was refused
+abbrev pub IsAdmitFault : List ℕ → AdmitFault → Type 0
+IsAdmitFault bytes (Slice fault) = IsSliceFault bytes fault
+IsAdmitFault bytes OutOfMemory = IsValid bytes
+
+-- the key of a slice: its LC_UUID, and cputype and cpusubtype of its header, the high byte of the latter cleared (mach/machine.h: CPU_SUBTYPE_MASK)
+unfoldable pub key_of : List ℕ → SliceKey
+key_of bytes = record {
+  uuid = uuid_of bytes;
+  arch = record { cputype = (arch_of bytes).0; subtype = (arch_of bytes).1 };
+}
+
+-- what a slice keeps: valid bytes, and their key
+pub record IsKept (bytes : List ℕ) (key : SliceKey) : Type 0 where
+  pub valid : IsValid bytes
+  pub key_is : key ≡ key_of bytes

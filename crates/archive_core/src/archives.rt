@@ -1,0 +1,75 @@
+//! What an archive is.
+ghost use Rattle.std.specs.Prelude.{◌≡◌, ◌<◌, ◌↔◌, false, IfOk, OnOk, OnErr, slice_index_or, []};
+ghost use Rattle.std.specs.FinSet as set;
+ghost use Rattle.join_core.specs.Listing.{listing};
+ghost use Rattle.archive_core.specs.Record.{rec, lent};
+ghost use Rattle.join_core.specs.Bound.{IsTowards};
+ghost use Rattle.archive_core.specs.Content.{Operations, IsContent, IsBelow, with_record, joined};
+
+use crate::{Operation, Record};
+use join_core::Join;
+use memory::{Heap, NoMemory};
+use std::marker::Model;
+
+/// The content of an archive, as contracts see it: a set of records. No value of it is made.
+pub struct Contents {
+    nothing: (),
+}
+
+impl Model for Contents {
+    ghost use Rattle.std.specs.Ordering.{nat_cmp};
+    ghost use Rattle.std.specs.Cmp.Lexicographic.{slice_cmp};
+    ghost use Rattle.std.specs.FinSet as set;
+    ghost use Rattle.std.specs.Coded.{coded_list, coded_ℕ};
+
+    ghost Value = { set.FinSet (slice_cmp nat_cmp) };
+
+    ghost coded = { set.code (coded_list coded_ℕ) };
+
+    ghost view = { λ _. set.empty };
+}
+
+/// An archive: a set of operations that joins.
+///
+/// Its records stand in ascending byte order, as an archive's text has them. An archive keeps the
+/// heap that it was made with.
+pub trait Archive: Join<Content = Contents> {
+    /// The archive without operations.
+    fn empty(heap: Heap) -> Self
+        ensures { Self.content result ≡ set.empty };
+
+    /// Takes an operation, and answers whether that changed the content. Refused for want of memory
+    /// alone; the operation is then dropped.
+    fn take(&mut self, operation: Operation) -> Result<bool, NoMemory>
+        ensures taken { OnOk result (Self.content self.new ≡ with_record (Self.content self.old) (rec operation)) }
+        ensures answer { IfOk result (λ changed. (changed ≡ false) ↔ (with_record (Self.content self.old) (rec operation) ≡ Self.content self.old)) }
+        ensures refused { OnErr result (Self.content self.new ≡ Self.content self.old) };
+
+    /// Whether the operation is in the content.
+    fn holds(&self, operation: &Operation) -> bool
+        ensures { result ≡ set.contains (Self.content self.now) (rec operation.now) };
+
+    /// The number of operations.
+    fn len(&self) -> u64
+        ensures len { result ≡ set.len (Self.content self.now) }
+        ensures content { IsContent (Self.content self.now) };
+
+    /// The operation at a place, from 0 on, among all in ascending order of their records.
+    fn record_at(&self, place: u64) -> Record<'_>
+        requires { place < set.len (Self.content self.now) }
+        ensures { lent result ≡ slice_index_or (listing (Self.content self.now)) place [] };
+
+    ghost is_content_is: { (o : Operations) → Self.Join.is_content o ↔ IsContent o };
+
+    ghost below_is: { (o p : Operations) → Self.Join.below o p ↔ IsBelow o p };
+}
+
+/// Joins an archive with another, whatever their type. Refused for want of memory alone; a part of
+/// `other` may then have been taken in.
+pub fn take_all<A: Archive>(archive: &mut A, other: &A) -> Result<(), NoMemory>
+    ensures joined { OnOk result (A.content archive.new ≡ joined (A.content archive.old) (A.content other.now)) }
+    ensures refused { OnErr result (IsTowards IsContent IsBelow (A.content archive.old) (A.content other.now) (A.content archive.new)) }
+{
+    let _known = archive.covers(other);
+    archive.join(other)
+}

@@ -1,0 +1,19 @@
+//! Why bytes are no slice, or are not admitted.
+use macho_image::ImageFault;
+
+/// Why bytes are no slice.
+#[derive(Clone, Copy, Debug, PartialEq, Eq)]
+pub enum SliceFault {
+    /// They are no image.
+    Image(ImageFault),
+}
+
+/// Why bytes are not admitted. The bytes are checked first: memory is asked for only where they
+/// are a slice.
+#[derive(Clone, Copy, Debug, PartialEq, Eq)]
+pub enum AdmitFault {
+    /// They are no slice.
+    Slice(SliceFault),
+    /// They are a slice, and a growth was refused.
+    OutOfMemory,
+}

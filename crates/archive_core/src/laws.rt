@@ -1,0 +1,83 @@
+//! What holds of faults, records, contents and joins.
+//!
+//! Each law is the contract of a function that does nothing, and speaks of the definitions alone: a
+//! caller that wants a law calls its function.
+ghost use Rattle.std.specs.Prelude.{◌≡◌, ℕ, ◌+◌, List, [], ◌++◌, true, length};
+ghost use Rattle.std.specs.FinSet as set;
+ghost use Rattle.sha2.specs.Sha256.{sha256};
+ghost use Rattle.join_core.specs.Bound.{IsLeastAbove};
+ghost use Rattle.archive_core.specs.Key.{IsKey};
+ghost use Rattle.archive_core.specs.Valid.{IsValid, IsSliceFault};
+ghost use Rattle.archive_core.specs.Record.{IsRecord, IsOperation, rec, admission_record, retirement_record};
+ghost use Rattle.archive_core.specs.Content.{Operations, made, IsMade, IsContent, IsBelow, with_records, joined, HaveSameMembers, IsLive};
+ghost use Rattle.archive_core.specs.declared.keys.SliceKey.{SliceKey};
+ghost use Rattle.archive_core.specs.declared.faults.SliceFault.{SliceFault};
+ghost use Rattle.archive_core.specs.declared.operations.Operation.{Operation};
+
+use crate::{Archive, PlainArchive};
+use join_core::laws::{associative, commutative, idempotent, monotone, resumed, unique};
+
+/// Bytes have one fault at most, and a slice has none.
+pub fn one_slice_fault()
+    ensures one { (bytes : List ℕ) (f g : SliceFault) → IsSliceFault bytes f → IsSliceFault bytes g → f ≡ g }
+    ensures none { (bytes : List ℕ) (f : SliceFault) → IsValid bytes → IsSliceFault bytes f → ⊥ }
+{}
+
+/// An admission's record has 33 bytes before the slice; a retirement's has 57.
+pub fn record_lengths()
+    ensures admission { (slice : List ℕ) → IsValid slice → length (admission_record slice) ≡ 33 + length slice }
+    ensures retirement { (key : SliceKey) (digest : List ℕ) → IsKey key → length digest ≡ 32 → length (retirement_record key digest) ≡ 57 }
+{}
+
+/// No record begins another: a text that is a row of records falls into them in one way.
+pub fn no_record_begins_another()
+    ensures { (r s rest : List ℕ) → IsRecord r → IsRecord s → s ≡ r ++ rest → rest ≡ [] }
+{}
+
+/// Each operation has a record, each record is that of an operation, and different operations have
+/// different records.
+pub fn one_record_each()
+    ensures is_record { (a : Operation) → IsOperation a → IsRecord (rec a) }
+    ensures is_operation { (r : List ℕ) → IsRecord r → (a : Operation) × IsOperation a × (rec a ≡ r) }
+    ensures one { (a b : Operation) → IsOperation a → IsOperation b → rec a ≡ rec b → a ≡ b }
+{}
+
+/// Contents are a join semilattice (INRIA RR-7506, 2011): the join of two is their
+/// least upper bound; grouping, order and repeats do not count; what holds no more joins to no
+/// more; and a join that stopped half way gives the same when it is asked for again.
+pub fn contents_join()
+    ensures least { (o p : Operations) → IsContent o → IsContent p → IsLeastAbove IsContent IsBelow o p (joined o p) }
+    ensures associative { (o p q : Operations) → IsContent o → IsContent p → IsContent q → joined (joined o p) q ≡ joined o (joined p q) }
+    ensures commutative { (o p : Operations) → IsContent o → IsContent p → joined o p ≡ joined p o }
+    ensures idempotent { (o : Operations) → IsContent o → joined o o ≡ o }
+    ensures monotone { (o p q : Operations) → IsContent o → IsContent p → IsContent q → IsBelow o p → IsBelow (joined o q) (joined p q) }
+    ensures resumed { (o mid p : Operations) → IsContent o → IsContent mid → IsContent p → IsBelow o mid → IsBelow mid (joined o p) → joined mid p ≡ joined o p }
+{
+    unique::<PlainArchive>();
+    associative::<PlainArchive>();
+    commutative::<PlainArchive>();
+    idempotent::<PlainArchive>();
+    monotone::<PlainArchive>();
+    resumed::<PlainArchive>();
+}
+
+/// What each archive's join gives is what the operations of both contents make.
+pub fn join_gives_union<A: Archive>()
+    ensures { (o p both : Operations) → IsContent o → IsContent p → IsLeastAbove A.is_content A.below o p both → both ≡ joined o p }
+{}
+
+/// The same operations, taken in any order and with any repeats, give one content: the join with
+/// what they make.
+pub fn takes_in_any_order()
+    ensures order { (o : Operations) (rs ss : List (List ℕ)) → IsMade o → HaveSameMembers rs ss → with_records o rs ≡ with_records o ss }
+    ensures union { (o : Operations) (rs : List (List ℕ)) → IsMade o → with_records o rs ≡ joined o (made (set.from_list rs)) }
+{}
+
+/// What was retired never comes back: no content above one that retires a slice has it live.
+pub fn retired_stays_retired()
+    ensures { (o p : Operations) (key : SliceKey) (slice : List ℕ)
+        → set.contains o (retirement_record key (sha256 slice)) ≡ true
+        → IsBelow o p
+        → IsLive p key slice
+        → ⊥ }
+{}

@@ -1,0 +1,33 @@
+//! The content of an archive of Mach-O slices, and archives that keep one.
+//!
+//! An archive keeps a set of operations: admissions of slices and retirements. It is the two-phase
+//! set of Shapiro, Preguiça, Baquero and Zawirski (INRIA RR-7506, 2011): what was added and what was
+//! removed both only grow, what was removed never comes back, and two archives join by taking in
+//! each other's operations. In one point it differs: a retirement may come before the admission that
+//! it covers, and is kept.
+//!
+//! - `keys`: under what a slice is kept;
+//! - `faults`: why bytes are no slice, or are not admitted;
+//! - `slices`: the bytes of a valid image;
+//! - `operations`: admissions and retirements, with their records;
+//! - `archives`: the trait [`Archive`];
+//! - `plain`: an archive as a sorted list;
+//! - [`laws`]: what holds of records, contents and joins.
+#![tactic(auto)]
+
+mod archives;
+mod faults;
+mod keys;
+pub mod laws;
+mod operations;
+mod plain;
+mod slices;
+#[cfg(test)]
+mod tests;
+
+pub use archives::{Archive, Contents};
+pub use faults::{AdmitFault, SliceFault};
+pub use keys::{ArchKey, Digest, SliceKey};
+pub use operations::{Operation, Record};
+pub use plain::PlainArchive;
+pub use slices::Slice;

@@ -1,0 +1,132 @@
+//! What an archive takes, and the order of records.
+ghost use Rattle.std.specs.Prelude.{◌≡◌, length, IfOk};
+ghost use Rattle.std.specs.Ordering.{nat_cmp};
+ghost use Rattle.std.specs.Cmp.Lexicographic.{slice_cmp};
+ghost use Rattle.archive_core.specs.Record.{rec, lent, admission, IsOperation};
+ghost use Rattle.archive_core.specs.Key.{IsKey};
+ghost use Rattle.archive_core.specs.Valid.{IsValid};
+
+use crate::keys::{compare_keys, uuid_bytes};
+use crate::{Digest, Slice, SliceKey};
+use memory::{Heap, NoMemory};
+use std::cmp::Ordering;
+
+/// What an archive takes.
+#[derive(Drop)]
+pub enum Operation {
+    /// The slice is kept, under its own key.
+    Admit(Slice),
+    /// The slices under that key whose bytes have that digest are retired, whether they were
+    /// admitted before, are admitted later or never come.
+    Retire(SliceKey, Digest),
+}
+
+/// An operation that an archive lends.
+#[derive(Clone, Copy)]
+pub enum Record<'a> {
+    /// The slice is kept, under its own key.
+    Admit(&'a Slice),
+    /// The slices under that key whose bytes have that digest are retired.
+    Retire(SliceKey, Digest),
+}
+
+impl Operation {
+    /// The same operation once more.
+    pub fn copy(&self, heap: Heap) -> Result<Operation, NoMemory>
+        ensures { IfOk result (λ operation. operation ≡ self.now) }
+    {
+        match self {
+            Operation::Admit(slice) => Ok(Operation::Admit(slice.copy(heap)?)),
+            Operation::Retire(key, digest) => Ok(Operation::Retire(*key, *digest)),
+        }
+    }
+
+    /// The operation, lent.
+    pub fn lend(&self) -> Record<'_>
+        ensures { lent result ≡ rec self.now }
+    {
+        match self {
+            Operation::Admit(slice) => Record::Admit(slice),
+            Operation::Retire(key, digest) => Record::Retire(*key, *digest),
+        }
+    }
+
+    /// Compares the records of two operations, byte by byte, without building them.
+    pub fn compare(&self, other: &Operation) -> Ordering
+        ensures { result ≡ slice_cmp nat_cmp (rec self.now) (rec other.now) }
+    {
+        match self {
+            Operation::Admit(slice) => match other {
+                Operation::Admit(that) => compare_admissions(slice, that),
+                Operation::Retire(_, _) => Ordering::Greater,
+            },
+            Operation::Retire(key, digest) => match other {
+                Operation::Admit(_) => Ordering::Less,
+                Operation::Retire(that, other) => {
+                    compare_keys(key, that).then(digest.0.cmp(&other.0))
+                }
+            },
+        }
+    }
+
+    // Tells what the types of its parts hold.
+    pub(crate) fn known(&self)
+        ensures { IsOperation self.now }
+    {
+        match self {
+            Operation::Admit(slice) => known_slice(slice),
+            Operation::Retire(key, digest) => {
+                known_key(key);
+                known_digest(digest);
+            }
+        }
+    }
+}
+
+// Tells that a slice is valid.
+fn known_slice(slice: &Slice)
+    ensures { IsValid slice.now }
+{
+    let _bytes = slice.bytes();
+}
+
+// Tells the widths of a key's parts.
+fn known_key(key: &SliceKey)
+    ensures { IsKey key.now }
+{
+    let _uuid = uuid_bytes(&key.uuid);
+    let _cputype = key.arch.cputype;
+    let _subtype = key.arch.subtype;
+}
+
+// Tells the length of a digest.
+fn known_digest(digest: &Digest)
+    ensures { length digest.now.0 ≡ 32 }
+{
+    let _bytes = digest_bytes(&digest.0);
+}
+
+// The bytes of a digest, which are thirty-two.
+fn digest_bytes(digest: &[u8; 32]) -> &[u8]
+    ensures bytes { result.now ≡ digest.now }
+    ensures long { length result.now ≡ 32 }
+{
+    digest
+}
+
+// Compares two admissions by what their records hold behind the tag: key, length, bytes.
+fn compare_admissions(a: &Slice, b: &Slice) -> Ordering
+    ensures { result ≡ slice_cmp nat_cmp (admission a.now) (admission b.now) }
+{
+    let first = a.bytes();
+    let second = b.bytes();
+    let heads = compare_keys(&a.key(), &b.key()).then(
+        (first.len() as u64)
+            .to_be_bytes()
+            .cmp(&(second.len() as u64).to_be_bytes()),
+    );
+    if heads.is_ne() {
+        return heads;
+    }
+    first.cmp(second)
+}
