@@ -1,0 +1,183 @@
+-- A record as the bytes of a retirement or of an admission.
+use Rattle.std.proofs.Common.{◌≡◌, ℕ, suc, ◌+◌, ◌<◌, ◌≤◌, false, List, [], ◌∷◌, ◌++◌, length, get_or, take, drop, Ok, refl, sym, ap, ◌∙◌, subst, arith, inl, inr, length-append, length-drop}
+use Rattle.std.proofs.lemmas.Bool.{cases_lt}
+use Rattle.std.proofs.lemmas.List.{take_all, take_at, drop_at, length-take, get_or-take, get_or-drop, get_or_past, take-append-drop, drop-drop}
+use Rattle.std.proofs.lemmas.Nat.{be_bytes_8, from_be_bytes-to_be_bytes_8}
+use Rattle.std.specs.Int.{w64, from_be_bytes, to_be_bytes}
+use Rattle.archive_core.specs.Key.{IsKey, key_bytes}
+use Rattle.archive_core.specs.Valid.{IsValid, key_of}
+use Rattle.archive_core.specs.Record.{admission, admission_record, retirement_record, Admits, Retires, IsRecord}
+use Rattle.archive_core.specs.declared.keys.SliceKey.{SliceKey}
+use Rattle.archive_core.proofs.Compare.{length_key_bytes}
+use Rattle.archive_core.proofs.Records.{length-key_of}
+use Rattle.archive_records.specs.declared.fault.RecordFaultKind.{RecordFaultKind}
+use Rattle.archive_records.specs.declared.fault.RecordFaultKind.TheVariants.{BadMagic, Truncated, BadTag, TooLarge, NotAscending, BadSlice, KeyMismatch, BadCount, Trailing, Device, OutOfMemory}
+use Rattle.archive_records.specs.Layout.{head_length, slice_length, body_length, framed}
+use Rattle.archive_records.specs.Fault.{is_end, RefusesSlice}
+use Rattle.archive_records.proofs.Framed.{framed-whole}
+use Rattle.archive_records.proofs.Holds.{body_one, body_two, whole-retirement}
+use Rattle.archive_records.proofs.SliceFacts.{short_slice, no_slice_fault}
+
+abbrev pub IsBytes : List ℕ → Type 0
+IsBytes bytes = (i : ℕ) → get_or bytes i 0 < 256
+
+IsBytes-take : (n : ℕ) (bytes : List ℕ) → IsBytes bytes → IsBytes (take n bytes)
+IsBytes-take n bytes h i =
+    elim (cases_lt i n) [
+      | inl lt ↦ rw (get_or-take n bytes i 0 lt) (h i)
+      | inr le ↦ rw (get_or_past (take n bytes) i 0 (omega (arith, length-take n bytes))) (omega arith)
+    ]
+
+IsBytes-drop : (n : ℕ) (bytes : List ℕ) → IsBytes bytes → IsBytes (drop n bytes)
+IsBytes-drop n bytes h i = rw (get_or-drop n bytes i 0) (h (n + i))
+
+-- an admission's record, in its parts
+pub record HasParts (r slice : List ℕ) : Type 0 where
+  pub tag : get_or r 0 0 ≡ 2
+  pub key : take 24 (drop 1 r) ≡ key_bytes (key_of slice)
+  pub number : slice_length r ≡ length slice
+  pub slice_is : drop 33 r ≡ slice
+  pub long : length r ≡ 33 + length slice
+
+parts_of : (key number slice : List ℕ) → length key ≡ 24 → length number ≡ 8 → (take 24 (key ++ (number ++ slice)) ≡ key) × (take 8 (drop 24 (key ++ (number ++ slice))) ≡ number) × (drop 32 (key ++ (number ++ slice)) ≡ slice) × (length (key ++ (number ++ slice)) ≡ 32 + length slice)
+parts_of key number slice k n =
+    let d : drop 24 (key ++ (number ++ slice)) ≡ number ++ slice = drop_at key (number ++ slice) 24 k in (
+      take_at key (number ++ slice) 24 k,
+      ap (take 8) d ∙ take_at number slice 8 n,
+      sym (drop-drop 8 24 (key ++ (number ++ slice))) ∙ ap (drop 8) d ∙ drop_at number slice 8 n,
+      omega (arith, length-append key (number ++ slice), length-append number slice),
+    )
+
+pub parts-admission : (slice : List ℕ) → IsValid slice → HasParts (admission_record slice) slice
+unfolding admission slice_length
+parts-admission slice valid =
+    let p = parts_of (key_bytes (key_of slice)) (to_be_bytes w64 (length slice)) slice (length-key_of slice valid) refl in
+    let short = short_slice slice valid in
+    record {
+      tag = refl;
+      key = p.0;
+      number = ap (from_be_bytes w64) p.1 ∙ from_be_bytes-to_be_bytes_8 (length slice) (omega arith);
+      slice_is = p.2;
+      long = omega (arith, p.3);
+    }
+
+pub parts-of : (r : List ℕ) (a : Admits r) → HasParts r a.slice
+parts-of r a = subst (λ (t : List ℕ). HasParts t a.slice) (sym a.is) (parts-admission a.slice a.valid)
+
+pub record RetirementParts (r : List ℕ) : Type 0 where
+  pub tag : get_or r 0 0 ≡ 1
+  pub long : length r ≡ 57
+
+pub parts-retires : (r : List ℕ) → Retires r → RetirementParts r
+parts-retires r t = record {
+  tag = ap (λ (x : List ℕ). get_or x 0 0) t.is;
+  long = ap length t.is ∙ omega (arith, length-append (key_bytes t.key) t.digest, length_key_bytes t.key t.is_key.uuid, t.long);
+}
+
+-- a record is whole
+pub record-framed : (r : List ℕ) → IsRecord r → framed r ≡ Ok (length r)
+unfolding head_length
+record-framed r (inl a) =
+    let p = parts-of r a in
+    let long = p.long in
+    let body : body_length r ≡ length a.slice = body_two r p.tag ∙ p.number in
+    let short = short_slice a.slice a.valid in
+    framed-whole r 33 (omega arith) (ap head_length p.tag) (omega arith) (omega (arith, body)) (omega (arith, body)) ∙ ap (λ (n : ℕ). Ok n) (omega (arith, body))
+record-framed r (inr t) =
+    let p = parts-retires r t in
+    let long = p.long in
+    let body : body_length r ≡ 0 = body_one r p.tag in
+    framed-whole r 57 (omega arith) (ap head_length p.tag) (omega arith) (omega (arith, body)) (omega (arith, body)) ∙ ap (λ (n : ℕ). Ok n) (omega (arith, body))
+
+-- and no end record
+pub record-item : (r : List ℕ) → IsRecord r → is_end r ≡ false
+unfolding is_end
+record-item r (inl a) = rw (parts-of r a).tag refl
+record-item r (inr t) = rw (parts-retires r t).tag refl
+
+one_two : (r : List ℕ) → Retires r → get_or r 0 0 ≡ 2 → ⊥
+one_two r t two = omega (arith, (parts-retires r t).tag)
+
+slice_good : (r : List ℕ) (kind : RecordFaultKind) → IsRecord r → RefusesSlice r kind → ⊥
+slice_good r (BadSlice fault) (inl a) f = no_slice_fault a.slice fault a.valid (rw (parts-of r a).slice_is at f.1)
+slice_good r (BadSlice fault) (inr t) f = one_two r t f.0
+slice_good r KeyMismatch (inl a) f = let p = parts-of r a in f.2 (p.key ∙ ap (λ (s : List ℕ). key_bytes (key_of s)) (sym p.slice_is))
+slice_good r KeyMismatch (inr t) f = one_two r t f.0
+slice_good r BadMagic i f = f
+slice_good r Truncated i f = f
+slice_good r BadTag i f = f
+slice_good r TooLarge i f = f
+slice_good r NotAscending i f = f
+slice_good r BadCount i f = f
+slice_good r Trailing i f = f
+slice_good r Device i f = f
+slice_good r OutOfMemory i f = f
+
+-- a record's slice is not refused
+pub record-slice : (r : List ℕ) (kind : RecordFaultKind) → IsRecord r → RefusesSlice r kind → ⊥
+record-slice = slice_good
+
+cons_both : (a b : ℕ) (xs ys : List ℕ) → a ≡ b → xs ≡ ys → a ∷ xs ≡ b ∷ ys
+cons_both a b xs ys p q = cc
+
+-- whole bytes with a retirement's tag are a retirement's record
+pub retires : (bytes : List ℕ) (key : SliceKey) → framed bytes ≡ Ok (length bytes) → get_or bytes 0 0 ≡ 1 → key_bytes key ≡ take 24 (drop 1 bytes) → IsKey key → Retires bytes
+retires [] key f tag k w = absurd (omega (arith, whole-retirement [] f tag))
+retires (b ∷ bs) key f tag k w =
+    let long = whole-retirement (b ∷ bs) f tag in
+    record {
+      key = key;
+      digest = drop 24 bs;
+      is_key = w;
+      long = omega (arith, length-drop 24 bs);
+      is = cons_both b 1 bs (key_bytes key ++ drop 24 bs) tag (sym (ap (λ (t : List ℕ). t ++ drop 24 bs) k ∙ take-append-drop 24 bs));
+    }
+
+-- whole bytes with an admission's tag, a slice and its key are an admission's record
+pub admits : (bytes : List ℕ) → (get_or bytes 0 0 ≡ 2) × (slice_length bytes + 33 ≡ length bytes) → IsValid (drop 33 bytes) → take 24 (drop 1 bytes) ≡ key_bytes (key_of (drop 33 bytes)) → IsBytes bytes → Admits bytes
+unfolding admission slice_length
+admits [] p valid key fits = absurd (omega (arith, p.0))
+admits (b ∷ bs) p valid key fits =
+    let long = p.1 in
+    let slice : List ℕ = drop 32 bs in
+    let tail : drop 8 (drop 24 bs) ≡ slice = drop-drop 8 24 bs in
+    let n : length slice ≡ from_be_bytes w64 (take 8 (drop 24 bs)) = omega (arith, length-drop 32 bs, long) in
+    let number : to_be_bytes w64 (length slice) ≡ take 8 (drop 24 bs) =
+    be_bytes_8 (take 8 (drop 24 bs)) (length slice) (omega (arith, length-take 8 (drop 24 bs), length-drop 24 bs, long)) (IsBytes-take 8 (drop 24 bs) (IsBytes-drop 24 bs (λ i. fits (suc i)))) n in
+    let rest : to_be_bytes w64 (length slice) ++ slice ≡ drop 24 bs = ap (λ (t : List ℕ). t ++ slice) number ∙ ap (λ (t : List ℕ). take 8 (drop 24 bs) ++ t) (sym tail) ∙ take-append-drop 8 (drop 24 bs) in
+    record {
+      slice = slice;
+      valid = valid;
+      is = cons_both b 2 bs (key_bytes (key_of slice) ++ (to_be_bytes w64 (length slice) ++ slice)) p.0
+          (sym (ap (λ (t : List ℕ). t ++ (to_be_bytes w64 (length slice) ++ slice)) (sym key) ∙ ap (λ (t : List ℕ). take 24 bs ++ t) rest ∙ take-append-drop 24 bs));
+    }
+
+-- a record with a retirement's tag is a retirement's
+pub retirement-of : (bytes : List ℕ) → IsRecord bytes → get_or bytes 0 0 ≡ 1 → Retires bytes
+retirement-of bytes (inl a) one = absurd (omega (arith, (parts-of bytes a).tag))
+retirement-of bytes (inr t) one = t
+
+-- and any other is an admission's
+pub admission-of : (bytes : List ℕ) → IsRecord bytes → (get_or bytes 0 0 ≡ 1 → ⊥) → Admits bytes
+admission-of bytes (inl a) other = a
+admission-of bytes (inr t) other = absurd (other (parts-retires bytes t).tag)
+
+pub long-retirement : (bytes : List ℕ) → Retires bytes → length bytes ≡ 57
+long-retirement bytes t = (parts-retires bytes t).long
+
+pub long-admission : (bytes : List ℕ) → Admits bytes → 33 ≤ length bytes
+long-admission bytes a = omega (arith, (parts-of bytes a).long)
+
+-- the key and the digest make the retirement's record
+pub retired_is : (bytes : List ℕ) (key : SliceKey) (digest : List ℕ) → length bytes ≡ 57 → get_or bytes 0 0 ≡ 1 → key_bytes key ≡ take 24 (drop 1 bytes) → digest ≡ take 32 (drop 25 bytes) → retirement_record key digest ≡ bytes
+retired_is [] key digest long tag k d = absurd (omega arith)
+retired_is (b ∷ bs) key digest long tag k d =
+    cons_both 1 b (key_bytes key ++ digest) bs (sym tag)
+    (ap (λ (t : List ℕ). t ++ digest) k ∙ ap (λ (t : List ℕ). take 24 bs ++ t) (d ∙ take_all 32 (drop 24 bs) (omega (arith, length-drop 24 bs))) ∙ take-append-drop 24 bs)
+
+-- the slice of an admission's record, and its record again
+pub admitted_valid : (bytes : List ℕ) → Admits bytes → IsValid (drop 33 bytes)
+admitted_valid bytes a = subst IsValid (sym (parts-of bytes a).slice_is) a.valid
+
+pub admitted_is : (bytes slice : List ℕ) → Admits bytes → slice ≡ drop 33 bytes → admission_record slice ≡ bytes
+admitted_is bytes slice a e = ap admission_record (e ∙ (parts-of bytes a).slice_is) ∙ sym a.is

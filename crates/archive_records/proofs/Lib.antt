@@ -1,0 +1,15 @@
+pub mod Heads
+pub mod Puts
+pub mod Framed
+pub mod Holds
+pub mod SliceFacts
+pub mod Forms
+pub mod Laid
+pub mod Above
+pub mod Ends
+pub mod Longest
+pub mod Grown
+pub mod Steps
+pub mod Contents
+pub mod Exact
+pub mod Inputs

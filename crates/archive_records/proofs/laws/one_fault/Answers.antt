@@ -1,0 +1,5 @@
+use Rattle.archive_records.proofs.Exact.{one_fault as exact}
+use Rattle.archive_records.proofs.laws.one_fault.Goals as goal
+
+pub returns : goal.returns
+returns c = exact

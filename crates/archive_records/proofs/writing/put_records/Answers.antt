@@ -1,0 +1,35 @@
+use Rattle.std.proofs.Common.{◌<◌, length, arith, ◌∙◌}
+use Rattle.std.proofs.lemmas.List.{take_all}
+use Rattle.std.proofs.lemmas.Result.{err_from_is_err_and}
+use Rattle.join_core.specs.Listing.{listing}
+use Rattle.archive_records.proofs.Puts.{put_more, put_stops, length_written}
+use Rattle.archive_records.proofs.writing.put_records.Goals as goal
+
+pub returns-in_err-done-clause-err : goal.returns-in_err-done-clause-err
+returns-in_err-done-clause-err g c =
+    let p = err_from_is_err_and c.from_residual.result c.from_residual.ensures.1 in
+    let o = g.A.Join.content c.args.archive.now in
+    let lt : c.putting.i < length (listing o) = omega (arith, length_written o, c.len-i-end.ensures.len, c.putting-test.true) in
+    let e = c.in_err-done.ensures.err in
+    rw (p.1, p.2) (put_stops (listing o) c.putting.i _ lt c.record_at.ensures c.args.done c.putting.done e.0 _ _ _ _ c.putting.invariant.is e.1 c.putting.invariant.gained e.2)
+
+pub putting-preserved : goal.putting-preserved
+putting-preserved g c =
+    let o = g.A.Join.content c.args.archive.now in
+    let lt : c.putting.i < length (listing o) = omega (arith, length_written o, c.len-i-end.ensures.len, c.putting-test.true) in
+    let e = c.in_ok-done.ensures.ok in
+    let m = put_more (listing o) c.putting.i _ lt c.record_at.ensures c.args.done c.putting.done c.in_ok-done.done _ _ _ c.putting.invariant.is e.0 c.putting.invariant.gained e.1 in
+    record {
+      fits = omega (arith, c.in_ok-done.ensures.short, c.putting.invariant.fits);
+      is = m.0;
+      gained = m.1;
+      unfailed = c.in_ok-done.ensures.unfailed ∙ c.putting.invariant.unfailed;
+    }
+
+pub returns-clause-ok : goal.returns-clause-ok
+returns-clause-ok g c =
+    let o = g.A.Join.content c.args.archive.now in
+    let all = take_all c.putting.i (listing o) (omega (arith, length_written o, c.len-i-end.ensures.len, c.putting-test.false)) in
+    let is = c.putting.invariant.is in
+    let gained = c.putting.invariant.gained in
+    (rw all at is, rw all at gained)

@@ -1,0 +1,42 @@
+-- How records lie in a file: a tag, what else its head holds, and an admission's slice. Each number is big-endian.
+use Rattle.std.specs.Prelude.{ℕ, ◌+◌, List, length, take, drop, slice_index, nat_lt, ◌==◌, if◌then◌else◌, Option, Some, None, Result, Ok, Err}
+use Rattle.std.specs.Int.{w64, from_be_bytes}
+use Rattle.archive_records.specs.declared.fault.RecordFaultKind.{RecordFaultKind}
+use Rattle.archive_records.specs.declared.fault.RecordFaultKind.TheVariants.{Truncated, BadTag, TooLarge}
+
+-- How long the head is, by its tag: a retirement is tag, UUID, cputype, subtype and digest; an admission's head is tag,
+-- UUID, cputype, subtype and the length of its slice; an end record is tag and number of records.
+unfoldable pub head_length : ℕ → Option ℕ
+head_length tag = if tag == 1 then Some 57 else if tag == 2 then Some 33 else if tag == 3 then Some 9 else None
+
+-- the length of the slice that an admission's head claims
+unfoldable pub slice_length : List ℕ → ℕ
+slice_length bytes = from_be_bytes w64 (take 8 (drop 25 bytes))
+
+-- the number in an end record
+unfoldable pub record_count : List ℕ → ℕ
+record_count bytes = from_be_bytes w64 (take 8 (drop 1 bytes))
+
+-- how many bytes follow the head: an admission's slice
+unfoldable pub body_length : List ℕ → ℕ
+body_length bytes = if slice_index bytes 0 == 2 then slice_length bytes else 0
+
+-- the greatest length of a slice
+abbrev pub largest_slice : ℕ
+largest_slice = 4294967295
+
+-- what a head of this length and the bytes behind it are
+unfoldable pub framed_behind : ℕ → List ℕ → Result ℕ RecordFaultKind
+framed_behind head bytes =
+    if nat_lt (length bytes) head then Err Truncated
+    else if nat_lt largest_slice (body_length bytes) then Err TooLarge
+    else if nat_lt (length bytes) (head + body_length bytes) then Err Truncated
+    else Ok (head + body_length bytes)
+
+abbrev pub framed_by : Option ℕ → List ℕ → Result ℕ RecordFaultKind
+framed_by None bytes = Err BadTag
+framed_by (Some head) bytes = framed_behind head bytes
+
+-- the length of the whole record or end record in front of the bytes, or else the first fault of its form
+unfoldable pub framed : List ℕ → Result ℕ RecordFaultKind
+framed bytes = if nat_lt (length bytes) 1 then Err Truncated else framed_by (head_length (slice_index bytes 0)) bytes

@@ -1,0 +1,5 @@
+pub mod Layout
+pub mod Text
+pub mod Fault
+pub mod Front
+pub mod Reading

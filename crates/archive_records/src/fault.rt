@@ -1,0 +1,39 @@
+//! Why a text is refused.
+
+use archive_core::SliceFault;
+
+/// Why bytes are no text of an archive, or why they were not read to their end.
+#[derive(Clone, Copy, Debug, PartialEq, Eq)]
+pub enum RecordFaultKind {
+    /// One of the first eight bytes is not that of the magic `MSYMARC1`.
+    BadMagic,
+    /// The input ends inside the magic, inside a record, or where one must begin.
+    Truncated,
+    /// The tag is none of a retirement, an admission or an end record.
+    BadTag,
+    /// An admission claims a slice of more than 4,294,967,295 bytes.
+    TooLarge,
+    /// The record is not above the one before it, in byte order.
+    NotAscending,
+    /// The bytes of an admission's slice are no slice.
+    BadSlice(SliceFault),
+    /// The key of an admission is not that of its slice.
+    KeyMismatch,
+    /// The end record's number is not the number of the records.
+    BadCount,
+    /// Bytes stand behind the end record.
+    Trailing,
+    /// The reader failed.
+    Device,
+    /// The growth of a collection was refused, or there is one record more than 9,223,372,036,854,775,807.
+    OutOfMemory,
+}
+
+/// What is wrong, and where.
+#[derive(Clone, Copy, Debug, PartialEq, Eq)]
+pub struct RecordFault {
+    pub kind: RecordFaultKind,
+    /// How many bytes stand before the first byte of the faulty record; for `Trailing`, before the first byte behind
+    /// the end record. It is 0 for the magic.
+    pub offset: u128,
+}

@@ -1,0 +1,93 @@
+//! One record after another from a source, each read over the last.
+
+ghost use Rattle.std.specs.Prelude.{◌≡◌, ◌<◌, ◌≤◌, ℕ, List, length, Some, Ok, Err, OnOk, IfOk, IfErr, MatchResult, slice_index};
+ghost use Rattle.std.specs.Io.KnownBytes.{Consumes, IsAtEnd};
+ghost use Rattle.byte_device.specs.Devices.{FailedIn};
+ghost use Rattle.byte_device.specs.Taking.{Fills};
+ghost use Rattle.archive_records.specs.declared.fault.RecordFaultKind.TheVariants.{Truncated, Device};
+ghost use Rattle.archive_records.specs.Layout.{head_length, framed};
+ghost use Rattle.archive_records.specs.Reading.{bytes_so_far, seen_as, Over};
+
+use crate::buffer::{Buffer, fill};
+use crate::fault::RecordFaultKind;
+use crate::head::{body_length_of, head_length_of};
+use byte_device::Source;
+use std::cmp::Ordering;
+
+/// The greatest length of a slice.
+const LARGEST_SLICE: u64 = 4294967295;
+
+/// Reads the head of the next record, and says how long it is.
+fn read_head<R: Source>(
+    r: &mut R,
+    chunk: &mut [u8],
+    buffer: &mut Buffer,
+) -> Result<usize, RecordFaultKind>
+    requires room { 0 < length chunk.old }
+    requires start { buffer.old.at ≡ 0 }
+    ensures within { buffer.new.at ≤ length buffer.new.bytes.items }
+    ensures taken { Consumes (R.left r.old) (R.left r.new) (bytes_so_far buffer.new) }
+    ensures over { (last : List ℕ) → Over last buffer.old → Over last buffer.new }
+    ensures head { IfOk result (λ head. head_length (slice_index (bytes_so_far buffer.new) 0) ≡ Some head) }
+    ensures len { IfOk result (λ head. buffer.new.at ≡ head) }
+    ensures long { IfOk result (λ head. 8 < head) }
+    ensures framed { IfErr result (λ kind. framed (bytes_so_far buffer.new) ≡ Err (seen_as kind)) }
+    ensures ended { IfErr result (λ kind. kind ≡ Truncated → IsAtEnd (R.left r.new)) }
+    ensures device { IfErr result (λ kind. kind ≡ Device → FailedIn (R.failures r.old) (R.failures r.new)) }
+    ensures unfailed { OnOk result (R.failures r.new ≡ R.failures r.old) }
+{
+    fill(r, chunk, buffer, 1)?;
+    let Some(head) = head_length_of(&buffer.bytes[..buffer.at]) else {
+        return Err(RecordFaultKind::BadTag);
+    };
+    fill(r, chunk, buffer, head - 1)?;
+    Ok(head)
+}
+
+/// Reads what follows the head.
+fn read_body<R: Source>(
+    r: &mut R,
+    chunk: &mut [u8],
+    buffer: &mut Buffer,
+    head: usize,
+) -> Result<(), RecordFaultKind>
+    requires room { 0 < length chunk.old }
+    requires within { buffer.old.at ≤ length buffer.old.bytes.items }
+    requires head { head_length (slice_index (bytes_so_far buffer.old) 0) ≡ Some head }
+    requires len { buffer.old.at ≡ head }
+    requires long { 8 < head }
+    ensures within { buffer.new.at ≤ length buffer.new.bytes.items }
+    ensures fills { Fills (R.left r.old) (R.left r.new) (bytes_so_far buffer.old) (bytes_so_far buffer.new) }
+    ensures over { (last : List ℕ) → Over last buffer.old → Over last buffer.new }
+    ensures framed { MatchResult result (λ _. framed (bytes_so_far buffer.new) ≡ Ok buffer.new.at) (λ kind. framed (bytes_so_far buffer.new) ≡ Err (seen_as kind)) }
+    ensures ended { IfErr result (λ kind. kind ≡ Truncated → IsAtEnd (R.left r.new)) }
+    ensures device { IfErr result (λ kind. kind ≡ Device → FailedIn (R.failures r.old) (R.failures r.new)) }
+    ensures unfailed { OnOk result (R.failures r.new ≡ R.failures r.old) }
+{
+    let body = body_length_of(&buffer.bytes[..buffer.at]);
+    if body > LARGEST_SLICE {
+        return Err(RecordFaultKind::TooLarge);
+    }
+    fill(r, chunk, buffer, body as usize)
+}
+
+/// Reads the next record, or the end record, over the last one.
+pub fn read_record<R: Source>(
+    r: &mut R,
+    chunk: &mut [u8],
+    buffer: &mut Buffer,
+) -> Result<(), RecordFaultKind>
+    requires { 0 < length chunk.old }
+    ensures within { buffer.new.at ≤ length buffer.new.bytes.items }
+    ensures taken { Consumes (R.left r.old) (R.left r.new) (bytes_so_far buffer.new) }
+    ensures over { Over buffer.old.bytes.items buffer.new }
+    ensures framed { MatchResult result (λ _. framed (bytes_so_far buffer.new) ≡ Ok buffer.new.at) (λ kind. framed (bytes_so_far buffer.new) ≡ Err (seen_as kind)) }
+    ensures ended { IfErr result (λ kind. kind ≡ Truncated → IsAtEnd (R.left r.new)) }
+    ensures device { IfErr result (λ kind. kind ≡ Device → FailedIn (R.failures r.old) (R.failures r.new)) }
+    ensures unfailed { OnOk result (R.failures r.new ≡ R.failures r.old) }
+{
+    buffer.at = 0;
+    buffer.order = Ordering::Equal;
+    let head = read_head(r, chunk, buffer)?;
+    read_body(r, chunk, buffer, head)
+}

@@ -1,0 +1,161 @@
+//! The heads of records: numbers and keys at their places.
+
+ghost use Rattle.std.specs.Prelude.{◌≡◌, ◌+◌, ◌<◌, ◌≤◌, ◌^◌, ◌↔◌, ◌∷◌, ◌++◌, IsTrue, Some, IfSome, length, slice_index, take, drop};
+ghost use Rattle.std.specs.Int.{w32, w64, to_be_bytes};
+ghost use Rattle.archive_core.specs.Key.{IsKey, key_bytes};
+ghost use Rattle.archive_core.specs.Valid.{key_of};
+ghost use Rattle.archive_core.specs.Record.{retirement_record};
+ghost use Rattle.archive_records.specs.Layout.{head_length, slice_length, body_length, record_count};
+ghost use Rattle.archive_records.specs.Text.{end_record};
+
+use archive_core::{ArchKey, Digest, Slice, SliceKey};
+use byteorder::{BigEndian, ByteOrder};
+use uuid::Uuid;
+
+pub const RETIREMENT: u8 = 1;
+
+pub const ADMISSION: u8 = 2;
+
+pub const END: u8 = 3;
+
+pub const RETIREMENT_LEN: usize = 57;
+
+pub const ADMISSION_HEAD_LEN: usize = 33;
+
+pub const END_LEN: usize = 9;
+
+/// How long the head is, by its tag.
+#[tactic(auto, unfolding(crate::specs::Layout::head_length))]
+pub fn head_length_of(bytes: &[u8]) -> Option<usize>
+    requires { 0 < length bytes.now }
+    ensures value { result ≡ head_length (slice_index bytes.now 0) }
+    ensures long { IfSome result (λ head. (8 < head) × (head < 58)) }
+{
+    match bytes[0] {
+        RETIREMENT => Some(RETIREMENT_LEN),
+        ADMISSION => Some(ADMISSION_HEAD_LEN),
+        END => Some(END_LEN),
+        _ => None,
+    }
+}
+
+/// How many bytes follow the head.
+#[tactic(auto, unfolding(crate::specs::Layout::body_length, crate::specs::Layout::slice_length, crate::specs::Layout::head_length))]
+pub fn body_length_of(head: &[u8]) -> u64
+    requires one { 0 < length head.now }
+    requires whole { head_length (slice_index head.now 0) ≡ Some (length head.now) }
+    ensures { result ≡ body_length head.now }
+{
+    if head[0] == ADMISSION {
+        BigEndian::read_u64(&head[25..])
+    } else {
+        0
+    }
+}
+
+/// The number in an end record.
+#[tactic(auto, unfolding(crate::specs::Layout::record_count))]
+pub fn record_count_of(end: &[u8]) -> u64
+    requires { 9 ≤ length end.now }
+    ensures { result ≡ record_count end.now }
+{
+    BigEndian::read_u64(&end[1..])
+}
+
+// A UUID has sixteen bytes.
+fn uuid_bytes(uuid: &Uuid) -> &[u8]
+    ensures bytes { result.now ≡ uuid.now }
+    ensures sixteen { length result.now ≡ 16 }
+{
+    uuid.as_bytes()
+}
+
+/// Lays the bytes of a key.
+fn lay_key(part: &mut [u8], key: &SliceKey)
+    requires { length part.old ≡ 24 }
+    ensures { part.new ≡ key_bytes key.now }
+{
+    part[..16].copy_from_slice(uuid_bytes(&key.uuid));
+    part[16..20].copy_from_slice(&key.arch.cputype.to_be_bytes());
+    part[20..].copy_from_slice(&key.arch.subtype.to_be_bytes());
+}
+
+/// Whether a whole record has the key.
+pub fn has_key(bytes: &[u8], key: &SliceKey) -> bool
+    requires { 25 ≤ length bytes.now }
+    ensures { IsTrue result ↔ (take 24 (drop 1 bytes.now) ≡ key_bytes key.now) }
+{
+    let mut whole = [0; 24];
+    lay_key(&mut whole, key);
+    &bytes[1..25] == &whole[..]
+}
+
+/// What stands before the slice in its admission's record.
+pub fn admission_head(slice: &Slice) -> [u8; 33]
+    ensures head { result ≡ 2 ∷ (key_bytes (key_of slice.now) ++ to_be_bytes w64 (length slice.now)) }
+    ensures short { length slice.now < 2 ^ 32 }
+{
+    let mut head = [0; ADMISSION_HEAD_LEN];
+    head[0] = ADMISSION;
+    lay_key(&mut head[1..25], &slice.key());
+    let length = slice.bytes().len() as u64;
+    head[25..].copy_from_slice(&length.to_be_bytes());
+    head
+}
+
+/// The record of a retirement.
+pub fn retirement_bytes(key: &SliceKey, digest: &Digest) -> [u8; 57]
+    ensures { result ≡ retirement_record key.now digest.now.0 }
+{
+    let mut record = [0; RETIREMENT_LEN];
+    record[0] = RETIREMENT;
+    lay_key(&mut record[1..25], key);
+    record[25..].copy_from_slice(&digest.0);
+    record
+}
+
+/// The end record of so many records.
+#[tactic(auto, unfolding(crate::specs::Text::end_record))]
+pub fn end_bytes(count: u64) -> [u8; 9]
+    ensures { result ≡ end_record count }
+{
+    let mut record = [0; END_LEN];
+    record[0] = END;
+    BigEndian::write_u64(&mut record[1..], count);
+    record
+}
+
+// The number at a place.
+fn number_at(bytes: &[u8], at: usize) -> u32
+    requires { at + 4 ≤ length bytes.now }
+    ensures { to_be_bytes w32 result ≡ take 4 (drop at bytes.now) }
+{
+    BigEndian::read_u32(&bytes[at..])
+}
+
+/// The key in a whole record.
+pub fn key_in(bytes: &[u8]) -> SliceKey
+    requires { 25 ≤ length bytes.now }
+    ensures bytes { key_bytes result ≡ take 24 (drop 1 bytes.now) }
+    ensures widths { IsKey result }
+{
+    let mut uuid = [0; 16];
+    uuid.copy_from_slice(&bytes[1..17]);
+    SliceKey {
+        uuid: Uuid::from_bytes(uuid),
+        arch: ArchKey {
+            cputype: number_at(bytes, 17),
+            subtype: number_at(bytes, 21),
+        },
+    }
+}
+
+/// The digest in the record of a retirement.
+pub fn digest_in(bytes: &[u8]) -> Digest
+    requires { 57 ≤ length bytes.now }
+    ensures { result.0 ≡ take 32 (drop 25 bytes.now) }
+{
+    let mut digest = [0; 32];
+    digest.copy_from_slice(&bytes[25..57]);
+    Digest(digest)
+}

@@ -1,0 +1,152 @@
+//! Archives that are read from a source.
+
+ghost use Rattle.std.specs.Prelude.{◌≡◌, ◌⊎◌, ◌+◌, ◌*◌, ◌<◌, ◌≤◌, ◌^◌, ℕ, List, Option, Some, length, slice_index, OnOk, IfOk, IfErr, IfSome, MatchResult};
+ghost use Rattle.std.specs.FinSet as set;
+ghost use Rattle.std.specs.Io.KnownBytes.{Consumes, IsAtEnd};
+ghost use Rattle.byte_device.specs.Devices.{FailedIn};
+ghost use Rattle.archive_core.specs.Record.{rec, IsRecord};
+ghost use Rattle.archive_core.specs.Content.{Operations, IsContent, with_record};
+ghost use Rattle.archive_records.specs.declared.fault.RecordFaultKind.TheVariants.{Truncated, Device, OutOfMemory};
+ghost use Rattle.archive_records.specs.Text.{written};
+ghost use Rattle.archive_records.specs.Fault.{IsFault, IsOfText};
+ghost use Rattle.archive_records.specs.Front.{IsFrontLength, IsLongestLength};
+ghost use Rattle.archive_records.specs.Reading.{HasStopped, Makes, MakesAll, IsReadTo};
+
+use crate::fault::{RecordFault, RecordFaultKind};
+use crate::head::{ADMISSION_HEAD_LEN, RETIREMENT, digest_in, key_in};
+use crate::reader::RecordReader;
+use archive_core::{Archive, Operation, Slice};
+use byte_device::Source;
+use memory::{Heap, NoMemory};
+
+/// The operation of a record.
+fn operation_of(heap: Heap, bytes: &[u8]) -> Result<Operation, NoMemory>
+    requires { IsRecord bytes.now }
+    ensures { IfOk result (λ operation. rec operation ≡ bytes.now) }
+{
+    if bytes[0] == RETIREMENT {
+        return Ok(Operation::Retire(key_in(bytes), digest_in(bytes)));
+    }
+    let slice = Slice::of_valid(heap, &bytes[ADMISSION_HEAD_LEN..])?;
+    Ok(Operation::Admit(slice))
+}
+
+/// Takes the operation of a record.
+fn take_record<A: Archive>(archive: &mut A, heap: &Heap, bytes: &[u8]) -> Result<(), NoMemory>
+    requires { IsRecord bytes.now }
+    ensures { OnOk result (A.content archive.new ≡ with_record (A.content archive.old) bytes.now) }
+{
+    let operation = operation_of(heap.clone()?, bytes)?;
+    archive.take(operation)?;
+    Ok(())
+}
+
+/// Takes the records of a text up to its end record.
+fn take_records<A: Archive, R: Source>(
+    archive: &mut A,
+    heap: &Heap,
+    reader: &mut RecordReader,
+    r: &mut R,
+) -> Result<(), RecordFault>
+    requires room { 0 < length reader.old.chunk.items }
+    requires few { reader.old.count < 2 ^ 63 }
+    requires fits { reader.old.offset + length reader.old.buffer.bytes.items ≤ 8 + reader.old.count * 2 ^ 64 }
+    ensures all { OnOk result ((a : Option (List ℕ)) → Makes a (R.left r.old) (A.content archive.old) reader.old → MakesAll a (R.left r.new) (A.content archive.new) reader.new) }
+    ensures stopped { IfErr result (λ fault. (a : Option (List ℕ)) → Makes a (R.left r.old) (A.content archive.old) reader.old → HasStopped a (R.left r.new) fault) }
+    ensures bound { OnOk result (reader.new.offset ≤ 8 + 2 ^ 127) }
+    ensures ended { IfErr result (λ fault. fault.kind ≡ Truncated → IsAtEnd (R.left r.new)) }
+    ensures device { IfErr result (λ fault. fault.kind ≡ Device → FailedIn (R.failures r.old) (R.failures r.new)) }
+    ensures unfailed { OnOk result (R.failures r.new ≡ R.failures r.old) }
+{
+    'taking: loop {
+        match reader.advance(r) {
+            Ok(true) => return Ok(()),
+            Ok(false) => {}
+            Err(fault) => return Err(fault),
+        }
+        if let Err(_) = take_record(archive, heap, &reader.buffer.bytes) {
+            return Err(RecordFault {
+                kind: RecordFaultKind::OutOfMemory,
+                offset: reader.offset,
+            });
+        }
+    }
+}
+
+/// Reads the records behind the magic, the end record, and that the input ends.
+fn read_rest<A: Archive + Drop, R: Source>(
+    heap: &Heap,
+    mut archive: A,
+    mut reader: RecordReader,
+    r: &mut R,
+) -> Result<A, RecordFault>
+    requires room { 0 < length reader.chunk.items }
+    requires few { reader.count < 2 ^ 63 }
+    requires fits { reader.offset + length reader.buffer.bytes.items ≤ 8 + reader.count * 2 ^ 64 }
+    ensures read { IfOk result (λ read. (a : Option (List ℕ)) → Makes a (R.left r.old) (A.content archive) reader → IsReadTo a (R.left r.new) (A.content read)) }
+    ensures stopped { IfErr result (λ fault. (a : Option (List ℕ)) → Makes a (R.left r.old) (A.content archive) reader → HasStopped a (R.left r.new) fault) }
+    ensures ended { IfErr result (λ fault. fault.kind ≡ Truncated → IsAtEnd (R.left r.new)) }
+    ensures device { IfErr result (λ fault. fault.kind ≡ Device → FailedIn (R.failures r.old) (R.failures r.new)) }
+    ensures unfailed { OnOk result (R.failures r.new ≡ R.failures r.old) }
+{
+    take_records(&mut archive, heap, &mut reader, r)?;
+    reader.finish(r)?;
+    Ok(archive)
+}
+
+/// The handle for the archive, and that for what is read.
+fn shared(heap: &Heap) -> Result<(Heap, Heap), NoMemory> {
+    Ok((heap.clone()?, heap.clone()?))
+}
+
+/// Reads a whole input as the text of an archive. What is said is of the bytes that were taken.
+fn read_taken<A: Archive + Drop, R: Source>(heap: Heap, r: &mut R) -> Result<A, RecordFault>
+    ensures read { IfOk result (λ archive. IsReadTo (R.left r.old) (R.left r.new) (A.content archive)) }
+    ensures stopped { IfErr result (λ fault. HasStopped (R.left r.old) (R.left r.new) fault) }
+    ensures ended { IfErr result (λ fault. fault.kind ≡ Truncated → IsAtEnd (R.left r.new)) }
+    ensures device { IfErr result (λ fault. fault.kind ≡ Device → FailedIn (R.failures r.old) (R.failures r.new)) }
+    ensures unfailed { OnOk result (R.failures r.new ≡ R.failures r.old) }
+{
+    let Ok((own, buffers)) = shared(&heap) else {
+        return Err(RecordFault {
+            kind: RecordFaultKind::OutOfMemory,
+            offset: 0,
+        });
+    };
+    let reader = RecordReader::begin(buffers, r)?;
+    read_rest(&heap, A::empty(own), reader, r)
+}
+
+/// Reads an archive: the whole input is its text. The pieces in which the reader gives its bytes do not matter. A fault
+/// leaves no archive, and how much of a faulty input was read is not promised.
+///
+/// # Errors
+///
+/// Each kind of `RecordFaultKind`; within a record they are found in the order of its tests: BadTag, Truncated inside the
+/// head, TooLarge, Truncated inside the slice, NotAscending, BadSlice, KeyMismatch; for an end record Truncated, BadCount,
+/// Trailing.
+pub fn read_archive<A: Archive + Drop, R: Source>(heap: Heap, r: &mut R) -> Result<A, RecordFault>
+    // What is read is the one text of the archive's content.
+    ensures found { IfOk result (λ archive. IfSome (R.left r.old) (λ text. text ≡ written (A.content archive))) }
+    ensures content { IfOk result (λ archive. IsContent (A.content archive)) }
+    ensures few { IfOk result (λ archive. set.len (A.content archive) < 2 ^ 63) }
+    ensures at_end { OnOk result (IsAtEnd (R.left r.new)) }
+
+    // Where neither the device nor memory failed, the fault is that of the whole input.
+    ensures refused { IfErr result (λ fault. IsOfText fault.kind → IfSome (R.left r.old) (λ text. IsFault text fault)) }
+
+    // The text of a content gives that content, and is refused for the device and for memory alone.
+    ensures only { (o : Operations) → IsContent o → IfSome (R.left r.old) (λ text. text ≡ written o → MatchResult result (λ archive. A.content archive ≡ o) (λ fault. (fault.kind ≡ Device) ⊎ (fault.kind ≡ OutOfMemory))) }
+
+    // Truncated comes only where the reader told its end, and Device only where it failed.
+    ensures ended { IfErr result (λ fault. fault.kind ≡ Truncated → IsAtEnd (R.left r.new)) }
+    ensures device { IfErr result (λ fault. fault.kind ≡ Device → FailedIn (R.failures r.old) (R.failures r.new)) }
+    ensures unfailed { OnOk result (R.failures r.new ≡ R.failures r.old) }
+
+    // The offset of Device is the length of the longest good front of what was read, that of OutOfMemory the length of a
+    // good front; both are 0 before the magic was read.
+    ensures device_offset { IfErr result (λ fault. fault.kind ≡ Device → (bytes : List ℕ) × Consumes (R.left r.old) (R.left r.new) bytes × IsLongestLength bytes fault.offset) }
+    ensures memory_offset { IfErr result (λ fault. fault.kind ≡ OutOfMemory → (bytes : List ℕ) × Consumes (R.left r.old) (R.left r.new) bytes × IsFrontLength bytes fault.offset) }
+{
+    read_taken(heap, r)
+}
