@@ -1,0 +1,9 @@
+pub mod HexText
+pub mod Admitting
+pub mod Taking
+pub mod KeptInputs
+pub mod OnWords
+pub mod Simple
+pub mod ToldLemmas
+pub mod Orders
+pub mod Ending

@@ -1,0 +1,97 @@
+-- The inputs of a command: which are refused, and why.
+use Rattle.std.specs.Prelude.{◌≡◌, ◌≢◌, ℕ, ◌<◌, List, [], ◌∷◌, take, length, true, false, nat_eq, Option, Some, IfSome, Result, Ok, Err, slice_get, ◌⊎◌}
+use Rattle.std.specs.List.{AllByRecursion, starts_with}
+use Rattle.byte_device.specs.Devices.{FailedIn}
+use Rattle.macho_image.specs.Layout.{magic}
+use Rattle.archive_core.specs.Valid.{IsValid, IsSliceFault}
+use Rattle.archive_core.specs.Content.{Operations, IsContent}
+use Rattle.archive_records.specs.Text.{written}
+use Rattle.archive_records.specs.Fault.{IsFault}
+use Rattle.archive_records.specs.declared.fault.RecordFault.{RecordFault}
+use Rattle.archive_records.specs.declared.fault.RecordFaultKind.TheVariants.{Device, OutOfMemory}
+use Rattle.symarch.specs.declared.faults.CannotOpen.{CannotOpen}
+use Rattle.symarch.specs.declared.faults.TakeFault.{TakeFault}
+use Rattle.symarch.specs.declared.faults.TakeFault.TheVariants.{Unrecognised, Slice}
+use Rattle.symarch.specs.declared.faults.Place.{Place}
+use Rattle.symarch.specs.declared.faults.Place.TheVariants.{Archive, File}
+use Rattle.symarch.specs.declared.faults.Why.{Why}
+use Rattle.symarch.specs.declared.faults.Why.TheVariants.{Device as CannotRead, Record, Take, CannotOpen as NotOpened}
+
+-- The input was opened, and this holds of its bytes, where they are known.
+abbrev pub Gives : {S : Type 0} → (S → Option (List ℕ)) → Result S CannotOpen → (List ℕ → Type 0) → Type 0
+Gives left (Ok source) P = IfSome (left source) P
+Gives left (Err _) P = ⊥
+
+-- The files were opened and hold these images, one each.
+abbrev pub GiveEach : {S : Type 0} → (S → Option (List ℕ)) → List (Result S CannotOpen) → List (List ℕ) → Type 0
+GiveEach left [] [] = Unit {0}
+GiveEach left [] (_ ∷ _) = ⊥
+GiveEach left (_ ∷ _) [] = ⊥
+GiveEach left (file ∷ files) (image ∷ images) = Gives left file (λ bytes. bytes ≡ image) × GiveEach left files images
+
+-- The archive that is read has this content, and these are the images of the first files.
+pub record IsAccepted {R S : Type 0} (left_in : R → Option (List ℕ)) (left : S → Option (List ℕ)) (input : Result R CannotOpen) (files : List (Result S CannotOpen)) (o : Operations) (images : List (List ℕ)) : Type 0 where
+  pub content : IsContent o
+  pub archive : Gives left_in input (λ text. text ≡ written o)
+  pub files_are : GiveEach left files images
+  pub valid : AllByRecursion IsValid images
+
+-- how often the reader of an input failed
+abbrev pub failures_of : {S : Type 0} → (S → ℕ) → Result S CannotOpen → ℕ
+failures_of failures (Ok source) = failures source
+failures_of failures (Err _) = 0
+
+-- why no slice of a file's bytes is taken
+abbrev pub IsTakeFault : List ℕ → TakeFault → Type 0
+IsTakeFault bytes Unrecognised = starts_with nat_eq bytes magic ≡ false
+IsTakeFault bytes (Slice place fault) = (starts_with nat_eq bytes magic ≡ true) × (place ≡ 0) × IsSliceFault bytes fault
+
+-- why an archive is not read, between these states of the input: it was not opened, its text has this fault, or the reader failed
+abbrev pub IsArchiveRefused : {R : Type 0} → (R → Option (List ℕ)) → (R → ℕ) → Result R CannotOpen → Result R CannotOpen → Why → Type 0
+IsArchiveRefused left failures (Err _) new why = why ≡ NotOpened
+IsArchiveRefused left failures (Ok old) new why =
+    (fault : RecordFault) × (why ≡ Record fault) × (fault.kind ≢ OutOfMemory)
+    × (fault.kind ≢ Device → IfSome (left old) (λ text. IsFault text fault))
+    × (fault.kind ≡ Device → FailedIn (failures old) (failures_of failures new))
+
+-- why a file is not taken: it was not opened, the reader failed, or its bytes have this fault
+abbrev pub IsFileRefused : {S : Type 0} → (S → Option (List ℕ)) → (S → ℕ) → Result S CannotOpen → Result S CannotOpen → Why → Type 0
+IsFileRefused left failures (Err _) new why = why ≡ NotOpened
+IsFileRefused left failures (Ok old) new why =
+    ((why ≡ CannotRead) × FailedIn (failures old) (failures_of failures new))
+    ⊎ ((fault : TakeFault) × (why ≡ Take fault) × IfSome (left old) (λ bytes. IsTakeFault bytes fault))
+
+-- This file is refused, which stands at this place of the words.
+abbrev pub IsRefusedFile : {S : Type 0} → (S → Option (List ℕ)) → (S → ℕ) → ℕ → Result S CannotOpen → Result S CannotOpen → Place → Why → Type 0
+IsRefusedFile left failures place old new at why = (at ≡ File place) × IsFileRefused left failures old new why
+
+-- The bytes of the file at this place are refused.
+abbrev pub IsRefusedImage : ℕ → List ℕ → Place → Why → Type 0
+IsRefusedImage place bytes at why = (at ≡ File place) × (fault : TakeFault) × (why ≡ Take fault) × IsTakeFault bytes fault
+
+-- This archive is refused, which stands at this place of the words.
+abbrev pub IsRefusedArchive : {R : Type 0} → (R → Option (List ℕ)) → (R → ℕ) → ℕ → Result R CannotOpen → Result R CannotOpen → Place → Why → Type 0
+IsRefusedArchive left failures place old new at why = (at ≡ Archive place) × IsArchiveRefused left failures old new why
+
+-- The file at this place is refused.
+pub record IsRefusedAt {S : Type 0} (left : S → Option (List ℕ)) (failures : S → ℕ) (old new : List (Result S CannotOpen)) (place : ℕ) (why : Why) : Type 0 where
+  pub before : Result S CannotOpen
+  pub after : Result S CannotOpen
+  pub before_is : slice_get old place ≡ Some before
+  pub after_is : slice_get new place ≡ Some after
+  pub refused : IsFileRefused left failures before after why
+
+-- The files before this place hold valid images, and the one at it is refused.
+abbrev pub IsFirstFileRefused : {S : Type 0} → (S → Option (List ℕ)) → (S → ℕ) → List (Result S CannotOpen) → List (Result S CannotOpen) → Place → Why → Type 0
+IsFirstFileRefused left failures old new (Archive place) why = ⊥
+IsFirstFileRefused left failures old new (File place) why =
+    ((images : List (List ℕ)) × GiveEach left (take place old) images × AllByRecursion IsValid images)
+    × IsRefusedAt left failures old new place why
+
+-- The first input that is refused, in the order of the words: the archive, or where that is accepted the first such file.
+abbrev pub IsFirstRefused : {R S : Type 0} → (R → Option (List ℕ)) → (R → ℕ) → (S → Option (List ℕ)) → (S → ℕ) → Result R CannotOpen → Result R CannotOpen
+    → List (Result S CannotOpen) → List (Result S CannotOpen) → Place → Why → Type 0
+IsFirstRefused left_in failures_in left failures in_old in_new old new (Archive place) why = (place ≡ 0) × IsArchiveRefused left_in failures_in in_old in_new why
+IsFirstRefused left_in failures_in left failures in_old in_new old new (File place) why =
+    ((o : Operations) × IsContent o × Gives left_in in_old (λ text. text ≡ written o))
+    × IsFirstFileRefused left failures old new (File place) why

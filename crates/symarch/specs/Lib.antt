@@ -1,0 +1,10 @@
+pub mod Texts
+pub mod Rows
+pub mod Report
+pub mod Admit
+pub mod Inputs
+pub mod Leaves
+pub mod Admits
+pub mod Commands
+pub mod Lines
+pub mod Told
