@@ -15,9 +15,10 @@ pub type Heap = Memory<Global>;
 /// A handle to the memory of `B`: it passes each call on, and refuses every growth once its
 /// growths are used up. A clone shares what is left.
 ///
-/// A growth is an allocation, also where a collection asks for a larger block in the place of its
-/// own. The contract of an allocator does not say when it refuses, so that the count is kept is
-/// shown by this crate's tests and by no clause.
+/// A growth is an allocation, or a block that is made larger, which counts as one growth however
+/// `B` makes it larger. A block that is made smaller, or goes back, is none. The contract of an
+/// allocator does not say when it refuses, so that the count is kept is shown by this crate's tests
+/// and by no clause.
 pub struct Memory<B: Allocator> {
     inner: B,
     growths: Rc<Cell<u64>>,
@@ -81,6 +82,29 @@ unsafe impl<B: Allocator> Allocator for Memory<B> {
     unsafe fn deallocate(&self, ptr: *mut u8, size: usize, align: usize) {
         self.inner.deallocate(ptr, size, align);
     }
+
+    unsafe fn grow<T>(
+        &self,
+        ptr: *mut T,
+        len: usize,
+        old_cap: usize,
+        new_cap: usize,
+    ) -> Result<*mut T, AllocError> {
+        if !take_growth(&self.growths) {
+            return Err(AllocError);
+        }
+        self.inner.grow(ptr, len, old_cap, new_cap)
+    }
+
+    unsafe fn shrink<T>(
+        &self,
+        ptr: *mut T,
+        len: usize,
+        old_cap: usize,
+        new_cap: usize,
+    ) -> Result<*mut T, AllocError> {
+        self.inner.shrink(ptr, len, old_cap, new_cap)
+    }
 }
 
 #[cfg(test)]
@@ -132,6 +156,18 @@ mod tests {
         // A block that goes back is no growth that comes back.
         drop(first);
         assert!(rt; third.push(3).is_err());
+        Ok(())
+    }
+
+    #[test]
+    fn a_smaller_block_is_no_growth(rt: HostRuntime) -> Result<(), Fail> {
+        let mut numbers = Vec::new(Heap::with_growths(rt.alloc(), 2)?);
+        for number in 0..5 {
+            numbers.push(number)?;
+        }
+        numbers.shrink_to_fit();
+        assert!(rt; numbers.push(5).is_err());
+        assert!(rt; numbers.iter().copied().eq(0..5));
         Ok(())
     }
 }
