@@ -58,6 +58,7 @@ pub fn read_to_end<R: Source>(heap: Heap, r: &mut R) -> Result<Vec<u8, Heap>, Re
         match r.pull(&mut bytes[filled..]) {
             Ok(0) => {
                 bytes.truncate(filled);
+                bytes.shrink_to_fit();
                 return Ok(bytes);
             }
             Ok(n) => filled += n,
