@@ -59,6 +59,16 @@ impl Slice {
         }
     }
 
+    /// The slice of these bytes, which are taken over without a copy.
+    pub fn from_bytes(bytes: Vec<u8, Heap>) -> Result<Slice, SliceFault>
+        ensures valid { OnOk result (IsValid bytes.items) }
+        ensures slice { IfOk result (λ slice. slice ≡ bytes.items) }
+        ensures faulty { IfErr result (IsSliceFault bytes.items) }
+    {
+        let key = Slice::check(&bytes)?;
+        Ok(Slice { bytes, key })
+    }
+
     /// The slice of bytes that [`Slice::check`] has accepted, which are copied.
     pub fn of_valid(heap: Heap, bytes: &[u8]) -> Result<Slice, NoMemory>
         requires { IsValid bytes.now }
