@@ -106,7 +106,7 @@ content_is o = (listed nat_list_cmp_total bytes_same o).same
 
 -- ---- the one text
 
-same_bytes : (x y : List ℕ) → eq_by_cmp order x y ≡ true → x ≡ y
+pub same_bytes : (x y : List ℕ) → eq_by_cmp order x y ≡ true → x ≡ y
 same_bytes x y e = bytes_same x y ((Equal-is (order x y)).0 e)
 
 contained : (xs : List (List ℕ)) (q : List ℕ) → Contains xs q → list_any (eq_by_cmp order q) xs ≡ true

@@ -52,7 +52,7 @@ refused_tag r Trailing f = absurd f
 refused_tag r Device f = absurd f
 refused_tag r OutOfMemory f = absurd f
 
-is_three : (bytes : List ℕ) → is_end bytes ≡ true → get_or bytes 0 0 ≡ 3
+pub is_three : (bytes : List ℕ) → is_end bytes ≡ true → get_or bytes 0 0 ≡ 3
 unfolding is_end
 is_three bytes e = eqb-true _ _ e
 

@@ -13,3 +13,4 @@ pub mod Steps
 pub mod Contents
 pub mod Exact
 pub mod Inputs
+pub mod Complete

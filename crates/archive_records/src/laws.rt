@@ -1,6 +1,6 @@
 //! What the definitions say of each other. Each law is a function without a body, and its contract the law.
 
-ghost use Rattle.std.specs.Prelude.{◌≡◌, ◌+◌, ◌<◌, ◌^◌, ◌++◌, ◌↔◌, ◌⊎◌, ℕ, List, []};
+ghost use Rattle.std.specs.Prelude.{◌≡◌, ◌+◌, ◌<◌, ◌^◌, ◌++◌, ◌↔◌, ◌⊎◌, ℕ, List, [], slice_index};
 ghost use Rattle.std.specs.FinSet as set;
 ghost use Rattle.archive_core.specs.Content.{Operations, IsContent};
 ghost use Rattle.archive_records.specs.declared.fault.RecordFaultKind.TheVariants.{Trailing};
@@ -22,6 +22,11 @@ pub fn one_content()
 /// No text of an archive begins another one.
 pub fn no_text_begins_another()
     ensures { (o p : Operations) (more : List ℕ) → IsContent o → IsContent p → written o ++ more ≡ written p → more ≡ [] }
+{}
+
+/// Bytes are the text of a content, or have a fault.
+pub fn content_or_fault()
+    ensures { (text : List ℕ) → ((i : ℕ) → slice_index text i < 256) → ((o : Operations) × IsContent o × IsWritten o text) ⊎ ((fault : RecordFault) × IsFault text fault) }
 {}
 
 /// A text has one fault at most.

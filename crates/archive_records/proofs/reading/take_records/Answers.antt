@@ -1,5 +1,4 @@
-use Rattle.std.proofs.Common.{◌∙◌, ap, inr}
-use Rattle.archive_core.specs.Content.{with_record}
+use Rattle.std.proofs.Common.{◌∙◌, inr}
 use Rattle.archive_records.proofs.Steps.{Makes-grows, HasStopped-unkept}
 use Rattle.archive_records.proofs.reading.take_records.Goals as goal
 
