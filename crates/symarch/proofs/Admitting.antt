@@ -1,8 +1,8 @@
 -- What `admit` makes of one more image.
-use Rattle.std.proofs.Common.{◌≡◌, ◌≢◌, ℕ, zero, suc, ◌+◌, ◌<◌, ◌≤◌, Bool, true, false, List, [], ◌∷◌, ◌++◌, length, map, take, drop, refl, sym, ap, ◌∙◌, subst, arith, cond}
+use Rattle.std.proofs.Common.{◌≡◌, ℕ, Bool, true, false, List, refl, sym, ap, ◌∙◌}
 use mathlib.Core.Bool.{true≢false}
 use Rattle.std.specs.Prelude.{◌↔◌, if◌then◌else◌}
-use Rattle.std.specs.Cmp.Lexicographic.{slice_cmp, nat_list_cmp_total}
+use Rattle.std.specs.Cmp.Lexicographic.{nat_list_cmp_total}
 use Rattle.std.specs.FinSet as set
 use Rattle.sha2.specs.Sha256.{sha256}
 use Rattle.join_core.proofs.Place.{insert_present, insert_changes}
@@ -12,8 +12,7 @@ use Rattle.archive_core.specs.Valid.{key_of}
 use Rattle.archive_core.specs.Record.{admission_record}
 use Rattle.archive_core.specs.Content.{Operations, with_record}
 use Rattle.archive_core.proofs.Held.{bytes_same}
-use Rattle.symarch.specs.Admit.{admitted, admit_row, admit_rows, taken_of}
-use Rattle.symarch.specs.declared.rows.AdmitRow.{AdmitRow}
+use Rattle.symarch.specs.Admit.{admit_row, taken_of}
 use Rattle.symarch.specs.declared.rows.Taken.{Taken}
 use Rattle.symarch.specs.declared.rows.Taken.TheVariants.{Added, Known}
 

@@ -1,5 +1,5 @@
 -- How `admit` ends, from what its parts did.
-use Rattle.std.proofs.Common.{◌≡◌, ℕ, List, [], Option, Result, Ok, Err, refl, sym, subst, inl, inr}
+use Rattle.std.proofs.Common.{◌≡◌, ℕ, List, Option, Result, Ok, Err, subst, inr}
 use Rattle.std.specs.Prelude.{OnOk, IfErr, ◌⊎◌}
 use Rattle.byte_device.proofs.Known.{Appends-none}
 use Rattle.archive_core.specs.Content.{Operations, IsContent}
@@ -7,11 +7,10 @@ use Rattle.archive_records.specs.Text.{written}
 use Rattle.symarch.specs.declared.faults.CannotOpen.{CannotOpen}
 use Rattle.symarch.specs.declared.faults.CommandFault.{CommandFault}
 use Rattle.symarch.specs.declared.faults.CommandFault.TheVariants.{Input, Output, Report, OutOfMemory}
-use Rattle.symarch.specs.declared.faults.Place.{Place}
 use Rattle.symarch.specs.declared.faults.Place.TheVariants.{Archive, File}
 use Rattle.symarch.specs.declared.faults.Status.{Status}
 use Rattle.symarch.specs.declared.rows.AdmitRow.{AdmitRow}
-use Rattle.symarch.specs.Admit.{admitted, admit_rows, sizes_of}
+use Rattle.symarch.specs.Admit.{admitted, sizes_of}
 use Rattle.symarch.specs.Admits.{HasTaken, IsAdmitted}
 use Rattle.symarch.specs.Inputs.{Gives, IsFirstFileRefused, IsFirstRefused}
 use Rattle.symarch.specs.Leaves.{Leaves, NothingWritten, IsRefusal, IfInput, IfWriter, IfMemory}

@@ -7,3 +7,4 @@ pub mod Simple
 pub mod ToldLemmas
 pub mod Orders
 pub mod Ending
+pub mod Accepted

@@ -1,11 +1,10 @@
 -- The content and the rows of `admit`, without the order in which it works.
-use Rattle.std.proofs.Common.{◌≡◌, ℕ, zero, suc, ◌+◌, ◌<◌, List, [], ◌∷◌, length, get_or, map, take, Option, Some, None, refl, sym, ap, ◌∙◌, subst, arith}
+use Rattle.std.proofs.Common.{◌≡◌, ℕ, zero, suc, ◌+◌, ◌<◌, List, [], ◌∷◌, length, get_or, map, take, Some, refl, sym, ap, ◌∙◌, arith}
 use Rattle.std.specs.Prelude.{◌↔◌, Contains, slice_get}
 use Rattle.std.specs.FinSet as set
 use Rattle.archive_core.specs.Record.{admission_record}
-use Rattle.archive_core.specs.Content.{Operations, made, joined, HaveSameMembers}
+use Rattle.archive_core.specs.Content.{Operations, made, joined}
 use Rattle.archive_core.proofs.Taken.{taken_are_joined, taken_in_any_order}
-use Rattle.symarch.specs.declared.rows.AdmitRow.{AdmitRow}
 use Rattle.symarch.specs.Admit.{admitted, admit_row, admit_rows}
 
 pub admitted_joined : (o : Operations) (images : List (List ℕ)) → admitted o images ≡ joined o (made (set.from_list (map admission_record images)))

@@ -1,5 +1,5 @@
 -- The inputs of a command: which are refused, and why.
-use Rattle.std.specs.Prelude.{◌≡◌, ◌≢◌, ℕ, ◌<◌, List, [], ◌∷◌, take, length, true, false, nat_eq, Option, Some, IfSome, Result, Ok, Err, slice_get, ◌⊎◌}
+use Rattle.std.specs.Prelude.{◌≡◌, ◌≢◌, ℕ, List, [], ◌∷◌, take, true, false, nat_eq, Option, Some, IfSome, Result, Ok, Err, slice_get, ◌⊎◌}
 use Rattle.std.specs.List.{AllByRecursion, starts_with}
 use Rattle.byte_device.specs.Devices.{FailedIn}
 use Rattle.macho_image.specs.Layout.{magic}
@@ -95,3 +95,22 @@ IsFirstRefused left_in failures_in left failures in_old in_new old new (Archive 
 IsFirstRefused left_in failures_in left failures in_old in_new old new (File place) why =
     ((o : Operations) × IsContent o × Gives left_in in_old (λ text. text ≡ written o))
     × IsFirstFileRefused left failures old new (File place) why
+
+-- The input was opened, and these are its bytes.
+abbrev pub IsGiven : {S : Type 0} → (S → Option (List ℕ)) → Result S CannotOpen → List ℕ → Type 0
+IsGiven left (Ok source) bytes = left source ≡ Some bytes
+IsGiven left (Err _) bytes = ⊥
+
+-- The files were opened, and these are their bytes.
+abbrev pub AreGiven : {S : Type 0} → (S → Option (List ℕ)) → List (Result S CannotOpen) → List (List ℕ) → Type 0
+AreGiven left [] [] = Unit {0}
+AreGiven left [] (_ ∷ _) = ⊥
+AreGiven left (_ ∷ _) [] = ⊥
+AreGiven left (file ∷ files) (bytes ∷ rest) = IsGiven left file bytes × AreGiven left files rest
+
+-- the reader failed, and nothing else is wrong
+abbrev pub IsDeviceFault : Why → Type 0
+IsDeviceFault NotOpened = ⊥
+IsDeviceFault CannotRead = Unit {0}
+IsDeviceFault (Record fault) = fault.kind ≡ Device
+IsDeviceFault (Take _) = ⊥

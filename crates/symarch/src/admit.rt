@@ -54,7 +54,7 @@ fn admit_file<A: Archive, S: Source>(
     ensures refused { IfErr result (IsRefusal (IsRefusedFile S.left S.failures place file.old file.new)) }
 {
     let bytes = read_file(heap.clone()?, place, file)?;
-    let slice = slice_of(heap.clone()?, place, &bytes)?;
+    let slice = slice_of(place, bytes)?;
     let row = take_slice(archive, place, slice)?;
     Ok(row)
 }

@@ -7,7 +7,7 @@ ghost use Rattle.symarch.specs.Inputs.{Gives, IsRefusedArchive, IsRefusedFile, I
 ghost use Rattle.symarch.specs.Leaves.{IsRefusal};
 
 use crate::{CannotOpen, CommandFault, Place, TakeFault, Why};
-use archive_core::{AdmitFault, Archive, Slice};
+use archive_core::{Archive, Slice};
 use archive_records::{RecordFault, RecordFaultKind, read_archive};
 use byte_device::{ReadFault, Source, read_to_end};
 use memory::Heap;
@@ -63,23 +63,22 @@ pub(crate) fn read_file<S: Source>(
     }
 }
 
-/// The one slice of a thin file.
-pub(crate) fn slice_of(heap: Heap, place: u64, bytes: &[u8]) -> Result<Slice, CommandFault>
-    ensures slice { IfOk result (λ slice. slice ≡ bytes.now) }
-    ensures valid { OnOk result (IsValid bytes.now) }
-    ensures refused { IfErr result (IsRefusal (IsRefusedImage place bytes.now)) }
+/// The one slice of a thin file, which takes over its bytes.
+pub(crate) fn slice_of(place: u64, bytes: Vec<u8, Heap>) -> Result<Slice, CommandFault>
+    ensures slice { IfOk result (λ slice. slice ≡ bytes.items) }
+    ensures valid { OnOk result (IsValid bytes.items) }
+    ensures refused { IfErr result (IsRefusal (IsRefusedImage place bytes.items)) }
 {
     let at = Place::File(place);
     if !bytes.starts_with(&MAGIC) {
         let fault = TakeFault::Unrecognised;
         return Err(CommandFault::Input(at, Why::Take(fault)));
     }
-    match Slice::admit(heap, bytes) {
+    match Slice::from_bytes(bytes) {
         Ok(slice) => Ok(slice),
-        Err(AdmitFault::Slice(fault)) => {
+        Err(fault) => {
             let fault = TakeFault::Slice(0, fault);
             Err(CommandFault::Input(at, Why::Take(fault)))
         }
-        Err(AdmitFault::OutOfMemory) => Err(CommandFault::OutOfMemory),
     }
 }
