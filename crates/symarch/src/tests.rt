@@ -6,7 +6,7 @@ use crate::{
 };
 use archive_core::{PlainArchive, SliceFault};
 use archive_records::{RecordFault, RecordFaultKind, read_archive, write_archive};
-use byte_device::{Bytes, Grown, Pieces, Short};
+use byte_device::{Bytes, Grown, Pieces, Short, Source};
 use macho_image::ImageFault;
 use memory::Heap;
 use std::alloc::Global;
@@ -42,6 +42,22 @@ struct Left {
     report: Vec<u8, Heap>,
 }
 
+// `admit` with OUT and the report in memory.
+fn admit_from<R: Source, S: Source>(
+    heap: Heap,
+    input: &mut Result<R, CannotOpen>,
+    files: &mut [Result<S, CannotOpen>],
+) -> Result<Left, Fail> {
+    let mut out = Grown::new(heap.clone()?);
+    let mut report = Grown::new(heap.clone()?);
+    let result = run_admit::<PlainArchive, _, _, _, _>(heap, input, files, &mut out, &mut report);
+    Ok(Left {
+        result,
+        out: out.into_bytes(),
+        report: report.into_bytes(),
+    })
+}
+
 // `admit` of files in memory, with IN in pieces of seven bytes.
 fn admit(alloc: Global, input: &[u8], files: &[&[u8]]) -> Result<Left, Fail> {
     let heap = Heap::new(alloc)?;
@@ -50,20 +66,7 @@ fn admit(alloc: Global, input: &[u8], files: &[&[u8]]) -> Result<Left, Fail> {
     for file in files {
         opened.push(Ok(Bytes::new(file)))?;
     }
-    let mut out = Grown::new(heap.clone()?);
-    let mut report = Grown::new(heap.clone()?);
-    let result = run_admit::<PlainArchive, _, _, _, _>(
-        heap,
-        &mut input,
-        &mut opened,
-        &mut out,
-        &mut report,
-    );
-    Ok(Left {
-        result,
-        out: out.into_bytes(),
-        report: report.into_bytes(),
-    })
+    admit_from(heap, &mut input, &mut opened)
 }
 
 // The text of an archive of these records.
@@ -127,11 +130,16 @@ fn new_and_admit(rt: HostRuntime) -> Result<(), Fail> {
 fn two_slices_of_a_key(rt: HostRuntime) -> Result<(), Fail> {
     let both = text(rt.alloc(), [HEAD, IMAGE, LONGER_HEAD, LONGER].as_slice(), 2)?;
     assert_eq!(rt; both.len(), 196);
-    for files in [[IMAGE, LONGER, IMAGE], [LONGER, IMAGE, IMAGE]] {
+    for files in [[IMAGE, LONGER], [LONGER, IMAGE]] {
         let left = admit(rt.alloc(), EMPTY, files.as_slice())?;
         assert_eq!(rt; left.result, Ok(Status::Done));
         assert_eq!(rt; left.out.as_slice(), both.as_slice());
     }
+    let left = admit(rt.alloc(), EMPTY, [IMAGE, LONGER, IMAGE].as_slice())?;
+    assert_eq!(rt;
+        left.report.as_slice(),
+        b"file 0 slice 0 added 00112233-4455-6677-8899-aabbccddeeff x86_64 4b495f29d7c08e7a03565f903f1b2f7e649345c0116fa550aeed640e1e3f9388\nfile 1 slice 0 added 00112233-4455-6677-8899-aabbccddeeff x86_64 6bc94467ebd9bc2da418a761863ec6cf222cce52abe9f7bfc36fb8b49360f0b8\nfile 2 slice 0 known 00112233-4455-6677-8899-aabbccddeeff x86_64 4b495f29d7c08e7a03565f903f1b2f7e649345c0116fa550aeed640e1e3f9388\narchive: 2 records, 196 bytes\n".as_slice()
+    );
 
     // A retirement that is there already is kept, in front of the admission.
     let retired = text(rt.alloc(), [RETIREMENT].as_slice(), 1)?;
@@ -147,7 +155,7 @@ fn two_slices_of_a_key(rt: HostRuntime) -> Result<(), Fail> {
 }
 
 #[test]
-fn texts_that_are_no_archive(rt: HostRuntime) -> Result<(), Fail> {
+fn texts_that_are_cut(rt: HostRuntime) -> Result<(), Fail> {
     let one = text(rt.alloc(), [HEAD, IMAGE].as_slice(), 1)?;
     assert_eq!(rt; one.len(), 106);
     for n in 0..106 {
@@ -163,6 +171,12 @@ fn texts_that_are_no_archive(rt: HostRuntime) -> Result<(), Fail> {
             "cut to {n} bytes"
         );
     }
+    Ok(())
+}
+
+#[test]
+fn texts_that_are_changed(rt: HostRuntime) -> Result<(), Fail> {
+    let one = text(rt.alloc(), [HEAD, IMAGE].as_slice(), 1)?;
     for (place, byte, kind, offset) in [
         (0usize, 0x4eu8, RecordFaultKind::BadMagic, 0u128),
         (8, 0x04, RecordFaultKind::BadTag, 8),
@@ -282,49 +296,26 @@ fn failing_devices(rt: HostRuntime) -> Result<(), Fail> {
 #[test]
 fn refused_readers(rt: HostRuntime) -> Result<(), Fail> {
     let heap = Heap::new(rt.alloc())?;
-    let mut out = Grown::new(heap.clone()?);
-    let mut report = Grown::new(heap.clone()?);
-    let mut closed: Result<Bytes<'_>, CannotOpen> = Err(CannotOpen);
-    let mut empty: Result<_, CannotOpen> = Ok(Bytes::new(EMPTY));
     let mut files = [
         Ok(Pieces::new(IMAGE, 9, 1000)),
         Ok(Pieces::new(IMAGE, 9, 55)),
         Err(CannotOpen),
     ];
-    let first = run_admit::<PlainArchive, _, _, _, _>(
-        heap.clone()?,
-        &mut closed,
-        &mut files,
-        &mut out,
-        &mut report,
-    );
-    let at = Place::Archive(0);
-    assert_eq!(rt; first, Err(CommandFault::Input(at, Why::CannotOpen)));
-    let second = run_admit::<PlainArchive, _, _, _, _>(
-        heap.clone()?,
-        &mut empty,
-        &mut files,
-        &mut out,
-        &mut report,
-    );
-    assert_eq!(rt;
-        second,
-        Err(CommandFault::Input(Place::File(1), Why::Device))
-    );
+    let mut closed: Result<Bytes<'_>, CannotOpen> = Err(CannotOpen);
+    let first = admit_from(heap.clone()?, &mut closed, &mut files)?;
     let mut empty: Result<_, CannotOpen> = Ok(Bytes::new(EMPTY));
-    let third = run_admit::<PlainArchive, _, _, _, _>(
-        heap,
-        &mut empty,
-        &mut files[2..],
-        &mut out,
-        &mut report,
-    );
-    assert_eq!(rt;
-        third,
-        Err(CommandFault::Input(Place::File(0), Why::CannotOpen))
-    );
-    assert_eq!(rt; out.as_slice().len(), 0);
-    assert_eq!(rt; report.as_slice().len(), 0);
+    let second = admit_from(heap.clone()?, &mut empty, &mut files)?;
+    let mut empty: Result<_, CannotOpen> = Ok(Bytes::new(EMPTY));
+    let third = admit_from(heap, &mut empty, &mut files[2..])?;
+    for (left, place, why) in [
+        (first, Place::Archive(0), Why::CannotOpen),
+        (second, Place::File(1), Why::Device),
+        (third, Place::File(0), Why::CannotOpen),
+    ] {
+        assert_eq!(rt; left.result, Err(CommandFault::Input(place, why)));
+        assert_eq!(rt; left.out.len(), 0);
+        assert_eq!(rt; left.report.len(), 0);
+    }
     Ok(())
 }
 
