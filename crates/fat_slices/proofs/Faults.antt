@@ -1,0 +1,249 @@
+-- Which fault counts, and that there is one or none.
+use Rattle.std.proofs.Common.{◌≡◌, ℕ, zero, suc, ◌+◌, ◌<◌, ◌≤◌, Bool, true, false, List, length, refl, sym, ap, ◌∙◌, ◌⊎◌, inl, inr, arith}
+use Rattle.std.proofs.lemmas.Bool.{cases_lt, both_ways}
+use Rattle.fat_slices.specs.Kind.{kind_of, is_fat}
+use Rattle.fat_slices.specs.Layout.{nfat_arch, table_end, arch_at}
+use Rattle.fat_slices.specs.Fault.{IsOutside, IsTooLarge, Applies, number, entry, IsFatFault, IsUniversal, HasTable, IsFirst, HasNone}
+use Rattle.fat_slices.specs.declared.fault.FatFault.{FatFault}
+use Rattle.fat_slices.specs.declared.fault.FatFault.TheVariants.{NotUniversal, HeaderTruncated, TooManyArches, TableTruncated, SliceOutside, TooLarge}
+
+-- the faults of the numbers below k do not apply
+record IsClear (file : List ℕ) (k : ℕ) : Type 0 where
+  kind : 1 < k → is_fat (kind_of file) ≡ true
+  header : 2 < k → 8 ≤ length file
+  few : 3 < k → nfat_arch file ≤ 32
+  table : 4 < k → table_end file ≤ length file
+  inside : 5 < k → HasNone (IsOutside file) (nfat_arch file)
+  small : 6 < k → HasNone (IsTooLarge file) (nfat_arch file)
+
+none_below : (file : List ℕ) (k : ℕ) → IsClear file k → (other : FatFault) → number other < k → Applies file other → ⊥
+none_below file k clear NotUniversal low wrong = both_ways (is_fat (kind_of file)) wrong (clear.kind low)
+none_below file k clear HeaderTruncated low wrong = let h = clear.header low in absurd (omega arith)
+none_below file k clear (TooManyArches n) low wrong = let h = clear.few low in absurd (omega (arith, wrong.1))
+none_below file k clear TableTruncated low wrong = let h = clear.table low in absurd (omega arith)
+none_below file k clear (SliceOutside i) low wrong = clear.inside low i wrong.0 wrong.1
+none_below file k clear (TooLarge i) low wrong = clear.small low i wrong.0 wrong.1
+
+-- a fault that is of no entry
+alone : (file : List ℕ) (fault : FatFault) → entry fault ≡ 0 → IsClear file (number fault) → Applies file fault → IsFatFault file fault
+alone file fault e clear applies = record {
+  applies = applies;
+  first = λ other before wrong. elim before [
+    | inl low ↦ none_below file (number fault) clear other low wrong
+    | inr same ↦ absurd (omega (arith, same.1))
+  ];
+}
+
+pub not_universal : (file : List ℕ) → is_fat (kind_of file) ≡ false → IsFatFault file NotUniversal
+not_universal file wrong =
+    alone file NotUniversal refl (record {
+      kind = λ h. absurd (omega arith);
+      header = λ h. absurd (omega arith);
+      few = λ h. absurd (omega arith);
+      table = λ h. absurd (omega arith);
+      inside = λ h. absurd (omega arith);
+      small = λ h. absurd (omega arith);
+    }) wrong
+
+pub header_truncated : (file : List ℕ) → is_fat (kind_of file) ≡ true → length file < 8 → IsFatFault file HeaderTruncated
+header_truncated file kind wrong =
+    alone file HeaderTruncated refl (record {
+      kind = λ h. kind;
+      header = λ h. absurd (omega arith);
+      few = λ h. absurd (omega arith);
+      table = λ h. absurd (omega arith);
+      inside = λ h. absurd (omega arith);
+      small = λ h. absurd (omega arith);
+    }) wrong
+
+pub too_many_arches : (file : List ℕ) (n : ℕ) → is_fat (kind_of file) ≡ true → 8 ≤ length file → n ≡ nfat_arch file → 32 < n → IsFatFault file (TooManyArches n)
+too_many_arches file n kind header e wrong =
+    alone file (TooManyArches n) refl (record {
+      kind = λ h. kind;
+      header = λ h. header;
+      few = λ h. absurd (omega arith);
+      table = λ h. absurd (omega arith);
+      inside = λ h. absurd (omega arith);
+      small = λ h. absurd (omega arith);
+    }) (e, omega arith)
+
+pub table_truncated : (file : List ℕ) → is_fat (kind_of file) ≡ true → 8 ≤ length file → nfat_arch file ≤ 32 → length file < table_end file → IsFatFault file TableTruncated
+table_truncated file kind header few wrong =
+    alone file TableTruncated refl (record {
+      kind = λ h. kind;
+      header = λ h. header;
+      few = λ h. few;
+      table = λ h. absurd (omega arith);
+      inside = λ h. absurd (omega arith);
+      small = λ h. absurd (omega arith);
+    }) wrong
+
+-- a fault of the same number, of an entry before the first
+earlier_outside : (file : List ℕ) (i : ℕ) → IsFirst (IsOutside file) (nfat_arch file) i → (other : FatFault) → number other ≡ 5 → entry other < i → Applies file other → ⊥
+earlier_outside file i first (SliceOutside j) e low wrong = first.first j low wrong.1
+earlier_outside file i first NotUniversal e low wrong = absurd (omega arith)
+earlier_outside file i first HeaderTruncated e low wrong = absurd (omega arith)
+earlier_outside file i first (TooManyArches n) e low wrong = absurd (omega arith)
+earlier_outside file i first TableTruncated e low wrong = absurd (omega arith)
+earlier_outside file i first (TooLarge j) e low wrong = absurd (omega arith)
+
+earlier_too_large : (file : List ℕ) (i : ℕ) → IsFirst (IsTooLarge file) (nfat_arch file) i → (other : FatFault) → number other ≡ 6 → entry other < i → Applies file other → ⊥
+earlier_too_large file i first (TooLarge j) e low wrong = first.first j low wrong.1
+earlier_too_large file i first NotUniversal e low wrong = absurd (omega arith)
+earlier_too_large file i first HeaderTruncated e low wrong = absurd (omega arith)
+earlier_too_large file i first (TooManyArches n) e low wrong = absurd (omega arith)
+earlier_too_large file i first TableTruncated e low wrong = absurd (omega arith)
+earlier_too_large file i first (SliceOutside j) e low wrong = absurd (omega arith)
+
+pub slice_outside : (file : List ℕ) (i : ℕ) → HasTable file → IsFirst (IsOutside file) (nfat_arch file) i → IsFatFault file (SliceOutside i)
+slice_outside file i room wrong = record {
+  applies = (wrong.below, wrong.holds);
+  first = λ other before applies. elim before [
+    | inl low ↦ none_below file 5 (record {
+      kind = λ h. room.kind;
+      header = λ h. room.header;
+      few = λ h. room.few;
+      table = λ h. room.table;
+      inside = λ h. absurd (omega arith);
+      small = λ h. absurd (omega arith);
+    }) other low applies
+    | inr same ↦ earlier_outside file i wrong other same.0 same.1 applies
+  ];
+}
+
+pub too_large : (file : List ℕ) (i : ℕ) → HasTable file → HasNone (IsOutside file) (nfat_arch file) → IsFirst (IsTooLarge file) (nfat_arch file) i → IsFatFault file (TooLarge i)
+too_large file i room inside wrong = record {
+  applies = (wrong.below, wrong.holds);
+  first = λ other before applies. elim before [
+    | inl low ↦ none_below file 6 (record {
+      kind = λ h. room.kind;
+      header = λ h. room.header;
+      few = λ h. room.few;
+      table = λ h. room.table;
+      inside = λ h. inside;
+      small = λ h. absurd (omega arith);
+    }) other low applies
+    | inr same ↦ earlier_too_large file i wrong other same.0 same.1 applies
+  ];
+}
+
+-- no fault is left
+below_seven : (fault : FatFault) → number fault < 7
+below_seven NotUniversal = omega arith
+below_seven HeaderTruncated = omega arith
+below_seven (TooManyArches n) = omega arith
+below_seven TableTruncated = omega arith
+below_seven (SliceOutside i) = omega arith
+below_seven (TooLarge i) = omega arith
+
+pub universal : (file : List ℕ) → HasTable file → HasNone (IsOutside file) (nfat_arch file) → HasNone (IsTooLarge file) (nfat_arch file) → IsUniversal file
+universal file room inside small = record {
+  none = λ fault wrong. none_below file 7 (record {
+    kind = λ h. room.kind;
+    header = λ h. room.header;
+    few = λ h. room.few;
+    table = λ h. room.table;
+    inside = λ h. inside;
+    small = λ h. small;
+  }) fault (below_seven fault) wrong;
+}
+
+-- what no fault leaves
+pub table_of : (file : List ℕ) → IsUniversal file → HasTable file
+table_of file sound = record {
+  kind = by_kind (is_fat (kind_of file)) refl;
+  header = elim (cases_lt (length file) 8) [ inl low ↦ absurd (sound.none HeaderTruncated low) | inr high ↦ high ];
+  few = elim (cases_lt 32 (nfat_arch file)) [ inl high ↦ absurd (sound.none (TooManyArches (nfat_arch file)) (refl, high)) | inr low ↦ low ];
+  table = elim (cases_lt (length file) (table_end file)) [ inl low ↦ absurd (sound.none TableTruncated low) | inr high ↦ high ];
+}
+  where
+    by_kind : (b : Bool) → is_fat (kind_of file) ≡ b → is_fat (kind_of file) ≡ true
+    by_kind true e = e
+    by_kind false e = absurd (sound.none NotUniversal e)
+
+pub inside_of : (file : List ℕ) (i : ℕ) → IsUniversal file → i < nfat_arch file → (arch_at file i).offset + (arch_at file i).size ≤ length file
+inside_of file i sound h =
+    elim (cases_lt (length file) ((arch_at file i).offset + (arch_at file i).size)) [
+      | inl wrong ↦ absurd (sound.none (SliceOutside i) (h, wrong))
+      | inr right ↦ right
+    ]
+
+pub small_of : (file : List ℕ) (i : ℕ) → IsUniversal file → i < nfat_arch file → (arch_at file i).size ≤ 4294967295
+small_of file i sound h =
+    elim (cases_lt 4294967295 (arch_at file i).size) [
+      | inl wrong ↦ absurd (sound.none (TooLarge i) (h, wrong))
+      | inr right ↦ right
+    ]
+
+-- faults that apply, of one number and one entry, are one
+same_applied : (file : List ℕ) (f g : FatFault) → number f ≡ number g → entry f ≡ entry g → Applies file f → Applies file g → f ≡ g
+same_applied file NotUniversal NotUniversal n e p q = refl
+same_applied file HeaderTruncated HeaderTruncated n e p q = refl
+same_applied file (TooManyArches x) (TooManyArches y) n e p q = ap TooManyArches (p.0 ∙ sym q.0)
+same_applied file TableTruncated TableTruncated n e p q = refl
+same_applied file (SliceOutside i) (SliceOutside j) n e p q = ap SliceOutside e
+same_applied file (TooLarge i) (TooLarge j) n e p q = ap TooLarge e
+same_applied file f g n e p q = absurd (omega arith)
+
+pub one_fat_fault : (file : List ℕ) (f g : FatFault) → IsFatFault file f → IsFatFault file g → f ≡ g
+one_fat_fault file f g p q = elim (cases_lt (number f) (number g)) [
+  | inl low ↦ absurd (q.first f (inl low) p.applies)
+  | inr above ↦ elim (cases_lt (number g) (number f)) [
+    | inl low ↦ absurd (p.first g (inl low) q.applies)
+    | inr below ↦ by_entry (omega arith)
+  ]
+]
+  where
+    by_entry : number f ≡ number g → f ≡ g
+    by_entry n = elim (cases_lt (entry f) (entry g)) [
+      | inl low ↦ absurd (q.first f (inr (n, low)) p.applies)
+      | inr above ↦ elim (cases_lt (entry g) (entry f)) [
+        | inl low ↦ absurd (p.first g (inr (sym n, low)) q.applies)
+        | inr below ↦ same_applied file f g n (omega arith) p.applies q.applies
+      ]
+    ]
+
+pub no_fat_fault : (file : List ℕ) (f : FatFault) → IsUniversal file → IsFatFault file f → ⊥
+no_fat_fault file f sound fault = sound.none f fault.applies
+
+-- a property that can be decided has a least number below a bound, or none
+first_or_none : (P : ℕ → Type 0) → ((i : ℕ) → P i ⊎ (P i → ⊥)) → (n : ℕ) → ((i : ℕ) × IsFirst P n i) ⊎ HasNone P n
+first_or_none P decide zero = inr (λ j h p. absurd (omega arith))
+first_or_none P decide (suc n) = elim (first_or_none P decide n) [
+  | inl found ↦ inl (found.0, record { below = let h = found.1.below in omega arith; holds = found.1.holds; first = found.1.first })
+  | inr none ↦ elim (decide n) [
+    | inl here ↦ inl (n, record { below = omega arith; holds = here; first = none })
+    | inr not_here ↦ inr (λ j h p. elim (cases_lt j n) [
+      | inl low ↦ none j low p
+      | inr high ↦ let e : j ≡ n = omega arith in not_here (rw e at p)
+    ])
+  ]
+]
+
+is_less : (a b : ℕ) → (a < b) ⊎ (a < b → ⊥)
+is_less a b = elim (cases_lt a b) [ inl low ↦ inl low | inr high ↦ inr (λ low. absurd (omega arith)) ]
+
+pub universal_or_fault : (file : List ℕ) → IsUniversal file ⊎ ((fault : FatFault) × IsFatFault file fault)
+universal_or_fault file = by_kind (is_fat (kind_of file)) refl
+  where
+    by_room : HasTable file → IsUniversal file ⊎ ((fault : FatFault) × IsFatFault file fault)
+    by_room room = elim (first_or_none (IsOutside file) (λ i. is_less (length file) ((arch_at file i).offset + (arch_at file i).size)) (nfat_arch file)) [
+      | inl outside ↦ inr (SliceOutside outside.0, slice_outside file outside.0 room outside.1)
+      | inr inside ↦ elim (first_or_none (IsTooLarge file) (λ i. is_less 4294967295 (arch_at file i).size) (nfat_arch file)) [
+        | inl large ↦ inr (TooLarge large.0, too_large file large.0 room inside large.1)
+        | inr small ↦ inl (universal file room inside small)
+      ]
+    ]
+
+    by_kind : (b : Bool) → is_fat (kind_of file) ≡ b → IsUniversal file ⊎ ((fault : FatFault) × IsFatFault file fault)
+    by_kind false e = inr (NotUniversal, not_universal file e)
+    by_kind true e = elim (cases_lt (length file) 8) [
+      | inl short ↦ inr (HeaderTruncated, header_truncated file e short)
+      | inr header ↦ elim (cases_lt 32 (nfat_arch file)) [
+        | inl many ↦ inr (TooManyArches (nfat_arch file), too_many_arches file (nfat_arch file) e header refl many)
+        | inr few ↦ elim (cases_lt (length file) (table_end file)) [
+          | inl cut ↦ inr (TableTruncated, table_truncated file e header few cut)
+          | inr table ↦ by_room (record { kind = e; header = header; few = few; table = table })
+        ]
+      ]
+    ]

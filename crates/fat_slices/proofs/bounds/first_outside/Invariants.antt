@@ -1,0 +1,5 @@
+use Rattle.fat_slices.specs.Fault.{IsOutside, HasNone}
+use Rattle.fat_slices.proofs.bounds.first_outside.Given as goal
+
+abbrev pub invariant-loop-place : goal.invariant-loop-place
+invariant-loop-place l = HasNone (IsOutside l.file) l.place

@@ -1,0 +1,5 @@
+use Rattle.fat_slices.specs.Fault.{IsTooLarge, HasNone}
+use Rattle.fat_slices.proofs.bounds.first_too_large.Given as goal
+
+abbrev pub invariant-loop-place : goal.invariant-loop-place
+invariant-loop-place l = HasNone (IsTooLarge l.file) l.place

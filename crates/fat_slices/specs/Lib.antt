@@ -1,0 +1,4 @@
+pub mod Kind
+pub mod Layout
+pub mod Slices
+pub mod Fault

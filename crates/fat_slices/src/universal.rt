@@ -1,0 +1,75 @@
+//! A universal file as a whole.
+
+ghost use Rattle.std.specs.Prelude.{◌≡◌, ◌==◌, ◌^◌, ◌≤◌, ◌<◌, Some, IfOk, IfErr, length, slice_get};
+ghost use Rattle.fat_slices.specs.Fault.{IsFatFault, IsUniversal};
+ghost use Rattle.fat_slices.specs.Slices.{slices};
+
+use crate::bounds::{first_outside, first_too_large};
+use crate::fat_arch::{arch_at, slice_part};
+use crate::fat_header::{check_table, nfat_arch};
+use crate::fault::FatFault;
+use std::marker::Model;
+
+/// A universal file, which borrows its bytes. A contract sees it as these bytes.
+#[derive(Drop)]
+pub struct Universal<'a> {
+    file: &'a [u8],
+}
+
+impl<'a> Model for Universal<'a> {
+    ghost use Rattle.std.specs.Prelude.{ℕ, List};
+    ghost use Rattle.fat_slices.specs.Fault.{IsUniversal};
+
+    ghost Value = { List ℕ };
+
+    ghost view = { λ u. u.file.now };
+
+    ghost invariant = { λ u. IsUniversal u.file.now };
+}
+
+impl<'a> Universal<'a> {
+    /// Reads the header and the table of a universal file, or says what is wrong with them, as `FatFault`
+    /// tells. A table may have no entry. Slices may overlap, stand at any alignment and in any order, and be of
+    /// the same architecture. Bytes between them are not looked at, nor entries behind the `nfat_arch` of the
+    /// table.
+    pub fn read(file: &'a [u8]) -> Result<Universal<'a>, FatFault>
+        ensures faulty { IfErr result (λ fault. IsFatFault file.now fault) }
+        ensures sound { IfOk result (λ _. IsUniversal file.now) }
+        ensures bytes { IfOk result (λ universal. universal ≡ file.now) }
+    {
+        check_table(file)?;
+        if let Some(place) = first_outside(file) {
+            return Err(FatFault::SliceOutside(place));
+        }
+        if let Some(place) = first_too_large(file) {
+            return Err(FatFault::TooLarge(place));
+        }
+        Ok(Universal { file })
+    }
+
+    /// The number of slices: `nfat_arch`.
+    #[tactic(auto, using(crate::proofs::Parts::of_slices))]
+    pub fn len(&self) -> u32
+        ensures number { result ≡ length (slices self.now) }
+        ensures few { result ≤ 32 }
+    {
+        nfat_arch(self.file)
+    }
+
+    /// Whether there is no slice.
+    pub fn is_empty(&self) -> bool
+        ensures { result ≡ (length (slices self.now) == 0) }
+    {
+        self.len() == 0
+    }
+
+    /// The slice that the entry at a place of the table names, counted from 0. It is any bytes, none among them.
+    #[tactic(auto, using(crate::proofs::Parts::of_slices))]
+    pub fn slice(&self, place: u32) -> &'a [u8]
+        requires { place < length (slices self.now) }
+        ensures part { slice_get (slices self.now) place ≡ Some result.now }
+        ensures small { length result.now < 2 ^ 32 }
+    {
+        slice_part(self.file, arch_at(self.file, place))
+    }
+}
