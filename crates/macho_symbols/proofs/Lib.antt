@@ -1,0 +1,15 @@
+pub mod Numbers
+pub mod Names
+pub mod Entries
+pub mod Namesakes
+pub mod Scan
+pub mod FaultLemmas
+pub mod Order
+pub mod CandidateFacts
+pub mod Members
+pub mod Orders
+pub mod RowLemmas
+pub mod ExtentLemmas
+pub mod Stands
+pub mod BuildLemmas
+pub mod WalkLemmas

@@ -1,0 +1,6 @@
+use Rattle.macho_symbols.proofs.Scan.{tuples_total}
+use Rattle.macho_symbols.proofs.Order.{exact_tuples}
+use Rattle.macho_symbols.proofs.laws.total_order.Goals as goal
+
+pub returns : goal.returns
+returns c = record { total = tuples_total; exact = exact_tuples }

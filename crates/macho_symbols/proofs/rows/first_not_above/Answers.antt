@@ -1,0 +1,20 @@
+use Rattle.std.proofs.Common.{sym, subst}
+use Rattle.macho_symbols.specs.Nearest.{IsFirst}
+use Rattle.macho_symbols.proofs.RowLemmas.{falling, found_at_place, none_at_end, none_at_place}
+use Rattle.macho_symbols.proofs.rows.first_not_above.Goals as goal
+
+pub place_of-place-requires : goal.place_of-place-requires
+place_of-place-requires c = falling c.args.image.now c.args.rows.now c.requires
+
+pub returns-then-place-rows : goal.returns-then-place-rows
+returns-then-place-rows c =
+    none_at_end c.args.image.now c.args.rows.now c.requires c.args.number c.args.address c.place_of-place.result c.place_of-place.ensures c.if-place-rows.true
+
+pub returns-then-row-number : goal.returns-then-row-number
+returns-then-row-number c =
+    none_at_place c.args.image.now c.args.rows.now c.requires c.args.number c.args.address c.place_of-place.result c.place_of-place.ensures _ c.if-place-rows.false c.if-row-number.true
+
+pub returns : goal.returns
+returns c =
+    subst (IsFirst _) (sym c.candidate.ensures)
+    (found_at_place c.args.image.now c.args.rows.now c.requires c.args.number c.args.address c.place_of-place.result c.place_of-place.ensures _ c.if-place-rows.false c.if-row-number.false)

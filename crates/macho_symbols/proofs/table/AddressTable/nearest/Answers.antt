@@ -1,0 +1,7 @@
+use Rattle.macho_symbols.specs.Views.{tuple_of}
+use Rattle.macho_symbols.proofs.Scan.{stands_below}
+use Rattle.macho_symbols.proofs.table.AddressTable.nearest.Goals as goal
+
+pub found-requires-clause-value : goal.found-requires-clause-value
+found-requires-clause-value c =
+    stands_below c.args.slice.now c.args.address (tuple_of c.in_ok-candidate.candidate) c.in_ok-candidate.ensures.member

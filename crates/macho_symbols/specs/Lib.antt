@@ -1,0 +1,10 @@
+pub mod Nlist
+pub mod SectionNumbers
+pub mod Symbols
+pub mod Fault
+pub mod Nearest
+pub mod Found
+pub mod Views
+pub mod Extents
+pub mod Rows
+pub mod Table

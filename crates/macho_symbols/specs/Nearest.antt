@@ -1,0 +1,40 @@
+-- Which candidate an address belongs to.
+use Rattle.std.specs.Prelude.{ℕ, Bool, true, false, cond, Some, List, ◌≡◌, ◌≢◌, ◌&&◌, nat_le, Option, MatchOption, Contains}
+use Rattle.std.specs.Ordering.{ordering_then, nat_cmp, bool_cmp, is_lt, is_gt}
+use Rattle.std.specs.Option.{option_map_or}
+use Rattle.std.specs.declared.cmp.Ordering.{Ordering}
+use Rattle.std.specs.declared.cmp.Ordering.TheVariants.{Less}
+use Rattle.std.specs.Cmp.Lexicographic.{slice_cmp}
+use Rattle.macho_symbols.specs.Symbols.{Tuple, candidates, is_in_section}
+
+-- the order of candidates: by greater value, external before local, by lesser name, by lesser section
+abbrev pub tuple_cmp : Tuple → Tuple → Ordering
+tuple_cmp c d =
+    ordering_then (nat_cmp d.value c.value) (ordering_then (bool_cmp d.external c.external) (ordering_then (slice_cmp nat_cmp c.name d.name) (nat_cmp c.sect d.sect)))
+
+-- whether a candidate can stand for an address: not above it, and its section has it
+unfoldable pub can_stand_for : List ℕ → ℕ → Tuple → Bool
+can_stand_for image address c = nat_le c.value address && is_in_section image c.sect address
+
+-- the first of some in the order, where there is any
+pub record IsFirst (among : Tuple → Type 0) (found : Tuple) : Type 0 where
+  pub member : among found
+  pub first : (other : Tuple) → among other → tuple_cmp other found ≢ Less
+
+-- a candidate that can stand for an address
+abbrev pub StandsFor : List ℕ → ℕ → Tuple → Type 0
+StandsFor image address c = Contains (candidates image) c × (can_stand_for image address c ≡ true)
+
+-- the nearest candidate of an address, or none
+abbrev pub IsNearest : List ℕ → ℕ → Option Tuple → Type 0
+IsNearest image address found =
+    MatchOption found ((c : Tuple) → StandsFor image address c → ⊥) (IsFirst (StandsFor image address))
+
+-- the better of the best so far, which can stand for the address, and one more
+unfoldable pub better : List ℕ → ℕ → Option Tuple → Tuple → Option Tuple
+better image address best c =
+    cond (can_stand_for image address c && option_map_or (λ b. is_lt (tuple_cmp c b)) best true) (Some c) best
+
+-- c does not come after d
+abbrev pub UpTo : Tuple → Tuple → Type 0
+UpTo c d = is_gt (tuple_cmp c d) ≡ false

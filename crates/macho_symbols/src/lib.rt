@@ -1,0 +1,40 @@
+//! The symbols of a thin 64-bit Mach-O image, as mach-o/nlist.h describes them, and which of them an
+//! address belongs to.
+//!
+//! `Symbols::read` says whether the symbol table and the string table lie in an image. What they hold is
+//! no fault: an entry that tells no address in its section, or has no name, is passed over. Names are
+//! borrowed from the image. An address is searched for by a plain scan, which takes no memory, or by a
+//! table that is built once and then searched by halving; both give the same.
+//!
+//! - `fault`: why symbols cannot be read;
+//! - `nlist`: the layout of an entry;
+//! - `name`, `section_numbers`: what its numbers stand for;
+//! - `found`: what is told of a symbol;
+//! - `symbols`: the two tables, and the entries that count;
+//! - `nearest`, `named`: the plain searches, by address and by name;
+//! - `extents`, `rows`, `table`: the table of addresses;
+//! - [`laws`]: what the definitions say of each other.
+#![tactic(auto)]
+
+mod extents;
+mod fault;
+mod found;
+pub mod laws;
+mod name;
+mod named;
+mod nearest;
+mod nlist;
+mod rows;
+mod section_numbers;
+mod symbols;
+mod table;
+#[cfg(test)]
+mod table_tests;
+#[cfg(test)]
+mod tests;
+
+pub use fault::SymbolFault;
+pub use found::Found;
+pub use named::Named;
+pub use symbols::Symbols;
+pub use table::AddressTable;

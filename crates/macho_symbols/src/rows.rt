@@ -1,0 +1,172 @@
+//! The candidates of an image in the order of an address table.
+
+ghost use Rattle.std.specs.Prelude.{◌≡◌, ◌+◌, ◌-◌, ◌*◌, ◌≤◌, ◌<◌, ◌^◌, ◌++◌, IfOk, true, false, map, length, take, drop};
+ghost use Rattle.std.specs.List.Sorted.{IsPartitionPoint};
+ghost use Rattle.std.specs.Option.{option_map, option_to_list};
+ghost use Rattle.macho_symbols.specs.Symbols.{candidate_in, candidates};
+ghost use Rattle.macho_symbols.specs.Nearest.{tuple_cmp};
+ghost use Rattle.macho_symbols.specs.Views.{tuple_of};
+ghost use Rattle.macho_symbols.specs.Rows.{row_tuple, row_cmp, is_before, AreFalling, AreRows, IsFirstNotAbove};
+
+use crate::nlist::{NLIST_64_LEN, n_strx};
+use crate::symbols::{Candidate, Symbols};
+use memory::{Heap, NoMemory};
+use std::cmp::Ordering;
+
+/// A candidate, with the place of its name in the image and the name's length.
+#[derive(Clone, Copy)]
+pub(crate) struct Row {
+    value: u64,
+    start: u32,
+    len: u32,
+    sect: u8,
+    external: bool,
+}
+
+/// So many bytes from a place on, or as many as there are.
+fn bytes_at(bytes: &[u8], start: u32, len: u32) -> &[u8]
+    ensures { result.now ≡ take len (drop start bytes.now) }
+{
+    let rest = bytes.split_at(bytes.len().min(start as usize)).1;
+    rest.split_at(rest.len().min(len as usize)).0
+}
+
+impl Row {
+    /// The candidate, with its name out of the image.
+    #[tactic(auto, unfolding(crate::specs::Rows::row_tuple))]
+    fn candidate<'b>(&self, image: &'b [u8]) -> Candidate<'b>
+        ensures { tuple_of result ≡ row_tuple image.now self.now }
+    {
+        Candidate {
+            value: self.value,
+            external: self.external,
+            name: bytes_at(image, self.start, self.len),
+            sect: self.sect,
+        }
+    }
+
+    /// Compares two rows as candidates. Names are read only where all that counts more ties.
+    #[tactic(auto, unfolding(crate::specs::Rows::row_tuple))]
+    fn compare(&self, other: &Row, image: &[u8]) -> Ordering
+        ensures { result ≡ tuple_cmp (row_tuple image.now self.now) (row_tuple image.now other.now) }
+    {
+        let heads = other
+            .value
+            .cmp(&self.value)
+            .then(other.external.cmp(&self.external));
+        if heads.is_ne() {
+            return heads;
+        }
+        bytes_at(image, self.start, self.len)
+            .cmp(bytes_at(image, other.start, other.len))
+            .then(self.sect.cmp(&other.sect))
+    }
+
+    /// The section and the value in one number, which rises along the rows of a table.
+    fn rank(&self) -> u128
+        ensures value { result ≡ self.now.sect * 2 ^ 64 + (2 ^ 64 - 1 - self.now.value) }
+        ensures small { self.now.value < 2 ^ 64 }
+    {
+        u128::from(self.sect) * 0x1_0000_0000_0000_0000 + u128::from(u64::MAX - self.value)
+    }
+
+    /// Compares two rows by section, and as candidates in one section.
+    pub(crate) fn compare_by_section(&self, other: &Row, image: &[u8]) -> Ordering
+        ensures { result ≡ row_cmp (row_tuple image.now self.now) (row_tuple image.now other.now) }
+    {
+        let ranks = self.rank().cmp(&other.rank());
+        if ranks.is_ne() {
+            return ranks;
+        }
+        self.compare(other, image)
+    }
+
+    /// Whether a row stands before those that may answer an address in the section of a number.
+    fn is_before(&self, number: usize, address: u64) -> bool
+        ensures { result ≡ is_before number address self.now }
+    {
+        let sect = self.sect as usize;
+        sect < number || (sect == number && address < self.value)
+    }
+}
+
+/// The row of an entry, if it is a candidate.
+fn row_of(symbols: &Symbols<'_>, entry: &[u8]) -> Option<Row>
+    requires entry { 16 ≤ length entry.now }
+    requires small { length symbols.now < 2 ^ 32 }
+    ensures { option_map (row_tuple symbols.now) result ≡ candidate_in symbols.now entry.now }
+{
+    let candidate = symbols.candidate(entry)?;
+    Some(Row {
+        value: candidate.value,
+        start: symbols.table.stroff + n_strx(entry),
+        len: candidate.name.len() as u32,
+        sect: candidate.sect,
+        external: candidate.external,
+    })
+}
+
+/// Adds a row, if there is one.
+fn push_some(rows: &mut Vec<Row, Heap>, row: Option<Row>) -> Result<(), NoMemory>
+    ensures { IfOk result (λ _. rows.new.items ≡ rows.old.items ++ option_to_list row) }
+{
+    if let Some(row) = row {
+        rows.push(row)?;
+    }
+    Ok(())
+}
+
+/// The rows of the candidates, in the order of the symbol table.
+fn collect_rows(heap: Heap, symbols: &Symbols<'_>) -> Result<Vec<Row, Heap>, NoMemory>
+    requires { length symbols.now < 2 ^ 32 }
+    ensures { IfOk result (λ rows. map (row_tuple symbols.now) rows.items ≡ candidates symbols.now) }
+{
+    let mut rows = Vec::new(heap);
+    let mut rest = symbols.entries();
+    for place in 0..symbols.table.nsyms {
+        let (entry, after) = rest.split_at(NLIST_64_LEN);
+        push_some(&mut rows, row_of(symbols, entry))?;
+        rest = after;
+    }
+    Ok(rows)
+}
+
+/// The rows of the candidates, in the order of a table.
+pub(crate) fn sorted_rows(heap: Heap, symbols: &Symbols<'_>) -> Result<Vec<Row, Heap>, NoMemory>
+    ensures { IfOk result (λ rows. AreRows symbols.now rows.items) }
+{
+    let image = symbols.image.bytes();
+    let mut rows = collect_rows(heap, symbols)?;
+    rows.shrink_to_fit();
+    rows.sort_unstable_by(|a, b| a.compare_by_section(b, image));
+    Ok(rows)
+}
+
+/// The place of the first row that is not before those that may answer.
+fn place_of(rows: &[Row], number: usize, address: u64) -> usize
+    requires { AreFalling rows.now }
+    ensures { IsPartitionPoint (λ r. is_before number address r ≡ true) (λ r. is_before number address r ≡ false) rows.now result }
+{
+    rows.partition_point(|row| row.is_before(number, address))
+}
+
+/// The first candidate of the section of a number that is not above an address.
+pub(crate) fn first_not_above<'b>(
+    rows: &[Row],
+    number: usize,
+    address: u64,
+    image: &'b [u8],
+) -> Option<Candidate<'b>>
+    requires { AreRows image.now rows.now }
+    ensures { IsFirstNotAbove image.now number address (option_map tuple_of result) }
+{
+    let place = place_of(rows, number, address);
+    if place >= rows.len() {
+        return None;
+    }
+    let row = &rows[place];
+    if row.sect as usize != number {
+        return None;
+    }
+    Some(row.candidate(image))
+}
