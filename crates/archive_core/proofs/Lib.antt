@@ -4,3 +4,6 @@ pub mod Held
 pub mod Joined
 pub mod Merged
 pub mod Taken
+pub mod Scanned
+pub mod Answering
+pub mod Lookups

@@ -13,7 +13,7 @@ use Rattle.archive_core.specs.declared.operations.Operation.TheVariants.{Admit, 
 use Rattle.archive_core.proofs.Compare.{length_key_bytes}
 
 -- texts whose first parts are as long fall into the same parts
-same_parts : (a b x y : List ℕ) → length a ≡ length b → a ++ x ≡ b ++ y → (a ≡ b) × (x ≡ y)
+pub same_parts : (a b x y : List ℕ) → length a ≡ length b → a ++ x ≡ b ++ y → (a ≡ b) × (x ≡ y)
 same_parts [] [] x y long e = (refl, e)
 same_parts [] (c ∷ b) x y long e = absurd (omega arith)
 same_parts (d ∷ a) [] x y long e = absurd (omega arith)
@@ -31,7 +31,7 @@ nothing (x ∷ xs) h = absurd (omega arith)
 -- the key of a slice has 24 bytes in its record
 pub length-key_of : (slice : List ℕ) → IsValid slice → length (key_bytes (key_of slice)) ≡ 24
 unfolding key_of
-length-key_of slice valid = length_key_bytes (key_of slice) (uuid_of-length slice valid)
+length-key_of slice valid = length_key_bytes (key_of slice) (uuid_of-length slice valid.image)
 
 -- an admission's record has 33 bytes before the slice
 pub length-admission_record : (slice : List ℕ) → IsValid slice → length (admission_record slice) ≡ 33 + length slice
@@ -51,8 +51,8 @@ same_admissions a b rest valid_a valid_b e =
     let split : key_bytes (key_of b) ++ (to_be_bytes w64 (length b) ++ b) ≡ key_bytes (key_of a) ++ (to_be_bytes w64 (length a) ++ (a ++ rest)) = e ∙ append_assoc (key_bytes (key_of a)) _ rest ∙ ap (λ s. key_bytes (key_of a) ++ s) (append_assoc (to_be_bytes w64 (length a)) a rest) in
     let behind_key = (same_parts _ _ _ _ (length-key_of b valid_b ∙ sym (length-key_of a valid_a)) split).1 in
     let parts = same_parts (to_be_bytes w64 (length b)) (to_be_bytes w64 (length a)) b (a ++ rest) refl behind_key in
-    let short_a : length a < 2 ^ 32 = length-image a valid_a in
-    let short_b : length b < 2 ^ 32 = length-image b valid_b in
+    let short_a : length a < 2 ^ 32 = length-image a valid_a.image in
+    let short_b : length b < 2 ^ 32 = length-image b valid_b.image in
     let long : length b ≡ length a = sym (from_be_bytes-to_be_bytes_8 (length b) (omega arith)) ∙ ap (from_be_bytes w64) parts.0 ∙ from_be_bytes-to_be_bytes_8 (length a) (omega arith) in
     let none : rest ≡ [] = nothing rest (omega (arith, long, ap length parts.1, length-append a rest)) in
     (parts.1 ∙ ap (λ s. a ++ s) none ∙ append-nil a, none)

@@ -4,6 +4,7 @@ use Rattle.std.specs.Ordering.{nat_cmp}
 use Rattle.std.specs.Cmp.Lexicographic.{slice_cmp}
 use Rattle.std.specs.FinSet as set
 use Rattle.sha2.specs.Sha256.{sha256}
+use Rattle.macho_image.specs.Contents.{is_dsym_image}
 use Rattle.archive_core.specs.Valid.{key_of}
 use Rattle.archive_core.specs.Record.{IsRecord, admission_record, retirement_record}
 use Rattle.archive_core.specs.declared.keys.SliceKey.{SliceKey}
@@ -50,3 +51,8 @@ pub record IsLive (o : Operations) (key : SliceKey) (slice : List ℕ) : Type 0 
   pub admitted : set.contains o (admission_record slice) ≡ true
   pub under : key_of slice ≡ key
   pub kept : set.contains o (retirement_record key (sha256 slice)) ≡ false
+
+-- an answering slice of a key: if the key has live companions, they alone answer; otherwise its live slices do
+pub record IsAnswering (o : Operations) (key : SliceKey) (slice : List ℕ) : Type 0 where
+  pub live : IsLive o key slice
+  pub companions_first : (companion : List ℕ) → IsLive o key companion → is_dsym_image companion ≡ true → is_dsym_image slice ≡ true

@@ -2,19 +2,22 @@
 use Rattle.std.specs.Prelude.{◌≡◌, ℕ, List}
 use Rattle.macho_image.specs.Fault.{IsImage, IsImageFault}
 use Rattle.macho_image.specs.Contents.{uuid_of, arch_of}
+use Rattle.macho_symbols.specs.Fault.{HasSymbols, IsSymbolFault}
 use Rattle.archive_core.specs.declared.keys.SliceKey.{SliceKey}
 use Rattle.archive_core.specs.declared.faults.SliceFault.{SliceFault}
-use Rattle.archive_core.specs.declared.faults.SliceFault.TheVariants.{Image}
+use Rattle.archive_core.specs.declared.faults.SliceFault.TheVariants.{Image, Symbols}
 use Rattle.archive_core.specs.declared.faults.AdmitFault.{AdmitFault}
 use Rattle.archive_core.specs.declared.faults.AdmitFault.TheVariants.{Slice, OutOfMemory}
 
--- a slice is a thin 64-bit image without a fault (mach-o/loader.h: mach_header_64 and its load commands)
-abbrev pub IsValid : List ℕ → Type 0
-IsValid bytes = IsImage bytes
+-- a slice is a thin 64-bit image without a fault, whose symbols can be read (mach-o/loader.h: mach_header_64, its load commands and LC_SYMTAB)
+pub record IsValid (bytes : List ℕ) : Type 0 where
+  pub image : IsImage bytes
+  pub symbols : HasSymbols bytes
 
--- why bytes are no slice
+-- why bytes are no slice: they are no image, or they are one and its symbols cannot be read
 abbrev pub IsSliceFault : List ℕ → SliceFault → Type 0
 IsSliceFault bytes (Image fault) = IsImageFault bytes fault
+IsSliceFault bytes (Symbols fault) = IsImage bytes × IsSymbolFault bytes fault
 
 -- why bytes are not admitted: they are no slice, or they are one and memory was refused
 abbrev pub IsAdmitFault : List ℕ → AdmitFault → Type 0

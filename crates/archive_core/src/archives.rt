@@ -5,11 +5,14 @@ ghost use Rattle.join_core.specs.Listing.{listing};
 ghost use Rattle.archive_core.specs.Record.{rec, lent};
 ghost use Rattle.join_core.specs.Bound.{IsTowards};
 ghost use Rattle.archive_core.specs.Content.{Operations, IsContent, IsBelow, with_record, joined};
+ghost use Rattle.archive_core.specs.Find.{IsFinds};
+ghost use Rattle.archive_core.specs.Lookup.{IsAnswer, IsConflict, answer_view};
 
-use crate::{Operation, Record};
+use crate::{Answer, FindRow, Operation, Record, SliceKey, Where};
 use join_core::Join;
 use memory::{Heap, NoMemory};
 use std::marker::Model;
+use uuid::Uuid;
 
 /// The content of an archive, as contracts see it: a set of records. No value of it is made.
 pub struct Contents {
@@ -48,6 +51,18 @@ pub trait Archive: Join<Content = Contents> {
     /// Whether the operation is in the content.
     fn holds(&self, operation: &Operation) -> bool
         ensures { result ≡ set.contains (Self.content self.now) (rec operation.now) };
+
+    /// The retirements and the live slices under a UUID, a row for each, by `cputype` and `subtype`,
+    /// then in the order of their records. Refused for want of memory alone.
+    fn find(&self, uuid: &Uuid) -> Result<Vec<FindRow, Heap>, NoMemory>
+        ensures { IfOk result (λ rows. IsFinds (Self.content self.now) uuid.now rows.items) };
+
+    /// What the answering slices of a key tell of an address: the live companions, if there are any,
+    /// or else the other live slices. Refused for want of memory alone, which is asked for only where
+    /// several answer.
+    fn lookup(&self, key: &SliceKey, place: Where) -> Result<Answer<'_>, NoMemory>
+        ensures answer { IfOk result (λ answer. IsAnswer (Self.content self.now) key.now place (answer_view answer)) }
+        ensures memory { OnErr result (IsConflict (Self.content self.now) key.now) };
 
     /// The number of operations.
     fn len(&self) -> u64

@@ -1,8 +1,8 @@
-//! What holds of faults, records, contents and joins.
+//! What holds of faults, records, contents, joins, rows and answers.
 //!
 //! Each law is the contract of a function that does nothing, and speaks of the definitions alone: a
 //! caller that wants a law calls its function.
-ghost use Rattle.std.specs.Prelude.{◌≡◌, ℕ, ◌+◌, List, [], ◌++◌, true, length};
+ghost use Rattle.std.specs.Prelude.{◌≡◌, ◌⊎◌, ℕ, ◌+◌, List, [], ◌++◌, true, length, slice_index_or};
 ghost use Rattle.std.specs.FinSet as set;
 ghost use Rattle.sha2.specs.Sha256.{sha256};
 ghost use Rattle.join_core.specs.Bound.{IsLeastAbove};
@@ -10,18 +10,29 @@ ghost use Rattle.archive_core.specs.Key.{IsKey};
 ghost use Rattle.archive_core.specs.Valid.{IsValid, IsSliceFault};
 ghost use Rattle.archive_core.specs.Record.{IsRecord, IsOperation, rec, admission_record, retirement_record};
 ghost use Rattle.archive_core.specs.Content.{Operations, made, IsMade, IsContent, IsBelow, with_records, joined, HaveSameMembers, IsLive};
+ghost use Rattle.archive_core.specs.Find.{IsFinds, AreAnswering, answering_count};
+ghost use Rattle.archive_core.specs.Lookup.{AnswerRecord, IsAnswer};
+ghost use Rattle.join_core.specs.Listing.{listing};
+ghost use Rattle.archive_core.specs.declared.find.FindRow.{FindRow};
 ghost use Rattle.archive_core.specs.declared.keys.SliceKey.{SliceKey};
+ghost use Rattle.archive_core.specs.declared.lookup.Where.{Where};
 ghost use Rattle.archive_core.specs.declared.faults.SliceFault.{SliceFault};
 ghost use Rattle.archive_core.specs.declared.operations.Operation.{Operation};
 
 use crate::{Archive, PlainArchive};
 use join_core::laws::{associative, commutative, idempotent, monotone, resumed, unique};
+use macho_image::laws::one_fault;
+use macho_symbols::laws::{one_nearest, one_symbol_fault};
 
-/// Bytes have one fault at most, and a slice has none.
+/// Bytes are a slice or have a fault, never both and never two faults.
 pub fn one_slice_fault()
+    ensures some { (bytes : List ℕ) → IsValid bytes ⊎ ((f : SliceFault) × IsSliceFault bytes f) }
     ensures one { (bytes : List ℕ) (f g : SliceFault) → IsSliceFault bytes f → IsSliceFault bytes g → f ≡ g }
     ensures none { (bytes : List ℕ) (f : SliceFault) → IsValid bytes → IsSliceFault bytes f → ⊥ }
-{}
+{
+    one_fault();
+    one_symbol_fault();
+}
 
 /// An admission's record has 33 bytes before the slice; a retirement's has 57.
 pub fn record_lengths()
@@ -81,3 +92,44 @@ pub fn retired_stays_retired()
         → IsLive p key slice
         → ⊥ }
 {}
+
+/// A content and a UUID have one list of rows.
+pub fn one_find()
+    ensures { (o : Operations) (uuid : List ℕ) (rows others : List FindRow) → IsFinds o uuid rows → IsFinds o uuid others → rows ≡ others }
+{}
+
+/// The rows of a UUID tell how many slices answer under it and an architecture.
+pub fn rows_count_answering()
+    ensures { (o : Operations) (key : SliceKey) (rows : List FindRow)
+        → IsContent o
+        → IsKey key
+        → IsFinds o key.uuid rows
+        → (slices : List (List ℕ)) × AreAnswering o key slices × (length slices ≡ answering_count rows key.arch) }
+{}
+
+/// A content, a key and a place have one answer.
+pub fn one_answer()
+    ensures { (o : Operations) (key : SliceKey) (place : Where) (answer other : AnswerRecord)
+        → IsAnswer o key place answer
+        → IsAnswer o key place other
+        → answer ≡ other }
+{
+    one_nearest();
+}
+
+/// Two archives of one content, of whatever types, are alike in every answer: what each answers is
+/// told by the content alone.
+pub fn alike<A: Archive, B: Archive>()
+    ensures holds { (a : A) (b : B) (operation : Operation) → A.content a ≡ B.content b → set.contains (A.content a) (rec operation) ≡ set.contains (B.content b) (rec operation) }
+    ensures len { (a : A) (b : B) → A.content a ≡ B.content b → set.len (A.content a) ≡ set.len (B.content b) }
+    ensures record_at { (a : A) (b : B) (place : ℕ) → A.content a ≡ B.content b → slice_index_or (listing (A.content a)) place [] ≡ slice_index_or (listing (B.content b)) place [] }
+    ensures lookup { (a : A) (b : B) (key : SliceKey) (place : Where) (answer other : AnswerRecord)
+        → A.content a ≡ B.content b
+        → IsAnswer (A.content a) key place answer
+        → IsAnswer (B.content b) key place other
+        → answer ≡ other }
+    ensures find { (a : A) (b : B) (uuid : List ℕ) (rows others : List FindRow) → A.content a ≡ B.content b → IsFinds (A.content a) uuid rows → IsFinds (B.content b) uuid others → rows ≡ others }
+{
+    one_find();
+    one_answer();
+}

@@ -10,24 +10,34 @@
 //! - `faults`: why bytes are no slice, or are not admitted;
 //! - `slices`: the bytes of a valid image;
 //! - `operations`: admissions and retirements, with their records;
+//! - `find`: what a search for a UUID tells;
+//! - `lookup`: what is asked of a key, and what is answered;
 //! - `archives`: the trait [`Archive`];
+//! - `told`: an operation beside its row;
+//! - `live`: slices that answer under a key, and what they tell;
 //! - `plain`: an archive as a sorted list;
-//! - [`laws`]: what holds of records, contents and joins.
+//! - [`laws`]: what holds of records, contents, joins, rows and answers.
 #![tactic(auto)]
 
 mod archives;
 mod faults;
+mod find;
 mod keys;
 pub mod laws;
+mod live;
+mod lookup;
 mod operations;
 mod plain;
 mod slices;
 #[cfg(test)]
 mod tests;
+mod told;
 
-pub use archives::{Archive, Contents};
+pub use archives::{Archive, Contents, take_all};
 pub use faults::{AdmitFault, SliceFault};
+pub use find::{FindRow, FindState};
 pub use keys::{ArchKey, Digest, SliceKey};
+pub use lookup::{Answer, Own, Where};
 pub use operations::{Operation, Record};
 pub use plain::PlainArchive;
 pub use slices::Slice;

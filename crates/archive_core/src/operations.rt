@@ -4,6 +4,7 @@ ghost use Rattle.std.specs.Ordering.{nat_cmp};
 ghost use Rattle.std.specs.Cmp.Lexicographic.{slice_cmp};
 ghost use Rattle.archive_core.specs.Record.{rec, lent, admission, IsOperation};
 ghost use Rattle.archive_core.specs.Key.{IsKey};
+ghost use Rattle.archive_core.specs.Find.{key_in};
 ghost use Rattle.archive_core.specs.Valid.{IsValid};
 
 use crate::keys::{compare_keys, uuid_bytes};
@@ -69,6 +70,18 @@ impl Operation {
         }
     }
 
+    // The key that it is under.
+    pub(crate) fn key(&self) -> SliceKey
+        ensures key { result ≡ key_in self.now }
+        ensures known { IsOperation self.now }
+    {
+        self.known();
+        match self {
+            Operation::Admit(slice) => slice.key(),
+            Operation::Retire(key, _) => *key,
+        }
+    }
+
     // Tells what the types of its parts hold.
     pub(crate) fn known(&self)
         ensures { IsOperation self.now }
@@ -91,7 +104,7 @@ fn known_slice(slice: &Slice)
 }
 
 // Tells the widths of a key's parts.
-fn known_key(key: &SliceKey)
+pub(crate) fn known_key(key: &SliceKey)
     ensures { IsKey key.now }
 {
     let _uuid = uuid_bytes(&key.uuid);

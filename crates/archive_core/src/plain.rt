@@ -1,17 +1,28 @@
 //! An archive as a sorted list of operations.
-ghost use Rattle.std.specs.Prelude.{◌≡◌, length, map, filter, not, IfOk};
+ghost use Rattle.std.specs.Prelude.{◌≡◌, ◌≤◌, length, map, filter, not, if◌then◌else◌, Some, None, IfOk, OnOk, OnErr};
 ghost use Rattle.std.specs.FinSet as set;
 ghost use Rattle.std.specs.Ordering.{nat_cmp};
 ghost use Rattle.std.specs.Cmp.Lexicographic.{slice_cmp};
-ghost use Rattle.std.specs.List.{list_all};
+ghost use Rattle.std.specs.List.{list_all, AllByRecursion, AllZip};
 ghost use Rattle.std.specs.List.Sorted.{IsStrictlySortedBy, IsSearchInRange};
 ghost use Rattle.join_core.specs.Listing.{IsFound};
-ghost use Rattle.archive_core.specs.Record.{rec};
+ghost use Rattle.sha2.specs.Sha256.{sha256};
+ghost use Rattle.archive_core.specs.Valid.{key_of};
+ghost use Rattle.archive_core.specs.Record.{rec, retirement_record, IsOperation};
+ghost use Rattle.archive_core.specs.Scan.{is_told, live_in, live_among, IsFew};
+ghost use Rattle.archive_core.specs.Lookup.{IsOwnRow, IsToldBy, own_row, answer_view};
 
-use crate::{Archive, Contents, Operation, Record};
+use crate::live::{Few, Hashed, is_key, is_kind, told_alone};
+use crate::operations::known_key;
+use crate::told::{Told, rows_of};
+use crate::{
+    Answer, Archive, Contents, Digest, FindRow, FindState, Operation, Own, Record, Slice, SliceKey,
+    Where,
+};
 use join_core::Join;
 use memory::{Heap, NoMemory};
 use std::marker::Model;
+use uuid::Uuid;
 
 /// An archive as a list of operations, strictly ascending by their records.
 ///
@@ -69,6 +80,128 @@ impl PlainArchive {
         ensures { result ≡ list_all (λ operation. set.contains self.now (rec operation)) operations.now }
     {
         operations.iter().all(|operation| self.holds(operation))
+    }
+
+    // The operation with its row, where a search for the UUID tells it.
+    fn told<'a>(&self, operation: &'a Operation, uuid: &Uuid) -> Option<Told<'a>>
+        ensures told { result ≡ if is_told self.now uuid.now operation.now then Some operation.now else None }
+        ensures known { IsOperation operation.now }
+    {
+        let key = operation.key();
+        if key.uuid != *uuid {
+            return None;
+        }
+        let told = Told::of(operation);
+        match told.row().state {
+            FindState::Retired => Some(told),
+            FindState::Image | FindState::Dsym => {
+                let retirement = Operation::Retire(key, told.row().digest);
+                if self.holds(&retirement) {
+                    None
+                } else {
+                    Some(told)
+                }
+            }
+        }
+    }
+
+    // Those operations that a search for the UUID tells, each with its row.
+    fn gather<'a>(
+        &self,
+        operations: &'a [Operation],
+        uuid: &Uuid,
+    ) -> Result<Vec<Told<'a>, Heap>, NoMemory>
+        ensures told { IfOk result (λ told. told.items ≡ filter (is_told self.now uuid.now) operations.now) }
+        ensures known { OnOk result (AllByRecursion IsOperation operations.now) }
+    {
+        let mut told = Vec::new(self.operations.allocator().clone()?);
+        'operations: for operation in operations {
+            if let Some(found) = self.told(operation, uuid) {
+                told.push(found)?;
+            }
+        }
+        Ok(told)
+    }
+
+    // The slice with its digest, unless a retirement covers it.
+    fn unless_retired<'a>(&self, slice: &'a Slice) -> Option<Hashed<'a>>
+        ensures { result ≡ if set.contains self.now (retirement_record (key_of slice.now) (sha256 slice.now)) then None else Some slice.now }
+    {
+        let hashed = Hashed::of(slice);
+        if self.holds(&Operation::Retire(slice.key(), hashed.digest())) {
+            return None;
+        }
+        Some(hashed)
+    }
+
+    // The slice that an operation admits, where it is live under the key, and a companion or not. A
+    // slice of another key or kind is not hashed.
+    #[tactic(auto, unfolding(crate::specs::Scan::is_live_kind))]
+    fn live<'a>(&self, operation: &'a Operation, key: &SliceKey, dsym: bool) -> Option<Hashed<'a>>
+        ensures live { result ≡ live_in self.now key.now dsym operation.now }
+        ensures known { IsOperation operation.now }
+    {
+        operation.known();
+        let Operation::Admit(slice) = operation else {
+            return None;
+        };
+        if !is_key(&slice.key(), key) || !is_kind(dsym, slice) {
+            return None;
+        }
+        self.unless_retired(slice)
+    }
+
+    // The live slices of a key, companions or not, as far as one of them is asked alone.
+    fn few<'a>(&self, operations: &'a [Operation], key: &SliceKey, dsym: bool) -> Few<'a>
+        ensures few { IsFew result (live_among self.now key.now dsym operations.now) }
+        ensures known { AllByRecursion IsOperation operations.now }
+    {
+        let mut few = Few::Nothing;
+        'operations: for operation in operations {
+            if let Some(slice) = self.live(operation, key, dsym) {
+                few = few.and(slice);
+            }
+        }
+        few
+    }
+
+    // What each of the live slices of a key, companions or not, tells of a place.
+    fn own_rows<'a>(
+        &self,
+        operations: &'a [Operation],
+        key: &SliceKey,
+        dsym: bool,
+        place: Where,
+    ) -> Result<Vec<(Digest, Own<'a>), Heap>, NoMemory>
+        ensures { IfOk result (λ rows. AllZip (IsOwnRow place) (live_among self.now key.now dsym operations.now) (map own_row rows.items)) }
+    {
+        let mut rows = Vec::new(self.operations.allocator().clone()?);
+        'operations: for operation in operations {
+            if let Some(slice) = self.live(operation, key, dsym) {
+                rows.push(slice.row(place))?;
+            }
+        }
+        Ok(rows)
+    }
+
+    // What the live slices of a key, companions or not, tell together, where so much is kept of them.
+    fn told_by<'a>(
+        &self,
+        operations: &'a [Operation],
+        key: &SliceKey,
+        dsym: bool,
+        few: Few<'a>,
+        place: Where,
+    ) -> Result<Answer<'a>, NoMemory>
+        requires { IsFew few (live_among self.now key.now dsym operations.now) }
+        ensures told { IfOk result (λ answer. IsToldBy place (live_among self.now key.now dsym operations.now) (answer_view answer)) }
+        ensures memory { OnErr result (2 ≤ length (live_among self.now key.now dsym operations.now)) }
+    {
+        match few {
+            Few::Nothing => Ok(Answer::Unknown),
+            Few::One(slice) => Ok(told_alone(slice.own(place))),
+            Few::Several => Ok(Answer::Conflict(self.own_rows(operations, key, dsym, place)?)),
+        }
     }
 
     // Copies of those operations that the archive does not hold.
@@ -145,6 +278,23 @@ impl Archive for PlainArchive {
 
     fn holds(&self, operation: &Operation) -> bool {
         search(&self.operations, operation).is_ok()
+    }
+
+    fn find(&self, uuid: &Uuid) -> Result<Vec<FindRow, Heap>, NoMemory> {
+        let mut told = self.gather(&self.operations, uuid)?;
+        told.sort_unstable_by(|a, b| a.compare(b));
+        rows_of(self.operations.allocator().clone()?, &told)
+    }
+
+    fn lookup(&self, key: &SliceKey, place: Where) -> Result<Answer<'_>, NoMemory> {
+        known_key(key);
+        match self.few(&self.operations, key, true) {
+            Few::Nothing => {
+                let images = self.few(&self.operations, key, false);
+                self.told_by(&self.operations, key, false, images, place)
+            }
+            companions => self.told_by(&self.operations, key, true, companions, place),
+        }
     }
 
     fn len(&self) -> u64 {

@@ -5,11 +5,12 @@ ghost use Rattle.archive_core.specs.Valid.{IsValid, IsSliceFault, IsAdmitFault, 
 
 use crate::{AdmitFault, ArchKey, Digest, SliceFault, SliceKey};
 use macho_image::Image;
+use macho_symbols::Symbols;
 use memory::{Heap, NoMemory};
 use sha2::{Digest as _, Sha256};
 use std::marker::Model;
 
-/// A slice: the bytes of a valid image, owned. A contract sees it as its bytes.
+/// A slice: the bytes of a valid image with valid symbols, owned. A contract sees it as its bytes.
 ///
 /// Its key is kept beside the bytes, since every comparison of records begins with it.
 #[derive(Drop)]
@@ -30,16 +31,20 @@ impl Model for Slice {
 }
 
 impl Slice {
-    /// Tests whether the bytes are a slice, and gives its key, or else the first fault of the image.
-    /// Takes no memory.
+    /// Tests whether the bytes are a slice, and gives its key, or else the first fault of the image,
+    /// or of the symbols of one that has none. Takes no memory.
     pub fn check(bytes: &[u8]) -> Result<SliceKey, SliceFault>
         ensures valid { OnOk result (IsValid bytes.now) }
         ensures key { IfOk result (λ key. key ≡ key_of bytes.now) }
         ensures faulty { IfErr result (IsSliceFault bytes.now) }
     {
-        match Image::read(bytes) {
-            Ok(image) => Ok(key_in(&image)),
-            Err(fault) => Err(SliceFault::Image(fault)),
+        let image = match Image::read(bytes) {
+            Ok(image) => image,
+            Err(fault) => return Err(SliceFault::Image(fault)),
+        };
+        match Symbols::read(&image) {
+            Ok(_) => Ok(key_in(&image)),
+            Err(fault) => Err(SliceFault::Symbols(fault)),
         }
     }
 
@@ -113,6 +118,13 @@ impl Slice {
     {
         image_in(self.bytes())
     }
+
+    /// The symbols of the image, read anew from the bytes. Takes no memory.
+    pub fn symbols(&self) -> Symbols<'_>
+        ensures { result ≡ self.now }
+    {
+        symbols_in(self.bytes())
+    }
 }
 
 // The slice of valid bytes under their key.
@@ -132,6 +144,17 @@ fn image_in(bytes: &[u8]) -> Image<'_>
 {
     match Image::read(bytes) {
         Ok(image) => image,
+        Err(_) => unreachable!(),
+    }
+}
+
+// The symbols that valid bytes have.
+fn symbols_in(bytes: &[u8]) -> Symbols<'_>
+    requires { IsValid bytes.now }
+    ensures { result ≡ bytes.now }
+{
+    match Symbols::read(&image_in(bytes)) {
+        Ok(symbols) => symbols,
         Err(_) => unreachable!(),
     }
 }

@@ -1,0 +1,5 @@
+use Rattle.archive_core.proofs.Scanned.{one_list_of_rows}
+use Rattle.archive_core.proofs.laws.one_find.Goals as goal
+
+pub returns : goal.returns
+returns c = one_list_of_rows

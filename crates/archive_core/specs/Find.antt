@@ -1,0 +1,86 @@
+-- What a search for a UUID tells: the retirements and the live slices under it.
+use Rattle.std.specs.Prelude.{◌≡◌, ◌↔◌, ℕ, Bool, true, false, List, ◌==◌, ◌&&◌, if◌then◌else◌, map, count_by, Contains}
+use Rattle.std.specs.Ordering.{nat_cmp, on, then_cmp}
+use Rattle.std.specs.declared.cmp.Ordering.{Ordering}
+use Rattle.std.specs.Cmp.Lexicographic.{slice_cmp}
+use Rattle.std.specs.List.Sorted.{IsStrictlySortedBy}
+use Rattle.std.specs.FinSet as set
+use Rattle.sha2.specs.Sha256.{sha256}
+use Rattle.macho_image.specs.Contents.{is_dsym_image}
+use Rattle.archive_core.specs.Valid.{key_of}
+use Rattle.archive_core.specs.Record.{rec, admission_record, retirement_record, IsOperation}
+use Rattle.archive_core.specs.Content.{Operations, IsLive, IsAnswering}
+use Rattle.archive_core.specs.declared.keys.ArchKey.{ArchKey}
+use Rattle.archive_core.specs.declared.keys.SliceKey.{SliceKey}
+use Rattle.archive_core.specs.declared.find.FindRow.{FindRow}
+use Rattle.archive_core.specs.declared.find.FindState.{FindState}
+use Rattle.archive_core.specs.declared.find.FindState.TheVariants.{Retired, Image, Dsym}
+use Rattle.archive_core.specs.declared.operations.Operation.{Operation}
+use Rattle.archive_core.specs.declared.operations.Operation.TheVariants.{Admit, Retire}
+
+-- the key that an operation is under
+abbrev pub key_in : Operation → SliceKey
+key_in (Admit slice) = key_of slice
+key_in (Retire key digest) = key
+
+-- architectures by cputype, then by subtype
+abbrev pub arch_cmp : ArchKey → ArchKey → Ordering
+arch_cmp = then_cmp (on (λ arch. arch.cputype) nat_cmp) (on (λ arch. arch.subtype) nat_cmp)
+
+-- operations by architecture, then by record
+abbrev pub find_cmp : Operation → Operation → Ordering
+find_cmp = then_cmp (on (λ operation. (key_in operation).arch) arch_cmp) (on rec (slice_cmp nat_cmp))
+
+-- a retirement of the content under the UUID, or the admission of a slice that is live there
+abbrev pub IsTold : Operations → List ℕ → Operation → Type 0
+IsTold o uuid (Admit slice) = ((key_of slice).uuid ≡ uuid) × IsLive o (key_of slice) slice
+IsTold o uuid (Retire key digest) = (key.uuid ≡ uuid) × (set.contains o (retirement_record key digest.0) ≡ true)
+
+-- a live slice is a companion by its filetype MH_DSYM, or else an image
+abbrev pub state_of : List ℕ → FindState
+state_of slice = if is_dsym_image slice then Dsym else Image
+
+-- the row of an operation
+abbrev pub row_of : Operation → FindRow
+row_of (Admit slice) = record { arch = (key_of slice).arch; digest = record { 0 = sha256 slice }; state = state_of slice }
+row_of (Retire key digest) = record { arch = key.arch; digest = digest; state = Retired }
+
+-- what a search tells: one row for each retirement and each live slice of the UUID, by architecture, then by record
+pub record IsFinds (o : Operations) (uuid : List ℕ) (rows : List FindRow) : Type 0 where
+  pub operations : List Operation
+  pub ascending : IsStrictlySortedBy find_cmp operations
+  pub exactly : (a : Operation) → Contains operations a ↔ (IsOperation a × IsTold o uuid a)
+  pub rows_are : rows ≡ map row_of operations
+
+-- the state of a live companion
+abbrev pub is_dsym : FindState → Bool
+is_dsym Retired = false
+is_dsym Image = false
+is_dsym Dsym = true
+
+-- the state of any other live slice
+abbrev pub is_image : FindState → Bool
+is_image Retired = false
+is_image Image = true
+is_image Dsym = false
+
+-- two architectures are one
+abbrev pub is_arch : ArchKey → ArchKey → Bool
+is_arch a b = (a.cputype == b.cputype) && (a.subtype == b.subtype)
+
+-- a row of a live companion of the architecture
+abbrev pub is_dsym_row : ArchKey → FindRow → Bool
+is_dsym_row arch row = is_arch row.arch arch && is_dsym row.state
+
+-- a row of another live slice of the architecture
+abbrev pub is_image_row : ArchKey → FindRow → Bool
+is_image_row arch row = is_arch row.arch arch && is_image row.state
+
+-- how many slices of an architecture answer, as rows tell it: the companions, or else the images
+abbrev pub answering_count : List FindRow → ArchKey → ℕ
+answering_count rows arch = if count_by (is_dsym_row arch) rows == 0 then count_by (is_image_row arch) rows else count_by (is_dsym_row arch) rows
+
+-- the answering slices of a key, strictly ascending by their records
+pub record AreAnswering (o : Operations) (key : SliceKey) (slices : List (List ℕ)) : Type 0 where
+  pub ascending : IsStrictlySortedBy (on admission_record (slice_cmp nat_cmp)) slices
+  pub exactly : (slice : List ℕ) → Contains slices slice ↔ IsAnswering o key slice

@@ -1,0 +1,80 @@
+-- What a lookup answers: what the answering slices of a key tell of a place.
+use Rattle.std.specs.Prelude.{◌≡◌, ◌≤◌, ◌+◌, ◌-◌, ◌^◌, ◌&&◌, ℕ, nat_le, nat_lt, List, [], ◌∷◌, length, map, Option, Some, None, MatchOption, option_and_then, if◌then◌else◌}
+use Rattle.std.specs.List.{AllZip}
+use Rattle.sha2.specs.Sha256.{sha256}
+use Rattle.macho_image.specs.Sections.{text_base_of}
+use Rattle.macho_symbols.specs.Found.{FoundRecord, FindsNearest}
+use Rattle.macho_symbols.specs.Views.{found_view}
+use Rattle.archive_core.specs.Content.{Operations}
+use Rattle.archive_core.specs.Find.{AreAnswering}
+use Rattle.archive_core.specs.declared.keys.Digest.{Digest}
+use Rattle.archive_core.specs.declared.keys.SliceKey.{SliceKey}
+use Rattle.archive_core.specs.declared.lookup.Where.{Where}
+use Rattle.archive_core.specs.declared.lookup.Where.TheVariants.{File, Loaded}
+use Rattle.archive_core.specs.declared.lookup.Own.{Own}
+use Rattle.archive_core.specs.declared.lookup.Own.TheVariants.{NoSymbol as Own_NoSymbol, Symbol as Own_Symbol}
+use Rattle.archive_core.specs.declared.lookup.Answer.{Answer}
+use Rattle.archive_core.specs.declared.lookup.Answer.TheVariants.{Unknown, NoSymbol, Symbol, Conflict}
+
+-- address - load + base in whole numbers, where that lies in 0 to 2 ^ 64 - 1
+abbrev pub unslid : ℕ → ℕ → ℕ → Option ℕ
+unslid base load address = if nat_le load (address + base) && nat_lt (address + base - load) (2 ^ 64) then Some (address + base - load) else None
+
+-- the address in a slice's file that a place stands for; a loaded one stands for none where the slice has no segment __TEXT
+abbrev pub file_address : List ℕ → Where → Option ℕ
+file_address slice (File address) = Some address
+file_address slice (Loaded load address) = option_and_then (λ base. unslid base load address) (text_base_of slice)
+
+-- what a slice itself tells of a place: the nearest symbol of that address, or none where it stands for no address
+abbrev pub IsOwn : List ℕ → Where → Option FoundRecord → Type 0
+IsOwn slice place own = MatchOption (file_address slice place) (own ≡ None) (λ address. FindsNearest slice address own)
+
+-- a slice's digest, and what the slice tells
+pub record OwnRow : Type 0 where
+  pub digest : List ℕ
+  pub own : Option FoundRecord
+
+-- the row of a slice
+pub record IsOwnRow (place : Where) (slice : List ℕ) (row : OwnRow) : Type 0 where
+  pub digest_is : row.digest ≡ sha256 slice
+  pub own_is : IsOwn slice place row.own
+
+-- an answer, without where its names lie: nothing answers, one slice tells a symbol or none, or several tell each its own
+pub data AnswerRecord : Type 0 where
+  Untold : AnswerRecord
+  Told : Option FoundRecord → AnswerRecord
+  Disputed : List OwnRow → AnswerRecord
+
+-- what slices that answer tell together
+abbrev pub IsToldBy : Where → List (List ℕ) → AnswerRecord → Type 0
+IsToldBy place slices Untold = slices ≡ []
+IsToldBy place slices (Told own) = (slice : List ℕ) × (slices ≡ slice ∷ []) × IsOwn slice place own
+IsToldBy place slices (Disputed rows) = (2 ≤ length slices) × AllZip (IsOwnRow place) slices rows
+
+-- the answer of a content under a key: what its answering slices tell, in ascending order of their records
+pub record IsAnswer (o : Operations) (key : SliceKey) (place : Where) (answer : AnswerRecord) : Type 0 where
+  pub slices : List (List ℕ)
+  pub answering : AreAnswering o key slices
+  pub told : IsToldBy place slices answer
+
+-- two or more slices answer under a key
+pub record IsConflict (o : Operations) (key : SliceKey) : Type 0 where
+  pub slices : List (List ℕ)
+  pub answering : AreAnswering o key slices
+  pub several : 2 ≤ length slices
+
+-- what a slice tells, without where the names lie
+abbrev pub own_view : Own → Option FoundRecord
+own_view Own_NoSymbol = None
+own_view (Own_Symbol found) = Some (found_view found)
+
+-- a slice's row, without where the names lie
+abbrev pub own_row : Digest × Own → OwnRow
+own_row row = record { digest = row.0.0; own = own_view row.1 }
+
+-- what an archive tells, without where the names lie
+abbrev pub answer_view : Answer → AnswerRecord
+answer_view Unknown = Untold
+answer_view NoSymbol = Told None
+answer_view (Symbol found) = Told (Some (found_view found))
+answer_view (Conflict rows) = Disputed (map own_row rows.items)

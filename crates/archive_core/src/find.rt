@@ -1,0 +1,24 @@
+//! What a search for a UUID tells.
+use crate::{ArchKey, Digest};
+
+/// A retirement, or a live slice, under some UUID.
+#[derive(Clone, Copy, Debug, PartialEq, Eq)]
+pub struct FindRow {
+    /// The architecture of its key.
+    pub arch: ArchKey,
+    /// The SHA-256 of the slice's bytes, or the one that the retirement names.
+    pub digest: Digest,
+    /// Which of the two it is, and of which kind a slice.
+    pub state: FindState,
+}
+
+/// What a row stands for.
+#[derive(Clone, Copy, Debug, PartialEq, Eq)]
+pub enum FindState {
+    /// A retirement, whether a slice that it covers was admitted or not.
+    Retired,
+    /// A live slice that is no companion.
+    Image,
+    /// A live slice that is a companion with debug information: its `filetype` is MH_DSYM.
+    Dsym,
+}

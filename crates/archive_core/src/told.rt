@@ -1,0 +1,84 @@
+//! An operation beside the row that a search tells of it.
+ghost use Rattle.std.specs.Prelude.{◌≡◌, map, IfOk};
+ghost use Rattle.archive_core.specs.Find.{find_cmp, row_of, state_of};
+
+use crate::{FindRow, FindState, Operation, Slice};
+use memory::{Heap, NoMemory};
+use std::cmp::Ordering;
+use std::marker::Model;
+
+// An operation that a search tells, beside its row, so that a slice is hashed once. A contract sees
+// it as the operation.
+#[derive(Drop)]
+pub(crate) struct Told<'a> {
+    operation: &'a Operation,
+    row: FindRow,
+}
+
+impl<'a> Model for Told<'a> {
+    ghost use Rattle.std.specs.Prelude.{◌≡◌};
+    ghost use Rattle.archive_core.specs.Find.{row_of};
+    ghost use Rattle.archive_core.specs.declared.operations.Operation.{Operation};
+
+    ghost Value = { Operation };
+
+    ghost view = { λ told. told.operation.now };
+
+    ghost invariant = { λ told. told.row ≡ row_of told.operation.now };
+}
+
+impl<'a> Told<'a> {
+    // The operation with its row.
+    pub(crate) fn of(operation: &'a Operation) -> Told<'a>
+        ensures { result ≡ operation.now }
+    {
+        let (digest, state) = match operation {
+            Operation::Admit(slice) => (slice.digest(), state_in(slice)),
+            Operation::Retire(_, digest) => (*digest, FindState::Retired),
+        };
+        let row = FindRow {
+            arch: operation.key().arch,
+            digest,
+            state,
+        };
+        Told { operation, row }
+    }
+
+    // The row.
+    pub(crate) fn row(&self) -> FindRow
+        ensures { result ≡ row_of self.now }
+    {
+        self.row
+    }
+
+    // Compares by architecture, then by record.
+    pub(crate) fn compare(&self, other: &Told<'_>) -> Ordering
+        ensures { result ≡ find_cmp self.now other.now }
+    {
+        let first = self.row.arch;
+        let second = other.row.arch;
+        first
+            .cputype
+            .cmp(&second.cputype)
+            .then(first.subtype.cmp(&second.subtype))
+            .then_with(|| self.operation.compare(other.operation))
+    }
+}
+
+// The rows, in the order of their operations.
+pub(crate) fn rows_of(heap: Heap, told: &[Told<'_>]) -> Result<Vec<FindRow, Heap>, NoMemory>
+    ensures { IfOk result (λ rows. rows.items ≡ map row_of told.now) }
+{
+    told.iter().map(|told| told.row()).collect(heap)
+}
+
+// What a live slice is.
+fn state_in(slice: &Slice) -> FindState
+    ensures { result ≡ state_of slice.now }
+{
+    if slice.image().is_dsym() {
+        FindState::Dsym
+    } else {
+        FindState::Image
+    }
+}
