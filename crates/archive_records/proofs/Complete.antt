@@ -9,30 +9,35 @@ use Rattle.std.specs.Ordering.{eq_by_cmp, is_eq}
 use Rattle.std.specs.Cmp.{tied_itself}
 use Rattle.std.specs.Cmp.Lexicographic.{nat_list_cmp_total}
 use Rattle.std.specs.FinSet as set
-use Rattle.macho_image.proofs.Existence.{image_or_fault}
 use Rattle.archive_core.specs.Key.{IsKey, key_bytes}
 use Rattle.archive_core.specs.Valid.{key_of}
+use Rattle.archive_core.specs.declared.operations.Operation.{Operation}
 use Rattle.archive_core.specs.Record.{IsRecord}
 use Rattle.archive_core.specs.Content.{Operations, IsContent}
 use Rattle.archive_core.specs.declared.keys.SliceKey.{SliceKey}
-use Rattle.archive_core.specs.declared.faults.SliceFault.TheVariants.{Image}
 use Rattle.archive_records.specs.declared.fault.RecordFaultKind.{RecordFaultKind}
 use Rattle.archive_records.specs.declared.fault.RecordFaultKind.TheVariants.{BadMagic, Truncated, BadSlice, KeyMismatch, Trailing}
 use Rattle.archive_records.specs.declared.fault.RecordFault.{RecordFault}
 use Rattle.archive_records.specs.Layout.{head_length, body_length, slice_length, framed}
-use Rattle.archive_records.specs.Text.{magic, end_record, text_of, IsWritten, Ascends, last_of}
-use Rattle.archive_records.specs.Fault.{is_end, next, Fails, IsTrailing, IsFault}
+use Rattle.archive_records.specs.Kind.{magic_of}
+use Rattle.archive_records.specs.Text.{ending, text_of, IsWritten, InOrder, last_of, IsOperationsText}
+use Rattle.archive_records.specs.Fault.{is_end, next, Fails, IsTrailing, IsUnended, IsFault, IsOperationsFault, IsFaultOf}
 use Rattle.archive_records.specs.Front.{front_length}
 use Rattle.archive_records.proofs.Framed.{same_body, framed-whole}
 use Rattle.archive_records.proofs.Holds.{holds, Holds-nine, Holds-end, next-framed, next-above, next-counts, done, whole-retirement, whole-admission}
 use Rattle.archive_records.proofs.Heads.{read_key}
+use Rattle.archive_records.proofs.SliceFacts.{slice_or_fault}
 use Rattle.archive_records.proofs.Forms.{IsBytes, IsBytes-take, IsBytes-drop, retires, admits, record-framed}
 use Rattle.archive_records.proofs.Ends.{ends}
 use Rattle.archive_records.proofs.Puts.{concat-push}
 use Rattle.archive_records.proofs.Longest.{Takes, is_end-grows}
-use Rattle.archive_records.proofs.Steps.{Ascends-push}
-use Rattle.archive_records.proofs.Exact.{is_three}
+use Rattle.archive_records.proofs.Steps.{InOrder-push}
+use Rattle.archive_records.proofs.Ends.{is_three, ending_is}
+use Rattle.archive_records.proofs.Exact.{length-magic}
+use Rattle.archive_records.proofs.Listed.{operations_in, IsOperationsText-text}
 use Rattle.archive_records.proofs.Contents.{order, same_bytes, IsContent-records, written-records, text_written}
+use Rattle.archive_records.specs.declared.kind.FileKind.{FileKind}
+use Rattle.archive_records.specs.declared.kind.FileKind.TheVariants.{Archive, Operations as Operations_file}
 
 -- two byte strings are the same, or not
 same_or_not : (a b : List ℕ) → (a ≡ b) ⊎ (a ≢ b)
@@ -62,147 +67,169 @@ key_at bytes long fits =
       record { uuid = omega (arith, length-take 16 (drop 1 bytes), length-drop 1 bytes); cputype = be_small a a4 a_fits; subtype = be_small b b4 b_fits },
     )
 
--- a whole record in front of bytes is whole alone
-framed-cut : (rest : List ℕ) (n : ℕ) → framed rest ≡ Ok n → framed (take n rest) ≡ Ok (length (take n rest))
-framed-cut rest n e =
-    let h = holds rest n e in
-    let item : List ℕ = take n rest in
-    let i = h.is in
-    let f = h.fits in
-    let one = h.one in
-    let long : length item ≡ n = omega (arith, length-take n rest) in
-    let split : item ++ drop n rest ≡ rest = take-append-drop n rest in
-    let some = Holds-nine rest n h in
-    let tag : head_length (get_or item 0 0) ≡ Some h.head = ap head_length (get_or-take n rest 0 0 (omega arith)) ∙ h.tag in
-    let body : body_length rest ≡ body_length item = ap body_length (sym split) ∙ same_body item (drop n rest) h.head (omega arith) tag (omega arith) in
-    let small : body_length item ≤ 4294967295 = rw (← body) h.small in
-    framed-whole item h.head (omega arith) tag (omega arith) small (omega arith) ∙ ap done (omega arith)
+ended_or_not : (file : FileKind) (rest : List ℕ) (count : ℕ) → IsUnended file rest ⊎ (rest ≡ ending file count)
+ended_or_not Archive rest count = inl tt
+ended_or_not Operations_file [] count = inr refl
+ended_or_not Operations_file (x ∷ rest) count = inl (λ e. cc)
 
--- what stands in front of the rest: a fault, bytes behind the end record, the end record alone, or a record
-abbrev pub Found : List ℕ → ℕ → List ℕ → Type 0
-Found last count rest =
-    ((kind : RecordFaultKind) × Fails last count rest kind)
-    ⊎ IsTrailing last count rest
-    ⊎ (rest ≡ end_record count)
-    ⊎ Takes last rest
+module _ (file : FileKind) where
+  -- a whole record in front of bytes is whole alone
+  framed-cut : (rest : List ℕ) (n : ℕ) → framed file rest ≡ Ok n → framed file (take n rest) ≡ Ok (length (take n rest))
+  framed-cut rest n e =
+      let h = holds file rest n e in
+      let item : List ℕ = take n rest in
+      let i = h.is in
+      let f = h.fits in
+      let one = h.one in
+      let long : length item ≡ n = omega (arith, length-take n rest) in
+      let split : item ++ drop n rest ≡ rest = take-append-drop n rest in
+      let some = Holds-nine file rest n h in
+      let tag : head_length file (get_or item 0 0) ≡ Some h.head = ap (head_length file) (get_or-take n rest 0 0 (omega arith)) ∙ h.tag in
+      let body : body_length rest ≡ body_length item = ap body_length (sym split) ∙ same_body file item (drop n rest) h.head (omega arith) tag (omega arith) in
+      let small : body_length item ≤ 4294967295 = rw (← body) h.small in
+      framed-whole file item h.head (omega arith) tag (omega arith) small (omega arith) ∙ ap done (omega arith)
 
-module _ (last : List ℕ) (count : ℕ) (rest : List ℕ) (n : ℕ) (e : next last count rest ≡ Ok n) (fits : IsBytes rest) where
-  whole : framed rest ≡ Ok n
-  whole = next-framed last count rest n e
+  -- what stands in front of the rest: a fault, bytes behind the end record, the end record alone, or a record
+  abbrev pub Found : List ℕ → ℕ → List ℕ → Type 0
+  Found last count rest =
+      ((kind : RecordFaultKind) × Fails file last count rest kind)
+      ⊎ IsTrailing file last count rest
+      ⊎ (rest ≡ ending file count)
+      ⊎ Takes file last rest
 
-  item : List ℕ
-  item = take n rest
+  module _ (last : List ℕ) (count : ℕ) (rest : List ℕ) (n : ℕ) (e : next file last count rest ≡ Ok n) (fits : IsBytes rest) where
+    whole : framed file rest ≡ Ok n
+    whole = next-framed file last count rest n e
 
-  found_end : is_end rest ≡ true → get_or rest 0 0 ≡ 3 → Found last count rest
-  found_end end three =
-      let h = holds rest n whole in
-      let nine : n ≡ 9 = Holds-end rest n h three in
-      let long = h.fits in
-      elim (cases_lt 9 (length rest)) [
-        | inl more ↦ inr (inl (record { whole = e ∙ ap done nine; end = end; more = more }))
-        | inr all ↦ inr (inr (inl (ends rest count (whole ∙ ap done (omega arith)) three (next-counts last count rest n e end) fits)))
-      ]
+    item : List ℕ
+    item = take n rest
 
-  found_record : is_end rest ≡ false → IsRecord (take n rest) → Found last count rest
-  found_record no_end r = inr (inr (inr (record { item = take n rest; more = drop n rest; whole = sym (take-append-drop n rest); is = r; above = next-above last count rest n e no_end })))
-
-  found_slice : is_end rest ≡ false → (get_or (take n rest) 0 0 ≡ 2) × (slice_length (take n rest) + 33 ≡ length (take n rest)) → Found last count rest
-  found_slice no_end form =
-      let bytes : List ℕ = take n rest in
-      elim (image_or_fault (drop 33 bytes)) [
-        | inl valid ↦ elim (same_or_not (take 24 (drop 1 bytes)) (key_bytes (key_of (drop 33 bytes)))) [
-          | inl key ↦ found_record no_end (inl (admits bytes form valid key (IsBytes-take n rest fits)))
-          | inr other ↦ inl (KeyMismatch, inr (n, e, (form.0, valid, other)))
+    found_end : is_end rest ≡ true → get_or rest 0 0 ≡ 3 → Found last count rest
+    found_end end three =
+        let h = holds file rest n whole in
+        let nine : n ≡ 9 = Holds-end file rest n h three in
+        let long = h.fits in
+        elim (cases_lt 9 (length rest)) [
+          | inl more ↦ inr (inl (record { whole = e ∙ ap done nine; end = end; more = more }))
+          | inr all ↦ inr (inr (inl (ending_is file rest n count whole three (ends file rest count (whole ∙ ap done (omega arith)) three (next-counts file last count rest n e end) fits))))
         ]
-        | inr fault ↦ inl (BadSlice (Image fault.0), inr (n, e, (form.0, fault.1)))
-      ]
 
-  found_item : is_end rest ≡ false → Found last count rest
-  found_item no_end =
-      let bytes : List ℕ = take n rest in
-      let cut : framed bytes ≡ Ok (length bytes) = framed-cut rest n whole in
-      let h = holds rest n whole in
-      let some = Holds-nine rest n h in
-      let same : is_end bytes ≡ false = sym (is_end-grows bytes (drop n rest) (holds bytes (length bytes) cut).one) ∙ ap is_end (take-append-drop n rest) ∙ no_end in
-      elim (cases_Bool (get_or bytes 0 0 == 1)) [
-        | inl one ↦
-            let tag = eqb-true _ _ one in
-            let long = whole-retirement bytes cut tag in
-            let key = key_at bytes (omega arith) (IsBytes-take n rest fits) in
-            found_record no_end (inr (retires bytes key.0 cut tag key.1 key.2))
-        | inr other ↦ found_slice no_end (whole-admission bytes cut same (λ tag. not_one tag other))
-      ]
+    found_record : is_end rest ≡ false → IsRecord (take n rest) → Found last count rest
+    found_record no_end r = inr (inr (inr (record { item = take n rest; more = drop n rest; whole = sym (take-append-drop n rest); is = r; above = next-above file last count rest n e no_end })))
+
+    found_slice : is_end rest ≡ false → (get_or (take n rest) 0 0 ≡ 2) × (slice_length (take n rest) + 33 ≡ length (take n rest)) → Found last count rest
+    found_slice no_end form =
+        let bytes : List ℕ = take n rest in
+        elim (slice_or_fault (drop 33 bytes)) [
+          | inl valid ↦ elim (same_or_not (take 24 (drop 1 bytes)) (key_bytes (key_of (drop 33 bytes)))) [
+            | inl key ↦ found_record no_end (inl (admits bytes form valid key (IsBytes-take n rest fits)))
+            | inr other ↦ inl (KeyMismatch, inr (n, e, (form.0, valid, other)))
+          ]
+          | inr fault ↦ inl (BadSlice fault.0, inr (n, e, (form.0, fault.1)))
+        ]
+
+    found_item : is_end rest ≡ false → Found last count rest
+    found_item no_end =
+        let bytes : List ℕ = take n rest in
+        let cut : framed file bytes ≡ Ok (length bytes) = framed-cut rest n whole in
+        let h = holds file rest n whole in
+        let some = Holds-nine file rest n h in
+        let same : is_end bytes ≡ false = sym (is_end-grows bytes (drop n rest) (holds file bytes (length bytes) cut).one) ∙ ap is_end (take-append-drop n rest) ∙ no_end in
+        elim (cases_Bool (get_or bytes 0 0 == 1)) [
+          | inl one ↦
+              let tag = eqb-true _ _ one in
+              let long = whole-retirement file bytes cut tag in
+              let key = key_at bytes (omega arith) (IsBytes-take n rest fits) in
+              found_record no_end (inr (retires file bytes key.0 cut tag key.1 key.2))
+          | inr other ↦ found_slice no_end (whole-admission file bytes cut same (λ tag. not_one tag other))
+        ]
+      where
+        not_one : {t : ℕ} → t ≡ 1 → (t == 1) ≡ false → ⊥
+        not_one tag other = false≢true (sym other ∙ ap (λ (x : ℕ). x == 1) tag)
+
+  found : (last : List ℕ) (count : ℕ) (rest : List ℕ) → IsBytes rest → Found last count rest
+  found last count rest fits = elim (next file last count rest) as (λ r. next file last count rest ≡ r → Found last count rest) [
+    | Err kind ↦ λ e. inl (kind, inl e)
+    | Ok n ↦ λ e. elim (cases_Bool (is_end rest)) [
+      | inl end ↦ found_end last count rest n e fits end (three end)
+      | inr no_end ↦ found_item last count rest n e fits no_end
+    ]
+  ] refl
     where
-      not_one : {t : ℕ} → t ≡ 1 → (t == 1) ≡ false → ⊥
-      not_one tag other = false≢true (sym other ∙ ap (λ (x : ℕ). x == 1) tag)
+      three : is_end rest ≡ true → get_or rest 0 0 ≡ 3
+      three end = is_three rest end
 
-found : (last : List ℕ) (count : ℕ) (rest : List ℕ) → IsBytes rest → Found last count rest
-found last count rest fits = elim (next last count rest) as (λ r. next last count rest ≡ r → Found last count rest) [
-  | Err kind ↦ λ e. inl (kind, inl e)
-  | Ok n ↦ λ e. elim (cases_Bool (is_end rest)) [
-    | inl end ↦ found_end last count rest n e fits end (three end)
-    | inr no_end ↦ found_item last count rest n e fits no_end
+  -- a text is that of records, or has a fault
+  abbrev pub Known : List ℕ → Type 0
+  Known t = ((records : List (List ℕ)) × InOrder file [] records × (t ≡ text_of file records)) ⊎ ((fault : RecordFault) × IsFaultOf file t fault)
+
+  fault_known : (t : List ℕ) (records : List (List ℕ)) (rest : List ℕ) (kind : RecordFaultKind) → InOrder file [] records → t ≡ magic_of file ++ (concat records ++ rest) → IsUnended file rest → Fails file (last_of [] records) (length records) rest kind → Known t
+  fault_known t records rest kind ordered is u f =
+      inr (record { kind = kind; offset = front_length records }, inr (records, record { ordered = ordered; rest = rest; whole = is }, u, inl (f, refl)))
+
+  more_known : (t : List ℕ) (records : List (List ℕ)) (rest : List ℕ) → InOrder file [] records → t ≡ magic_of file ++ (concat records ++ rest) → IsUnended file rest → IsTrailing file (last_of [] records) (length records) rest → Known t
+  more_known t records rest ordered is u f =
+      inr (record { kind = Trailing; offset = front_length records + 9 }, inr (records, record { ordered = ordered; rest = rest; whole = is }, u, inr (refl, f, refl)))
+
+  all_known : (t : List ℕ) (records : List (List ℕ)) (rest : List ℕ) → InOrder file [] records → t ≡ magic_of file ++ (concat records ++ rest) → rest ≡ ending file (length records) → Known t
+  all_known t records rest ordered is end =
+      inl (records, ordered, is ∙ ap (λ (x : List ℕ). magic_of file ++ (concat records ++ x)) end)
+
+  -- one record more in front of the rest, where what lies behind it is known
+  goes_on : (t : List ℕ) (fuel : ℕ) (records : List (List ℕ)) (rest : List ℕ) → length rest < suc fuel → IsBytes rest → InOrder file [] records → t ≡ magic_of file ++ (concat records ++ rest)
+      → ((more : List (List ℕ)) (left : List ℕ) → length left < fuel → IsBytes left → InOrder file [] more → t ≡ magic_of file ++ (concat more ++ left) → Known t) → Takes file (last_of [] records) rest → Known t
+  goes_on t fuel records rest few fits ordered is walked k =
+      let some = (holds file k.item (length k.item) (record-framed file k.item k.is)).one in
+      let shorter : length k.more < fuel = omega (arith, ap length k.whole, length-append k.item k.more) in
+      let tail : drop (length k.item) rest ≡ k.more = ap (drop (length k.item)) k.whole ∙ drop_at k.item k.more (length k.item) refl in
+      let more_fits : IsBytes k.more = subst IsBytes tail (IsBytes-drop (length k.item) rest fits) in
+      let whole : t ≡ magic_of file ++ (concat (records ++ k.item ∷ []) ++ k.more) =
+      is ∙ ap (λ (x : List ℕ). magic_of file ++ (concat records ++ x)) k.whole ∙ ap (λ (x : List ℕ). magic_of file ++ x) (sym (append_assoc (concat records) k.item k.more) ∙ ap (λ (x : List ℕ). x ++ k.more) (sym (concat-push records k.item))) in
+      walked (records ++ k.item ∷ []) k.more shorter more_fits (InOrder-push file [] records k.item ordered k.is k.above) whole
+
+  by_front : (t : List ℕ) (fuel : ℕ) (records : List (List ℕ)) (rest : List ℕ) → length rest < suc fuel → IsBytes rest → InOrder file [] records → t ≡ magic_of file ++ (concat records ++ rest)
+      → ((more : List (List ℕ)) (left : List ℕ) → length left < fuel → IsBytes left → InOrder file [] more → t ≡ magic_of file ++ (concat more ++ left) → Known t) → IsUnended file rest → Found (last_of [] records) (length records) rest → Known t
+  by_front t fuel records rest few fits ordered is walked u (inl f) = fault_known t records rest f.0 ordered is u f.1
+  by_front t fuel records rest few fits ordered is walked u (inr (inl f)) = more_known t records rest ordered is u f
+  by_front t fuel records rest few fits ordered is walked u (inr (inr (inl f))) = all_known t records rest ordered is f
+  by_front t fuel records rest few fits ordered is walked u (inr (inr (inr f))) = goes_on t fuel records rest few fits ordered is walked f
+
+  -- the records in front of the rest, one after another
+  walk : (t : List ℕ) (fuel : ℕ) (records : List (List ℕ)) (rest : List ℕ) → length rest < fuel → IsBytes rest → InOrder file [] records → t ≡ magic_of file ++ (concat records ++ rest) → Known t
+  walk t zero records rest few fits ordered is = absurd (omega arith)
+  walk t (suc fuel) records rest few fits ordered is =
+      elim (ended_or_not file rest (length records)) [
+        | inl u ↦ by_front t fuel records rest few fits ordered is (λ more left lt f a e. walk t fuel more left lt f a e) u (found (last_of [] records) (length records) rest fits)
+        | inr end ↦ all_known t records rest ordered is end
+      ]
+
+  bad_magic : (t : List ℕ) (n : ℕ) → n ≤ 8 → n ≤ length t → take n t ≢ take n (magic_of file) → Known t
+  bad_magic t n few within other = inr (record { kind = BadMagic; offset = 0 }, inl ((n, few, within, other), refl))
+
+  text_or_fault : (t : List ℕ) → IsBytes t → Known t
+  text_or_fault t fits = elim (cases_lt (length t) 8) [
+    | inl short ↦ elim (same_or_not (take (length t) t) (take (length t) (magic_of file))) [
+      | inl same ↦ inr (record { kind = Truncated; offset = 0 }, inl ((short, sym (take_all (length t) t (omega arith)) ∙ same), refl))
+      | inr other ↦ bad_magic t (length t) (omega arith) (omega arith) other
+    ]
+    | inr long ↦ elim (same_or_not (take 8 t) (take 8 (magic_of file))) [
+      | inl same ↦
+          let whole : t ≡ magic_of file ++ drop 8 t = sym (take-append-drop 8 t) ∙ ap (λ (x : List ℕ). x ++ drop 8 t) (same ∙ take_all 8 (magic_of file) (omega (arith, length-magic file))) in
+          walk t (length (drop 8 t) + 1) [] (drop 8 t) (omega arith) (IsBytes-drop 8 t fits) tt whole
+      | inr other ↦ bad_magic t 8 (lit≤ tt) long other
+    ]
   ]
-] refl
-  where
-    three : is_end rest ≡ true → get_or rest 0 0 ≡ 3
-    three end = is_three rest end
 
--- a text is that of a content, or has a fault
-abbrev pub Known : List ℕ → Type 0
-Known t = ((o : Operations) × IsContent o × IsWritten o t) ⊎ ((fault : RecordFault) × IsFault t fault)
+content_known : (t : List ℕ) → Known Archive t → ((o : Operations) × IsContent o × IsWritten o t) ⊎ ((fault : RecordFault) × IsFault t fault)
+content_known t (inl k) = inl (set.from_list k.0, IsContent-records k.0 k.1, text_written (set.from_list k.0) t (k.2 ∙ sym (written-records k.0 k.1)))
+content_known t (inr f) = inr f
 
-fault_known : (t : List ℕ) (records : List (List ℕ)) (rest : List ℕ) (kind : RecordFaultKind) → Ascends [] records → t ≡ magic ++ (concat records ++ rest) → Fails (last_of [] records) (length records) rest kind → Known t
-fault_known t records rest kind ascends is f =
-    inr (record { kind = kind; offset = front_length records }, inr (records, record { ascends = ascends; rest = rest; whole = is }, inl (f, refl)))
+pub content_or_fault : (t : List ℕ) → IsBytes t → ((o : Operations) × IsContent o × IsWritten o t) ⊎ ((fault : RecordFault) × IsFault t fault)
+content_or_fault t fits = content_known t (text_or_fault Archive t fits)
 
-more_known : (t : List ℕ) (records : List (List ℕ)) (rest : List ℕ) → Ascends [] records → t ≡ magic ++ (concat records ++ rest) → IsTrailing (last_of [] records) (length records) rest → Known t
-more_known t records rest ascends is f =
-    inr (record { kind = Trailing; offset = front_length records + 9 }, inr (records, record { ascends = ascends; rest = rest; whole = is }, inr (refl, f, refl)))
+operations_known : (t : List ℕ) → Known Operations_file t → ((operations : List Operation) × IsOperationsText t operations) ⊎ ((fault : RecordFault) × IsOperationsFault t fault)
+operations_known t (inl k) = let listed = operations_in [] k.0 k.1 in inl (listed.0, IsOperationsText-text t listed.0 listed.1 (k.2 ∙ ap (text_of Operations_file) (sym listed.2)))
+operations_known t (inr f) = inr f
 
-all_known : (t : List ℕ) (records : List (List ℕ)) (rest : List ℕ) → Ascends [] records → t ≡ magic ++ (concat records ++ rest) → rest ≡ end_record (length records) → Known t
-all_known t records rest ascends is end =
-    let text : t ≡ text_of records = is ∙ ap (λ (x : List ℕ). magic ++ (concat records ++ x)) end in
-    inl (set.from_list records, IsContent-records records ascends, text_written (set.from_list records) t (text ∙ sym (written-records records ascends)))
-
--- one record more in front of the rest, where what lies behind it is known
-goes_on : (t : List ℕ) (fuel : ℕ) (records : List (List ℕ)) (rest : List ℕ) → length rest < suc fuel → IsBytes rest → Ascends [] records → t ≡ magic ++ (concat records ++ rest)
-    → ((more : List (List ℕ)) (left : List ℕ) → length left < fuel → IsBytes left → Ascends [] more → t ≡ magic ++ (concat more ++ left) → Known t) → Takes (last_of [] records) rest → Known t
-goes_on t fuel records rest few fits ascends is walked k =
-    let some = (holds k.item (length k.item) (record-framed k.item k.is)).one in
-    let shorter : length k.more < fuel = omega (arith, ap length k.whole, length-append k.item k.more) in
-    let tail : drop (length k.item) rest ≡ k.more = ap (drop (length k.item)) k.whole ∙ drop_at k.item k.more (length k.item) refl in
-    let more_fits : IsBytes k.more = subst IsBytes tail (IsBytes-drop (length k.item) rest fits) in
-    let whole : t ≡ magic ++ (concat (records ++ k.item ∷ []) ++ k.more) =
-    is ∙ ap (λ (x : List ℕ). magic ++ (concat records ++ x)) k.whole ∙ ap (λ (x : List ℕ). magic ++ x) (sym (append_assoc (concat records) k.item k.more) ∙ ap (λ (x : List ℕ). x ++ k.more) (sym (concat-push records k.item))) in
-    walked (records ++ k.item ∷ []) k.more shorter more_fits (Ascends-push [] records k.item ascends k.is k.above) whole
-
-by_front : (t : List ℕ) (fuel : ℕ) (records : List (List ℕ)) (rest : List ℕ) → length rest < suc fuel → IsBytes rest → Ascends [] records → t ≡ magic ++ (concat records ++ rest)
-    → ((more : List (List ℕ)) (left : List ℕ) → length left < fuel → IsBytes left → Ascends [] more → t ≡ magic ++ (concat more ++ left) → Known t) → Found (last_of [] records) (length records) rest → Known t
-by_front t fuel records rest few fits ascends is walked (inl f) = fault_known t records rest f.0 ascends is f.1
-by_front t fuel records rest few fits ascends is walked (inr (inl f)) = more_known t records rest ascends is f
-by_front t fuel records rest few fits ascends is walked (inr (inr (inl f))) = all_known t records rest ascends is f
-by_front t fuel records rest few fits ascends is walked (inr (inr (inr f))) = goes_on t fuel records rest few fits ascends is walked f
-
--- the records in front of the rest, one after another
-walk : (t : List ℕ) (fuel : ℕ) (records : List (List ℕ)) (rest : List ℕ) → length rest < fuel → IsBytes rest → Ascends [] records → t ≡ magic ++ (concat records ++ rest) → Known t
-walk t zero records rest few fits ascends is = absurd (omega arith)
-walk t (suc fuel) records rest few fits ascends is =
-    by_front t fuel records rest few fits ascends is (λ more left lt f a e. walk t fuel more left lt f a e) (found (last_of [] records) (length records) rest fits)
-
-bad_magic : (t : List ℕ) (n : ℕ) → n ≤ 8 → n ≤ length t → take n t ≢ take n magic → Known t
-bad_magic t n few within other = inr (record { kind = BadMagic; offset = 0 }, inl ((n, few, within, other), refl))
-
-pub content_or_fault : (t : List ℕ) → IsBytes t → Known t
-content_or_fault t fits = elim (cases_lt (length t) 8) [
-  | inl short ↦ elim (same_or_not (take (length t) t) (take (length t) magic)) [
-    | inl same ↦ inr (record { kind = Truncated; offset = 0 }, inl ((short, sym (take_all (length t) t (omega arith)) ∙ same), refl))
-    | inr other ↦ bad_magic t (length t) (omega arith) (omega arith) other
-  ]
-  | inr long ↦ elim (same_or_not (take 8 t) (take 8 magic)) [
-    | inl same ↦
-        let whole : t ≡ magic ++ drop 8 t = sym (take-append-drop 8 t) ∙ ap (λ (x : List ℕ). x ++ drop 8 t) same in
-        walk t (length (drop 8 t) + 1) [] (drop 8 t) (omega arith) (IsBytes-drop 8 t fits) tt whole
-    | inr other ↦ bad_magic t 8 (lit≤ tt) long other
-  ]
-]
+pub operations_or_fault : (t : List ℕ) → IsBytes t → ((operations : List Operation) × IsOperationsText t operations) ⊎ ((fault : RecordFault) × IsOperationsFault t fault)
+operations_or_fault t fits = operations_known t (text_or_fault Operations_file t fits)

@@ -1,12 +1,52 @@
--- The bytes of an end record.
-use Rattle.std.proofs.Common.{◌≡◌, ℕ, suc, List, [], ◌∷◌, length, get_or, Ok, sym, ap, ◌∙◌, arith}
+-- End records.
+use Rattle.std.proofs.Common.{◌≡◌, ℕ, suc, ◌<◌, ◌^◌, true, List, [], ◌∷◌, length, get_or, take, Option, Some, Ok, refl, sym, ap, ◌∙◌, subst, arith, eq-eqb, lit≤}
 use Rattle.std.proofs.lemmas.List.{take_all}
-use Rattle.std.proofs.lemmas.Nat.{be_bytes_8}
+use Rattle.std.proofs.lemmas.Nat.{be_bytes_8, from_be_bytes-to_be_bytes_8}
+use Rattle.std.proofs.lemmas.Bool.{eqb-true}
 use Rattle.std.specs.Int.{w64, from_be_bytes, to_be_bytes}
-use Rattle.archive_records.specs.Layout.{framed, record_count}
-use Rattle.archive_records.specs.Text.{end_record}
-use Rattle.archive_records.proofs.Holds.{holds, Holds-end}
+use Rattle.archive_records.specs.Layout.{head_length, body_length, framed, record_count}
+use Rattle.archive_records.specs.Fault.{is_end, tested, next}
+use Rattle.std.specs.Io.KnownBytes.{IsAtEnd}
+use Rattle.archive_records.specs.declared.buffer.Buffer.{Buffer}
+use Rattle.archive_records.specs.Reading.{bytes_so_far, IsEnded}
+use Rattle.archive_records.specs.Text.{end_record, ending}
+use Rattle.archive_records.proofs.Framed.{framed-whole}
+use Rattle.archive_records.proofs.Holds.{none_is_some, holds, Holds-end, next-is}
 use Rattle.archive_records.proofs.Forms.{IsBytes}
+use Rattle.archive_records.specs.declared.kind.FileKind.{FileKind}
+use Rattle.archive_records.specs.declared.kind.FileKind.TheVariants.{Archive, Operations}
+
+pub is_three : (bytes : List ℕ) → is_end bytes ≡ true → get_or bytes 0 0 ≡ 3
+unfolding is_end
+is_three bytes e = eqb-true _ _ e
+
+pub end-is_end : (n : ℕ) → is_end (end_record n) ≡ true
+unfolding is_end end_record
+end-is_end n = refl
+
+pub length-end_record : (n : ℕ) → length (end_record n) ≡ 9
+unfolding end_record
+length-end_record n = refl
+
+number_of_end : (n : ℕ) → n < 2 ^ 64 → record_count (end_record n) ≡ n
+unfolding record_count end_record
+number_of_end n lt = from_be_bytes-to_be_bytes_8 n lt
+
+framed_end : (n : ℕ) → framed Archive (end_record n) ≡ Ok 9
+unfolding head_length body_length end_record
+framed_end n = framed-whole Archive (end_record n) 9 (lit≤ tt) refl (lit≤ tt) (lit≤ tt) (lit≤ tt)
+
+pub next_end : (low : List ℕ) (n : ℕ) → n < 2 ^ 64 → next Archive low n (end_record n) ≡ Ok 9
+unfolding tested
+next_end low n lt = next-is Archive (end_record n) 9 low n (framed_end n) ∙ rw (end-is_end n, eq-eqb _ _ (number_of_end n lt)) refl
+
+-- an operations file has none
+no_tag : (tag head : ℕ) → tag ≡ 3 → head_length Operations tag ≡ Some head → ⊥
+unfolding head_length
+no_tag tag head three e = none_is_some head (sym (ap (head_length Operations) three) ∙ e)
+
+pub no_end : (bytes : List ℕ) (n : ℕ) → framed Operations bytes ≡ Ok n → get_or bytes 0 0 ≡ 3 → ⊥
+no_end bytes n e three = let h = holds Operations bytes n e in no_tag (get_or bytes 0 0) h.head three h.tag
 
 both : (a b : ℕ) (xs ys : List ℕ) → a ≡ b → xs ≡ ys → a ∷ xs ≡ b ∷ ys
 both a b xs ys p q = cc
@@ -17,6 +57,23 @@ is_end_record [] count len tag n fits = absurd (omega arith)
 is_end_record (b ∷ bs) count len tag n fits =
     both b 3 bs (to_be_bytes w64 count) tag (sym (be_bytes_8 bs count (omega arith) (λ i. fits (suc i)) (sym n ∙ ap (from_be_bytes w64) (take_all 8 bs (omega arith)))))
 
--- a whole end record is that of the number it has
-pub ends : (bytes : List ℕ) (count : ℕ) → framed bytes ≡ Ok (length bytes) → get_or bytes 0 0 ≡ 3 → record_count bytes ≡ count → IsBytes bytes → bytes ≡ end_record count
-ends bytes count e three n fits = is_end_record bytes count (Holds-end bytes (length bytes) (holds bytes (length bytes) e) three) three n fits
+module _ (file : FileKind) where
+  -- a whole end record is that of the number it has
+  pub ends : (bytes : List ℕ) (count : ℕ) → framed file bytes ≡ Ok (length bytes) → get_or bytes 0 0 ≡ 3 → record_count bytes ≡ count → IsBytes bytes → bytes ≡ end_record count
+  ends bytes count e three n fits = is_end_record bytes count (Holds-end file bytes (length bytes) (holds file bytes (length bytes) e) three) three n fits
+
+-- an end record is what ends a file, where it may stand there
+pub ending_is : (file : FileKind) (rest : List ℕ) (n count : ℕ) → framed file rest ≡ Ok n → get_or rest 0 0 ≡ 3 → rest ≡ end_record count → rest ≡ ending file count
+ending_is Archive rest n count whole three e = e
+ending_is Operations rest n count whole three e = absurd (no_end rest n whole three)
+
+pub ended_is : (file : FileKind) (left : Option (List ℕ)) (rest : List ℕ) (n : ℕ) → framed file rest ≡ Ok n → get_or rest 0 0 ≡ 3 → IsEnded file left
+ended_is Archive left rest n whole three = tt
+ended_is Operations left rest n whole three = absurd (no_end rest n whole three)
+
+-- where nothing is left, an operations file ends
+pub open_end : (file : FileKind) (count : ℕ) (b : Buffer) → b.at ≡ 0 → file ≡ Operations → bytes_so_far b ≡ ending file count
+open_end file count b at is = ap (λ (n : ℕ). take n b.bytes.items) at ∙ sym (ap (λ (f : FileKind). ending f count) is)
+
+pub open_ended : (file : FileKind) (left : Option (List ℕ)) → file ≡ Operations → IsAtEnd left → IsEnded file left
+open_ended file left is end = subst (λ (f : FileKind). IsEnded f left) (sym is) end

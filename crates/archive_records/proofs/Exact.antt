@@ -1,8 +1,6 @@
 -- Each text has one content, or one fault.
-use Rattle.std.proofs.Common.{◌≡◌, ℕ, ◌<◌, ◌^◌, true, List, [], ◌++◌, length, get_or, take, drop, Ok, refl, sym, ap, ◌∙◌, subst, arith, inl, inr, append_assoc, length-append, eq-eqb, lit≤}
-use Rattle.std.proofs.lemmas.Bool.{eqb-true}
+use Rattle.std.proofs.Common.{◌≡◌, ℕ, ◌<◌, ◌≤◌, ◌^◌, true, List, [], ◌++◌, length, get_or, take, drop, refl, sym, ap, ◌∙◌, subst, arith, inl, inr, append_assoc, length-append, lit≤}
 use Rattle.std.proofs.lemmas.List.{append-nil, take-append-le, append_cancel_left, take-take, get_or-take}
-use Rattle.std.proofs.lemmas.Nat.{from_be_bytes-to_be_bytes_8}
 use Rattle.std.specs.List.{concat}
 use Rattle.std.specs.FinSet as set
 use Rattle.join_core.specs.Listing.{listing}
@@ -10,33 +8,19 @@ use Rattle.archive_core.specs.Content.{Operations, IsContent}
 use Rattle.archive_records.specs.declared.fault.RecordFaultKind.{RecordFaultKind}
 use Rattle.archive_records.specs.declared.fault.RecordFaultKind.TheVariants.{BadMagic, Truncated, BadTag, TooLarge, NotAscending, BadSlice, KeyMismatch, BadCount, Trailing, Device, OutOfMemory}
 use Rattle.archive_records.specs.declared.fault.RecordFault.{RecordFault}
-use Rattle.archive_records.specs.Layout.{head_length, body_length, record_count, framed}
-use Rattle.archive_records.specs.Text.{magic, end_record, text_of, Ascends, last_of, written}
-use Rattle.archive_records.specs.Fault.{is_end, tested, next, Fails, IsTrailing, RefusesSlice, IsMagicFault, IsFaultBehind, IsFault}
+use Rattle.archive_records.specs.Kind.{magic_of}
+use Rattle.archive_records.specs.Text.{end_record, ending, text_of, InOrder, last_of, written}
+use Rattle.archive_records.specs.Fault.{is_end, Fails, IsTrailing, RefusesSlice, IsMagicFault, IsUnended, IsFaultBehind, IsFaultOf}
 use Rattle.archive_records.specs.Front.{IsGoodFront, IsLongestFront}
 use Rattle.archive_records.proofs.SliceFacts.{no_slice_fault, one_slice_fault}
-use Rattle.archive_records.proofs.Framed.{framed-whole}
-use Rattle.archive_records.proofs.Holds.{result_is, next-is}
-use Rattle.archive_records.proofs.Grown.{kind_is, no_both}
+use Rattle.archive_records.proofs.Holds.{result_is, holds}
+use Rattle.archive_records.proofs.Forms.{record-framed}
+use Rattle.archive_records.proofs.Grown.{kind_is, no_both, next-ok-grows}
 use Rattle.archive_records.proofs.Longest.{Takes, fault-stops, end-stops, unique, behind_magic, is_longest}
-use Rattle.archive_records.proofs.Steps.{end-is_end, length-end_record}
-use Rattle.archive_records.proofs.Contents.{Ascends-listing, written_text, content_is}
-
--- ---- the end record
-
-number_of_end : (n : ℕ) → n < 2 ^ 64 → record_count (end_record n) ≡ n
-unfolding record_count end_record
-number_of_end n lt = from_be_bytes-to_be_bytes_8 n lt
-
-framed_end : (n : ℕ) → framed (end_record n) ≡ Ok 9
-unfolding head_length body_length end_record
-framed_end n = framed-whole (end_record n) 9 (lit≤ tt) refl (lit≤ tt) (lit≤ tt) (lit≤ tt)
-
-pub next_end : (low : List ℕ) (n : ℕ) → n < 2 ^ 64 → next low n (end_record n) ≡ Ok 9
-unfolding tested
-next_end low n lt = next-is (end_record n) 9 low n (framed_end n) ∙ rw (end-is_end n, eq-eqb _ _ (number_of_end n lt)) refl
-
--- ---- slices
+use Rattle.archive_records.proofs.Ends.{is_three, length-end_record, next_end}
+use Rattle.archive_records.proofs.Contents.{InOrder-listing, written_text, content_is}
+use Rattle.archive_records.specs.declared.kind.FileKind.{FileKind}
+use Rattle.archive_records.specs.declared.kind.FileKind.TheVariants.{Archive, Operations as Operations_file}
 
 -- a refused slice is an admission's
 refused_tag : (r : List ℕ) (kind : RecordFaultKind) → RefusesSlice r kind → get_or r 0 0 ≡ 2
@@ -51,10 +35,6 @@ refused_tag r BadCount f = absurd f
 refused_tag r Trailing f = absurd f
 refused_tag r Device f = absurd f
 refused_tag r OutOfMemory f = absurd f
-
-pub is_three : (bytes : List ℕ) → is_end bytes ≡ true → get_or bytes 0 0 ≡ 3
-unfolding is_end
-is_three bytes e = eqb-true _ _ e
 
 one_refusal : (r : List ℕ) (j k : RecordFaultKind) → RefusesSlice r j → RefusesSlice r k → j ≡ k
 one_refusal r (BadSlice f) (BadSlice g) a b = let e = one_slice_fault (drop 33 r) f g a.1 b.1 in λ i. BadSlice (e i)
@@ -80,138 +60,169 @@ one_refusal r j Trailing a b = absurd b
 one_refusal r j Device a b = absurd b
 one_refusal r j OutOfMemory a b = absurd b
 
--- ---- the magic
-
-pub no_magic_fault : (t rest : List ℕ) (kind : RecordFaultKind) → t ≡ magic ++ rest → IsMagicFault t kind → ⊥
-no_magic_fault t rest BadMagic e b = b.3 (ap (take b.0) e ∙ take-append-le b.0 magic rest b.1)
-no_magic_fault t rest Truncated e b = omega (arith, ap length e, length-append magic rest, b.0)
-no_magic_fault t rest BadTag e b = b
-no_magic_fault t rest TooLarge e b = b
-no_magic_fault t rest NotAscending e b = b
-no_magic_fault t rest (BadSlice _) e b = b
-no_magic_fault t rest KeyMismatch e b = b
-no_magic_fault t rest BadCount e b = b
-no_magic_fault t rest Trailing e b = b
-no_magic_fault t rest Device e b = b
-no_magic_fault t rest OutOfMemory e b = b
-
-one_magic_fault : (t : List ℕ) (j k : RecordFaultKind) → IsMagicFault t j → IsMagicFault t k → j ≡ k
-one_magic_fault t BadMagic BadMagic a b = refl
-one_magic_fault t Truncated Truncated a b = refl
-one_magic_fault t BadMagic Truncated a b = absurd (a.3 (ap (take a.0) b.1 ∙ take-take a.0 (length t) magic a.2))
-one_magic_fault t Truncated BadMagic a b = absurd (b.3 (ap (take b.0) a.1 ∙ take-take b.0 (length t) magic b.2))
-one_magic_fault t BadTag k a b = absurd a
-one_magic_fault t TooLarge k a b = absurd a
-one_magic_fault t NotAscending k a b = absurd a
-one_magic_fault t (BadSlice _) k a b = absurd a
-one_magic_fault t KeyMismatch k a b = absurd a
-one_magic_fault t BadCount k a b = absurd a
-one_magic_fault t Trailing k a b = absurd a
-one_magic_fault t Device k a b = absurd a
-one_magic_fault t OutOfMemory k a b = absurd a
-one_magic_fault t j BadTag a b = absurd b
-one_magic_fault t j TooLarge a b = absurd b
-one_magic_fault t j NotAscending a b = absurd b
-one_magic_fault t j (BadSlice _) a b = absurd b
-one_magic_fault t j KeyMismatch a b = absurd b
-one_magic_fault t j BadCount a b = absurd b
-one_magic_fault t j Trailing a b = absurd b
-one_magic_fault t j Device a b = absurd b
-one_magic_fault t j OutOfMemory a b = absurd b
-
--- ---- what stops behind a good front
-
-behind_stops : (records : List (List ℕ)) (rest : List ℕ) (fault : RecordFault) → IsFaultBehind records rest fault → Takes (last_of [] records) rest → ⊥
-behind_stops records rest fault (inl f) = fault-stops (last_of [] records) (length records) rest fault.kind f.0
-behind_stops records rest fault (inr t) = end-stops (last_of [] records) rest t.1.end
-
--- a fault behind a good front stands at the end of the longest
-pub fault_longest : (text : List ℕ) (records : List (List ℕ)) (front : IsGoodFront text records) (fault : RecordFault) → IsFaultBehind records front.rest fault → IsLongestFront text records
-fault_longest text records front fault f = is_longest text records front (behind_stops records front.rest fault f)
-
-same_kind : (last : List ℕ) (count : ℕ) (rest : List ℕ) (j k : RecordFaultKind) → Fails last count rest j → Fails last count rest k → j ≡ k
-same_kind last count rest j k (inl a) (inl b) = kind_is j k (sym a ∙ b)
-same_kind last count rest j k (inl a) (inr b) = absurd (no_both b.0 j (sym b.1 ∙ a))
-same_kind last count rest j k (inr a) (inl b) = absurd (no_both a.0 k (sym a.1 ∙ b))
-same_kind last count rest j k (inr a) (inr b) =
-    let n = result_is a.0 b.0 (sym a.1 ∙ b.1) in
-    one_refusal (take b.0 rest) j k (subst (λ (m : ℕ). RefusesSlice (take m rest) j) n a.2) b.2
-
-no_fault_and_more : (last : List ℕ) (count : ℕ) (rest : List ℕ) (kind : RecordFaultKind) → Fails last count rest kind → IsTrailing last count rest → ⊥
-no_fault_and_more last count rest kind (inl a) t = no_both 9 kind (sym t.whole ∙ a)
-no_fault_and_more last count rest kind (inr a) t =
-    let nine = result_is a.0 9 (sym a.1 ∙ t.whole) in
-    let two = refused_tag (take a.0 rest) kind a.2 in
-    let same : get_or (take a.0 rest) 0 0 ≡ get_or rest 0 0 = get_or-take a.0 rest 0 0 (omega arith) in
-    omega (arith, is_three rest t.end)
-
 fault_eq : (f g : RecordFault) → f.kind ≡ g.kind → f.offset ≡ g.offset → f ≡ g
 fault_eq f g k o = λ i. record { kind = k i; offset = o i }
-
-one_behind : (records : List (List ℕ)) (rest : List ℕ) (f g : RecordFault) → IsFaultBehind records rest f → IsFaultBehind records rest g → f ≡ g
-one_behind records rest f g (inl a) (inl b) = fault_eq f g (same_kind (last_of [] records) (length records) rest f.kind g.kind a.0 b.0) (a.1 ∙ sym b.1)
-one_behind records rest f g (inl a) (inr b) = absurd (no_fault_and_more (last_of [] records) (length records) rest f.kind a.0 b.1)
-one_behind records rest f g (inr a) (inl b) = absurd (no_fault_and_more (last_of [] records) (length records) rest g.kind b.0 a.1)
-one_behind records rest f g (inr a) (inr b) = fault_eq f g (a.0 ∙ sym b.0) (a.2 ∙ sym b.2)
-
-pub one_fault : (t : List ℕ) (f g : RecordFault) → IsFault t f → IsFault t g → f ≡ g
-one_fault t f g (inl a) (inl b) = fault_eq f g (one_magic_fault t f.kind g.kind a.0 b.0) (a.1 ∙ sym b.1)
-one_fault t f g (inl a) (inr b) = absurd (no_magic_fault t (concat b.0 ++ b.1.rest) f.kind b.1.whole a.0)
-one_fault t f g (inr a) (inl b) = absurd (no_magic_fault t (concat a.0 ++ a.1.rest) g.kind a.1.whole b.0)
-one_fault t f g (inr a) (inr b) =
-    let same = unique a.0 b.0 [] a.1.rest b.1.rest a.1.ascends b.1.ascends (behind_magic t (concat a.0 ++ a.1.rest) (concat b.0 ++ b.1.rest) a.1.whole b.1.whole) (behind_stops a.0 a.1.rest f a.2) (behind_stops b.0 b.1.rest g b.2) in
-    let here : IsFaultBehind b.0 b.1.rest f = subst (λ (x : List ℕ). IsFaultBehind b.0 x f) same.1 (subst (λ (x : List (List ℕ)). IsFaultBehind x a.1.rest f) same.0 a.2) in
-    one_behind b.0 b.1.rest f g here b.2
 
 end_more : (n : ℕ) (more : List ℕ) → is_end (end_record n ++ more) ≡ true
 unfolding is_end end_record
 end_more n more = refl
 
--- ---- a text has no fault
+pub length-magic : (file : FileKind) → length (magic_of file) ≡ 8
+length-magic Archive = refl
+length-magic Operations_file = refl
 
-module _ (t : List ℕ) (xs : List (List ℕ)) (ascends : Ascends [] xs) (text : t ≡ text_of xs) where
-  same_front : (records : List (List ℕ)) (front : IsGoodFront t records) → (Takes (last_of [] records) front.rest → ⊥) → (records ≡ xs) × (front.rest ≡ end_record (length xs))
-  same_front records front stop =
-      unique records xs [] front.rest (end_record (length xs)) front.ascends ascends (behind_magic t (concat records ++ front.rest) (concat xs ++ end_record (length xs)) front.whole text) stop
-      (end-stops (last_of [] xs) (end_record (length xs)) (end-is_end (length xs)))
+-- ---- what ends a file
 
-  no_fails : length xs < 2 ^ 64 → (kind : RecordFaultKind) → Fails (last_of [] xs) (length xs) (end_record (length xs)) kind → ⊥
-  no_fails few kind (inl e) = no_both 9 kind (sym (next_end (last_of [] xs) (length xs) few) ∙ e)
-  no_fails few kind (inr f) =
-      let nine = result_is f.0 9 (sym f.1 ∙ next_end (last_of [] xs) (length xs) few) in
-      let two = refused_tag (take f.0 (end_record (length xs))) kind f.2 in
-      let same : get_or (take f.0 (end_record (length xs))) 0 0 ≡ get_or (end_record (length xs)) 0 0 = get_or-take f.0 (end_record (length xs)) 0 0 (omega arith) in
-      omega (arith, is_three (end_record (length xs)) (end-is_end (length xs)))
+length-ending : (file : FileKind) (n : ℕ) → length (ending file n) ≤ 9
+length-ending Archive n = omega (arith, length-end_record n)
+length-ending Operations_file n = lit≤ tt
 
-  pub no_fault_behind : (records : List (List ℕ)) (front : IsGoodFront t records) (fault : RecordFault) → (length records ≡ length xs → length xs < 2 ^ 64) → IsFaultBehind records front.rest fault → ⊥
-  no_fault_behind records front fault few (inl f) =
-      let same = same_front records front (behind_stops records front.rest fault (inl f)) in
-      let here = subst (λ (r : List ℕ). Fails (last_of [] xs) (length xs) r fault.kind) same.1 (subst (λ (x : List (List ℕ)). Fails (last_of [] x) (length x) front.rest fault.kind) same.0 f.0) in
-      no_fails (few (ap length same.0)) fault.kind here
-  no_fault_behind records front fault few (inr f) =
-      let same = same_front records front (behind_stops records front.rest fault (inr f)) in
-      omega (arith, f.1.more, ap length same.1, length-end_record (length xs))
+nothing_taken : (file : FileKind) (low : List ℕ) → Takes file low [] → ⊥
+nothing_taken file low t = omega (arith, (holds file t.item (length t.item) (record-framed file t.item t.is)).one, ap length t.whole, length-append t.item t.more)
 
-  pub no_fault : (fault : RecordFault) → length xs < 2 ^ 64 → IsFault t fault → ⊥
-  no_fault fault few (inl m) = no_magic_fault t (concat xs ++ end_record (length xs)) fault.kind text m.0
-  no_fault fault few (inr f) = no_fault_behind f.0 f.1 fault (λ _. few) f.2
+-- no record begins with it; in an operations file nothing stands behind it
+ending_stops : (file : FileKind) (low : List ℕ) (n : ℕ) (more : List ℕ) → (file ≡ Operations_file → more ≡ []) → Takes file low (ending file n ++ more) → ⊥
+ending_stops Archive low n more alone t = end-stops Archive low (end_record n ++ more) (end_more n more) t
+ending_stops Operations_file low n more alone t = nothing_taken Operations_file low (subst (Takes Operations_file low) (alone refl) t)
 
-  -- whatever follows a text begins no other records
-  pub same_records : (ys : List (List ℕ)) (more : List ℕ) → Ascends [] ys → text_of ys ++ more ≡ t → (ys ≡ xs) × (more ≡ [])
-  same_records ys more a e =
-      let whole : t ≡ magic ++ (concat ys ++ (end_record (length ys) ++ more)) = sym e ∙ append_assoc magic (concat ys ++ end_record (length ys)) more ∙ ap (λ (x : List ℕ). magic ++ x) (append_assoc (concat ys) (end_record (length ys)) more) in
-      let front : IsGoodFront t ys = record { ascends = a; rest = end_record (length ys) ++ more; whole = whole } in
-      let same = same_front ys front (end-stops (last_of [] ys) (end_record (length ys) ++ more) (end_more (length ys) more)) in
-      let tail : end_record (length ys) ++ more ≡ end_record (length ys) ++ [] = same.1 ∙ ap (λ (x : List (List ℕ)). end_record (length x)) (sym same.0) ∙ sym (append-nil (end_record (length ys))) in
-      (same.0, append_cancel_left (end_record (length ys)) more [] tail)
+no_fails : (file : FileKind) (low : List ℕ) (n : ℕ) (more : List ℕ) (kind : RecordFaultKind) → (file ≡ Archive → n < 2 ^ 64) → (file ≡ Operations_file → more ≡ []) → IsUnended file (ending file n ++ more) → Fails file low n (ending file n ++ more) kind → ⊥
+no_fails Operations_file low n more kind few alone unended f = unended (alone refl)
+no_fails Archive low n more kind few alone unended (inl e) = no_both 9 kind (sym (next-ok-grows Archive low n (end_record n) more 9 (next_end low n (few refl))) ∙ e)
+no_fails Archive low n more kind few alone unended (inr f) =
+    let nine = result_is f.0 9 (sym f.1 ∙ next-ok-grows Archive low n (end_record n) more 9 (next_end low n (few refl))) in
+    let two = refused_tag (take f.0 (end_record n ++ more)) kind f.2 in
+    let same : get_or (take f.0 (end_record n ++ more)) 0 0 ≡ get_or (end_record n ++ more) 0 0 = get_or-take f.0 (end_record n ++ more) 0 0 (omega arith) in
+    omega (arith, is_three (end_record n ++ more) (end_more n more))
+
+module _ (file : FileKind) where
+  -- ---- the magic
+
+  pub no_magic_fault : (t rest : List ℕ) (kind : RecordFaultKind) → t ≡ magic_of file ++ rest → IsMagicFault file t kind → ⊥
+  no_magic_fault t rest BadMagic e b = b.3 (ap (take b.0) e ∙ take-append-le b.0 (magic_of file) rest (omega (arith, b.1, length-magic file)))
+  no_magic_fault t rest Truncated e b = omega (arith, ap length e, length-append (magic_of file) rest, b.0, length-magic file)
+  no_magic_fault t rest BadTag e b = b
+  no_magic_fault t rest TooLarge e b = b
+  no_magic_fault t rest NotAscending e b = b
+  no_magic_fault t rest (BadSlice _) e b = b
+  no_magic_fault t rest KeyMismatch e b = b
+  no_magic_fault t rest BadCount e b = b
+  no_magic_fault t rest Trailing e b = b
+  no_magic_fault t rest Device e b = b
+  no_magic_fault t rest OutOfMemory e b = b
+
+  one_magic_fault : (t : List ℕ) (j k : RecordFaultKind) → IsMagicFault file t j → IsMagicFault file t k → j ≡ k
+  one_magic_fault t BadMagic BadMagic a b = refl
+  one_magic_fault t Truncated Truncated a b = refl
+  one_magic_fault t BadMagic Truncated a b = absurd (a.3 (ap (take a.0) b.1 ∙ take-take a.0 (length t) (magic_of file) a.2))
+  one_magic_fault t Truncated BadMagic a b = absurd (b.3 (ap (take b.0) a.1 ∙ take-take b.0 (length t) (magic_of file) b.2))
+  one_magic_fault t BadTag k a b = absurd a
+  one_magic_fault t TooLarge k a b = absurd a
+  one_magic_fault t NotAscending k a b = absurd a
+  one_magic_fault t (BadSlice _) k a b = absurd a
+  one_magic_fault t KeyMismatch k a b = absurd a
+  one_magic_fault t BadCount k a b = absurd a
+  one_magic_fault t Trailing k a b = absurd a
+  one_magic_fault t Device k a b = absurd a
+  one_magic_fault t OutOfMemory k a b = absurd a
+  one_magic_fault t j BadTag a b = absurd b
+  one_magic_fault t j TooLarge a b = absurd b
+  one_magic_fault t j NotAscending a b = absurd b
+  one_magic_fault t j (BadSlice _) a b = absurd b
+  one_magic_fault t j KeyMismatch a b = absurd b
+  one_magic_fault t j BadCount a b = absurd b
+  one_magic_fault t j Trailing a b = absurd b
+  one_magic_fault t j Device a b = absurd b
+  one_magic_fault t j OutOfMemory a b = absurd b
+
+  -- ---- what stops behind a good front
+
+  behind_stops : (records : List (List ℕ)) (rest : List ℕ) (fault : RecordFault) → IsFaultBehind file records rest fault → Takes file (last_of [] records) rest → ⊥
+  behind_stops records rest fault (inl f) = fault-stops file (last_of [] records) (length records) rest fault.kind f.0
+  behind_stops records rest fault (inr t) = end-stops file (last_of [] records) rest t.1.end
+
+  -- a fault behind a good front stands at the end of the longest
+  pub fault_longest : (text : List ℕ) (records : List (List ℕ)) (front : IsGoodFront file text records) (fault : RecordFault) → IsFaultBehind file records front.rest fault → IsLongestFront file text records
+  fault_longest text records front fault f = is_longest file text records front (behind_stops records front.rest fault f)
+
+  same_kind : (last : List ℕ) (count : ℕ) (rest : List ℕ) (j k : RecordFaultKind) → Fails file last count rest j → Fails file last count rest k → j ≡ k
+  same_kind last count rest j k (inl a) (inl b) = kind_is j k (sym a ∙ b)
+  same_kind last count rest j k (inl a) (inr b) = absurd (no_both b.0 j (sym b.1 ∙ a))
+  same_kind last count rest j k (inr a) (inl b) = absurd (no_both a.0 k (sym a.1 ∙ b))
+  same_kind last count rest j k (inr a) (inr b) =
+      let n = result_is a.0 b.0 (sym a.1 ∙ b.1) in
+      one_refusal (take b.0 rest) j k (subst (λ (m : ℕ). RefusesSlice (take m rest) j) n a.2) b.2
+
+  no_fault_and_more : (last : List ℕ) (count : ℕ) (rest : List ℕ) (kind : RecordFaultKind) → Fails file last count rest kind → IsTrailing file last count rest → ⊥
+  no_fault_and_more last count rest kind (inl a) t = no_both 9 kind (sym t.whole ∙ a)
+  no_fault_and_more last count rest kind (inr a) t =
+      let nine = result_is a.0 9 (sym a.1 ∙ t.whole) in
+      let two = refused_tag (take a.0 rest) kind a.2 in
+      let same : get_or (take a.0 rest) 0 0 ≡ get_or rest 0 0 = get_or-take a.0 rest 0 0 (omega arith) in
+      omega (arith, is_three rest t.end)
+
+  one_behind : (records : List (List ℕ)) (rest : List ℕ) (f g : RecordFault) → IsFaultBehind file records rest f → IsFaultBehind file records rest g → f ≡ g
+  one_behind records rest f g (inl a) (inl b) = fault_eq f g (same_kind (last_of [] records) (length records) rest f.kind g.kind a.0 b.0) (a.1 ∙ sym b.1)
+  one_behind records rest f g (inl a) (inr b) = absurd (no_fault_and_more (last_of [] records) (length records) rest f.kind a.0 b.1)
+  one_behind records rest f g (inr a) (inl b) = absurd (no_fault_and_more (last_of [] records) (length records) rest g.kind b.0 a.1)
+  one_behind records rest f g (inr a) (inr b) = fault_eq f g (a.0 ∙ sym b.0) (a.2 ∙ sym b.2)
+
+  pub one_fault : (t : List ℕ) (f g : RecordFault) → IsFaultOf file t f → IsFaultOf file t g → f ≡ g
+  one_fault t f g (inl a) (inl b) = fault_eq f g (one_magic_fault t f.kind g.kind a.0 b.0) (a.1 ∙ sym b.1)
+  one_fault t f g (inl a) (inr b) = absurd (no_magic_fault t (concat b.0 ++ b.1.rest) f.kind b.1.whole a.0)
+  one_fault t f g (inr a) (inl b) = absurd (no_magic_fault t (concat a.0 ++ a.1.rest) g.kind a.1.whole b.0)
+  one_fault t f g (inr a) (inr b) =
+      let same = unique file a.0 b.0 [] a.1.rest b.1.rest a.1.ordered b.1.ordered (behind_magic file t (concat a.0 ++ a.1.rest) (concat b.0 ++ b.1.rest) a.1.whole b.1.whole) (behind_stops a.0 a.1.rest f a.3) (behind_stops b.0 b.1.rest g b.3) in
+      let here : IsFaultBehind file b.0 b.1.rest f = subst (λ (x : List ℕ). IsFaultBehind file b.0 x f) same.1 (subst (λ (x : List (List ℕ)). IsFaultBehind file x a.1.rest f) same.0 a.3) in
+      one_behind b.0 b.1.rest f g here b.3
+
+  -- ---- a text, and what stands behind it
+
+  module _ (t : List ℕ) (xs : List (List ℕ)) (more : List ℕ) (ordered : InOrder file [] xs) (text : t ≡ text_of file xs ++ more) (alone : file ≡ Operations_file → more ≡ []) where
+    whole : t ≡ magic_of file ++ (concat xs ++ (ending file (length xs) ++ more))
+    whole = text ∙ append_assoc (magic_of file) (concat xs ++ ending file (length xs)) more ∙ ap (λ (x : List ℕ). magic_of file ++ x) (append_assoc (concat xs) (ending file (length xs)) more)
+
+    same_front : (records : List (List ℕ)) (front : IsGoodFront file t records) → (Takes file (last_of [] records) front.rest → ⊥) → (records ≡ xs) × (front.rest ≡ ending file (length xs) ++ more)
+    same_front records front stop =
+        unique file records xs [] front.rest (ending file (length xs) ++ more) front.ordered ordered (behind_magic file t (concat records ++ front.rest) (concat xs ++ (ending file (length xs) ++ more)) front.whole whole) stop
+        (ending_stops file (last_of [] xs) (length xs) more alone)
+
+    pub no_fault_behind : (records : List (List ℕ)) (front : IsGoodFront file t records) (fault : RecordFault) → (file ≡ Archive → length records ≡ length xs → length xs < 2 ^ 64) → (fault.kind ≡ Trailing → more ≡ []) → IsUnended file front.rest → IsFaultBehind file records front.rest fault → ⊥
+    no_fault_behind records front fault few all unended (inl f) =
+        let same = same_front records front (behind_stops records front.rest fault (inl f)) in
+        let here = subst (λ (r : List ℕ). Fails file (last_of [] xs) (length xs) r fault.kind) same.1 (subst (λ (x : List (List ℕ)). Fails file (last_of [] x) (length x) front.rest fault.kind) same.0 f.0) in
+        no_fails file (last_of [] xs) (length xs) more fault.kind (λ archive. few archive (ap length same.0)) alone (subst (IsUnended file) same.1 unended) here
+    no_fault_behind records front fault few all unended (inr f) =
+        let same = same_front records front (behind_stops records front.rest fault (inr f)) in
+        omega (arith, f.1.more, ap length same.1, length-append (ending file (length xs)) more, ap length (all f.0), length-ending file (length xs))
+
+    -- whatever follows them, no other records begin it
+    pub same_records : (ys : List (List ℕ)) (left : List ℕ) → InOrder file [] ys → (file ≡ Operations_file → left ≡ []) → t ≡ text_of file ys ++ left → (ys ≡ xs) × (left ≡ more)
+    same_records ys left a last e =
+        let front : IsGoodFront file t ys = record {
+          ordered = a;
+          rest = ending file (length ys) ++ left;
+          whole = e ∙ append_assoc (magic_of file) (concat ys ++ ending file (length ys)) left ∙ ap (λ (x : List ℕ). magic_of file ++ x) (append_assoc (concat ys) (ending file (length ys)) left);
+        } in
+        let same = same_front ys front (ending_stops file (last_of [] ys) (length ys) left last) in
+        let tail : ending file (length ys) ++ left ≡ ending file (length ys) ++ more = same.1 ∙ ap (λ (x : List (List ℕ)). ending file (length x) ++ more) (sym same.0) in
+        (same.0, append_cancel_left (ending file (length ys)) left more tail)
+
+  -- a text has no fault
+  pub no_fault : (t : List ℕ) (xs : List (List ℕ)) → InOrder file [] xs → t ≡ text_of file xs → (fault : RecordFault) → length xs < 2 ^ 64 → IsFaultOf file t fault → ⊥
+  no_fault t xs ordered text fault few (inl m) = no_magic_fault t (concat xs ++ ending file (length xs)) fault.kind text m.0
+  no_fault t xs ordered text fault few (inr f) = no_fault_behind t xs [] ordered (text ∙ sym (append-nil (text_of file xs))) (λ _. refl) f.0 f.1 fault (λ _ _. few) (λ _. refl) f.2 f.3
 
 -- ---- contents
 
+-- the texts of two contents that begin the same bytes are one
+pub one_front : (t : List ℕ) (o p : Operations) (m n : List ℕ) → IsContent o → IsContent p → t ≡ written o ++ m → t ≡ written p ++ n → (o ≡ p) × (m ≡ n)
+one_front t o p m n c d e f =
+    let other : t ≡ text_of Archive (listing p) ++ n = f ∙ ap (λ (x : List ℕ). x ++ n) (written_text p) in
+    let same = same_records Archive t (listing p) n (InOrder-listing p d) other (λ h. absurd cc) (listing o) m (InOrder-listing o c) (λ h. absurd cc) (e ∙ ap (λ (x : List ℕ). x ++ m) (written_text o)) in
+    (content_is o ∙ ap set.from_list same.0 ∙ sym (content_is p), same.1)
+
 pub one_content : (o p : Operations) → IsContent o → IsContent p → written o ≡ written p → o ≡ p
-one_content o p c d e =
-    let same = same_records (written p) (listing p) (Ascends-listing p d) (written_text p) (listing o) [] (Ascends-listing o c) (append-nil (text_of (listing o)) ∙ sym (written_text o) ∙ e) in
-    content_is o ∙ ap set.from_list same.0 ∙ sym (content_is p)
+one_content o p c d e = (one_front (written o) o p [] [] c d (sym (append-nil (written o))) (e ∙ sym (append-nil (written p)))).0
 
 pub no_text_begins : (o p : Operations) (more : List ℕ) → IsContent o → IsContent p → written o ++ more ≡ written p → more ≡ []
-no_text_begins o p more c d e =
-    (same_records (written p) (listing p) (Ascends-listing p d) (written_text p) (listing o) more (Ascends-listing o c) (ap (λ (x : List ℕ). x ++ more) (sym (written_text o)) ∙ e)).1
+no_text_begins o p more c d e = (one_front (written p) o p more [] c d (sym e) (sym (append-nil (written p)))).1

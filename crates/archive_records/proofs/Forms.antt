@@ -17,6 +17,7 @@ use Rattle.archive_records.specs.Fault.{is_end, RefusesSlice}
 use Rattle.archive_records.proofs.Framed.{framed-whole}
 use Rattle.archive_records.proofs.Holds.{body_one, body_two, whole-retirement}
 use Rattle.archive_records.proofs.SliceFacts.{short_slice, no_slice_fault}
+use Rattle.archive_records.specs.declared.kind.FileKind.{FileKind}
 
 abbrev pub IsBytes : List ℕ → Type 0
 IsBytes bytes = (i : ℕ) → get_or bytes i 0 < 256
@@ -74,21 +75,6 @@ parts-retires r t = record {
   long = ap length t.is ∙ omega (arith, length-append (key_bytes t.key) t.digest, length_key_bytes t.key t.is_key.uuid, t.long);
 }
 
--- a record is whole
-pub record-framed : (r : List ℕ) → IsRecord r → framed r ≡ Ok (length r)
-unfolding head_length
-record-framed r (inl a) =
-    let p = parts-of r a in
-    let long = p.long in
-    let body : body_length r ≡ length a.slice = body_two r p.tag ∙ p.number in
-    let short = short_slice a.slice a.valid in
-    framed-whole r 33 (omega arith) (ap head_length p.tag) (omega arith) (omega (arith, body)) (omega (arith, body)) ∙ ap (λ (n : ℕ). Ok n) (omega (arith, body))
-record-framed r (inr t) =
-    let p = parts-retires r t in
-    let long = p.long in
-    let body : body_length r ≡ 0 = body_one r p.tag in
-    framed-whole r 57 (omega arith) (ap head_length p.tag) (omega arith) (omega (arith, body)) (omega (arith, body)) ∙ ap (λ (n : ℕ). Ok n) (omega (arith, body))
-
 -- and no end record
 pub record-item : (r : List ℕ) → IsRecord r → is_end r ≡ false
 unfolding is_end
@@ -119,19 +105,6 @@ record-slice = slice_good
 
 cons_both : (a b : ℕ) (xs ys : List ℕ) → a ≡ b → xs ≡ ys → a ∷ xs ≡ b ∷ ys
 cons_both a b xs ys p q = cc
-
--- whole bytes with a retirement's tag are a retirement's record
-pub retires : (bytes : List ℕ) (key : SliceKey) → framed bytes ≡ Ok (length bytes) → get_or bytes 0 0 ≡ 1 → key_bytes key ≡ take 24 (drop 1 bytes) → IsKey key → Retires bytes
-retires [] key f tag k w = absurd (omega (arith, whole-retirement [] f tag))
-retires (b ∷ bs) key f tag k w =
-    let long = whole-retirement (b ∷ bs) f tag in
-    record {
-      key = key;
-      digest = drop 24 bs;
-      is_key = w;
-      long = omega (arith, length-drop 24 bs);
-      is = cons_both b 1 bs (key_bytes key ++ drop 24 bs) tag (sym (ap (λ (t : List ℕ). t ++ drop 24 bs) k ∙ take-append-drop 24 bs));
-    }
 
 -- whole bytes with an admission's tag, a slice and its key are an admission's record
 pub admits : (bytes : List ℕ) → (get_or bytes 0 0 ≡ 2) × (slice_length bytes + 33 ≡ length bytes) → IsValid (drop 33 bytes) → take 24 (drop 1 bytes) ≡ key_bytes (key_of (drop 33 bytes)) → IsBytes bytes → Admits bytes
@@ -181,3 +154,32 @@ admitted_valid bytes a = subst IsValid (sym (parts-of bytes a).slice_is) a.valid
 
 pub admitted_is : (bytes slice : List ℕ) → Admits bytes → slice ≡ drop 33 bytes → admission_record slice ≡ bytes
 admitted_is bytes slice a e = ap admission_record (e ∙ (parts-of bytes a).slice_is) ∙ sym a.is
+
+module _ (file : FileKind) where
+  -- a record is whole
+  pub record-framed : (r : List ℕ) → IsRecord r → framed file r ≡ Ok (length r)
+  unfolding head_length
+  record-framed r (inl a) =
+      let p = parts-of r a in
+      let long = p.long in
+      let body : body_length r ≡ length a.slice = body_two r p.tag ∙ p.number in
+      let short = short_slice a.slice a.valid in
+      framed-whole file r 33 (omega arith) (ap (head_length file) p.tag) (omega arith) (omega (arith, body)) (omega (arith, body)) ∙ ap (λ (n : ℕ). Ok n) (omega (arith, body))
+  record-framed r (inr t) =
+      let p = parts-retires r t in
+      let long = p.long in
+      let body : body_length r ≡ 0 = body_one r p.tag in
+      framed-whole file r 57 (omega arith) (ap (head_length file) p.tag) (omega arith) (omega (arith, body)) (omega (arith, body)) ∙ ap (λ (n : ℕ). Ok n) (omega (arith, body))
+
+  -- whole bytes with a retirement's tag are a retirement's record
+  pub retires : (bytes : List ℕ) (key : SliceKey) → framed file bytes ≡ Ok (length bytes) → get_or bytes 0 0 ≡ 1 → key_bytes key ≡ take 24 (drop 1 bytes) → IsKey key → Retires bytes
+  retires [] key f tag k w = absurd (omega (arith, whole-retirement file [] f tag))
+  retires (b ∷ bs) key f tag k w =
+      let long = whole-retirement file (b ∷ bs) f tag in
+      record {
+        key = key;
+        digest = drop 24 bs;
+        is_key = w;
+        long = omega (arith, length-drop 24 bs);
+        is = cons_both b 1 bs (key_bytes key ++ drop 24 bs) tag (sym (ap (λ (t : List ℕ). t ++ drop 24 bs) k ∙ take-append-drop 24 bs));
+      }

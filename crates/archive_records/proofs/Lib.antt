@@ -9,7 +9,9 @@ pub mod Above
 pub mod Ends
 pub mod Longest
 pub mod Grown
+pub mod FaultKinds
 pub mod Steps
+pub mod Listed
 pub mod Contents
 pub mod Exact
 pub mod Inputs

@@ -7,20 +7,14 @@ use Rattle.std.specs.List.{concat}
 use Rattle.archive_core.specs.Record.{IsRecord}
 use Rattle.archive_records.specs.declared.fault.RecordFaultKind.{RecordFaultKind}
 use Rattle.archive_records.specs.Layout.{head_length, body_length, framed}
-use Rattle.archive_records.specs.Text.{magic, below, Ascends, last_of}
+use Rattle.archive_records.specs.Kind.{magic_of, may_follow}
+use Rattle.archive_records.specs.Text.{InOrder, last_of}
 use Rattle.archive_records.specs.Fault.{is_end, tested, next, Fails, RefusesSlice}
 use Rattle.archive_records.specs.Front.{IsGoodFront, IsLongestFront}
 use Rattle.archive_records.proofs.Framed.{same_body, framed-whole}
 use Rattle.archive_records.proofs.Holds.{holds, done, result_is, next-is}
 use Rattle.archive_records.proofs.Forms.{record-framed, record-item, record-slice}
-
--- a record above low stands in front of the bytes
-pub record Takes (low : List ℕ) (bytes : List ℕ) : Type 0 where
-  pub item : List ℕ
-  pub more : List ℕ
-  pub whole : bytes ≡ item ++ more
-  pub is : IsRecord item
-  pub above : below low item ≡ true
+use Rattle.archive_records.specs.declared.kind.FileKind.{FileKind}
 
 -- what a front that stops has before another
 pub record Before (xs ys : List (List ℕ)) (r s : List ℕ) : Type 0 where
@@ -28,59 +22,15 @@ pub record Before (xs ys : List (List ℕ)) (r s : List ℕ) : Type 0 where
   pub records : xs ≡ ys ++ more
   pub rest : s ≡ concat more ++ r
 
--- ---- more bytes behind
-
 same_tag : (bytes more : List ℕ) → 1 ≤ length bytes → get_or (bytes ++ more) 0 0 ≡ get_or bytes 0 0
 same_tag bytes more le = get_or_append_left bytes more 0 0 le
-
-pub framed-grows : (bytes more : List ℕ) (n : ℕ) → framed bytes ≡ Ok n → framed (bytes ++ more) ≡ Ok n
-framed-grows bytes more n e =
-    let h = holds bytes n e in
-    let b : body_length (bytes ++ more) ≡ body_length bytes = same_body bytes more h.head h.one h.tag h.long in
-    let f = h.fits in
-    let i = h.is in
-    framed-whole (bytes ++ more) h.head (omega (arith, length-append bytes more, h.one)) (ap head_length (same_tag bytes more h.one) ∙ h.tag) (omega (arith, length-append bytes more, h.long))
-    (rw b h.small) (rw b (omega (arith, length-append bytes more))) ∙ ap done (rw b (sym i))
 
 pub is_end-grows : (bytes more : List ℕ) → 1 ≤ length bytes → is_end (bytes ++ more) ≡ is_end bytes
 unfolding is_end
 is_end-grows bytes more le = ap (λ (t : ℕ). eqb t 3) (same_tag bytes more le)
 
--- a record above low is what comes next
-
-next-takes : (low : List ℕ) (count : ℕ) (item more : List ℕ) → IsRecord item → below low item ≡ true → next low count (item ++ more) ≡ Ok (length item)
-unfolding tested
-next-takes low count item more is above =
-    let whole = record-framed item is in
-    let h = holds item (length item) whole in
-    let e : is_end (item ++ more) ≡ false = is_end-grows item more h.one ∙ record-item item is in
-    let t : take (length item) (item ++ more) ≡ item = take_at item more (length item) refl in
-    next-is (item ++ more) (length item) low count (framed-grows item more (length item) whole) ∙ rw (e, t, above) refl
-
 no_two : (n : ℕ) (kind : RecordFaultKind) → done n ≡ Err kind → ⊥
 no_two n kind e = cc
-
--- where a test fails, no record stands
-pub fault-stops : (low : List ℕ) (count : ℕ) (bytes : List ℕ) (kind : RecordFaultKind) → Fails low count bytes kind → Takes low bytes → ⊥
-fault-stops low count bytes kind (inl e) t = no_two (length t.item) kind (sym (next-takes low count t.item t.more t.is t.above) ∙ sym (ap (next low count) t.whole) ∙ e)
-fault-stops low count bytes kind (inr f) t =
-    let here : next low count bytes ≡ Ok (length t.item) = ap (next low count) t.whole ∙ next-takes low count t.item t.more t.is t.above in
-    let n : f.0 ≡ length t.item = result_is f.0 (length t.item) (sym f.1 ∙ here) in
-    let item : take f.0 bytes ≡ t.item = ap (take f.0) t.whole ∙ take_at t.item t.more f.0 (sym n) in
-    record-slice t.item kind t.is (subst (λ (x : List ℕ). RefusesSlice x kind) item f.2)
-
--- nor where an end record does
-pub end-stops : (low : List ℕ) (bytes : List ℕ) → is_end bytes ≡ true → Takes low bytes → ⊥
-end-stops low bytes end t =
-    let h = holds t.item (length t.item) (record-framed t.item t.is) in
-    let e : is_end bytes ≡ false = ap is_end t.whole ∙ is_end-grows t.item t.more h.one ∙ record-item t.item t.is in
-    false≢true (sym e ∙ end)
-
--- ---- two fronts
-
-same_length : (x y : List ℕ) (a b : List ℕ) → IsRecord x → IsRecord y → x ++ a ≡ y ++ b → length x ≡ length y
-same_length x y a b p q e =
-    result_is (length x) (length y) (sym (framed-grows x a (length x) (record-framed x p)) ∙ ap framed e ∙ framed-grows y b (length y) (record-framed y q))
 
 same_item : (x y : List ℕ) (a b : List ℕ) → length x ≡ length y → x ++ a ≡ y ++ b → (x ≡ y) × (a ≡ b)
 same_item x y a b len e = (
@@ -91,41 +41,94 @@ same_item x y a b len e = (
 cons_both : (x y : List ℕ) (xs ys : List (List ℕ)) → x ≡ y → xs ≡ ys → x ∷ xs ≡ y ∷ ys
 cons_both x y xs ys p q = cc
 
--- A front at whose end no record stands is the longest: every other front begins it.
-pub longest : (xs ys : List (List ℕ)) (low r s : List ℕ) → Ascends low xs → Ascends low ys → concat xs ++ r ≡ concat ys ++ s → (Takes (last_of low xs) r → ⊥) → Before xs ys r s
-longest xs [] low r s a b e stop = record { more = xs; records = refl; rest = sym e }
-longest [] (y ∷ ys) low r s a b e stop =
-    absurd (stop (record { item = y; more = concat ys ++ s; whole = e ∙ append_assoc y (concat ys) s; is = b.0; above = b.1 }))
-longest (x ∷ xs) (y ∷ ys) low r s a b e stop =
-    let e' : x ++ (concat xs ++ r) ≡ y ++ (concat ys ++ s) = sym (append_assoc x (concat xs) r) ∙ e ∙ append_assoc y (concat ys) s in
-    let both = same_item x y (concat xs ++ r) (concat ys ++ s) (same_length x y (concat xs ++ r) (concat ys ++ s) a.0 b.0 e') e' in
-    let rest : Ascends x ys = subst (λ (t : List ℕ). Ascends t ys) (sym both.0) b.2 in
-    let n = longest xs ys x r s a.2 rest both.1 stop in
-    record { more = n.more; records = cons_both x y xs (ys ++ n.more) both.0 n.records; rest = n.rest }
+module _ (file : FileKind) where
+  -- a record above low stands in front of the bytes
+  pub record Takes (low : List ℕ) (bytes : List ℕ) : Type 0 where
+    pub item : List ℕ
+    pub more : List ℕ
+    pub whole : bytes ≡ item ++ more
+    pub is : IsRecord item
+    pub above : may_follow file low item ≡ true
 
--- two fronts that stop are one
-pub unique : (xs ys : List (List ℕ)) (low r s : List ℕ) → Ascends low xs → Ascends low ys → concat xs ++ r ≡ concat ys ++ s → (Takes (last_of low xs) r → ⊥) → (Takes (last_of low ys) s → ⊥) → (xs ≡ ys) × (r ≡ s)
-unique [] [] low r s a b e p q = (refl, e)
-unique (x ∷ xs) [] low r s a b e p q =
-    absurd (q (record { item = x; more = concat xs ++ r; whole = sym e ∙ append_assoc x (concat xs) r; is = a.0; above = a.1 }))
-unique [] (y ∷ ys) low r s a b e p q =
-    absurd (p (record { item = y; more = concat ys ++ s; whole = e ∙ append_assoc y (concat ys) s; is = b.0; above = b.1 }))
-unique (x ∷ xs) (y ∷ ys) low r s a b e p q =
-    let e' : x ++ (concat xs ++ r) ≡ y ++ (concat ys ++ s) = sym (append_assoc x (concat xs) r) ∙ e ∙ append_assoc y (concat ys) s in
-    let both = same_item x y (concat xs ++ r) (concat ys ++ s) (same_length x y (concat xs ++ r) (concat ys ++ s) a.0 b.0 e') e' in
-    let rest : Ascends x ys = subst (λ (t : List ℕ). Ascends t ys) (sym both.0) b.2 in
-    let stop : Takes (last_of x ys) s → ⊥ = subst (λ (t : List ℕ). Takes (last_of t ys) s → ⊥) (sym both.0) q in
-    let n = unique xs ys x r s a.2 rest both.1 p stop in
-    (cons_both x y xs ys both.0 n.0, n.1)
+  -- ---- more bytes behind
 
-pub behind_magic : (t : List ℕ) (a b : List ℕ) → t ≡ magic ++ a → t ≡ magic ++ b → a ≡ b
-behind_magic t a b p q = append_cancel_left magic a b (sym p ∙ q)
+  pub framed-grows : (bytes more : List ℕ) (n : ℕ) → framed file bytes ≡ Ok n → framed file (bytes ++ more) ≡ Ok n
+  framed-grows bytes more n e =
+      let h = holds file bytes n e in
+      let b : body_length (bytes ++ more) ≡ body_length bytes = same_body file bytes more h.head h.one h.tag h.long in
+      let f = h.fits in
+      let i = h.is in
+      framed-whole file (bytes ++ more) h.head (omega (arith, length-append bytes more, h.one)) (ap (head_length file) (same_tag bytes more h.one) ∙ h.tag) (omega (arith, length-append bytes more, h.long))
+      (rw b h.small) (rw b (omega (arith, length-append bytes more))) ∙ ap done (rw b (sym i))
 
--- the longest good front, by what stands at its end
-pub is_longest : (text : List ℕ) (records : List (List ℕ)) (f : IsGoodFront text records) → (Takes (last_of [] records) f.rest → ⊥) → IsLongestFront text records
-is_longest text records f stop = record {
-  front = f;
-  longest = λ others g.
-      let b = longest records others [] f.rest g.rest f.ascends g.ascends (behind_magic text (concat records ++ f.rest) (concat others ++ g.rest) f.whole g.whole) stop in
-      omega (arith, ap length (ap concat b.records ∙ concat-append others b.more), length-append (concat others) (concat b.more));
-}
+  -- a record above low is what comes next
+
+  next-takes : (low : List ℕ) (count : ℕ) (item more : List ℕ) → IsRecord item → may_follow file low item ≡ true → next file low count (item ++ more) ≡ Ok (length item)
+  unfolding tested
+  next-takes low count item more is above =
+      let whole = record-framed file item is in
+      let h = holds file item (length item) whole in
+      let e : is_end (item ++ more) ≡ false = is_end-grows item more h.one ∙ record-item item is in
+      let t : take (length item) (item ++ more) ≡ item = take_at item more (length item) refl in
+      next-is file (item ++ more) (length item) low count (framed-grows item more (length item) whole) ∙ rw (e, t, above) refl
+
+  -- where a test fails, no record stands
+  pub fault-stops : (low : List ℕ) (count : ℕ) (bytes : List ℕ) (kind : RecordFaultKind) → Fails file low count bytes kind → Takes low bytes → ⊥
+  fault-stops low count bytes kind (inl e) t = no_two (length t.item) kind (sym (next-takes low count t.item t.more t.is t.above) ∙ sym (ap (next file low count) t.whole) ∙ e)
+  fault-stops low count bytes kind (inr f) t =
+      let here : next file low count bytes ≡ Ok (length t.item) = ap (next file low count) t.whole ∙ next-takes low count t.item t.more t.is t.above in
+      let n : f.0 ≡ length t.item = result_is f.0 (length t.item) (sym f.1 ∙ here) in
+      let item : take f.0 bytes ≡ t.item = ap (take f.0) t.whole ∙ take_at t.item t.more f.0 (sym n) in
+      record-slice t.item kind t.is (subst (λ (x : List ℕ). RefusesSlice x kind) item f.2)
+
+  -- nor where an end record does
+  pub end-stops : (low : List ℕ) (bytes : List ℕ) → is_end bytes ≡ true → Takes low bytes → ⊥
+  end-stops low bytes end t =
+      let h = holds file t.item (length t.item) (record-framed file t.item t.is) in
+      let e : is_end bytes ≡ false = ap is_end t.whole ∙ is_end-grows t.item t.more h.one ∙ record-item t.item t.is in
+      false≢true (sym e ∙ end)
+
+  -- ---- two fronts
+
+  same_length : (x y : List ℕ) (a b : List ℕ) → IsRecord x → IsRecord y → x ++ a ≡ y ++ b → length x ≡ length y
+  same_length x y a b p q e =
+      result_is (length x) (length y) (sym (framed-grows x a (length x) (record-framed file x p)) ∙ ap (framed file) e ∙ framed-grows y b (length y) (record-framed file y q))
+
+  -- A front at whose end no record stands is the longest: every other front begins it.
+  pub longest : (xs ys : List (List ℕ)) (low r s : List ℕ) → InOrder file low xs → InOrder file low ys → concat xs ++ r ≡ concat ys ++ s → (Takes (last_of low xs) r → ⊥) → Before xs ys r s
+  longest xs [] low r s a b e stop = record { more = xs; records = refl; rest = sym e }
+  longest [] (y ∷ ys) low r s a b e stop =
+      absurd (stop (record { item = y; more = concat ys ++ s; whole = e ∙ append_assoc y (concat ys) s; is = b.0; above = b.1 }))
+  longest (x ∷ xs) (y ∷ ys) low r s a b e stop =
+      let e' : x ++ (concat xs ++ r) ≡ y ++ (concat ys ++ s) = sym (append_assoc x (concat xs) r) ∙ e ∙ append_assoc y (concat ys) s in
+      let both = same_item x y (concat xs ++ r) (concat ys ++ s) (same_length x y (concat xs ++ r) (concat ys ++ s) a.0 b.0 e') e' in
+      let rest : InOrder file x ys = subst (λ (t : List ℕ). InOrder file t ys) (sym both.0) b.2 in
+      let n = longest xs ys x r s a.2 rest both.1 stop in
+      record { more = n.more; records = cons_both x y xs (ys ++ n.more) both.0 n.records; rest = n.rest }
+
+  -- two fronts that stop are one
+  pub unique : (xs ys : List (List ℕ)) (low r s : List ℕ) → InOrder file low xs → InOrder file low ys → concat xs ++ r ≡ concat ys ++ s → (Takes (last_of low xs) r → ⊥) → (Takes (last_of low ys) s → ⊥) → (xs ≡ ys) × (r ≡ s)
+  unique [] [] low r s a b e p q = (refl, e)
+  unique (x ∷ xs) [] low r s a b e p q =
+      absurd (q (record { item = x; more = concat xs ++ r; whole = sym e ∙ append_assoc x (concat xs) r; is = a.0; above = a.1 }))
+  unique [] (y ∷ ys) low r s a b e p q =
+      absurd (p (record { item = y; more = concat ys ++ s; whole = e ∙ append_assoc y (concat ys) s; is = b.0; above = b.1 }))
+  unique (x ∷ xs) (y ∷ ys) low r s a b e p q =
+      let e' : x ++ (concat xs ++ r) ≡ y ++ (concat ys ++ s) = sym (append_assoc x (concat xs) r) ∙ e ∙ append_assoc y (concat ys) s in
+      let both = same_item x y (concat xs ++ r) (concat ys ++ s) (same_length x y (concat xs ++ r) (concat ys ++ s) a.0 b.0 e') e' in
+      let rest : InOrder file x ys = subst (λ (t : List ℕ). InOrder file t ys) (sym both.0) b.2 in
+      let stop : Takes (last_of x ys) s → ⊥ = subst (λ (t : List ℕ). Takes (last_of t ys) s → ⊥) (sym both.0) q in
+      let n = unique xs ys x r s a.2 rest both.1 p stop in
+      (cons_both x y xs ys both.0 n.0, n.1)
+
+  pub behind_magic : (t : List ℕ) (a b : List ℕ) → t ≡ magic_of file ++ a → t ≡ magic_of file ++ b → a ≡ b
+  behind_magic t a b p q = append_cancel_left (magic_of file) a b (sym p ∙ q)
+
+  -- the longest good front, by what stands at its end
+  pub is_longest : (text : List ℕ) (records : List (List ℕ)) (f : IsGoodFront file text records) → (Takes (last_of [] records) f.rest → ⊥) → IsLongestFront file text records
+  is_longest text records f stop = record {
+    front = f;
+    longest = λ others g.
+        let b = longest records others [] f.rest g.rest f.ordered g.ordered (behind_magic text (concat records ++ f.rest) (concat others ++ g.rest) f.whole g.whole) stop in
+        omega (arith, ap length (ap concat b.records ∙ concat-append others b.more), length-append (concat others) (concat b.more));
+  }

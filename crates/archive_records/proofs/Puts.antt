@@ -20,7 +20,8 @@ use Rattle.archive_core.specs.Key.{key_bytes}
 use Rattle.archive_core.specs.Valid.{key_of}
 use Rattle.archive_core.specs.Record.{admission, admission_record}
 use Rattle.archive_core.specs.Content.{Operations}
-use Rattle.archive_records.specs.Text.{magic, end_record, written}
+use Rattle.archive_records.specs.Kind.{magic}
+use Rattle.archive_records.specs.Text.{end_record, written}
 
 -- byte strings that the order ties are the same
 pub bytes_same : IsAntisymmetric (slice_cmp nat_cmp)

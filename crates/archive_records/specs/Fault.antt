@@ -1,12 +1,15 @@
--- The one fault of a text that is not an archive's.
+-- The one fault of a text that is not an archive's, or not that of operations.
 use Rattle.std.specs.Prelude.{◌≡◌, ◌≢◌, ℕ, ◌+◌, ◌<◌, ◌≤◌, Bool, true, List, [], length, take, drop, slice_index, ◌==◌, if◌then◌else◌, Result, Ok, Err, ◌⊎◌}
 use Rattle.archive_core.specs.Key.{key_bytes}
 use Rattle.archive_core.specs.Valid.{IsValid, IsSliceFault, key_of}
+use Rattle.archive_records.specs.declared.kind.FileKind.{FileKind}
+use Rattle.archive_records.specs.declared.kind.FileKind.TheVariants.{Archive, Operations}
 use Rattle.archive_records.specs.declared.fault.RecordFaultKind.{RecordFaultKind}
 use Rattle.archive_records.specs.declared.fault.RecordFaultKind.TheVariants.{BadMagic, Truncated, BadTag, TooLarge, NotAscending, BadSlice, KeyMismatch, BadCount, Trailing, Device, OutOfMemory}
 use Rattle.archive_records.specs.declared.fault.RecordFault.{RecordFault}
 use Rattle.archive_records.specs.Layout.{record_count, framed}
-use Rattle.archive_records.specs.Text.{magic, below, last_of}
+use Rattle.archive_records.specs.Kind.{magic_of, may_follow}
+use Rattle.archive_records.specs.Text.{last_of}
 use Rattle.archive_records.specs.Front.{IsGoodFront, front_length}
 
 -- the bytes begin with the tag of an end record
@@ -14,18 +17,18 @@ unfoldable pub is_end : List ℕ → Bool
 is_end bytes = slice_index bytes 0 == 3
 
 -- the tests of a whole record of n bytes, behind this last record, or of an end record, behind so many records
-unfoldable pub tested : List ℕ → ℕ → List ℕ → ℕ → Result ℕ RecordFaultKind
-tested last count rest n =
+unfoldable pub tested : FileKind → List ℕ → ℕ → List ℕ → ℕ → Result ℕ RecordFaultKind
+tested file last count rest n =
     if is_end rest then (if record_count rest == count then Ok n else Err BadCount)
-    else if below last (take n rest) then Ok n else Err NotAscending
+    else if may_follow file last (take n rest) then Ok n else Err NotAscending
 
-abbrev pub next_by : Result ℕ RecordFaultKind → List ℕ → ℕ → List ℕ → Result ℕ RecordFaultKind
-next_by (Err kind) last count rest = Err kind
-next_by (Ok n) last count rest = tested last count rest n
+abbrev pub next_by : FileKind → Result ℕ RecordFaultKind → List ℕ → ℕ → List ℕ → Result ℕ RecordFaultKind
+next_by file (Err kind) last count rest = Err kind
+next_by file (Ok n) last count rest = tested file last count rest n
 
 -- the length of the record or end record in front of the rest, or else the first test that fails before its slice is looked at
-unfoldable pub next : List ℕ → ℕ → List ℕ → Result ℕ RecordFaultKind
-next last count rest = next_by (framed rest) last count rest
+unfoldable pub next : FileKind → List ℕ → ℕ → List ℕ → Result ℕ RecordFaultKind
+next file last count rest = next_by file (framed file rest) last count rest
 
 -- why the slice of a whole admission is refused: it is none, or has another key than the record
 abbrev pub RefusesSlice : List ℕ → RecordFaultKind → Type 0
@@ -42,42 +45,55 @@ RefusesSlice bytes Device = ⊥
 RefusesSlice bytes OutOfMemory = ⊥
 
 -- the first test that fails in front of the rest, behind this last record and so many records
-abbrev pub Fails : List ℕ → ℕ → List ℕ → RecordFaultKind → Type 0
-Fails last count rest kind =
-    (next last count rest ≡ Err kind)
-    ⊎ ((n : ℕ) × (next last count rest ≡ Ok n) × RefusesSlice (take n rest) kind)
+abbrev pub Fails : FileKind → List ℕ → ℕ → List ℕ → RecordFaultKind → Type 0
+Fails file last count rest kind =
+    (next file last count rest ≡ Err kind)
+    ⊎ ((n : ℕ) × (next file last count rest ≡ Ok n) × RefusesSlice (take n rest) kind)
 
 -- the end record of so many records, and bytes behind it
-pub record IsTrailing (last : List ℕ) (count : ℕ) (rest : List ℕ) : Type 0 where
-  pub whole : next last count rest ≡ Ok 9
+pub record IsTrailing (file : FileKind) (last : List ℕ) (count : ℕ) (rest : List ℕ) : Type 0 where
+  pub whole : next file last count rest ≡ Ok 9
   pub end : is_end rest ≡ true
   pub more : 9 < length rest
 
 -- one of the first bytes that are there is not the magic's, or the text ends inside the magic
-abbrev pub IsMagicFault : List ℕ → RecordFaultKind → Type 0
-IsMagicFault text BadMagic = (n : ℕ) × (n ≤ 8) × (n ≤ length text) × (take n text ≢ take n magic)
-IsMagicFault text Truncated = (length text < 8) × (text ≡ take (length text) magic)
-IsMagicFault text BadTag = ⊥
-IsMagicFault text TooLarge = ⊥
-IsMagicFault text NotAscending = ⊥
-IsMagicFault text (BadSlice _) = ⊥
-IsMagicFault text KeyMismatch = ⊥
-IsMagicFault text BadCount = ⊥
-IsMagicFault text Trailing = ⊥
-IsMagicFault text Device = ⊥
-IsMagicFault text OutOfMemory = ⊥
+abbrev pub IsMagicFault : FileKind → List ℕ → RecordFaultKind → Type 0
+IsMagicFault file text BadMagic = (n : ℕ) × (n ≤ 8) × (n ≤ length text) × (take n text ≢ take n (magic_of file))
+IsMagicFault file text Truncated = (length text < 8) × (text ≡ take (length text) (magic_of file))
+IsMagicFault file text BadTag = ⊥
+IsMagicFault file text TooLarge = ⊥
+IsMagicFault file text NotAscending = ⊥
+IsMagicFault file text (BadSlice _) = ⊥
+IsMagicFault file text KeyMismatch = ⊥
+IsMagicFault file text BadCount = ⊥
+IsMagicFault file text Trailing = ⊥
+IsMagicFault file text Device = ⊥
+IsMagicFault file text OutOfMemory = ⊥
 
 -- what is wrong behind a good front, and where
-abbrev pub IsFaultBehind : List (List ℕ) → List ℕ → RecordFault → Type 0
-IsFaultBehind records rest fault =
-    (Fails (last_of [] records) (length records) rest fault.kind × (fault.offset ≡ front_length records))
-    ⊎ ((fault.kind ≡ Trailing) × IsTrailing (last_of [] records) (length records) rest × (fault.offset ≡ front_length records + 9))
+abbrev pub IsFaultBehind : FileKind → List (List ℕ) → List ℕ → RecordFault → Type 0
+IsFaultBehind file records rest fault =
+    (Fails file (last_of [] records) (length records) rest fault.kind × (fault.offset ≡ front_length records))
+    ⊎ ((fault.kind ≡ Trailing) × IsTrailing file (last_of [] records) (length records) rest × (fault.offset ≡ front_length records + 9))
+
+-- The file does not end before the rest: operations do where nothing is left, an archive only behind its end record.
+abbrev pub IsUnended : FileKind → List ℕ → Type 0
+IsUnended Archive rest = Unit {0}
+IsUnended Operations rest = rest ≢ []
 
 -- The fault of a text: that of the magic, or else what stops behind a good front.
+abbrev pub IsFaultOf : FileKind → List ℕ → RecordFault → Type 0
+IsFaultOf file text fault =
+    (IsMagicFault file text fault.kind × (fault.offset ≡ 0))
+    ⊎ ((records : List (List ℕ)) × (front : IsGoodFront file text records) × IsUnended file front.rest × IsFaultBehind file records front.rest fault)
+
+-- the fault of what should be an archive's text
 abbrev pub IsFault : List ℕ → RecordFault → Type 0
-IsFault text fault =
-    (IsMagicFault text fault.kind × (fault.offset ≡ 0))
-    ⊎ ((records : List (List ℕ)) × (front : IsGoodFront text records) × IsFaultBehind records front.rest fault)
+IsFault = IsFaultOf Archive
+
+-- the fault of what should be the text of operations
+abbrev pub IsOperationsFault : List ℕ → RecordFault → Type 0
+IsOperationsFault = IsFaultOf Operations
 
 -- a fault of the text itself: neither the device's nor want of memory
 abbrev pub IsOfText : RecordFaultKind → Type 0

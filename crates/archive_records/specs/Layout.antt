@@ -1,13 +1,15 @@
 -- How records lie in a file: a tag, what else its head holds, and an admission's slice. Each number is big-endian.
 use Rattle.std.specs.Prelude.{ℕ, ◌+◌, List, length, take, drop, slice_index, nat_lt, ◌==◌, if◌then◌else◌, Option, Some, None, Result, Ok, Err}
 use Rattle.std.specs.Int.{w64, from_be_bytes}
+use Rattle.archive_records.specs.declared.kind.FileKind.{FileKind}
+use Rattle.archive_records.specs.Kind.{end_length}
 use Rattle.archive_records.specs.declared.fault.RecordFaultKind.{RecordFaultKind}
 use Rattle.archive_records.specs.declared.fault.RecordFaultKind.TheVariants.{Truncated, BadTag, TooLarge}
 
 -- How long the head is, by its tag: a retirement is tag, UUID, cputype, subtype and digest; an admission's head is tag,
 -- UUID, cputype, subtype and the length of its slice; an end record is tag and number of records.
-unfoldable pub head_length : ℕ → Option ℕ
-head_length tag = if tag == 1 then Some 57 else if tag == 2 then Some 33 else if tag == 3 then Some 9 else None
+unfoldable pub head_length : FileKind → ℕ → Option ℕ
+head_length file tag = if tag == 1 then Some 57 else if tag == 2 then Some 33 else if tag == 3 then end_length file else None
 
 -- the length of the slice that an admission's head claims
 unfoldable pub slice_length : List ℕ → ℕ
@@ -38,5 +40,5 @@ framed_by None bytes = Err BadTag
 framed_by (Some head) bytes = framed_behind head bytes
 
 -- the length of the whole record or end record in front of the bytes, or else the first fault of its form
-unfoldable pub framed : List ℕ → Result ℕ RecordFaultKind
-framed bytes = if nat_lt (length bytes) 1 then Err Truncated else framed_by (head_length (slice_index bytes 0)) bytes
+unfoldable pub framed : FileKind → List ℕ → Result ℕ RecordFaultKind
+framed file bytes = if nat_lt (length bytes) 1 then Err Truncated else framed_by (head_length file (slice_index bytes 0)) bytes

@@ -1,3 +1,4 @@
+pub mod Kind
 pub mod Layout
 pub mod Text
 pub mod Fault

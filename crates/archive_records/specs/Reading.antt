@@ -1,18 +1,23 @@
 -- Records that are read from a source one over the other.
-use Rattle.std.specs.Prelude.{◌≡◌, ◌≢◌, ℕ, ◌+◌, ◌^◌, ◌<◌, List, [], ◌++◌, length, take, drop, Option, Ok, ◌⊎◌}
+use Rattle.std.specs.Prelude.{◌≡◌, ◌≢◌, ℕ, ◌+◌, ◌^◌, ◌<◌, List, [], ◌++◌, length, take, drop, map, All, Option, ◌⊎◌}
 use Rattle.std.specs.List.{concat}
 use Rattle.std.specs.Ordering.{nat_cmp}
 use Rattle.std.specs.Cmp.Lexicographic.{slice_cmp}
 use Rattle.std.specs.FinSet as set
 use Rattle.std.specs.Io.KnownBytes.{Consumes, IsAtEnd}
+use Rattle.archive_core.specs.declared.operations.Operation.{Operation}
+use Rattle.archive_core.specs.Record.{IsOperation, rec}
 use Rattle.archive_core.specs.Content.{Operations}
+use Rattle.archive_records.specs.declared.kind.FileKind.{FileKind}
+use Rattle.archive_records.specs.declared.kind.FileKind.TheVariants.{Archive, Operations as Operations_file}
 use Rattle.archive_records.specs.declared.buffer.Buffer.{Buffer}
 use Rattle.archive_records.specs.declared.reader.RecordReader.{RecordReader}
 use Rattle.archive_records.specs.declared.fault.RecordFaultKind.{RecordFaultKind}
 use Rattle.archive_records.specs.declared.fault.RecordFaultKind.TheVariants.{BadMagic, Truncated, BadTag, TooLarge, NotAscending, BadSlice, KeyMismatch, BadCount, Trailing, Device, OutOfMemory}
 use Rattle.archive_records.specs.declared.fault.RecordFault.{RecordFault}
-use Rattle.archive_records.specs.Text.{magic, end_record, text_of, Ascends, last_of}
-use Rattle.archive_records.specs.Fault.{next, Fails, IsTrailing, IsMagicFault}
+use Rattle.archive_records.specs.Kind.{magic_of}
+use Rattle.archive_records.specs.Text.{end_record, text_of, InOrder, last_of}
+use Rattle.archive_records.specs.Fault.{Fails, IsTrailing, IsMagicFault, IsUnended, IsOfText}
 use Rattle.archive_records.specs.Front.{front_length}
 
 -- the bytes of the next record that came
@@ -39,66 +44,84 @@ seen_as Device = Truncated
 seen_as OutOfMemory = Truncated
 
 -- why the magic was not read, and the bytes that came instead
-abbrev pub StopsInMagic : List ℕ → RecordFaultKind → Type 0
-StopsInMagic bytes kind =
-    IsMagicFault bytes kind
+abbrev pub StopsInMagic : FileKind → List ℕ → RecordFaultKind → Type 0
+StopsInMagic file bytes kind =
+    IsMagicFault file bytes kind
     ⊎ ((kind ≡ Device) × (length bytes < 8))
     ⊎ ((kind ≡ OutOfMemory) × (length bytes < 8))
 
 -- The magic and these records were read, and nothing behind them. The last of them is in the buffer.
-pub record HasRead (a b : Option (List ℕ)) (records : List (List ℕ)) (reader : RecordReader) : Type 0 where
-  pub taken : Consumes a b (magic ++ concat records)
-  pub ascends : Ascends [] records
+pub record HasRead (file : FileKind) (a b : Option (List ℕ)) (records : List (List ℕ)) (reader : RecordReader) : Type 0 where
+  pub file_is : reader.file ≡ file
+  pub taken : Consumes a b (magic_of file ++ concat records)
+  pub ordered : InOrder file [] records
   pub last_is : reader.buffer.bytes.items ≡ last_of [] records
   pub count_is : reader.count ≡ length records
   pub offset_is : reader.offset + length reader.buffer.bytes.items ≡ front_length records
 
--- The magic, these records and their end record were read, and nothing behind it.
-pub record HasReadAll (a b : Option (List ℕ)) (records : List (List ℕ)) (reader : RecordReader) : Type 0 where
-  pub taken : Consumes a b (text_of records)
-  pub ascends : Ascends [] records
-  pub whole : next (last_of [] records) (length records) (end_record (length records)) ≡ Ok 9
+-- a file without an end record ends with the input
+abbrev pub IsEnded : FileKind → Option (List ℕ) → Type 0
+IsEnded Archive left = Unit {0}
+IsEnded Operations_file left = IsAtEnd left
+
+-- The magic, these records and what ends the file behind them were read, and nothing behind it.
+pub record HasReadAll (file : FileKind) (a b : Option (List ℕ)) (records : List (List ℕ)) (reader : RecordReader) : Type 0 where
+  pub taken : Consumes a b (text_of file records)
+  pub ordered : InOrder file [] records
   pub few : length records < 2 ^ 63
+  pub ended : IsEnded file b
   pub offset_is : reader.offset ≡ front_length records
 
 -- what came behind the records, and why reading stopped there
-abbrev pub Stops : List (List ℕ) → List ℕ → RecordFault → Type 0
-Stops records rest fault =
-    ((fault.offset ≡ front_length records) × (fault.kind ≢ OutOfMemory → Fails (last_of [] records) (length records) rest (seen_as fault.kind)))
-    ⊎ ((fault.kind ≡ Trailing) × IsTrailing (last_of [] records) (length records) rest × (fault.offset ≡ front_length records + 9))
+abbrev pub Stops : FileKind → List (List ℕ) → List ℕ → RecordFault → Type 0
+Stops file records rest fault =
+    ((fault.offset ≡ front_length records) × (fault.kind ≢ OutOfMemory → Fails file (last_of [] records) (length records) rest (seen_as fault.kind)))
+    ⊎ ((fault.kind ≡ Trailing) × IsTrailing file (last_of [] records) (length records) rest × (fault.offset ≡ front_length records + 9))
     ⊎ ((fault.kind ≡ Device) × (rest ≡ end_record (length records)) × (fault.offset ≡ front_length records))
 
 -- The magic, these records and what came behind them were read, where reading stopped.
-pub record Stopped (a b : Option (List ℕ)) (records : List (List ℕ)) (fault : RecordFault) : Type 0 where
+pub record Stopped (file : FileKind) (a b : Option (List ℕ)) (records : List (List ℕ)) (fault : RecordFault) : Type 0 where
   pub rest : List ℕ
-  pub taken : Consumes a b (magic ++ (concat records ++ rest))
-  pub ascends : Ascends [] records
+  pub taken : Consumes a b (magic_of file ++ (concat records ++ rest))
+  pub ordered : InOrder file [] records
   pub few : length records < 2 ^ 63
-  pub stops : Stops records rest fault
+  pub unended : IsOfText fault.kind → IsUnended file rest
+  pub stops : Stops file records rest fault
 
 -- reading stopped, in the magic or behind some records
-abbrev pub HasStopped : Option (List ℕ) → Option (List ℕ) → RecordFault → Type 0
-HasStopped a b fault =
-    ((bytes : List ℕ) × Consumes a b bytes × StopsInMagic bytes fault.kind × (fault.offset ≡ 0))
-    ⊎ ((records : List (List ℕ)) × Stopped a b records fault)
+abbrev pub HasStopped : FileKind → Option (List ℕ) → Option (List ℕ) → RecordFault → Type 0
+HasStopped file a b fault =
+    ((bytes : List ℕ) × Consumes a b bytes × StopsInMagic file bytes fault.kind × (fault.offset ≡ 0))
+    ⊎ ((records : List (List ℕ)) × Stopped file a b records fault)
 
--- The records that were read make the content.
+-- The records of an archive's text that were read make the content.
 pub record Makes (a b : Option (List ℕ)) (o : Operations) (reader : RecordReader) : Type 0 where
   pub records : List (List ℕ)
-  pub read : HasRead a b records reader
+  pub read : HasRead Archive a b records reader
   pub content : o ≡ set.from_list records
 
 -- The records that were read make the content, and their end record was read.
 pub record MakesAll (a b : Option (List ℕ)) (o : Operations) (reader : RecordReader) : Type 0 where
   pub records : List (List ℕ)
-  pub read : HasReadAll a b records reader
+  pub read : HasReadAll Archive a b records reader
   pub content : o ≡ set.from_list records
 
--- The text of these records was read, and they make the content.
+-- An archive's text was read, and its records make the content.
 pub record IsReadTo (a b : Option (List ℕ)) (o : Operations) : Type 0 where
   pub records : List (List ℕ)
   pub few : length records < 2 ^ 63
-  pub taken : Consumes a b (text_of records)
-  pub ascends : Ascends [] records
-  pub at_end : IsAtEnd b
+  pub taken : Consumes a b (text_of Archive records)
+  pub ordered : InOrder Archive [] records
   pub content : o ≡ set.from_list records
+
+-- The records of these operations were read, in their order.
+pub record Lists (a b : Option (List ℕ)) (operations : List Operation) (reader : RecordReader) : Type 0 where
+  pub read : HasRead Operations_file a b (map rec operations) reader
+  pub are : All IsOperation operations
+
+-- The text of these operations was read, to the end of the input.
+pub record AreRead (a b : Option (List ℕ)) (operations : List Operation) : Type 0 where
+  pub few : length operations < 2 ^ 63
+  pub taken : Consumes a b (text_of Operations_file (map rec operations))
+  pub at_end : IsAtEnd b
+  pub are : All IsOperation operations

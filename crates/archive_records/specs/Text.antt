@@ -1,48 +1,54 @@
--- The text of a content.
-use Rattle.std.specs.Prelude.{◌≡◌, ℕ, Bool, true, List, [], ◌∷◌, ◌++◌, ◌↔◌, length, Contains}
+-- The texts of files: that of a content, and that of operations.
+use Rattle.std.specs.Prelude.{◌≡◌, ℕ, true, List, [], ◌∷◌, ◌++◌, ◌↔◌, length, map, All, Contains}
 use Rattle.std.specs.Int.{w64, to_be_bytes}
 use Rattle.std.specs.List.{concat}
 use Rattle.std.specs.List.Sorted.{IsStrictlySortedBy}
-use Rattle.std.specs.Ordering.{is_lt, nat_cmp}
+use Rattle.std.specs.Ordering.{nat_cmp}
 use Rattle.std.specs.Cmp.Lexicographic.{slice_cmp}
 use Rattle.std.specs.FinSet as set
 use Rattle.join_core.specs.Listing.{listing}
-use Rattle.archive_core.specs.Record.{IsRecord}
+use Rattle.archive_core.specs.declared.operations.Operation.{Operation}
+use Rattle.archive_core.specs.Record.{IsRecord, IsOperation, rec}
 use Rattle.archive_core.specs.Content.{Operations}
-
--- MSYMARC1
-abbrev pub magic : List ℕ
-magic = 0x4d ∷ 0x53 ∷ 0x59 ∷ 0x4d ∷ 0x41 ∷ 0x52 ∷ 0x43 ∷ 0x31 ∷ []
+use Rattle.archive_records.specs.declared.kind.FileKind.{FileKind}
+use Rattle.archive_records.specs.declared.kind.FileKind.TheVariants.{Archive, Operations as Operations_file}
+use Rattle.archive_records.specs.Kind.{magic, operations_magic, magic_of, may_follow}
 
 -- the end record of so many records
 unfoldable pub end_record : ℕ → List ℕ
 end_record count = 3 ∷ to_be_bytes w64 count
 
+-- what stands behind so many records: an end record, or nothing
+abbrev pub ending : FileKind → ℕ → List ℕ
+ending Archive count = end_record count
+ending Operations_file count = []
+
 -- the text of these records
-abbrev pub text_of : List (List ℕ) → List ℕ
-text_of records = magic ++ (concat records ++ end_record (length records))
+abbrev pub text_of : FileKind → List (List ℕ) → List ℕ
+text_of file records = magic_of file ++ (concat records ++ ending file (length records))
 
 -- the text of a content: its records strictly ascending in byte order, between the magic and the end record
 pub record IsWritten (o : Operations) (text : List ℕ) : Type 0 where
   pub records : List (List ℕ)
   pub ascending : IsStrictlySortedBy (slice_cmp nat_cmp) records
   pub members : (r : List ℕ) → Contains records r ↔ (set.contains o r ≡ true)
-  pub whole : text ≡ text_of records
+  pub whole : text ≡ text_of Archive records
 
 -- the text, as the content determines it
 unfoldable pub written : Operations → List ℕ
 written o = magic ++ (concat (listing o) ++ end_record (set.len o))
 
--- the byte order
-unfoldable pub below : List ℕ → List ℕ → Bool
-below a b = is_lt (slice_cmp nat_cmp a b)
+-- the text of operations: the magic and their records, in their order and as often as they come
+pub record IsOperationsText (text : List ℕ) (operations : List Operation) : Type 0 where
+  pub are : All IsOperation operations
+  pub whole : text ≡ operations_magic ++ concat (map rec operations)
 
--- records of operations, each above the one before it, and the first above low
-abbrev pub Ascends : List ℕ → List (List ℕ) → Type 0
-Ascends low [] = Unit {0}
-Ascends low (x ∷ xs) = IsRecord x × (below low x ≡ true) × Ascends x xs
+-- records of operations, each of which may follow the one before it, and the first of which may follow low
+abbrev pub InOrder : FileKind → List ℕ → List (List ℕ) → Type 0
+InOrder file low [] = Unit {0}
+InOrder file low (x ∷ xs) = IsRecord x × (may_follow file low x ≡ true) × InOrder file x xs
 
--- the last record, or low where there is none; nothing is below the empty list
+-- the last record, or low where there is none; the empty list is below every record
 abbrev pub last_of : List ℕ → List (List ℕ) → List ℕ
 last_of low [] = low
 last_of low (x ∷ xs) = last_of x xs

@@ -68,6 +68,7 @@ pub fn fill<R: Source>(
     ensures err { OnErr result (buffer.new.at < buffer.old.at + count) }
     ensures part { IfErr result (λ kind. seen_as kind ≡ Truncated) }
     ensures ended { IfErr result (λ kind. kind ≡ Truncated → IsAtEnd (R.left r.new)) }
+    ensures told { IfErr result (λ kind. kind ≡ Truncated → R.failures r.new ≡ R.failures r.old) }
     ensures device { IfErr result (λ kind. kind ≡ Device → FailedIn (R.failures r.old) (R.failures r.new)) }
     ensures unfailed { OnOk result (R.failures r.new ≡ R.failures r.old) }
 {

@@ -2,14 +2,14 @@
 
 use archive_core::SliceFault;
 
-/// Why bytes are no text of an archive, or why they were not read to their end.
+/// Why bytes are no text of an archive or of operations, or why they were not read to their end.
 #[derive(Clone, Copy, Debug, PartialEq, Eq)]
 pub enum RecordFaultKind {
-    /// One of the first eight bytes is not that of the magic `MSYMARC1`.
+    /// One of the first eight bytes is not that of the file's magic, `MSYMARC1` or `MSYMOPS1`.
     BadMagic,
     /// The input ends inside the magic, inside a record, or where one must begin.
     Truncated,
-    /// The tag is none of a retirement, an admission or an end record.
+    /// The tag is none of a retirement, an admission or, in an archive, an end record.
     BadTag,
     /// An admission claims a slice of more than 4,294,967,295 bytes.
     TooLarge,

@@ -11,6 +11,7 @@ ghost use Rattle.archive_records.specs.Reading.{bytes_so_far, seen_as, Over};
 use crate::buffer::{Buffer, fill};
 use crate::fault::RecordFaultKind;
 use crate::head::{body_length_of, head_length_of};
+use crate::kind::FileKind;
 use byte_device::Source;
 use std::cmp::Ordering;
 
@@ -19,6 +20,7 @@ const LARGEST_SLICE: u64 = 4294967295;
 
 /// Reads the head of the next record, and says how long it is.
 fn read_head<R: Source>(
+    file: FileKind,
     r: &mut R,
     chunk: &mut [u8],
     buffer: &mut Buffer,
@@ -28,16 +30,17 @@ fn read_head<R: Source>(
     ensures within { buffer.new.at ≤ length buffer.new.bytes.items }
     ensures taken { Consumes (R.left r.old) (R.left r.new) (bytes_so_far buffer.new) }
     ensures over { (last : List ℕ) → Over last buffer.old → Over last buffer.new }
-    ensures head { IfOk result (λ head. head_length (slice_index (bytes_so_far buffer.new) 0) ≡ Some head) }
+    ensures head { IfOk result (λ head. head_length file (slice_index (bytes_so_far buffer.new) 0) ≡ Some head) }
     ensures len { IfOk result (λ head. buffer.new.at ≡ head) }
     ensures long { IfOk result (λ head. 8 < head) }
-    ensures framed { IfErr result (λ kind. framed (bytes_so_far buffer.new) ≡ Err (seen_as kind)) }
+    ensures framed { IfErr result (λ kind. framed file (bytes_so_far buffer.new) ≡ Err (seen_as kind)) }
     ensures ended { IfErr result (λ kind. kind ≡ Truncated → IsAtEnd (R.left r.new)) }
+    ensures told { IfErr result (λ kind. kind ≡ Truncated → R.failures r.new ≡ R.failures r.old) }
     ensures device { IfErr result (λ kind. kind ≡ Device → FailedIn (R.failures r.old) (R.failures r.new)) }
     ensures unfailed { OnOk result (R.failures r.new ≡ R.failures r.old) }
 {
     fill(r, chunk, buffer, 1)?;
-    let Some(head) = head_length_of(&buffer.bytes[..buffer.at]) else {
+    let Some(head) = head_length_of(file, &buffer.bytes[..buffer.at]) else {
         return Err(RecordFaultKind::BadTag);
     };
     fill(r, chunk, buffer, head - 1)?;
@@ -46,6 +49,7 @@ fn read_head<R: Source>(
 
 /// Reads what follows the head.
 fn read_body<R: Source>(
+    file: FileKind,
     r: &mut R,
     chunk: &mut [u8],
     buffer: &mut Buffer,
@@ -53,14 +57,15 @@ fn read_body<R: Source>(
 ) -> Result<(), RecordFaultKind>
     requires room { 0 < length chunk.old }
     requires within { buffer.old.at ≤ length buffer.old.bytes.items }
-    requires head { head_length (slice_index (bytes_so_far buffer.old) 0) ≡ Some head }
+    requires head { head_length file (slice_index (bytes_so_far buffer.old) 0) ≡ Some head }
     requires len { buffer.old.at ≡ head }
     requires long { 8 < head }
     ensures within { buffer.new.at ≤ length buffer.new.bytes.items }
     ensures fills { Fills (R.left r.old) (R.left r.new) (bytes_so_far buffer.old) (bytes_so_far buffer.new) }
     ensures over { (last : List ℕ) → Over last buffer.old → Over last buffer.new }
-    ensures framed { MatchResult result (λ _. framed (bytes_so_far buffer.new) ≡ Ok buffer.new.at) (λ kind. framed (bytes_so_far buffer.new) ≡ Err (seen_as kind)) }
+    ensures framed { MatchResult result (λ _. framed file (bytes_so_far buffer.new) ≡ Ok buffer.new.at) (λ kind. framed file (bytes_so_far buffer.new) ≡ Err (seen_as kind)) }
     ensures ended { IfErr result (λ kind. kind ≡ Truncated → IsAtEnd (R.left r.new)) }
+    ensures told { IfErr result (λ kind. kind ≡ Truncated → R.failures r.new ≡ R.failures r.old) }
     ensures device { IfErr result (λ kind. kind ≡ Device → FailedIn (R.failures r.old) (R.failures r.new)) }
     ensures unfailed { OnOk result (R.failures r.new ≡ R.failures r.old) }
 {
@@ -73,6 +78,7 @@ fn read_body<R: Source>(
 
 /// Reads the next record, or the end record, over the last one.
 pub fn read_record<R: Source>(
+    file: FileKind,
     r: &mut R,
     chunk: &mut [u8],
     buffer: &mut Buffer,
@@ -81,13 +87,14 @@ pub fn read_record<R: Source>(
     ensures within { buffer.new.at ≤ length buffer.new.bytes.items }
     ensures taken { Consumes (R.left r.old) (R.left r.new) (bytes_so_far buffer.new) }
     ensures over { Over buffer.old.bytes.items buffer.new }
-    ensures framed { MatchResult result (λ _. framed (bytes_so_far buffer.new) ≡ Ok buffer.new.at) (λ kind. framed (bytes_so_far buffer.new) ≡ Err (seen_as kind)) }
+    ensures framed { MatchResult result (λ _. framed file (bytes_so_far buffer.new) ≡ Ok buffer.new.at) (λ kind. framed file (bytes_so_far buffer.new) ≡ Err (seen_as kind)) }
     ensures ended { IfErr result (λ kind. kind ≡ Truncated → IsAtEnd (R.left r.new)) }
+    ensures told { IfErr result (λ kind. kind ≡ Truncated → R.failures r.new ≡ R.failures r.old) }
     ensures device { IfErr result (λ kind. kind ≡ Device → FailedIn (R.failures r.old) (R.failures r.new)) }
     ensures unfailed { OnOk result (R.failures r.new ≡ R.failures r.old) }
 {
     buffer.at = 0;
     buffer.order = Ordering::Equal;
-    let head = read_head(r, chunk, buffer)?;
-    read_body(r, chunk, buffer, head)
+    let head = read_head(file, r, chunk, buffer)?;
+    read_body(file, r, chunk, buffer, head)
 }

@@ -5,9 +5,11 @@ ghost use Rattle.std.specs.Int.{w32, w64, to_be_bytes};
 ghost use Rattle.archive_core.specs.Key.{IsKey, key_bytes};
 ghost use Rattle.archive_core.specs.Valid.{key_of};
 ghost use Rattle.archive_core.specs.Record.{retirement_record};
+ghost use Rattle.archive_records.specs.Kind.{end_length};
 ghost use Rattle.archive_records.specs.Layout.{head_length, slice_length, body_length, record_count};
 ghost use Rattle.archive_records.specs.Text.{end_record};
 
+use crate::kind::FileKind;
 use archive_core::{ArchKey, Digest, Slice, SliceKey};
 use byteorder::{BigEndian, ByteOrder};
 use uuid::Uuid;
@@ -24,26 +26,37 @@ pub const ADMISSION_HEAD_LEN: usize = 33;
 
 pub const END_LEN: usize = 9;
 
+// How long an end record is, where there is one.
+fn end_length_of(file: FileKind) -> Option<usize>
+    ensures value { result ≡ end_length file }
+    ensures long { IfSome result (λ head. (8 < head) × (head < 58)) }
+{
+    match file {
+        FileKind::Archive => Some(END_LEN),
+        FileKind::Operations => None,
+    }
+}
+
 /// How long the head is, by its tag.
 #[tactic(auto, unfolding(crate::specs::Layout::head_length))]
-pub fn head_length_of(bytes: &[u8]) -> Option<usize>
+pub fn head_length_of(file: FileKind, bytes: &[u8]) -> Option<usize>
     requires { 0 < length bytes.now }
-    ensures value { result ≡ head_length (slice_index bytes.now 0) }
+    ensures value { result ≡ head_length file (slice_index bytes.now 0) }
     ensures long { IfSome result (λ head. (8 < head) × (head < 58)) }
 {
     match bytes[0] {
         RETIREMENT => Some(RETIREMENT_LEN),
         ADMISSION => Some(ADMISSION_HEAD_LEN),
-        END => Some(END_LEN),
+        END => end_length_of(file),
         _ => None,
     }
 }
 
 /// How many bytes follow the head.
-#[tactic(auto, unfolding(crate::specs::Layout::body_length, crate::specs::Layout::slice_length, crate::specs::Layout::head_length))]
+#[tactic(auto, unfolding(crate::specs::Layout::body_length, crate::specs::Layout::slice_length))]
 pub fn body_length_of(head: &[u8]) -> u64
     requires one { 0 < length head.now }
-    requires whole { head_length (slice_index head.now 0) ≡ Some (length head.now) }
+    requires whole { slice_index head.now 0 ≡ 2 → 33 ≤ length head.now }
     ensures { result ≡ body_length head.now }
 {
     if head[0] == ADMISSION {

@@ -1,12 +1,14 @@
 //! What the definitions say of each other. Each law is a function without a body, and its contract the law.
 
-ghost use Rattle.std.specs.Prelude.{◌≡◌, ◌+◌, ◌<◌, ◌^◌, ◌++◌, ◌↔◌, ◌⊎◌, ℕ, List, [], slice_index};
+ghost use Rattle.std.specs.Prelude.{◌≡◌, ◌≢◌, ◌+◌, ◌<◌, ◌^◌, ◌++◌, ◌↔◌, ◌⊎◌, ℕ, List, [], slice_index};
 ghost use Rattle.std.specs.FinSet as set;
 ghost use Rattle.archive_core.specs.Content.{Operations, IsContent};
-ghost use Rattle.archive_records.specs.declared.fault.RecordFaultKind.TheVariants.{Trailing};
+ghost use Rattle.archive_records.specs.declared.fault.RecordFaultKind.TheVariants.{NotAscending, BadCount, Trailing};
 ghost use Rattle.archive_records.specs.declared.fault.RecordFault.{RecordFault};
-ghost use Rattle.archive_records.specs.Text.{IsWritten, written};
-ghost use Rattle.archive_records.specs.Fault.{IsFault, IsMagicFault};
+ghost use Rattle.archive_core.specs.declared.operations.Operation.{Operation};
+ghost use Rattle.archive_records.specs.declared.kind.FileKind.{FileKind};
+ghost use Rattle.archive_records.specs.Text.{IsWritten, written, IsOperationsText};
+ghost use Rattle.archive_records.specs.Fault.{IsFault, IsOperationsFault, IsFaultOf, IsMagicFault};
 ghost use Rattle.archive_records.specs.Front.{IsLongestFront, front_length};
 
 /// A content has exactly one text: the one that `written` gives.
@@ -41,5 +43,30 @@ pub fn text_has_no_fault()
 
 /// Behind the magic a fault stands at the end of the longest good front, and bytes too many behind the end record there.
 pub fn longest_front()
-    ensures { (text : List ℕ) (fault : RecordFault) → IsFault text fault → IsMagicFault text fault.kind ⊎ ((records : List (List ℕ)) × IsLongestFront text records × ((fault.offset ≡ front_length records) ⊎ ((fault.kind ≡ Trailing) × (fault.offset ≡ front_length records + 9)))) }
+    ensures { (file : FileKind) (text : List ℕ) (fault : RecordFault) → IsFaultOf file text fault → IsMagicFault file text fault.kind ⊎ ((records : List (List ℕ)) × IsLongestFront file text records × ((fault.offset ≡ front_length records) ⊎ ((fault.kind ≡ Trailing) × (fault.offset ≡ front_length records + 9)))) }
+{}
+
+/// The text of operations is that of one list only.
+pub fn one_list_of_operations()
+    ensures { (text : List ℕ) (a b : List Operation) → IsOperationsText text a → IsOperationsText text b → a ≡ b }
+{}
+
+/// Bytes are the text of operations, or have a fault as such.
+pub fn operations_or_fault()
+    ensures { (text : List ℕ) → ((i : ℕ) → slice_index text i < 256) → ((operations : List Operation) × IsOperationsText text operations) ⊎ ((fault : RecordFault) × IsOperationsFault text fault) }
+{}
+
+/// They have one fault at most.
+pub fn one_fault_of_operations()
+    ensures { (text : List ℕ) (f g : RecordFault) → IsOperationsFault text f → IsOperationsFault text g → f ≡ g }
+{}
+
+/// The text of operations has no fault, however many there are.
+pub fn operations_have_no_fault()
+    ensures { (text : List ℕ) (operations : List Operation) (fault : RecordFault) → IsOperationsText text operations → IsOperationsFault text fault → ⊥ }
+{}
+
+/// An operations file has no order, no number of records and nothing behind one.
+pub fn faults_of_operations()
+    ensures { (text : List ℕ) (fault : RecordFault) → IsOperationsFault text fault → (fault.kind ≢ NotAscending) × (fault.kind ≢ BadCount) × (fault.kind ≢ Trailing) }
 {}

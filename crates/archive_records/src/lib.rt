@@ -1,15 +1,19 @@
-//! The text of an archive: written, and read back exactly, over any device.
+//! The text of an archive: written, and read back exactly, over any device; and lists of operations, read.
 //!
 //! A text is the magic `MSYMARC1`, the records of the archive's operations strictly ascending in byte order, and an end
 //! record with their number; all numbers are big-endian. A record is a tag, a key, and for a retirement (tag 1) the
 //! digest, for an admission (tag 2) the length of the slice in eight bytes and the slice. So a content has one text, and
 //! a text one content.
 //!
+//! An operations file is the magic `MSYMOPS1` and such records in any order, with repeats, up to the end of the input.
+//!
 //! - `head`: what stands at which place of a record;
 //! - `writing`: [`write_archive`];
 //! - `fault`: why a text is refused;
+//! - `kind`: what each kind of file begins with, how its records follow one another and how it ends;
 //! - `buffer`, `frame`, `next`, `reader`: one record after another, each read over the last and compared with it;
-//! - `reading`: [`read_archive`];
+//! - `reading`: [`read_archive`] and [`read_front`];
+//! - `operations`: [`read_ops`];
 //! - [`laws`]: what holds of texts and their faults.
 #![tactic(auto)]
 
@@ -17,12 +21,17 @@ mod buffer;
 mod fault;
 mod frame;
 mod head;
+mod kind;
 pub mod laws;
 mod next;
+mod operations;
 mod reader;
 mod reading;
+#[cfg(test)]
+mod tests;
 mod writing;
 
 pub use fault::{RecordFault, RecordFaultKind};
-pub use reading::read_archive;
+pub use operations::read_ops;
+pub use reading::{read_archive, read_front};
 pub use writing::{Sizes, write_archive};

@@ -1,24 +1,25 @@
 //! A source that is read record by record.
 
-ghost use Rattle.std.specs.Prelude.{◌≡◌, ◌+◌, ◌*◌, ◌<◌, ◌≤◌, ◌^◌, ℕ, List, Option, [], ◌∷◌, ◌++◌, true, false, length, take, OnOk, IfOk, IfErr, MatchResult, IsTrue, ◌↔◌};
+ghost use Rattle.std.specs.Prelude.{◌≡◌, ◌≢◌, ◌+◌, ◌*◌, ◌<◌, ◌≤◌, ◌^◌, ℕ, List, Option, [], ◌∷◌, ◌++◌, true, false, length, take, OnOk, IfOk, IfErr, MatchResult, IsTrue, ◌↔◌};
 ghost use Rattle.std.specs.Io.KnownBytes.{Consumes, IsAtEnd};
 ghost use Rattle.byte_device.specs.Devices.{FailedIn};
 ghost use Rattle.archive_core.specs.Record.{IsRecord};
-ghost use Rattle.archive_records.specs.declared.fault.RecordFaultKind.TheVariants.{Truncated, Device};
-ghost use Rattle.archive_records.specs.Text.{magic, below, last_of};
+ghost use Rattle.archive_records.specs.declared.kind.FileKind.{FileKind};
+ghost use Rattle.archive_records.specs.declared.kind.FileKind.TheVariants.{Archive};
+ghost use Rattle.archive_records.specs.declared.fault.RecordFaultKind.TheVariants.{Truncated, Trailing, Device};
+ghost use Rattle.archive_records.specs.Kind.{magic_of, may_follow};
+ghost use Rattle.archive_records.specs.Text.{last_of};
 ghost use Rattle.archive_records.specs.Reading.{bytes_so_far, StopsInMagic, HasRead, HasReadAll, Stopped};
 
 use crate::buffer::{Buffer, fill};
 use crate::fault::{RecordFault, RecordFaultKind};
+use crate::kind::FileKind;
 use crate::next::read_next;
 use byte_device::{Failed, Source, is_at_end};
 use memory::{Heap, NoMemory};
 use std::cmp::Ordering;
 
-/// `MSYMARC1`.
-pub const MAGIC: [u8; 8] = *b"MSYMARC1";
-
-/// How many records a text has at most.
+/// How many records a file has at most.
 const MOST: u64 = 9223372036854775807;
 
 /// How many bytes are pulled at once, at most.
@@ -27,11 +28,12 @@ const CHUNK: usize = 65536;
 /// What was read: the last record, how many there were, and where the last one begins.
 #[derive(Drop)]
 pub struct RecordReader {
+    pub file: FileKind,
     pub buffer: Buffer,
     /// Where the next piece of a record is pulled to.
     pub chunk: Vec<u8, Heap>,
     pub count: u64,
-    /// How many bytes stand before the record in the buffer, or before the end record.
+    /// How many bytes stand before the record in the buffer, or before what ends the file.
     pub offset: u128,
 }
 
@@ -45,15 +47,16 @@ fn chunk_of(size: usize, heap: &Heap) -> Result<Vec<u8, Heap>, NoMemory>
 }
 
 /// Whether these bytes are as the magic begins.
-fn begins_magic(bytes: &[u8]) -> bool
+fn begins_magic(file: FileKind, bytes: &[u8]) -> bool
     requires { length bytes.now ≤ 8 }
-    ensures { IsTrue result ↔ (bytes.now ≡ take (length bytes.now) magic) }
+    ensures { IsTrue result ↔ (bytes.now ≡ take (length bytes.now) (magic_of file)) }
 {
-    bytes == &MAGIC[..bytes.len()]
+    bytes == &file.magic()[..bytes.len()]
 }
 
 /// Reads the magic into the empty buffer.
 fn read_magic<R: Source>(
+    file: FileKind,
     r: &mut R,
     chunk: &mut [u8],
     buffer: &mut Buffer,
@@ -61,22 +64,22 @@ fn read_magic<R: Source>(
     requires room { 0 < length chunk.old }
     requires start { buffer.old.at ≡ 0 }
     ensures taken { Consumes (R.left r.old) (R.left r.new) (bytes_so_far buffer.new) }
-    ensures magic { OnOk result (bytes_so_far buffer.new ≡ magic) }
-    ensures stops { IfErr result (λ kind. StopsInMagic (bytes_so_far buffer.new) kind) }
+    ensures magic { OnOk result (bytes_so_far buffer.new ≡ magic_of file) }
+    ensures stops { IfErr result (λ kind. StopsInMagic file (bytes_so_far buffer.new) kind) }
     ensures ended { IfErr result (λ kind. kind ≡ Truncated → IsAtEnd (R.left r.new)) }
     ensures device { IfErr result (λ kind. kind ≡ Device → FailedIn (R.failures r.old) (R.failures r.new)) }
     ensures unfailed { OnOk result (R.failures r.new ≡ R.failures r.old) }
 {
     match fill(r, chunk, buffer, 8) {
         Ok(()) => {
-            if begins_magic(&buffer.bytes[..buffer.at]) {
+            if begins_magic(file, &buffer.bytes[..buffer.at]) {
                 Ok(())
             } else {
                 Err(RecordFaultKind::BadMagic)
             }
         }
         Err(RecordFaultKind::Truncated) => {
-            if begins_magic(&buffer.bytes[..buffer.at]) {
+            if begins_magic(file, &buffer.bytes[..buffer.at]) {
                 Err(RecordFaultKind::Truncated)
             } else {
                 Err(RecordFaultKind::BadMagic)
@@ -89,13 +92,17 @@ fn read_magic<R: Source>(
 
 impl RecordReader {
     /// Reads the magic.
-    pub fn begin<R: Source>(heap: Heap, r: &mut R) -> Result<RecordReader, RecordFault>
+    pub fn begin<R: Source>(
+        heap: Heap,
+        file: FileKind,
+        r: &mut R,
+    ) -> Result<RecordReader, RecordFault>
         ensures room { IfOk result (λ reader. 0 < length reader.chunk.items) }
-        ensures read { IfOk result (λ reader. HasRead (R.left r.old) (R.left r.new) [] reader) }
+        ensures read { IfOk result (λ reader. HasRead file (R.left r.old) (R.left r.new) [] reader) }
         ensures count { IfOk result (λ reader. reader.count ≡ 0) }
         ensures offset { IfOk result (λ reader. reader.offset + length reader.buffer.bytes.items ≡ 8) }
         ensures start { IfErr result (λ fault. fault.offset ≡ 0) }
-        ensures stops { IfErr result (λ fault. (bytes : List ℕ) × Consumes (R.left r.old) (R.left r.new) bytes × StopsInMagic bytes fault.kind) }
+        ensures stops { IfErr result (λ fault. (bytes : List ℕ) × Consumes (R.left r.old) (R.left r.new) bytes × StopsInMagic file bytes fault.kind) }
         ensures ended { IfErr result (λ fault. fault.kind ≡ Truncated → IsAtEnd (R.left r.new)) }
         ensures device { IfErr result (λ fault. fault.kind ≡ Device → FailedIn (R.failures r.old) (R.failures r.new)) }
         ensures unfailed { OnOk result (R.failures r.new ≡ R.failures r.old) }
@@ -111,11 +118,12 @@ impl RecordReader {
             at: 0,
             order: Ordering::Equal,
         };
-        if let Err(kind) = read_magic(r, &mut chunk, &mut buffer) {
+        if let Err(kind) = read_magic(file, r, &mut chunk, &mut buffer) {
             return Err(RecordFault { kind, offset: 0 });
         }
         buffer.bytes.clear();
         Ok(RecordReader {
+            file,
             buffer,
             chunk,
             count: 0,
@@ -123,16 +131,17 @@ impl RecordReader {
         })
     }
 
-    /// Reads the next record over the last, or else the end record, and says whether it was the end record.
+    /// Reads the next record over the last, or else what ends the file, and says whether the file ends.
     pub fn advance<R: Source>(&mut self, r: &mut R) -> Result<bool, RecordFault>
         requires room { 0 < length self.old.chunk.items }
         requires few { self.old.count < 2 ^ 63 }
         requires fits { self.old.offset + length self.old.buffer.bytes.items ≤ 8 + self.old.count * 2 ^ 64 }
         ensures room { 0 < length self.new.chunk.items }
-        ensures item { IfOk result (λ end. end ≡ false → (a : Option (List ℕ)) (records : List (List ℕ)) → HasRead a (R.left r.old) records self.old → HasRead a (R.left r.new) (records ++ self.new.buffer.bytes.items ∷ []) self.new × (below (last_of [] records) self.new.buffer.bytes.items ≡ true)) }
+        ensures item { IfOk result (λ end. end ≡ false → (file : FileKind) (a : Option (List ℕ)) (records : List (List ℕ)) → HasRead file a (R.left r.old) records self.old → HasRead file a (R.left r.new) (records ++ self.new.buffer.bytes.items ∷ []) self.new × (may_follow file (last_of [] records) self.new.buffer.bytes.items ≡ true)) }
         ensures known { IfOk result (λ end. end ≡ false → IsRecord self.new.buffer.bytes.items) }
-        ensures end { IfOk result (λ end. end ≡ true → (a : Option (List ℕ)) (records : List (List ℕ)) → HasRead a (R.left r.old) records self.old → HasReadAll a (R.left r.new) records self.new) }
-        ensures stopped { IfErr result (λ fault. (a : Option (List ℕ)) (records : List (List ℕ)) → HasRead a (R.left r.old) records self.old → Stopped a (R.left r.new) records fault) }
+        ensures end { IfOk result (λ end. end ≡ true → (file : FileKind) (a : Option (List ℕ)) (records : List (List ℕ)) → HasRead file a (R.left r.old) records self.old → HasReadAll file a (R.left r.new) records self.new) }
+        ensures no_trailing { IfErr result (λ fault. fault.kind ≢ Trailing) }
+        ensures stopped { IfErr result (λ fault. (file : FileKind) (a : Option (List ℕ)) (records : List (List ℕ)) → HasRead file a (R.left r.old) records self.old → Stopped file a (R.left r.new) records fault) }
         ensures more { IfOk result (λ end. end ≡ false → self.new.count ≡ self.old.count + 1) }
         ensures few { OnOk result (self.new.count < 2 ^ 63) }
         ensures fits { IfOk result (λ end. end ≡ false → self.new.offset + length self.new.buffer.bytes.items ≤ 8 + self.new.count * 2 ^ 64) }
@@ -142,7 +151,7 @@ impl RecordReader {
         ensures unfailed { OnOk result (R.failures r.new ≡ R.failures r.old) }
     {
         let offset = self.offset + self.buffer.bytes.len() as u128;
-        match read_next(r, &mut self.chunk, &mut self.buffer, self.count) {
+        match read_next(self.file, r, &mut self.chunk, &mut self.buffer, self.count) {
             Ok(true) => {
                 self.offset = offset;
                 Ok(true)
@@ -162,11 +171,11 @@ impl RecordReader {
         }
     }
 
-    /// Whether the input ends behind the end record.
+    /// Whether the input ends behind the end record of an archive.
     pub fn finish<R: Source>(&self, r: &mut R) -> Result<(), RecordFault>
         requires { self.now.offset ≤ 8 + 2 ^ 127 }
         ensures at_end { OnOk result (IsAtEnd (R.left r.new) × Consumes (R.left r.old) (R.left r.new) []) }
-        ensures stopped { IfErr result (λ fault. (a : Option (List ℕ)) (records : List (List ℕ)) → HasReadAll a (R.left r.old) records self.now → Stopped a (R.left r.new) records fault) }
+        ensures stopped { IfErr result (λ fault. (a : Option (List ℕ)) (records : List (List ℕ)) → HasReadAll Archive a (R.left r.old) records self.now → Stopped Archive a (R.left r.new) records fault) }
         ensures ended { IfErr result (λ fault. fault.kind ≡ Truncated → IsAtEnd (R.left r.new)) }
         ensures device { IfErr result (λ fault. fault.kind ≡ Device → FailedIn (R.failures r.old) (R.failures r.new)) }
         ensures unfailed { OnOk result (R.failures r.new ≡ R.failures r.old) }

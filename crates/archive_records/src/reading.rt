@@ -1,12 +1,13 @@
 //! Archives that are read from a source.
 
-ghost use Rattle.std.specs.Prelude.{◌≡◌, ◌⊎◌, ◌+◌, ◌*◌, ◌<◌, ◌≤◌, ◌^◌, ℕ, List, Option, Some, length, slice_index, OnOk, IfOk, IfErr, IfSome, MatchResult};
+ghost use Rattle.std.specs.Prelude.{◌≡◌, ◌≢◌, ◌⊎◌, ◌+◌, ◌*◌, ◌<◌, ◌≤◌, ◌^◌, ◌++◌, ℕ, List, Option, Some, length, slice_index, OnOk, IfOk, IfErr, IfSome, MatchResult};
 ghost use Rattle.std.specs.FinSet as set;
 ghost use Rattle.std.specs.Io.KnownBytes.{Consumes, IsAtEnd};
 ghost use Rattle.byte_device.specs.Devices.{FailedIn};
-ghost use Rattle.archive_core.specs.Record.{rec, IsRecord};
+ghost use Rattle.archive_core.specs.Record.{rec, IsRecord, IsOperation};
 ghost use Rattle.archive_core.specs.Content.{Operations, IsContent, with_record};
-ghost use Rattle.archive_records.specs.declared.fault.RecordFaultKind.TheVariants.{Truncated, Device, OutOfMemory};
+ghost use Rattle.archive_records.specs.declared.fault.RecordFaultKind.TheVariants.{Truncated, Trailing, Device, OutOfMemory};
+ghost use Rattle.archive_records.specs.declared.kind.FileKind.TheVariants.{Archive};
 ghost use Rattle.archive_records.specs.Text.{written};
 ghost use Rattle.archive_records.specs.Fault.{IsFault, IsOfText};
 ghost use Rattle.archive_records.specs.Front.{IsFrontLength, IsLongestLength};
@@ -14,15 +15,17 @@ ghost use Rattle.archive_records.specs.Reading.{HasStopped, Makes, MakesAll, IsR
 
 use crate::fault::{RecordFault, RecordFaultKind};
 use crate::head::{ADMISSION_HEAD_LEN, RETIREMENT, digest_in, key_in};
+use crate::kind::FileKind;
 use crate::reader::RecordReader;
 use archive_core::{Archive, Operation, Slice};
 use byte_device::Source;
 use memory::{Heap, NoMemory};
 
 /// The operation of a record.
-fn operation_of(heap: Heap, bytes: &[u8]) -> Result<Operation, NoMemory>
+pub fn operation_of(heap: Heap, bytes: &[u8]) -> Result<Operation, NoMemory>
     requires { IsRecord bytes.now }
-    ensures { IfOk result (λ operation. rec operation ≡ bytes.now) }
+    ensures valid { IfOk result (λ operation. IsOperation operation) }
+    ensures bytes { IfOk result (λ operation. rec operation ≡ bytes.now) }
 {
     if bytes[0] == RETIREMENT {
         return Ok(Operation::Retire(key_in(bytes), digest_in(bytes)));
@@ -52,8 +55,9 @@ fn take_records<A: Archive, R: Source>(
     requires few { reader.old.count < 2 ^ 63 }
     requires fits { reader.old.offset + length reader.old.buffer.bytes.items ≤ 8 + reader.old.count * 2 ^ 64 }
     ensures all { OnOk result ((a : Option (List ℕ)) → Makes a (R.left r.old) (A.content archive.old) reader.old → MakesAll a (R.left r.new) (A.content archive.new) reader.new) }
-    ensures stopped { IfErr result (λ fault. (a : Option (List ℕ)) → Makes a (R.left r.old) (A.content archive.old) reader.old → HasStopped a (R.left r.new) fault) }
+    ensures stopped { IfErr result (λ fault. (a : Option (List ℕ)) → Makes a (R.left r.old) (A.content archive.old) reader.old → HasStopped Archive a (R.left r.new) fault) }
     ensures bound { OnOk result (reader.new.offset ≤ 8 + 2 ^ 127) }
+    ensures no_trailing { IfErr result (λ fault. fault.kind ≢ Trailing) }
     ensures ended { IfErr result (λ fault. fault.kind ≡ Truncated → IsAtEnd (R.left r.new)) }
     ensures device { IfErr result (λ fault. fault.kind ≡ Device → FailedIn (R.failures r.old) (R.failures r.new)) }
     ensures unfailed { OnOk result (R.failures r.new ≡ R.failures r.old) }
@@ -73,36 +77,43 @@ fn take_records<A: Archive, R: Source>(
     }
 }
 
-/// Reads the records behind the magic, the end record, and that the input ends.
+/// Reads the records behind the magic, and the end record.
 fn read_rest<A: Archive + Drop, R: Source>(
     heap: &Heap,
     mut archive: A,
     mut reader: RecordReader,
     r: &mut R,
-) -> Result<A, RecordFault>
+) -> Result<(A, RecordReader), RecordFault>
     requires room { 0 < length reader.chunk.items }
     requires few { reader.count < 2 ^ 63 }
     requires fits { reader.offset + length reader.buffer.bytes.items ≤ 8 + reader.count * 2 ^ 64 }
-    ensures read { IfOk result (λ read. (a : Option (List ℕ)) → Makes a (R.left r.old) (A.content archive) reader → IsReadTo a (R.left r.new) (A.content read)) }
-    ensures stopped { IfErr result (λ fault. (a : Option (List ℕ)) → Makes a (R.left r.old) (A.content archive) reader → HasStopped a (R.left r.new) fault) }
+    ensures read { IfOk result (λ read. (a : Option (List ℕ)) → Makes a (R.left r.old) (A.content archive) reader → MakesAll a (R.left r.new) (A.content read.0) read.1) }
+    ensures stopped { IfErr result (λ fault. (a : Option (List ℕ)) → Makes a (R.left r.old) (A.content archive) reader → HasStopped Archive a (R.left r.new) fault) }
+    ensures bound { IfOk result (λ read. read.1.offset ≤ 8 + 2 ^ 127) }
+    ensures no_trailing { IfErr result (λ fault. fault.kind ≢ Trailing) }
     ensures ended { IfErr result (λ fault. fault.kind ≡ Truncated → IsAtEnd (R.left r.new)) }
     ensures device { IfErr result (λ fault. fault.kind ≡ Device → FailedIn (R.failures r.old) (R.failures r.new)) }
     ensures unfailed { OnOk result (R.failures r.new ≡ R.failures r.old) }
 {
     take_records(&mut archive, heap, &mut reader, r)?;
-    reader.finish(r)?;
-    Ok(archive)
+    Ok((archive, reader))
 }
 
-/// The handle for the archive, and that for what is read.
-fn shared(heap: &Heap) -> Result<(Heap, Heap), NoMemory> {
+/// The handle for what is handed out, and that for what is read.
+pub fn shared(heap: &Heap) -> Result<(Heap, Heap), NoMemory> {
     Ok((heap.clone()?, heap.clone()?))
 }
 
-/// Reads a whole input as the text of an archive. What is said is of the bytes that were taken.
-fn read_taken<A: Archive + Drop, R: Source>(heap: Heap, r: &mut R) -> Result<A, RecordFault>
-    ensures read { IfOk result (λ archive. IsReadTo (R.left r.old) (R.left r.new) (A.content archive)) }
-    ensures stopped { IfErr result (λ fault. HasStopped (R.left r.old) (R.left r.new) fault) }
+/// Reads the text of an archive from the front of the input, with the reader that did so. What is said is of the bytes
+/// that were taken.
+fn read_text<A: Archive + Drop, R: Source>(
+    heap: Heap,
+    r: &mut R,
+) -> Result<(A, RecordReader), RecordFault>
+    ensures read { IfOk result (λ read. MakesAll (R.left r.old) (R.left r.new) (A.content read.0) read.1) }
+    ensures stopped { IfErr result (λ fault. HasStopped Archive (R.left r.old) (R.left r.new) fault) }
+    ensures bound { IfOk result (λ read. read.1.offset ≤ 8 + 2 ^ 127) }
+    ensures no_trailing { IfErr result (λ fault. fault.kind ≢ Trailing) }
     ensures ended { IfErr result (λ fault. fault.kind ≡ Truncated → IsAtEnd (R.left r.new)) }
     ensures device { IfErr result (λ fault. fault.kind ≡ Device → FailedIn (R.failures r.old) (R.failures r.new)) }
     ensures unfailed { OnOk result (R.failures r.new ≡ R.failures r.old) }
@@ -113,8 +124,35 @@ fn read_taken<A: Archive + Drop, R: Source>(heap: Heap, r: &mut R) -> Result<A, 
             offset: 0,
         });
     };
-    let reader = RecordReader::begin(buffers, r)?;
+    let reader = RecordReader::begin(buffers, FileKind::Archive, r)?;
     read_rest(&heap, A::empty(own), reader, r)
+}
+
+/// Reads a whole input as the text of an archive. What is said is of the bytes that were taken.
+fn read_whole<A: Archive + Drop, R: Source>(heap: Heap, r: &mut R) -> Result<A, RecordFault>
+    ensures read { IfOk result (λ archive. IsReadTo (R.left r.old) (R.left r.new) (A.content archive)) }
+    ensures at_end { OnOk result (IsAtEnd (R.left r.new)) }
+    ensures stopped { IfErr result (λ fault. HasStopped Archive (R.left r.old) (R.left r.new) fault) }
+    ensures ended { IfErr result (λ fault. fault.kind ≡ Truncated → IsAtEnd (R.left r.new)) }
+    ensures device { IfErr result (λ fault. fault.kind ≡ Device → FailedIn (R.failures r.old) (R.failures r.new)) }
+    ensures unfailed { OnOk result (R.failures r.new ≡ R.failures r.old) }
+{
+    let (archive, reader) = read_text(heap, r)?;
+    reader.finish(r)?;
+    Ok(archive)
+}
+
+/// Reads the text of an archive from the front of the input. What is said is of the bytes that were taken.
+fn read_first<A: Archive + Drop, R: Source>(heap: Heap, r: &mut R) -> Result<A, RecordFault>
+    ensures read { IfOk result (λ archive. IsReadTo (R.left r.old) (R.left r.new) (A.content archive)) }
+    ensures stopped { IfErr result (λ fault. HasStopped Archive (R.left r.old) (R.left r.new) fault) }
+    ensures no_trailing { IfErr result (λ fault. fault.kind ≢ Trailing) }
+    ensures ended { IfErr result (λ fault. fault.kind ≡ Truncated → IsAtEnd (R.left r.new)) }
+    ensures device { IfErr result (λ fault. fault.kind ≡ Device → FailedIn (R.failures r.old) (R.failures r.new)) }
+    ensures unfailed { OnOk result (R.failures r.new ≡ R.failures r.old) }
+{
+    let (archive, _) = read_text(heap, r)?;
+    Ok(archive)
 }
 
 /// Reads an archive: the whole input is its text. The pieces in which the reader gives its bytes do not matter. A fault
@@ -148,5 +186,38 @@ pub fn read_archive<A: Archive + Drop, R: Source>(heap: Heap, r: &mut R) -> Resu
     ensures device_offset { IfErr result (λ fault. fault.kind ≡ Device → (bytes : List ℕ) × Consumes (R.left r.old) (R.left r.new) bytes × IsLongestLength bytes fault.offset) }
     ensures memory_offset { IfErr result (λ fault. fault.kind ≡ OutOfMemory → (bytes : List ℕ) × Consumes (R.left r.old) (R.left r.new) bytes × IsFrontLength bytes fault.offset) }
 {
-    read_taken(heap, r)
+    read_whole(heap, r)
+}
+
+/// Reads an archive from the front of the input: exactly the bytes of its text, and what stands behind them is left for
+/// who reads on. The pieces in which the reader gives its bytes do not matter. A fault leaves no archive, and how much of
+/// a faulty input was read is not promised.
+///
+/// # Errors
+///
+/// Those of [`read_archive`] but for Trailing, in the same order.
+pub fn read_front<A: Archive + Drop, R: Source>(heap: Heap, r: &mut R) -> Result<A, RecordFault>
+    // What is taken is the one text of the archive's content.
+    ensures taken { IfOk result (λ archive. Consumes (R.left r.old) (R.left r.new) (written (A.content archive))) }
+    ensures content { IfOk result (λ archive. IsContent (A.content archive)) }
+    ensures few { IfOk result (λ archive. set.len (A.content archive) < 2 ^ 63) }
+
+    // Where neither the device nor memory failed, the fault is that of the input, and it is never Trailing.
+    ensures refused { IfErr result (λ fault. IsOfText fault.kind → IfSome (R.left r.old) (λ text. IsFault text fault)) }
+    ensures no_trailing { IfErr result (λ fault. fault.kind ≢ Trailing) }
+
+    // An input that begins with the text of a content gives that content and leaves the rest, and is refused for the device
+    // and for memory alone.
+    ensures only { (o : Operations) (rest : List ℕ) → IsContent o → IfSome (R.left r.old) (λ text. text ≡ written o ++ rest → MatchResult result (λ archive. (A.content archive ≡ o) × (R.left r.new ≡ Some rest)) (λ fault. (fault.kind ≡ Device) ⊎ (fault.kind ≡ OutOfMemory))) }
+
+    // Truncated comes only where the reader told its end, and Device only where it failed.
+    ensures ended { IfErr result (λ fault. fault.kind ≡ Truncated → IsAtEnd (R.left r.new)) }
+    ensures device { IfErr result (λ fault. fault.kind ≡ Device → FailedIn (R.failures r.old) (R.failures r.new)) }
+    ensures unfailed { OnOk result (R.failures r.new ≡ R.failures r.old) }
+
+    // The offsets of Device and OutOfMemory are those of `read_archive`.
+    ensures device_offset { IfErr result (λ fault. fault.kind ≡ Device → (bytes : List ℕ) × Consumes (R.left r.old) (R.left r.new) bytes × IsLongestLength bytes fault.offset) }
+    ensures memory_offset { IfErr result (λ fault. fault.kind ≡ OutOfMemory → (bytes : List ℕ) × Consumes (R.left r.old) (R.left r.new) bytes × IsFrontLength bytes fault.offset) }
+{
+    read_first(heap, r)
 }

@@ -8,10 +8,11 @@ ghost use Rattle.join_core.specs.Listing.{listing};
 ghost use Rattle.byte_device.specs.Devices.{FailedIn};
 ghost use Rattle.byte_device.specs.Writes.{WritesFirst};
 ghost use Rattle.archive_core.specs.Record.{lent};
-ghost use Rattle.archive_records.specs.Text.{magic, written};
+ghost use Rattle.archive_records.specs.Kind.{magic};
+ghost use Rattle.archive_records.specs.Text.{written};
 
 use crate::head::{admission_head, end_bytes, retirement_bytes};
-use crate::reader::MAGIC;
+use crate::kind::FileKind;
 use archive_core::{Archive, Record};
 use byte_device::{Sink, WriteFault, put};
 
@@ -73,7 +74,7 @@ fn put_front<A: Archive, W: Sink>(archive: &A, w: &mut W) -> Result<u128, WriteF
     ensures err { IfErr result (λ e. WritesFirst (W.held w.old) (W.held w.new) (magic ++ concat (listing (A.content archive.now))) e.written) }
     ensures failed { IfErr result (λ _. FailedIn (W.failures w.old) (W.failures w.new)) }
 {
-    let done = put(w, 0, &MAGIC)?;
+    let done = put(w, 0, &FileKind::Archive.magic())?;
     put_records(archive, w, done)
 }
 

@@ -1,5 +1,6 @@
+use Rattle.archive_records.specs.declared.kind.FileKind.TheVariants.{Archive}
 use Rattle.archive_records.proofs.Exact.{one_fault as exact}
 use Rattle.archive_records.proofs.laws.one_fault.Goals as goal
 
 pub returns : goal.returns
-returns c = exact
+returns c = exact Archive

@@ -1,5 +1,36 @@
+use Rattle.std.proofs.Common.{length, refl}
+use Rattle.std.proofs.lemmas.Bool.{false≢true}
+use Rattle.archive_records.specs.Reading.{bytes_so_far}
 use Rattle.archive_records.proofs.Holds.{next-framed}
+use Rattle.archive_records.proofs.Ends.{is_three, ending_is, ended_is, open_end, open_ended}
+use Rattle.archive_records.proofs.Steps.{next-follows}
+use Rattle.archive_records.proofs.FaultKinds.{unended_behind}
 use Rattle.archive_records.proofs.next.read_next.Goals as goal
 
-pub test_slice-requires-clause-whole : goal.test_slice-requires-clause-whole
-test_slice-requires-clause-whole g c = rw (c.deref.ensures.value, c.in_ok-end.ensures.whole) (next-framed _ _ _ _ c.in_ok-end.ensures.next)
+pub returns-in-Ok-clause-end : goal.returns-in-Ok-clause-end
+returns-in-Ok-clause-end g c = λ end.
+    let bytes = bytes_so_far c.read_tested.new.buffer in
+    let e = c.in-Ok.ensures.end end in
+    ending_is c.args.file bytes (length bytes) c.args.count (next-framed c.args.file _ _ _ _ c.in-Ok.ensures.next) (is_three bytes e.0) e.1
+
+pub returns-in-Ok-clause-ends : goal.returns-in-Ok-clause-ends
+returns-in-Ok-clause-ends g c = λ end.
+    let bytes = bytes_so_far c.read_tested.new.buffer in
+    let e = c.in-Ok.ensures.end end in
+    ended_is c.args.file _ bytes (length bytes) (next-framed c.args.file _ _ _ _ c.in-Ok.ensures.next) (is_three bytes e.0)
+
+pub returns-in-Ok-clause-follows : goal.returns-in-Ok-clause-follows
+returns-in-Ok-clause-follows g c = λ item. next-follows c.args.file _ _ _ c.in-Ok.ensures.next (c.in-Ok.ensures.item item)
+
+pub returns-then-ends_file-clause-end : goal.returns-then-ends_file-clause-end
+returns-then-ends_file-clause-end g c = λ _. let f = c.if-ends_file.ensures.0 refl in open_end c.args.file c.args.count c.read_tested.new.buffer f.1 f.2
+
+pub returns-then-ends_file-clause-ends : goal.returns-then-ends_file-clause-ends
+returns-then-ends_file-clause-ends g c = λ _. let f = c.if-ends_file.ensures.0 refl in open_ended c.args.file _ f.2 (c.in-Err.ensures.ended f.0)
+
+pub returns-then-ends_file-clause-unfailed : goal.returns-then-ends_file-clause-unfailed
+returns-then-ends_file-clause-unfailed g c = c.in-Err.ensures.told (c.if-ends_file.ensures.0 refl).0
+
+pub returns-else-ends_file-clause-unended : goal.returns-else-ends_file-clause-unended
+returns-else-ends_file-clause-unended g c =
+    unended_behind c.args.file _ _ c.read_tested.new.buffer c.in-Err.kind c.read_tested.ensures.within (λ part at is. false≢true (c.if-ends_file.ensures.1 (part, at, is))) c.in-Err.ensures.fails

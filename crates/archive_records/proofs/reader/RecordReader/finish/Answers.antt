@@ -1,7 +1,10 @@
-use Rattle.archive_records.proofs.Steps.{Stopped-behind}
+use Rattle.archive_records.proofs.Steps.{Stopped-behind, Stopped-end}
 use Rattle.archive_records.proofs.reader.RecordReader.finish.Goals as goal
 
 pub returns-in-Ok-false-clause-stopped : goal.returns-in-Ok-false-clause-stopped
 returns-in-Ok-false-clause-stopped g c =
     let more = c.in-Ok-false.ensures.more c.in-Ok-false.field-0-test in
     λ a records h. Stopped-behind a _ _ records more.0 c.args.self.now h more.1
+
+pub returns-in-Err-clause-stopped : goal.returns-in-Err-clause-stopped
+returns-in-Err-clause-stopped g c = λ a records h. Stopped-end a _ _ records c.args.self.now h c.in-Err.ensures.err

@@ -1,0 +1,220 @@
+-- Which faults a record may have.
+use Rattle.std.proofs.Common.{◌≡◌, ◌≢◌, ℕ, ◌+◌, ◌≤◌, Bool, true, false, cond, ltb, eqb, List, [], length, get_or, take, Option, Some, None, Result, Ok, Err, refl, sym, ap, ◌∙◌, subst, inl, inr, ◌⊎◌, lit≤}
+use Rattle.std.proofs.lemmas.Bool.{cases_Bool, false≢true}
+use Rattle.archive_records.specs.declared.kind.FileKind.{FileKind}
+use Rattle.archive_records.specs.declared.kind.FileKind.TheVariants.{Archive, Operations}
+use Rattle.archive_records.specs.declared.fault.RecordFaultKind.{RecordFaultKind}
+use Rattle.archive_records.specs.declared.fault.RecordFaultKind.TheVariants.{BadMagic, Truncated, BadTag, TooLarge, NotAscending, BadSlice, KeyMismatch, BadCount, Trailing, Device, OutOfMemory}
+use Rattle.archive_records.specs.declared.fault.RecordFault.{RecordFault}
+use Rattle.archive_records.specs.Layout.{head_length, body_length, record_count, largest_slice, framed, framed_by, framed_behind}
+use Rattle.archive_records.specs.Kind.{allows, may_follow}
+use Rattle.archive_records.specs.Text.{last_of}
+use Rattle.archive_records.specs.Fault.{is_end, tested, next, next_by, Fails, IsMagicFault, IsUnended, IsFaultBehind, IsOperationsFault, IsOfText}
+use Rattle.archive_records.specs.declared.buffer.Buffer.{Buffer}
+use Rattle.archive_records.specs.Reading.{bytes_so_far, seen_as, StopsInMagic}
+use Rattle.archive_records.proofs.Laid.{length-bytes_so_far}
+use Rattle.archive_records.proofs.Framed.{framed-empty}
+use Rattle.archive_records.proofs.Holds.{next-framed}
+use Rattle.archive_records.proofs.Ends.{is_three, no_end}
+use Rattle.archive_records.proofs.Grown.{failed, kind_is, no_both, either}
+
+-- the faults of a record's form
+abbrev pub IsOfForm : RecordFaultKind → Type 0
+IsOfForm kind = (kind ≡ Truncated) ⊎ (kind ≡ BadTag) ⊎ (kind ≡ TooLarge)
+
+behind_kind : (head : ℕ) (bytes : List ℕ) (kind : RecordFaultKind) → framed_behind head bytes ≡ failed kind → IsOfForm kind
+unfolding framed_behind
+behind_kind head bytes kind e =
+    elim (either (ltb (length bytes) head) Truncated kind (cond (ltb largest_slice (body_length bytes)) (failed TooLarge) (cond (ltb (length bytes) (head + body_length bytes)) (failed Truncated) (Ok (head + body_length bytes)))) e) [
+      | inl a ↦ inl (sym a.1)
+      | inr a ↦ elim (either (ltb largest_slice (body_length bytes)) TooLarge kind (cond (ltb (length bytes) (head + body_length bytes)) (failed Truncated) (Ok (head + body_length bytes))) a.1) [
+        | inl b ↦ inr (inr (sym b.1))
+        | inr b ↦ elim (either (ltb (length bytes) (head + body_length bytes)) Truncated kind (Ok (head + body_length bytes)) b.1) [
+          | inl d ↦ inl (sym d.1)
+          | inr d ↦ absurd (no_both (head + body_length bytes) kind d.1)
+        ]
+      ]
+    ]
+
+by_kind : (o : Option ℕ) (bytes : List ℕ) (kind : RecordFaultKind) → framed_by o bytes ≡ failed kind → IsOfForm kind
+by_kind None bytes kind e = inr (inl (sym (kind_is BadTag kind e)))
+by_kind (Some head) bytes kind e = behind_kind head bytes kind e
+
+framed_kind : (file : FileKind) (bytes : List ℕ) (kind : RecordFaultKind) → framed file bytes ≡ failed kind → IsOfForm kind
+unfolding framed
+framed_kind file bytes kind e =
+    elim (either (ltb (length bytes) 1) Truncated kind (framed_by (head_length file (get_or bytes 0 0)) bytes) e) [
+      | inl a ↦ inl (sym a.1)
+      | inr a ↦ by_kind (head_length file (get_or bytes 0 0)) bytes kind a.1
+    ]
+
+-- one way of a test
+other : (b : Bool) (n : ℕ) (j k : RecordFaultKind) → cond b (Ok n) (failed j) ≡ failed k → j ≡ k
+other true n j k e = absurd (no_both n k e)
+other false n j k e = kind_is j k e
+
+tested_kind : (file : FileKind) (low : List ℕ) (count : ℕ) (rest : List ℕ) (n : ℕ) (kind : RecordFaultKind) → tested file low count rest n ≡ failed kind → ((is_end rest ≡ true) × (kind ≡ BadCount)) ⊎ ((may_follow file low (take n rest) ≡ false) × (kind ≡ NotAscending))
+unfolding tested
+tested_kind file low count rest n kind e =
+    elim (cases_Bool (is_end rest)) [
+      | inl end ↦ inl (end, sym (other (eqb (record_count rest) count) n BadCount kind (rw end at e)))
+      | inr item ↦ elim (cases_Bool (may_follow file low (take n rest))) [
+        | inl follows ↦ absurd (no_both n kind (rw (item, follows) at e))
+        | inr other ↦ inr (other, sym (kind_is NotAscending kind (rw (item, other) at e)))
+      ]
+    ]
+
+next_by_kind : (r : Result ℕ RecordFaultKind) (file : FileKind) (low : List ℕ) (count : ℕ) (rest : List ℕ) (kind : RecordFaultKind) → framed file rest ≡ r → next_by file r low count rest ≡ failed kind
+    → IsOfForm kind ⊎ ((n : ℕ) × (framed file rest ≡ Ok n) × (((is_end rest ≡ true) × (kind ≡ BadCount)) ⊎ ((may_follow file low (take n rest) ≡ false) × (kind ≡ NotAscending))))
+next_by_kind (Err j) file low count rest kind f e = inl (framed_kind file rest kind (f ∙ e))
+next_by_kind (Ok n) file low count rest kind f e = inr (n, f, tested_kind file low count rest n kind e)
+
+next_kind : (file : FileKind) (low : List ℕ) (count : ℕ) (rest : List ℕ) (kind : RecordFaultKind) → next file low count rest ≡ failed kind
+    → IsOfForm kind ⊎ ((n : ℕ) × (framed file rest ≡ Ok n) × (((is_end rest ≡ true) × (kind ≡ BadCount)) ⊎ ((may_follow file low (take n rest) ≡ false) × (kind ≡ NotAscending))))
+unfolding next
+next_kind file low count rest kind e = next_by_kind (framed file rest) file low count rest kind refl e
+
+form_not_trailing : (kind : RecordFaultKind) → kind ≡ Trailing → IsOfForm kind → ⊥
+form_not_trailing kind t (inl e) = apart (sym e ∙ t)
+  where
+    apart : Truncated ≡ Trailing → ⊥
+    apart h = cc
+form_not_trailing kind t (inr (inl e)) = apart (sym e ∙ t)
+  where
+    apart : BadTag ≡ Trailing → ⊥
+    apart h = cc
+form_not_trailing kind t (inr (inr e)) = apart (sym e ∙ t)
+  where
+    apart : TooLarge ≡ Trailing → ⊥
+    apart h = cc
+
+-- bytes too many are no fault of a record
+fails_not_trailing : (file : FileKind) (low : List ℕ) (count : ℕ) (rest : List ℕ) → Fails file low count rest Trailing → ⊥
+fails_not_trailing file low count rest (inr f) = f.2
+fails_not_trailing file low count rest (inl e) =
+    elim (next_kind file low count rest Trailing e) [
+      | inl form ↦ form_not_trailing Trailing refl form
+      | inr whole ↦ elim whole.2 [
+        | inl count' ↦ bad_count count'.1
+        | inr order ↦ not_ascending order.1
+      ]
+    ]
+  where
+    bad_count : Trailing ≡ BadCount → ⊥
+    bad_count h = cc
+
+    not_ascending : Trailing ≡ NotAscending → ⊥
+    not_ascending h = cc
+
+pub never_trailing : (file : FileKind) (low : List ℕ) (count : ℕ) (rest : List ℕ) (kind : RecordFaultKind) → Fails file low count rest (seen_as kind) → kind ≢ Trailing
+never_trailing file low count rest kind f t = fails_not_trailing file low count rest (subst (λ (k : RecordFaultKind). Fails file low count rest (seen_as k)) t f)
+
+pub magic_never_trailing : (file : FileKind) (bytes : List ℕ) (kind : RecordFaultKind) → StopsInMagic file bytes kind → kind ≢ Trailing
+magic_never_trailing file bytes kind s t = none (subst (StopsInMagic file bytes) t s)
+  where
+    device : Trailing ≡ Device → ⊥
+    device h = cc
+
+    memory : Trailing ≡ OutOfMemory → ⊥
+    memory h = cc
+
+    none : StopsInMagic file bytes Trailing → ⊥
+    none (inl m) = m
+    none (inr (inl d)) = device d.0
+    none (inr (inr d)) = memory d.0
+
+-- ---- where a file does not end
+
+pub as_itself : (kind : RecordFaultKind) → IsOfText kind → seen_as kind ≡ kind
+as_itself Device known = absurd (known.0 refl)
+as_itself OutOfMemory known = absurd (known.1 refl)
+as_itself BadMagic known = refl
+as_itself Truncated known = refl
+as_itself BadTag known = refl
+as_itself TooLarge known = refl
+as_itself NotAscending known = refl
+as_itself (BadSlice fault) known = refl
+as_itself KeyMismatch known = refl
+as_itself BadCount known = refl
+as_itself Trailing known = refl
+
+-- where nothing is left, a part is all that is missing
+empty_fails : (file : FileKind) (low : List ℕ) (count : ℕ) (kind : RecordFaultKind) → Fails file low count [] kind → kind ≡ Truncated
+unfolding next
+empty_fails file low count kind (inl e) = sym (kind_is Truncated kind (sym (ap (λ r. next_by file r low count []) (framed-empty file [] (lit≤ tt))) ∙ e))
+empty_fails file low count kind (inr f) = absurd (no_both f.0 Truncated (sym f.1 ∙ ap (λ r. next_by file r low count []) (framed-empty file [] (lit≤ tt))))
+
+pub unended_is : (file : FileKind) (low : List ℕ) (count : ℕ) (bytes : List ℕ) (kind : RecordFaultKind) → (kind ≡ Truncated → file ≡ Operations → bytes ≢ []) → Fails file low count bytes kind → IsUnended file bytes
+unended_is Archive low count bytes kind some f = tt
+unended_is Operations low count bytes kind some f = λ e. some (empty_fails Operations low count kind (subst (λ (x : List ℕ). Fails Operations low count x kind) e f)) refl e
+
+pub unended_behind : (file : FileKind) (low : List ℕ) (count : ℕ) (b : Buffer) (kind : RecordFaultKind) → b.at ≤ length b.bytes.items → (kind ≡ Truncated → b.at ≡ 0 → file ≡ Operations → ⊥) → Fails file low count (bytes_so_far b) (seen_as kind) → IsOfText kind → IsUnended file (bytes_so_far b)
+unended_behind file low count b kind within some f known =
+    unended_is file low count (bytes_so_far b) kind (λ part is nil. some part (sym (length-bytes_so_far b within) ∙ ap length nil) is) (rw (as_itself kind known) at f)
+
+-- ---- an operations file
+
+free : (low x : List ℕ) → may_follow Operations low x ≡ true
+unfolding may_follow allows
+free low x = refl
+
+NotAscending-form : IsOfForm NotAscending → ⊥
+NotAscending-form (inl e) = cc
+NotAscending-form (inr (inl e)) = cc
+NotAscending-form (inr (inr e)) = cc
+
+BadCount-form : IsOfForm BadCount → ⊥
+BadCount-form (inl e) = cc
+BadCount-form (inr (inl e)) = cc
+BadCount-form (inr (inr e)) = cc
+
+no_order : (low : List ℕ) (count : ℕ) (rest : List ℕ) → Fails Operations low count rest NotAscending → ⊥
+no_order low count rest (inr f) = f.2
+no_order low count rest (inl e) =
+    elim (next_kind Operations low count rest NotAscending e) [
+      | inl form ↦ NotAscending-form form
+      | inr whole ↦ elim whole.2 [
+        | inl end ↦ apart end.1
+        | inr order ↦ false≢true (sym order.0 ∙ free low (take whole.0 rest))
+      ]
+    ]
+  where
+    apart : NotAscending ≡ BadCount → ⊥
+    apart h = cc
+
+no_count : (low : List ℕ) (count : ℕ) (rest : List ℕ) → Fails Operations low count rest BadCount → ⊥
+no_count low count rest (inr f) = f.2
+no_count low count rest (inl e) =
+    elim (next_kind Operations low count rest BadCount e) [
+      | inl form ↦ BadCount-form form
+      | inr whole ↦ elim whole.2 [
+        | inl end ↦ no_end rest whole.0 whole.1 (is_three rest end.0)
+        | inr order ↦ apart order.1
+      ]
+    ]
+  where
+    apart : BadCount ≡ NotAscending → ⊥
+    apart h = cc
+
+-- it has no order, and no end record
+operations_fail : (low : List ℕ) (count : ℕ) (rest : List ℕ) (kind : RecordFaultKind) → Fails Operations low count rest kind → (kind ≢ NotAscending) × (kind ≢ BadCount) × (kind ≢ Trailing)
+operations_fail low count rest kind f = (
+  λ e. no_order low count rest (subst (Fails Operations low count rest) e f),
+  λ e. no_count low count rest (subst (Fails Operations low count rest) e f),
+  λ e. fails_not_trailing Operations low count rest (subst (Fails Operations low count rest) e f),
+)
+
+magic_fault : (text : List ℕ) (kind : RecordFaultKind) → IsMagicFault Operations text kind → (kind ≢ NotAscending) × (kind ≢ BadCount) × (kind ≢ Trailing)
+magic_fault text kind m = (
+  λ e. subst (IsMagicFault Operations text) e m,
+  λ e. subst (IsMagicFault Operations text) e m,
+  λ e. subst (IsMagicFault Operations text) e m,
+)
+
+pub operations_faults : (text : List ℕ) (fault : RecordFault) → IsOperationsFault text fault → (fault.kind ≢ NotAscending) × (fault.kind ≢ BadCount) × (fault.kind ≢ Trailing)
+operations_faults text fault (inl m) = magic_fault text fault.kind m.0
+operations_faults text fault (inr f) = behind f.0 f.1.rest f.3
+  where
+    behind : (records : List (List ℕ)) (rest : List ℕ) → IsFaultBehind Operations records rest fault → (fault.kind ≢ NotAscending) × (fault.kind ≢ BadCount) × (fault.kind ≢ Trailing)
+    behind records rest (inl b) = operations_fail (last_of [] records) (length records) rest fault.kind b.0
+    behind records rest (inr t) = absurd (no_end rest 9 (next-framed Operations (last_of [] records) (length records) rest 9 t.1.whole) (is_three rest t.1.end))

@@ -1,0 +1,33 @@
+-- The kinds of files: what each begins with, how its records follow one another, and how it ends.
+use Rattle.std.specs.Prelude.{ℕ, Bool, true, List, [], ◌∷◌, Option, Some, None}
+use Rattle.std.specs.declared.cmp.Ordering.{Ordering}
+use Rattle.std.specs.Ordering.{is_lt, nat_cmp}
+use Rattle.std.specs.Cmp.Lexicographic.{slice_cmp}
+use Rattle.archive_records.specs.declared.kind.FileKind.{FileKind}
+use Rattle.archive_records.specs.declared.kind.FileKind.TheVariants.{Archive, Operations}
+
+-- MSYMARC1
+abbrev pub magic : List ℕ
+magic = 0x4d ∷ 0x53 ∷ 0x59 ∷ 0x4d ∷ 0x41 ∷ 0x52 ∷ 0x43 ∷ 0x31 ∷ []
+
+-- MSYMOPS1
+abbrev pub operations_magic : List ℕ
+operations_magic = 0x4d ∷ 0x53 ∷ 0x59 ∷ 0x4d ∷ 0x4f ∷ 0x50 ∷ 0x53 ∷ 0x31 ∷ []
+
+abbrev pub magic_of : FileKind → List ℕ
+magic_of Archive = magic
+magic_of Operations = operations_magic
+
+-- how long an end record is; an operations file has none
+abbrev pub end_length : FileKind → Option ℕ
+end_length Archive = Some 9
+end_length Operations = None
+
+-- whether a record may stand behind one that compares so with it: those of an archive ascend, operations come in any order
+unfoldable pub allows : FileKind → Ordering → Bool
+allows Archive order = is_lt order
+allows Operations order = true
+
+-- whether the second may stand behind the first
+unfoldable pub may_follow : FileKind → List ℕ → List ℕ → Bool
+may_follow file a b = allows file (slice_cmp nat_cmp a b)

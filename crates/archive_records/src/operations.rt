@@ -1,0 +1,138 @@
+//! Operations files that are read from a source.
+
+ghost use Rattle.std.specs.Prelude.{◌≡◌, ◌⊎◌, ◌+◌, ◌*◌, ◌<◌, ◌≤◌, ◌^◌, ◌∷◌, ◌++◌, ℕ, List, Option, [], All, length, OnOk, IfOk, IfErr, IfSome, MatchResult};
+ghost use Rattle.std.specs.Io.KnownBytes.{Consumes, IsAtEnd};
+ghost use Rattle.byte_device.specs.Devices.{FailedIn};
+ghost use Rattle.archive_core.specs.declared.operations.Operation.{Operation};
+ghost use Rattle.archive_core.specs.Record.{rec, IsRecord, IsOperation};
+ghost use Rattle.archive_records.specs.declared.fault.RecordFaultKind.TheVariants.{Truncated, Device, OutOfMemory};
+ghost use Rattle.archive_records.specs.declared.kind.FileKind.TheVariants.{Operations};
+ghost use Rattle.archive_records.specs.Text.{IsOperationsText};
+ghost use Rattle.archive_records.specs.Fault.{IsOperationsFault, IsOfText};
+ghost use Rattle.archive_records.specs.Front.{IsFrontLengthOf, IsLongestLengthOf};
+ghost use Rattle.archive_records.specs.Reading.{HasStopped, Lists, AreRead};
+
+use crate::fault::{RecordFault, RecordFaultKind};
+use crate::kind::FileKind;
+use crate::reader::RecordReader;
+use crate::reading::{operation_of, shared};
+use archive_core::Operation;
+use byte_device::Source;
+use memory::{Heap, NoMemory};
+
+/// Adds the operation of a record to the list.
+fn push_record(
+    operations: &mut Vec<Operation, Heap>,
+    heap: &Heap,
+    bytes: &[u8],
+) -> Result<(), NoMemory>
+    requires { IsRecord bytes.now }
+    ensures { OnOk result ((operation : Operation) × (operations.new.items ≡ operations.old.items ++ operation ∷ []) × IsOperation operation × (rec operation ≡ bytes.now)) }
+{
+    let operation = operation_of(heap.clone()?, bytes)?;
+    operations.push(operation)?;
+    Ok(())
+}
+
+/// Lists the operations of the records up to the end of the input.
+fn push_records<R: Source>(
+    operations: &mut Vec<Operation, Heap>,
+    heap: &Heap,
+    reader: &mut RecordReader,
+    r: &mut R,
+) -> Result<(), RecordFault>
+    requires room { 0 < length reader.old.chunk.items }
+    requires few { reader.old.count < 2 ^ 63 }
+    requires fits { reader.old.offset + length reader.old.buffer.bytes.items ≤ 8 + reader.old.count * 2 ^ 64 }
+    ensures all { OnOk result ((a : Option (List ℕ)) → Lists a (R.left r.old) operations.old.items reader.old → AreRead a (R.left r.new) operations.new.items) }
+    ensures stopped { IfErr result (λ fault. (a : Option (List ℕ)) → Lists a (R.left r.old) operations.old.items reader.old → HasStopped Operations a (R.left r.new) fault) }
+    ensures ended { IfErr result (λ fault. fault.kind ≡ Truncated → IsAtEnd (R.left r.new)) }
+    ensures device { IfErr result (λ fault. fault.kind ≡ Device → FailedIn (R.failures r.old) (R.failures r.new)) }
+    ensures unfailed { OnOk result (R.failures r.new ≡ R.failures r.old) }
+{
+    'pushing: loop {
+        match reader.advance(r) {
+            Ok(true) => return Ok(()),
+            Ok(false) => {}
+            Err(fault) => return Err(fault),
+        }
+        if let Err(_) = push_record(operations, heap, &reader.buffer.bytes) {
+            return Err(RecordFault {
+                kind: RecordFaultKind::OutOfMemory,
+                offset: reader.offset,
+            });
+        }
+    }
+}
+
+/// Reads the operations behind the magic.
+fn list_rest<R: Source>(
+    heap: &Heap,
+    mut operations: Vec<Operation, Heap>,
+    mut reader: RecordReader,
+    r: &mut R,
+) -> Result<Vec<Operation, Heap>, RecordFault>
+    requires room { 0 < length reader.chunk.items }
+    requires few { reader.count < 2 ^ 63 }
+    requires fits { reader.offset + length reader.buffer.bytes.items ≤ 8 + reader.count * 2 ^ 64 }
+    ensures all { IfOk result (λ read. (a : Option (List ℕ)) → Lists a (R.left r.old) operations.items reader → AreRead a (R.left r.new) read.items) }
+    ensures stopped { IfErr result (λ fault. (a : Option (List ℕ)) → Lists a (R.left r.old) operations.items reader → HasStopped Operations a (R.left r.new) fault) }
+    ensures ended { IfErr result (λ fault. fault.kind ≡ Truncated → IsAtEnd (R.left r.new)) }
+    ensures device { IfErr result (λ fault. fault.kind ≡ Device → FailedIn (R.failures r.old) (R.failures r.new)) }
+    ensures unfailed { OnOk result (R.failures r.new ≡ R.failures r.old) }
+{
+    push_records(&mut operations, heap, &mut reader, r)?;
+    Ok(operations)
+}
+
+/// Reads a whole input as operations. What is said is of the bytes that were taken.
+fn list_taken<R: Source>(heap: Heap, r: &mut R) -> Result<Vec<Operation, Heap>, RecordFault>
+    ensures read { IfOk result (λ operations. AreRead (R.left r.old) (R.left r.new) operations.items) }
+    ensures stopped { IfErr result (λ fault. HasStopped Operations (R.left r.old) (R.left r.new) fault) }
+    ensures ended { IfErr result (λ fault. fault.kind ≡ Truncated → IsAtEnd (R.left r.new)) }
+    ensures device { IfErr result (λ fault. fault.kind ≡ Device → FailedIn (R.failures r.old) (R.failures r.new)) }
+    ensures unfailed { OnOk result (R.failures r.new ≡ R.failures r.old) }
+{
+    let Ok((own, buffers)) = shared(&heap) else {
+        return Err(RecordFault {
+            kind: RecordFaultKind::OutOfMemory,
+            offset: 0,
+        });
+    };
+    let reader = RecordReader::begin(buffers, FileKind::Operations, r)?;
+    list_rest(&heap, Vec::new(own), reader, r)
+}
+
+/// Reads an operations file: the magic `MSYMOPS1`, and retirements and admissions in any order and with repeats up to the
+/// end of the input. The list has them in that order. The pieces in which the reader gives its bytes do not matter. A
+/// fault leaves no list, and how much of a faulty input was read is not promised.
+///
+/// # Errors
+///
+/// Those of [`crate::read_archive`], in the same order, but for NotAscending, BadCount and Trailing: such a file has no
+/// order and no end record, and the tag 3 is BadTag.
+pub fn read_ops<R: Source>(heap: Heap, r: &mut R) -> Result<Vec<Operation, Heap>, RecordFault>
+    // The whole input is the text of the operations that are listed.
+    ensures found { IfOk result (λ operations. IfSome (R.left r.old) (λ text. IsOperationsText text operations.items)) }
+    ensures valid { IfOk result (λ operations. All IsOperation operations.items) }
+    ensures few { IfOk result (λ operations. length operations.items < 2 ^ 63) }
+    ensures at_end { OnOk result (IsAtEnd (R.left r.new)) }
+
+    // Where neither the device nor memory failed, the fault is that of the whole input.
+    ensures refused { IfErr result (λ fault. IsOfText fault.kind → IfSome (R.left r.old) (λ text. IsOperationsFault text fault)) }
+
+    // The text of operations gives them, and is refused for the device and for memory alone.
+    ensures only { (operations : List Operation) → IfSome (R.left r.old) (λ text. IsOperationsText text operations → MatchResult result (λ read. read.items ≡ operations) (λ fault. (fault.kind ≡ Device) ⊎ (fault.kind ≡ OutOfMemory))) }
+
+    // Truncated comes only where the reader told its end, and Device only where it failed.
+    ensures ended { IfErr result (λ fault. fault.kind ≡ Truncated → IsAtEnd (R.left r.new)) }
+    ensures device { IfErr result (λ fault. fault.kind ≡ Device → FailedIn (R.failures r.old) (R.failures r.new)) }
+    ensures unfailed { OnOk result (R.failures r.new ≡ R.failures r.old) }
+
+    // The offset of Device is the length of the longest good front of what was read, that of OutOfMemory the length of a
+    // good front; both are 0 before the magic was read.
+    ensures device_offset { IfErr result (λ fault. fault.kind ≡ Device → (bytes : List ℕ) × Consumes (R.left r.old) (R.left r.new) bytes × IsLongestLengthOf Operations bytes fault.offset) }
+    ensures memory_offset { IfErr result (λ fault. fault.kind ≡ OutOfMemory → (bytes : List ℕ) × Consumes (R.left r.old) (R.left r.new) bytes × IsFrontLengthOf Operations bytes fault.offset) }
+{
+    list_taken(heap, r)
+}
