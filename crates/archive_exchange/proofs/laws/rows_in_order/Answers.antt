@@ -1,0 +1,5 @@
+use Rattle.archive_exchange.proofs.RowPlaces.{rows_number, skipped_at, taken_at}
+use Rattle.archive_exchange.proofs.laws.rows_in_order.Goals as goal
+
+pub returns : goal.returns
+returns c = record { number = rows_number; skipped = skipped_at; taken = taken_at }

@@ -1,0 +1,82 @@
+//! Whether a file is accepted, before anything of it is taken.
+ghost use Rattle.std.specs.Prelude.{◌≡◌, ◌≢◌, ◌<◌, ℕ, true, All, Some, IfOk, IfErr, OnOk, filter, slice_get};
+ghost use Rattle.std.specs.List.{list_any};
+ghost use Rattle.fat_slices.specs.Kind.{kind_of, is_fat};
+ghost use Rattle.fat_slices.specs.Slices.{slices};
+ghost use Rattle.archive_core.specs.Valid.{IsValid, IsSliceFault};
+ghost use Rattle.archive_core.specs.declared.faults.SliceFault.{SliceFault};
+ghost use Rattle.archive_exchange.specs.File.{IsAcceptedFile, IsTakeFault, is_admissible};
+
+use crate::TakeFault;
+use archive_core::Slice;
+use archive_core::laws::one_slice_fault;
+use fat_slices::{FileKind, Universal, kind};
+
+/// Whether a part of a file begins as a 64-bit little-endian image.
+pub(crate) fn begins_as_image(part: &[u8]) -> bool
+    ensures { result ≡ is_admissible part.now }
+{
+    matches!(kind(part), FileKind::Thin)
+}
+
+/// Whether the part at a place begins as an image; one that does has to be a slice.
+fn check_part(place: u64, part: &[u8]) -> Result<bool, TakeFault>
+    ensures begins { IfOk result (λ begins. begins ≡ is_admissible part.now) }
+    ensures valid { OnOk result (is_admissible part.now ≡ true → IsValid part.now) }
+    ensures refused { IfErr result (λ fault. (why : SliceFault) × (fault ≡ TakeFault.Slice place why) × (is_admissible part.now ≡ true) × IsSliceFault part.now why) }
+{
+    if !begins_as_image(part) {
+        return Ok(false);
+    }
+    match Slice::check(part) {
+        Ok(_) => Ok(true),
+        Err(fault) => Err(TakeFault::Slice(place, fault)),
+    }
+}
+
+/// Checks a file that is its only part.
+fn check_thin(file: &[u8]) -> Result<(), TakeFault>
+    requires { kind_of file.now ≡ FileKind.Thin }
+    ensures accepted { OnOk result (IsAcceptedFile file.now) }
+    ensures refused { IfErr result (IsTakeFault file.now) }
+    ensures no_memory { IfErr result (λ fault. fault ≢ TakeFault.OutOfMemory) }
+{
+    one_slice_fault();
+    match Slice::check(file) {
+        Ok(_) => Ok(()),
+        Err(fault) => Err(TakeFault::Slice(0, fault)),
+    }
+}
+
+/// Checks the slices of a universal file.
+fn check_universal(file: &[u8]) -> Result<(), TakeFault>
+    requires { is_fat (kind_of file.now) ≡ true }
+    ensures accepted { OnOk result (IsAcceptedFile file.now) }
+    ensures refused { IfErr result (IsTakeFault file.now) }
+    ensures no_memory { IfErr result (λ fault. fault ≢ TakeFault.OutOfMemory) }
+{
+    one_slice_fault();
+    let universal = Universal::read(file)?;
+    let mut found = false;
+    'places: for place in 0..universal.len() {
+        found |= check_part(place as u64, universal.slice(place))?;
+    }
+    if found {
+        Ok(())
+    } else {
+        Err(TakeFault::NothingToAdmit)
+    }
+}
+
+/// Tests whether a file is accepted, and else tells its fault, which is never want of memory. Takes no memory.
+pub fn check_file(file: &[u8]) -> Result<(), TakeFault>
+    ensures accepted { OnOk result (IsAcceptedFile file.now) }
+    ensures refused { IfErr result (IsTakeFault file.now) }
+    ensures no_memory { IfErr result (λ fault. fault ≢ TakeFault.OutOfMemory) }
+{
+    match kind(file) {
+        FileKind::Other => Err(TakeFault::Unrecognised),
+        FileKind::Thin => check_thin(file),
+        FileKind::Universal | FileKind::Universal64 => check_universal(file),
+    }
+}
