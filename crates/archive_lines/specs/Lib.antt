@@ -1,0 +1,5 @@
+pub mod Texts
+pub mod Rows
+pub mod Report
+pub mod Finds
+pub mod Answers

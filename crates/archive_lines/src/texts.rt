@@ -1,0 +1,226 @@
+//! The printed texts of faults: a fault's name, and in parentheses its numbers or the fault inside.
+
+use crate::{CannotCreate, CommandFault, Place, Why};
+use archive_core::SliceFault;
+use archive_exchange::TakeFault;
+use archive_records::{RecordFault, RecordFaultKind};
+use fat_slices::FatFault;
+use macho_image::ImageFault;
+use macho_symbols::SymbolFault;
+use std::fmt;
+
+/// A value of another crate, shown as this program prints it.
+#[derive(Clone, Copy, Debug, PartialEq, Eq)]
+pub struct Text<T>(pub T);
+
+#[tactic(auto, unfolding(crate::specs::Texts::image_fault_text))]
+impl fmt::Display for Text<ImageFault> {
+    ghost use Rattle.std.specs.Prelude.{Some};
+    ghost use Rattle.archive_lines.specs.Texts.{image_fault_text};
+
+    ghost output = { λ text. Some (image_fault_text text.0) };
+
+    fn fmt<W: fmt::Write>(&self, f: &mut fmt::Formatter<W>) -> fmt::Result {
+        match self.0 {
+            ImageFault::NotMachO64 => f.write_str("NotMachO64"),
+            ImageFault::HeaderTruncated => f.write_str("HeaderTruncated"),
+            ImageFault::CommandsOutside => f.write_str("CommandsOutside"),
+            ImageFault::BadCommand(command) => write!(f, "BadCommand({command})"),
+            ImageFault::BadSegment(command) => write!(f, "BadSegment({command})"),
+            ImageFault::BadUuid(command) => write!(f, "BadUuid({command})"),
+            ImageFault::SecondUuid(command) => write!(f, "SecondUuid({command})"),
+            ImageFault::BadSymtab(command) => write!(f, "BadSymtab({command})"),
+            ImageFault::SecondSymtab(command) => write!(f, "SecondSymtab({command})"),
+            ImageFault::NoUuid => f.write_str("NoUuid"),
+            ImageFault::TooLarge => f.write_str("TooLarge"),
+        }
+    }
+}
+
+#[tactic(auto, unfolding(crate::specs::Texts::symbol_fault_text))]
+impl fmt::Display for Text<SymbolFault> {
+    ghost use Rattle.std.specs.Prelude.{Some};
+    ghost use Rattle.archive_lines.specs.Texts.{symbol_fault_text};
+
+    ghost output = { λ text. Some (symbol_fault_text text.0) };
+
+    fn fmt<W: fmt::Write>(&self, f: &mut fmt::Formatter<W>) -> fmt::Result {
+        match self.0 {
+            SymbolFault::SymbolsOutside => f.write_str("SymbolsOutside"),
+            SymbolFault::StringsOutside => f.write_str("StringsOutside"),
+        }
+    }
+}
+
+#[tactic(auto, unfolding(crate::specs::Texts::slice_fault_text))]
+impl fmt::Display for Text<SliceFault> {
+    ghost use Rattle.std.specs.Prelude.{Some};
+    ghost use Rattle.archive_lines.specs.Texts.{slice_fault_text};
+
+    ghost output = { λ text. Some (slice_fault_text text.0) };
+
+    fn fmt<W: fmt::Write>(&self, f: &mut fmt::Formatter<W>) -> fmt::Result {
+        match self.0 {
+            SliceFault::Image(fault) => {
+                let fault = Text(fault);
+                write!(f, "Image({fault})")
+            }
+            SliceFault::Symbols(fault) => {
+                let fault = Text(fault);
+                write!(f, "Symbols({fault})")
+            }
+        }
+    }
+}
+
+#[tactic(auto, unfolding(crate::specs::Texts::record_fault_kind_text))]
+impl fmt::Display for Text<RecordFaultKind> {
+    ghost use Rattle.std.specs.Prelude.{Some};
+    ghost use Rattle.archive_lines.specs.Texts.{record_fault_kind_text};
+
+    ghost output = { λ text. Some (record_fault_kind_text text.0) };
+
+    fn fmt<W: fmt::Write>(&self, f: &mut fmt::Formatter<W>) -> fmt::Result {
+        match self.0 {
+            RecordFaultKind::BadMagic => f.write_str("BadMagic"),
+            RecordFaultKind::Truncated => f.write_str("Truncated"),
+            RecordFaultKind::BadTag => f.write_str("BadTag"),
+            RecordFaultKind::TooLarge => f.write_str("TooLarge"),
+            RecordFaultKind::NotAscending => f.write_str("NotAscending"),
+            RecordFaultKind::BadSlice(fault) => {
+                let fault = Text(fault);
+                write!(f, "BadSlice({fault})")
+            }
+            RecordFaultKind::KeyMismatch => f.write_str("KeyMismatch"),
+            RecordFaultKind::BadCount => f.write_str("BadCount"),
+            RecordFaultKind::Trailing => f.write_str("Trailing"),
+            RecordFaultKind::Device => f.write_str("Device"),
+            RecordFaultKind::OutOfMemory => f.write_str("OutOfMemory"),
+        }
+    }
+}
+
+#[tactic(auto, unfolding(crate::specs::Texts::record_fault_text))]
+impl fmt::Display for Text<RecordFault> {
+    ghost use Rattle.std.specs.Prelude.{Some};
+    ghost use Rattle.archive_lines.specs.Texts.{record_fault_text};
+
+    ghost output = { λ text. Some (record_fault_text text.0) };
+
+    fn fmt<W: fmt::Write>(&self, f: &mut fmt::Formatter<W>) -> fmt::Result {
+        let kind = Text(self.0.kind);
+        let offset = self.0.offset;
+        write!(f, "{kind} at {offset}")
+    }
+}
+
+#[tactic(auto, unfolding(crate::specs::Texts::fat_fault_text))]
+impl fmt::Display for Text<FatFault> {
+    ghost use Rattle.std.specs.Prelude.{Some};
+    ghost use Rattle.archive_lines.specs.Texts.{fat_fault_text};
+
+    ghost output = { λ text. Some (fat_fault_text text.0) };
+
+    fn fmt<W: fmt::Write>(&self, f: &mut fmt::Formatter<W>) -> fmt::Result {
+        match self.0 {
+            FatFault::NotUniversal => f.write_str("NotUniversal"),
+            FatFault::HeaderTruncated => f.write_str("HeaderTruncated"),
+            FatFault::TooManyArches(count) => write!(f, "TooManyArches({count})"),
+            FatFault::TableTruncated => f.write_str("TableTruncated"),
+            FatFault::SliceOutside(entry) => write!(f, "SliceOutside({entry})"),
+            FatFault::TooLarge(entry) => write!(f, "TooLarge({entry})"),
+        }
+    }
+}
+
+#[tactic(auto, unfolding(crate::specs::Texts::take_fault_text))]
+impl fmt::Display for Text<TakeFault> {
+    ghost use Rattle.std.specs.Prelude.{Some};
+    ghost use Rattle.archive_lines.specs.Texts.{take_fault_text};
+
+    ghost output = { λ text. Some (take_fault_text text.0) };
+
+    fn fmt<W: fmt::Write>(&self, f: &mut fmt::Formatter<W>) -> fmt::Result {
+        match self.0 {
+            TakeFault::Unrecognised => f.write_str("Unrecognised"),
+            TakeFault::Fat(fault) => {
+                let fault = Text(fault);
+                write!(f, "Fat({fault})")
+            }
+            TakeFault::Slice(slice, fault) => {
+                let fault = Text(fault);
+                write!(f, "Slice({slice}, {fault})")
+            }
+            TakeFault::NothingToAdmit => f.write_str("NothingToAdmit"),
+            TakeFault::OutOfMemory => f.write_str("OutOfMemory"),
+        }
+    }
+}
+
+#[tactic(auto, unfolding(crate::specs::Texts::place_text))]
+impl fmt::Display for Place {
+    ghost use Rattle.std.specs.Prelude.{Some};
+    ghost use Rattle.archive_lines.specs.Texts.{place_text};
+
+    ghost output = { λ place. Some (place_text place) };
+
+    fn fmt<W: fmt::Write>(&self, f: &mut fmt::Formatter<W>) -> fmt::Result {
+        match self {
+            Place::Archive(number) => write!(f, "archive {number}"),
+            Place::File(number) => write!(f, "file {number}"),
+            Place::Ops => f.write_str("ops"),
+        }
+    }
+}
+
+#[tactic(auto, unfolding(crate::specs::Texts::why_text))]
+impl fmt::Display for Why {
+    ghost use Rattle.std.specs.Prelude.{Some};
+    ghost use Rattle.archive_lines.specs.Texts.{why_text};
+
+    ghost output = { λ why. Some (why_text why) };
+
+    fn fmt<W: fmt::Write>(&self, f: &mut fmt::Formatter<W>) -> fmt::Result {
+        match self {
+            Why::CannotOpen => f.write_str("cannot open"),
+            Why::Device => f.write_str("Device"),
+            Why::Record(fault) => {
+                let fault = Text(*fault);
+                write!(f, "{fault}")
+            }
+            Why::Take(fault) => {
+                let fault = Text(*fault);
+                write!(f, "{fault}")
+            }
+        }
+    }
+}
+
+#[tactic(auto, unfolding(crate::specs::Texts::command_fault_text))]
+impl fmt::Display for CommandFault {
+    ghost use Rattle.std.specs.Prelude.{Some};
+    ghost use Rattle.archive_lines.specs.Texts.{command_fault_text};
+
+    ghost output = { λ fault. Some (command_fault_text fault) };
+
+    fn fmt<W: fmt::Write>(&self, f: &mut fmt::Formatter<W>) -> fmt::Result {
+        match self {
+            CommandFault::Input(place, why) => write!(f, "{place}: {why}"),
+            CommandFault::Output(written) => write!(f, "output: failed after {written} bytes"),
+            CommandFault::Report(written) => write!(f, "report: failed after {written} bytes"),
+            CommandFault::OutOfMemory => f.write_str("out of memory"),
+        }
+    }
+}
+
+#[tactic(auto, unfolding(crate::specs::Texts::cannot_create_text))]
+impl fmt::Display for CannotCreate {
+    ghost use Rattle.std.specs.Prelude.{Some};
+    ghost use Rattle.archive_lines.specs.Texts.{cannot_create_text};
+
+    ghost output = { λ _. Some cannot_create_text };
+
+    fn fmt<W: fmt::Write>(&self, f: &mut fmt::Formatter<W>) -> fmt::Result {
+        f.write_str("output: cannot create")
+    }
+}
