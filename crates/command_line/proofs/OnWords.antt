@@ -1,0 +1,210 @@
+-- Lines that are written out.
+use Rattle.std.proofs.Common.{◌≡◌, refl, true, false, codes, ℕ, Some, None, List, [], ◌∷◌}
+use Rattle.clap.specs.Words.{Text}
+use Rattle.hex.proofs.OnLiterals.{hex_on_literals}
+use Rattle.uuid.proofs.OnLiterals.{uuid_on_literals}
+use Rattle.clap.specs.declared.error.kind.ErrorKind.TheVariants as kind
+use Rattle.clap.proofs.OnLiterals.{clap_on_literals}
+use Rattle.command_line.specs.Commands.{symarch_command}
+use Rattle.command_line.specs.Lines.{admit, are_taken, error_kinds, find, line_of, merge, new}
+use Rattle.command_line.specs.Lines.{named_command, retire, symbolicate}
+use Rattle.command_line.specs.Words.{address_of, arch_key, arch_of, digest_of}
+
+-- the program's name, which is the first word of each line
+abbrev symarch : List Text → List Text
+symarch words = codes "symarch" ∷ words
+
+new_taken : are_taken (symarch (codes "new" ∷ codes "o" ∷ [])) ≡ true
+unfolding are_taken symarch_command clap_on_literals
+new_taken = refl
+
+new_read : line_of (symarch (codes "new" ∷ codes "o" ∷ [])) ≡ Some (new (codes "o"))
+unfolding named_command symarch_command clap_on_literals
+new_read = refl
+
+admit_taken : are_taken (symarch (codes "admit" ∷ codes "i" ∷ codes "o" ∷ codes "f" ∷ [])) ≡ true
+unfolding are_taken symarch_command clap_on_literals
+admit_taken = refl
+
+admit_faultless : error_kinds (symarch (codes "admit" ∷ codes "i" ∷ codes "o" ∷ codes "f" ∷ [])) ≡ []
+unfolding error_kinds symarch_command clap_on_literals
+admit_faultless = refl
+
+admit_read : line_of (symarch (codes "admit" ∷ codes "i" ∷ codes "o" ∷ codes "f" ∷ []))
+    ≡ Some (admit (codes "i") (codes "o") (codes "f" ∷ []))
+unfolding named_command symarch_command clap_on_literals
+admit_read = refl
+
+-- a FILE that stands there twice stays
+repeated_taken : are_taken (symarch (codes "admit" ∷ codes "i" ∷ codes "o" ∷ codes "f" ∷ codes "f" ∷ [])) ≡ true
+unfolding are_taken symarch_command clap_on_literals
+repeated_taken = refl
+
+repeated_read : line_of (symarch (codes "admit" ∷ codes "i" ∷ codes "o" ∷ codes "f" ∷ codes "f" ∷ []))
+    ≡ Some (admit (codes "i") (codes "o") (codes "f" ∷ codes "f" ∷ []))
+unfolding named_command symarch_command clap_on_literals
+repeated_read = refl
+
+-- so does one that is the archive itself
+input_twice_read : line_of (symarch (codes "admit" ∷ codes "i" ∷ codes "o" ∷ codes "i" ∷ []))
+    ≡ Some (admit (codes "i") (codes "o") (codes "i" ∷ []))
+unfolding named_command symarch_command clap_on_literals
+input_twice_read = refl
+
+-- a path that begins with `-` stands behind `--`
+dashes_read : line_of (symarch (codes "admit" ∷ codes "i" ∷ codes "o" ∷ codes "--" ∷ codes "-f" ∷ []))
+    ≡ Some (admit (codes "i") (codes "o") (codes "-f" ∷ []))
+unfolding named_command symarch_command clap_on_literals
+dashes_read = refl
+
+-- OUT is IN
+out_is_in : line_of (symarch (codes "admit" ∷ codes "i" ∷ codes "i" ∷ codes "f" ∷ [])) ≡ None
+unfolding named_command symarch_command clap_on_literals
+out_is_in = refl
+
+-- OUT is a FILE
+out_is_file : line_of (symarch (codes "admit" ∷ codes "i" ∷ codes "o" ∷ codes "o" ∷ [])) ≡ None
+unfolding named_command symarch_command clap_on_literals
+out_is_file = refl
+
+out_is_last_file : line_of (symarch (codes "admit" ∷ codes "i" ∷ codes "o" ∷ codes "f" ∷ codes "o" ∷ [])) ≡ None
+unfolding named_command symarch_command clap_on_literals
+out_is_last_file = refl
+
+-- ---- the other commands
+
+-- a UUID in one of its forms, and its bytes
+abbrev uuid_text : Text
+uuid_text = codes "00112233-4455-6677-8899-AABBCCDDEEFF"
+
+abbrev uuid_bytes : List ℕ
+uuid_bytes = 0 ∷ 17 ∷ 34 ∷ 51 ∷ 68 ∷ 85 ∷ 102 ∷ 119 ∷ 136 ∷ 153 ∷ 170 ∷ 187 ∷ 204 ∷ 221 ∷ 238 ∷ 255 ∷ []
+
+-- the SHA-256 of no bytes
+abbrev digest_text : Text
+digest_text = codes "e3b0c44298fc1c149afbf4c8996fb92427ae41e4649b934ca495991b7852B855"
+
+abbrev digest_bytes : List ℕ
+digest_bytes =
+    0xe3 ∷ 0xb0 ∷ 0xc4 ∷ 0x42 ∷ 0x98 ∷ 0xfc ∷ 0x1c ∷ 0x14 ∷ 0x9a ∷ 0xfb ∷ 0xf4 ∷ 0xc8 ∷ 0x99 ∷ 0x6f ∷ 0xb9 ∷ 0x24
+    ∷ 0x27 ∷ 0xae ∷ 0x41 ∷ 0xe4 ∷ 0x64 ∷ 0x9b ∷ 0x93 ∷ 0x4c ∷ 0xa4 ∷ 0x95 ∷ 0x99 ∷ 0x1b ∷ 0x78 ∷ 0x52 ∷ 0xb8 ∷ 0x55 ∷ []
+
+retire_read : line_of (symarch (codes "retire" ∷ codes "i" ∷ codes "o" ∷ uuid_text ∷ codes "arm64e" ∷ digest_text ∷ []))
+    ≡ Some (retire (codes "i") (codes "o") uuid_bytes (arch_key 0x0100_000c 2) (record { 0 = digest_bytes }))
+unfolding named_command symarch_command clap_on_literals hex_on_literals uuid_on_literals
+retire_read = refl
+
+-- OUT is OPS
+out_is_ops : line_of (symarch (codes "apply" ∷ codes "i" ∷ codes "o" ∷ codes "o" ∷ [])) ≡ None
+unfolding named_command symarch_command clap_on_literals
+out_is_ops = refl
+
+merge_read : line_of (symarch (codes "merge" ∷ codes "i" ∷ codes "o" ∷ codes "f" ∷ codes "g" ∷ []))
+    ≡ Some (merge (codes "i") (codes "o") (codes "f" ∷ codes "g" ∷ []))
+unfolding named_command symarch_command clap_on_literals
+merge_read = refl
+
+find_read : line_of (symarch (codes "find" ∷ codes "a" ∷ uuid_text ∷ [])) ≡ Some (find (codes "a") uuid_bytes)
+unfolding named_command symarch_command clap_on_literals uuid_on_literals
+find_read = refl
+
+find_no_uuid : line_of (symarch (codes "find" ∷ codes "a" ∷ codes "x86_64" ∷ [])) ≡ None
+unfolding named_command symarch_command clap_on_literals uuid_on_literals
+find_no_uuid = refl
+
+-- `--load HEX` before the others, and between them as one word
+symbolicate_read : line_of (symarch (codes "symbolicate" ∷ codes "--load" ∷ codes "0x104000000" ∷ codes "a" ∷ uuid_text
+    ∷ codes "x86_64" ∷ codes "104001040" ∷ codes "0x10" ∷ []))
+    ≡ Some (symbolicate (codes "a") uuid_bytes (arch_key 0x0100_0007 3) (Some 0x104000000) (0x104001040 ∷ 0x10 ∷ []))
+unfolding named_command symarch_command clap_on_literals uuid_on_literals
+symbolicate_read = refl
+
+load_between : line_of (symarch (codes "symbolicate" ∷ codes "a" ∷ uuid_text ∷ codes "x86_64h" ∷ codes "10"
+    ∷ codes "--load=fF" ∷ codes "20" ∷ []))
+    ≡ Some (symbolicate (codes "a") uuid_bytes (arch_key 0x0100_0007 8) (Some 255) (0x10 ∷ 0x20 ∷ []))
+unfolding named_command symarch_command clap_on_literals uuid_on_literals
+load_between = refl
+
+no_load : line_of (symarch (codes "symbolicate" ∷ codes "a" ∷ uuid_text ∷ codes "arm64" ∷ codes "10" ∷ []))
+    ≡ Some (symbolicate (codes "a") uuid_bytes (arch_key 0x0100_000c 0) None (0x10 ∷ []))
+unfolding named_command symarch_command clap_on_literals uuid_on_literals
+no_load = refl
+
+load_twice : are_taken (symarch (codes "symbolicate" ∷ codes "--load" ∷ codes "1" ∷ codes "--load" ∷ codes "2"
+    ∷ codes "a" ∷ uuid_text ∷ codes "arm64" ∷ codes "10" ∷ [])) ≡ false
+unfolding are_taken symarch_command clap_on_literals
+load_twice = refl
+
+-- ---- forms of words
+
+arch_upper_case : arch_of (codes "cpu:0100000C/00000001") ≡ Some (arch_key 0x0100_000c 1)
+arch_upper_case = refl
+
+arch_in_numbers : arch_of (codes "cpu:0100000c/00000002") ≡ arch_of (codes "arm64e")
+arch_in_numbers = refl
+
+arch_capability_bits : arch_of (codes "cpu:0100000c/80000002") ≡ None
+arch_capability_bits = refl
+
+arch_short : arch_of (codes "cpu:0100000c/0000002") ≡ None
+arch_short = refl
+
+arch_no_digit : arch_of (codes "cpu:0100000c/0000000g") ≡ None
+arch_no_digit = refl
+
+digest_short : digest_of (codes "e3b0c44298fc1c149afbf4c8996fb92427ae41e4649b934ca495991b7852b85") ≡ None
+digest_short = refl
+
+address_greatest : address_of (codes "0xFFFFFFFFFFFFFFFF") ≡ Some 0xffff_ffff_ffff_ffff
+address_greatest = refl
+
+address_long : address_of (codes "0x00000000000000000") ≡ None
+address_long = refl
+
+address_empty : address_of (codes "0x") ≡ None
+address_empty = refl
+
+address_sign : address_of (codes "+1") ≡ None
+address_sign = refl
+
+-- ---- lines that are refused
+
+-- FILE is missing
+file_missing : are_taken (symarch (codes "admit" ∷ codes "i" ∷ codes "o" ∷ [])) ≡ false
+unfolding are_taken symarch_command clap_on_literals
+file_missing = refl
+
+file_missing_fault : error_kinds (symarch (codes "admit" ∷ codes "i" ∷ codes "o" ∷ [])) ≡ kind.MissingRequiredArgument ∷ []
+unfolding error_kinds symarch_command clap_on_literals
+file_missing_fault = refl
+
+-- OUT is missing, or one word too many stands there
+out_missing : are_taken (symarch (codes "new" ∷ [])) ≡ false
+unfolding are_taken symarch_command clap_on_literals
+out_missing = refl
+
+word_too_many : are_taken (symarch (codes "new" ∷ codes "o" ∷ codes "p" ∷ [])) ≡ false
+unfolding are_taken symarch_command clap_on_literals
+word_too_many = refl
+
+-- no command, or none of the program's, is named
+command_missing : are_taken (symarch []) ≡ false
+unfolding are_taken symarch_command clap_on_literals
+command_missing = refl
+
+command_missing_fault : error_kinds (symarch []) ≡ kind.MissingSubcommand ∷ []
+unfolding error_kinds symarch_command clap_on_literals
+command_missing_fault = refl
+
+command_unknown : are_taken (symarch (codes "erase" ∷ codes "o" ∷ [])) ≡ false
+unfolding are_taken symarch_command clap_on_literals
+command_unknown = refl
+
+-- help, of the program and of a command
+help_asked : error_kinds (symarch (codes "--help" ∷ [])) ≡ kind.DisplayHelp ∷ []
+unfolding error_kinds symarch_command clap_on_literals
+help_asked = refl
+
+command_help_asked : error_kinds (symarch (codes "admit" ∷ codes "--help" ∷ [])) ≡ kind.DisplayHelp ∷ []
+unfolding error_kinds symarch_command clap_on_literals
+command_help_asked = refl

@@ -1,0 +1,48 @@
+use Rattle.std.proofs.Common.{◌∙◌, ap, map, sym}
+use Rattle.clap.specs.Words.{fault_of, is_simple, is_simple_and_free, subcommand_of, takes}
+use Rattle.command_line.specs.Lines.{are_taken, error_kinds, named_command}
+use Rattle.command_line.proofs.Simple.{symarch_free, symarch_simple}
+use Rattle.command_line.proofs.ToldLemmas.{help_told, never_help, refusal_told}
+use Rattle.command_line.proofs.reads.matched.Goals as goal
+
+pub returns-in-Ok-clause-ok : goal.returns-in-Ok-clause-ok
+unfolding named_command
+returns-in-Ok-clause-ok g c =
+    let is = c.in_ok-command.ensures.app in
+    (c.in-Ok.ensures.matches (ap is_simple is ∙ symarch_simple)).1
+    ∙ ap (λ a. subcommand_of a (map g.S.AsStr.text c.args.words.now)) is
+
+pub returns-in-Ok-clause-taken : goal.returns-in-Ok-clause-taken
+unfolding error_kinds
+returns-in-Ok-clause-taken g c =
+    let is = c.in_ok-command.ensures.app in
+    sym (ap (λ a. fault_of a (map g.S.AsStr.text c.args.words.now)) is)
+    ∙ c.in-Ok.ensures.kinds (ap is_simple_and_free is ∙ symarch_free)
+
+pub returns-in-Ok-clause-help : goal.returns-in-Ok-clause-help
+returns-in-Ok-clause-help g c = λ alone. never_help _ (returns-in-Ok-clause-taken g c) alone
+
+pub returns-in-Err-clause-err : goal.returns-in-Err-clause-err
+unfolding are_taken
+returns-in-Err-clause-err g c = λ taken.
+    let is = c.in_ok-command.ensures.app in
+    c.parse_fault.ensures.memory
+    (c.in-Err.ensures.passes (ap (λ a. takes a (map g.S.AsStr.text c.args.words.now)) is ∙ taken))
+
+pub returns-in-Err-clause-help : goal.returns-in-Err-clause-help
+unfolding error_kinds
+returns-in-Err-clause-help g c = λ alone.
+    let is = c.in_ok-command.ensures.app in
+    help_told c.in-Err.error c.parse_fault.result _
+    (c.in-Err.ensures.kinds (ap is_simple_and_free is ∙ symarch_free))
+    (ap (λ a. fault_of a (map g.S.AsStr.text c.args.words.now)) is ∙ alone)
+    c.parse_fault.ensures.memory c.parse_fault.ensures.help
+
+pub returns-in-Err-clause-refusal : goal.returns-in-Err-clause-refusal
+unfolding error_kinds
+returns-in-Err-clause-refusal g c = λ no_help.
+    let is = c.in_ok-command.ensures.app in
+    refusal_told c.in-Err.error c.parse_fault.result _ _
+    (c.in-Err.ensures.kinds (ap is_simple_and_free is ∙ symarch_free))
+    (ap (λ a. fault_of a (map g.S.AsStr.text c.args.words.now)) is) no_help
+    c.parse_fault.ensures.memory c.parse_fault.ensures.refusal

@@ -1,0 +1,81 @@
+//! Why a command line gives no plan.
+
+ghost use Rattle.std.specs.Prelude.{◌≡◌, ◌≢◌, MatchResult};
+ghost use Rattle.clap.specs.Words.{kind_of};
+ghost use Rattle.command_line.specs.Told.{IsHelpUnlessMemory, IsRefusalUnlessMemory};
+
+use clap::Error;
+use clap::error::ErrorKind;
+use std::alloc::{AllocError, AllocFailed, Global};
+
+/// Why a command line gives no plan.
+#[derive(Debug, Drop)]
+pub enum LineFault {
+    /// The line is refused: status 3. The text begins with `error: ` and ends with a line feed, as
+    /// each of `clap` does.
+    Refused(String),
+    /// Memory was wanting: status 4.
+    OutOfMemory,
+    /// The line asks for help, with its text: status 0.
+    Help(String),
+}
+
+impl From<AllocError> for LineFault {
+    ghost use Rattle.command_line.specs.declared.line_faults.LineFault.TheVariants.{OutOfMemory};
+
+    ghost from_gives = { λ _ e. e ≡ OutOfMemory };
+
+    fn from(_refused: AllocError) -> LineFault {
+        LineFault::OutOfMemory
+    }
+}
+
+impl<T: Drop> From<AllocFailed<T>> for LineFault {
+    ghost use Rattle.command_line.specs.declared.line_faults.LineFault.TheVariants.{OutOfMemory};
+
+    ghost from_gives = { λ _ e. e ≡ OutOfMemory };
+
+    fn from(_refused: AllocFailed<T>) -> LineFault {
+        LineFault::OutOfMemory
+    }
+}
+
+/// What an error of `clap` tells by its kind, which is no want of memory, and its text.
+fn told(kind: ErrorKind, text: String) -> LineFault
+    ensures help { kind ≡ ErrorKind.DisplayHelp → result ≡ LineFault.Help text }
+    ensures refusal { kind ≢ ErrorKind.DisplayHelp → result ≡ LineFault.Refused text }
+{
+    if kind == ErrorKind::DisplayHelp {
+        LineFault::Help(text)
+    } else {
+        LineFault::Refused(text)
+    }
+}
+
+/// The fault of a line at which `clap` gives this error.
+pub fn parse_fault(alloc: Global, error: &Error) -> LineFault
+    ensures memory { kind_of error.now ≡ ErrorKind.OutOfMemory → result ≡ LineFault.OutOfMemory }
+    ensures help { kind_of error.now ≡ ErrorKind.DisplayHelp → IsHelpUnlessMemory result }
+    ensures refusal { kind_of error.now ≢ ErrorKind.DisplayHelp → IsRefusalUnlessMemory result }
+{
+    let kind = error.kind();
+    if kind == ErrorKind::OutOfMemory {
+        return LineFault::OutOfMemory;
+    }
+    match error.to_string(alloc) {
+        Ok(text) => told(kind, text),
+        Err(_) => LineFault::OutOfMemory,
+    }
+}
+
+/// A refusal with a text of the program's own, if there was memory for it.
+pub fn refused(text: Result<String, AllocError>) -> LineFault
+    ensures told { MatchResult text (λ t. result ≡ LineFault.Refused t)
+        (λ _. result ≡ LineFault.OutOfMemory) }
+    ensures refusal { IsRefusalUnlessMemory result }
+{
+    match text {
+        Ok(text) => LineFault::Refused(text),
+        Err(_) => LineFault::OutOfMemory,
+    }
+}

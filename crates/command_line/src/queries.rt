@@ -1,0 +1,50 @@
+//! The plans of the commands that ask an archive. One function a command says which value stands at
+//! which name.
+
+ghost use Rattle.std.specs.Prelude.{◌≡◌, IfErr, IfOk, IsSome, Some};
+ghost use Rattle.clap.specs.Words.{found_of, rows_of};
+ghost use Rattle.command_line.specs.Lines.{find_line, plan_view, symbolicate_line};
+ghost use Rattle.command_line.specs.Told.{IsRefusalUnlessMemory};
+
+use crate::line_faults::LineFault;
+use crate::plans::Plan;
+use crate::values::{one_value, optional_value, spelled_value, spelled_values};
+use clap::ArgMatches;
+use std::alloc::Global;
+
+/// `find ARCHIVE UUID`
+pub fn plan_find(alloc: Global, matches: &ArgMatches) -> Result<Plan, LineFault>
+    ensures ok { IfOk result (λ p. Some (plan_view p) ≡ find_line (rows_of (found_of matches.now))) }
+    ensures err { IsSome (find_line (rows_of (found_of matches.now)))
+        → IfErr result (λ e. e ≡ LineFault.OutOfMemory) }
+    ensures refusal { IfErr result IsRefusalUnlessMemory }
+{
+    let archive = one_value(alloc, matches, "ARCHIVE")?;
+    let uuid = spelled_value(alloc, matches, "UUID")?;
+    Ok(Plan::Find {
+        archive: String::from_str(alloc, archive)?,
+        uuid,
+    })
+}
+
+/// `symbolicate ARCHIVE UUID ARCH [--load HEX] ADDRESS...`
+pub fn plan_symbolicate(alloc: Global, matches: &ArgMatches) -> Result<Plan, LineFault>
+    ensures ok { IfOk result (λ p. Some (plan_view p)
+        ≡ symbolicate_line (rows_of (found_of matches.now))) }
+    ensures err { IsSome (symbolicate_line (rows_of (found_of matches.now)))
+        → IfErr result (λ e. e ≡ LineFault.OutOfMemory) }
+    ensures refusal { IfErr result IsRefusalUnlessMemory }
+{
+    let archive = one_value(alloc, matches, "ARCHIVE")?;
+    let uuid = spelled_value(alloc, matches, "UUID")?;
+    let arch = spelled_value(alloc, matches, "ARCH")?;
+    let load = optional_value(alloc, matches, "HEX")?;
+    let addresses = spelled_values(alloc, matches, "ADDRESS")?;
+    Ok(Plan::Symbolicate {
+        archive: String::from_str(alloc, archive)?,
+        uuid,
+        arch,
+        load,
+        addresses,
+    })
+}

@@ -1,0 +1,96 @@
+//! A command line, read by `clap`.
+
+ghost use Rattle.std.specs.Prelude.{◌≡◌, IfErr, IfOk, IsErrAnd, IsSome, OnOk, Some, [], ◌∷◌};
+ghost use Rattle.std.specs.Prelude.{map, option_map, true};
+ghost use Rattle.clap.specs.Words.{IsAmong, found_of, rows_of, subcommand_rows_of};
+ghost use Rattle.command_line.specs.Lines.{KeepsInputs, admit_line, are_taken, error_kinds, line_in};
+ghost use Rattle.command_line.specs.Lines.{line_of, named_command, new_line, plan_view};
+ghost use Rattle.command_line.specs.Told.{IsHelpUnlessMemory, IsRefusalUnlessMemory};
+
+use crate::commands::symarch_command;
+use crate::line_faults::{LineFault, parse_fault, refused};
+use crate::plans::Plan;
+use crate::queries::{plan_find, plan_symbolicate};
+use crate::updates::{plan_admit, plan_apply, plan_merge, plan_new, plan_retire};
+use clap::ArgMatches;
+use clap::error::ErrorKind;
+use std::alloc::Global;
+use std::convert::AsStr;
+
+/// The plan of the command with this name.
+fn plan_in(alloc: Global, name: &str, matches: &ArgMatches) -> Result<Plan, LineFault>
+    ensures ok { IfOk result (λ p. Some (plan_view p)
+        ≡ line_in (name.now, rows_of (found_of matches.now))) }
+    ensures err { IsSome (line_in (name.now, rows_of (found_of matches.now)))
+        → IfErr result (λ e. e ≡ LineFault.OutOfMemory) }
+    ensures refusal { IfErr result IsRefusalUnlessMemory }
+{
+    if name == "new" {
+        plan_new(alloc, matches)
+    } else if name == "admit" {
+        plan_admit(alloc, matches)
+    } else if name == "retire" {
+        plan_retire(alloc, matches)
+    } else if name == "merge" {
+        plan_merge(alloc, matches)
+    } else if name == "apply" {
+        plan_apply(alloc, matches)
+    } else if name == "find" {
+        plan_find(alloc, matches)
+    } else if name == "symbolicate" {
+        plan_symbolicate(alloc, matches)
+    } else {
+        Err(refused(format!(in alloc; "error: no such command: {name}\n")))
+    }
+}
+
+/// What `clap` makes of the words.
+fn matched<'a, S: AsStr>(alloc: Global, words: &'a [S]) -> Result<ArgMatches<'a>, LineFault>
+    ensures ok { IfOk result (λ m. subcommand_rows_of m ≡ named_command (map S.text words.now)) }
+    ensures taken { OnOk result (error_kinds (map S.text words.now) ≡ []) }
+    ensures err { are_taken (map S.text words.now) ≡ true
+        → IfErr result (λ e. e ≡ LineFault.OutOfMemory) }
+    ensures help { error_kinds (map S.text words.now) ≡ ErrorKind.DisplayHelp ∷ []
+        → IsErrAnd result IsHelpUnlessMemory }
+    ensures refusal { ¬ IsAmong ErrorKind.DisplayHelp (error_kinds (map S.text words.now))
+        → IfErr result IsRefusalUnlessMemory }
+{
+    let command = symarch_command(alloc)?;
+    match command.try_get_matches_from(words) {
+        Ok(matches) => Ok(matches),
+        Err(error) => Err(parse_fault(alloc, &error)),
+    }
+}
+
+/// The command that was named, and its matches.
+fn named_command<'m, 'a>(matches: &'m ArgMatches<'a>) -> Option<(&'a str, &'m ArgMatches<'a>)>
+    ensures { option_map (λ p. (p.0.now, rows_of (found_of p.1.now))) result
+        ≡ subcommand_rows_of matches.now }
+{
+    matches.subcommand()
+}
+
+/// Reads a command line, of which the first word is the program's name. A line that `clap` refuses
+/// has `clap`'s own text. One in which a word has another form than its name asks for has a text with
+/// the name and the word, and one in which OUT is an input a text with its path.
+pub fn plan<S: AsStr>(alloc: Global, words: &[S]) -> Result<Plan, LineFault>
+    // A plan asks for what the words ask for, by `clap`'s own definition of a command's matches.
+    ensures ok { IfOk result (λ p. Some (plan_view p) ≡ line_of (map S.text words.now)) }
+    ensures taken { OnOk result (error_kinds (map S.text words.now) ≡ []) }
+    ensures keeps_inputs { IfOk result (λ p. KeepsInputs (plan_view p)) }
+
+    // A line that `clap` takes, and that asks for something, is refused for memory alone.
+    ensures err { are_taken (map S.text words.now) ≡ true
+        → IsSome (line_of (map S.text words.now))
+        → IfErr result (λ e. e ≡ LineFault.OutOfMemory) }
+    ensures help { error_kinds (map S.text words.now) ≡ ErrorKind.DisplayHelp ∷ []
+        → IsErrAnd result IsHelpUnlessMemory }
+    ensures refusal { ¬ IsAmong ErrorKind.DisplayHelp (error_kinds (map S.text words.now))
+        → IfErr result IsRefusalUnlessMemory }
+{
+    let matches = matched(alloc, words)?;
+    let Some((name, inner)) = named_command(&matches) else {
+        return Err(refused(String::from_str(alloc, "error: no command is named\n")));
+    };
+    plan_in(alloc, name, inner)
+}
