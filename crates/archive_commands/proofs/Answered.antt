@@ -1,0 +1,64 @@
+-- What is told of addresses, one after another.
+use Rattle.std.proofs.Common.{◌≡◌, ℕ, ◌+◌, ◌<◌, Bool, true, false, ◌&&◌, if◌then◌else◌, List, [], ◌∷◌, ◌++◌, length, take, slice_index_or, Option, Result, refl, sym, ap, ◌∙◌, add-one, subst}
+use Rattle.std.proofs.lemmas.List.{map-append, flat_map_more}
+use Rattle.std.proofs.lemmas.List.Folds.{list_all-append}
+use Rattle.std.proofs.Math.Seq.{take-suc}
+use Rattle.std.specs.List.{AllByRecursion, list_all}
+use Rattle.archive_core.specs.Content.{Operations, IsContent}
+use Rattle.archive_core.specs.Lookup.{IsAnswer, answer_view}
+use Rattle.archive_core.specs.declared.keys.SliceKey.{SliceKey}
+use Rattle.archive_core.specs.declared.lookup.Answer.{Answer}
+use Rattle.archive_lines.specs.Answers.{answer_lines}
+use Rattle.archive_lines.specs.declared.faults.CannotOpen.{CannotOpen}
+use Rattle.archive_lines.specs.declared.faults.Status.{Status}
+use Rattle.archive_lines.specs.declared.faults.Status.TheVariants.{Done, Partial}
+use Rattle.archive_records.specs.Text.{written}
+use Rattle.archive_commands.specs.Inputs.{Gives}
+use Rattle.archive_commands.specs.Symbolicate.{place_of, is_symbol, Answered, IsAnswered, answers_status, TellsAddresses, MakesAnswered}
+
+all_more : {X : Type 0} (P : X → Type 0) (xs : List X) (x : X) → AllByRecursion P xs → P x → AllByRecursion P (xs ++ x ∷ [])
+all_more P [] x all one = (one, tt)
+all_more P (y ∷ ys) x all one = (all.0, all_more P ys x all.1 one)
+
+status_of_more : (all one : Bool) → (if one then (if all then Done else Partial) else Partial) ≡ (if (all && (one && true)) then Done else Partial)
+status_of_more true true = refl
+status_of_more true false = refl
+status_of_more false true = refl
+status_of_more false false = refl
+
+status_more : (rows : List Answered) (row : Answered) → (if is_symbol row.answer then answers_status rows else Partial) ≡ answers_status (rows ++ row ∷ [])
+status_more rows row =
+    status_of_more (list_all (λ row. is_symbol row.answer) rows) (is_symbol row.answer)
+    ∙ ap (λ (all : Bool). if all then Done else Partial) (sym (list_all-append (λ row. is_symbol row.answer) rows (row ∷ [])))
+
+pub none_told : (content : Operations) (key : SliceKey) (load : Option ℕ) → TellsAddresses content key load [] Done []
+none_told content key load = record { rows = []; addresses_are = refl; answered = tt; status_is = refl; text_is = refl }
+
+pub more_told : (content : Operations) (key : SliceKey) (load : Option ℕ) (before addresses : List ℕ) (status next : Status) (text lines : List ℕ) (address : ℕ) (answer : Answer)
+    → TellsAddresses content key load before status text
+    → addresses ≡ before ++ address ∷ []
+    → IsAnswer content key (place_of load address) (answer_view answer)
+    → next ≡ (if is_symbol answer then status else Partial)
+    → lines ≡ text ++ answer_lines address answer
+    → TellsAddresses content key load addresses next lines
+more_told content key load before addresses status next text lines address answer told more is_answer next_is lines_are =
+    let row : Answered = record { address = address; answer = answer } in
+    record {
+      rows = told.rows ++ row ∷ [];
+      addresses_are = map-append (λ row. row.address) told.rows (row ∷ []) ∙ ap (λ xs. xs ++ address ∷ []) told.addresses_are ∙ sym more;
+      answered = all_more (IsAnswered content key load) told.rows row told.answered is_answer;
+      status_is = next_is ∙ ap (λ (s : Status). if is_symbol answer then s else Partial) told.status_is ∙ status_more told.rows row;
+      text_is = lines_are ∙ ap (λ t. t ++ answer_lines address answer) told.text_is ∙ flat_map_more (λ (row : Answered). answer_lines row.address row.answer) [] told.rows row;
+    }
+
+pub take_more : (xs : List ℕ) (i : ℕ) → i < length xs → take (i + 1) xs ≡ take i xs ++ slice_index_or xs i 0 ∷ []
+take_more xs i lt = ap (λ (n : ℕ). take n xs) (add-one i) ∙ take-suc xs i 0 lt
+
+pub makes_answered : {R : Type 0} (left : R → Option (List ℕ)) (archive : Result R CannotOpen) (key : SliceKey) (load : Option ℕ) (addresses : List ℕ) (o : Operations) (status : Status) (text lines : List ℕ)
+    → IsContent o → Gives left archive (λ bytes. bytes ≡ written o) → TellsAddresses o key load addresses status lines → text ≡ lines → MakesAnswered left archive key load addresses status text
+makes_answered left archive key load addresses o status text lines content gives tells same = record {
+  content = o;
+  is_content = content;
+  archive_is = gives;
+  tells = subst (TellsAddresses o key load addresses status) (sym same) tells;
+}

@@ -1,0 +1,14 @@
+pub mod Ending
+pub mod Files
+pub mod Rows
+pub mod Orders
+pub mod Accepted
+pub mod Changes
+pub mod Joins
+pub mod Least
+pub mod Archives
+pub mod Counts
+pub mod OperationLists
+pub mod AcceptedOperations
+pub mod Answered
+pub mod Viewed

@@ -1,0 +1,9 @@
+pub mod Inputs
+pub mod Leaves
+pub mod Tells
+pub mod Admit
+pub mod Retire
+pub mod Find
+pub mod Merge
+pub mod Apply
+pub mod Symbolicate

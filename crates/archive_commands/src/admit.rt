@@ -1,0 +1,126 @@
+//! `admit IN OUT FILE...`.
+ghost use Rattle.std.specs.Prelude.{◌≡◌, ◌++◌, ◌⊎◌, ℕ, List, OnOk, OnErr, IfOk, IfErr};
+ghost use Rattle.archive_core.specs.Content.{Operations};
+ghost use Rattle.archive_exchange.specs.File.{admissible, parts, IsAcceptedFile, IsTakeFault};
+ghost use Rattle.archive_exchange.specs.Take.{admitted, taken_rows};
+ghost use Rattle.archive_commands.specs.Admit.{file_rows, HasTaken, MakesAdmitted};
+ghost use Rattle.archive_commands.specs.Inputs.{Gives, IsRefusedBytes, IsRefusedFile, IsFirstFileRefused, IsFirstRefused};
+ghost use Rattle.archive_commands.specs.Leaves.{IfInput, IfWriter, IfMemory, IsCarriedOut, IsRefusal, NothingWritten, WriterFailed};
+
+use crate::publish::publish;
+use crate::sources::{read_file, read_input};
+use archive_core::Archive;
+use archive_exchange::{TakeFault, Taken, take_file};
+use archive_lines::{AdmitRow, CannotOpen, CommandFault, Place, Status, Why, admit_lines};
+use byte_device::{Sink, Source};
+use memory::{Heap, NoMemory};
+
+/// The refusal of a file at a place, whose bytes have this fault.
+fn refusal(place: u64, fault: TakeFault) -> CommandFault
+    ensures refused { (bytes : List ℕ) → IsTakeFault bytes fault → IsRefusal (IsRefusedBytes place bytes) result }
+{
+    match fault {
+        TakeFault::OutOfMemory => CommandFault::OutOfMemory,
+        fault => CommandFault::Input(Place::File(place), Why::Take(fault)),
+    }
+}
+
+/// Takes the slices of the file at a place, whose bytes these are.
+fn take_bytes<A: Archive>(
+    archive: &mut A,
+    place: u64,
+    bytes: Vec<u8, Heap>,
+) -> Result<Vec<Taken, Heap>, CommandFault>
+    ensures accepted { OnOk result (IsAcceptedFile bytes.items) }
+    ensures content { OnOk result (A.content archive.new ≡ admitted (A.content archive.old) (admissible bytes.items)) }
+    ensures rows { IfOk result (λ taken. taken.items ≡ taken_rows (A.content archive.old) (parts bytes.items)) }
+    ensures refused { IfErr result (IsRefusal (IsRefusedBytes place bytes.items)) }
+{
+    match take_file(archive, bytes) {
+        Ok(taken) => Ok(taken),
+        Err(fault) => Err(refusal(place, fault)),
+    }
+}
+
+/// Adds a row a slice of the file at a place.
+fn push_rows(rows: &mut Vec<AdmitRow, Heap>, place: u64, taken: &[Taken]) -> Result<(), NoMemory>
+    ensures { OnOk result (rows.new.items ≡ rows.old.items ++ file_rows place 0 taken.now) }
+{
+    'slices: for (slice, taken) in taken.iter().enumerate() {
+        rows.push(AdmitRow {
+            file: place,
+            slice: slice as u64,
+            taken: *taken,
+        })?;
+    }
+    Ok(())
+}
+
+/// Takes the slices of the file at a place, and adds their rows.
+fn admit_file<A: Archive, S: Source>(
+    heap: &Heap,
+    archive: &mut A,
+    rows: &mut Vec<AdmitRow, Heap>,
+    place: u64,
+    file: &mut Result<S, CannotOpen>,
+) -> Result<(), CommandFault>
+    ensures taken { OnOk result ((bytes : List ℕ)
+        × IsAcceptedFile bytes
+        × Gives S.left file.old (λ text. text ≡ bytes)
+        × (A.content archive.new ≡ admitted (A.content archive.old) (admissible bytes))
+        × (rows.new.items ≡ rows.old.items ++ file_rows place 0 (taken_rows (A.content archive.old) (parts bytes)))) }
+    ensures refused { IfErr result (IsRefusal (IsRefusedFile S.left S.failures place file.old file.new)) }
+{
+    let bytes = read_file(heap.clone()?, place, file)?;
+    let taken = take_bytes(archive, place, bytes)?;
+    push_rows(rows, place, &taken)?;
+    Ok(())
+}
+
+/// Takes the slices of the files, in their order, and tells their rows.
+fn admit_files<A: Archive, S: Source>(
+    heap: &Heap,
+    archive: &mut A,
+    files: &mut [Result<S, CannotOpen>],
+) -> Result<Vec<AdmitRow, Heap>, CommandFault>
+    ensures taken { IfOk result (λ rows. HasTaken S.left files.old (A.content archive.old) (A.content archive.new) rows.items) }
+    ensures refused { IfErr result (IsRefusal (IsFirstFileRefused S.left S.failures files.old files.new)) }
+{
+    let mut rows = Vec::new(heap.clone()?);
+    'files: for (place, file) in files.iter_mut().enumerate() {
+        admit_file(heap, archive, &mut rows, place as u64, file)?;
+    }
+    Ok(rows)
+}
+
+/// Writes IN's archive to OUT with the slices of each file, and a row a slice and the sizes to the report. The inputs are
+/// read in the order of the words, IN first, each to its end, before anything is written.
+///
+/// # Errors
+///
+/// `Input` for the first input that is refused; `Output` and `Report` where that writer failed; `OutOfMemory`.
+pub fn run_admit<A: Archive + Drop, R: Source, S: Source, W: Sink, P: Sink>(
+    heap: Heap,
+    input: &mut Result<R, CannotOpen>,
+    files: &mut [Result<S, CannotOpen>],
+    out: &mut W,
+    report: &mut P,
+) -> Result<Status, CommandFault>
+    // On success the inputs are accepted, and OUT and the report hold what they make.
+    ensures admitted { OnOk result (IsCarriedOut (MakesAdmitted R.left S.left input.old files.old) (W.held out.old) (W.held out.new) (P.held report.old) (P.held report.new) result) }
+
+    // The first input that is refused, in the order of the words; nothing was written then.
+    ensures refused { IfErr result (λ fault. IfInput fault (λ place why. IsFirstRefused R.left R.failures S.left S.failures input.old input.new files.old files.new place why × NothingWritten (W.held out.old) (W.held out.new) (P.held report.old) (P.held report.new))) }
+
+    // A writer failed: the inputs are accepted, and it has exactly a beginning of its text.
+    ensures stopped { IfErr result (λ fault. IfWriter fault (IsCarriedOut (MakesAdmitted R.left S.left input.old files.old) (W.held out.old) (W.held out.new) (P.held report.old) (P.held report.new) result)) }
+    ensures failed { IfErr result (λ fault. WriterFailed fault (W.failures out.old) (W.failures out.new) (P.failures report.old) (P.failures report.new)) }
+
+    // After want of memory the report has nothing, and OUT nothing or its whole text.
+    ensures memory { IfErr result (λ fault. IfMemory fault (NothingWritten (W.held out.old) (W.held out.new) (P.held report.old) (P.held report.new) ⊎ IsCarriedOut (MakesAdmitted R.left S.left input.old files.old) (W.held out.old) (W.held out.new) (P.held report.old) (P.held report.new) result)) }
+{
+    let mut archive: A = read_input(heap.clone()?, 0, input)?;
+    let rows = admit_files(&heap, &mut archive, files)?;
+    let lines = admit_lines(heap, &rows)?;
+    publish(&archive, lines, out, report)
+}

@@ -1,0 +1,74 @@
+//! `apply IN OUT OPS`.
+ghost use Rattle.std.specs.Prelude.{◌≡◌, ◌⊎◌, ◌≤◌, cond, length, map, OnOk, IfOk, IfErr};
+ghost use Rattle.std.specs.FinSet as set;
+ghost use Rattle.archive_core.specs.Content.{with_record, with_records};
+ghost use Rattle.archive_core.specs.Record.{rec};
+ghost use Rattle.archive_commands.specs.Apply.{new_among, MakesApplied};
+ghost use Rattle.archive_commands.specs.Inputs.{IsFirstApplyRefused};
+ghost use Rattle.archive_commands.specs.Leaves.{IfInput, IfWriter, IfMemory, IsCarriedOut, NothingWritten, WriterFailed};
+
+use crate::publish::publish;
+use crate::sources::{read_input, read_operations};
+use archive_core::{Archive, Operation};
+use archive_lines::{CannotOpen, CommandFault, Status, apply_line};
+use byte_device::{Sink, Source};
+use memory::{Heap, NoMemory};
+
+/// Takes an operation, and counts it where it is new.
+fn take_counted<A: Archive>(archive: &mut A, operation: Operation) -> Result<u64, NoMemory>
+    ensures content { OnOk result (A.content archive.new ≡ with_record (A.content archive.old) (rec operation)) }
+    ensures counted { IfOk result (λ new. new ≡ cond (set.contains (A.content archive.old) (rec operation)) 0 1) }
+{
+    let changed = archive.take(operation)?;
+    Ok(u64::from(changed))
+}
+
+/// Takes operations in their order, and counts the new ones.
+fn take_operations<A: Archive>(
+    archive: &mut A,
+    operations: Vec<Operation, Heap>,
+) -> Result<u64, NoMemory>
+    ensures content { OnOk result (A.content archive.new ≡ with_records (A.content archive.old) (map rec operations.items)) }
+    ensures counted { IfOk result (λ new. new ≡ new_among (A.content archive.old) operations.items) }
+    ensures within { IfOk result (λ new. new ≤ length operations.items) }
+{
+    let mut new = 0;
+    'operations: for operation in operations {
+        new += take_counted(archive, operation)?;
+    }
+    Ok(new)
+}
+
+/// Writes IN's archive to OUT with the operations of an operations file, and to the report how many of them were new and
+/// how many were there, and the sizes. IN is read first, then OPS, each to its end, before anything is written.
+///
+/// # Errors
+///
+/// `Input` for the first input that is refused; `Output` and `Report` where that writer failed; `OutOfMemory`.
+pub fn run_apply<A: Archive + Drop, R: Source, S: Source, W: Sink, P: Sink>(
+    heap: Heap,
+    input: &mut Result<R, CannotOpen>,
+    ops: &mut Result<S, CannotOpen>,
+    out: &mut W,
+    report: &mut P,
+) -> Result<Status, CommandFault>
+    // On success the inputs are accepted, and OUT and the report hold what they make.
+    ensures applied { OnOk result (IsCarriedOut (MakesApplied R.left S.left input.old ops.old) (W.held out.old) (W.held out.new) (P.held report.old) (P.held report.new) result) }
+
+    // The first input that is refused, in the order of the words; nothing was written then.
+    ensures refused { IfErr result (λ fault. IfInput fault (λ place why. IsFirstApplyRefused R.left R.failures S.left S.failures input.old input.new ops.old ops.new place why × NothingWritten (W.held out.old) (W.held out.new) (P.held report.old) (P.held report.new))) }
+
+    // A writer failed: the inputs are accepted, and it has exactly a beginning of its text.
+    ensures stopped { IfErr result (λ fault. IfWriter fault (IsCarriedOut (MakesApplied R.left S.left input.old ops.old) (W.held out.old) (W.held out.new) (P.held report.old) (P.held report.new) result)) }
+    ensures failed { IfErr result (λ fault. WriterFailed fault (W.failures out.old) (W.failures out.new) (P.failures report.old) (P.failures report.new)) }
+
+    // After want of memory the report has nothing, and OUT nothing or its whole text.
+    ensures memory { IfErr result (λ fault. IfMemory fault (NothingWritten (W.held out.old) (W.held out.new) (P.held report.old) (P.held report.new) ⊎ IsCarriedOut (MakesApplied R.left S.left input.old ops.old) (W.held out.old) (W.held out.new) (P.held report.old) (P.held report.new) result)) }
+{
+    let mut archive: A = read_input(heap.clone()?, 0, input)?;
+    let operations = read_operations(heap.clone()?, ops)?;
+    let number = operations.len() as u64;
+    let new = take_operations(&mut archive, operations)?;
+    let lines = apply_line(heap, new, number - new)?;
+    publish(&archive, lines, out, report)
+}

@@ -1,0 +1,50 @@
+//! What the definitions of `admit` say in the words of its user. Each law is the contract of a function that does nothing
+//! but call laws of the crates below.
+ghost use Rattle.std.specs.Prelude.{◌≡◌, ◌↔◌, ◌<◌, ◌+◌, ◌++◌, ◌^◌, ℕ, List, Result, Some, Contains, drop, map, take, slice_get};
+ghost use Rattle.std.specs.List.{AllByRecursion};
+ghost use Rattle.std.specs.FinSet as set;
+ghost use Rattle.archive_core.specs.Record.{admission_record};
+ghost use Rattle.archive_core.specs.Content.{Operations, IsContent, IsMade, made, joined};
+ghost use Rattle.archive_records.specs.Text.{written};
+ghost use Rattle.archive_exchange.specs.File.{parts, IsAcceptedFile};
+ghost use Rattle.archive_exchange.specs.Take.{admitted, taken_rows};
+ghost use Rattle.archive_lines.specs.declared.faults.CannotOpen.{CannotOpen};
+ghost use Rattle.archive_lines.specs.declared.faults.Place.{Place};
+ghost use Rattle.archive_lines.specs.declared.faults.Why.{Why};
+ghost use Rattle.archive_commands.specs.Admit.{images_of, file_rows, admit_rows};
+ghost use Rattle.archive_commands.specs.Inputs.{AreGiven, IsDeviceFault, IsFirstRefused, IsGiven};
+
+use archive_exchange::laws::one_take_fault;
+use archive_records::laws::text_has_no_fault;
+use byte_device::Source;
+
+/// The content that `admit` makes is IN's with the admissions of the files' images, in whatever order and however often
+/// the files stand among the words.
+pub fn admitted_in_any_order()
+    ensures content { (o : Operations) (files : List (List ℕ)) → IsMade o → admitted o (images_of files) ≡ joined o (made (set.from_list (map admission_record (images_of files)))) }
+    ensures order { (o : Operations) (files others : List (List ℕ)) → IsMade o → ((file : List ℕ) → Contains files file ↔ Contains others file) → admitted o (images_of files) ≡ admitted o (images_of others) }
+{}
+
+/// The rows of a file stand behind those of the files before it, and say what became of its slices over IN with the images
+/// of these.
+pub fn rows_in_order()
+    ensures { (o : Operations) (files : List (List ℕ)) (place : ℕ) (file : List ℕ) → slice_get files place ≡ Some file
+        → admit_rows o 0 files ≡ admit_rows o 0 (take place files)
+        ++ (file_rows place 0 (taken_rows (admitted o (images_of (take place files))) (parts file))
+        ++ admit_rows (admitted o (images_of (take (place + 1) files))) (place + 1) (drop (place + 1) files)) }
+{}
+
+/// Where IN is the text of a content and each file is accepted, no input is refused but for its device.
+pub fn accepted_inputs_are_not_refused<R: Source, S: Source>()
+    ensures { (in_old in_new : Result R CannotOpen) (old new : List (Result S CannotOpen)) (o : Operations) (texts : List (List ℕ)) (place : Place) (why : Why)
+        → IsContent o
+        → set.len o < 2 ^ 64
+        → IsGiven R.left in_old (written o)
+        → AreGiven S.left old texts
+        → AllByRecursion IsAcceptedFile texts
+        → IsFirstRefused R.left R.failures S.left S.failures in_old in_new old new place why
+        → IsDeviceFault why }
+{
+    text_has_no_fault();
+    one_take_fault();
+}

@@ -1,0 +1,33 @@
+//! The commands, over any archive, sources and sinks.
+//!
+//! A command reads its inputs in the order of its words, each opened beforehand and refused at its turn, and only then
+//! writes OUT, and after that its report.
+//!
+//! - `sources`: the inputs;
+//! - `publish`: the end of each command that writes an archive;
+//! - `new`, `admit`, `retire`, `merge`, `apply`, `find`, `symbolicate`: a command each;
+//! - [`laws`], [`merge_laws`], [`apply_laws`], [`symbolicate_laws`]: what the definitions of the commands say in the words of
+//!   their user.
+#![tactic(auto)]
+
+mod admit;
+mod apply;
+pub mod apply_laws;
+mod find;
+pub mod laws;
+mod merge;
+pub mod merge_laws;
+mod new;
+mod publish;
+mod retire;
+mod sources;
+mod symbolicate;
+pub mod symbolicate_laws;
+
+pub use admit::run_admit;
+pub use apply::run_apply;
+pub use find::run_find;
+pub use merge::run_merge;
+pub use new::run_new;
+pub use retire::run_retire;
+pub use symbolicate::run_symbolicate;

@@ -1,0 +1,48 @@
+//! The end of each command that writes an archive: OUT, and then the report.
+ghost use Rattle.std.specs.Prelude.{IfErr, string_bytes};
+ghost use Rattle.archive_records.specs.Text.{written};
+ghost use Rattle.archive_commands.specs.Leaves.{Leaves, WriterFailed, report_of};
+ghost use Rattle.archive_commands.specs.Tells.{ReportFailed, Tells};
+
+use archive_core::Archive;
+use archive_lines::{CommandFault, Status, with_sizes};
+use archive_records::write_archive;
+use byte_device::{Sink, push_all};
+use memory::Heap;
+
+/// Writes the archive to OUT, and then the lines and the sizes to the report, which is made whole before its first byte
+/// is given.
+pub(crate) fn publish<A: Archive, W: Sink, P: Sink>(
+    archive: &A,
+    lines: String<Heap>,
+    out: &mut W,
+    report: &mut P,
+) -> Result<Status, CommandFault>
+    ensures leaves { Leaves (W.held out.old) (W.held out.new) (P.held report.old) (P.held report.new) (written (A.content archive.now)) (report_of (A.content archive.now) (string_bytes lines)) result }
+    ensures failed { IfErr result (λ fault. WriterFailed fault (W.failures out.old) (W.failures out.new) (P.failures report.old) (P.failures report.new)) }
+{
+    let sizes = match write_archive(archive, out) {
+        Ok(sizes) => sizes,
+        Err(fault) => return Err(CommandFault::Output(fault.written)),
+    };
+    let text = with_sizes(lines, sizes)?;
+    match push_all(report, text.as_bytes()) {
+        Ok(()) => Ok(Status::Done),
+        Err(fault) => Err(CommandFault::Report(fault.written)),
+    }
+}
+
+/// Writes a text to the report, which is the end of each command that only reports.
+pub(crate) fn tell<P: Sink>(
+    status: Status,
+    text: &str,
+    report: &mut P,
+) -> Result<Status, CommandFault>
+    ensures tells { Tells (P.held report.old) (P.held report.new) status text.now result }
+    ensures failed { IfErr result (λ fault. ReportFailed fault (P.failures report.old) (P.failures report.new)) }
+{
+    match push_all(report, text.as_bytes()) {
+        Ok(()) => Ok(status),
+        Err(fault) => Err(CommandFault::Report(fault.written)),
+    }
+}

@@ -1,0 +1,85 @@
+//! The inputs of a command, each opened beforehand and refused at its turn.
+ghost use Rattle.std.specs.Prelude.{◌≡◌, IfOk, IfErr};
+ghost use Rattle.archive_core.specs.Content.{IsContent};
+ghost use Rattle.archive_records.specs.Text.{IsOperationsText, written};
+ghost use Rattle.archive_commands.specs.Inputs.{Gives, IsRefusedArchive, IsRefusedFile, IsRefusedOps};
+ghost use Rattle.archive_commands.specs.Leaves.{IsRefusal};
+
+use archive_core::{Archive, Operation};
+use archive_lines::{CannotOpen, CommandFault, Place, Why};
+use archive_records::{RecordFault, RecordFaultKind, read_archive, read_ops};
+use byte_device::{ReadFault, Source, read_to_end};
+use memory::Heap;
+
+/// Reads the archive at a place among those of the words.
+pub(crate) fn read_input<A: Archive + Drop, R: Source>(
+    heap: Heap,
+    place: u64,
+    input: &mut Result<R, CannotOpen>,
+) -> Result<A, CommandFault>
+    ensures content { IfOk result (λ archive. IsContent (A.content archive)) }
+    ensures text { IfOk result (λ archive. Gives R.left input.old (λ text. text ≡ written (A.content archive))) }
+    ensures refused { IfErr result (IsRefusal (IsRefusedArchive R.left R.failures place input.old input.new)) }
+{
+    let at = Place::Archive(place);
+    let source = match input {
+        Ok(source) => source,
+        Err(CannotOpen) => return Err(CommandFault::Input(at, Why::CannotOpen)),
+    };
+    match read_archive(heap, source) {
+        Ok(archive) => Ok(archive),
+        Err(
+            RecordFault {
+                kind: RecordFaultKind::OutOfMemory,
+                ..
+            },
+        ) => Err(CommandFault::OutOfMemory),
+        Err(fault) => Err(CommandFault::Input(at, Why::Record(fault))),
+    }
+}
+
+/// Reads the bytes of the file at a place among the words.
+pub(crate) fn read_file<S: Source>(
+    heap: Heap,
+    place: u64,
+    file: &mut Result<S, CannotOpen>,
+) -> Result<Vec<u8, Heap>, CommandFault>
+    ensures bytes { IfOk result (λ bytes. Gives S.left file.old (λ text. text ≡ bytes.items)) }
+    ensures refused { IfErr result (IsRefusal (IsRefusedFile S.left S.failures place file.old file.new)) }
+{
+    let at = Place::File(place);
+    let source = match file {
+        Ok(source) => source,
+        Err(CannotOpen) => return Err(CommandFault::Input(at, Why::CannotOpen)),
+    };
+    match read_to_end(heap, source) {
+        Ok(bytes) => Ok(bytes),
+        Err(ReadFault::Device) => Err(CommandFault::Input(at, Why::Device)),
+        Err(ReadFault::OutOfMemory) => Err(CommandFault::OutOfMemory),
+    }
+}
+
+/// Reads the operations of an operations file.
+pub(crate) fn read_operations<S: Source>(
+    heap: Heap,
+    ops: &mut Result<S, CannotOpen>,
+) -> Result<Vec<Operation, Heap>, CommandFault>
+    ensures text { IfOk result (λ operations. Gives S.left ops.old (λ text. IsOperationsText text operations.items)) }
+    ensures refused { IfErr result (IsRefusal (IsRefusedOps S.left S.failures ops.old ops.new)) }
+{
+    let at = Place::Ops;
+    let source = match ops {
+        Ok(source) => source,
+        Err(CannotOpen) => return Err(CommandFault::Input(at, Why::CannotOpen)),
+    };
+    match read_ops(heap, source) {
+        Ok(operations) => Ok(operations),
+        Err(
+            RecordFault {
+                kind: RecordFaultKind::OutOfMemory,
+                ..
+            },
+        ) => Err(CommandFault::OutOfMemory),
+        Err(fault) => Err(CommandFault::Input(at, Why::Record(fault))),
+    }
+}

@@ -1,0 +1,89 @@
+//! `symbolicate ARCHIVE UUID ARCH [--load HEX] ADDRESS...`.
+ghost use Rattle.std.specs.Prelude.{◌≡◌, [], if◌then◌else◌, OnOk, IfOk, IfErr, string_bytes};
+ghost use Rattle.std.specs.Io.KnownBytes.{Appends};
+ghost use Rattle.archive_lines.specs.declared.faults.Status.TheVariants.{Partial};
+ghost use Rattle.archive_commands.specs.Inputs.{IsRefusedArchive};
+ghost use Rattle.archive_commands.specs.Leaves.{IfInput, IfWriter, IfMemory};
+ghost use Rattle.archive_commands.specs.Symbolicate.{MakesAnswered, TellsAddresses, is_symbol, place_of};
+ghost use Rattle.archive_commands.specs.Tells.{IsReported, ReportFailed};
+
+use crate::publish::tell;
+use crate::sources::read_input;
+use archive_core::{Answer, Archive, SliceKey, Where};
+use archive_lines::{CannotOpen, CommandFault, Status, push_answer};
+use byte_device::{Sink, Source};
+use memory::{Heap, NoMemory};
+
+/// The place that an address of the words means.
+fn place_of(load: Option<u64>, address: u64) -> Where
+    ensures { result ≡ place_of load address }
+{
+    match load {
+        Some(load) => Where::Loaded { load, address },
+        None => Where::File(address),
+    }
+}
+
+/// How a command ends behind one more answer: as before it, if that is one symbol.
+fn status_behind(status: Status, answer: &Answer<'_>) -> Status
+    ensures { result ≡ if is_symbol answer.now then status else Partial }
+{
+    match answer {
+        Answer::Symbol(_) => status,
+        Answer::Unknown | Answer::NoSymbol | Answer::Conflict(_) => Status::Partial,
+    }
+}
+
+/// The lines of the answers to the addresses, with how a command ends that prints them.
+fn answer_each<A: Archive>(
+    heap: Heap,
+    archive: &A,
+    key: &SliceKey,
+    load: Option<u64>,
+    addresses: &[u64],
+) -> Result<(Status, String<Heap>), NoMemory>
+    ensures { IfOk result (λ told. TellsAddresses (A.content archive.now) key.now load addresses.now told.0 (string_bytes told.1)) }
+{
+    let mut status = Status::Done;
+    let mut text = String::new(heap);
+    'addresses: for address in addresses {
+        let answer = archive.lookup(key, place_of(load, *address))?;
+        status = status_behind(status, &answer);
+        push_answer(&mut text, *address, &answer)?;
+    }
+    Ok((status, text))
+}
+
+/// Writes an answer for each address to the report, in their order. They are addresses of the image where it was loaded, if
+/// `load` says where that was, and else of its file.
+///
+/// The status is `Done` where each answer is one symbol, and else `Partial`.
+///
+/// # Errors
+///
+/// `Input` where the archive is refused; `Report` where the report failed; `OutOfMemory`.
+pub fn run_symbolicate<A: Archive + Drop, R: Source, P: Sink>(
+    heap: Heap,
+    archive: &mut Result<R, CannotOpen>,
+    key: &SliceKey,
+    load: Option<u64>,
+    addresses: &[u64],
+    report: &mut P,
+) -> Result<Status, CommandFault>
+    // On success the archive is accepted, and the report holds the lines of the answers.
+    ensures answered { OnOk result (IsReported (MakesAnswered R.left archive.old key.now load addresses.now) (P.held report.old) (P.held report.new) result) }
+
+    // The archive is refused; nothing was written then.
+    ensures refused { IfErr result (λ fault. IfInput fault (λ place why. IsRefusedArchive R.left R.failures 0 archive.old archive.new place why × Appends (P.held report.old) (P.held report.new) [])) }
+
+    // The report failed: the archive is accepted, and it has exactly a beginning of the lines.
+    ensures stopped { IfErr result (λ fault. IfWriter fault (IsReported (MakesAnswered R.left archive.old key.now load addresses.now) (P.held report.old) (P.held report.new) result)) }
+    ensures failed { IfErr result (λ fault. ReportFailed fault (P.failures report.old) (P.failures report.new)) }
+
+    // After want of memory the report has nothing.
+    ensures memory { IfErr result (λ fault. IfMemory fault (Appends (P.held report.old) (P.held report.new) [])) }
+{
+    let archive: A = read_input(heap.clone()?, 0, archive)?;
+    let (status, text) = answer_each(heap, &archive, key, load, addresses)?;
+    tell(status, &text, report)
+}
