@@ -1,6 +1,6 @@
 //! What the program says on standard error.
 
-use crate::{CannotCreate, CommandFault};
+use archive_lines::{CannotCreate, CommandFault};
 use thiserror::Error;
 
 /// Why the program ends with a message, which is the text of what it holds behind the program's name.

@@ -2,7 +2,7 @@
 
 ghost use Rattle.std.specs.Prelude.{◌≡◌, ◌≤◌, IfSome, length};
 
-use crate::CannotOpen;
+use archive_lines::CannotOpen;
 use byte_device::{Failed, Reading, Sink};
 use memory::NoMemory;
 use std::alloc::Global;
@@ -121,4 +121,17 @@ pub fn open_buffered<F: Files>(
         Ok(reader) => Ok(Ok(Reading::new(reader))),
         Err(_) => Err(NoMemory),
     }
+}
+
+/// Opens the files of the paths, each of which is read in large pieces.
+pub fn open_all_buffered<F: Files>(
+    alloc: Global,
+    files: &F,
+    paths: &[String],
+) -> Result<Vec<Result<Reading<BufReader<F::File>>, CannotOpen>>, NoMemory> {
+    let mut opened = Vec::new(alloc);
+    for path in paths {
+        opened.push(open_buffered(alloc, files, path)?)?;
+    }
+    Ok(opened)
 }

@@ -1,15 +1,19 @@
 //! The program over the words, the files and the standard streams that it is started with.
 
-use crate::files::{OutFile, open_all, open_buffered};
-use crate::{
-    CannotCreate, CommandFault, Failure, LineFault, Plan, Status, plan, run_admit, run_new,
+use crate::Failure;
+use crate::files::{OutFile, open_all, open_all_buffered, open_buffered};
+use archive_commands::{
+    run_admit, run_apply, run_find, run_merge, run_new, run_retire, run_symbolicate,
 };
-use archive_core::PlainArchive;
+use archive_core::{Digest, PlainArchive, SliceKey};
+use archive_lines::{CannotCreate, CommandFault, Status};
 use byte_device::Writing;
+use command_line::{LineFault, Plan, plan};
 use memory::Heap;
 use std::process::ExitCode;
 use std::rt::{Env, Files};
 use std::{env, io};
+use uuid::Uuid;
 
 /// The exit status of a refused input or a device that failed.
 const REFUSED: u8 = 2;
@@ -60,27 +64,171 @@ fn fail<R: Eprint>(rt: &R, failure: Failure) -> ExitCode {
 /// Carries out a plan over files and standard output.
 fn execute<R: Files + Print + AllocGlobal>(rt: &R, plan: &Plan) -> Result<Status, Failure> {
     let heap = Heap::new(rt.alloc()).map_err(CommandFault::from)?;
-    let mut report = Writing::new(io::writer(rt));
     match plan {
-        Plan::New { out } => {
-            let mut out = OutFile::new(rt, out);
-            let result = run_new::<PlainArchive, _, _>(heap, &mut out, &mut report);
-            ended(result, &out)
+        Plan::New { out } => new(rt, heap, out),
+        Plan::Admit { input, out, files } => admit(rt, heap, input, out, files),
+        Plan::Retire {
+            input,
+            out,
+            uuid,
+            arch,
+            digest,
+        } => {
+            let key = SliceKey {
+                uuid: *uuid,
+                arch: *arch,
+            };
+            retire(rt, heap, input, out, key, *digest)
         }
-        Plan::Admit { input, out, files } => {
-            let mut input = open_buffered(rt.alloc(), rt, input).map_err(CommandFault::from)?;
-            let mut files = open_all(rt.alloc(), rt, files).map_err(CommandFault::from)?;
-            let mut out = OutFile::new(rt, out);
-            let result = run_admit::<PlainArchive, _, _, _, _>(
-                heap,
-                &mut input,
-                &mut files,
-                &mut out,
-                &mut report,
-            );
-            ended(result, &out)
+        Plan::Merge { input, out, files } => merge(rt, heap, input, out, files),
+        Plan::Apply { input, out, ops } => apply(rt, heap, input, out, ops),
+        Plan::Find { archive, uuid } => find(rt, heap, archive, uuid),
+        Plan::Symbolicate {
+            archive,
+            uuid,
+            arch,
+            load,
+            addresses,
+        } => {
+            let key = SliceKey {
+                uuid: *uuid,
+                arch: *arch,
+            };
+            symbolicate(rt, heap, archive, &key, *load, addresses)
         }
     }
+}
+
+/// `new OUT`
+fn new<R: Files + Print>(rt: &R, heap: Heap, out: &str) -> Result<Status, Failure> {
+    let mut report = Writing::new(io::writer(rt));
+    let mut out = OutFile::new(rt, out);
+    let result = run_new::<PlainArchive, _, _>(heap, &mut out, &mut report);
+    ended(result, &out)
+}
+
+/// `admit IN OUT FILE...`
+fn admit<R: Files + Print + AllocGlobal>(
+    rt: &R,
+    heap: Heap,
+    input: &str,
+    out: &str,
+    files: &[String],
+) -> Result<Status, Failure> {
+    let mut report = Writing::new(io::writer(rt));
+    let mut input = open_buffered(rt.alloc(), rt, input).map_err(CommandFault::from)?;
+    let mut files = open_all(rt.alloc(), rt, files).map_err(CommandFault::from)?;
+    let mut out = OutFile::new(rt, out);
+    let result = run_admit::<PlainArchive, _, _, _, _>(
+        heap,
+        &mut input,
+        &mut files,
+        &mut out,
+        &mut report,
+    );
+    ended(result, &out)
+}
+
+/// `retire IN OUT UUID ARCH DIGEST`
+fn retire<R: Files + Print + AllocGlobal>(
+    rt: &R,
+    heap: Heap,
+    input: &str,
+    out: &str,
+    key: SliceKey,
+    digest: Digest,
+) -> Result<Status, Failure> {
+    let mut report = Writing::new(io::writer(rt));
+    let mut input = open_buffered(rt.alloc(), rt, input).map_err(CommandFault::from)?;
+    let mut out = OutFile::new(rt, out);
+    let result = run_retire::<PlainArchive, _, _, _>(
+        heap,
+        &mut input,
+        key,
+        digest,
+        &mut out,
+        &mut report,
+    );
+    ended(result, &out)
+}
+
+/// `merge IN OUT FILE...`
+fn merge<R: Files + Print + AllocGlobal>(
+    rt: &R,
+    heap: Heap,
+    input: &str,
+    out: &str,
+    files: &[String],
+) -> Result<Status, Failure> {
+    let mut report = Writing::new(io::writer(rt));
+    let mut input = open_buffered(rt.alloc(), rt, input).map_err(CommandFault::from)?;
+    let mut files = open_all_buffered(rt.alloc(), rt, files).map_err(CommandFault::from)?;
+    let mut out = OutFile::new(rt, out);
+    let result = run_merge::<PlainArchive, _, _, _, _>(
+        heap,
+        &mut input,
+        &mut files,
+        &mut out,
+        &mut report,
+    );
+    ended(result, &out)
+}
+
+/// `apply IN OUT OPS`
+fn apply<R: Files + Print + AllocGlobal>(
+    rt: &R,
+    heap: Heap,
+    input: &str,
+    out: &str,
+    ops: &str,
+) -> Result<Status, Failure> {
+    let mut report = Writing::new(io::writer(rt));
+    let mut input = open_buffered(rt.alloc(), rt, input).map_err(CommandFault::from)?;
+    let mut ops = open_buffered(rt.alloc(), rt, ops).map_err(CommandFault::from)?;
+    let mut out = OutFile::new(rt, out);
+    let result = run_apply::<PlainArchive, _, _, _, _>(
+        heap,
+        &mut input,
+        &mut ops,
+        &mut out,
+        &mut report,
+    );
+    ended(result, &out)
+}
+
+/// `find ARCHIVE UUID`
+fn find<R: Files + Print + AllocGlobal>(
+    rt: &R,
+    heap: Heap,
+    archive: &str,
+    uuid: &Uuid,
+) -> Result<Status, Failure> {
+    let mut report = Writing::new(io::writer(rt));
+    let mut archive = open_buffered(rt.alloc(), rt, archive).map_err(CommandFault::from)?;
+    let status = run_find::<PlainArchive, _, _>(heap, &mut archive, uuid, &mut report)?;
+    Ok(status)
+}
+
+/// `symbolicate ARCHIVE UUID ARCH [--load HEX] ADDRESS...`
+fn symbolicate<R: Files + Print + AllocGlobal>(
+    rt: &R,
+    heap: Heap,
+    archive: &str,
+    key: &SliceKey,
+    load: Option<u64>,
+    addresses: &[u64],
+) -> Result<Status, Failure> {
+    let mut report = Writing::new(io::writer(rt));
+    let mut archive = open_buffered(rt.alloc(), rt, archive).map_err(CommandFault::from)?;
+    let status = run_symbolicate::<PlainArchive, _, _>(
+        heap,
+        &mut archive,
+        key,
+        load,
+        addresses,
+        &mut report,
+    )?;
+    Ok(status)
 }
 
 /// How a command ended that wrote to OUT: a file that was not created is told as such.

@@ -1,9 +1,0 @@
-use Rattle.std.proofs.Common.{◌≡◌, take, drop}
-use Rattle.symarch.specs.Admits.{HasTaken}
-use Rattle.symarch.proofs.admit.admit_files.Given as goal
-
-abbrev pub invariant-files : goal.invariant-files
-invariant-files g l = record {
-  taken : HasTaken g.S.Source.left (take l.place l.fn.files) (g.A.Join.content l.initial.archive) (g.A.Join.content l.archive) l.rows.items;
-  rest : drop l.place l.files ≡ drop l.place l.fn.files;
-}

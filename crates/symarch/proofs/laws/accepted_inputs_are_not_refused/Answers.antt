@@ -1,5 +1,0 @@
-use Rattle.symarch.proofs.Accepted.{not_refused}
-use Rattle.symarch.proofs.laws.accepted_inputs_are_not_refused.Goals as goal
-
-pub returns : goal.returns
-returns g c = not_refused c.text_has_no_fault.ensures c.one_slice_fault.ensures.none g.R.Source.left g.R.Source.failures g.S.Source.left g.S.Source.failures
