@@ -1,14 +1,13 @@
 -- The files of `admit`, one more at a time.
-use Rattle.std.proofs.Common.{◌≡◌, ℕ, suc, ◌+◌, ◌<◌, List, [], ◌∷◌, ◌++◌, length, map, take, drop, get_or, set, append_assoc, Option, Some, Result, refl, sym, ap, ◌∙◌, subst, arith, add-one}
-use Rattle.std.proofs.lemmas.List.{append-nil, map-append, length-take, get_or-drop, drop-set-lt, drop-drop, get_or-set_same}
-use Rattle.std.proofs.lemmas.List.Sums.{fold-append}
+use Rattle.std.proofs.Common.{◌≡◌, ℕ, suc, ◌+◌, ◌<◌, List, [], ◌∷◌, ◌++◌, length, take, drop, get_or, set, append_assoc, Option, Some, Result, refl, sym, ap, ◌∙◌, subst, arith, add-one}
+use Rattle.std.proofs.lemmas.List.{append-nil, length-take, get_or-drop, drop-set-lt, drop-drop, get_or-set_same}
 use Rattle.std.proofs.lemmas.Grind.{flat_map-append}
 use Rattle.std.proofs.Math.Seq.{take-suc}
-use Rattle.std.specs.List.{AllByRecursion, fold}
-use Rattle.archive_core.specs.Record.{admission_record}
-use Rattle.archive_core.specs.Content.{Operations, with_record}
+use Rattle.std.specs.List.{AllByRecursion}
+use Rattle.archive_core.specs.Content.{Operations}
 use Rattle.archive_lines.specs.declared.faults.CannotOpen.{CannotOpen}
 use Rattle.archive_lines.specs.declared.rows.AdmitRow.{AdmitRow}
+use Rattle.archive_exchange.proofs.Rows.{admitted-append}
 use Rattle.archive_exchange.specs.File.{admissible, parts, IsAcceptedFile}
 use Rattle.archive_exchange.specs.Take.{admitted, taken_rows}
 use Rattle.archive_commands.specs.Admit.{images_of, file_rows, admit_rows, HasTaken}
@@ -18,10 +17,6 @@ use Rattle.archive_lines.specs.declared.faults.CommandFault.{CommandFault}
 use Rattle.archive_lines.specs.declared.faults.CommandFault.TheVariants.{Input, Output, Report, OutOfMemory}
 use Rattle.std.proofs.lemmas.Option.{slice_get_read, slice_get-get_or}
 use Rattle.std.proofs.Math.ListN.{length-set}
-
-pub admitted-append : (o : Operations) (xs ys : List (List ℕ)) → admitted o (xs ++ ys) ≡ admitted (admitted o xs) ys
-admitted-append o xs ys =
-    ap (λ (rs : List (List ℕ)). fold with_record o rs) (map-append admission_record xs ys) ∙ fold-append with_record o (map admission_record xs) (map admission_record ys)
 
 -- the rows of some files and of others behind them
 pub admit_rows-append : (o : Operations) (place : ℕ) (xs ys : List (List ℕ)) → admit_rows o place (xs ++ ys) ≡ admit_rows o place xs ++ admit_rows (admitted o (images_of xs)) (place + length xs) ys

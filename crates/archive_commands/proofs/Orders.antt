@@ -1,5 +1,5 @@
 -- The content and the rows of `admit`, without the order in which it works.
-use Rattle.std.proofs.Common.{◌≡◌, ℕ, zero, suc, ◌+◌, ◌<◌, List, [], ◌∷◌, ◌++◌, length, get_or, map, take, drop, Some, refl, sym, ap, ◌∙◌, subst, arith, inl, inr}
+use Rattle.std.proofs.Common.{◌≡◌, ℕ, zero, suc, ◌+◌, List, [], ◌∷◌, ◌++◌, length, map, take, drop, Some, refl, sym, ap, ◌∙◌, subst, arith, inl, inr}
 use Rattle.std.specs.Prelude.{◌↔◌, Contains, slice_get}
 use Rattle.std.specs.FinSet as set
 use Rattle.std.proofs.lemmas.List.{append-nil}
@@ -7,12 +7,14 @@ use Rattle.std.proofs.lemmas.Grind.{flat_map-append}
 use Rattle.std.proofs.lemmas.List.Elements.{Contains-append_left, Contains-append_right, Contains-append_cases}
 use Rattle.archive_core.specs.Record.{admission_record}
 use Rattle.archive_core.specs.Content.{Operations, made, joined}
-use Rattle.archive_core.proofs.Taken.{taken_are_joined, taken_in_any_order}
+use Rattle.archive_core.proofs.Taken.{taken_are_joined}
+use Rattle.archive_exchange.proofs.Resumed.{admitted_alike as images_alike}
+use Rattle.archive_exchange.proofs.Rows.{admitted-append}
 use Rattle.archive_exchange.specs.File.{parts, admissible}
 use Rattle.archive_exchange.specs.Take.{admitted, taken_rows}
 use Rattle.archive_lines.specs.declared.rows.AdmitRow.{AdmitRow}
 use Rattle.archive_commands.specs.Admit.{images_of, file_rows, admit_rows}
-use Rattle.archive_commands.proofs.Files.{admit_rows-append, admitted-append}
+use Rattle.archive_commands.proofs.Files.{admit_rows-append}
 
 pub admitted_joined : (o : Operations) (images : List (List ℕ)) → admitted o images ≡ joined o (made (set.from_list (map admission_record images)))
 admitted_joined o images = taken_are_joined o (map admission_record images)
@@ -90,33 +92,6 @@ of_one (first ∷ files) file image (suc k, lt, is) here =
 same_images : (files others : List (List ℕ)) → ((file : List ℕ) → Contains files file → Contains others file) → (image : List ℕ) → Contains (images_of files) image → Contains (images_of others) image
 same_images files others all image in_all =
     let found = in_one files image in_all in of_one others found.0 image (all found.0 found.1) found.2
-
-images_alike : (o : Operations) (images others : List (List ℕ)) → ((image : List ℕ) → Contains images image ↔ Contains others image) → admitted o images ≡ admitted o others
-images_alike o images others same =
-    taken_in_any_order o (map admission_record images) (map admission_record others)
-    (λ r. (carried images others (λ image. (same image).0) r, carried others images (λ image. (same image).1) r))
-  where
-    at : (xs : List (List ℕ)) (k : ℕ) (d e : List ℕ) → k < length xs → get_or (map admission_record xs) k d ≡ admission_record (get_or xs k e)
-    at [] k d e lt = absurd (omega arith)
-    at (x ∷ xs) zero d e lt = refl
-    at (x ∷ xs) (suc k) d e lt = at xs k d e (omega arith)
-
-    any_default : (xs : List (List ℕ)) (k : ℕ) (d e : List ℕ) → k < length xs → get_or xs k d ≡ get_or xs k e
-    any_default [] k d e lt = absurd (omega arith)
-    any_default (x ∷ xs) zero d e lt = refl
-    any_default (x ∷ xs) (suc k) d e lt = any_default xs k d e (omega arith)
-
-    long : (xs : List (List ℕ)) → length (map admission_record xs) ≡ length xs
-    long [] = refl
-    long (x ∷ xs) = ap suc (long xs)
-
-    carried : (xs ys : List (List ℕ)) → ((image : List ℕ) → Contains xs image → Contains ys image) → (r : List ℕ) → Contains (map admission_record xs) r → Contains (map admission_record ys) r
-    carried xs ys all r (k, lt, is) =
-        let lt' : k < length xs = omega (arith, long xs) in
-        let image = get_or xs k [] in
-        let found : Contains ys image = all image (k, lt', any_default xs k image [] lt') in
-        let lt'' : found.0 < length ys = found.1 in
-        (found.0, omega (arith, long ys, lt''), at ys found.0 r image lt'' ∙ ap admission_record found.2 ∙ sym (at xs k r [] lt') ∙ is)
 
 pub admitted_alike : (o : Operations) (files others : List (List ℕ)) → ((file : List ℕ) → Contains files file ↔ Contains others file) → admitted o (images_of files) ≡ admitted o (images_of others)
 admitted_alike o files others same =
