@@ -97,26 +97,34 @@ fn retired_slices(rt: HostRuntime) -> Result<(), Fail> {
     check_left(&rt, &Command::Find(uuid()), &archive, &[], b"", lines)
 }
 
-// The key of a slice has no capability bits; a retirement that has some covers none.
-#[test]
-fn architectures(rt: HostRuntime) -> Result<(), Fail> {
-    let arm64 = image_of(rt.alloc(), b"\x0c\0\0\x01\0\0\0\0")?;
-    let arm64e = image_of(rt.alloc(), b"\x0c\0\0\x01\x02\0\0\x80")?;
-    let head = joined(
-        rt.alloc(),
-        [&HEAD[..17], b"\x01\0\0\x0c\0\0\0\x02", &HEAD[25..]].as_slice(),
-    )?;
-    let retirement = joined(
-        rt.alloc(),
+// The image for arm64e, with capability bits in its subtype.
+fn arm64e(alloc: Global) -> Result<Vec<u8>, Fail> {
+    image_of(alloc, b"\x0c\0\0\x01\x02\0\0\x80")
+}
+
+// A retirement of that image which has such bits too.
+fn high_retirement(alloc: Global) -> Result<Vec<u8>, Fail> {
+    joined(
+        alloc,
         [
             &RETIREMENT[..17],
             b"\x01\0\0\x0c\x80\0\0\x02",
             b"\x88\xa3\x47\x1d\x2e\xb4\x16\x7b\xc3\xd6\xcd\x16\x46\x11\xa5\xcb\x3f\x31\x09\xba\x99\x52\xc2\x55\x36\x28\x05\x45\x69\x5d\xc8\xea",
         ]
         .as_slice(),
+    )
+}
+
+// The key of a slice has no capability bits.
+#[test]
+fn capability_bits(rt: HostRuntime) -> Result<(), Fail> {
+    let arm64e = arm64e(rt.alloc())?;
+    let head = joined(
+        rt.alloc(),
+        [&HEAD[..17], b"\x01\0\0\x0c\0\0\0\x02", &HEAD[25..]].as_slice(),
     )?;
-    let kept = text(rt.alloc(), [retirement.as_slice()].as_slice(), 1)?;
-    let mut records = retirement;
+    let mut records = high_retirement(rt.alloc())?;
+    let kept = text(rt.alloc(), [records.as_slice()].as_slice(), 1)?;
     records.extend_from_slice(&head)?;
     records.extend_from_slice(&arm64e)?;
     let both = text(rt.alloc(), [records.as_slice()].as_slice(), 2)?;
@@ -127,18 +135,28 @@ fn architectures(rt: HostRuntime) -> Result<(), Fail> {
         &[&arm64e],
         &both,
         "file 0 slice 0 added 00112233-4455-6677-8899-aabbccddeeff arm64e 88a3471d2eb4167bc3d6cd164611a5cb3f3109ba9952c25536280545695dc8ea\narchive: 2 records, 163 bytes\n",
+    )
+}
+
+// Rows by architecture. A retirement that has capability bits covers no slice.
+#[test]
+fn architectures(rt: HostRuntime) -> Result<(), Fail> {
+    let arm64 = image_of(rt.alloc(), b"\x0c\0\0\x01\0\0\0\0")?;
+    let arm64e = arm64e(rt.alloc())?;
+    let retirement = high_retirement(rt.alloc())?;
+    let kept = text(rt.alloc(), [retirement.as_slice()].as_slice(), 1)?;
+    let archive = made(
+        rt.alloc(),
+        &Command::Admit,
+        &kept,
+        &[&arm64e, &arm64, IMAGE],
     )?;
-    let archive = made(rt.alloc(), &Command::Admit, &both, &[&arm64, IMAGE])?;
     let other = ArchKey {
         cputype: 0x0100_000c,
         subtype: 1,
     };
-    let archive = made(
-        rt.alloc(),
-        &Command::Retire(other, Digest([0; 32])),
-        &archive,
-        &[],
-    )?;
+    let retire = Command::Retire(other, Digest([0; 32]));
+    let archive = made(rt.alloc(), &retire, &archive, &[])?;
     let lines =
         "x86_64 image 4b495f29d7c08e7a03565f903f1b2f7e649345c0116fa550aeed640e1e3f9388\narm64 image 5d8687b12618a93125c5279fe3b09b58a75c752a5bf43e0735519df86301cef7\ncpu:0100000c/00000001 retired 0000000000000000000000000000000000000000000000000000000000000000\narm64e image 88a3471d2eb4167bc3d6cd164611a5cb3f3109ba9952c25536280545695dc8ea\ncpu:0100000c/80000002 retired 88a3471d2eb4167bc3d6cd164611a5cb3f3109ba9952c25536280545695dc8ea\n";
     check_left(&rt, &Command::Find(uuid()), &archive, &[], b"", lines)

@@ -2,6 +2,7 @@
 
 use super::{Command, EMPTY, HEAD, IMAGE, ONE, RETIRE, RETIREMENT, UUID, check_left, text};
 use command_line::{Plan, plan};
+use std::alloc::Global;
 use std::test::Fail;
 
 #[test]
@@ -24,6 +25,33 @@ fn retired_in_both_orders(rt: HostRuntime) -> Result<(), Fail> {
     let report =
         "file 0 slice 0 known 00112233-4455-6677-8899-aabbccddeeff x86_64 4b495f29d7c08e7a03565f903f1b2f7e649345c0116fa550aeed640e1e3f9388\narchive: 2 records, 163 bytes\n";
     check_left(&rt, &Command::Admit, &covered, &[IMAGE], &covered, report)
+}
+
+// The retirement that a line asks for with this word for the architecture.
+fn retirement_under(alloc: Global, word: &str) -> Result<Command, Fail> {
+    let words = [
+        "symarch",
+        "retire",
+        "in",
+        "out",
+        "00112233-4455-6677-8899-aabbccddeeff",
+        word,
+        "0000000000000000000000000000000000000000000000000000000000000000",
+    ];
+    match plan(alloc, words.as_slice())? {
+        Plan::Retire { arch, digest, .. } => Ok(Command::Retire(arch, digest)),
+        _ => Err(Fail::from("the words name a retirement")),
+    }
+}
+
+// The archive of one retirement of a digest of zeros.
+fn kept_under(alloc: Global, cputype: u32, subtype: u32) -> Result<Vec<u8>, Fail> {
+    let mut record = b"\x01".to_vec(alloc)?;
+    record.extend_from_slice(&UUID)?;
+    record.extend_from_slice(&cputype.to_be_bytes())?;
+    record.extend_from_slice(&subtype.to_be_bytes())?;
+    record.extend_from_slice(&[0; 32])?;
+    text(alloc, &[&record], 1)
 }
 
 // Each form of an architecture's word, its bytes in the record, and its text in the report.
@@ -49,34 +77,12 @@ fn words_of_architectures(rt: HostRuntime) -> Result<(), Fail> {
             "cpu:fedcba98/00abcdef",
         ),
     ] {
-        let words = [
-            "symarch",
-            "retire",
-            "in",
-            "out",
-            "00112233-4455-6677-8899-aabbccddeeff",
-            word,
-            "0000000000000000000000000000000000000000000000000000000000000000",
-        ];
-        let Plan::Retire {
-            arch: named,
-            digest,
-            ..
-        } = plan(rt.alloc(), words.as_slice())?
-        else {
-            return Err(Fail::from("the words name a retirement"));
-        };
-        let mut record = b"\x01".to_vec(rt.alloc())?;
-        record.extend_from_slice(&UUID)?;
-        record.extend_from_slice(&cputype.to_be_bytes())?;
-        record.extend_from_slice(&subtype.to_be_bytes())?;
-        record.extend_from_slice(&[0; 32])?;
-        let kept = text(rt.alloc(), &[&record], 1)?;
+        let retire = retirement_under(rt.alloc(), word)?;
+        let kept = kept_under(rt.alloc(), cputype, subtype)?;
         for (input, done) in [(EMPTY, "retired"), (kept.as_slice(), "known")] {
             let report = format!(in rt.alloc();
                 "{done} 00112233-4455-6677-8899-aabbccddeeff {printed} 0000000000000000000000000000000000000000000000000000000000000000\narchive: 1 records, 74 bytes\n"
             )?;
-            let retire = Command::Retire(named, digest);
             check_left(&rt, &retire, input, &[], &kept, &report)?;
         }
     }

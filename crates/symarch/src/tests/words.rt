@@ -82,7 +82,7 @@ fn refused_lines(rt: HostRuntime) -> Result<(), Fail> {
 #[test]
 fn words_of_other_forms(rt: HostRuntime) -> Result<(), Fail> {
     for words in [
-        // A UUID, an architecture, and a digest.
+        // Of a UUID, of an architecture, and of a digest.
         "00112233-4455-6677-8899-aabbccddeef arm64 0000000000000000000000000000000000000000000000000000000000000000",
         "00112233-4455-6677-8899-aabbccddeefg arm64 0000000000000000000000000000000000000000000000000000000000000000",
         " arm64 0000000000000000000000000000000000000000000000000000000000000000",
@@ -108,6 +108,11 @@ fn words_of_other_forms(rt: HostRuntime) -> Result<(), Fail> {
         let line = format!(in rt.alloc(); "retire i o {words}")?;
         check_line(&rt, &line)?;
     }
+    Ok(())
+}
+
+#[test]
+fn addresses_of_other_forms(rt: HostRuntime) -> Result<(), Fail> {
     for address in [
         "",
         "0x",
