@@ -4,23 +4,14 @@ ghost use Rattle.std.specs.Str.{IsUtf8};
 ghost use Rattle.hex.specs.Hex.{encode_lower};
 
 use crate::Text;
+use archive_core::machine::{
+    CPU_SUBTYPE_ARM64_ALL, CPU_SUBTYPE_ARM64E, CPU_SUBTYPE_X86_64_ALL, CPU_SUBTYPE_X86_64_H,
+    CPU_TYPE_ARM64, CPU_TYPE_X86_64,
+};
 use archive_core::{ArchKey, Digest, SliceKey};
 use archive_exchange::Taken;
 use archive_records::Sizes;
 use std::fmt;
-
-// Architectures that have a name, by their numbers in mach/machine.h.
-const CPU_TYPE_X86_64: u32 = 0x0100_0007;
-
-const CPU_SUBTYPE_X86_64_ALL: u32 = 3;
-
-const CPU_SUBTYPE_X86_64_H: u32 = 8;
-
-const CPU_TYPE_ARM64: u32 = 0x0100_000c;
-
-const CPU_SUBTYPE_ARM64_ALL: u32 = 0;
-
-const CPU_SUBTYPE_ARM64E: u32 = 2;
 
 /// A slice of a file that was admitted. File and slice are counted from 0.
 #[derive(Clone, Copy, Debug, PartialEq, Eq)]

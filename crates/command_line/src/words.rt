@@ -3,22 +3,13 @@
 ghost use Rattle.std.specs.Prelude.{◌≡◌, ◌<◌, ◌≤◌, ◌^◌, IfSome, length};
 ghost use Rattle.command_line.specs.Words.{arch_key_of, arch_of, cpu_of, number_of, without_0x};
 
+use archive_core::machine::{
+    CPU_SUBTYPE_ARM64_ALL, CPU_SUBTYPE_ARM64E, CPU_SUBTYPE_X86_64_ALL, CPU_SUBTYPE_X86_64_H,
+    CPU_TYPE_ARM64, CPU_TYPE_X86_64,
+};
 use archive_core::{ArchKey, Digest};
 use hex::FromHex;
 use uuid::Uuid;
-
-// Architectures that have a name, by their numbers in mach/machine.h.
-const CPU_TYPE_X86_64: u32 = 0x0100_0007;
-
-const CPU_SUBTYPE_X86_64_ALL: u32 = 3;
-
-const CPU_SUBTYPE_X86_64_H: u32 = 8;
-
-const CPU_TYPE_ARM64: u32 = 0x0100_000c;
-
-const CPU_SUBTYPE_ARM64_ALL: u32 = 0;
-
-const CPU_SUBTYPE_ARM64E: u32 = 2;
 
 /// A value that a word spells.
 pub trait Word: Sized {
