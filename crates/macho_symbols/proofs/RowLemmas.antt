@@ -10,7 +10,7 @@ use Rattle.std.proofs.lemmas.List.Sorted.{ranks_by, sorted_far, IsPermutation-sy
 use Rattle.std.proofs.lemmas.List.{get_or-map, length-map}
 use Rattle.std.proofs.lemmas.Bool.{cases_lt}
 use Rattle.std.proofs.lemmas.Bool.Decides.{nat_tests}
-use Rattle.macho_symbols.specs.Symbols.{Tuple, candidates}
+use Rattle.macho_symbols.specs.Symbols.{Tuple, strings_of, candidates}
 use Rattle.macho_symbols.specs.Nearest.{tuple_cmp, IsFirst}
 use Rattle.macho_symbols.specs.Rows.{row_tuple, row_cmp, is_before, AreRows, AreFalling}
 use Rattle.macho_symbols.specs.declared.rows.Row.{Row}
@@ -40,7 +40,11 @@ true_false : true ≡ false → ⊥
 true_false h = cc
 
 no_row : Row
-no_row = record { value = 0; start = 0; len = 0; sect = 0; external = false }
+no_row = record { value = 0; strx = 0; sect = 0; external = false }
+
+-- a row tells the same out of the same strings
+pub with_strings : (strings others : List ℕ) (row : Row) → strings ≡ others → row_tuple strings row ≡ row_tuple others row
+with_strings strings others row h = ap (λ s. row_tuple s row) h
 
 not_before_own : (n a s v : ℕ) → s ≡ n → v ≤ a → (nat_lt s n || ((s == n) && nat_lt a v)) ≡ false
 not_before_own n a s v e l = grind (arith, nat_tests)
@@ -53,18 +57,18 @@ above_number n a s v e h = grind (arith, nat_tests)
 
 module _ (image : List ℕ) (rows : List Row) (are : AreRows image rows) where
   -- a later row does not come before an earlier one
-  later : (i j : ℕ) (d : Row) → i ≤ j → j < length rows → is_lt (row_cmp (row_tuple image (slice_index_or rows j d)) (row_tuple image (slice_index_or rows i d))) ≡ false
-  later i j d h l = sorted_far (λ r s. is_lt (row_cmp (row_tuple image r) (row_tuple image s))) (ranks_by rows_total (row_tuple image)) rows are.ordered i j d h l
+  later : (i j : ℕ) (d : Row) → i ≤ j → j < length rows → is_lt (row_cmp (row_tuple (strings_of image) (slice_index_or rows j d)) (row_tuple (strings_of image) (slice_index_or rows i d))) ≡ false
+  later i j d h l = sorted_far (λ r s. is_lt (row_cmp (row_tuple (strings_of image) r) (row_tuple (strings_of image) s))) (ranks_by rows_total (row_tuple (strings_of image))) rows are.ordered i j d h l
 
   pub falling : AreFalling rows
   unfolding row_tuple
-  falling i j d h l = by_cases (not_before (row_tuple image (slice_index_or rows i d)) (row_tuple image (slice_index_or rows j d)) (later i j d h l))
+  falling i j d h l = by_cases (not_before (row_tuple (strings_of image) (slice_index_or rows i d)) (row_tuple (strings_of image) (slice_index_or rows j d)) (later i j d h l))
     where
       r : Tuple
-      r = row_tuple image (slice_index_or rows i d)
+      r = row_tuple (strings_of image) (slice_index_or rows i d)
 
       s : Tuple
-      s = row_tuple image (slice_index_or rows j d)
+      s = row_tuple (strings_of image) (slice_index_or rows j d)
 
       by_cases : (r.sect < s.sect) ⊎ ((r.sect ≡ s.sect) × (is_lt (tuple_cmp s r) ≡ false)) → (r.sect < s.sect) ⊎ ((r.sect ≡ s.sect) × (s.value ≤ r.value))
       by_cases (inl l) = inl l
@@ -73,19 +77,19 @@ module _ (image : List ℕ) (rows : List Row) (are : AreRows image rows) where
   module _ (number address place : ℕ)
       (point : IsPartitionPoint (λ r. is_before number address r ≡ true) (λ r. is_before number address r ≡ false) rows place) where
     -- each candidate has a row
-    row_of : (c : Tuple) → Contains (candidates image) c → (k : ℕ) × (k < length rows) × ((d : Row) → row_tuple image (slice_index_or rows k d) ≡ c)
+    row_of : (c : Tuple) → Contains (candidates image) c → (k : ℕ) × (k < length rows) × ((d : Row) → row_tuple (strings_of image) (slice_index_or rows k d) ≡ c)
     row_of c h =
-        let there = Contains-permutation (candidates image) (map (row_tuple image) rows) c are.members h in
-        let within : there.0 < length rows = omega (arith, there.1, length-map rows (row_tuple image)) in
-        (there.0, within, λ d. sym (get_or-map (row_tuple image) rows there.0 d c within) ∙ there.2)
+        let there = Contains-permutation (candidates image) (map (row_tuple (strings_of image)) rows) c are.members h in
+        let within : there.0 < length rows = omega (arith, there.1, length-map rows (row_tuple (strings_of image))) in
+        (there.0, within, λ d. sym (get_or-map (row_tuple (strings_of image)) rows there.0 d c within) ∙ there.2)
 
     -- a candidate of the section that is not above the address has a row at the place or behind
     behind : (c : Tuple) → Contains (candidates image) c → c.sect ≡ number → c.value ≤ address
-        → (k : ℕ) × (place ≤ k) × (k < length rows) × ((d : Row) → row_tuple image (slice_index_or rows k d) ≡ c)
+        → (k : ℕ) × (place ≤ k) × (k < length rows) × ((d : Row) → row_tuple (strings_of image) (slice_index_or rows k d) ≡ c)
     unfolding row_tuple
     behind c h s v = let w = row_of c h in (w.0, at_or_behind w.0 (w.2 no_row) (cases_lt w.0 place), w.1, w.2)
       where
-        at_or_behind : (k : ℕ) → row_tuple image (slice_index_or rows k no_row) ≡ c → (k < place) ⊎ (place ≤ k) → place ≤ k
+        at_or_behind : (k : ℕ) → row_tuple (strings_of image) (slice_index_or rows k no_row) ≡ c → (k < place) ⊎ (place ≤ k) → place ≤ k
         at_or_behind k e (inr l) = l
         at_or_behind k e (inl l) =
             let same : (slice_index_or rows k no_row).sect ≡ number = ap (λ t. t.sect) e ∙ s in
@@ -94,21 +98,21 @@ module _ (image : List ℕ) (rows : List Row) (are : AreRows image rows) where
 
     -- none of them comes before the row at the place
     not_before_place : (e : Row) (c : Tuple) → Contains (candidates image) c → c.sect ≡ number → c.value ≤ address
-        → is_lt (row_cmp c (row_tuple image (slice_index_or rows place e))) ≡ false
+        → is_lt (row_cmp c (row_tuple (strings_of image) (slice_index_or rows place e))) ≡ false
     not_before_place e c h s v =
         let w = behind c h s v in
-        subst (λ t. is_lt (row_cmp t (row_tuple image (slice_index_or rows place e))) ≡ false) (w.3 e) (later place w.0 e w.1 w.2)
+        subst (λ t. is_lt (row_cmp t (row_tuple (strings_of image) (slice_index_or rows place e))) ≡ false) (w.3 e) (later place w.0 e w.1 w.2)
 
     pub found_at_place : (e : Row) → place < length rows → (slice_index_or rows place e).sect ≡ number
-        → IsFirst (λ c. Contains (candidates image) c × (c.sect ≡ number) × (c.value ≤ address)) (row_tuple image (slice_index_or rows place e))
+        → IsFirst (λ c. Contains (candidates image) c × (c.sect ≡ number) × (c.value ≤ address)) (row_tuple (strings_of image) (slice_index_or rows place e))
     unfolding row_tuple
     found_at_place e l s =
         let row = slice_index_or rows place e in
-        let f = row_tuple image row in
-        let here : place < length (map (row_tuple image) rows) = omega (arith, l, length-map rows (row_tuple image)) in
+        let f = row_tuple (strings_of image) row in
+        let here : place < length (map (row_tuple (strings_of image)) rows) = omega (arith, l, length-map rows (row_tuple (strings_of image))) in
         record {
           member = (
-            Contains-permutation (map (row_tuple image) rows) (candidates image) f (IsPermutation-sym (candidates image) (map (row_tuple image) rows) are.members) (place, here, get_or-map (row_tuple image) rows place e f l),
+            Contains-permutation (map (row_tuple (strings_of image)) rows) (candidates image) f (IsPermutation-sym (candidates image) (map (row_tuple (strings_of image)) rows) are.members) (place, here, get_or-map (row_tuple (strings_of image)) rows place e f l),
             s,
             not_above number address row.sect row.value s (point.1 place e (omega arith) l),
           );
@@ -128,7 +132,7 @@ module _ (image : List ℕ) (rows : List Row) (are : AreRows image rows) where
     none_at_place e l s c h =
         let row = slice_index_or rows place e in
         let beyond = above_number number address row.sect row.value s (point.1 place e (omega arith) l) in
-        by_section (row_tuple image row) (not_before (row_tuple image row) c (not_before_place e c h.0 h.1 h.2)) beyond
+        by_section (row_tuple (strings_of image) row) (not_before (row_tuple (strings_of image) row) c (not_before_place e c h.0 h.1 h.2)) beyond
       where
         by_section : (f : Tuple) → (f.sect < c.sect) ⊎ ((f.sect ≡ c.sect) × (is_lt (tuple_cmp c f) ≡ false)) → number < f.sect → ⊥
         by_section f (inl l) b = omega (arith, h.1)

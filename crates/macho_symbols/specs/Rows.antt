@@ -1,15 +1,15 @@
 -- The candidates of an image in the order of an address table.
-use Rattle.std.specs.Prelude.{ℕ, Bool, List, map, ◌≡◌, ◌≤◌, ◌<◌, ◌==◌, ◌&&◌, ◌||◌, nat_lt, cond, length, take, drop, slice_index_or, Option, Some, None, MatchOption, Contains, ◌⊎◌}
+use Rattle.std.specs.Prelude.{ℕ, Bool, List, map, ◌≡◌, ◌≤◌, ◌<◌, ◌==◌, ◌&&◌, ◌||◌, nat_lt, cond, length, slice_index_or, Option, Some, None, MatchOption, Contains, ◌⊎◌}
 use Rattle.std.specs.Ordering.{ordering_then, nat_cmp, is_lt}
 use Rattle.std.specs.declared.cmp.Ordering.{Ordering}
 use Rattle.std.specs.List.Sorted.{IsPermutation, IsSortedByKey}
-use Rattle.macho_symbols.specs.Symbols.{Tuple, candidates}
+use Rattle.macho_symbols.specs.Symbols.{Tuple, strings_of, name_of, candidates}
 use Rattle.macho_symbols.specs.Nearest.{tuple_cmp, IsFirst, StandsFor}
 use Rattle.macho_symbols.specs.declared.rows.Row.{Row}
 
--- the candidate that a row tells, with its name out of the image
+-- the candidate that a row tells, with its name out of the string table
 unfoldable pub row_tuple : List ℕ → Row → Tuple
-row_tuple image row = record { value = row.value; external = row.external; name = take row.len (drop row.start image); sect = row.sect }
+row_tuple strings row = record { value = row.value; external = row.external; name = name_of strings row.strx; sect = row.sect }
 
 -- the order of the rows: by section, and as candidates in one section
 abbrev pub row_cmp : Tuple → Tuple → Ordering
@@ -17,8 +17,8 @@ row_cmp c d = ordering_then (nat_cmp c.sect d.sect) (tuple_cmp c d)
 
 -- the rows tell the candidates of an image, each once, in the order of the rows
 pub record AreRows (image : List ℕ) (rows : List Row) : Type 0 where
-  pub members : IsPermutation (candidates image) (map (row_tuple image) rows)
-  pub ordered : IsSortedByKey (row_tuple image) row_cmp rows
+  pub members : IsPermutation (candidates image) (map (row_tuple (strings_of image)) rows)
+  pub ordered : IsSortedByKey (row_tuple (strings_of image)) row_cmp rows
 
 -- sections rise along the rows, and values fall in a section
 abbrev pub AreFalling : List Row → Type 0

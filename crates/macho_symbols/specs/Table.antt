@@ -1,5 +1,7 @@
 -- The address table of an image.
-use Rattle.std.specs.Prelude.{ℕ, List}
+use Rattle.std.specs.Prelude.{ℕ, List, ◌≡◌}
+use Rattle.macho_image.specs.declared.symtab_command.Symtab.{Symtab}
+use Rattle.macho_symbols.specs.Symbols.{table_of}
 use Rattle.macho_symbols.specs.Extents.{AreExtents}
 use Rattle.macho_symbols.specs.Rows.{AreRows}
 use Rattle.macho_symbols.specs.declared.extents.Extent.{Extent}
@@ -9,8 +11,10 @@ use Rattle.macho_symbols.specs.declared.rows.Row.{Row}
 pub record TableParts : Type 0 where
   pub rows : List Row
   pub extents : List Extent
+  pub symtab : Symtab
 
--- the table tells the candidates and the sections of an image
+-- the table tells the candidates, the sections and the LC_SYMTAB of an image
 pub record IsTableOf (table : TableParts) (image : List ℕ) : Type 0 where
   pub rows : AreRows image table.rows
   pub extents : AreExtents image table.extents
+  pub symtab : table.symtab ≡ table_of image

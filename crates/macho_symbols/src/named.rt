@@ -53,7 +53,7 @@ impl<'a, 'n> Iterator for Named<'a, 'n> {
     fn next(&mut self) -> Option<Found<'a>> {
         'candidates: loop {
             let candidate = self.candidates.next()?;
-            if candidate.name == self.name {
+            if candidate.name.is(self.name) {
                 return Some(self.symbols.found(candidate.value, &candidate));
             }
         }

@@ -11,15 +11,19 @@ use crate::found::Found;
 use crate::symbols::{Candidate, Symbols};
 
 impl<'a> Candidate<'a> {
-    /// Whether it comes before another one.
+    /// Whether it comes before another one. Names are read only where all that counts more ties.
     pub(crate) fn comes_before(&self, other: &Candidate<'_>) -> bool
         ensures { result ≡ is_lt (tuple_cmp (tuple_of self.now) (tuple_of other.now)) }
     {
-        other
+        let heads = other
             .value
             .cmp(&self.value)
-            .then(other.external.cmp(&self.external))
-            .then(self.name.cmp(&other.name))
+            .then(other.external.cmp(&self.external));
+        if heads.is_ne() {
+            return heads.is_lt();
+        }
+        self.name
+            .compare(&other.name)
             .then(self.sect.cmp(&other.sect))
             .is_lt()
     }

@@ -1,54 +1,59 @@
 //! The candidates of an image in the order of an address table.
 
-ghost use Rattle.std.specs.Prelude.{◌≡◌, ◌+◌, ◌-◌, ◌*◌, ◌≤◌, ◌<◌, ◌^◌, ◌++◌, IfOk, true, false, map, length, take, drop};
+ghost use Rattle.std.specs.Prelude.{◌≡◌, ◌+◌, ◌-◌, ◌*◌, ◌≤◌, ◌<◌, ◌^◌, ◌++◌, IfOk, true, false, map, length};
 ghost use Rattle.std.specs.List.Sorted.{IsPartitionPoint};
 ghost use Rattle.std.specs.Option.{option_map, option_to_list};
-ghost use Rattle.macho_symbols.specs.Symbols.{candidate_in, candidates};
+ghost use Rattle.std.specs.Ordering.{nat_cmp};
+ghost use Rattle.std.specs.Cmp.Lexicographic.{slice_cmp};
+ghost use Rattle.macho_symbols.specs.Symbols.{table_of, strings_of, name_of, candidate_in, candidates};
 ghost use Rattle.macho_symbols.specs.Nearest.{tuple_cmp};
 ghost use Rattle.macho_symbols.specs.Views.{tuple_of};
 ghost use Rattle.macho_symbols.specs.Rows.{row_tuple, row_cmp, is_before, AreFalling, AreRows, IsFirstNotAbove};
 
-use crate::nlist::{NLIST_64_LEN, n_strx};
+use crate::name::{Name, strings_in};
+use crate::nlist::{N_EXT, NLIST_64_LEN, n_sect, n_strx, n_type, n_value};
 use crate::symbols::{Candidate, Symbols};
+use macho_image::Symtab;
 use memory::{Heap, NoMemory};
 use std::cmp::Ordering;
 
-/// A candidate, with the place of its name in the image and the name's length.
+/// A candidate, with its name as `n_strx`: the place in the string table.
 #[derive(Clone, Copy)]
 pub(crate) struct Row {
     value: u64,
-    start: u32,
-    len: u32,
+    strx: u32,
     sect: u8,
     external: bool,
 }
 
-/// So many bytes from a place on, or as many as there are.
-fn bytes_at(bytes: &[u8], start: u32, len: u32) -> &[u8]
-    ensures { result.now ≡ take len (drop start bytes.now) }
-{
-    let rest = bytes.split_at(bytes.len().min(start as usize)).1;
-    rest.split_at(rest.len().min(len as usize)).0
-}
-
 impl Row {
-    /// The candidate, with its name out of the image.
+    /// The candidate, with its name out of the string table.
     #[tactic(auto, unfolding(crate::specs::Rows::row_tuple))]
-    fn candidate<'b>(&self, image: &'b [u8]) -> Candidate<'b>
-        ensures { tuple_of result ≡ row_tuple image.now self.now }
+    fn candidate<'b>(&self, strings: &'b [u8]) -> Candidate<'b>
+        ensures { tuple_of result ≡ row_tuple strings.now self.now }
     {
         Candidate {
             value: self.value,
             external: self.external,
-            name: bytes_at(image, self.start, self.len),
+            name: Name::at(strings, self.strx),
             sect: self.sect,
         }
     }
 
+    /// Compares the names of two rows. A name that both have is not read.
+    fn compare_names(&self, other: &Row, strings: &[u8]) -> Ordering
+        ensures { result ≡ slice_cmp nat_cmp (name_of strings.now self.now.strx) (name_of strings.now other.now.strx) }
+    {
+        if self.strx == other.strx {
+            return Ordering::Equal;
+        }
+        Name::at(strings, self.strx).compare(&Name::at(strings, other.strx))
+    }
+
     /// Compares two rows as candidates. Names are read only where all that counts more ties.
     #[tactic(auto, unfolding(crate::specs::Rows::row_tuple))]
-    fn compare(&self, other: &Row, image: &[u8]) -> Ordering
-        ensures { result ≡ tuple_cmp (row_tuple image.now self.now) (row_tuple image.now other.now) }
+    fn compare(&self, other: &Row, strings: &[u8]) -> Ordering
+        ensures { result ≡ tuple_cmp (row_tuple strings.now self.now) (row_tuple strings.now other.now) }
     {
         let heads = other
             .value
@@ -57,8 +62,7 @@ impl Row {
         if heads.is_ne() {
             return heads;
         }
-        bytes_at(image, self.start, self.len)
-            .cmp(bytes_at(image, other.start, other.len))
+        self.compare_names(other, strings)
             .then(self.sect.cmp(&other.sect))
     }
 
@@ -71,14 +75,14 @@ impl Row {
     }
 
     /// Compares two rows by section, and as candidates in one section.
-    pub(crate) fn compare_by_section(&self, other: &Row, image: &[u8]) -> Ordering
-        ensures { result ≡ row_cmp (row_tuple image.now self.now) (row_tuple image.now other.now) }
+    pub(crate) fn compare_by_section(&self, other: &Row, strings: &[u8]) -> Ordering
+        ensures { result ≡ row_cmp (row_tuple strings.now self.now) (row_tuple strings.now other.now) }
     {
         let ranks = self.rank().cmp(&other.rank());
         if ranks.is_ne() {
             return ranks;
         }
-        self.compare(other, image)
+        self.compare(other, strings)
     }
 
     /// Whether a row stands before those that may answer an address in the section of a number.
@@ -91,18 +95,19 @@ impl Row {
 }
 
 /// The row of an entry, if it is a candidate.
+#[tactic(auto, unfolding(crate::specs::Rows::row_tuple, crate::specs::Symbols::candidate_in, crate::specs::Symbols::tuple_in, crate::specs::Symbols::name_in))]
 fn row_of(symbols: &Symbols<'_>, entry: &[u8]) -> Option<Row>
-    requires entry { 16 ≤ length entry.now }
-    requires small { length symbols.now < 2 ^ 32 }
-    ensures { option_map (row_tuple symbols.now) result ≡ candidate_in symbols.now entry.now }
+    requires { 16 ≤ length entry.now }
+    ensures { option_map (row_tuple (strings_of symbols.now)) result ≡ candidate_in symbols.now entry.now }
 {
-    let candidate = symbols.candidate(entry)?;
+    if !symbols.is_candidate(entry) {
+        return None;
+    }
     Some(Row {
-        value: candidate.value,
-        start: symbols.table.stroff + n_strx(entry),
-        len: candidate.name.len() as u32,
-        sect: candidate.sect,
-        external: candidate.external,
+        value: n_value(entry),
+        strx: n_strx(entry),
+        sect: n_sect(entry),
+        external: n_type(entry) & N_EXT == 1,
     })
 }
 
@@ -118,8 +123,7 @@ fn push_some(rows: &mut Vec<Row, Heap>, row: Option<Row>) -> Result<(), NoMemory
 
 /// The rows of the candidates, in the order of the symbol table.
 fn collect_rows(heap: Heap, symbols: &Symbols<'_>) -> Result<Vec<Row, Heap>, NoMemory>
-    requires { length symbols.now < 2 ^ 32 }
-    ensures { IfOk result (λ rows. map (row_tuple symbols.now) rows.items ≡ candidates symbols.now) }
+    ensures { IfOk result (λ rows. map (row_tuple (strings_of symbols.now)) rows.items ≡ candidates symbols.now) }
 {
     let mut rows = Vec::new(heap);
     let mut rest = symbols.entries();
@@ -135,10 +139,10 @@ fn collect_rows(heap: Heap, symbols: &Symbols<'_>) -> Result<Vec<Row, Heap>, NoM
 pub(crate) fn sorted_rows(heap: Heap, symbols: &Symbols<'_>) -> Result<Vec<Row, Heap>, NoMemory>
     ensures { IfOk result (λ rows. AreRows symbols.now rows.items) }
 {
-    let image = symbols.image.bytes();
+    let strings = symbols.strings();
     let mut rows = collect_rows(heap, symbols)?;
     rows.shrink_to_fit();
-    rows.sort_unstable_by(|a, b| a.compare_by_section(b, image));
+    rows.sort_unstable_by(|a, b| a.compare_by_section(b, strings));
     Ok(rows)
 }
 
@@ -156,8 +160,10 @@ pub(crate) fn first_not_above<'b>(
     number: usize,
     address: u64,
     image: &'b [u8],
+    symtab: &Symtab,
 ) -> Option<Candidate<'b>>
-    requires { AreRows image.now rows.now }
+    requires rows { AreRows image.now rows.now }
+    requires symtab { symtab.now ≡ table_of image.now }
     ensures { IsFirstNotAbove image.now number address (option_map tuple_of result) }
 {
     let place = place_of(rows, number, address);
@@ -168,5 +174,5 @@ pub(crate) fn first_not_above<'b>(
     if row.sect as usize != number {
         return None;
     }
-    Some(row.candidate(image))
+    Some(row.candidate(strings_in(image, symtab)))
 }

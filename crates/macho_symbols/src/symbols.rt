@@ -9,7 +9,7 @@ ghost use Rattle.macho_symbols.specs.Fault.{IsSymbolFault, HasSymbols};
 
 use crate::fault::SymbolFault;
 use crate::found::Found;
-use crate::name::{is_named_at, name_at};
+use crate::name::{Name, strings_in};
 use crate::nlist::{N_EXT, N_SECT, N_STAB, N_TYPE, NLIST_64_LEN, n_sect, n_strx, n_type, n_value};
 use crate::section_numbers::{N_SECT_COUNT, sections_by_number};
 use macho_image::{Image, Section, Symtab};
@@ -20,7 +20,7 @@ use std::marker::Model;
 pub(crate) struct Candidate<'a> {
     pub(crate) value: u64,
     pub(crate) external: bool,
-    pub(crate) name: &'a [u8],
+    pub(crate) name: Name<'a>,
     pub(crate) sect: u8,
 }
 
@@ -44,7 +44,7 @@ impl<'a> Model for Symbols<'a> {
 }
 
 impl<'a> Symbols<'a> {
-    ghost use Rattle.macho_symbols.specs.Views.{tuple_of, found_view};
+    ghost use Rattle.macho_symbols.specs.Views.{name_view, tuple_of, found_view};
     ghost use Rattle.macho_symbols.specs.Symbols.{entries, is_in_section, candidate_in, is_candidate, name_in, candidates};
     ghost use Rattle.macho_symbols.specs.Found.{found_of};
 
@@ -101,14 +101,10 @@ impl<'a> Symbols<'a> {
 
     /// The string table.
     #[tactic(auto, unfolding(crate::specs::Symbols::strings_of))]
-    fn strings(&self) -> &'a [u8]
+    pub(crate) fn strings(&self) -> &'a [u8]
         ensures { result.now ≡ strings_of self.now }
     {
-        if self.table.strsize == 0 {
-            return &[];
-        }
-        let (_, bytes) = self.image.bytes().split_at(self.table.stroff as usize);
-        &bytes[..self.table.strsize as usize]
+        strings_in(self.image.bytes(), &self.table)
     }
 
     /// The section of a number.
@@ -131,37 +127,28 @@ impl<'a> Symbols<'a> {
 
     /// The name of an entry.
     #[tactic(auto, unfolding(crate::specs::Symbols::name_in))]
-    fn name(&self, entry: &[u8]) -> &'a [u8]
+    fn name(&self, entry: &[u8]) -> Name<'a>
         requires { 16 ≤ length entry.now }
-        ensures { result.now ≡ name_in self.now entry.now }
+        ensures { name_view result ≡ name_in self.now entry.now }
     {
-        name_at(self.strings(), n_strx(entry))
-    }
-
-    /// Whether an entry has a name.
-    #[tactic(auto, unfolding(crate::specs::Symbols::name_in))]
-    fn is_named(&self, entry: &[u8]) -> bool
-        requires { 16 ≤ length entry.now }
-        ensures { result ≡ nat_lt 0 (length (name_in self.now entry.now)) }
-    {
-        is_named_at(self.strings(), n_strx(entry))
+        Name::at(self.strings(), n_strx(entry))
     }
 
     /// Whether an entry is a candidate.
     #[tactic(auto, unfolding(crate::specs::Symbols::is_candidate))]
-    fn is_candidate(&self, entry: &[u8]) -> bool
+    pub(crate) fn is_candidate(&self, entry: &[u8]) -> bool
         requires { 16 ≤ length entry.now }
         ensures { result ≡ is_candidate self.now entry.now }
     {
         n_type(entry) & N_STAB == 0
             && n_type(entry) & N_TYPE == N_SECT
             && self.is_in_section(n_sect(entry), n_value(entry))
-            && self.is_named(entry)
+            && !self.name(entry).is_empty()
     }
 
     /// The candidate that an entry is, if it is one.
     #[tactic(auto, unfolding(crate::specs::Symbols::candidate_in, crate::specs::Symbols::tuple_in))]
-    pub(crate) fn candidate(&self, entry: &[u8]) -> Option<Candidate<'a>>
+    fn candidate(&self, entry: &[u8]) -> Option<Candidate<'a>>
         requires { 16 ≤ length entry.now }
         ensures { option_map tuple_of result ≡ candidate_in self.now entry.now }
     {
@@ -207,7 +194,7 @@ impl<'a> Symbols<'a> {
     {
         let (segment, section) = self.section_names(candidate.sect);
         Found {
-            name: candidate.name,
+            name: candidate.name.bytes(),
             address: candidate.value,
             offset: address - candidate.value,
             sect: candidate.sect,

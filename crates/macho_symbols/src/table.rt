@@ -6,21 +6,24 @@ ghost use Rattle.macho_symbols.specs.Nearest.{IsNearest};
 ghost use Rattle.macho_symbols.specs.Found.{found_of, FindsNearest};
 ghost use Rattle.macho_symbols.specs.Views.{tuple_of, found_view};
 ghost use Rattle.macho_symbols.specs.Extents.{AreExtents};
-ghost use Rattle.macho_symbols.specs.Rows.{AreRows, IsFirstIn, first_of_two};
+ghost use Rattle.macho_symbols.specs.Rows.{IsFirstIn, first_of_two};
 
 use crate::extents::{Extent, collect_extents, section_names};
 use crate::found::Found;
 use crate::rows::{Row, first_not_above, sorted_rows};
 use crate::symbols::{Candidate, Symbols};
+use macho_image::Symtab;
 use memory::{Heap, NoMemory};
 use std::marker::Model;
 
 /// The candidates of an image by section and value, so that an address finds its own by halving. It
-/// borrows nothing: names are places in the image. A contract sees its rows and its sections.
+/// borrows nothing: names are places in the string table. A contract sees its rows, its sections and the
+/// LC_SYMTAB.
 #[derive(Drop)]
 pub struct AddressTable {
     rows: Vec<Row, Heap>,
     extents: Vec<Extent, Heap>,
+    symtab: Symtab,
 }
 
 impl Model for AddressTable {
@@ -28,7 +31,7 @@ impl Model for AddressTable {
 
     ghost Value = { TableParts };
 
-    ghost view = { λ t. record { rows = t.rows.items; extents = t.extents.items } };
+    ghost view = { λ t. record { rows = t.rows.items; extents = t.extents.items; symtab = t.symtab } };
 }
 
 /// The first of two candidates, either of which may be none.
@@ -47,44 +50,6 @@ fn first_of_two<'b>(
     }
 }
 
-/// The first candidate that can stand for an address among those of one section, which is counted from 0
-/// here.
-fn first_in<'b>(
-    rows: &[Row],
-    extents: &[Extent],
-    place: usize,
-    address: u64,
-    image: &'b [u8],
-) -> Option<Candidate<'b>>
-    requires rows { AreRows image.now rows.now }
-    requires extents { AreExtents image.now extents.now }
-    requires place { place < length extents.now }
-    ensures { IsFirstIn image.now (place + 1) address (option_map tuple_of result) }
-{
-    if !extents[place].contains(address) {
-        return None;
-    }
-    first_not_above(rows, place + 1, address, image)
-}
-
-/// The nearest candidate of an address.
-fn nearest_candidate<'b>(
-    rows: &[Row],
-    extents: &[Extent],
-    address: u64,
-    image: &'b [u8],
-) -> Option<Candidate<'b>>
-    requires rows { AreRows image.now rows.now }
-    requires extents { AreExtents image.now extents.now }
-    ensures { IsNearest image.now address (option_map tuple_of result) }
-{
-    let mut best = None;
-    for place in 0..extents.len() {
-        best = first_of_two(best, first_in(rows, extents, place, address, image));
-    }
-    best
-}
-
 /// A candidate as what is found for an address.
 #[tactic(auto, unfolding(crate::specs::Found::found_of))]
 fn found<'b>(
@@ -99,7 +64,7 @@ fn found<'b>(
 {
     let (segment, section) = section_names(extents, candidate.sect, image);
     Found {
-        name: candidate.name,
+        name: candidate.name.bytes(),
         address: candidate.value,
         offset: address - candidate.value,
         sect: candidate.sect,
@@ -111,14 +76,43 @@ fn found<'b>(
 impl AddressTable {
     ghost use Rattle.macho_symbols.specs.Table.{IsTableOf};
 
-    /// The table of an image. It has 24 bytes for each candidate, and as many for each section. `NoMemory`
-    /// where a growth was refused.
+    /// The table of an image. It has 16 bytes for each candidate, and 24 for each section. `NoMemory` where a
+    /// growth was refused.
     pub fn build(heap: Heap, symbols: &Symbols<'_>) -> Result<AddressTable, NoMemory>
         ensures { IfOk result (λ table. IsTableOf table symbols.now) }
     {
         let extents = collect_extents(heap.clone()?, &symbols.image)?;
         let rows = sorted_rows(heap, symbols)?;
-        Ok(AddressTable { rows, extents })
+        Ok(AddressTable {
+            rows,
+            extents,
+            symtab: symbols.table,
+        })
+    }
+
+    /// The first candidate that can stand for an address among those of one section, which is counted from 0
+    /// here.
+    fn first_in<'b>(&self, place: usize, address: u64, image: &'b [u8]) -> Option<Candidate<'b>>
+        requires table { IsTableOf self.now image.now }
+        requires place { place < length self.now.extents }
+        ensures { IsFirstIn image.now (place + 1) address (option_map tuple_of result) }
+    {
+        if !self.extents[place].contains(address) {
+            return None;
+        }
+        first_not_above(&self.rows, place + 1, address, image, &self.symtab)
+    }
+
+    /// The nearest candidate of an address.
+    fn nearest_candidate<'b>(&self, address: u64, image: &'b [u8]) -> Option<Candidate<'b>>
+        requires { IsTableOf self.now image.now }
+        ensures { IsNearest image.now address (option_map tuple_of result) }
+    {
+        let mut best = None;
+        for place in 0..self.extents.len() {
+            best = first_of_two(best, self.first_in(place, address, image));
+        }
+        best
     }
 
     /// The symbol that an address belongs to, as `Symbols::nearest_plain` tells it, by halving. The slice is
@@ -127,7 +121,7 @@ impl AddressTable {
         requires { IsTableOf self.now slice.now }
         ensures { FindsNearest slice.now address (option_map found_view result) }
     {
-        let candidate = nearest_candidate(&self.rows, &self.extents, address, slice)?;
+        let candidate = self.nearest_candidate(address, slice)?;
         Some(found(&self.extents, address, &candidate, slice))
     }
 }

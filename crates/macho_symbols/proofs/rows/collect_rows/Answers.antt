@@ -1,5 +1,5 @@
 use Rattle.std.proofs.Common.{◌≡◌, ◌-◌, ◌∙◌, ◌++◌, ap, arith, map}
-use Rattle.macho_symbols.specs.Symbols.{table_of, candidates_among}
+use Rattle.macho_symbols.specs.Symbols.{table_of, strings_of, candidates_among}
 use Rattle.macho_symbols.specs.Rows.{row_tuple}
 use Rattle.macho_symbols.proofs.Entries.{all_candidates}
 use Rattle.macho_symbols.proofs.BuildLemmas.{row_added, rows_end}
@@ -11,7 +11,7 @@ loop-place-init c =
     let rest = c.entries-rest.result.now in
     let count : c.symbols.inside.table.nsyms ≡ (table_of image).nsyms = ap (λ t. t.nsyms) c.symbols.invariant.table_is ∙ ap (λ b. (table_of b).nsyms) c.symbols.view_is in
     record {
-      same = ap (λ rows. map (row_tuple image) rows ++ candidates_among image (c.symbols.inside.table.nsyms - 0) rest) c.new-rows.ensures.items
+      same = ap (λ rows. map (row_tuple (strings_of image)) rows ++ candidates_among image (c.symbols.inside.table.nsyms - 0) rest) c.new-rows.ensures.items
           ∙ all_candidates image rest (c.symbols.inside.table.nsyms - 0) (omega (arith, count)) c.entries-rest.ensures.value;
       room = omega (arith, count, c.entries-rest.ensures.room);
     }

@@ -6,11 +6,11 @@ use Rattle.macho_symbols.proofs.rows.Row.compare_by_section.Goals as goal
 pub returns-then-is_ne : goal.returns-then-is_ne
 unfolding row_tuple
 returns-then-is_ne c =
-    by_rank (row_tuple c.args.image.now c.args.self.now) (row_tuple c.args.image.now c.args.other.now) c.rank.result c.rank-2.result c.cmp-ranks.result
+    by_rank (row_tuple c.args.strings.now c.args.self.now) (row_tuple c.args.strings.now c.args.other.now) c.rank.result c.rank-2.result c.cmp-ranks.result
     c.rank.ensures.small c.rank-2.ensures.small c.rank.ensures.value c.rank-2.ensures.value c.cmp-ranks.ensures (sym c.is_ne.ensures ∙ c.if-is_ne.true)
 
 pub returns : goal.returns
 unfolding row_tuple
 returns c =
-    c.compare.ensures ∙ by_candidate (row_tuple c.args.image.now c.args.self.now) (row_tuple c.args.image.now c.args.other.now) c.rank.result c.rank-2.result c.cmp-ranks.result
+    c.compare.ensures ∙ by_candidate (row_tuple c.args.strings.now c.args.self.now) (row_tuple c.args.strings.now c.args.other.now) c.rank.result c.rank-2.result c.cmp-ranks.result
     c.rank.ensures.small c.rank-2.ensures.small c.rank.ensures.value c.rank-2.ensures.value c.cmp-ranks.ensures (sym c.is_ne.ensures ∙ c.if-is_ne.false)

@@ -1,7 +1,7 @@
-use Rattle.std.proofs.Common.{arith, sym, subst}
+use Rattle.std.proofs.Common.{ap, arith, length, sym, subst}
 use Rattle.macho_symbols.specs.Rows.{IsFirstOrNone}
 use Rattle.macho_symbols.proofs.Stands.{none_at_start, one_section_more, all_sections, numbers_fit}
-use Rattle.macho_symbols.proofs.table.nearest_candidate.Goals as goal
+use Rattle.macho_symbols.proofs.table.AddressTable.nearest_candidate.Goals as goal
 
 pub loop-place-init : goal.loop-place-init
 loop-place-init c = none_at_start c.args.image.now c.args.address
@@ -13,4 +13,4 @@ loop-place-preserved c =
 
 pub returns : goal.returns
 returns c =
-    all_sections c.args.image.now c.args.extents.now c.args.address c.loop-place.place _ c.requires.extents (omega arith) (numbers_fit c.args.image.now (λ i. c.type_inv.image i)) c.loop-place.invariant
+    all_sections c.args.image.now c.args.self.now.extents c.args.address c.loop-place.place _ c.requires.extents (omega (arith, ap length (ap (λ t. t.extents) c.self.view_is))) (numbers_fit c.args.image.now (λ i. c.type_inv.image i)) c.loop-place.invariant

@@ -1,0 +1,16 @@
+use Rattle.std.proofs.Common.{◌∙◌, ap, sym, subst, length, arith}
+use Rattle.macho_symbols.specs.Extents.{AreExtents, is_within}
+use Rattle.macho_symbols.proofs.Stands.{none_outside, first_inside}
+use Rattle.macho_symbols.proofs.table.AddressTable.first_in.Goals as goal
+
+pub returns-then-not-contains : goal.returns-then-not-contains
+returns-then-not-contains c =
+    let same = ap (λ t. t.extents) c.self.view_is in
+    none_outside c.args.image.now c.self.inside.extents.items (subst (AreExtents c.args.image.now) (sym same) c.requires.table.extents) c.args.address c.args.place c.index.result.now
+    (omega (arith, c.requires.place, ap length same)) (ap (is_within c.args.address) (sym c.index.ensures) ∙ sym c.contains.ensures ∙ c.if-not-contains.true)
+
+pub returns : goal.returns
+returns c =
+    let same = ap (λ t. t.extents) c.self.view_is in
+    first_inside c.args.image.now c.self.inside.extents.items (subst (AreExtents c.args.image.now) (sym same) c.requires.table.extents) c.args.address c.args.place c.index.result.now _
+    (omega (arith, c.requires.place, ap length same)) (ap (is_within c.args.address) (sym c.index.ensures) ∙ sym c.contains.ensures ∙ c.if-not-contains.false) c.first_not_above.ensures
