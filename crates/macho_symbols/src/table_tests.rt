@@ -20,23 +20,33 @@ fn push64(bytes: &mut Vec<u8>, number: u64) -> Result<(), Fail> {
     Ok(())
 }
 
-/// The header, an LC_UUID and the first part of a segment.
-fn push_head(bytes: &mut Vec<u8>, sections: u32) -> Result<(), Fail>
+/// The header and an LC_UUID, before so many segments with so many sections in all, and an LC_SYMTAB.
+fn push_head(bytes: &mut Vec<u8>, segments: u32, sections: u32) -> Result<(), Fail>
+    requires segments { segments < 1000 }
+    requires sections { sections < 1000 }
+{
+    let size = 24 + 72 * segments + 80 * sections + 24;
+    for number in [0xfeed_facf, 0x0100_0007, 3, 2, segments + 2, size, 0, 0] {
+        push32(bytes, number)?;
+    }
+    for number in [0x1b, 24, 1, 2, 3, 4] {
+        push32(bytes, number)?;
+    }
+    Ok(())
+}
+
+/// The first part of a segment `__TEXT`, before so many sections.
+fn push_segment(bytes: &mut Vec<u8>, address: u64, sections: u32) -> Result<(), Fail>
     requires { sections < 1000 }
 {
-    for number in [0xfeed_facf, 0x0100_0007, 3, 2, 3] {
+    for number in [0x19, 72 + 80 * sections, 0x4554_5f5f, 0x5458, 0, 0] {
         push32(bytes, number)?;
     }
-    push32(bytes, 120 + 80 * sections)?;
-    for number in [0, 0, 0x1b, 24, 1, 2, 3, 4, 0x19] {
+    push64(bytes, address)?;
+    for number in [0, 0, 0, 0, 0, 0, 0, 0, sections, 0] {
         push32(bytes, number)?;
     }
-    push32(bytes, 72 + 80 * sections)?;
-    for number in [0x4558_545f, 0, 0, 0, 0, 0, 0, 0, 0, 0, 0, 0, 0, 0] {
-        push32(bytes, number)?;
-    }
-    push32(bytes, sections)?;
-    push32(bytes, 0)
+    Ok(())
 }
 
 /// A `section_64` named `s` at an address.
@@ -53,11 +63,12 @@ fn push_section(bytes: &mut Vec<u8>, address: u64, size: u64) -> Result<(), Fail
 }
 
 /// LC_SYMTAB of so many symbols, which follow it, as the strings follow them.
-fn push_symtab(bytes: &mut Vec<u8>, sections: u32, symbols: u32) -> Result<(), Fail>
+fn push_symtab(bytes: &mut Vec<u8>, segments: u32, sections: u32, symbols: u32) -> Result<(), Fail>
+    requires segments { segments < 1000 }
     requires sections { sections < 1000 }
     requires symbols { symbols < 1000 }
 {
-    let symoff = 152 + 80 * sections;
+    let symoff = 32 + 24 + 72 * segments + 80 * sections + 24;
     for number in [2, 24, symoff, symbols, symoff + 16 * symbols, 10] {
         push32(bytes, number)?;
     }
@@ -156,9 +167,10 @@ fn table_passes_over_what_is_no_symbol(rt: HostRuntime) -> Result<(), Fail> {
 #[test]
 fn table_lets_a_section_pass_the_end(rt: HostRuntime) -> Result<(), Fail> {
     let mut bytes = Vec::new(rt.alloc());
-    push_head(&mut bytes, 1)?;
+    push_head(&mut bytes, 1, 1)?;
+    push_segment(&mut bytes, 0, 1)?;
     push_section(&mut bytes, 0xffff_ffff_ffff_ff00, 0x200)?;
-    push_symtab(&mut bytes, 1, 1)?;
+    push_symtab(&mut bytes, 1, 1, 1)?;
     push_symbol(&mut bytes, 1, 0x0e, 1, 0xffff_ffff_ffff_ff10)?;
     bytes.extend_from_slice(b"\0_t\0_b\0_c\0")?;
     let heap = Heap::new(rt.alloc())?;
@@ -187,16 +199,44 @@ fn table_asks_each_section_that_has_the_address(rt: HostRuntime) -> Result<(), F
     Ok(())
 }
 
+#[test]
+fn table_counts_sections_over_segments(rt: HostRuntime) -> Result<(), Fail> {
+    let mut bytes = Vec::new(rt.alloc());
+    push_head(&mut bytes, 2, 2)?;
+    for address in [0x1000, 0x8000] {
+        push_segment(&mut bytes, address, 1)?;
+        push_section(&mut bytes, address, 0x100)?;
+    }
+    push_symtab(&mut bytes, 2, 2, 2)?;
+    push_symbol(&mut bytes, 1, 0x0e, 1, 0x1010)?;
+    push_symbol(&mut bytes, 4, 0x0e, 2, 0x8010)?;
+    bytes.extend_from_slice(b"\0_a\0_b\0_c\0")?;
+    let base = Image::read(&bytes).ok().and_then(|image| image.text_base());
+    assert_eq!(rt; base, Some(0x1000));
+    let heap = Heap::new(rt.alloc())?;
+    for (address, name, sect) in [(0x1020, b"_a", 1), (0x8020, b"_b", 2)] {
+        let found = table_nearest(heap.clone()?, &bytes, address);
+        assert_eq!(rt;
+            found.map(|f| (f.name, f.sect)),
+            Some((name.as_slice(), sect))
+        );
+        assert_eq!(rt; found.map(|f| f.offset), Some(0x10));
+    }
+    assert_eq!(rt; name_of(heap, &bytes, 0x7fff), None);
+    Ok(())
+}
+
 /// An image with so many sections that all have the same addresses, and a symbol in each that can be named,
 /// at its number.
 fn many_sections(bytes: &mut Vec<u8>, sections: u32) -> Result<(), Fail>
     requires { sections < 1000 }
 {
-    push_head(bytes, sections)?;
+    push_head(bytes, 1, sections)?;
+    push_segment(bytes, 0, sections)?;
     for _ in 0..sections {
         push_section(bytes, 0, 0x1000)?;
     }
-    push_symtab(bytes, sections, 255)?;
+    push_symtab(bytes, 1, sections, 255)?;
     for number in 1..=255u8 {
         push_symbol(bytes, 1, 0x0e, number, u64::from(number))?;
     }
@@ -227,9 +267,10 @@ fn table_has_each_section_that_can_be_named(rt: HostRuntime) -> Result<(), Fail>
 #[test]
 fn table_takes_one_of_many_at_one_address(rt: HostRuntime) -> Result<(), Fail> {
     let mut bytes = Vec::new(rt.alloc());
-    push_head(&mut bytes, 1)?;
+    push_head(&mut bytes, 1, 1)?;
+    push_segment(&mut bytes, 0, 1)?;
     push_section(&mut bytes, 0, 0x100)?;
-    push_symtab(&mut bytes, 1, 40)?;
+    push_symtab(&mut bytes, 1, 1, 40)?;
     for _ in 0..19 {
         push_symbol(&mut bytes, 7, 0x0f, 1, 0x10)?;
         push_symbol(&mut bytes, 1, 0x0e, 1, 0x10)?;
