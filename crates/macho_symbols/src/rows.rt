@@ -6,7 +6,6 @@ ghost use Rattle.std.specs.Option.{option_map, option_to_list};
 ghost use Rattle.std.specs.Ordering.{nat_cmp};
 ghost use Rattle.std.specs.Cmp.Lexicographic.{slice_cmp};
 ghost use Rattle.macho_symbols.specs.Symbols.{table_of, strings_of, name_of, candidate_in, candidates};
-ghost use Rattle.macho_symbols.specs.Nearest.{tuple_cmp};
 ghost use Rattle.macho_symbols.specs.Views.{tuple_of};
 ghost use Rattle.macho_symbols.specs.Rows.{row_tuple, row_cmp, is_before, AreFalling, AreRows, IsFirstNotAbove};
 
@@ -50,22 +49,6 @@ impl Row {
         Name::at(strings, self.strx).compare(&Name::at(strings, other.strx))
     }
 
-    /// Compares two rows as candidates. Names are read only where all that counts more ties.
-    #[tactic(auto, unfolding(crate::specs::Rows::row_tuple))]
-    fn compare(&self, other: &Row, strings: &[u8]) -> Ordering
-        ensures { result ≡ tuple_cmp (row_tuple strings.now self.now) (row_tuple strings.now other.now) }
-    {
-        let heads = other
-            .value
-            .cmp(&self.value)
-            .then(other.external.cmp(&self.external));
-        if heads.is_ne() {
-            return heads;
-        }
-        self.compare_names(other, strings)
-            .then(self.sect.cmp(&other.sect))
-    }
-
     /// The section and the value in one number, which rises along the rows of a table.
     fn rank(&self) -> u128
         ensures value { result ≡ self.now.sect * 2 ^ 64 + (2 ^ 64 - 1 - self.now.value) }
@@ -74,15 +57,19 @@ impl Row {
         u128::from(self.sect) * 0x1_0000_0000_0000_0000 + u128::from(u64::MAX - self.value)
     }
 
-    /// Compares two rows by section, and as candidates in one section.
-    pub(crate) fn compare_by_section(&self, other: &Row, strings: &[u8]) -> Ordering
+    /// Compares two rows by section, and as candidates in one section. Names are read only where all that
+    /// counts more ties.
+    fn compare_by_section(&self, other: &Row, strings: &[u8]) -> Ordering
         ensures { result ≡ row_cmp (row_tuple strings.now self.now) (row_tuple strings.now other.now) }
     {
-        let ranks = self.rank().cmp(&other.rank());
-        if ranks.is_ne() {
-            return ranks;
+        let heads = self
+            .rank()
+            .cmp(&other.rank())
+            .then(other.external.cmp(&self.external));
+        if heads.is_ne() {
+            return heads;
         }
-        self.compare(other, strings)
+        self.compare_names(other, strings)
     }
 
     /// Whether a row stands before those that may answer an address in the section of a number.
