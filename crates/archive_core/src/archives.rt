@@ -79,7 +79,7 @@ pub trait Archive: Join<Content = Contents> {
     ghost below_is: { (o p : Operations) → Self.Join.below o p ↔ IsBelow o p };
 }
 
-/// Joins an archive with another, whatever their type. Refused for want of memory alone; a part of
+/// Joins an archive with another one of its type. Refused for want of memory alone; a part of
 /// `other` may then have been taken in.
 pub fn take_all<A: Archive>(archive: &mut A, other: &A) -> Result<(), NoMemory>
     ensures joined { OnOk result (A.content archive.new ≡ joined (A.content archive.old) (A.content other.now)) }

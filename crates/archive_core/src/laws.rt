@@ -1,6 +1,6 @@
 //! What holds of faults, records, contents, joins, rows and answers.
 //!
-//! Each law is the contract of a function that does nothing, and speaks of the definitions alone: a
+//! Each law is the contract of a function that does nothing but call other laws, and speaks of the definitions alone: a
 //! caller that wants a law calls its function.
 ghost use Rattle.std.specs.Prelude.{◌≡◌, ◌⊎◌, ℕ, ◌+◌, List, [], ◌++◌, true, length, slice_index_or};
 ghost use Rattle.std.specs.FinSet as set;

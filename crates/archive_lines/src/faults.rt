@@ -40,7 +40,7 @@ pub enum Why {
     CannotOpen,
     /// Reading a file of slices failed.
     Device,
-    /// It is no archive text, or reading that failed.
+    /// It is no text of an archive or of operations, or reading it failed.
     Record(RecordFault),
     /// Its slices are not taken.
     Take(TakeFault),

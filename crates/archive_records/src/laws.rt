@@ -1,4 +1,4 @@
-//! What the definitions say of each other. Each law is a function without a body, and its contract the law.
+//! What the definitions say of each other. Each law is a function with an empty body, and its contract the law.
 
 ghost use Rattle.std.specs.Prelude.{◌≡◌, ◌≢◌, ◌+◌, ◌<◌, ◌^◌, ◌++◌, ◌↔◌, ◌⊎◌, ℕ, List, [], slice_index};
 ghost use Rattle.std.specs.FinSet as set;

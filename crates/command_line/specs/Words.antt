@@ -24,7 +24,7 @@ abbrev pub short_number_of : Text → Option ℕ
 short_number_of digits =
     if nat_le 1 (length digits) && nat_le (length digits) 16 then number_of digits else None
 
--- an address, or what is added to addresses: an optional `0x`, then one hex digit to sixteen
+-- an address, or where an image was loaded: an optional `0x`, then one hex digit to sixteen
 abbrev pub address_of : Text → Option ℕ
 address_of text = short_number_of (without_0x text)
 

@@ -63,7 +63,7 @@ impl Word for ArchKey {
     }
 }
 
-/// An address, or what is added to addresses: an optional `0x`, then one hex digit to sixteen.
+/// An address, or where an image was loaded: an optional `0x`, then one hex digit to sixteen.
 impl Word for u64 {
     ghost use Rattle.command_line.specs.Words.{address_of};
 
