@@ -1,4 +1,4 @@
-//! The worked rows: values that come from outside the program, and what no clause can say. Digests are those that
+//! Values that come from outside the program, and what no clause can say. Digests are those that
 //! sha256sum tells.
 
 mod admit;
@@ -13,7 +13,9 @@ mod texts;
 mod words;
 
 use crate::Failure;
-use archive_commands::{run_admit, run_apply, run_find, run_merge, run_new, run_retire};
+use archive_commands::{
+    run_admit, run_apply, run_find, run_merge, run_new, run_retire, run_symbolicate,
+};
 use archive_core::{ArchKey, Digest, PlainArchive, SliceKey};
 use archive_lines::{CannotOpen, CommandFault, Status};
 use byte_device::{Pieces, Short, Sink, Source};
@@ -85,6 +87,7 @@ enum Command {
     Merge,
     Apply,
     Find(Uuid),
+    Symbolicate(u64),
 }
 
 const RETIRE: Command = Command::Retire(X86_64, DIGEST);
@@ -174,6 +177,10 @@ fn carry_out<R: Source, W: Sink, P: Sink>(
             run_apply::<PlainArchive, _, _, _, _>(heap, input, &mut ops, out, report)
         }
         Command::Find(uuid) => run_find::<PlainArchive, _, _>(heap, input, uuid, report),
+        Command::Symbolicate(address) => {
+            let key = key(X86_64);
+            run_symbolicate::<PlainArchive, _, _>(heap, input, &key, None, &[*address], report)
+        }
     }
 }
 

@@ -10,13 +10,14 @@ use std::process::Abort;
 use std::test::Fail;
 
 // The commands that read IN.
-fn commands() -> [Command; 5] {
+fn commands() -> [Command; 6] {
     [
         Command::Admit,
         RETIRE,
         Command::Merge,
         Command::Apply,
         Command::Find(uuid()),
+        Command::Symbolicate(0),
     ]
 }
 
@@ -36,7 +37,7 @@ fn len_of(command: &Command) -> usize {
         Command::New => 17,
         Command::Admit | Command::Merge => 196,
         Command::Retire(_, _) | Command::Apply => 163,
-        Command::Find(_) => 0,
+        Command::Find(_) | Command::Symbolicate(_) => 0,
     }
 }
 
