@@ -1,12 +1,15 @@
 -- The inputs of a command: which are refused, and why.
-use Rattle.std.specs.Prelude.{◌≡◌, ◌≢◌, ℕ, ◌+◌, List, [], ◌∷◌, map, take, Option, Some, IfSome, Result, Ok, Err, slice_get, ◌⊎◌}
+use Rattle.std.specs.Prelude.{◌≡◌, ◌≢◌, ℕ, ◌+◌, List, [], ◌∷◌, map, take, Option, Some, None, IfSome, Result, Ok, Err, slice_get, ◌⊎◌}
+use Rattle.std.specs.Io.KnownBytes.{Consumes}
 use Rattle.std.specs.List.{AllByRecursion}
 use Rattle.byte_device.specs.Devices.{FailedIn}
 use Rattle.archive_core.specs.Content.{Operations, IsContent}
 use Rattle.archive_records.specs.Text.{written}
 use Rattle.archive_records.specs.Fault.{IsFault, IsOperationsFault}
+use Rattle.archive_records.specs.Front.{IsLongestLength, IsLongestLengthOf}
 use Rattle.archive_records.specs.declared.fault.RecordFault.{RecordFault}
 use Rattle.archive_records.specs.declared.fault.RecordFaultKind.TheVariants.{Device, OutOfMemory}
+use Rattle.archive_records.specs.declared.kind.FileKind.TheVariants.{Operations as OperationsFile}
 use Rattle.archive_exchange.specs.File.{IsAcceptedFile, IsTakeFault}
 use Rattle.archive_exchange.specs.declared.fault.TakeFault.{TakeFault}
 use Rattle.archive_exchange.specs.declared.fault.TakeFault.TheVariants.{OutOfMemory as TakeOutOfMemory}
@@ -33,13 +36,25 @@ abbrev pub failures_of : {S : Type 0} → (S → ℕ) → Result S CannotOpen �
 failures_of failures (Ok source) = failures source
 failures_of failures (Err _) = 0
 
--- why an archive is not read, between these states of the input: it was not opened, its text has this fault, or the reader failed
+-- the bytes that an input has left, where they are known
+abbrev pub left_of : {S : Type 0} → (S → Option (List ℕ)) → Result S CannotOpen → Option (List ℕ)
+left_of left (Ok source) = left source
+left_of left (Err _) = None
+
+-- The reader failed in the call, and the offset is the one that this relation has of the bytes that came before.
+abbrev pub FailedBehind : {S : Type 0} → (List ℕ → ℕ → Type 0) → (S → Option (List ℕ)) → (S → ℕ) → S → Result S CannotOpen → ℕ → Type 0
+FailedBehind IsOffsetOf left failures old new offset =
+    FailedIn (failures old) (failures_of failures new)
+    × (bytes : List ℕ) × Consumes (left old) (left_of left new) bytes × IsOffsetOf bytes offset
+
+-- why an archive is not read, between these states of the input: it was not opened, its text has this fault, or the reader
+-- failed; the offset is then the length of the longest good front of what came
 abbrev pub IsArchiveRefused : {R : Type 0} → (R → Option (List ℕ)) → (R → ℕ) → Result R CannotOpen → Result R CannotOpen → Why → Type 0
 IsArchiveRefused left failures (Err _) new why = why ≡ NotOpened
 IsArchiveRefused left failures (Ok old) new why =
     (fault : RecordFault) × (why ≡ Record fault) × (fault.kind ≢ OutOfMemory)
     × (fault.kind ≢ Device → IfSome (left old) (λ text. IsFault text fault))
-    × (fault.kind ≡ Device → FailedIn (failures old) (failures_of failures new))
+    × (fault.kind ≡ Device → FailedBehind IsLongestLength left failures old new fault.offset)
 
 -- why a file is not taken: it was not opened, the reader failed, or its bytes have this fault
 abbrev pub IsFileRefused : {S : Type 0} → (S → Option (List ℕ)) → (S → ℕ) → Result S CannotOpen → Result S CannotOpen → Why → Type 0
@@ -123,13 +138,14 @@ IsFirstArchiveRefused left_in failures_in left failures in_old in_new old new at
     IsRefusedArchive left_in failures_in 0 in_old in_new at why
     ⊎ (((o : Operations) × IsContent o × Gives left_in in_old (λ text. text ≡ written o)) × IsFirstJoinRefused left failures old new at why)
 
--- why an operations file is not applied, between these states of the input: it was not opened, its text has this fault, or the reader failed
+-- why an operations file is not applied, between these states of the input: it was not opened, its text has this fault, or the
+-- reader failed; the offset is then the length of the longest good front of what came
 abbrev pub IsOpsRefused : {S : Type 0} → (S → Option (List ℕ)) → (S → ℕ) → Result S CannotOpen → Result S CannotOpen → Why → Type 0
 IsOpsRefused left failures (Err _) new why = why ≡ NotOpened
 IsOpsRefused left failures (Ok old) new why =
     (fault : RecordFault) × (why ≡ Record fault) × (fault.kind ≢ OutOfMemory)
     × (fault.kind ≢ Device → IfSome (left old) (λ text. IsOperationsFault text fault))
-    × (fault.kind ≡ Device → FailedIn (failures old) (failures_of failures new))
+    × (fault.kind ≡ Device → FailedBehind (IsLongestLengthOf OperationsFile) left failures old new fault.offset)
 
 -- The operations file is refused.
 abbrev pub IsRefusedOps : {S : Type 0} → (S → Option (List ℕ)) → (S → ℕ) → Result S CannotOpen → Result S CannotOpen → Place → Why → Type 0
