@@ -43,6 +43,15 @@ pub on_ok : (result : Result Status CommandFault) (P : Type 0) → P → OnOk re
 on_ok (Ok _) P p = p
 on_ok (Err _) P p = tt
 
+-- what holds before a command's end and what its end gives on success hold on success
+pub on_ok_both : (result : Result Status CommandFault) (P Q : Type 0) → P → OnOk result Q → OnOk result (P × Q)
+on_ok_both (Ok _) P Q p q = (p, q)
+on_ok_both (Err _) P Q p q = tt
+
+pub on_ok_all : (result : Result Status CommandFault) (P Q R : Type 0) → P → Q → OnOk result R → OnOk result (P × Q × R)
+on_ok_all (Ok _) P Q R p q r = (p, q, r)
+on_ok_all (Err _) P Q R p q r = tt
+
 pub if_writer : (result : Result Status CommandFault) (P : Type 0) → P → IfErr result (λ fault. IfWriter fault P)
 if_writer (Ok _) P p = tt
 if_writer (Err (Input _ _)) P p = tt

@@ -1,6 +1,6 @@
 -- The files of `admit`, one more at a time.
-use Rattle.std.proofs.Common.{◌≡◌, ℕ, suc, ◌+◌, ◌<◌, List, [], ◌∷◌, ◌++◌, length, take, drop, get_or, set, append_assoc, Option, Some, Result, refl, sym, ap, ◌∙◌, subst, arith, add-one}
-use Rattle.std.proofs.lemmas.List.{append-nil, length-take, get_or-drop, drop-set-lt, drop-drop, get_or-set_same}
+use Rattle.std.proofs.Common.{◌≡◌, ℕ, suc, ◌+◌, ◌<◌, List, [], ◌∷◌, ◌++◌, length, map, take, drop, get_or, set, append_assoc, Option, Some, Result, refl, sym, ap, ◌∙◌, subst, arith, add-one}
+use Rattle.std.proofs.lemmas.List.{append-nil, length-take, get_or-drop, drop-set-lt, drop-drop, get_or-set_same, map-set, set-get_or}
 use Rattle.std.proofs.lemmas.Grind.{flat_map-append}
 use Rattle.std.proofs.Math.Seq.{take-suc}
 use Rattle.std.specs.List.{AllByRecursion}
@@ -94,6 +94,12 @@ rest_kept {F} xs ys i x same =
   where
     behind : (l : List F) → drop (i + 1) l ≡ drop 1 (drop i l)
     behind l = sym (drop-drop 1 i l)
+
+-- a number of each element is kept where the new element has the number of the one that it replaces
+pub numbers_kept : {F : Type 0} (number : F → ℕ) (old now : List F) (i : ℕ) (x after : F) → x ≡ get_or now i x → number after ≡ number x → map number now ≡ map number old → map number (set now i after) ≡ map number old
+numbers_kept {F} number old now i x after is same before =
+    map-set number now i after ∙ ap (λ (n : ℕ). set (map number now) i n) same ∙ sym (map-set number now i x)
+    ∙ ap (λ (y : F). map number (set now i y)) is ∙ ap (map number) (set-get_or now i x) ∙ before
 
 -- The file at a place is refused, and those before it are taken.
 pub refused_at : {S : Type 0} (left : S → Option (List ℕ)) (failures : S → ℕ) (files now : List (Result S CannotOpen)) (place : ℕ) (file after : Result S CannotOpen) (o mid : Operations) (rows : List AdmitRow) (fault : CommandFault)

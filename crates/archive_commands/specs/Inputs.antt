@@ -36,6 +36,14 @@ abbrev pub failures_of : {S : Type 0} → (S → ℕ) → Result S CannotOpen �
 failures_of failures (Ok source) = failures source
 failures_of failures (Err _) = 0
 
+-- the reader of an input did not fail between these states of it
+abbrev pub Unfailed : {S : Type 0} → (S → ℕ) → Result S CannotOpen → Result S CannotOpen → Type 0
+Unfailed failures old new = failures_of failures new ≡ failures_of failures old
+
+-- nor did one of the readers of these inputs
+abbrev pub EachUnfailed : {S : Type 0} → (S → ℕ) → List (Result S CannotOpen) → List (Result S CannotOpen) → Type 0
+EachUnfailed failures old new = map (failures_of failures) new ≡ map (failures_of failures) old
+
 -- the bytes that an input has left, where they are known
 abbrev pub left_of : {S : Type 0} → (S → Option (List ℕ)) → Result S CannotOpen → Option (List ℕ)
 left_of left (Ok source) = left source

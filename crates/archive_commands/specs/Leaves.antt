@@ -76,6 +76,10 @@ IsRefusal P (Output _) = ⊥
 IsRefusal P (Report _) = ⊥
 IsRefusal P OutOfMemory = Unit {0}
 
+-- neither writer failed in the call
+abbrev pub WritersUnfailed : ℕ → ℕ → ℕ → ℕ → Type 0
+WritersUnfailed out_old out_new report_old report_new = (out_new ≡ out_old) × (report_new ≡ report_old)
+
 -- the writer that a fault names failed in the call
 abbrev pub WriterFailed : CommandFault → ℕ → ℕ → ℕ → ℕ → Type 0
 WriterFailed (Input _ _) out_old out_new report_old report_new = Unit {0}

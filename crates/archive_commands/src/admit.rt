@@ -4,8 +4,8 @@ ghost use Rattle.archive_core.specs.Content.{Operations};
 ghost use Rattle.archive_exchange.specs.File.{admissible, parts, IsAcceptedFile, IsTakeFault};
 ghost use Rattle.archive_exchange.specs.Take.{admitted, taken_rows};
 ghost use Rattle.archive_commands.specs.Admit.{file_rows, HasTaken, MakesAdmitted};
-ghost use Rattle.archive_commands.specs.Inputs.{Gives, IsRefusedBytes, IsRefusedFile, IsFirstFileRefused, IsFirstRefused};
-ghost use Rattle.archive_commands.specs.Leaves.{IfInput, IfWriter, IfMemory, IsCarriedOut, IsRefusal, NothingWritten, WriterFailed};
+ghost use Rattle.archive_commands.specs.Inputs.{EachUnfailed, Gives, IsRefusedBytes, IsRefusedFile, IsFirstFileRefused, IsFirstRefused, Unfailed};
+ghost use Rattle.archive_commands.specs.Leaves.{IfInput, IfWriter, IfMemory, IsCarriedOut, IsRefusal, NothingWritten, WriterFailed, WritersUnfailed};
 
 use crate::publish::publish;
 use crate::sources::{read_file, read_input};
@@ -69,6 +69,7 @@ fn admit_file<A: Archive, S: Source>(
         × Gives S.left file.old (λ text. text ≡ bytes)
         × (A.content archive.new ≡ admitted (A.content archive.old) (admissible bytes))
         × (rows.new.items ≡ rows.old.items ++ file_rows place 0 (taken_rows (A.content archive.old) (parts bytes)))) }
+    ensures unfailed { OnOk result (Unfailed S.failures file.old file.new) }
     ensures refused { IfErr result (IsRefusal (IsRefusedFile S.left S.failures place file.old file.new)) }
 {
     let bytes = read_file(heap.clone()?, place, file)?;
@@ -84,6 +85,7 @@ fn admit_files<A: Archive, S: Source>(
     files: &mut [Result<S, CannotOpen>],
 ) -> Result<Vec<AdmitRow, Heap>, CommandFault>
     ensures taken { IfOk result (λ rows. HasTaken S.left files.old (A.content archive.old) (A.content archive.new) rows.items) }
+    ensures unfailed { OnOk result (EachUnfailed S.failures files.old files.new) }
     ensures refused { IfErr result (IsRefusal (IsFirstFileRefused S.left S.failures files.old files.new)) }
 {
     let mut rows = Vec::new(heap.clone()?);
@@ -115,6 +117,9 @@ pub fn run_admit<A: Archive + Drop, R: Source, S: Source, W: Sink, P: Sink>(
     // A writer failed: the inputs are accepted, and it has exactly a beginning of its text.
     ensures stopped { IfErr result (λ fault. IfWriter fault (IsCarriedOut (MakesAdmitted R.left S.left input.old files.old) (W.held out.old) (W.held out.new) (P.held report.old) (P.held report.new) result)) }
     ensures failed { IfErr result (λ fault. WriterFailed fault (W.failures out.old) (W.failures out.new) (P.failures report.old) (P.failures report.new)) }
+
+    // On success no device failed: nothing is tried again.
+    ensures unfailed { OnOk result (Unfailed R.failures input.old input.new × EachUnfailed S.failures files.old files.new × WritersUnfailed (W.failures out.old) (W.failures out.new) (P.failures report.old) (P.failures report.new)) }
 
     // After want of memory the report has nothing, and OUT nothing or its whole text.
     ensures memory { IfErr result (λ fault. IfMemory fault (NothingWritten (W.held out.old) (W.held out.new) (P.held report.old) (P.held report.new) ⊎ IsCarriedOut (MakesAdmitted R.left S.left input.old files.old) (W.held out.old) (W.held out.new) (P.held report.old) (P.held report.new) result)) }

@@ -4,8 +4,8 @@ ghost use Rattle.std.specs.FinSet as set;
 ghost use Rattle.archive_core.specs.Content.{with_record, with_records};
 ghost use Rattle.archive_core.specs.Record.{rec};
 ghost use Rattle.archive_commands.specs.Apply.{new_among, MakesApplied};
-ghost use Rattle.archive_commands.specs.Inputs.{IsFirstApplyRefused};
-ghost use Rattle.archive_commands.specs.Leaves.{IfInput, IfWriter, IfMemory, IsCarriedOut, NothingWritten, WriterFailed};
+ghost use Rattle.archive_commands.specs.Inputs.{IsFirstApplyRefused, Unfailed};
+ghost use Rattle.archive_commands.specs.Leaves.{IfInput, IfWriter, IfMemory, IsCarriedOut, NothingWritten, WriterFailed, WritersUnfailed};
 
 use crate::publish::publish;
 use crate::sources::{read_input, read_operations};
@@ -61,6 +61,9 @@ pub fn run_apply<A: Archive + Drop, R: Source, S: Source, W: Sink, P: Sink>(
     // A writer failed: the inputs are accepted, and it has exactly a beginning of its text.
     ensures stopped { IfErr result (λ fault. IfWriter fault (IsCarriedOut (MakesApplied R.left S.left input.old ops.old) (W.held out.old) (W.held out.new) (P.held report.old) (P.held report.new) result)) }
     ensures failed { IfErr result (λ fault. WriterFailed fault (W.failures out.old) (W.failures out.new) (P.failures report.old) (P.failures report.new)) }
+
+    // On success no device failed: nothing is tried again.
+    ensures unfailed { OnOk result (Unfailed R.failures input.old input.new × Unfailed S.failures ops.old ops.new × WritersUnfailed (W.failures out.old) (W.failures out.new) (P.failures report.old) (P.failures report.new)) }
 
     // After want of memory the report has nothing, and OUT nothing or its whole text.
     ensures memory { IfErr result (λ fault. IfMemory fault (NothingWritten (W.held out.old) (W.held out.new) (P.held report.old) (P.held report.new) ⊎ IsCarriedOut (MakesApplied R.left S.left input.old ops.old) (W.held out.old) (W.held out.new) (P.held report.old) (P.held report.new) result)) }

@@ -2,7 +2,7 @@
 ghost use Rattle.std.specs.Prelude.{◌≡◌, [], OnOk, IfErr};
 ghost use Rattle.std.specs.Io.KnownBytes.{Appends};
 ghost use Rattle.archive_commands.specs.Find.{MakesFound, find_status};
-ghost use Rattle.archive_commands.specs.Inputs.{IsRefusedArchive};
+ghost use Rattle.archive_commands.specs.Inputs.{IsRefusedArchive, Unfailed};
 ghost use Rattle.archive_commands.specs.Leaves.{IfInput, IfWriter, IfMemory};
 ghost use Rattle.archive_commands.specs.Tells.{IsReported, ReportFailed};
 
@@ -46,6 +46,9 @@ pub fn run_find<A: Archive + Drop, R: Source, P: Sink>(
     // The report failed: the archive is accepted, and it has exactly a beginning of the lines.
     ensures stopped { IfErr result (λ fault. IfWriter fault (IsReported (MakesFound R.left archive.old uuid.now) (P.held report.old) (P.held report.new) result)) }
     ensures failed { IfErr result (λ fault. ReportFailed fault (P.failures report.old) (P.failures report.new)) }
+
+    // On success no device failed: nothing is tried again.
+    ensures unfailed { OnOk result (Unfailed R.failures archive.old archive.new × (P.failures report.new ≡ P.failures report.old)) }
 
     // After want of memory the report has nothing.
     ensures memory { IfErr result (λ fault. IfMemory fault (Appends (P.held report.old) (P.held report.new) [])) }

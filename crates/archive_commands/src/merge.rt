@@ -2,8 +2,8 @@
 ghost use Rattle.std.specs.Prelude.{◌≡◌, ◌⊎◌, ◌+◌, OnOk, IfErr};
 ghost use Rattle.archive_core.specs.Content.{Operations, IsContent, joined};
 ghost use Rattle.archive_records.specs.Text.{written};
-ghost use Rattle.archive_commands.specs.Inputs.{Gives, IsRefusedArchive, IsFirstJoinRefused, IsFirstArchiveRefused};
-ghost use Rattle.archive_commands.specs.Leaves.{IfInput, IfWriter, IfMemory, IsCarriedOut, IsRefusal, NothingWritten, WriterFailed};
+ghost use Rattle.archive_commands.specs.Inputs.{EachUnfailed, Gives, IsRefusedArchive, IsFirstJoinRefused, IsFirstArchiveRefused, Unfailed};
+ghost use Rattle.archive_commands.specs.Leaves.{IfInput, IfWriter, IfMemory, IsCarriedOut, IsRefusal, NothingWritten, WriterFailed, WritersUnfailed};
 ghost use Rattle.archive_commands.specs.Merge.{HasJoined, MakesMerged};
 
 use crate::publish::publish;
@@ -24,6 +24,7 @@ fn join_file<A: Archive + Drop, S: Source>(
         × IsContent other
         × Gives S.left file.old (λ text. text ≡ written other)
         × (A.content archive.new ≡ joined (A.content archive.old) other)) }
+    ensures unfailed { OnOk result (Unfailed S.failures file.old file.new) }
     ensures refused { IfErr result (IsRefusal (IsRefusedArchive S.left S.failures number file.old file.new)) }
 {
     let other: A = read_input(heap, number, file)?;
@@ -38,6 +39,7 @@ fn join_files<A: Archive + Drop, S: Source>(
     files: &mut [Result<S, CannotOpen>],
 ) -> Result<(), CommandFault>
     ensures joined { OnOk result (HasJoined S.left files.old (A.content archive.old) (A.content archive.new)) }
+    ensures unfailed { OnOk result (EachUnfailed S.failures files.old files.new) }
     ensures refused { IfErr result (IsRefusal (IsFirstJoinRefused S.left S.failures files.old files.new)) }
 {
     'files: for (place, file) in files.iter_mut().enumerate() {
@@ -69,6 +71,9 @@ pub fn run_merge<A: Archive + Drop, R: Source, S: Source, W: Sink, P: Sink>(
     // A writer failed: the inputs are archives, and it has exactly a beginning of its text.
     ensures stopped { IfErr result (λ fault. IfWriter fault (IsCarriedOut (MakesMerged R.left S.left input.old files.old) (W.held out.old) (W.held out.new) (P.held report.old) (P.held report.new) result)) }
     ensures failed { IfErr result (λ fault. WriterFailed fault (W.failures out.old) (W.failures out.new) (P.failures report.old) (P.failures report.new)) }
+
+    // On success no device failed: nothing is tried again.
+    ensures unfailed { OnOk result (Unfailed R.failures input.old input.new × EachUnfailed S.failures files.old files.new × WritersUnfailed (W.failures out.old) (W.failures out.new) (P.failures report.old) (P.failures report.new)) }
 
     // After want of memory the report has nothing, and OUT nothing or its whole text.
     ensures memory { IfErr result (λ fault. IfMemory fault (NothingWritten (W.held out.old) (W.held out.new) (P.held report.old) (P.held report.new) ⊎ IsCarriedOut (MakesMerged R.left S.left input.old files.old) (W.held out.old) (W.held out.new) (P.held report.old) (P.held report.new) result)) }

@@ -1,8 +1,8 @@
 //! `new OUT`.
-ghost use Rattle.std.specs.Prelude.{IfErr, []};
+ghost use Rattle.std.specs.Prelude.{IfErr, OnOk, []};
 ghost use Rattle.std.specs.FinSet as set;
 ghost use Rattle.archive_records.specs.Text.{written};
-ghost use Rattle.archive_commands.specs.Leaves.{Leaves, WriterFailed, report_of};
+ghost use Rattle.archive_commands.specs.Leaves.{Leaves, WriterFailed, WritersUnfailed, report_of};
 
 use crate::publish::publish;
 use archive_core::Archive;
@@ -22,6 +22,9 @@ pub fn run_new<A: Archive + Drop, W: Sink, P: Sink>(
 ) -> Result<Status, CommandFault>
     ensures leaves { Leaves (W.held out.old) (W.held out.new) (P.held report.old) (P.held report.new) (written set.empty) (report_of set.empty []) result }
     ensures failed { IfErr result (λ fault. WriterFailed fault (W.failures out.old) (W.failures out.new) (P.failures report.old) (P.failures report.new)) }
+
+    // On success neither writer failed: nothing is tried again.
+    ensures unfailed { OnOk result (WritersUnfailed (W.failures out.old) (W.failures out.new) (P.failures report.old) (P.failures report.new)) }
 {
     let archive = A::empty(heap.clone()?);
     publish(&archive, String::new(heap), out, report)

@@ -1,7 +1,7 @@
 //! The end of each command that writes an archive: OUT, and then the report.
-ghost use Rattle.std.specs.Prelude.{IfErr, string_bytes};
+ghost use Rattle.std.specs.Prelude.{◌≡◌, IfErr, OnOk, string_bytes};
 ghost use Rattle.archive_records.specs.Text.{written};
-ghost use Rattle.archive_commands.specs.Leaves.{Leaves, WriterFailed, report_of};
+ghost use Rattle.archive_commands.specs.Leaves.{Leaves, WriterFailed, WritersUnfailed, report_of};
 ghost use Rattle.archive_commands.specs.Tells.{ReportFailed, Tells};
 
 use archive_core::Archive;
@@ -20,6 +20,7 @@ pub(crate) fn publish<A: Archive, W: Sink, P: Sink>(
 ) -> Result<Status, CommandFault>
     ensures leaves { Leaves (W.held out.old) (W.held out.new) (P.held report.old) (P.held report.new) (written (A.content archive.now)) (report_of (A.content archive.now) (string_bytes lines)) result }
     ensures failed { IfErr result (λ fault. WriterFailed fault (W.failures out.old) (W.failures out.new) (P.failures report.old) (P.failures report.new)) }
+    ensures unfailed { OnOk result (WritersUnfailed (W.failures out.old) (W.failures out.new) (P.failures report.old) (P.failures report.new)) }
 {
     let sizes = match write_archive(archive, out) {
         Ok(sizes) => sizes,
@@ -40,6 +41,7 @@ pub(crate) fn tell<P: Sink>(
 ) -> Result<Status, CommandFault>
     ensures tells { Tells (P.held report.old) (P.held report.new) status text.now result }
     ensures failed { IfErr result (λ fault. ReportFailed fault (P.failures report.old) (P.failures report.new)) }
+    ensures unfailed { OnOk result (P.failures report.new ≡ P.failures report.old) }
 {
     match push_all(report, text.as_bytes()) {
         Ok(()) => Ok(status),

@@ -3,8 +3,8 @@ ghost use Rattle.std.specs.Prelude.{◌≡◌, ◌⊎◌, not, OnOk, IfOk, IfErr
 ghost use Rattle.std.specs.FinSet as set;
 ghost use Rattle.archive_core.specs.Content.{with_record};
 ghost use Rattle.archive_core.specs.Record.{retirement_record};
-ghost use Rattle.archive_commands.specs.Inputs.{IsRefusedArchive};
-ghost use Rattle.archive_commands.specs.Leaves.{IfInput, IfWriter, IfMemory, IsCarriedOut, NothingWritten, WriterFailed};
+ghost use Rattle.archive_commands.specs.Inputs.{IsRefusedArchive, Unfailed};
+ghost use Rattle.archive_commands.specs.Leaves.{IfInput, IfWriter, IfMemory, IsCarriedOut, NothingWritten, WriterFailed, WritersUnfailed};
 ghost use Rattle.archive_commands.specs.Retire.{MakesRetired};
 
 use crate::publish::publish;
@@ -50,6 +50,9 @@ pub fn run_retire<A: Archive + Drop, R: Source, W: Sink, P: Sink>(
     // A writer failed: the archive is accepted, and it has exactly a beginning of its text.
     ensures stopped { IfErr result (λ fault. IfWriter fault (IsCarriedOut (MakesRetired R.left input.old key digest) (W.held out.old) (W.held out.new) (P.held report.old) (P.held report.new) result)) }
     ensures failed { IfErr result (λ fault. WriterFailed fault (W.failures out.old) (W.failures out.new) (P.failures report.old) (P.failures report.new)) }
+
+    // On success no device failed: nothing is tried again.
+    ensures unfailed { OnOk result (Unfailed R.failures input.old input.new × WritersUnfailed (W.failures out.old) (W.failures out.new) (P.failures report.old) (P.failures report.new)) }
 
     // After want of memory the report has nothing, and OUT nothing or its whole text.
     ensures memory { IfErr result (λ fault. IfMemory fault (NothingWritten (W.held out.old) (W.held out.new) (P.held report.old) (P.held report.new) ⊎ IsCarriedOut (MakesRetired R.left input.old key digest) (W.held out.old) (W.held out.new) (P.held report.old) (P.held report.new) result)) }

@@ -1,8 +1,8 @@
 //! The inputs of a command, each opened beforehand and refused at its turn.
-ghost use Rattle.std.specs.Prelude.{◌≡◌, IfOk, IfErr};
+ghost use Rattle.std.specs.Prelude.{◌≡◌, OnOk, IfOk, IfErr};
 ghost use Rattle.archive_core.specs.Content.{IsContent};
 ghost use Rattle.archive_records.specs.Text.{IsOperationsText, written};
-ghost use Rattle.archive_commands.specs.Inputs.{Gives, IsRefusedArchive, IsRefusedFile, IsRefusedOps};
+ghost use Rattle.archive_commands.specs.Inputs.{Gives, IsRefusedArchive, IsRefusedFile, IsRefusedOps, Unfailed};
 ghost use Rattle.archive_commands.specs.Leaves.{IsRefusal};
 
 use archive_core::{Archive, Operation};
@@ -19,6 +19,7 @@ pub(crate) fn read_input<A: Archive + Drop, R: Source>(
 ) -> Result<A, CommandFault>
     ensures content { IfOk result (λ archive. IsContent (A.content archive)) }
     ensures text { IfOk result (λ archive. Gives R.left input.old (λ text. text ≡ written (A.content archive))) }
+    ensures unfailed { OnOk result (Unfailed R.failures input.old input.new) }
     ensures refused { IfErr result (IsRefusal (IsRefusedArchive R.left R.failures place input.old input.new)) }
 {
     let at = Place::Archive(place);
@@ -45,6 +46,7 @@ pub(crate) fn read_file<S: Source>(
     file: &mut Result<S, CannotOpen>,
 ) -> Result<Vec<u8, Heap>, CommandFault>
     ensures bytes { IfOk result (λ bytes. Gives S.left file.old (λ text. text ≡ bytes.items)) }
+    ensures unfailed { OnOk result (Unfailed S.failures file.old file.new) }
     ensures refused { IfErr result (IsRefusal (IsRefusedFile S.left S.failures place file.old file.new)) }
 {
     let at = Place::File(place);
@@ -65,6 +67,7 @@ pub(crate) fn read_operations<S: Source>(
     ops: &mut Result<S, CannotOpen>,
 ) -> Result<Vec<Operation, Heap>, CommandFault>
     ensures text { IfOk result (λ operations. Gives S.left ops.old (λ text. IsOperationsText text operations.items)) }
+    ensures unfailed { OnOk result (Unfailed S.failures ops.old ops.new) }
     ensures refused { IfErr result (IsRefusal (IsRefusedOps S.left S.failures ops.old ops.new)) }
 {
     let at = Place::Ops;

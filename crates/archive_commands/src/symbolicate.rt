@@ -2,7 +2,7 @@
 ghost use Rattle.std.specs.Prelude.{◌≡◌, [], if◌then◌else◌, OnOk, IfOk, IfErr, string_bytes};
 ghost use Rattle.std.specs.Io.KnownBytes.{Appends};
 ghost use Rattle.archive_lines.specs.declared.faults.Status.TheVariants.{Partial};
-ghost use Rattle.archive_commands.specs.Inputs.{IsRefusedArchive};
+ghost use Rattle.archive_commands.specs.Inputs.{IsRefusedArchive, Unfailed};
 ghost use Rattle.archive_commands.specs.Leaves.{IfInput, IfWriter, IfMemory};
 ghost use Rattle.archive_commands.specs.Symbolicate.{MakesAnswered, TellsAddresses, is_symbol, place_of};
 ghost use Rattle.archive_commands.specs.Tells.{IsReported, ReportFailed};
@@ -79,6 +79,9 @@ pub fn run_symbolicate<A: Archive + Drop, R: Source, P: Sink>(
     // The report failed: the archive is accepted, and it has exactly a beginning of the lines.
     ensures stopped { IfErr result (λ fault. IfWriter fault (IsReported (MakesAnswered R.left archive.old key.now load addresses.now) (P.held report.old) (P.held report.new) result)) }
     ensures failed { IfErr result (λ fault. ReportFailed fault (P.failures report.old) (P.failures report.new)) }
+
+    // On success no device failed: nothing is tried again.
+    ensures unfailed { OnOk result (Unfailed R.failures archive.old archive.new × (P.failures report.new ≡ P.failures report.old)) }
 
     // After want of memory the report has nothing.
     ensures memory { IfErr result (λ fault. IfMemory fault (Appends (P.held report.old) (P.held report.new) [])) }

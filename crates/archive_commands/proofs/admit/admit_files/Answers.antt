@@ -1,10 +1,11 @@
 use Rattle.std.proofs.Common.{◌<◌, length, arith, refl}
 use Rattle.std.proofs.lemmas.Result.{err_from_is_err_and}
-use Rattle.archive_commands.proofs.Files.{taken_none, taken_more, same_at, rest_kept, refused_at}
+use Rattle.archive_commands.proofs.Files.{taken_none, taken_more, same_at, rest_kept, numbers_kept, refused_at}
+use Rattle.archive_commands.specs.Inputs.{failures_of}
 use Rattle.archive_commands.proofs.admit.admit_files.Goals as goal
 
 pub files-init : goal.files-init
-files-init g c = record { taken = taken_none g.S.Source.left _ _ c.new-rows.ensures.items; rest = refl }
+files-init g c = record { taken = taken_none g.S.Source.left _ _ c.new-rows.ensures.items; unfailed = refl; rest = refl }
 
 pub files-preserved : goal.files-preserved
 files-preserved g c =
@@ -14,7 +15,8 @@ files-preserved g c =
     record {
       taken = taken_more g.S.Source.left files c.files.place c.index-files-place.result _ _ _ c.files.rows.items _ got.0 lt
           (same_at c.files.files files c.files.place _ c.files.invariant.rest c.index-files-place.is) c.files.invariant.taken got.1 (rw (← c.index-files-place.is) at got.2) got.3 got.4;
-      rest = rest_kept c.files.files files c.files.place _ c.files.invariant.rest;
+      unfailed = numbers_kept (failures_of g.S.Source.failures) files c.files.files c.files.place c.index-files-place.result c.admit_file.new.file c.index-files-place.is (rw (← c.index-files-place.is) at c.in_ok-admit_file.ensures.unfailed) c.files.invariant.unfailed;
+      rest = rest_kept c.files.files files c.files.place c.admit_file.new.file c.files.invariant.rest;
     }
 
 pub returns-in_err-admit_file-clause-refused : goal.returns-in_err-admit_file-clause-refused

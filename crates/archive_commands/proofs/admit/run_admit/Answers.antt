@@ -1,6 +1,6 @@
 use Rattle.std.proofs.Common.{inl}
 use Rattle.std.proofs.lemmas.Result.{err_from_is_err_and}
-use Rattle.archive_commands.proofs.Ending.{carried_out, files_refused, if_memory, if_writer, makes_admitted, nothing, on_ok}
+use Rattle.archive_commands.proofs.Ending.{carried_out, files_refused, if_memory, if_writer, makes_admitted, nothing, on_ok, on_ok_all}
 use Rattle.archive_commands.proofs.admit.run_admit.Goals as goal
 
 pub returns-in_err-rows-clause-refused : goal.returns-in_err-rows-clause-refused
@@ -29,3 +29,6 @@ pub returns-clause-memory : goal.returns-clause-memory
 returns-clause-memory g c =
     let makes = makes_admitted g.R.Source.left g.S.Source.left c.args.input.now c.args.files.now _ _ _ _ _ c.in_ok-archive.ensures.content c.in_ok-archive.ensures.text c.in_ok-rows.ensures.taken c.deref.ensures.value c.in_ok-lines.ensures in
     if_memory c.publish.result _ _ (carried_out _ _ _ _ _ _ _ c.publish.result makes c.publish.ensures.leaves)
+
+pub returns-clause-unfailed : goal.returns-clause-unfailed
+returns-clause-unfailed g c = on_ok_all c.publish.result _ _ _ c.in_ok-archive.ensures.unfailed c.in_ok-rows.ensures.unfailed c.publish.ensures.unfailed

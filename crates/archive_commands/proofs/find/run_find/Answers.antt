@@ -1,7 +1,7 @@
 use Rattle.std.proofs.Common.{ap, ◌∙◌}
 use Rattle.archive_lines.specs.Finds.{find_lines}
 use Rattle.archive_commands.specs.Find.{find_status, MakesFound}
-use Rattle.archive_commands.proofs.Ending.{reported, if_writer, on_ok}
+use Rattle.archive_commands.proofs.Ending.{reported, if_writer, on_ok, on_ok_both}
 use Rattle.archive_commands.proofs.find.run_find.Goals as goal
 
 pub returns-clause-found : goal.returns-clause-found
@@ -29,3 +29,6 @@ returns-clause-stopped g c =
       text_is = c.deref-3.ensures ∙ c.in_ok-text.ensures ∙ ap find_lines c.deref.ensures.value;
     } in
     if_writer c.tell.result _ (reported _ _ _ _ _ c.tell.result makes c.tell.ensures.tells)
+
+pub returns-clause-unfailed : goal.returns-clause-unfailed
+returns-clause-unfailed g c = on_ok_both c.tell.result _ _ c.in_ok-archive.ensures.unfailed c.tell.ensures.unfailed

@@ -1,11 +1,12 @@
 use Rattle.std.proofs.Common.{◌<◌, length, arith, refl}
 use Rattle.std.proofs.lemmas.Result.{err_from_is_err_and}
-use Rattle.archive_commands.proofs.Files.{same_at, rest_kept}
+use Rattle.archive_commands.proofs.Files.{same_at, rest_kept, numbers_kept}
 use Rattle.archive_commands.proofs.Joins.{joined_none, joined_more, join_refused_at}
+use Rattle.archive_commands.specs.Inputs.{failures_of}
 use Rattle.archive_commands.proofs.merge.join_files.Goals as goal
 
 pub files-init : goal.files-init
-files-init g c = record { joined = joined_none g.S.Source.left _; rest = refl }
+files-init g c = record { joined = joined_none g.S.Source.left _; unfailed = refl; rest = refl }
 
 pub files-preserved : goal.files-preserved
 files-preserved g c =
@@ -15,7 +16,8 @@ files-preserved g c =
     record {
       joined = joined_more g.S.Source.left files c.files.place c.index-files-place.result (g.A.Join.content c.args.archive.now) (g.A.Join.content c.files.archive) (g.A.Join.content c.join_file.new.archive) got.0 lt
           (same_at c.files.files files c.files.place _ c.files.invariant.rest c.index-files-place.is) c.files.invariant.joined got.1 (rw (← c.index-files-place.is) at got.2) got.3;
-      rest = rest_kept c.files.files files c.files.place _ c.files.invariant.rest;
+      unfailed = numbers_kept (failures_of g.S.Source.failures) files c.files.files c.files.place c.index-files-place.result c.join_file.new.file c.index-files-place.is (rw (← c.index-files-place.is) at c.in_ok-join_file.ensures.unfailed) c.files.invariant.unfailed;
+      rest = rest_kept c.files.files files c.files.place c.join_file.new.file c.files.invariant.rest;
     }
 
 pub returns-in_err-join_file-clause-refused : goal.returns-in_err-join_file-clause-refused

@@ -1,5 +1,5 @@
 use Rattle.std.proofs.lemmas.Result.{err_from_is_err_and}
-use Rattle.archive_commands.proofs.Ending.{carried_out, if_memory, if_writer, on_ok}
+use Rattle.archive_commands.proofs.Ending.{carried_out, if_memory, if_writer, on_ok, on_ok_all}
 use Rattle.archive_commands.proofs.Joins.{file_refused, makes_merged}
 use Rattle.archive_commands.proofs.merge.run_merge.Goals as goal
 
@@ -24,3 +24,6 @@ pub returns-clause-memory : goal.returns-clause-memory
 returns-clause-memory g c =
     let makes = makes_merged g.R.Source.left g.S.Source.left c.args.input.now c.args.files.now _ _ _ c.in_ok-archive.ensures.content c.in_ok-archive.ensures.text c.in_ok-join_files.ensures.joined c.new.ensures.bytes in
     if_memory c.publish.result _ _ (carried_out _ _ _ _ _ _ _ c.publish.result makes c.publish.ensures.leaves)
+
+pub returns-clause-unfailed : goal.returns-clause-unfailed
+returns-clause-unfailed g c = on_ok_all c.publish.result _ _ _ c.in_ok-archive.ensures.unfailed c.in_ok-join_files.ensures.unfailed c.publish.ensures.unfailed

@@ -1,7 +1,7 @@
 use Rattle.archive_commands.specs.Retire.{MakesRetired}
 use Rattle.std.proofs.Common.{ap, ◌∙◌, string_bytes}
 use Rattle.archive_lines.specs.Report.{retire_line}
-use Rattle.archive_commands.proofs.Ending.{carried_out, if_memory, if_writer, on_ok}
+use Rattle.archive_commands.proofs.Ending.{carried_out, if_memory, if_writer, on_ok, on_ok_both}
 use Rattle.archive_commands.proofs.retire.run_retire.Goals as goal
 
 pub returns-clause-retired : goal.returns-clause-retired
@@ -36,3 +36,6 @@ returns-clause-memory g c =
       lines_are = c.in_ok-lines.ensures ∙ ap (λ changed. retire_line changed c.args.key c.args.digest) c.in_ok-changed.ensures.changed;
     } in
     if_memory c.publish.result _ _ (carried_out _ _ _ _ _ _ _ c.publish.result makes c.publish.ensures.leaves)
+
+pub returns-clause-unfailed : goal.returns-clause-unfailed
+returns-clause-unfailed g c = on_ok_both c.publish.result _ _ c.in_ok-archive.ensures.unfailed c.publish.ensures.unfailed
