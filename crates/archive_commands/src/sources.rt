@@ -1,7 +1,10 @@
 //! The inputs of a command, each opened beforehand and refused at its turn.
-ghost use Rattle.std.specs.Prelude.{◌≡◌, OnOk, IfOk, IfErr};
+ghost use Rattle.std.specs.Prelude.{◌≡◌, ◌≢◌, OnOk, IfOk, IfErr};
 ghost use Rattle.archive_core.specs.Content.{IsContent};
+ghost use Rattle.archive_records.specs.declared.fault.RecordFaultKind.TheVariants.{OutOfMemory as RecordOutOfMemory};
 ghost use Rattle.archive_records.specs.Text.{IsOperationsText, written};
+ghost use Rattle.archive_lines.specs.declared.faults.CommandFault.TheVariants.{OutOfMemory};
+ghost use Rattle.archive_lines.specs.declared.faults.Why.TheVariants.{Record};
 ghost use Rattle.archive_commands.specs.Inputs.{Gives, IsRefusedArchive, IsRefusedFile, IsRefusedOps, Unfailed};
 ghost use Rattle.archive_commands.specs.Leaves.{IsRefusal};
 
@@ -10,6 +13,17 @@ use archive_lines::{CannotOpen, CommandFault, Place, Why};
 use archive_records::{RecordFault, RecordFaultKind, read_archive, read_ops};
 use byte_device::{ReadFault, Source, read_to_end};
 use memory::Heap;
+
+/// The refusal of an input at a place, whose text has this fault or whose reader failed.
+fn refusal(at: Place, fault: RecordFault) -> CommandFault
+    ensures refused { IsRefusal (λ place why. (place ≡ at) × (why ≡ Record fault) × (fault.kind ≢ RecordOutOfMemory)) result }
+    ensures memory { result ≡ OutOfMemory → fault.kind ≡ RecordOutOfMemory }
+{
+    match fault.kind {
+        RecordFaultKind::OutOfMemory => CommandFault::OutOfMemory,
+        _ => CommandFault::Input(at, Why::Record(fault)),
+    }
+}
 
 /// Reads the archive at a place among those of the words.
 pub(crate) fn read_input<A: Archive + Drop, R: Source>(
@@ -29,13 +43,7 @@ pub(crate) fn read_input<A: Archive + Drop, R: Source>(
     };
     match read_archive(heap, source) {
         Ok(archive) => Ok(archive),
-        Err(
-            RecordFault {
-                kind: RecordFaultKind::OutOfMemory,
-                ..
-            },
-        ) => Err(CommandFault::OutOfMemory),
-        Err(fault) => Err(CommandFault::Input(at, Why::Record(fault))),
+        Err(fault) => Err(refusal(at, fault)),
     }
 }
 
@@ -77,12 +85,6 @@ pub(crate) fn read_operations<S: Source>(
     };
     match read_ops(heap, source) {
         Ok(operations) => Ok(operations),
-        Err(
-            RecordFault {
-                kind: RecordFaultKind::OutOfMemory,
-                ..
-            },
-        ) => Err(CommandFault::OutOfMemory),
-        Err(fault) => Err(CommandFault::Input(at, Why::Record(fault))),
+        Err(fault) => Err(refusal(at, fault)),
     }
 }
