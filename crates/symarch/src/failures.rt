@@ -1,6 +1,7 @@
 //! What the program says on standard error.
 
 use archive_lines::{CannotCreate, CommandFault};
+use memory::NoMemory;
 use thiserror::Error;
 
 /// Why the program ends with a message, which is the text of what it holds behind the program's name.
@@ -12,4 +13,16 @@ pub enum Failure {
     /// The output was not created.
     #[error("symarch: {0}")]
     CannotCreate(#[from] CannotCreate),
+}
+
+impl From<NoMemory> for Failure {
+    ghost use Rattle.std.specs.Prelude.{◌≡◌};
+    ghost use Rattle.archive_lines.specs.declared.faults.CommandFault.TheVariants.{OutOfMemory};
+    ghost use Rattle.symarch.specs.declared.failures.Failure.TheVariants.{Command};
+
+    ghost from_gives = { λ _ failure. failure ≡ Command OutOfMemory };
+
+    fn from(refused: NoMemory) -> Failure {
+        Failure::Command(CommandFault::from(refused))
+    }
 }

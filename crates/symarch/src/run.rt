@@ -63,7 +63,7 @@ fn fail<R: Eprint>(rt: &R, failure: Failure) -> ExitCode {
 
 /// Carries out a plan over files and standard output.
 fn execute<R: Files + Print + AllocGlobal>(rt: &R, plan: &Plan) -> Result<Status, Failure> {
-    let heap = Heap::new(rt.alloc()).map_err(CommandFault::from)?;
+    let heap = Heap::new(rt.alloc())?;
     match plan {
         Plan::New { out } => new(rt, heap, out),
         Plan::Admit { input, out, files } => admit(rt, heap, input, out, files),
@@ -116,8 +116,8 @@ fn admit<R: Files + Print + AllocGlobal>(
     files: &[String],
 ) -> Result<Status, Failure> {
     let mut report = Writing::new(io::writer(rt));
-    let mut input = open_buffered(rt.alloc(), rt, input).map_err(CommandFault::from)?;
-    let mut files = open_all(rt.alloc(), rt, files).map_err(CommandFault::from)?;
+    let mut input = open_buffered(rt.alloc(), rt, input)?;
+    let mut files = open_all(rt.alloc(), rt, files)?;
     let mut out = OutFile::new(rt, out);
     let result = run_admit::<PlainArchive, _, _, _, _>(
         heap,
@@ -139,7 +139,7 @@ fn retire<R: Files + Print + AllocGlobal>(
     digest: Digest,
 ) -> Result<Status, Failure> {
     let mut report = Writing::new(io::writer(rt));
-    let mut input = open_buffered(rt.alloc(), rt, input).map_err(CommandFault::from)?;
+    let mut input = open_buffered(rt.alloc(), rt, input)?;
     let mut out = OutFile::new(rt, out);
     let result = run_retire::<PlainArchive, _, _, _>(
         heap,
@@ -161,8 +161,8 @@ fn merge<R: Files + Print + AllocGlobal>(
     files: &[String],
 ) -> Result<Status, Failure> {
     let mut report = Writing::new(io::writer(rt));
-    let mut input = open_buffered(rt.alloc(), rt, input).map_err(CommandFault::from)?;
-    let mut files = open_all_buffered(rt.alloc(), rt, files).map_err(CommandFault::from)?;
+    let mut input = open_buffered(rt.alloc(), rt, input)?;
+    let mut files = open_all_buffered(rt.alloc(), rt, files)?;
     let mut out = OutFile::new(rt, out);
     let result = run_merge::<PlainArchive, _, _, _, _>(
         heap,
@@ -183,8 +183,8 @@ fn apply<R: Files + Print + AllocGlobal>(
     ops: &str,
 ) -> Result<Status, Failure> {
     let mut report = Writing::new(io::writer(rt));
-    let mut input = open_buffered(rt.alloc(), rt, input).map_err(CommandFault::from)?;
-    let mut ops = open_buffered(rt.alloc(), rt, ops).map_err(CommandFault::from)?;
+    let mut input = open_buffered(rt.alloc(), rt, input)?;
+    let mut ops = open_buffered(rt.alloc(), rt, ops)?;
     let mut out = OutFile::new(rt, out);
     let result = run_apply::<PlainArchive, _, _, _, _>(
         heap,
@@ -204,7 +204,7 @@ fn find<R: Files + Print + AllocGlobal>(
     uuid: &Uuid,
 ) -> Result<Status, Failure> {
     let mut report = Writing::new(io::writer(rt));
-    let mut archive = open_buffered(rt.alloc(), rt, archive).map_err(CommandFault::from)?;
+    let mut archive = open_buffered(rt.alloc(), rt, archive)?;
     let status = run_find::<PlainArchive, _, _>(heap, &mut archive, uuid, &mut report)?;
     Ok(status)
 }
@@ -219,7 +219,7 @@ fn symbolicate<R: Files + Print + AllocGlobal>(
     addresses: &[u64],
 ) -> Result<Status, Failure> {
     let mut report = Writing::new(io::writer(rt));
-    let mut archive = open_buffered(rt.alloc(), rt, archive).map_err(CommandFault::from)?;
+    let mut archive = open_buffered(rt.alloc(), rt, archive)?;
     let status = run_symbolicate::<PlainArchive, _, _>(
         heap,
         &mut archive,
