@@ -37,3 +37,18 @@ pub struct RecordFault {
     /// the end record. It is 0 for the magic.
     pub offset: u128,
 }
+
+impl RecordFault {
+    ghost use Rattle.std.specs.Prelude.{◌≡◌};
+    ghost use Rattle.archive_records.specs.declared.fault.RecordFaultKind.TheVariants.{OutOfMemory};
+
+    /// Want of memory behind so many bytes.
+    pub(crate) fn out_of_memory(offset: u128) -> RecordFault
+        ensures { result ≡ record { kind = OutOfMemory; offset = offset } }
+    {
+        RecordFault {
+            kind: RecordFaultKind::OutOfMemory,
+            offset,
+        }
+    }
+}

@@ -12,7 +12,7 @@ ghost use Rattle.archive_records.specs.Fault.{IsOperationsFault, IsOfText};
 ghost use Rattle.archive_records.specs.Front.{IsFrontLengthOf, IsLongestLengthOf};
 ghost use Rattle.archive_records.specs.Reading.{HasStopped, Lists, AreRead};
 
-use crate::fault::{RecordFault, RecordFaultKind};
+use crate::fault::RecordFault;
 use crate::kind::FileKind;
 use crate::reader::RecordReader;
 use crate::reading::{operation_of, shared};
@@ -57,10 +57,7 @@ fn push_records<R: Source>(
             Err(fault) => return Err(fault),
         }
         if let Err(_) = push_record(operations, heap, &reader.buffer.bytes) {
-            return Err(RecordFault {
-                kind: RecordFaultKind::OutOfMemory,
-                offset: reader.offset,
-            });
+            return Err(RecordFault::out_of_memory(reader.offset));
         }
     }
 }
@@ -94,10 +91,7 @@ fn list_taken<R: Source>(heap: Heap, r: &mut R) -> Result<Vec<Operation, Heap>, 
     ensures unfailed { OnOk result (R.failures r.new ≡ R.failures r.old) }
 {
     let Ok((own, buffers)) = shared(&heap) else {
-        return Err(RecordFault {
-            kind: RecordFaultKind::OutOfMemory,
-            offset: 0,
-        });
+        return Err(RecordFault::out_of_memory(0));
     };
     let reader = RecordReader::begin(buffers, FileKind::Operations, r)?;
     list_rest(&heap, Vec::new(own), reader, r)

@@ -108,10 +108,7 @@ impl RecordReader {
         ensures unfailed { OnOk result (R.failures r.new ≡ R.failures r.old) }
     {
         let Ok(mut chunk) = chunk_of(CHUNK, &heap) else {
-            return Err(RecordFault {
-                kind: RecordFaultKind::OutOfMemory,
-                offset: 0,
-            });
+            return Err(RecordFault::out_of_memory(0));
         };
         let mut buffer = Buffer {
             bytes: Vec::new(heap),
@@ -158,10 +155,7 @@ impl RecordReader {
             }
             Ok(false) => {
                 if self.count == MOST {
-                    return Err(RecordFault {
-                        kind: RecordFaultKind::OutOfMemory,
-                        offset,
-                    });
+                    return Err(RecordFault::out_of_memory(offset));
                 }
                 self.count += 1;
                 self.offset = offset;

@@ -13,7 +13,7 @@ ghost use Rattle.archive_records.specs.Fault.{IsFault, IsOfText};
 ghost use Rattle.archive_records.specs.Front.{IsFrontLength, IsLongestLength};
 ghost use Rattle.archive_records.specs.Reading.{HasStopped, Makes, MakesAll, IsReadTo};
 
-use crate::fault::{RecordFault, RecordFaultKind};
+use crate::fault::RecordFault;
 use crate::head::{ADMISSION_HEAD_LEN, RETIREMENT, digest_in, key_in};
 use crate::kind::FileKind;
 use crate::reader::RecordReader;
@@ -69,10 +69,7 @@ fn take_records<A: Archive, R: Source>(
             Err(fault) => return Err(fault),
         }
         if let Err(_) = take_record(archive, heap, &reader.buffer.bytes) {
-            return Err(RecordFault {
-                kind: RecordFaultKind::OutOfMemory,
-                offset: reader.offset,
-            });
+            return Err(RecordFault::out_of_memory(reader.offset));
         }
     }
 }
@@ -119,10 +116,7 @@ fn read_text<A: Archive + Drop, R: Source>(
     ensures unfailed { OnOk result (R.failures r.new ≡ R.failures r.old) }
 {
     let Ok((own, buffers)) = shared(&heap) else {
-        return Err(RecordFault {
-            kind: RecordFaultKind::OutOfMemory,
-            offset: 0,
-        });
+        return Err(RecordFault::out_of_memory(0));
     };
     let reader = RecordReader::begin(buffers, FileKind::Archive, r)?;
     read_rest(&heap, A::empty(own), reader, r)

@@ -16,7 +16,8 @@ returns-in-Err-clause-stopped g c = λ a start.
 
 pub returns-in-Err-push_record-clause-stopped : goal.returns-in-Err-push_record-clause-stopped
 returns-in-Err-push_record-clause-stopped g c = λ a start.
-    HasStopped-unlisted a _ _ _ c.pushing.reader c.advance.new.self (λ records. c.in-Ok-false.ensures.item c.in-Ok-false.field-0-test Operations a records) c.in-Ok-false.ensures.few (c.pushing.invariant.lists a start)
+    rw c.out_of_memory.ensures
+    (HasStopped-unlisted a _ _ _ c.pushing.reader c.advance.new.self (λ records. c.in-Ok-false.ensures.item c.in-Ok-false.field-0-test Operations a records) c.in-Ok-false.ensures.few (c.pushing.invariant.lists a start))
 
 pub pushing-preserved : goal.pushing-preserved
 pushing-preserved g c =

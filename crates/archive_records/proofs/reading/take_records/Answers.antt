@@ -15,7 +15,8 @@ returns-in-Err-clause-stopped g c = λ a start.
 
 pub returns-in-Err-take_record-clause-stopped : goal.returns-in-Err-take_record-clause-stopped
 returns-in-Err-take_record-clause-stopped g c = λ a start.
-    HasStopped-unkept a _ _ _ c.taking.reader c.advance.new.self (λ records. c.in-Ok-false.ensures.item c.in-Ok-false.field-0-test Archive a records) c.in-Ok-false.ensures.few (c.taking.invariant.makes a start)
+    rw c.out_of_memory.ensures
+    (HasStopped-unkept a _ _ _ c.taking.reader c.advance.new.self (λ records. c.in-Ok-false.ensures.item c.in-Ok-false.field-0-test Archive a records) c.in-Ok-false.ensures.few (c.taking.invariant.makes a start))
 
 pub taking-preserved : goal.taking-preserved
 taking-preserved g c =

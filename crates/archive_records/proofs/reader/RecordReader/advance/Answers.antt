@@ -20,7 +20,8 @@ returns-else-self-eq-MOST-clause-item g c =
 pub returns-then-self-eq-MOST-clause-stopped : goal.returns-then-self-eq-MOST-clause-stopped
 returns-then-self-eq-MOST-clause-stopped g c =
     let offset = ap (λ n. c.args.self.now.offset + n) (c.len.ensures ∙ c.args.self.now.buffer.bytes.ok.0) in
-    λ file a records h. Stopped-fails file a _ _ records (bytes_so_far c.read_next.new.buffer) OutOfMemory _ c.args.self.now h c.read_next.ensures.taken (λ known. absurd (known refl)) (λ known. absurd (known.1 refl)) c.requires.few offset
+    rw c.out_of_memory.ensures
+    (λ file a records h. Stopped-fails file a _ _ records (bytes_so_far c.read_next.new.buffer) OutOfMemory _ c.args.self.now h c.read_next.ensures.taken (λ known. absurd (known refl)) (λ known. absurd (known.1 refl)) c.requires.few offset)
 
 pub returns-in-Err-clause-stopped : goal.returns-in-Err-clause-stopped
 returns-in-Err-clause-stopped g c =
