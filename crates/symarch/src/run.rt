@@ -10,6 +10,7 @@ use archive_lines::{CannotCreate, CommandFault, Status};
 use byte_device::Writing;
 use command_line::{LineFault, Plan, plan};
 use memory::Heap;
+use std::fs::File;
 use std::process::ExitCode;
 use std::rt::{Env, Files};
 use std::{env, io};
@@ -26,6 +27,10 @@ const OUT_OF_MEMORY: u8 = 4;
 
 /// Carries out what the words of the command line ask for, and tells the exit status.
 pub fn run<R: Files + Env + Print + Eprint + AllocGlobal>(rt: &R) -> ExitCode {
+    // Where a standard stream is closed, one of these takes its place, and not OUT, which would get what is printed.
+    let _input = File::open(rt, "/dev/null");
+    let _output = File::open(rt, "/dev/null");
+    let _error = File::open(rt, "/dev/null");
     let words = match env::args(rt) {
         Ok(words) => words,
         Err(_) => return refuse_line(rt, "error: a word is no UTF-8 text\n"),
