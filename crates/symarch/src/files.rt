@@ -13,7 +13,8 @@ use std::rt::Files;
 /// How often a device fails at most.
 const MOST_FAILURES: u64 = u64::MAX;
 
-/// OUT: a file that is created when the first bytes for it come, so that a command that is refused leaves none.
+/// OUT: a file that is created when the first bytes for it come, so that a command that is refused leaves none. A push of no
+/// bytes creates none.
 #[derive(Drop)]
 pub struct OutFile<'a, F: Files> {
     files: &'a F,
@@ -74,8 +75,11 @@ impl<'a, F: Files> Sink for OutFile<'a, F> {
         if self.failures == MOST_FAILURES {
             return Err(Failed);
         }
+        if bytes.is_empty() {
+            return Ok(0);
+        }
         match self.write(bytes) {
-            Some(n) if n > 0 || bytes.is_empty() => Ok(n),
+            Some(n) if n > 0 => Ok(n),
             _ => {
                 self.failures += 1;
                 Err(Failed)
