@@ -35,6 +35,6 @@ module _ (no_fault : (text : List ℕ) (operations : List Operation) (fault : Re
       → IsFirstApplyRefused left_in failures_in left failures in_old in_new old new place why → IsDeviceFault why
   operations_not_refused left_in failures_in left failures in_alone in_old in_new old new o text operations place why content few given ops_given is refused =
       elim refused [
-        | inl p ↦ in_alone in_old in_new o why content few given p.1
+        | inl p ↦ in_alone in_old in_new o why content few given p.0.1
         | inr p ↦ ops left failures old new text operations why ops_given is p.1.1
       ]

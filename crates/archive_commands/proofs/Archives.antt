@@ -31,7 +31,7 @@ pub archives_not_refused : {R S : Type 0} (left_in : R → Option (List ℕ)) (f
     → IsFirstArchiveRefused left_in failures_in left failures in_old in_new old new place why → IsDeviceFault why
 archives_not_refused left_in failures_in left failures in_alone alone in_old in_new old new o contents place why content few are all_few given files refused =
     elim refused [
-      | inl p ↦ in_alone in_old in_new o why content few given p.1
+      | inl p ↦ in_alone in_old in_new o why content few given p.0.1
       | inr p ↦
           let at = p.1.3 in
           let found = content_at left old contents p.1.0 at.before files are all_few at.before_is in

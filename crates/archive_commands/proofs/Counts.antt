@@ -1,5 +1,5 @@
 -- The operations of `apply`, one after another.
-use Rattle.std.proofs.Common.{◌≡◌, ℕ, ◌+◌, ◌-◌, ◌≤◌, Bool, true, false, cond, List, [], ◌∷◌, length, map, Option, Result, refl, sym, ap, ◌∙◌, arith, inr}
+use Rattle.std.proofs.Common.{◌≡◌, ℕ, ◌+◌, ◌-◌, ◌≤◌, Bool, true, false, cond, List, [], ◌∷◌, length, map, Option, Result, refl, sym, ap, ◌∙◌, arith}
 use Rattle.std.specs.Prelude.{not}
 use Rattle.std.specs.FinSet as set
 use Rattle.std.specs.Int.{from_bool}
@@ -10,12 +10,8 @@ use Rattle.archive_core.specs.declared.operations.Operation.{Operation}
 use Rattle.archive_records.specs.Text.{IsOperationsText, written}
 use Rattle.archive_lines.specs.Report.{apply_line}
 use Rattle.archive_lines.specs.declared.faults.CannotOpen.{CannotOpen}
-use Rattle.archive_lines.specs.declared.faults.CommandFault.{CommandFault}
-use Rattle.archive_lines.specs.declared.faults.CommandFault.TheVariants.{Input, Output, Report, OutOfMemory}
 use Rattle.archive_commands.specs.Apply.{new_among, MakesApplied}
-use Rattle.archive_commands.specs.Inputs.{Gives, IsRefusedOps, IsFirstApplyRefused}
-use Rattle.archive_commands.specs.Leaves.{IsRefusal, IfInput, NothingWritten}
-use Rattle.archive_commands.proofs.Ending.{nothing}
+use Rattle.archive_commands.specs.Inputs.{Gives}
 
 -- what was taken counts where it was not there
 pub counted : (has changed : Bool) → changed ≡ not has → from_bool changed ≡ cond has 0 1
@@ -88,14 +84,6 @@ grown o (operation ∷ rest) =
     by_case : (has : Bool) (n more : ℕ) → cond has n (n + 1) + more ≡ n + (cond has 0 1 + more)
     by_case true n more = omega arith
     by_case false n more = omega arith
-
-pub ops_refused : {R S : Type 0} (left_in : R → Option (List ℕ)) (failures_in : R → ℕ) (left : S → Option (List ℕ)) (failures : S → ℕ) (in_old in_new : Result R CannotOpen) (old new : Result S CannotOpen) (o : Operations) (out report : Option (List ℕ)) (fault : CommandFault)
-    → IsContent o → Gives left_in in_old (λ text. text ≡ written o) → IsRefusal (IsRefusedOps left failures old new) fault
-    → IfInput fault (λ place why. IsFirstApplyRefused left_in failures_in left failures in_old in_new old new place why × NothingWritten out out report report)
-ops_refused left_in failures_in left failures in_old in_new old new o out report (Input at why) content gives refused = (inr ((o, content, gives), refused), nothing out report)
-ops_refused left_in failures_in left failures in_old in_new old new o out report (Output _) content gives refused = tt
-ops_refused left_in failures_in left failures in_old in_new old new o out report (Report _) content gives refused = tt
-ops_refused left_in failures_in left failures in_old in_new old new o out report OutOfMemory content gives refused = tt
 
 pub makes_applied : {R S : Type 0} (left_in : R → Option (List ℕ)) (left : S → Option (List ℕ)) (input : Result R CannotOpen) (ops : Result S CannotOpen) (o new_content : Operations) (operations : List Operation) (new known : ℕ) (lines : List ℕ)
     → IsContent o → Gives left_in input (λ text. text ≡ written o) → Gives left ops (λ text. IsOperationsText text operations)

@@ -11,7 +11,7 @@ use Rattle.archive_exchange.proofs.Rows.{admitted-append}
 use Rattle.archive_exchange.specs.File.{admissible, parts, IsAcceptedFile}
 use Rattle.archive_exchange.specs.Take.{admitted, taken_rows}
 use Rattle.archive_commands.specs.Admit.{images_of, file_rows, admit_rows, HasTaken}
-use Rattle.archive_commands.specs.Inputs.{Gives, GiveEach, IsRefusedFile, IsFirstFileRefused}
+use Rattle.archive_commands.specs.Inputs.{failures_of, Unfailed, EachUnfailed, Gives, GiveEach, IsRefusedFile, IsFirstFileRefused}
 use Rattle.archive_commands.specs.Leaves.{IsRefusal}
 use Rattle.archive_lines.specs.declared.faults.CommandFault.{CommandFault}
 use Rattle.archive_lines.specs.declared.faults.CommandFault.TheVariants.{Input, Output, Report, OutOfMemory}
@@ -103,9 +103,9 @@ numbers_kept {F} number old now i x after is same before =
 
 -- The file at a place is refused, and those before it are taken.
 pub refused_at : {S : Type 0} (left : S → Option (List ℕ)) (failures : S → ℕ) (files now : List (Result S CannotOpen)) (place : ℕ) (file after : Result S CannotOpen) (o mid : Operations) (rows : List AdmitRow) (fault : CommandFault)
-    → place < length files → length now ≡ length files → file ≡ get_or files place file → HasTaken left (take place files) o mid rows
-    → IsRefusal (IsRefusedFile left failures place file after) fault → IsRefusal (IsFirstFileRefused left failures files (set now place after)) fault
-refused_at left failures files now place file after o mid rows (Input at why) lt long is taken refused =
+    → place < length files → length now ≡ length files → file ≡ get_or files place file → HasTaken left (take place files) o mid rows → file ≡ get_or now place file → drop place now ≡ drop place files → EachUnfailed failures files now
+    → IsRefusal (IsRefusedFile left failures place file after) (Unfailed failures file after) fault → IsRefusal (IsFirstFileRefused left failures files (set now place after)) (EachUnfailed failures files (set now place after)) fault
+refused_at left failures files now place file after o mid rows (Input at why) lt long is taken here rest each refused =
     rw refused.0 (
       (taken.texts, taken.files_are, taken.accepted),
       record {
@@ -115,7 +115,8 @@ refused_at left failures files now place file after o mid rows (Input at why) lt
         after_is = slice_get-get_or (set now place after) place after (omega (arith, length-set now place after)) ∙ ap Some (get_or-set_same now place after after (omega arith));
         refused = refused.1;
       },
+      rest_kept now files place after rest,
     )
-refused_at left failures files now place file after o mid rows (Output _) lt long is taken refused = absurd refused
-refused_at left failures files now place file after o mid rows (Report _) lt long is taken refused = absurd refused
-refused_at left failures files now place file after o mid rows OutOfMemory lt long is taken refused = tt
+refused_at left failures files now place file after o mid rows (Output _) lt long is taken here rest each refused = absurd refused
+refused_at left failures files now place file after o mid rows (Report _) lt long is taken here rest each refused = absurd refused
+refused_at left failures files now place file after o mid rows OutOfMemory lt long is taken here rest each refused = numbers_kept (failures_of failures) files now place file after here refused each

@@ -1,5 +1,5 @@
 -- The archives of `merge`, one more at a time.
-use Rattle.std.proofs.Common.{◌≡◌, ℕ, ◌+◌, ◌<◌, List, [], ◌∷◌, ◌++◌, length, map, take, get_or, set, Option, Some, Result, refl, sym, ap, ◌∙◌, subst, arith, add-one, inr}
+use Rattle.std.proofs.Common.{◌≡◌, ℕ, ◌+◌, ◌<◌, List, [], ◌∷◌, ◌++◌, length, map, take, drop, get_or, set, Option, Some, Result, refl, sym, ap, ◌∙◌, subst, arith, add-one}
 use Rattle.std.specs.List.{AllByRecursion}
 use Rattle.std.proofs.lemmas.List.{get_or-set_same}
 use Rattle.std.proofs.lemmas.List.Sums.{fold-append}
@@ -11,10 +11,10 @@ use Rattle.archive_records.specs.Text.{written}
 use Rattle.archive_lines.specs.declared.faults.CannotOpen.{CannotOpen}
 use Rattle.archive_lines.specs.declared.faults.CommandFault.{CommandFault}
 use Rattle.archive_lines.specs.declared.faults.CommandFault.TheVariants.{Input, Output, Report, OutOfMemory}
-use Rattle.archive_commands.specs.Inputs.{Gives, GiveEach, IsRefusedArchive, IsFirstJoinRefused, IsFirstArchiveRefused}
-use Rattle.archive_commands.specs.Leaves.{IsRefusal, IfInput, NothingWritten}
+use Rattle.archive_commands.specs.Inputs.{failures_of, Unfailed, EachUnfailed, Gives, GiveEach, IsRefusedArchive, IsFirstJoinRefused}
+use Rattle.archive_commands.proofs.Files.{numbers_kept, rest_kept}
+use Rattle.archive_commands.specs.Leaves.{IsRefusal}
 use Rattle.archive_commands.specs.Merge.{HasJoined, MakesMerged}
-use Rattle.archive_commands.proofs.Ending.{nothing}
 
 contents_more : (contents : List Operations) (other : Operations) → AllByRecursion IsContent contents → IsContent other → AllByRecursion IsContent (contents ++ other ∷ [])
 contents_more [] other are is = (is, tt)
@@ -47,9 +47,9 @@ module _ {S : Type 0} (left : S → Option (List ℕ)) where
 
 -- The file at a place is refused, and those before it are joined.
 pub join_refused_at : {S : Type 0} (left : S → Option (List ℕ)) (failures : S → ℕ) (files now : List (Result S CannotOpen)) (place : ℕ) (file after : Result S CannotOpen) (o mid : Operations) (fault : CommandFault)
-    → place < length files → length now ≡ length files → file ≡ get_or files place file → HasJoined left (take place files) o mid
-    → IsRefusal (IsRefusedArchive left failures (place + 1) file after) fault → IsRefusal (IsFirstJoinRefused left failures files (set now place after)) fault
-join_refused_at left failures files now place file after o mid (Input at why) lt long is before refused = (
+    → place < length files → length now ≡ length files → file ≡ get_or files place file → HasJoined left (take place files) o mid → file ≡ get_or now place file → drop place now ≡ drop place files → EachUnfailed failures files now
+    → IsRefusal (IsRefusedArchive left failures (place + 1) file after) (Unfailed failures file after) fault → IsRefusal (IsFirstJoinRefused left failures files (set now place after)) (EachUnfailed failures files (set now place after)) fault
+join_refused_at left failures files now place file after o mid (Input at why) lt long is before here rest each refused = (
   place,
   refused.0,
   record { contents = before.contents; are_contents = before.are_contents; files_are = before.files_are },
@@ -60,18 +60,11 @@ join_refused_at left failures files now place file after o mid (Input at why) lt
     after_is = slice_get-get_or (set now place after) place after (omega (arith, length-set now place after)) ∙ ap Some (get_or-set_same now place after after (omega arith));
     refused = refused.1;
   },
+  rest_kept now files place after rest,
 )
-join_refused_at left failures files now place file after o mid (Output _) lt long is before refused = absurd refused
-join_refused_at left failures files now place file after o mid (Report _) lt long is before refused = absurd refused
-join_refused_at left failures files now place file after o mid OutOfMemory lt long is before refused = tt
-
-pub file_refused : {R S : Type 0} (left_in : R → Option (List ℕ)) (failures_in : R → ℕ) (left : S → Option (List ℕ)) (failures : S → ℕ) (in_old in_new : Result R CannotOpen) (old new : List (Result S CannotOpen)) (o : Operations) (out report : Option (List ℕ)) (fault : CommandFault)
-    → IsContent o → Gives left_in in_old (λ text. text ≡ written o) → IsRefusal (IsFirstJoinRefused left failures old new) fault
-    → IfInput fault (λ place why. IsFirstArchiveRefused left_in failures_in left failures in_old in_new old new place why × NothingWritten out out report report)
-file_refused left_in failures_in left failures in_old in_new old new o out report (Input at why) content gives refused = (inr ((o, content, gives), refused), nothing out report)
-file_refused left_in failures_in left failures in_old in_new old new o out report (Output _) content gives refused = tt
-file_refused left_in failures_in left failures in_old in_new old new o out report (Report _) content gives refused = tt
-file_refused left_in failures_in left failures in_old in_new old new o out report OutOfMemory content gives refused = tt
+join_refused_at left failures files now place file after o mid (Output _) lt long is before here rest each refused = absurd refused
+join_refused_at left failures files now place file after o mid (Report _) lt long is before here rest each refused = absurd refused
+join_refused_at left failures files now place file after o mid OutOfMemory lt long is before here rest each refused = numbers_kept (failures_of failures) files now place file after here refused each
 
 pub makes_merged : {R S : Type 0} (left_in : R → Option (List ℕ)) (left : S → Option (List ℕ)) (input : Result R CannotOpen) (files : List (Result S CannotOpen)) (o new : Operations) (lines : List ℕ)
     → IsContent o → Gives left_in input (λ text. text ≡ written o) → HasJoined left files o new → lines ≡ []

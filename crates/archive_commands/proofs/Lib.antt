@@ -1,4 +1,4 @@
-pub mod Ending
+pub mod Endings
 pub mod Files
 pub mod Rows
 pub mod Orders

@@ -1,5 +1,5 @@
 -- The inputs of a command: which are refused, and why.
-use Rattle.std.specs.Prelude.{◌≡◌, ◌≢◌, ℕ, ◌+◌, List, [], ◌∷◌, map, take, Option, Some, None, IfSome, Result, Ok, Err, slice_get, ◌⊎◌}
+use Rattle.std.specs.Prelude.{◌≡◌, ◌≢◌, ℕ, ◌+◌, List, [], ◌∷◌, map, take, drop, Option, Some, None, IfSome, Result, Ok, Err, slice_get, ◌⊎◌}
 use Rattle.std.specs.Io.KnownBytes.{Consumes}
 use Rattle.std.specs.List.{AllByRecursion}
 use Rattle.byte_device.specs.Devices.{FailedIn}
@@ -91,19 +91,20 @@ pub record IsRefusedAt {S : Type 0} (IsRefused : Result S CannotOpen → Result 
   pub after_is : slice_get new place ≡ Some after
   pub refused : IsRefused before after why
 
--- The files before this place are accepted, and the one at it is refused.
+-- The files before this place are accepted, and the one at it is refused; those behind it are as they were.
 abbrev pub IsFirstFileRefused : {S : Type 0} → (S → Option (List ℕ)) → (S → ℕ) → List (Result S CannotOpen) → List (Result S CannotOpen) → Place → Why → Type 0
 IsFirstFileRefused left failures old new Ops why = ⊥
 IsFirstFileRefused left failures old new (Archive place) why = ⊥
 IsFirstFileRefused left failures old new (File place) why =
     ((texts : List (List ℕ)) × GiveEach left (take place old) texts × AllByRecursion IsAcceptedFile texts)
     × IsRefusedAt (IsFileRefused left failures) old new place why
+    × (drop (place + 1) new ≡ drop (place + 1) old)
 
 -- The first input that is refused, in the order of the words: the archive, or where that is accepted the first such file.
 abbrev pub IsFirstRefused : {R S : Type 0} → (R → Option (List ℕ)) → (R → ℕ) → (S → Option (List ℕ)) → (S → ℕ) → Result R CannotOpen → Result R CannotOpen
     → List (Result S CannotOpen) → List (Result S CannotOpen) → Place → Why → Type 0
 IsFirstRefused left_in failures_in left failures in_old in_new old new Ops why = ⊥
-IsFirstRefused left_in failures_in left failures in_old in_new old new (Archive place) why = (place ≡ 0) × IsArchiveRefused left_in failures_in in_old in_new why
+IsFirstRefused left_in failures_in left failures in_old in_new old new (Archive place) why = (place ≡ 0) × IsArchiveRefused left_in failures_in in_old in_new why × (new ≡ old)
 IsFirstRefused left_in failures_in left failures in_old in_new old new (File place) why =
     ((o : Operations) × IsContent o × Gives left_in in_old (λ text. text ≡ written o))
     × IsFirstFileRefused left failures old new (File place) why
@@ -133,17 +134,18 @@ pub record AreArchives {S : Type 0} (left : S → Option (List ℕ)) (files : Li
   pub are_contents : AllByRecursion IsContent contents
   pub files_are : GiveEach left files (map written contents)
 
--- The files before this place are archives, and the one at it is refused.
+-- The files before this place are archives, and the one at it is refused; those behind it are as they were.
 abbrev pub IsFirstJoinRefused : {S : Type 0} → (S → Option (List ℕ)) → (S → ℕ) → List (Result S CannotOpen) → List (Result S CannotOpen) → Place → Why → Type 0
 IsFirstJoinRefused left failures old new at why =
     (place : ℕ) × (at ≡ Archive (place + 1)) × AreArchives left (take place old)
     × IsRefusedAt (IsArchiveRefused left failures) old new place why
+    × (drop (place + 1) new ≡ drop (place + 1) old)
 
 -- The first archive that is refused, in the order of the words: IN, which is archive 0, or where that is accepted the first such file.
 abbrev pub IsFirstArchiveRefused : {R S : Type 0} → (R → Option (List ℕ)) → (R → ℕ) → (S → Option (List ℕ)) → (S → ℕ) → Result R CannotOpen → Result R CannotOpen
     → List (Result S CannotOpen) → List (Result S CannotOpen) → Place → Why → Type 0
 IsFirstArchiveRefused left_in failures_in left failures in_old in_new old new at why =
-    IsRefusedArchive left_in failures_in 0 in_old in_new at why
+    (IsRefusedArchive left_in failures_in 0 in_old in_new at why × (new ≡ old))
     ⊎ (((o : Operations) × IsContent o × Gives left_in in_old (λ text. text ≡ written o)) × IsFirstJoinRefused left failures old new at why)
 
 -- why an operations file is not applied, between these states of the input: it was not opened, its text has this fault, or the
@@ -163,5 +165,5 @@ IsRefusedOps left failures old new at why = (at ≡ Ops) × IsOpsRefused left fa
 abbrev pub IsFirstApplyRefused : {R S : Type 0} → (R → Option (List ℕ)) → (R → ℕ) → (S → Option (List ℕ)) → (S → ℕ) → Result R CannotOpen → Result R CannotOpen
     → Result S CannotOpen → Result S CannotOpen → Place → Why → Type 0
 IsFirstApplyRefused left_in failures_in left failures in_old in_new old new at why =
-    IsRefusedArchive left_in failures_in 0 in_old in_new at why
+    (IsRefusedArchive left_in failures_in 0 in_old in_new at why × (new ≡ old))
     ⊎ (((o : Operations) × IsContent o × Gives left_in in_old (λ text. text ≡ written o)) × IsRefusedOps left failures old new at why)

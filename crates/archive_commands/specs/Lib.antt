@@ -1,6 +1,6 @@
 pub mod Inputs
 pub mod Leaves
-pub mod Tells
+pub mod Ends
 pub mod Admit
 pub mod Retire
 pub mod Find

@@ -1,11 +1,12 @@
 //! `admit IN OUT FILE...`.
-ghost use Rattle.std.specs.Prelude.{◌≡◌, ◌++◌, ◌⊎◌, ℕ, List, OnOk, OnErr, IfOk, IfErr};
+ghost use Rattle.std.specs.Prelude.{◌≡◌, ◌++◌, ℕ, List, OnOk, OnErr, IfOk, IfErr};
 ghost use Rattle.archive_core.specs.Content.{Operations};
 ghost use Rattle.archive_exchange.specs.File.{admissible, parts, IsAcceptedFile, IsTakeFault};
 ghost use Rattle.archive_exchange.specs.Take.{admitted, taken_rows};
 ghost use Rattle.archive_commands.specs.Admit.{file_rows, HasTaken, MakesAdmitted};
 ghost use Rattle.archive_commands.specs.Inputs.{EachUnfailed, Gives, IsRefusedBytes, IsRefusedFile, IsFirstFileRefused, IsFirstRefused, Unfailed};
-ghost use Rattle.archive_commands.specs.Leaves.{IfInput, IfWriter, IfMemory, IsCarriedOut, IsRefusal, NothingWritten, WriterFailed, WritersUnfailed};
+ghost use Rattle.archive_commands.specs.Leaves.{IsRefusal};
+ghost use Rattle.archive_commands.specs.Ends.{Ends, writer};
 
 use crate::publish::publish;
 use crate::sources::{read_file, read_input};
@@ -17,7 +18,7 @@ use memory::{Heap, NoMemory};
 
 /// The refusal of a file at a place, whose bytes have this fault.
 fn refusal(place: u64, fault: TakeFault) -> CommandFault
-    ensures refused { (bytes : List ℕ) → IsTakeFault bytes fault → IsRefusal (IsRefusedBytes place bytes) result }
+    ensures refused { (bytes : List ℕ) → IsTakeFault bytes fault → IsRefusal (IsRefusedBytes place bytes) (Unit {0}) result }
 {
     match fault {
         TakeFault::OutOfMemory => CommandFault::OutOfMemory,
@@ -34,7 +35,7 @@ fn take_bytes<A: Archive>(
     ensures accepted { OnOk result (IsAcceptedFile bytes.items) }
     ensures content { OnOk result (A.content archive.new ≡ admitted (A.content archive.old) (admissible bytes.items)) }
     ensures rows { IfOk result (λ taken. taken.items ≡ taken_rows (A.content archive.old) (parts bytes.items)) }
-    ensures refused { IfErr result (IsRefusal (IsRefusedBytes place bytes.items)) }
+    ensures refused { IfErr result (IsRefusal (IsRefusedBytes place bytes.items) (Unit {0})) }
 {
     match take_file(archive, bytes) {
         Ok(taken) => Ok(taken),
@@ -70,7 +71,7 @@ fn admit_file<A: Archive, S: Source>(
         × (A.content archive.new ≡ admitted (A.content archive.old) (admissible bytes))
         × (rows.new.items ≡ rows.old.items ++ file_rows place 0 (taken_rows (A.content archive.old) (parts bytes)))) }
     ensures unfailed { OnOk result (Unfailed S.failures file.old file.new) }
-    ensures refused { IfErr result (IsRefusal (IsRefusedFile S.left S.failures place file.old file.new)) }
+    ensures refused { IfErr result (IsRefusal (IsRefusedFile S.left S.failures place file.old file.new) (Unfailed S.failures file.old file.new)) }
 {
     let bytes = read_file(heap.clone()?, place, file)?;
     let taken = take_bytes(archive, place, bytes)?;
@@ -86,7 +87,7 @@ fn admit_files<A: Archive, S: Source>(
 ) -> Result<Vec<AdmitRow, Heap>, CommandFault>
     ensures taken { IfOk result (λ rows. HasTaken S.left files.old (A.content archive.old) (A.content archive.new) rows.items) }
     ensures unfailed { OnOk result (EachUnfailed S.failures files.old files.new) }
-    ensures refused { IfErr result (IsRefusal (IsFirstFileRefused S.left S.failures files.old files.new)) }
+    ensures refused { IfErr result (IsRefusal (IsFirstFileRefused S.left S.failures files.old files.new) (EachUnfailed S.failures files.old files.new)) }
 {
     let mut rows = Vec::new(heap.clone()?);
     'files: for (place, file) in files.iter_mut().enumerate() {
@@ -108,21 +109,10 @@ pub fn run_admit<A: Archive + Drop, R: Source, S: Source, W: Sink, P: Sink>(
     out: &mut W,
     report: &mut P,
 ) -> Result<Status, CommandFault>
-    // On success the inputs are accepted, and OUT and the report hold what they make.
-    ensures admitted { OnOk result (IsCarriedOut (MakesAdmitted R.left S.left input.old files.old) (W.held out.old) (W.held out.new) (P.held report.old) (P.held report.new) result) }
-
-    // The first input that is refused, in the order of the words; nothing was written then.
-    ensures refused { IfErr result (λ fault. IfInput fault (λ place why. IsFirstRefused R.left R.failures S.left S.failures input.old input.new files.old files.new place why × NothingWritten (W.held out.old) (W.held out.new) (P.held report.old) (P.held report.new))) }
-
-    // A writer failed: the inputs are accepted, and it has exactly a beginning of its text.
-    ensures stopped { IfErr result (λ fault. IfWriter fault (IsCarriedOut (MakesAdmitted R.left S.left input.old files.old) (W.held out.old) (W.held out.new) (P.held report.old) (P.held report.new) result)) }
-    ensures failed { IfErr result (λ fault. WriterFailed fault (W.failures out.old) (W.failures out.new) (P.failures report.old) (P.failures report.new)) }
-
-    // On success no device failed: nothing is tried again.
-    ensures unfailed { OnOk result (Unfailed R.failures input.old input.new × EachUnfailed S.failures files.old files.new × WritersUnfailed (W.failures out.old) (W.failures out.new) (P.failures report.old) (P.failures report.new)) }
-
-    // After want of memory the report has nothing, and OUT nothing or its whole text.
-    ensures memory { IfErr result (λ fault. IfMemory fault (NothingWritten (W.held out.old) (W.held out.new) (P.held report.old) (P.held report.new) ⊎ IsCarriedOut (MakesAdmitted R.left S.left input.old files.old) (W.held out.old) (W.held out.new) (P.held report.old) (P.held report.new) result)) }
+    ensures { Ends (Unfailed R.failures input.old input.new × EachUnfailed S.failures files.old files.new)
+        (MakesAdmitted R.left S.left input.old files.old)
+        (IsFirstRefused R.left R.failures S.left S.failures input.old input.new files.old files.new)
+        (writer W.held W.failures out.old out.new) (writer P.held P.failures report.old report.new) result }
 {
     let mut archive: A = read_input(heap.clone()?, 0, input)?;
     let rows = admit_files(&heap, &mut archive, files)?;

@@ -1,11 +1,11 @@
 //! `apply IN OUT OPS`.
-ghost use Rattle.std.specs.Prelude.{◌≡◌, ◌⊎◌, ◌≤◌, cond, length, map, OnOk, IfOk, IfErr};
+ghost use Rattle.std.specs.Prelude.{◌≡◌, ◌≤◌, cond, length, map, OnOk, IfOk};
 ghost use Rattle.std.specs.FinSet as set;
 ghost use Rattle.archive_core.specs.Content.{with_record, with_records};
 ghost use Rattle.archive_core.specs.Record.{rec};
 ghost use Rattle.archive_commands.specs.Apply.{new_among, MakesApplied};
 ghost use Rattle.archive_commands.specs.Inputs.{IsFirstApplyRefused, Unfailed};
-ghost use Rattle.archive_commands.specs.Leaves.{IfInput, IfWriter, IfMemory, IsCarriedOut, NothingWritten, WriterFailed, WritersUnfailed};
+ghost use Rattle.archive_commands.specs.Ends.{Ends, writer};
 
 use crate::publish::publish;
 use crate::sources::{read_input, read_operations};
@@ -52,21 +52,10 @@ pub fn run_apply<A: Archive + Drop, R: Source, S: Source, W: Sink, P: Sink>(
     out: &mut W,
     report: &mut P,
 ) -> Result<Status, CommandFault>
-    // On success the inputs are accepted, and OUT and the report hold what they make.
-    ensures applied { OnOk result (IsCarriedOut (MakesApplied R.left S.left input.old ops.old) (W.held out.old) (W.held out.new) (P.held report.old) (P.held report.new) result) }
-
-    // The first input that is refused, in the order of the words; nothing was written then.
-    ensures refused { IfErr result (λ fault. IfInput fault (λ place why. IsFirstApplyRefused R.left R.failures S.left S.failures input.old input.new ops.old ops.new place why × NothingWritten (W.held out.old) (W.held out.new) (P.held report.old) (P.held report.new))) }
-
-    // A writer failed: the inputs are accepted, and it has exactly a beginning of its text.
-    ensures stopped { IfErr result (λ fault. IfWriter fault (IsCarriedOut (MakesApplied R.left S.left input.old ops.old) (W.held out.old) (W.held out.new) (P.held report.old) (P.held report.new) result)) }
-    ensures failed { IfErr result (λ fault. WriterFailed fault (W.failures out.old) (W.failures out.new) (P.failures report.old) (P.failures report.new)) }
-
-    // On success no device failed: nothing is tried again.
-    ensures unfailed { OnOk result (Unfailed R.failures input.old input.new × Unfailed S.failures ops.old ops.new × WritersUnfailed (W.failures out.old) (W.failures out.new) (P.failures report.old) (P.failures report.new)) }
-
-    // After want of memory the report has nothing, and OUT nothing or its whole text.
-    ensures memory { IfErr result (λ fault. IfMemory fault (NothingWritten (W.held out.old) (W.held out.new) (P.held report.old) (P.held report.new) ⊎ IsCarriedOut (MakesApplied R.left S.left input.old ops.old) (W.held out.old) (W.held out.new) (P.held report.old) (P.held report.new) result)) }
+    ensures { Ends (Unfailed R.failures input.old input.new × Unfailed S.failures ops.old ops.new)
+        (MakesApplied R.left S.left input.old ops.old)
+        (IsFirstApplyRefused R.left R.failures S.left S.failures input.old input.new ops.old ops.new)
+        (writer W.held W.failures out.old out.new) (writer P.held P.failures report.old report.new) result }
 {
     let mut archive: A = read_input(heap.clone()?, 0, input)?;
     let operations = read_operations(heap.clone()?, ops)?;

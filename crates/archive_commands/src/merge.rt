@@ -1,9 +1,10 @@
 //! `merge IN OUT FILE...`.
-ghost use Rattle.std.specs.Prelude.{◌≡◌, ◌⊎◌, ◌+◌, OnOk, IfErr};
+ghost use Rattle.std.specs.Prelude.{◌≡◌, ◌+◌, OnOk, IfErr};
 ghost use Rattle.archive_core.specs.Content.{Operations, IsContent, joined};
 ghost use Rattle.archive_records.specs.Text.{written};
 ghost use Rattle.archive_commands.specs.Inputs.{EachUnfailed, Gives, IsRefusedArchive, IsFirstJoinRefused, IsFirstArchiveRefused, Unfailed};
-ghost use Rattle.archive_commands.specs.Leaves.{IfInput, IfWriter, IfMemory, IsCarriedOut, IsRefusal, NothingWritten, WriterFailed, WritersUnfailed};
+ghost use Rattle.archive_commands.specs.Leaves.{IsRefusal};
+ghost use Rattle.archive_commands.specs.Ends.{Ends, writer};
 ghost use Rattle.archive_commands.specs.Merge.{HasJoined, MakesMerged};
 
 use crate::publish::publish;
@@ -25,7 +26,7 @@ fn join_file<A: Archive + Drop, S: Source>(
         × Gives S.left file.old (λ text. text ≡ written other)
         × (A.content archive.new ≡ joined (A.content archive.old) other)) }
     ensures unfailed { OnOk result (Unfailed S.failures file.old file.new) }
-    ensures refused { IfErr result (IsRefusal (IsRefusedArchive S.left S.failures number file.old file.new)) }
+    ensures refused { IfErr result (IsRefusal (IsRefusedArchive S.left S.failures number file.old file.new) (Unfailed S.failures file.old file.new)) }
 {
     let other: A = read_input(heap, number, file)?;
     take_all(archive, &other)?;
@@ -40,7 +41,7 @@ fn join_files<A: Archive + Drop, S: Source>(
 ) -> Result<(), CommandFault>
     ensures joined { OnOk result (HasJoined S.left files.old (A.content archive.old) (A.content archive.new)) }
     ensures unfailed { OnOk result (EachUnfailed S.failures files.old files.new) }
-    ensures refused { IfErr result (IsRefusal (IsFirstJoinRefused S.left S.failures files.old files.new)) }
+    ensures refused { IfErr result (IsRefusal (IsFirstJoinRefused S.left S.failures files.old files.new) (EachUnfailed S.failures files.old files.new)) }
 {
     'files: for (place, file) in files.iter_mut().enumerate() {
         join_file(heap.clone()?, archive, place as u64 + 1, file)?;
@@ -62,21 +63,10 @@ pub fn run_merge<A: Archive + Drop, R: Source, S: Source, W: Sink, P: Sink>(
     out: &mut W,
     report: &mut P,
 ) -> Result<Status, CommandFault>
-    // On success the inputs are archives, and OUT and the report hold what their join makes.
-    ensures merged { OnOk result (IsCarriedOut (MakesMerged R.left S.left input.old files.old) (W.held out.old) (W.held out.new) (P.held report.old) (P.held report.new) result) }
-
-    // The first archive that is refused, in the order of the words; nothing was written then.
-    ensures refused { IfErr result (λ fault. IfInput fault (λ place why. IsFirstArchiveRefused R.left R.failures S.left S.failures input.old input.new files.old files.new place why × NothingWritten (W.held out.old) (W.held out.new) (P.held report.old) (P.held report.new))) }
-
-    // A writer failed: the inputs are archives, and it has exactly a beginning of its text.
-    ensures stopped { IfErr result (λ fault. IfWriter fault (IsCarriedOut (MakesMerged R.left S.left input.old files.old) (W.held out.old) (W.held out.new) (P.held report.old) (P.held report.new) result)) }
-    ensures failed { IfErr result (λ fault. WriterFailed fault (W.failures out.old) (W.failures out.new) (P.failures report.old) (P.failures report.new)) }
-
-    // On success no device failed: nothing is tried again.
-    ensures unfailed { OnOk result (Unfailed R.failures input.old input.new × EachUnfailed S.failures files.old files.new × WritersUnfailed (W.failures out.old) (W.failures out.new) (P.failures report.old) (P.failures report.new)) }
-
-    // After want of memory the report has nothing, and OUT nothing or its whole text.
-    ensures memory { IfErr result (λ fault. IfMemory fault (NothingWritten (W.held out.old) (W.held out.new) (P.held report.old) (P.held report.new) ⊎ IsCarriedOut (MakesMerged R.left S.left input.old files.old) (W.held out.old) (W.held out.new) (P.held report.old) (P.held report.new) result)) }
+    ensures { Ends (Unfailed R.failures input.old input.new × EachUnfailed S.failures files.old files.new)
+        (MakesMerged R.left S.left input.old files.old)
+        (IsFirstArchiveRefused R.left R.failures S.left S.failures input.old input.new files.old files.new)
+        (writer W.held W.failures out.old out.new) (writer P.held P.failures report.old report.new) result }
 {
     let mut archive: A = read_input(heap.clone()?, 0, input)?;
     join_files(&heap, &mut archive, files)?;

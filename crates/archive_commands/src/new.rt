@@ -1,8 +1,9 @@
 //! `new OUT`.
-ghost use Rattle.std.specs.Prelude.{IfErr, OnOk, []};
+ghost use Rattle.std.specs.Prelude.{[]};
 ghost use Rattle.std.specs.FinSet as set;
 ghost use Rattle.archive_records.specs.Text.{written};
-ghost use Rattle.archive_commands.specs.Leaves.{Leaves, WriterFailed, WritersUnfailed, report_of};
+ghost use Rattle.archive_commands.specs.Leaves.{report_of};
+ghost use Rattle.archive_commands.specs.Ends.{Publishes, writer};
 
 use crate::publish::publish;
 use archive_core::Archive;
@@ -20,11 +21,7 @@ pub fn run_new<A: Archive + Drop, W: Sink, P: Sink>(
     out: &mut W,
     report: &mut P,
 ) -> Result<Status, CommandFault>
-    ensures leaves { Leaves (W.held out.old) (W.held out.new) (P.held report.old) (P.held report.new) (written set.empty) (report_of set.empty []) result }
-    ensures failed { IfErr result (λ fault. WriterFailed fault (W.failures out.old) (W.failures out.new) (P.failures report.old) (P.failures report.new)) }
-
-    // On success neither writer failed: nothing is tried again.
-    ensures unfailed { OnOk result (WritersUnfailed (W.failures out.old) (W.failures out.new) (P.failures report.old) (P.failures report.new)) }
+    ensures { Publishes (writer W.held W.failures out.old out.new) (writer P.held P.failures report.old report.new) (written set.empty) (report_of set.empty []) result }
 {
     let archive = A::empty(heap.clone()?);
     publish(&archive, String::new(heap), out, report)

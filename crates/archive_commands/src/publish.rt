@@ -1,8 +1,8 @@
 //! The end of each command that writes an archive: OUT, and then the report.
-ghost use Rattle.std.specs.Prelude.{◌≡◌, IfErr, OnOk, string_bytes};
+ghost use Rattle.std.specs.Prelude.{string_bytes};
 ghost use Rattle.archive_records.specs.Text.{written};
-ghost use Rattle.archive_commands.specs.Leaves.{Leaves, WriterFailed, WritersUnfailed, report_of};
-ghost use Rattle.archive_commands.specs.Tells.{ReportFailed, Tells};
+ghost use Rattle.archive_commands.specs.Leaves.{report_of};
+ghost use Rattle.archive_commands.specs.Ends.{Publishes, Reports, writer};
 
 use archive_core::Archive;
 use archive_lines::{CommandFault, Status, with_sizes};
@@ -18,9 +18,7 @@ pub(crate) fn publish<A: Archive, W: Sink, P: Sink>(
     out: &mut W,
     report: &mut P,
 ) -> Result<Status, CommandFault>
-    ensures leaves { Leaves (W.held out.old) (W.held out.new) (P.held report.old) (P.held report.new) (written (A.content archive.now)) (report_of (A.content archive.now) (string_bytes lines)) result }
-    ensures failed { IfErr result (λ fault. WriterFailed fault (W.failures out.old) (W.failures out.new) (P.failures report.old) (P.failures report.new)) }
-    ensures unfailed { OnOk result (WritersUnfailed (W.failures out.old) (W.failures out.new) (P.failures report.old) (P.failures report.new)) }
+    ensures published { Publishes (writer W.held W.failures out.old out.new) (writer P.held P.failures report.old report.new) (written (A.content archive.now)) (report_of (A.content archive.now) (string_bytes lines)) result }
 {
     let sizes = match write_archive(archive, out) {
         Ok(sizes) => sizes,
@@ -39,9 +37,7 @@ pub(crate) fn tell<P: Sink>(
     text: &str,
     report: &mut P,
 ) -> Result<Status, CommandFault>
-    ensures tells { Tells (P.held report.old) (P.held report.new) status text.now result }
-    ensures failed { IfErr result (λ fault. ReportFailed fault (P.failures report.old) (P.failures report.new)) }
-    ensures unfailed { OnOk result (P.failures report.new ≡ P.failures report.old) }
+    ensures { Reports (writer P.held P.failures report.old report.new) status text.now result }
 {
     match push_all(report, text.as_bytes()) {
         Ok(()) => Ok(status),

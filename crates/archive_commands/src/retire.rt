@@ -1,10 +1,10 @@
 //! `retire IN OUT UUID ARCH DIGEST`.
-ghost use Rattle.std.specs.Prelude.{◌≡◌, ◌⊎◌, not, OnOk, IfOk, IfErr};
+ghost use Rattle.std.specs.Prelude.{◌≡◌, not, OnOk, IfOk};
 ghost use Rattle.std.specs.FinSet as set;
 ghost use Rattle.archive_core.specs.Content.{with_record};
 ghost use Rattle.archive_core.specs.Record.{retirement_record};
 ghost use Rattle.archive_commands.specs.Inputs.{IsRefusedArchive, Unfailed};
-ghost use Rattle.archive_commands.specs.Leaves.{IfInput, IfWriter, IfMemory, IsCarriedOut, NothingWritten, WriterFailed, WritersUnfailed};
+ghost use Rattle.archive_commands.specs.Ends.{Ends, writer};
 ghost use Rattle.archive_commands.specs.Retire.{MakesRetired};
 
 use crate::publish::publish;
@@ -41,21 +41,8 @@ pub fn run_retire<A: Archive + Drop, R: Source, W: Sink, P: Sink>(
     out: &mut W,
     report: &mut P,
 ) -> Result<Status, CommandFault>
-    // On success the archive is accepted, and OUT and the report hold what it makes with the retirement.
-    ensures retired { OnOk result (IsCarriedOut (MakesRetired R.left input.old key digest) (W.held out.old) (W.held out.new) (P.held report.old) (P.held report.new) result) }
-
-    // The archive is refused; nothing was written then.
-    ensures refused { IfErr result (λ fault. IfInput fault (λ place why. IsRefusedArchive R.left R.failures 0 input.old input.new place why × NothingWritten (W.held out.old) (W.held out.new) (P.held report.old) (P.held report.new))) }
-
-    // A writer failed: the archive is accepted, and it has exactly a beginning of its text.
-    ensures stopped { IfErr result (λ fault. IfWriter fault (IsCarriedOut (MakesRetired R.left input.old key digest) (W.held out.old) (W.held out.new) (P.held report.old) (P.held report.new) result)) }
-    ensures failed { IfErr result (λ fault. WriterFailed fault (W.failures out.old) (W.failures out.new) (P.failures report.old) (P.failures report.new)) }
-
-    // On success no device failed: nothing is tried again.
-    ensures unfailed { OnOk result (Unfailed R.failures input.old input.new × WritersUnfailed (W.failures out.old) (W.failures out.new) (P.failures report.old) (P.failures report.new)) }
-
-    // After want of memory the report has nothing, and OUT nothing or its whole text.
-    ensures memory { IfErr result (λ fault. IfMemory fault (NothingWritten (W.held out.old) (W.held out.new) (P.held report.old) (P.held report.new) ⊎ IsCarriedOut (MakesRetired R.left input.old key digest) (W.held out.old) (W.held out.new) (P.held report.old) (P.held report.new) result)) }
+    ensures { Ends (Unfailed R.failures input.old input.new) (MakesRetired R.left input.old key digest) (IsRefusedArchive R.left R.failures 0 input.old input.new)
+        (writer W.held W.failures out.old out.new) (writer P.held P.failures report.old report.new) result }
 {
     let mut archive: A = read_input(heap.clone()?, 0, input)?;
     let changed = take_retirement(&mut archive, key, digest)?;

@@ -3,7 +3,6 @@ ghost use Rattle.std.specs.Prelude.{◌≡◌, ◌≢◌, OnOk, IfOk, IfErr};
 ghost use Rattle.archive_core.specs.Content.{IsContent};
 ghost use Rattle.archive_records.specs.declared.fault.RecordFaultKind.TheVariants.{OutOfMemory as RecordOutOfMemory};
 ghost use Rattle.archive_records.specs.Text.{IsOperationsText, written};
-ghost use Rattle.archive_lines.specs.declared.faults.CommandFault.TheVariants.{OutOfMemory};
 ghost use Rattle.archive_lines.specs.declared.faults.Why.TheVariants.{Record};
 ghost use Rattle.archive_commands.specs.Inputs.{Gives, IsRefusedArchive, IsRefusedFile, IsRefusedOps, Unfailed};
 ghost use Rattle.archive_commands.specs.Leaves.{IsRefusal};
@@ -16,8 +15,7 @@ use memory::Heap;
 
 /// The refusal of an input at a place, whose text has this fault or whose reader failed.
 fn refusal(at: Place, fault: RecordFault) -> CommandFault
-    ensures refused { IsRefusal (λ place why. (place ≡ at) × (why ≡ Record fault) × (fault.kind ≢ RecordOutOfMemory)) result }
-    ensures memory { result ≡ OutOfMemory → fault.kind ≡ RecordOutOfMemory }
+    ensures refused { IsRefusal (λ place why. (place ≡ at) × (why ≡ Record fault) × (fault.kind ≢ RecordOutOfMemory)) (fault.kind ≡ RecordOutOfMemory) result }
 {
     match fault.kind {
         RecordFaultKind::OutOfMemory => CommandFault::OutOfMemory,
@@ -34,7 +32,7 @@ pub(crate) fn read_input<A: Archive + Drop, R: Source>(
     ensures content { IfOk result (λ archive. IsContent (A.content archive)) }
     ensures text { IfOk result (λ archive. Gives R.left input.old (λ text. text ≡ written (A.content archive))) }
     ensures unfailed { OnOk result (Unfailed R.failures input.old input.new) }
-    ensures refused { IfErr result (IsRefusal (IsRefusedArchive R.left R.failures place input.old input.new)) }
+    ensures refused { IfErr result (IsRefusal (IsRefusedArchive R.left R.failures place input.old input.new) (Unfailed R.failures input.old input.new)) }
 {
     let at = Place::Archive(place);
     let source = match input {
@@ -55,7 +53,7 @@ pub(crate) fn read_file<S: Source>(
 ) -> Result<Vec<u8, Heap>, CommandFault>
     ensures bytes { IfOk result (λ bytes. Gives S.left file.old (λ text. text ≡ bytes.items)) }
     ensures unfailed { OnOk result (Unfailed S.failures file.old file.new) }
-    ensures refused { IfErr result (IsRefusal (IsRefusedFile S.left S.failures place file.old file.new)) }
+    ensures refused { IfErr result (IsRefusal (IsRefusedFile S.left S.failures place file.old file.new) (Unfailed S.failures file.old file.new)) }
 {
     let at = Place::File(place);
     let source = match file {
@@ -76,7 +74,7 @@ pub(crate) fn read_operations<S: Source>(
 ) -> Result<Vec<Operation, Heap>, CommandFault>
     ensures text { IfOk result (λ operations. Gives S.left ops.old (λ text. IsOperationsText text operations.items)) }
     ensures unfailed { OnOk result (Unfailed S.failures ops.old ops.new) }
-    ensures refused { IfErr result (IsRefusal (IsRefusedOps S.left S.failures ops.old ops.new)) }
+    ensures refused { IfErr result (IsRefusal (IsRefusedOps S.left S.failures ops.old ops.new) (Unfailed S.failures ops.old ops.new)) }
 {
     let at = Place::Ops;
     let source = match ops {

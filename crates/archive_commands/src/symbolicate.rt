@@ -1,11 +1,9 @@
 //! `symbolicate ARCHIVE UUID ARCH [--load HEX] ADDRESS...`.
-ghost use Rattle.std.specs.Prelude.{◌≡◌, [], if◌then◌else◌, OnOk, IfOk, IfErr, string_bytes};
-ghost use Rattle.std.specs.Io.KnownBytes.{Appends};
+ghost use Rattle.std.specs.Prelude.{◌≡◌, if◌then◌else◌, IfOk, string_bytes};
 ghost use Rattle.archive_lines.specs.declared.faults.Status.TheVariants.{Partial};
 ghost use Rattle.archive_commands.specs.Inputs.{IsRefusedArchive, Unfailed};
-ghost use Rattle.archive_commands.specs.Leaves.{IfInput, IfWriter, IfMemory};
+ghost use Rattle.archive_commands.specs.Ends.{EndsReport, writer};
 ghost use Rattle.archive_commands.specs.Symbolicate.{MakesAnswered, TellsAddresses, is_symbol, place_of};
-ghost use Rattle.archive_commands.specs.Tells.{IsReported, ReportFailed};
 
 use crate::publish::tell;
 use crate::sources::read_input;
@@ -70,21 +68,9 @@ pub fn run_symbolicate<A: Archive + Drop, R: Source, P: Sink>(
     addresses: &[u64],
     report: &mut P,
 ) -> Result<Status, CommandFault>
-    // On success the archive is accepted, and the report holds the lines of the answers.
-    ensures answered { OnOk result (IsReported (MakesAnswered R.left archive.old key.now load addresses.now) (P.held report.old) (P.held report.new) result) }
-
-    // The archive is refused; nothing was written then.
-    ensures refused { IfErr result (λ fault. IfInput fault (λ place why. IsRefusedArchive R.left R.failures 0 archive.old archive.new place why × Appends (P.held report.old) (P.held report.new) [])) }
-
-    // The report failed: the archive is accepted, and it has exactly a beginning of the lines.
-    ensures stopped { IfErr result (λ fault. IfWriter fault (IsReported (MakesAnswered R.left archive.old key.now load addresses.now) (P.held report.old) (P.held report.new) result)) }
-    ensures failed { IfErr result (λ fault. ReportFailed fault (P.failures report.old) (P.failures report.new)) }
-
-    // On success no device failed: nothing is tried again.
-    ensures unfailed { OnOk result (Unfailed R.failures archive.old archive.new × (P.failures report.new ≡ P.failures report.old)) }
-
-    // After want of memory the report has nothing.
-    ensures memory { IfErr result (λ fault. IfMemory fault (Appends (P.held report.old) (P.held report.new) [])) }
+    ensures { EndsReport (Unfailed R.failures archive.old archive.new) (MakesAnswered R.left archive.old key.now load addresses.now)
+        (IsRefusedArchive R.left R.failures 0 archive.old archive.new)
+        (writer P.held P.failures report.old report.new) result }
 {
     let archive: A = read_input(heap.clone()?, 0, archive)?;
     let (status, text) = answer_each(heap, &archive, key, load, addresses)?;

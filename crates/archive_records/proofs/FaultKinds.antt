@@ -218,3 +218,7 @@ operations_faults text fault (inr f) = behind f.0 f.1.rest f.3
     behind : (records : List (List ℕ)) (rest : List ℕ) → IsFaultBehind Operations records rest fault → (fault.kind ≢ NotAscending) × (fault.kind ≢ BadCount) × (fault.kind ≢ Trailing)
     behind records rest (inl b) = operations_fail (last_of [] records) (length records) rest fault.kind b.0
     behind records rest (inr t) = absurd (no_end rest 9 (next-framed Operations (last_of [] records) (length records) rest 9 t.1.whole) (is_three rest t.1.end))
+
+-- an input that ended is no failing device
+pub not_device : (kind : RecordFaultKind) → kind ≡ Truncated → kind ≢ Device
+not_device kind truncated device = cc

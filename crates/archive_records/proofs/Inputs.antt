@@ -18,7 +18,7 @@ use Rattle.archive_records.specs.Kind.{magic_of}
 use Rattle.archive_records.specs.Text.{ending, text_of, InOrder, last_of, written, IsOperationsText}
 use Rattle.archive_records.specs.Fault.{is_end, IsMagicFault, IsFaultBehind, IsUnended, IsOperationsFault, IsFaultOf, IsOfText}
 use Rattle.archive_records.specs.Front.{IsGoodFront, IsLongestLengthOf, front_length}
-use Rattle.archive_records.specs.Reading.{seen_as, StopsInMagic, Stops, HasStopped, IsReadTo, AreRead}
+use Rattle.archive_records.specs.Reading.{FaultBlamesReader, seen_as, StopsInMagic, Stops, HasStopped, IsReadTo, AreRead}
 use Rattle.archive_records.proofs.Grown.{Fails-grows, IsTrailing-grows}
 use Rattle.archive_records.proofs.Longest.{Takes, fault-stops, end-stops, is_longest}
 use Rattle.archive_records.proofs.Puts.{bytes_same}
@@ -317,3 +317,8 @@ operations_no_fault t xs fault p (inr f) =
   where
     apart : Operations_file ≡ Archive → ⊥
     apart h = cc
+
+-- where the input was cut the reader is at its end
+pub cut_at_end : {R X : Type 0} (left : R → Option (List ℕ)) (failures : R → ℕ) (old new : R) (r : Result X RecordFault) → FaultBlamesReader left failures old new r → IfErr r (λ fault. fault.kind ≡ Truncated → IsAtEnd (left new))
+cut_at_end left failures old new (Ok x) h = tt
+cut_at_end left failures old new (Err fault) h = h.2

@@ -1,10 +1,11 @@
 -- Records that are read from a source one over the other.
-use Rattle.std.specs.Prelude.{◌≡◌, ◌≢◌, ℕ, ◌+◌, ◌^◌, ◌<◌, List, [], ◌++◌, length, take, drop, map, All, Option, ◌⊎◌}
+use Rattle.std.specs.Prelude.{◌≡◌, ◌≢◌, ℕ, ◌+◌, ◌^◌, ◌<◌, List, [], ◌++◌, length, take, drop, map, All, Option, Result, MatchResult, ◌⊎◌}
 use Rattle.std.specs.List.{concat}
 use Rattle.std.specs.Ordering.{nat_cmp}
 use Rattle.std.specs.Cmp.Lexicographic.{slice_cmp}
 use Rattle.std.specs.FinSet as set
 use Rattle.std.specs.Io.KnownBytes.{Consumes, IsAtEnd}
+use Rattle.byte_device.specs.Devices.{FailedIn}
 use Rattle.archive_core.specs.declared.operations.Operation.{Operation}
 use Rattle.archive_core.specs.Record.{IsOperation, rec}
 use Rattle.archive_core.specs.Content.{Operations}
@@ -42,6 +43,20 @@ seen_as BadCount = BadCount
 seen_as Trailing = Trailing
 seen_as Device = Truncated
 seen_as OutOfMemory = Truncated
+
+-- What a fault says of the reader in the call, which stood so before it and so after it: that it failed, if this is `Device`, and else
+-- that it did not; and if this is `Truncated`, that it is at its end.
+abbrev pub Blames : {R : Type 0} → (R → Option (List ℕ)) → (R → ℕ) → R → R → RecordFaultKind → Type 0
+Blames left failures old new kind =
+    (kind ≡ Device → FailedIn (failures old) (failures new)) × (kind ≢ Device → failures new ≡ failures old) × (kind ≡ Truncated → IsAtEnd (left new))
+
+-- What a result says of the reader: on success it did not fail, and else what the fault says.
+abbrev pub BlamesReader : {R T : Type 0} → (R → Option (List ℕ)) → (R → ℕ) → R → R → Result T RecordFaultKind → Type 0
+BlamesReader left failures old new result = MatchResult result (λ _. failures new ≡ failures old) (Blames left failures old new)
+
+-- the same of a fault with its offset
+abbrev pub FaultBlamesReader : {R T : Type 0} → (R → Option (List ℕ)) → (R → ℕ) → R → R → Result T RecordFault → Type 0
+FaultBlamesReader left failures old new result = MatchResult result (λ _. failures new ≡ failures old) (λ fault. Blames left failures old new fault.kind)
 
 -- why the magic was not read, and the bytes that came instead
 abbrev pub StopsInMagic : FileKind → List ℕ → RecordFaultKind → Type 0

@@ -7,7 +7,7 @@ ghost use Rattle.std.specs.Io.KnownBytes.{IsAtEnd};
 ghost use Rattle.byte_device.specs.Devices.{FailedIn};
 ghost use Rattle.byte_device.specs.Taking.{Fills};
 ghost use Rattle.archive_records.specs.declared.fault.RecordFaultKind.TheVariants.{Truncated, Device};
-ghost use Rattle.archive_records.specs.Reading.{bytes_so_far, seen_as, Over};
+ghost use Rattle.archive_records.specs.Reading.{BlamesReader, bytes_so_far, seen_as, Over};
 
 use crate::fault::RecordFaultKind;
 use byte_device::{Failed, Source};
@@ -67,10 +67,7 @@ pub fn fill<R: Source>(
     ensures ok { OnOk result (buffer.new.at ≡ buffer.old.at + count) }
     ensures err { OnErr result (buffer.new.at < buffer.old.at + count) }
     ensures part { IfErr result (λ kind. seen_as kind ≡ Truncated) }
-    ensures ended { IfErr result (λ kind. kind ≡ Truncated → IsAtEnd (R.left r.new)) }
-    ensures told { IfErr result (λ kind. kind ≡ Truncated → R.failures r.new ≡ R.failures r.old) }
-    ensures device { IfErr result (λ kind. kind ≡ Device → FailedIn (R.failures r.old) (R.failures r.new)) }
-    ensures unfailed { OnOk result (R.failures r.new ≡ R.failures r.old) }
+    ensures reader { BlamesReader R.left R.failures r.old r.new result }
 {
     let end = buffer.at + count;
     'filling: while buffer.at < end {

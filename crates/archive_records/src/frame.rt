@@ -6,7 +6,7 @@ ghost use Rattle.byte_device.specs.Devices.{FailedIn};
 ghost use Rattle.byte_device.specs.Taking.{Fills};
 ghost use Rattle.archive_records.specs.declared.fault.RecordFaultKind.TheVariants.{Truncated, Device};
 ghost use Rattle.archive_records.specs.Layout.{head_length, framed};
-ghost use Rattle.archive_records.specs.Reading.{bytes_so_far, seen_as, Over};
+ghost use Rattle.archive_records.specs.Reading.{BlamesReader, bytes_so_far, seen_as, Over};
 
 use crate::buffer::{Buffer, fill};
 use crate::fault::RecordFaultKind;
@@ -34,10 +34,7 @@ fn read_head<R: Source>(
     ensures len { IfOk result (λ head. buffer.new.at ≡ head) }
     ensures long { IfOk result (λ head. 8 < head) }
     ensures framed { IfErr result (λ kind. framed file (bytes_so_far buffer.new) ≡ Err (seen_as kind)) }
-    ensures ended { IfErr result (λ kind. kind ≡ Truncated → IsAtEnd (R.left r.new)) }
-    ensures told { IfErr result (λ kind. kind ≡ Truncated → R.failures r.new ≡ R.failures r.old) }
-    ensures device { IfErr result (λ kind. kind ≡ Device → FailedIn (R.failures r.old) (R.failures r.new)) }
-    ensures unfailed { OnOk result (R.failures r.new ≡ R.failures r.old) }
+    ensures reader { BlamesReader R.left R.failures r.old r.new result }
 {
     fill(r, chunk, buffer, 1)?;
     let Some(head) = head_length_of(file, &buffer.bytes[..buffer.at]) else {
@@ -64,10 +61,7 @@ fn read_body<R: Source>(
     ensures fills { Fills (R.left r.old) (R.left r.new) (bytes_so_far buffer.old) (bytes_so_far buffer.new) }
     ensures over { (last : List ℕ) → Over last buffer.old → Over last buffer.new }
     ensures framed { MatchResult result (λ _. framed file (bytes_so_far buffer.new) ≡ Ok buffer.new.at) (λ kind. framed file (bytes_so_far buffer.new) ≡ Err (seen_as kind)) }
-    ensures ended { IfErr result (λ kind. kind ≡ Truncated → IsAtEnd (R.left r.new)) }
-    ensures told { IfErr result (λ kind. kind ≡ Truncated → R.failures r.new ≡ R.failures r.old) }
-    ensures device { IfErr result (λ kind. kind ≡ Device → FailedIn (R.failures r.old) (R.failures r.new)) }
-    ensures unfailed { OnOk result (R.failures r.new ≡ R.failures r.old) }
+    ensures reader { BlamesReader R.left R.failures r.old r.new result }
 {
     let body = body_length_of(&buffer.bytes[..buffer.at]);
     if body > LARGEST_SLICE {
@@ -88,10 +82,7 @@ pub fn read_record<R: Source>(
     ensures taken { Consumes (R.left r.old) (R.left r.new) (bytes_so_far buffer.new) }
     ensures over { Over buffer.old.bytes.items buffer.new }
     ensures framed { MatchResult result (λ _. framed file (bytes_so_far buffer.new) ≡ Ok buffer.new.at) (λ kind. framed file (bytes_so_far buffer.new) ≡ Err (seen_as kind)) }
-    ensures ended { IfErr result (λ kind. kind ≡ Truncated → IsAtEnd (R.left r.new)) }
-    ensures told { IfErr result (λ kind. kind ≡ Truncated → R.failures r.new ≡ R.failures r.old) }
-    ensures device { IfErr result (λ kind. kind ≡ Device → FailedIn (R.failures r.old) (R.failures r.new)) }
-    ensures unfailed { OnOk result (R.failures r.new ≡ R.failures r.old) }
+    ensures reader { BlamesReader R.left R.failures r.old r.new result }
 {
     buffer.at = 0;
     buffer.order = Ordering::Equal;

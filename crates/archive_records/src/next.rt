@@ -11,7 +11,7 @@ ghost use Rattle.archive_records.specs.Kind.{may_follow};
 ghost use Rattle.archive_records.specs.Layout.{framed};
 ghost use Rattle.archive_records.specs.Text.{end_record, ending};
 ghost use Rattle.archive_records.specs.Fault.{is_end, tested, next, RefusesSlice, Fails, IsUnended, IsOfText};
-ghost use Rattle.archive_records.specs.Reading.{bytes_so_far, seen_as, IsEnded};
+ghost use Rattle.archive_records.specs.Reading.{BlamesReader, bytes_so_far, seen_as, IsEnded};
 
 use crate::buffer::Buffer;
 use crate::fault::RecordFaultKind;
@@ -59,10 +59,7 @@ fn read_in_order<R: Source>(
     ensures whole { OnOk result (buffer.new.bytes.items ≡ bytes_so_far buffer.new) }
     ensures end { IfOk result (λ end. end ≡ is_end (bytes_so_far buffer.new)) }
     ensures end_is { IfOk result (λ end. end ≡ true → bytes_so_far buffer.new ≡ end_record count) }
-    ensures ended { IfErr result (λ kind. kind ≡ Truncated → IsAtEnd (R.left r.new)) }
-    ensures told { IfErr result (λ kind. kind ≡ Truncated → R.failures r.new ≡ R.failures r.old) }
-    ensures device { IfErr result (λ kind. kind ≡ Device → FailedIn (R.failures r.old) (R.failures r.new)) }
-    ensures unfailed { OnOk result (R.failures r.new ≡ R.failures r.old) }
+    ensures reader { BlamesReader R.left R.failures r.old r.new result }
 {
     read_record(file, r, chunk, buffer)?;
     buffer.bytes.truncate(buffer.at);
@@ -108,10 +105,7 @@ fn read_tested<R: Source>(
     ensures whole { OnOk result (buffer.new.bytes.items ≡ bytes_so_far buffer.new) }
     ensures end { IfOk result (λ end. end ≡ true → (is_end (bytes_so_far buffer.new) ≡ true) × (bytes_so_far buffer.new ≡ end_record count)) }
     ensures item { IfOk result (λ end. end ≡ false → IsRecord (bytes_so_far buffer.new)) }
-    ensures ended { IfErr result (λ kind. kind ≡ Truncated → IsAtEnd (R.left r.new)) }
-    ensures told { IfErr result (λ kind. kind ≡ Truncated → R.failures r.new ≡ R.failures r.old) }
-    ensures device { IfErr result (λ kind. kind ≡ Device → FailedIn (R.failures r.old) (R.failures r.new)) }
-    ensures unfailed { OnOk result (R.failures r.new ≡ R.failures r.old) }
+    ensures reader { BlamesReader R.left R.failures r.old r.new result }
 {
     let end = read_in_order(file, r, chunk, buffer, count)?;
     if end {
@@ -147,9 +141,7 @@ pub fn read_next<R: Source>(
     ensures follows { IfOk result (λ end. end ≡ false → may_follow file buffer.old.bytes.items (bytes_so_far buffer.new) ≡ true) }
     ensures fails { IfErr result (λ kind. Fails file buffer.old.bytes.items count (bytes_so_far buffer.new) (seen_as kind)) }
     ensures unended { IfErr result (λ kind. IsOfText kind → IsUnended file (bytes_so_far buffer.new)) }
-    ensures ended { IfErr result (λ kind. kind ≡ Truncated → IsAtEnd (R.left r.new)) }
-    ensures device { IfErr result (λ kind. kind ≡ Device → FailedIn (R.failures r.old) (R.failures r.new)) }
-    ensures unfailed { OnOk result (R.failures r.new ≡ R.failures r.old) }
+    ensures reader { BlamesReader R.left R.failures r.old r.new result }
 {
     match read_tested(file, r, chunk, buffer, count) {
         Ok(end) => Ok(end),

@@ -10,7 +10,7 @@ ghost use Rattle.archive_records.specs.declared.kind.FileKind.TheVariants.{Opera
 ghost use Rattle.archive_records.specs.Text.{IsOperationsText};
 ghost use Rattle.archive_records.specs.Fault.{IsOperationsFault, IsOfText};
 ghost use Rattle.archive_records.specs.Front.{IsFrontLengthOf, IsLongestLengthOf};
-ghost use Rattle.archive_records.specs.Reading.{HasStopped, Lists, AreRead};
+ghost use Rattle.archive_records.specs.Reading.{FaultBlamesReader, HasStopped, Lists, AreRead};
 
 use crate::fault::RecordFault;
 use crate::kind::FileKind;
@@ -46,9 +46,7 @@ fn push_records<R: Source>(
     requires fits { reader.old.offset + length reader.old.buffer.bytes.items ≤ 8 + reader.old.count * 2 ^ 64 }
     ensures all { OnOk result ((a : Option (List ℕ)) → Lists a (R.left r.old) operations.old.items reader.old → AreRead a (R.left r.new) operations.new.items) }
     ensures stopped { IfErr result (λ fault. (a : Option (List ℕ)) → Lists a (R.left r.old) operations.old.items reader.old → HasStopped Operations a (R.left r.new) fault) }
-    ensures ended { IfErr result (λ fault. fault.kind ≡ Truncated → IsAtEnd (R.left r.new)) }
-    ensures device { IfErr result (λ fault. fault.kind ≡ Device → FailedIn (R.failures r.old) (R.failures r.new)) }
-    ensures unfailed { OnOk result (R.failures r.new ≡ R.failures r.old) }
+    ensures reader { FaultBlamesReader R.left R.failures r.old r.new result }
 {
     'pushing: loop {
         match reader.advance(r) {
@@ -74,9 +72,7 @@ fn list_rest<R: Source>(
     requires fits { reader.offset + length reader.buffer.bytes.items ≤ 8 + reader.count * 2 ^ 64 }
     ensures all { IfOk result (λ read. (a : Option (List ℕ)) → Lists a (R.left r.old) operations.items reader → AreRead a (R.left r.new) read.items) }
     ensures stopped { IfErr result (λ fault. (a : Option (List ℕ)) → Lists a (R.left r.old) operations.items reader → HasStopped Operations a (R.left r.new) fault) }
-    ensures ended { IfErr result (λ fault. fault.kind ≡ Truncated → IsAtEnd (R.left r.new)) }
-    ensures device { IfErr result (λ fault. fault.kind ≡ Device → FailedIn (R.failures r.old) (R.failures r.new)) }
-    ensures unfailed { OnOk result (R.failures r.new ≡ R.failures r.old) }
+    ensures reader { FaultBlamesReader R.left R.failures r.old r.new result }
 {
     push_records(&mut operations, heap, &mut reader, r)?;
     Ok(operations)
@@ -86,9 +82,7 @@ fn list_rest<R: Source>(
 fn list_taken<R: Source>(heap: Heap, r: &mut R) -> Result<Vec<Operation, Heap>, RecordFault>
     ensures read { IfOk result (λ operations. AreRead (R.left r.old) (R.left r.new) operations.items) }
     ensures stopped { IfErr result (λ fault. HasStopped Operations (R.left r.old) (R.left r.new) fault) }
-    ensures ended { IfErr result (λ fault. fault.kind ≡ Truncated → IsAtEnd (R.left r.new)) }
-    ensures device { IfErr result (λ fault. fault.kind ≡ Device → FailedIn (R.failures r.old) (R.failures r.new)) }
-    ensures unfailed { OnOk result (R.failures r.new ≡ R.failures r.old) }
+    ensures reader { FaultBlamesReader R.left R.failures r.old r.new result }
 {
     let Ok((own, buffers)) = shared(&heap) else {
         return Err(RecordFault::out_of_memory(0));
@@ -118,10 +112,8 @@ pub fn read_ops<R: Source>(heap: Heap, r: &mut R) -> Result<Vec<Operation, Heap>
     // The text of operations gives them, and is refused for the device and for memory alone.
     ensures only { (operations : List Operation) → IfSome (R.left r.old) (λ text. IsOperationsText text operations → MatchResult result (λ read. read.items ≡ operations) (λ fault. (fault.kind ≡ Device) ⊎ (fault.kind ≡ OutOfMemory))) }
 
-    // Truncated comes only where the reader told its end, and Device only where it failed.
-    ensures ended { IfErr result (λ fault. fault.kind ≡ Truncated → IsAtEnd (R.left r.new)) }
-    ensures device { IfErr result (λ fault. fault.kind ≡ Device → FailedIn (R.failures r.old) (R.failures r.new)) }
-    ensures unfailed { OnOk result (R.failures r.new ≡ R.failures r.old) }
+    // Truncated comes only where the reader told its end, Device where it failed, and everything else where it did not.
+    ensures reader { FaultBlamesReader R.left R.failures r.old r.new result }
 
     // The offset of Device is the length of the longest good front of what was read, that of OutOfMemory the length of a
     // good front; both are 0 before the magic was read.

@@ -9,7 +9,7 @@ ghost use Rattle.archive_records.specs.declared.kind.FileKind.TheVariants.{Archi
 ghost use Rattle.archive_records.specs.declared.fault.RecordFaultKind.TheVariants.{Truncated, Trailing, Device};
 ghost use Rattle.archive_records.specs.Kind.{magic_of, may_follow};
 ghost use Rattle.archive_records.specs.Text.{last_of};
-ghost use Rattle.archive_records.specs.Reading.{bytes_so_far, StopsInMagic, HasRead, HasReadAll, Stopped};
+ghost use Rattle.archive_records.specs.Reading.{BlamesReader, FaultBlamesReader, bytes_so_far, StopsInMagic, HasRead, HasReadAll, Stopped};
 
 use crate::buffer::{Buffer, fill};
 use crate::fault::{RecordFault, RecordFaultKind};
@@ -66,9 +66,7 @@ fn read_magic<R: Source>(
     ensures taken { Consumes (R.left r.old) (R.left r.new) (bytes_so_far buffer.new) }
     ensures magic { OnOk result (bytes_so_far buffer.new ≡ magic_of file) }
     ensures stops { IfErr result (λ kind. StopsInMagic file (bytes_so_far buffer.new) kind) }
-    ensures ended { IfErr result (λ kind. kind ≡ Truncated → IsAtEnd (R.left r.new)) }
-    ensures device { IfErr result (λ kind. kind ≡ Device → FailedIn (R.failures r.old) (R.failures r.new)) }
-    ensures unfailed { OnOk result (R.failures r.new ≡ R.failures r.old) }
+    ensures reader { BlamesReader R.left R.failures r.old r.new result }
 {
     match fill(r, chunk, buffer, 8) {
         Ok(()) => {
@@ -103,9 +101,7 @@ impl RecordReader {
         ensures offset { IfOk result (λ reader. reader.offset + length reader.buffer.bytes.items ≡ 8) }
         ensures start { IfErr result (λ fault. fault.offset ≡ 0) }
         ensures stops { IfErr result (λ fault. (bytes : List ℕ) × Consumes (R.left r.old) (R.left r.new) bytes × StopsInMagic file bytes fault.kind) }
-        ensures ended { IfErr result (λ fault. fault.kind ≡ Truncated → IsAtEnd (R.left r.new)) }
-        ensures device { IfErr result (λ fault. fault.kind ≡ Device → FailedIn (R.failures r.old) (R.failures r.new)) }
-        ensures unfailed { OnOk result (R.failures r.new ≡ R.failures r.old) }
+        ensures reader { FaultBlamesReader R.left R.failures r.old r.new result }
     {
         let Ok(mut chunk) = chunk_of(CHUNK, &heap) else {
             return Err(RecordFault::out_of_memory(0));
@@ -143,9 +139,7 @@ impl RecordReader {
         ensures few { OnOk result (self.new.count < 2 ^ 63) }
         ensures fits { IfOk result (λ end. end ≡ false → self.new.offset + length self.new.buffer.bytes.items ≤ 8 + self.new.count * 2 ^ 64) }
         ensures bound { OnOk result (self.new.offset ≤ 8 + 2 ^ 127) }
-        ensures ended { IfErr result (λ fault. fault.kind ≡ Truncated → IsAtEnd (R.left r.new)) }
-        ensures device { IfErr result (λ fault. fault.kind ≡ Device → FailedIn (R.failures r.old) (R.failures r.new)) }
-        ensures unfailed { OnOk result (R.failures r.new ≡ R.failures r.old) }
+        ensures reader { FaultBlamesReader R.left R.failures r.old r.new result }
     {
         let offset = self.offset + self.buffer.bytes.len() as u128;
         match read_next(self.file, r, &mut self.chunk, &mut self.buffer, self.count) {
@@ -170,9 +164,7 @@ impl RecordReader {
         requires { self.now.offset ≤ 8 + 2 ^ 127 }
         ensures at_end { OnOk result (IsAtEnd (R.left r.new) × Consumes (R.left r.old) (R.left r.new) []) }
         ensures stopped { IfErr result (λ fault. (a : Option (List ℕ)) (records : List (List ℕ)) → HasReadAll Archive a (R.left r.old) records self.now → Stopped Archive a (R.left r.new) records fault) }
-        ensures ended { IfErr result (λ fault. fault.kind ≡ Truncated → IsAtEnd (R.left r.new)) }
-        ensures device { IfErr result (λ fault. fault.kind ≡ Device → FailedIn (R.failures r.old) (R.failures r.new)) }
-        ensures unfailed { OnOk result (R.failures r.new ≡ R.failures r.old) }
+        ensures reader { FaultBlamesReader R.left R.failures r.old r.new result }
     {
         match is_at_end(r) {
             Ok(true) => Ok(()),

@@ -11,7 +11,7 @@ ghost use Rattle.archive_records.specs.declared.kind.FileKind.TheVariants.{Archi
 ghost use Rattle.archive_records.specs.Text.{written};
 ghost use Rattle.archive_records.specs.Fault.{IsFault, IsOfText};
 ghost use Rattle.archive_records.specs.Front.{IsFrontLength, IsLongestLength};
-ghost use Rattle.archive_records.specs.Reading.{HasStopped, Makes, MakesAll, IsReadTo};
+ghost use Rattle.archive_records.specs.Reading.{FaultBlamesReader, HasStopped, Makes, MakesAll, IsReadTo};
 
 use crate::fault::RecordFault;
 use crate::head::{ADMISSION_HEAD_LEN, RETIREMENT, digest_in, key_in};
@@ -58,9 +58,7 @@ fn take_records<A: Archive, R: Source>(
     ensures stopped { IfErr result (λ fault. (a : Option (List ℕ)) → Makes a (R.left r.old) (A.content archive.old) reader.old → HasStopped Archive a (R.left r.new) fault) }
     ensures bound { OnOk result (reader.new.offset ≤ 8 + 2 ^ 127) }
     ensures no_trailing { IfErr result (λ fault. fault.kind ≢ Trailing) }
-    ensures ended { IfErr result (λ fault. fault.kind ≡ Truncated → IsAtEnd (R.left r.new)) }
-    ensures device { IfErr result (λ fault. fault.kind ≡ Device → FailedIn (R.failures r.old) (R.failures r.new)) }
-    ensures unfailed { OnOk result (R.failures r.new ≡ R.failures r.old) }
+    ensures reader { FaultBlamesReader R.left R.failures r.old r.new result }
 {
     'taking: loop {
         match reader.advance(r) {
@@ -88,9 +86,7 @@ fn read_rest<A: Archive + Drop, R: Source>(
     ensures stopped { IfErr result (λ fault. (a : Option (List ℕ)) → Makes a (R.left r.old) (A.content archive) reader → HasStopped Archive a (R.left r.new) fault) }
     ensures bound { IfOk result (λ read. read.1.offset ≤ 8 + 2 ^ 127) }
     ensures no_trailing { IfErr result (λ fault. fault.kind ≢ Trailing) }
-    ensures ended { IfErr result (λ fault. fault.kind ≡ Truncated → IsAtEnd (R.left r.new)) }
-    ensures device { IfErr result (λ fault. fault.kind ≡ Device → FailedIn (R.failures r.old) (R.failures r.new)) }
-    ensures unfailed { OnOk result (R.failures r.new ≡ R.failures r.old) }
+    ensures reader { FaultBlamesReader R.left R.failures r.old r.new result }
 {
     take_records(&mut archive, heap, &mut reader, r)?;
     Ok((archive, reader))
@@ -111,9 +107,7 @@ fn read_text<A: Archive + Drop, R: Source>(
     ensures stopped { IfErr result (λ fault. HasStopped Archive (R.left r.old) (R.left r.new) fault) }
     ensures bound { IfOk result (λ read. read.1.offset ≤ 8 + 2 ^ 127) }
     ensures no_trailing { IfErr result (λ fault. fault.kind ≢ Trailing) }
-    ensures ended { IfErr result (λ fault. fault.kind ≡ Truncated → IsAtEnd (R.left r.new)) }
-    ensures device { IfErr result (λ fault. fault.kind ≡ Device → FailedIn (R.failures r.old) (R.failures r.new)) }
-    ensures unfailed { OnOk result (R.failures r.new ≡ R.failures r.old) }
+    ensures reader { FaultBlamesReader R.left R.failures r.old r.new result }
 {
     let Ok((own, buffers)) = shared(&heap) else {
         return Err(RecordFault::out_of_memory(0));
@@ -127,9 +121,7 @@ fn read_whole<A: Archive + Drop, R: Source>(heap: Heap, r: &mut R) -> Result<A, 
     ensures read { IfOk result (λ archive. IsReadTo (R.left r.old) (R.left r.new) (A.content archive)) }
     ensures at_end { OnOk result (IsAtEnd (R.left r.new)) }
     ensures stopped { IfErr result (λ fault. HasStopped Archive (R.left r.old) (R.left r.new) fault) }
-    ensures ended { IfErr result (λ fault. fault.kind ≡ Truncated → IsAtEnd (R.left r.new)) }
-    ensures device { IfErr result (λ fault. fault.kind ≡ Device → FailedIn (R.failures r.old) (R.failures r.new)) }
-    ensures unfailed { OnOk result (R.failures r.new ≡ R.failures r.old) }
+    ensures reader { FaultBlamesReader R.left R.failures r.old r.new result }
 {
     let (archive, reader) = read_text(heap, r)?;
     reader.finish(r)?;
@@ -141,9 +133,7 @@ fn read_first<A: Archive + Drop, R: Source>(heap: Heap, r: &mut R) -> Result<A, 
     ensures read { IfOk result (λ archive. IsReadTo (R.left r.old) (R.left r.new) (A.content archive)) }
     ensures stopped { IfErr result (λ fault. HasStopped Archive (R.left r.old) (R.left r.new) fault) }
     ensures no_trailing { IfErr result (λ fault. fault.kind ≢ Trailing) }
-    ensures ended { IfErr result (λ fault. fault.kind ≡ Truncated → IsAtEnd (R.left r.new)) }
-    ensures device { IfErr result (λ fault. fault.kind ≡ Device → FailedIn (R.failures r.old) (R.failures r.new)) }
-    ensures unfailed { OnOk result (R.failures r.new ≡ R.failures r.old) }
+    ensures reader { FaultBlamesReader R.left R.failures r.old r.new result }
 {
     let (archive, _) = read_text(heap, r)?;
     Ok(archive)
@@ -170,10 +160,8 @@ pub fn read_archive<A: Archive + Drop, R: Source>(heap: Heap, r: &mut R) -> Resu
     // The text of a content gives that content, and is refused for the device and for memory alone.
     ensures only { (o : Operations) → IsContent o → IfSome (R.left r.old) (λ text. text ≡ written o → MatchResult result (λ archive. A.content archive ≡ o) (λ fault. (fault.kind ≡ Device) ⊎ (fault.kind ≡ OutOfMemory))) }
 
-    // Truncated comes only where the reader told its end, and Device only where it failed.
-    ensures ended { IfErr result (λ fault. fault.kind ≡ Truncated → IsAtEnd (R.left r.new)) }
-    ensures device { IfErr result (λ fault. fault.kind ≡ Device → FailedIn (R.failures r.old) (R.failures r.new)) }
-    ensures unfailed { OnOk result (R.failures r.new ≡ R.failures r.old) }
+    // Truncated comes only where the reader told its end, Device where it failed, and everything else where it did not.
+    ensures reader { FaultBlamesReader R.left R.failures r.old r.new result }
 
     // The offset of Device is the length of the longest good front of what was read, that of OutOfMemory the length of a
     // good front; both are 0 before the magic was read.
@@ -204,10 +192,8 @@ pub fn read_front<A: Archive + Drop, R: Source>(heap: Heap, r: &mut R) -> Result
     // and for memory alone.
     ensures only { (o : Operations) (rest : List ℕ) → IsContent o → IfSome (R.left r.old) (λ text. text ≡ written o ++ rest → MatchResult result (λ archive. (A.content archive ≡ o) × (R.left r.new ≡ Some rest)) (λ fault. (fault.kind ≡ Device) ⊎ (fault.kind ≡ OutOfMemory))) }
 
-    // Truncated comes only where the reader told its end, and Device only where it failed.
-    ensures ended { IfErr result (λ fault. fault.kind ≡ Truncated → IsAtEnd (R.left r.new)) }
-    ensures device { IfErr result (λ fault. fault.kind ≡ Device → FailedIn (R.failures r.old) (R.failures r.new)) }
-    ensures unfailed { OnOk result (R.failures r.new ≡ R.failures r.old) }
+    // Truncated comes only where the reader told its end, Device where it failed, and everything else where it did not.
+    ensures reader { FaultBlamesReader R.left R.failures r.old r.new result }
 
     // The offsets of Device and OutOfMemory are those of `read_archive`.
     ensures device_offset { IfErr result (λ fault. fault.kind ≡ Device → (bytes : List ℕ) × Consumes (R.left r.old) (R.left r.new) bytes × IsLongestLength bytes fault.offset) }

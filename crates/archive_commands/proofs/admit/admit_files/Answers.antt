@@ -26,4 +26,4 @@ returns-in_err-admit_file-clause-refused g c =
     let lt : c.files.place < length files = omega arith in
     rw (p.1, p.2)
     (refused_at g.S.Source.left g.S.Source.failures files c.files.files c.files.place c.index-files-place.result _ _ _ c.files.rows.items _ lt c.files.auto.files
-    (same_at c.files.files files c.files.place _ c.files.invariant.rest c.index-files-place.is) c.files.invariant.taken (rw (← c.index-files-place.is) at c.in_err-admit_file.ensures.refused))
+    (same_at c.files.files files c.files.place _ c.files.invariant.rest c.index-files-place.is) c.files.invariant.taken c.index-files-place.is c.files.invariant.rest c.files.invariant.unfailed (rw (← c.index-files-place.is) at c.in_err-admit_file.ensures.refused))

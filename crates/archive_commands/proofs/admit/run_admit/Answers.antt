@@ -1,34 +1,22 @@
-use Rattle.std.proofs.Common.{inl}
+use Rattle.std.proofs.Common.{inl, refl}
 use Rattle.std.proofs.lemmas.Result.{err_from_is_err_and}
-use Rattle.archive_commands.proofs.Ending.{carried_out, files_refused, if_memory, if_writer, makes_admitted, nothing, on_ok, on_ok_all}
+use Rattle.byte_device.proofs.Known.{Appends-none}
+use Rattle.archive_commands.proofs.Endings.{first_refused, makes_admitted, published, refused_behind, refused}
 use Rattle.archive_commands.proofs.admit.run_admit.Goals as goal
 
-pub returns-in_err-rows-clause-refused : goal.returns-in_err-rows-clause-refused
-returns-in_err-rows-clause-refused g c =
+pub returns-in_err-rows : goal.returns-in_err-rows
+returns-in_err-rows g c =
     let p = err_from_is_err_and c.from_residual-in_err-rows.result c.from_residual-in_err-rows.ensures.1 in
-    rw (p.1, p.2)
-    (files_refused g.R.Source.left g.R.Source.failures g.S.Source.left g.S.Source.failures c.args.input.now c.read_input.new.input c.args.files.now c.admit_files.new.files
-    (g.A.Join.content c.in_ok-archive.archive) (g.W.Sink.held c.args.out.now) (g.P.Sink.held c.args.report.now) c.in_err-rows.field-0.0 c.in_ok-archive.ensures.content c.in_ok-archive.ensures.text c.in_err-rows.ensures.refused)
+    rw (p.1, p.2) (refused _ _ _ _ _ c.in_err-rows.field-0.0
+    (refused_behind _ _ _ _ _ (first_refused g.R.Source.left g.R.Source.failures g.S.Source.left g.S.Source.failures _ _ _ _ _ c.in_ok-archive.ensures.content c.in_ok-archive.ensures.text) c.in_ok-archive.ensures.unfailed c.in_err-rows.ensures.refused)
+    (Appends-none _, refl) (Appends-none _, refl))
 
-pub returns-in_err-lines-clause-memory : goal.returns-in_err-lines-clause-memory
-returns-in_err-lines-clause-memory g c =
+pub returns-in_err-lines : goal.returns-in_err-lines
+returns-in_err-lines g c =
     let p = err_from_is_err_and c.from_residual-in_err-lines.result c.from_residual-in_err-lines.ensures.1 in
-    rw (p.1, p.2) (inl (nothing (g.W.Sink.held c.args.out.now) (g.P.Sink.held c.args.report.now)))
+    rw (p.1, p.2) ((c.in_ok-archive.ensures.unfailed, c.in_ok-rows.ensures.unfailed), inl ((Appends-none _, refl), (Appends-none _, refl)))
 
-pub returns-clause-admitted : goal.returns-clause-admitted
-returns-clause-admitted g c =
-    let makes = makes_admitted g.R.Source.left g.S.Source.left c.args.input.now c.args.files.now _ _ _ _ _ c.in_ok-archive.ensures.content c.in_ok-archive.ensures.text c.in_ok-rows.ensures.taken c.deref.ensures.value c.in_ok-lines.ensures in
-    on_ok c.publish.result _ (carried_out _ _ _ _ _ _ _ c.publish.result makes c.publish.ensures.leaves)
-
-pub returns-clause-stopped : goal.returns-clause-stopped
-returns-clause-stopped g c =
-    let makes = makes_admitted g.R.Source.left g.S.Source.left c.args.input.now c.args.files.now _ _ _ _ _ c.in_ok-archive.ensures.content c.in_ok-archive.ensures.text c.in_ok-rows.ensures.taken c.deref.ensures.value c.in_ok-lines.ensures in
-    if_writer c.publish.result _ (carried_out _ _ _ _ _ _ _ c.publish.result makes c.publish.ensures.leaves)
-
-pub returns-clause-memory : goal.returns-clause-memory
-returns-clause-memory g c =
-    let makes = makes_admitted g.R.Source.left g.S.Source.left c.args.input.now c.args.files.now _ _ _ _ _ c.in_ok-archive.ensures.content c.in_ok-archive.ensures.text c.in_ok-rows.ensures.taken c.deref.ensures.value c.in_ok-lines.ensures in
-    if_memory c.publish.result _ _ (carried_out _ _ _ _ _ _ _ c.publish.result makes c.publish.ensures.leaves)
-
-pub returns-clause-unfailed : goal.returns-clause-unfailed
-returns-clause-unfailed g c = on_ok_all c.publish.result _ _ _ c.in_ok-archive.ensures.unfailed c.in_ok-rows.ensures.unfailed c.publish.ensures.unfailed
+pub returns : goal.returns
+returns g c = published _ _ _ _ _ c.publish.result _ _ (c.in_ok-archive.ensures.unfailed, c.in_ok-rows.ensures.unfailed)
+    (makes_admitted g.R.Source.left g.S.Source.left _ _ _ _ _ _ _ c.in_ok-archive.ensures.content c.in_ok-archive.ensures.text c.in_ok-rows.ensures.taken c.deref.ensures.value c.in_ok-lines.ensures)
+    c.publish.ensures.published

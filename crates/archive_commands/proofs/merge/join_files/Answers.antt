@@ -27,4 +27,4 @@ returns-in_err-join_file-clause-refused g c =
     let lt : c.files.place < length files = omega arith in
     rw (p.1, p.2)
     (join_refused_at g.S.Source.left g.S.Source.failures files c.files.files c.files.place c.index-files-place.result _ _ _ _ lt c.files.auto.files
-    (same_at c.files.files files c.files.place _ c.files.invariant.rest c.index-files-place.is) c.files.invariant.joined (rw (← c.index-files-place.is) at c.in_err-join_file.ensures.refused))
+    (same_at c.files.files files c.files.place _ c.files.invariant.rest c.index-files-place.is) c.files.invariant.joined c.index-files-place.is c.files.invariant.rest c.files.invariant.unfailed (rw (← c.index-files-place.is) at c.in_err-join_file.ensures.refused))

@@ -8,5 +8,5 @@ returns g c =
     let input = c.accepted_inputs_are_not_refused.ensures in
     let file = c.accepted_inputs_are_not_refused-2.ensures in
     archives_not_refused g.R.Source.left g.R.Source.failures g.S.Source.left g.S.Source.failures
-    (λ old new o why content few given refused. input old new [] [] o [] (Archive 0) why content few given tt tt (refl, refused))
-    (λ old new o why content few given refused. file old new [] [] o [] (Archive 0) why content few given tt tt (refl, refused))
+    (λ old new o why content few given refused. input old new [] [] o [] (Archive 0) why content few given tt tt (refl, refused, refl))
+    (λ old new o why content few given refused. file old new [] [] o [] (Archive 0) why content few given tt tt (refl, refused, refl))

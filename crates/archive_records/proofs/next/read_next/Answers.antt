@@ -4,7 +4,7 @@ use Rattle.archive_records.specs.Reading.{bytes_so_far}
 use Rattle.archive_records.proofs.Holds.{next-framed}
 use Rattle.archive_records.proofs.Ends.{is_three, ending_is, ended_is, open_end, open_ended}
 use Rattle.archive_records.proofs.Steps.{next-follows}
-use Rattle.archive_records.proofs.FaultKinds.{unended_behind}
+use Rattle.archive_records.proofs.FaultKinds.{not_device, unended_behind}
 use Rattle.archive_records.proofs.next.read_next.Goals as goal
 
 pub returns-in-Ok-clause-end : goal.returns-in-Ok-clause-end
@@ -26,10 +26,10 @@ pub returns-then-ends_file-clause-end : goal.returns-then-ends_file-clause-end
 returns-then-ends_file-clause-end g c = λ _. let f = c.if-ends_file.ensures.0 refl in open_end c.args.file c.args.count c.read_tested.new.buffer f.1 f.2
 
 pub returns-then-ends_file-clause-ends : goal.returns-then-ends_file-clause-ends
-returns-then-ends_file-clause-ends g c = λ _. let f = c.if-ends_file.ensures.0 refl in open_ended c.args.file _ f.2 (c.in-Err.ensures.ended f.0)
+returns-then-ends_file-clause-ends g c = λ _. let f = c.if-ends_file.ensures.0 refl in open_ended c.args.file _ f.2 (c.in-Err.ensures.reader.2 f.0)
 
-pub returns-then-ends_file-clause-unfailed : goal.returns-then-ends_file-clause-unfailed
-returns-then-ends_file-clause-unfailed g c = c.in-Err.ensures.told (c.if-ends_file.ensures.0 refl).0
+pub returns-then-ends_file-clause-reader : goal.returns-then-ends_file-clause-reader
+returns-then-ends_file-clause-reader g c = c.in-Err.ensures.reader.1 (not_device c.in-Err.kind (c.if-ends_file.ensures.0 refl).0)
 
 pub returns-else-ends_file-clause-unended : goal.returns-else-ends_file-clause-unended
 returns-else-ends_file-clause-unended g c =

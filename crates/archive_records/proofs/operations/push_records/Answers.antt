@@ -28,5 +28,5 @@ pushing-preserved g c =
       room = c.in-Ok-false.ensures.room;
       few = c.in-Ok-false.ensures.few;
       fits = fits;
-      unfailed = c.in-Ok-false.ensures.unfailed ∙ c.pushing.invariant.unfailed;
+      unfailed = c.in-Ok-false.ensures.reader ∙ c.pushing.invariant.unfailed;
     }

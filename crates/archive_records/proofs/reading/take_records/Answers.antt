@@ -28,5 +28,5 @@ taking-preserved g c =
       room = c.in-Ok-false.ensures.room;
       few = c.in-Ok-false.ensures.few;
       fits = fits;
-      unfailed = c.in-Ok-false.ensures.unfailed ∙ c.taking.invariant.unfailed;
+      unfailed = c.in-Ok-false.ensures.reader ∙ c.taking.invariant.unfailed;
     }
