@@ -1,10 +1,10 @@
 -- The operations of `apply`, one after another.
 use Rattle.std.proofs.Common.{◌≡◌, ℕ, ◌+◌, ◌-◌, ◌≤◌, Bool, true, false, cond, List, [], ◌∷◌, length, map, Option, Result, refl, sym, ap, ◌∙◌, arith}
-use Rattle.std.specs.Prelude.{not}
+use Rattle.std.specs.Prelude.{not, if◌then◌else◌}
 use Rattle.std.specs.FinSet as set
 use Rattle.std.specs.Int.{from_bool}
 use Rattle.std.specs.Cmp.Lexicographic.{nat_list_cmp_total}
-use Rattle.archive_core.specs.Content.{Operations, IsContent, with_record, with_records}
+use Rattle.archive_core.specs.Content.{Operations, IsContent, with_record, with_records, changes}
 use Rattle.archive_core.specs.Record.{rec}
 use Rattle.archive_core.specs.declared.operations.Operation.{Operation}
 use Rattle.archive_records.specs.Text.{IsOperationsText, written}
@@ -13,12 +13,12 @@ use Rattle.archive_lines.specs.declared.faults.CannotOpen.{CannotOpen}
 use Rattle.archive_commands.specs.Apply.{new_among, MakesApplied}
 use Rattle.archive_commands.specs.Inputs.{Gives}
 
--- what was taken counts where it was not there
-pub counted : (has changed : Bool) → changed ≡ not has → from_bool changed ≡ cond has 0 1
-counted true changed is = ap from_bool is
-counted false changed is = ap from_bool is
+-- a taking that changed the content counts one
+pub counted : (changed : Bool) → from_bool changed ≡ (if changed then 1 else 0)
+counted true = refl
+counted false = refl
 
-one_at_most : (has : Bool) → cond has 0 1 ≤ 1
+one_at_most : (changed : Bool) → (if changed then 1 else 0) ≤ 1
 one_at_most true = omega arith
 one_at_most false = omega arith
 
@@ -26,7 +26,7 @@ pub new_within : (o : Operations) (operations : List Operation) → new_among o 
 unfolding new_among
 new_within o [] = omega arith
 new_within o (operation ∷ rest) =
-    let one = one_at_most (set.contains o (rec operation)) in
+    let one = one_at_most (changes o (rec operation)) in
     let more = new_within (with_record o (rec operation)) rest in
     omega arith
 
@@ -40,12 +40,12 @@ pub at_first : (o : Operations) (all left : List Operation) (new : ℕ) → left
 at_first o all left new is zero = rw (is, zero) (record { content = refl; counted = omega arith; within = omega arith })
 
 pub one_taken : (old now next : Operations) (all left rest : List Operation) (operation : Operation) (new one : ℕ)
-    → IsUnderWay old now all left new → left ≡ operation ∷ rest → next ≡ with_record now (rec operation) → one ≡ cond (set.contains now (rec operation)) 0 1
+    → IsUnderWay old now all left new → left ≡ operation ∷ rest → next ≡ with_record now (rec operation) → one ≡ (if changes now (rec operation) then 1 else 0)
     → IsUnderWay old next all rest (new + one)
 unfolding new_among
 one_taken old now next all left rest operation new one way is next_is one_is =
-    let one_is' = one_at_most (set.contains now (rec operation)) in
-    let split : new_among now left ≡ cond (set.contains now (rec operation)) 0 1 + new_among next rest = ap (new_among now) is ∙ ap (λ (o : Operations). cond (set.contains now (rec operation)) 0 1 + new_among o rest) (sym next_is) in
+    let one_is' = one_at_most (changes now (rec operation)) in
+    let split : new_among now left ≡ (if changes now (rec operation) then 1 else 0) + new_among next rest = ap (new_among now) is ∙ ap (λ (o : Operations). (if changes now (rec operation) then 1 else 0) + new_among o rest) (sym next_is) in
     let long : length left ≡ length (operation ∷ rest) = ap length is in
     let way_counted = way.counted in
     let way_within = way.within in
@@ -74,14 +74,14 @@ all_counted old now all left new way none =
 
 -- OUT has as many records more than IN as were counted
 pub grown : (o : Operations) (operations : List Operation) → set.len (with_records o (map rec operations)) ≡ set.len o + new_among o operations
-unfolding new_among
+unfolding new_among changes
 grown o [] = omega arith
 grown o (operation ∷ rest) =
     grown (with_record o (rec operation)) rest
     ∙ ap (λ (n : ℕ). n + new_among (with_record o (rec operation)) rest) (set.len-insert nat_list_cmp_total o (rec operation))
     ∙ by_case (set.contains o (rec operation)) (set.len o) (new_among (with_record o (rec operation)) rest)
   where
-    by_case : (has : Bool) (n more : ℕ) → cond has n (n + 1) + more ≡ n + (cond has 0 1 + more)
+    by_case : (has : Bool) (n more : ℕ) → cond has n (n + 1) + more ≡ n + ((if not has then 1 else 0) + more)
     by_case true n more = omega arith
     by_case false n more = omega arith
 

@@ -3,7 +3,6 @@ pub mod Files
 pub mod Rows
 pub mod Orders
 pub mod Accepted
-pub mod Changes
 pub mod Joins
 pub mod Least
 pub mod Archives

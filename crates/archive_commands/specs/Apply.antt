@@ -1,7 +1,6 @@
 -- What `apply` makes of an archive and an operations file.
-use Rattle.std.specs.Prelude.{◌≡◌, ℕ, ◌+◌, ◌-◌, cond, List, [], ◌∷◌, length, map, Option, Result}
-use Rattle.std.specs.FinSet as set
-use Rattle.archive_core.specs.Content.{Operations, IsContent, with_record, with_records}
+use Rattle.std.specs.Prelude.{◌≡◌, ℕ, ◌+◌, ◌-◌, if◌then◌else◌, List, [], ◌∷◌, length, map, Option, Result}
+use Rattle.archive_core.specs.Content.{Operations, IsContent, with_record, with_records, changes}
 use Rattle.archive_core.specs.Record.{rec}
 use Rattle.archive_core.specs.declared.operations.Operation.{Operation}
 use Rattle.archive_records.specs.Text.{IsOperationsText, written}
@@ -9,10 +8,10 @@ use Rattle.archive_lines.specs.Report.{apply_line}
 use Rattle.archive_lines.specs.declared.faults.CannotOpen.{CannotOpen}
 use Rattle.archive_commands.specs.Inputs.{Gives}
 
--- how many of the operations are new, each over what those before it left
+-- how many of the operations are new: each changes what those before it left
 unfoldable pub new_among : Operations → List Operation → ℕ
 new_among o [] = 0
-new_among o (operation ∷ rest) = cond (set.contains o (rec operation)) 0 1 + new_among (with_record o (rec operation)) rest
+new_among o (operation ∷ rest) = (if changes o (rec operation) then 1 else 0) + new_among (with_record o (rec operation)) rest
 
 -- IN is the text of a content and OPS that of operations; this is the content with their records, and this is the line that counts the new and the known ones.
 pub record MakesApplied {R S : Type 0} (left_in : R → Option (List ℕ)) (left : S → Option (List ℕ)) (input : Result R CannotOpen) (ops : Result S CannotOpen) (content : Operations) (lines : List ℕ) : Type 0 where

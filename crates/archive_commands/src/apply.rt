@@ -1,7 +1,6 @@
 //! `apply IN OUT OPS`.
-ghost use Rattle.std.specs.Prelude.{◌≡◌, ◌≤◌, cond, length, map, OnOk, IfOk};
-ghost use Rattle.std.specs.FinSet as set;
-ghost use Rattle.archive_core.specs.Content.{with_record, with_records};
+ghost use Rattle.std.specs.Prelude.{◌≡◌, ◌≤◌, if◌then◌else◌, length, map, OnOk, IfOk};
+ghost use Rattle.archive_core.specs.Content.{with_record, with_records, changes};
 ghost use Rattle.archive_core.specs.Record.{rec};
 ghost use Rattle.archive_commands.specs.Apply.{new_among, MakesApplied};
 ghost use Rattle.archive_commands.specs.Inputs.{IsFirstApplyRefused, Unfailed};
@@ -17,7 +16,7 @@ use memory::{Heap, NoMemory};
 /// Takes an operation, and counts it where it is new.
 fn take_counted<A: Archive>(archive: &mut A, operation: Operation) -> Result<u64, NoMemory>
     ensures content { OnOk result (A.content archive.new ≡ with_record (A.content archive.old) (rec operation)) }
-    ensures counted { IfOk result (λ new. new ≡ cond (set.contains (A.content archive.old) (rec operation)) 0 1) }
+    ensures counted { IfOk result (λ new. new ≡ if changes (A.content archive.old) (rec operation) then 1 else 0) }
 {
     let changed = archive.take(operation)?;
     Ok(u64::from(changed))

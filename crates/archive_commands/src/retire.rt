@@ -1,7 +1,6 @@
 //! `retire IN OUT UUID ARCH DIGEST`.
-ghost use Rattle.std.specs.Prelude.{◌≡◌, not, OnOk, IfOk};
-ghost use Rattle.std.specs.FinSet as set;
-ghost use Rattle.archive_core.specs.Content.{with_record};
+ghost use Rattle.std.specs.Prelude.{◌≡◌, OnOk, IfOk};
+ghost use Rattle.archive_core.specs.Content.{with_record, changes};
 ghost use Rattle.archive_core.specs.Record.{retirement_record};
 ghost use Rattle.archive_commands.specs.Inputs.{IsRefusedArchive, Unfailed};
 ghost use Rattle.archive_commands.specs.Ends.{Ends, writer};
@@ -21,7 +20,7 @@ fn take_retirement<A: Archive>(
     digest: Digest,
 ) -> Result<bool, NoMemory>
     ensures content { OnOk result (A.content archive.new ≡ with_record (A.content archive.old) (retirement_record key digest.0)) }
-    ensures changed { IfOk result (λ changed. changed ≡ not (set.contains (A.content archive.old) (retirement_record key digest.0))) }
+    ensures changed { IfOk result (λ changed. changed ≡ changes (A.content archive.old) (retirement_record key digest.0)) }
 {
     let changed = archive.take(Operation::Retire(key, digest))?;
     Ok(changed)

@@ -1,5 +1,5 @@
 -- What an archive holds: a set of operations, the order on such sets, and what is live in one.
-use Rattle.std.specs.Prelude.{◌≡◌, ◌↔◌, ℕ, List, true, false, fold, Contains}
+use Rattle.std.specs.Prelude.{◌≡◌, ◌↔◌, ℕ, List, Bool, true, false, not, fold, Contains}
 use Rattle.std.specs.Ordering.{nat_cmp}
 use Rattle.std.specs.Cmp.Lexicographic.{slice_cmp}
 use Rattle.std.specs.FinSet as set
@@ -33,6 +33,10 @@ IsBelow o p = set.is_subset o p ≡ true
 -- the content after one operation was taken
 abbrev pub with_record : Operations → List ℕ → Operations
 with_record o r = made (set.insert o r)
+
+-- whether taking an operation changes a content: it does where the operation is not in it
+unfoldable pub changes : Operations → List ℕ → Bool
+changes o r = not (set.contains o r)
 
 -- the content after operations were taken, one after another
 abbrev pub with_records : Operations → List (List ℕ) → Operations

@@ -1,10 +1,10 @@
 //! What an archive is.
-ghost use Rattle.std.specs.Prelude.{◌≡◌, ◌<◌, ◌↔◌, false, IfOk, OnOk, OnErr, slice_index_or, []};
+ghost use Rattle.std.specs.Prelude.{◌≡◌, ◌<◌, ◌↔◌, IfOk, OnOk, OnErr, slice_index_or, []};
 ghost use Rattle.std.specs.FinSet as set;
 ghost use Rattle.join_core.specs.Listing.{listing};
 ghost use Rattle.archive_core.specs.Record.{rec, lent};
 ghost use Rattle.join_core.specs.Bound.{IsTowards};
-ghost use Rattle.archive_core.specs.Content.{Operations, IsContent, IsBelow, with_record, joined};
+ghost use Rattle.archive_core.specs.Content.{Operations, IsContent, IsBelow, with_record, changes, joined};
 ghost use Rattle.archive_core.specs.Find.{IsFinds};
 ghost use Rattle.archive_core.specs.Lookup.{IsAnswer, IsConflict, answer_view};
 
@@ -45,7 +45,7 @@ pub trait Archive: Join<Content = Contents> {
     /// alone; the operation is then dropped.
     fn take(&mut self, operation: Operation) -> Result<bool, NoMemory>
         ensures taken { OnOk result (Self.content self.new ≡ with_record (Self.content self.old) (rec operation)) }
-        ensures answer { IfOk result (λ changed. (changed ≡ false) ↔ (with_record (Self.content self.old) (rec operation) ≡ Self.content self.old)) }
+        ensures answer { IfOk result (λ changed. changed ≡ changes (Self.content self.old) (rec operation)) }
         ensures refused { OnErr result (Self.content self.new ≡ Self.content self.old) };
 
     /// Whether the operation is in the content.

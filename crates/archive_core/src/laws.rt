@@ -2,14 +2,14 @@
 //!
 //! Each law is the contract of a function that does nothing but call other laws, and speaks of the definitions alone: a
 //! caller that wants a law calls its function.
-ghost use Rattle.std.specs.Prelude.{◌≡◌, ◌⊎◌, ℕ, ◌+◌, List, [], ◌++◌, true, length, slice_index_or};
+ghost use Rattle.std.specs.Prelude.{◌≡◌, ◌⊎◌, ◌↔◌, ℕ, ◌+◌, List, [], ◌++◌, true, false, length, slice_index_or};
 ghost use Rattle.std.specs.FinSet as set;
 ghost use Rattle.sha2.specs.Sha256.{sha256};
 ghost use Rattle.join_core.specs.Bound.{IsLeastAbove};
 ghost use Rattle.archive_core.specs.Key.{IsKey};
 ghost use Rattle.archive_core.specs.Valid.{IsValid, IsSliceFault};
 ghost use Rattle.archive_core.specs.Record.{IsRecord, IsOperation, rec, admission_record, retirement_record};
-ghost use Rattle.archive_core.specs.Content.{Operations, made, IsMade, IsContent, IsBelow, with_records, joined, HaveSameMembers, IsLive};
+ghost use Rattle.archive_core.specs.Content.{Operations, made, IsMade, IsContent, IsBelow, with_record, with_records, changes, joined, HaveSameMembers, IsLive};
 ghost use Rattle.archive_core.specs.Find.{IsFinds, AreAnswering, answering_count};
 ghost use Rattle.archive_core.specs.Lookup.{AnswerRecord, IsAnswer};
 ghost use Rattle.join_core.specs.Listing.{listing};
@@ -75,6 +75,11 @@ pub fn contents_join()
 /// What each archive's join gives is what the operations of both contents make.
 pub fn join_gives_union<A: Archive>()
     ensures { (o p both : Operations) → IsContent o → IsContent p → IsLeastAbove A.is_content A.below o p both → both ≡ joined o p }
+{}
+
+/// An operation changes a content just where the content with it is another one.
+pub fn unchanged_is_the_same()
+    ensures { (o : Operations) (r : List ℕ) → IsContent o → (changes o r ≡ false) ↔ (with_record o r ≡ o) }
 {}
 
 /// The same operations, taken in any order and with any repeats, give one content: the join with

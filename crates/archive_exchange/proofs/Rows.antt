@@ -1,49 +1,31 @@
 -- The row of one more part.
-use Rattle.std.proofs.Common.{◌≡◌, ℕ, Bool, true, false, List, [], ◌∷◌, ◌++◌, map, refl, sym, ap, ◌∙◌}
-use mathlib.Core.Bool.{true≢false}
-use Rattle.std.specs.Prelude.{◌↔◌, if◌then◌else◌, filter}
+use Rattle.std.proofs.Common.{◌≡◌, ℕ, Bool, true, false, List, [], ◌∷◌, ◌++◌, map, refl, ap, ◌∙◌}
+use Rattle.std.specs.Prelude.{if◌then◌else◌, filter}
 use Rattle.std.specs.List.{fold}
-use Rattle.std.specs.Cmp.Lexicographic.{nat_list_cmp_total}
-use Rattle.std.specs.FinSet as set
 use Rattle.std.proofs.lemmas.List.{map-append}
 use Rattle.std.proofs.lemmas.List.Sums.{fold-append}
 use Rattle.sha2.specs.Sha256.{sha256}
-use Rattle.join_core.proofs.Place.{insert_present, insert_changes}
 use Rattle.archive_core.specs.declared.keys.SliceKey.{SliceKey}
 use Rattle.archive_core.specs.declared.keys.Digest.{Digest}
 use Rattle.archive_core.specs.Valid.{key_of}
 use Rattle.archive_core.specs.Record.{admission_record}
-use Rattle.archive_core.specs.Content.{Operations, with_record}
-use Rattle.archive_core.proofs.Held.{bytes_same}
+use Rattle.archive_core.specs.Content.{Operations, with_record, changes}
 use Rattle.archive_exchange.specs.File.{is_admissible}
 use Rattle.archive_exchange.specs.Take.{admitted, taken_of, taken_rows}
 use Rattle.archive_exchange.specs.declared.taken.Taken.{Taken}
 use Rattle.archive_exchange.specs.declared.taken.Taken.TheVariants.{Added, Known, Skipped}
 
 -- the answer of a take, as the definition of a row has it
-known_by : (o : Operations) (r : List ℕ) (changed has : Bool) → set.contains o r ≡ has → ((changed ≡ false) ↔ (with_record o r ≡ o)) → has ≡ (if changed then false else true)
-known_by o r true true h answer = absurd (true≢false (answer.1 (insert_present nat_list_cmp_total bytes_same o r h)))
-known_by o r true false h answer = refl
-known_by o r false true h answer = refl
-known_by o r false false h answer = absurd (insert_changes nat_list_cmp_total bytes_same o r h (answer.0 refl))
-
-row_by : (o : Operations) (image : List ℕ) (changed has : Bool) → set.contains o (admission_record image) ≡ has → has ≡ (if changed then false else true)
-    → (if changed then Added (key_of image) (record { 0 = sha256 image }) else Known (key_of image) (record { 0 = sha256 image })) ≡ taken_of o image
-unfolding taken_of
-row_by o image true true h e = absurd (true≢false e)
-row_by o image true false h e = rw h refl
-row_by o image false true h e = rw h refl
-row_by o image false false h e = absurd (true≢false (sym e))
-
 pub row_of : (o : Operations) (image : List ℕ) (changed : Bool) (key : SliceKey) (digest : Digest) (taken : Taken)
     → taken ≡ (if changed then Added key digest else Known key digest) → key ≡ key_of image → digest.0 ≡ sha256 image
-    → ((changed ≡ false) ↔ (with_record o (admission_record image) ≡ o))
+    → changed ≡ changes o (admission_record image)
     → taken ≡ taken_of o image
+unfolding taken_of
 row_of o image changed key digest taken is key_is digest_is answer =
     let digest' : digest ≡ record { 0 = sha256 image } = ap (λ (d : List ℕ). record { 0 = d }) digest_is in
     is ∙ ap (λ (k : SliceKey). if changed then Added k digest else Known k digest) key_is
     ∙ ap (λ (d : Digest). if changed then Added (key_of image) d else Known (key_of image) d) digest'
-    ∙ row_by o image changed (set.contains o (admission_record image)) refl (known_by o (admission_record image) changed (set.contains o (admission_record image)) refl answer)
+    ∙ ap (λ (b : Bool). if b then Added (key_of image) (record { 0 = sha256 image }) else Known (key_of image) (record { 0 = sha256 image })) answer
 
 pub skipped_row : (o : Operations) (part : List ℕ) → false ≡ is_admissible part → Skipped ∷ [] ≡ taken_rows o (part ∷ [])
 unfolding taken_rows

@@ -1,10 +1,9 @@
 -- What an archive's content becomes where a file is taken, and the rows that tell it.
 use Rattle.std.specs.Prelude.{◌≡◌, ◌≤◌, ℕ, List, [], ◌∷◌, length, map, take, if◌then◌else◌}
-use Rattle.std.specs.FinSet as set
 use Rattle.sha2.specs.Sha256.{sha256}
 use Rattle.archive_core.specs.Valid.{key_of}
 use Rattle.archive_core.specs.Record.{admission_record}
-use Rattle.archive_core.specs.Content.{Operations, with_records}
+use Rattle.archive_core.specs.Content.{Operations, with_records, changes}
 use Rattle.archive_exchange.specs.File.{is_admissible, admissible}
 use Rattle.archive_exchange.specs.declared.taken.Taken.{Taken}
 use Rattle.archive_exchange.specs.declared.taken.Taken.TheVariants.{Added, Known, Skipped}
@@ -13,11 +12,11 @@ use Rattle.archive_exchange.specs.declared.taken.Taken.TheVariants.{Added, Known
 abbrev pub admitted : Operations → List (List ℕ) → Operations
 admitted o images = with_records o (map admission_record images)
 
--- what becomes of an image: it is known where the content has its admission
+-- what becomes of an image: it is added where its admission changes the content, and known where it does not
 unfoldable pub taken_of : Operations → List ℕ → Taken
 taken_of o image =
-    if set.contains o (admission_record image) then Known (key_of image) (record { 0 = sha256 image })
-    else Added (key_of image) (record { 0 = sha256 image })
+    if changes o (admission_record image) then Added (key_of image) (record { 0 = sha256 image })
+    else Known (key_of image) (record { 0 = sha256 image })
 
 -- a row a part, in their order, each over what the parts before it left; laws.rows_in_order says what stands where
 unfoldable pub taken_rows : Operations → List (List ℕ) → List Taken

@@ -1,13 +1,7 @@
-use Rattle.std.proofs.Common.{refl, ◌∙◌}
-use Rattle.archive_core.specs.Record.{rec}
-use Rattle.std.specs.FinSet as set
-use Rattle.archive_commands.proofs.Changes.{changed_by}
+use Rattle.std.proofs.Common.{Bool, ap, ◌∙◌}
+use Rattle.std.specs.Prelude.{if◌then◌else◌}
 use Rattle.archive_commands.proofs.Counts.{counted}
 use Rattle.archive_commands.proofs.apply.take_counted.Goals as goal
 
 pub returns-clause-counted : goal.returns-clause-counted
-returns-clause-counted g c =
-    let old = g.A.Join.content c.args.archive.now in
-    let record_of = rec c.args.operation in
-    let has = set.contains old record_of in
-    c.from.ensures ∙ counted has c.in_ok-changed.changed (changed_by old record_of c.in_ok-changed.changed has refl c.in_ok-changed.ensures.answer)
+returns-clause-counted g c = c.from.ensures ∙ counted c.in_ok-changed.changed ∙ ap (λ (b : Bool). if b then 1 else 0) c.in_ok-changed.ensures.answer

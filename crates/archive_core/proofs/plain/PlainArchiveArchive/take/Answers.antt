@@ -1,12 +1,12 @@
-use Rattle.std.proofs.Common.{refl, sym, ◌∙◌, ap, map}
-use mathlib.Core.Bool.{true≢false}
+use Rattle.std.proofs.Common.{sym, ◌∙◌, ap, map}
 use Rattle.std.specs.Ordering.{nat_cmp}
 use Rattle.std.specs.Cmp.Lexicographic.{slice_cmp, nat_list_cmp_total}
 use Rattle.std.specs.FinSet as set
-use Rattle.join_core.proofs.Place.{insert_present, insert_changes}
+use Rattle.join_core.proofs.Place.{insert_present}
 use Rattle.archive_core.specs.Record.{rec}
 use Rattle.archive_core.proofs.Records.{record_of_operation}
 use Rattle.archive_core.proofs.Held.{bytes_same, held_insert, records_insert}
+use Rattle.archive_core.proofs.Taken.{present_changes, absent_changes}
 use Rattle.archive_core.proofs.plain.PlainArchiveArchive.take.Goals as goal
 
 pub invariant_of-self-in-Err : goal.invariant_of-self-in-Err
@@ -18,10 +18,7 @@ pub returns-in-Ok-clause-taken : goal.returns-in-Ok-clause-taken
 returns-in-Ok-clause-taken c = sym (insert_present nat_list_cmp_total bytes_same c.args.self.now (rec c.args.operation) (rw (← c.self.view_is, ← c.deref.ensures.value) c.in-Ok.ensures.found.present))
 
 pub returns-in-Ok-clause-answer : goal.returns-in-Ok-clause-answer
-returns-in-Ok-clause-answer c = (
-  λ _. insert_present nat_list_cmp_total bytes_same c.args.self.now (rec c.args.operation) (rw (← c.self.view_is, ← c.deref.ensures.value) c.in-Ok.ensures.found.present),
-  λ _. refl,
-)
+returns-in-Ok-clause-answer c = sym (present_changes c.args.self.now (rec c.args.operation) (rw (← c.self.view_is, ← c.deref.ensures.value) c.in-Ok.ensures.found.present))
 
 pub returns-in_ok-insert-in-Err-clause-taken : goal.returns-in_ok-insert-in-Err-clause-taken
 returns-in_ok-insert-in-Err-clause-taken c =
@@ -30,7 +27,4 @@ returns-in_ok-insert-in-Err-clause-taken c =
     ∙ ap (λ s. set.insert s (rec c.args.operation)) c.self.view_is
 
 pub returns-in_ok-insert-in-Err-clause-answer : goal.returns-in_ok-insert-in-Err-clause-answer
-returns-in_ok-insert-in-Err-clause-answer c = (
-  λ e. absurd (true≢false e),
-  λ same. absurd (insert_changes nat_list_cmp_total bytes_same c.args.self.now (rec c.args.operation) (rw (← c.self.view_is, ← c.deref.ensures.value) c.in-Err.ensures.found.absent.absent) same),
-)
+returns-in_ok-insert-in-Err-clause-answer c = sym (absent_changes c.args.self.now (rec c.args.operation) (rw (← c.self.view_is, ← c.deref.ensures.value) c.in-Err.ensures.found.absent.absent))
