@@ -43,7 +43,18 @@ pub fn admitted_in_any_order()
 /// A taking that stopped half way left a content between the old one and the one asked for, and gives the latter when
 /// it is asked for again.
 pub fn taking_resumed()
-    ensures above { (file : List ℕ) (o mid : Operations) → IsContent o → IsAcceptedFile file → IsTakenInPart file o mid → IsBelow o mid }
-    ensures below { (file : List ℕ) (o mid : Operations) → IsContent o → IsAcceptedFile file → IsTakenInPart file o mid → IsBelow mid (admitted o (admissible file)) }
-    ensures again { (file : List ℕ) (o mid : Operations) → IsMade o → IsTakenInPart file o mid → admitted mid (admissible file) ≡ admitted o (admissible file) }
+    ensures above { (file : List ℕ) (o mid : Operations)
+        → IsContent o
+        → IsAcceptedFile file
+        → IsTakenInPart file o mid
+        → IsBelow o mid }
+    ensures below { (file : List ℕ) (o mid : Operations)
+        → IsContent o
+        → IsAcceptedFile file
+        → IsTakenInPart file o mid
+        → IsBelow mid (admitted o (admissible file)) }
+    ensures again { (file : List ℕ) (o mid : Operations)
+        → IsMade o
+        → IsTakenInPart file o mid
+        → admitted mid (admissible file) ≡ admitted o (admissible file) }
 {}

@@ -5,3 +5,4 @@ pub mod Place
 pub mod Listing
 pub mod Search
 pub mod Merge
+pub mod Retain

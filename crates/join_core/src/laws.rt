@@ -1,11 +1,16 @@
-//! What follows for each type that joins, from the three laws of its order alone.
+//! What follows for each type that joins, from the three laws of its order alone, and that a finite set has one
+//! ascending list.
 //!
 //! Each law is the contract of a function with an empty body, and speaks of contents and their least
 //! bounds: `IsLeastAbove is_content below x y z` says that `z` is the join of `x` and `y`. A caller
 //! that wants a law calls its function. The laws are those of a join semilattice, on which the
 //! convergence of state-based objects rests (INRIA RR-7506, 2011).
-ghost use Rattle.std.specs.Prelude.{◌≡◌};
+ghost use Rattle.std.specs.Prelude.{◌≡◌, List, length};
+ghost use Rattle.std.specs.declared.cmp.Ordering.{Ordering};
+ghost use Rattle.std.specs.Cmp.{IsTotalOrder};
+ghost use Rattle.std.specs.FinSet.{FinSet, IsAntisymmetric, len};
 ghost use Rattle.join_core.specs.Bound.{IsLeastAbove};
+ghost use Rattle.join_core.specs.Listing.{IsListing, listing};
 
 use crate::Join;
 
@@ -57,4 +62,23 @@ pub fn resumed<J: Join>()
         → J.below old mid
         → J.below mid joined
         → IsLeastAbove J.is_content J.below mid other joined }
+{}
+
+/// A finite set has one list of its members in ascending order, and that is its `listing`: under each order that is
+/// total and ties no two different members.
+pub fn one_listing<K>()
+    ensures listed { (R : K → K → Ordering) (s : FinSet R)
+        → IsTotalOrder R
+        → IsAntisymmetric R
+        → IsListing R s (listing s) }
+    ensures one { (R : K → K → Ordering) (s : FinSet R) (members others : List K)
+        → IsTotalOrder R
+        → IsAntisymmetric R
+        → IsListing R s members
+        → IsListing R s others
+        → members ≡ others }
+    ensures number { (R : K → K → Ordering) (s : FinSet R)
+        → IsTotalOrder R
+        → IsAntisymmetric R
+        → length (listing s) ≡ len s }
 {}

@@ -5,12 +5,12 @@
 //! states form a join semilattice, and that merge by its least upper bound.
 //!
 //! - `semilattice`: the trait [`Join`];
-//! - [`laws`]: what follows for each type that joins.
+//! - [`laws`]: what follows for each type that joins, and for each finite set.
 //!
 //! Of the definitions, `specs/Bound` has least bounds. `specs/Listing` has finite sets as ascending
 //! lists, for contents that are finite sets; `proofs/` has their lemmas: inclusion and union
 //! (`Subset`), sets made of lists (`Members`), a key's place (`Place`, `Search`), the listing of a
-//! set (`Listing`) and two lists put together (`Merge`).
+//! set (`Listing`) and of a part of it (`Retain`), and two lists put together (`Merge`).
 #![tactic(auto)]
 
 pub mod laws;
