@@ -7,3 +7,5 @@ pub mod Taken
 pub mod Scanned
 pub mod Answering
 pub mod Lookups
+pub mod Entries
+pub mod Summaries

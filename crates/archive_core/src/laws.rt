@@ -1,26 +1,31 @@
-//! What holds of faults, records, contents, joins, rows and answers.
+//! What holds of faults, records, contents, joins, summaries, rows and answers.
 //!
 //! Each law is the contract of a function that does nothing but call other laws, and speaks of the definitions alone: a
 //! caller that wants a law calls its function.
-ghost use Rattle.std.specs.Prelude.{◌≡◌, ◌⊎◌, ◌↔◌, ℕ, ◌+◌, List, [], ◌++◌, true, false, length, slice_index_or};
+ghost use Rattle.std.specs.Prelude.{◌≡◌, ◌⊎◌, ◌↔◌, ◌&&◌, ℕ, ◌+◌, List, [], ◌∷◌, ◌++◌, true, false, not, filter, length, slice_index_or};
+ghost use Rattle.std.specs.Ordering.{nat_cmp};
+ghost use Rattle.std.specs.Cmp.Lexicographic.{slice_cmp};
 ghost use Rattle.std.specs.FinSet as set;
 ghost use Rattle.sha2.specs.Sha256.{sha256};
 ghost use Rattle.join_core.specs.Bound.{IsLeastAbove};
-ghost use Rattle.archive_core.specs.Key.{IsKey};
-ghost use Rattle.archive_core.specs.Valid.{IsValid, IsSliceFault};
-ghost use Rattle.archive_core.specs.Record.{IsRecord, IsOperation, rec, admission_record, retirement_record};
+ghost use Rattle.archive_core.specs.Key.{IsKey, key_bytes};
+ghost use Rattle.archive_core.specs.Valid.{IsValid, IsSliceFault, key_of};
+ghost use Rattle.archive_core.specs.Record.{IsRecord, Admits, IsOperation, rec, admission_record, retirement_record};
 ghost use Rattle.archive_core.specs.Content.{Operations, made, IsMade, IsContent, IsBelow, with_record, with_records, changes, joined, HaveSameMembers, IsLive};
+ghost use Rattle.archive_core.specs.Summary.{Entries, entry, summary, delta, DigestsTell};
 ghost use Rattle.archive_core.specs.Find.{IsFinds, AreAnswering, answering_count};
 ghost use Rattle.archive_core.specs.Lookup.{AnswerRecord, IsAnswer};
-ghost use Rattle.join_core.specs.Listing.{listing};
+ghost use Rattle.join_core.specs.Listing.{IsListing, listing};
 ghost use Rattle.archive_core.specs.declared.find.FindRow.{FindRow};
 ghost use Rattle.archive_core.specs.declared.keys.SliceKey.{SliceKey};
 ghost use Rattle.archive_core.specs.declared.lookup.Where.{Where};
 ghost use Rattle.archive_core.specs.declared.faults.SliceFault.{SliceFault};
 ghost use Rattle.archive_core.specs.declared.operations.Operation.{Operation};
 
-use crate::{Archive, PlainArchive};
-use join_core::laws::{associative, commutative, idempotent, monotone, resumed, unique};
+use crate::{Archive, PlainArchive, Slice};
+use join_core::laws::{
+    associative, commutative, idempotent, monotone, one_listing, resumed, unique,
+};
 use macho_image::laws::one_fault;
 use macho_symbols::laws::{one_nearest, one_symbol_fault};
 
@@ -37,7 +42,10 @@ pub fn one_slice_fault()
 /// An admission's record has 33 bytes before the slice; a retirement's has 57.
 pub fn record_lengths()
     ensures admission { (slice : List ℕ) → IsValid slice → length (admission_record slice) ≡ 33 + length slice }
-    ensures retirement { (key : SliceKey) (digest : List ℕ) → IsKey key → length digest ≡ 32 → length (retirement_record key digest) ≡ 57 }
+    ensures retirement { (key : SliceKey) (digest : List ℕ)
+        → IsKey key
+        → length digest ≡ 32
+        → length (retirement_record key digest) ≡ 57 }
 {}
 
 /// No record begins another: a text that is a row of records falls into them in one way.
@@ -53,16 +61,43 @@ pub fn one_record_each()
     ensures one { (a b : Operation) → IsOperation a → IsOperation b → rec a ≡ rec b → a ≡ b }
 {}
 
+/// The operations of a content have one list in the ascending byte order of their records, and `listing`, of which
+/// `Archive::record_at` gives the members, is that list.
+pub fn one_listing_of_records()
+    ensures listed { (o : Operations) → IsListing (slice_cmp nat_cmp) o (listing o) }
+    ensures one { (o : Operations) (records : List (List ℕ))
+        → IsListing (slice_cmp nat_cmp) o records
+        → records ≡ listing o }
+    ensures number { (o : Operations) → length (listing o) ≡ set.len o }
+{
+    one_listing::<Slice>();
+}
+
 /// Contents are a join semilattice (INRIA RR-7506, 2011): the join of two is their
 /// least upper bound; grouping, order and repeats do not count; what holds no more joins to no
 /// more; and a join that stopped half way gives the same when it is asked for again.
 pub fn contents_join()
     ensures least { (o p : Operations) → IsContent o → IsContent p → IsLeastAbove IsContent IsBelow o p (joined o p) }
-    ensures associative { (o p q : Operations) → IsContent o → IsContent p → IsContent q → joined (joined o p) q ≡ joined o (joined p q) }
+    ensures associative { (o p q : Operations)
+        → IsContent o
+        → IsContent p
+        → IsContent q
+        → joined (joined o p) q ≡ joined o (joined p q) }
     ensures commutative { (o p : Operations) → IsContent o → IsContent p → joined o p ≡ joined p o }
     ensures idempotent { (o : Operations) → IsContent o → joined o o ≡ o }
-    ensures monotone { (o p q : Operations) → IsContent o → IsContent p → IsContent q → IsBelow o p → IsBelow (joined o q) (joined p q) }
-    ensures resumed { (o mid p : Operations) → IsContent o → IsContent mid → IsContent p → IsBelow o mid → IsBelow mid (joined o p) → joined mid p ≡ joined o p }
+    ensures monotone { (o p q : Operations)
+        → IsContent o
+        → IsContent p
+        → IsContent q
+        → IsBelow o p
+        → IsBelow (joined o q) (joined p q) }
+    ensures resumed { (o mid p : Operations)
+        → IsContent o
+        → IsContent mid
+        → IsContent p
+        → IsBelow o mid
+        → IsBelow mid (joined o p)
+        → joined mid p ≡ joined o p }
 {
     unique::<PlainArchive>();
     associative::<PlainArchive>();
@@ -74,7 +109,11 @@ pub fn contents_join()
 
 /// What each archive's join gives is what the operations of both contents make.
 pub fn join_gives_union<A: Archive>()
-    ensures { (o p both : Operations) → IsContent o → IsContent p → IsLeastAbove A.is_content A.below o p both → both ≡ joined o p }
+    ensures { (o p both : Operations)
+        → IsContent o
+        → IsContent p
+        → IsLeastAbove A.is_content A.below o p both
+        → both ≡ joined o p }
 {}
 
 /// An operation changes a content just where the content with it is another one.
@@ -85,8 +124,13 @@ pub fn unchanged_is_the_same()
 /// The same operations, taken in any order and with any repeats, give one content: the join with
 /// what they make.
 pub fn takes_in_any_order()
-    ensures order { (o : Operations) (rs ss : List (List ℕ)) → IsMade o → HaveSameMembers rs ss → with_records o rs ≡ with_records o ss }
-    ensures union { (o : Operations) (rs : List (List ℕ)) → IsMade o → with_records o rs ≡ joined o (made (set.from_list rs)) }
+    ensures order { (o : Operations) (rs ss : List (List ℕ))
+        → IsMade o
+        → HaveSameMembers rs ss
+        → with_records o rs ≡ with_records o ss }
+    ensures union { (o : Operations) (rs : List (List ℕ))
+        → IsMade o
+        → with_records o rs ≡ joined o (made (set.from_list rs)) }
 {}
 
 /// What was retired never comes back: no content above one that retires a slice has it live.
@@ -98,9 +142,85 @@ pub fn retired_stays_retired()
         → ⊥ }
 {}
 
+/// The entry of an admission is its tag, its key and the SHA-256 of its slice; that of a retirement is its record.
+/// Each has 57 bytes.
+pub fn entries_in_words()
+    ensures admission { (slice : List ℕ)
+        → IsValid slice
+        → entry (admission_record slice) ≡ 2 ∷ (key_bytes (key_of slice) ++ sha256 slice) }
+    ensures retirement { (key : SliceKey) (digest : List ℕ)
+        → entry (retirement_record key digest) ≡ retirement_record key digest }
+    ensures long { (r : List ℕ) → IsRecord r → length (entry r) ≡ 57 }
+{}
+
+/// An entry is that of one retirement, or of the admissions under one key of slices with one SHA-256.
+pub fn one_entry()
+    ensures retirement { (key : SliceKey) (digest r : List ℕ)
+        → IsRecord r
+        → entry r ≡ entry (retirement_record key digest)
+        → r ≡ retirement_record key digest }
+    ensures admissions { (slice r : List ℕ)
+        → IsValid slice
+        → IsRecord r
+        → entry r ≡ entry (admission_record slice)
+        → (other : Admits r)
+        × (key_bytes (key_of other.slice) ≡ key_bytes (key_of slice))
+        × (sha256 other.slice ≡ sha256 slice) }
+{}
+
+/// Where no slice of the one content has the SHA-256 of a different slice of the other, operations of the two with
+/// one entry are one operation.
+pub fn digests_tell()
+    ensures { (o p : Operations) (r s : List ℕ)
+        → IsContent o
+        → IsContent p
+        → DigestsTell o p
+        → set.contains o r ≡ true
+        → set.contains p s ≡ true
+        → entry r ≡ entry s
+        → r ≡ s }
+{}
+
+/// A summary has the entry of each operation of a content and no other. A delta is the content of those operations
+/// whose entries are not there, in their order.
+pub fn deltas_in_words()
+    ensures summary { (o : Operations) (e : List ℕ)
+        → (set.contains (summary o) e ≡ true) ↔ ((r : List ℕ) × (set.contains o r ≡ true) × (entry r ≡ e)) }
+    ensures delta { (o : Operations) (s : Entries) (r : List ℕ)
+        → set.contains (delta o s) r ≡ (set.contains o r && not (set.contains s (entry r))) }
+    ensures listed { (o : Operations) (s : Entries)
+        → listing (delta o s) ≡ filter (λ r. not (set.contains s (entry r))) (listing o) }
+    ensures content { (o : Operations) (s : Entries) → IsContent o → IsContent (delta o s) }
+    ensures below { (o : Operations) (s : Entries) → IsContent o → IsBelow (delta o s) o }
+{}
+
+/// A content that takes in a delta against its own summary, or against an older one whose entries it still has, is
+/// above the content that the delta was made of, where no slice of the one has the SHA-256 of a different slice of
+/// the other. Whatever the entries and the slices, it is below the join of both.
+pub fn delta_brings_above()
+    ensures above { (o p : Operations) (s : Entries)
+        → IsContent o
+        → IsContent p
+        → DigestsTell o p
+        → set.is_subset s (summary p) ≡ true
+        → IsBelow o (joined p (delta o s)) }
+    ensures own { (o p : Operations)
+        → IsContent o
+        → IsContent p
+        → DigestsTell o p
+        → IsBelow o (joined p (delta o (summary p))) }
+    ensures within { (o p : Operations) (s : Entries)
+        → IsContent o
+        → IsContent p
+        → IsBelow (joined p (delta o s)) (joined o p) }
+{}
+
 /// A content and a UUID have one list of rows.
 pub fn one_find()
-    ensures { (o : Operations) (uuid : List ℕ) (rows others : List FindRow) → IsFinds o uuid rows → IsFinds o uuid others → rows ≡ others }
+    ensures { (o : Operations) (uuid : List ℕ) (rows others : List FindRow)
+        → IsFinds o uuid rows
+        → IsFinds o uuid others
+        → rows ≡ others }
 {}
 
 /// The rows of a UUID tell how many slices answer under it and an architecture.
@@ -125,15 +245,23 @@ pub fn one_answer()
 /// Two archives of one content, of whatever types, are alike in every answer: what each answers is
 /// told by the content alone.
 pub fn alike<A: Archive, B: Archive>()
-    ensures holds { (a : A) (b : B) (operation : Operation) → A.content a ≡ B.content b → set.contains (A.content a) (rec operation) ≡ set.contains (B.content b) (rec operation) }
+    ensures holds { (a : A) (b : B) (operation : Operation)
+        → A.content a ≡ B.content b
+        → set.contains (A.content a) (rec operation) ≡ set.contains (B.content b) (rec operation) }
     ensures len { (a : A) (b : B) → A.content a ≡ B.content b → set.len (A.content a) ≡ set.len (B.content b) }
-    ensures record_at { (a : A) (b : B) (place : ℕ) → A.content a ≡ B.content b → slice_index_or (listing (A.content a)) place [] ≡ slice_index_or (listing (B.content b)) place [] }
+    ensures record_at { (a : A) (b : B) (place : ℕ)
+        → A.content a ≡ B.content b
+        → slice_index_or (listing (A.content a)) place [] ≡ slice_index_or (listing (B.content b)) place [] }
     ensures lookup { (a : A) (b : B) (key : SliceKey) (place : Where) (answer other : AnswerRecord)
         → A.content a ≡ B.content b
         → IsAnswer (A.content a) key place answer
         → IsAnswer (B.content b) key place other
         → answer ≡ other }
-    ensures find { (a : A) (b : B) (uuid : List ℕ) (rows others : List FindRow) → A.content a ≡ B.content b → IsFinds (A.content a) uuid rows → IsFinds (B.content b) uuid others → rows ≡ others }
+    ensures find { (a : A) (b : B) (uuid : List ℕ) (rows others : List FindRow)
+        → A.content a ≡ B.content b
+        → IsFinds (A.content a) uuid rows
+        → IsFinds (B.content b) uuid others
+        → rows ≡ others }
 {
     one_find();
     one_answer();

@@ -17,7 +17,7 @@
 //! - `told`: an operation beside its row;
 //! - `live`: slices that answer under a key, and what they tell;
 //! - `plain`: an archive as a sorted list;
-//! - [`laws`]: what holds of records, contents, joins, rows and answers.
+//! - [`laws`]: what holds of records, contents, joins, summaries, rows and answers.
 #![tactic(auto)]
 
 mod archives;

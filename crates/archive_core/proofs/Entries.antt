@@ -1,0 +1,82 @@
+-- The entries of admissions and retirements, and what records have one entry.
+use Rattle.std.proofs.Common.{◌≡◌, ℕ, List, [], ◌∷◌, ◌++◌, length, take, drop, refl, sym, ap, arith, ◌∙◌, inl, inr, append_assoc, length-append}
+use Rattle.std.specs.Int.{w64, to_be_bytes}
+use Rattle.std.proofs.Math.Seq.{drop-append_seam}
+use Rattle.sha2.specs.Sha256.{sha256}
+use Rattle.sha2.proofs.Facts256.{length-sha256}
+use Rattle.archive_core.specs.Key.{key_bytes}
+use Rattle.archive_core.specs.Valid.{key_of, IsValid}
+use Rattle.archive_core.specs.Record.{admission, admission_record, retirement_record, Admits, IsRecord}
+use Rattle.archive_core.specs.declared.keys.SliceKey.{SliceKey}
+use Rattle.archive_core.proofs.Records.{same_parts, length-key_of, length-retirement_record}
+use Rattle.archive_core.specs.Summary.{entry}
+
+-- an admission's record up to its slice
+front : List ℕ → List ℕ
+front s = 2 ∷ (key_bytes (key_of s) ++ to_be_bytes w64 (length s))
+
+front_long : (s : List ℕ) → IsValid s → length (front s) ≡ 33
+unfolding front
+front_long s valid = omega (arith, length-append (key_bytes (key_of s)) (to_be_bytes w64 (length s)), length-key_of s valid)
+
+split : (s : List ℕ) → admission_record s ≡ front s ++ s
+unfolding admission front
+split s = ap (λ l. 2 ∷ l) (sym (append_assoc (key_bytes (key_of s)) (to_be_bytes w64 (length s)) s))
+
+-- the slice, read back from the record
+pub slice_of : (s : List ℕ) → IsValid s → drop 33 (admission_record s) ≡ s
+slice_of s valid = ap (drop 33) (split s) ∙ ap (λ n. drop n (front s ++ s)) (sym (front_long s valid)) ∙ drop-append_seam (front s) s
+
+take_front : (a b : List ℕ) → take (length a) (a ++ b) ≡ a
+take_front [] b = refl
+take_front (x ∷ a) b = ap (λ l. x ∷ l) (take_front a b)
+
+key_at : (s : List ℕ) → IsValid s → take 24 (drop 1 (admission_record s)) ≡ key_bytes (key_of s)
+unfolding admission
+key_at s valid = ap (λ n. take n (key_bytes (key_of s) ++ (to_be_bytes w64 (length s) ++ s))) (sym (length-key_of s valid)) ∙ take_front (key_bytes (key_of s)) (to_be_bytes w64 (length s) ++ s)
+
+-- the entries, in the words of records
+pub admission_entry : (s : List ℕ) → IsValid s → entry (admission_record s) ≡ 2 ∷ (key_bytes (key_of s) ++ sha256 s)
+unfolding entry
+admission_entry s valid = ap (λ l. 2 ∷ (l ++ sha256 (drop 33 (admission_record s)))) (key_at s valid) ∙ ap (λ l. 2 ∷ (key_bytes (key_of s) ++ sha256 l)) (slice_of s valid)
+
+pub retirement_entry : (key : SliceKey) (digest : List ℕ) → entry (retirement_record key digest) ≡ retirement_record key digest
+unfolding entry
+retirement_entry key digest = refl
+
+-- an entry has as many bytes as a retirement's record
+pub length-entry : (r : List ℕ) → IsRecord r → length (entry r) ≡ 57
+length-entry r (inl a) = ap (λ (s : List ℕ). length (entry s)) a.is ∙ ap length (admission_entry a.slice a.valid) ∙ long
+  where
+    long : length (2 ∷ (key_bytes (key_of a.slice) ++ sha256 a.slice)) ≡ 57
+    long = omega (arith, length-append (key_bytes (key_of a.slice)) (sha256 a.slice), length-key_of a.slice a.valid, length-sha256 a.slice)
+length-entry r (inr b) = ap (λ (s : List ℕ). length (entry s)) b.is ∙ ap length (retirement_entry b.key b.digest) ∙ length-retirement_record b.key b.digest b.is_key b.long
+
+-- no entry is of both kinds
+apart : (x y : List ℕ) → 2 ∷ x ≡ 1 ∷ y → ⊥
+apart x y h = cc
+
+-- the entry of a retirement is of no other record
+pub retirement_of_entry : (key : SliceKey) (digest r : List ℕ) → IsRecord r → entry r ≡ entry (retirement_record key digest) → r ≡ retirement_record key digest
+retirement_of_entry key digest r (inl a) e =
+    absurd (apart _ _ (sym (admission_entry a.slice a.valid) ∙ ap entry (sym a.is) ∙ e ∙ retirement_entry key digest))
+retirement_of_entry key digest r (inr b) e = b.is ∙ sym (retirement_entry b.key b.digest) ∙ ap entry (sym b.is) ∙ e ∙ retirement_entry key digest
+
+-- the entry of an admission is of admissions alone, under the same key and of slices with the same SHA-256
+pub admissions_of_entry : (slice r : List ℕ) → IsValid slice → IsRecord r → entry r ≡ entry (admission_record slice)
+    → (other : Admits r) × (key_bytes (key_of other.slice) ≡ key_bytes (key_of slice)) × (sha256 other.slice ≡ sha256 slice)
+admissions_of_entry slice r valid (inl a) e =
+    let same : 2 ∷ (key_bytes (key_of a.slice) ++ sha256 a.slice) ≡ 2 ∷ (key_bytes (key_of slice) ++ sha256 slice) =
+    sym (admission_entry a.slice a.valid) ∙ ap entry (sym a.is) ∙ e ∙ admission_entry slice valid in
+    let parts = same_parts (key_bytes (key_of a.slice)) (key_bytes (key_of slice)) (sha256 a.slice) (sha256 slice) (length-key_of a.slice a.valid ∙ sym (length-key_of slice valid)) (ap (drop 1) same) in
+    (a, parts.0, parts.1)
+admissions_of_entry slice r valid (inr b) e =
+    absurd (apart _ _ (sym (admission_entry slice valid) ∙ sym e ∙ ap entry b.is ∙ retirement_entry b.key b.digest))
+
+-- records with one entry are one, where the slices that they admit are told apart by their SHA-256
+pub entry_tells : (r s : List ℕ) → IsRecord r → IsRecord s → entry r ≡ entry s
+    → ((a b : List ℕ) → r ≡ admission_record a → s ≡ admission_record b → sha256 a ≡ sha256 b → a ≡ b) → r ≡ s
+entry_tells r s is_r (inr b) e tells = retirement_of_entry b.key b.digest r is_r (e ∙ ap entry b.is) ∙ sym b.is
+entry_tells r s is_r (inl b) e tells =
+    let found = admissions_of_entry b.slice r b.valid is_r (e ∙ ap entry b.is) in
+    found.0.is ∙ ap admission_record (tells found.0.slice b.slice found.0.is b.is found.2) ∙ sym b.is

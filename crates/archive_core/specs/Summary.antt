@@ -1,0 +1,29 @@
+-- What a summary names of a content, and the part of a content that it does not name.
+use Rattle.std.specs.Prelude.{◌≡◌, ℕ, List, ◌∷◌, ◌++◌, true, not, ◌==◌, if◌then◌else◌, map, take, drop, slice_index}
+use Rattle.std.specs.Ordering.{nat_cmp}
+use Rattle.std.specs.Cmp.Lexicographic.{slice_cmp}
+use Rattle.std.specs.FinSet as set
+use Rattle.sha2.specs.Sha256.{sha256}
+use Rattle.join_core.specs.Listing.{listing}
+use Rattle.archive_core.specs.Record.{admission_record}
+use Rattle.archive_core.specs.Content.{Operations}
+
+-- a finite set of entries, in byte order
+abbrev pub Entries : Type 0
+Entries = set.FinSet (slice_cmp nat_cmp)
+
+-- the entry of an operation, by its record: of an admission tag 2, the key and the SHA-256 of the slice, in place of its length and the slice; of a retirement its record
+unfoldable pub entry : List ℕ → List ℕ
+entry r = if slice_index r 0 == 2 then 2 ∷ (take 24 (drop 1 r) ++ sha256 (drop 33 r)) else r
+
+-- the entries of the operations of a content
+unfoldable pub summary : Operations → Entries
+summary o = set.from_list (map entry (listing o))
+
+-- the operations of a content whose entries are not among these
+unfoldable pub delta : Operations → Entries → Operations
+delta o s = set.retain o (λ r. not (set.contains s (entry r)))
+
+-- no slice of the one content has the SHA-256 of a different slice of the other
+abbrev pub DigestsTell : Operations → Operations → Type 0
+DigestsTell o p = (a b : List ℕ) → set.contains o (admission_record a) ≡ true → set.contains p (admission_record b) ≡ true → sha256 a ≡ sha256 b → a ≡ b
