@@ -1,0 +1,12 @@
+pub mod Content
+pub mod Between
+pub mod Steps
+pub mod Reach
+pub mod Had
+pub mod Kept
+pub mod Deltas
+pub mod Agreed
+pub mod Meant
+pub mod Telling
+pub mod Rows
+pub mod Rehearsal
