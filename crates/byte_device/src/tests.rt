@@ -1,91 +1,107 @@
-//! What no clause says: that calls get through where there is memory and nothing fails, and that
-//! the devices stand over readers and writers of `std`.
+//! What no clause says: that calls get through where there is memory and nothing fails, and that a
+//! failure of a reader or a writer of `std` is told once, at once and not for good.
 
-use crate::{
-    Bytes, Failed, Grown, Pieces, ReadFault, Reading, Short, Sink, Source, WriteFault, Writing,
-    is_at_end, push_all, put, read_to_end,
-};
+ghost use Rattle.std.specs.Prelude.{◌≡◌, IfOk};
+
+use crate::{Failed, Grown, Pieces, Reading, Short, Sink, Source, Writing, put, read_to_end};
 use memory::Heap;
-use std::io::{self, Error, ErrorKind, Read};
+use std::io::{self, Error, ErrorKind, Read, Write};
 use std::test::Fail;
 
+/// A stream whose second call fails: by an error of this kind, or, where there is none, as it moves
+/// no byte. It counts its calls.
 #[derive(Drop)]
-struct Broken;
+struct FailsOnce<S> {
+    stream: S,
+    kind: Option<ErrorKind>,
+    calls: u8,
+}
 
-impl Read for Broken {
-    fn read(&mut self, _buf: &mut [u8]) -> io::Result<usize> {
-        Err(Error::from(ErrorKind::Other))
+impl<S> FailsOnce<S> {
+    fn new(stream: S, kind: Option<ErrorKind>) -> Self {
+        FailsOnce {
+            stream,
+            kind,
+            calls: 0,
+        }
+    }
+
+    fn fails(&mut self) -> bool {
+        self.calls = self.calls.saturating_add(1);
+        self.calls == 2
+    }
+
+    fn failure(&self) -> io::Result<usize>
+        ensures { IfOk result (λ n. n ≡ 0) }
+    {
+        match self.kind {
+            Some(kind) => Err(Error::from(kind)),
+            None => Ok(0),
+        }
+    }
+}
+
+impl<R: Read> Read for FailsOnce<R> {
+    fn read(&mut self, buf: &mut [u8]) -> io::Result<usize> {
+        if self.fails() {
+            return self.failure();
+        }
+        self.stream.read(buf)
+    }
+}
+
+impl<W: Write> Write for FailsOnce<W> {
+    fn write(&mut self, buf: &[u8]) -> io::Result<usize> {
+        if self.fails() {
+            return self.failure();
+        }
+        self.stream.write(buf)
+    }
+
+    fn flush(&mut self) -> io::Result<()> {
+        self.stream.flush()
     }
 }
 
 #[test]
-fn passes_bytes_of_streams_on(rt: HostRuntime) -> Result<(), Fail> {
-    let heap = Heap::new(rt.alloc())?;
-    let text: &[u8] = b"a text";
-    let read = read_to_end(heap.clone()?, &mut Reading::new(text))?;
-    assert_eq!(rt; read.as_slice(), text);
-
-    let mut written = Vec::new(heap.clone()?);
-    push_all(&mut Writing::new(&mut written), text)?;
-    assert_eq!(rt; written.as_slice(), text);
-
-    let cut = read_to_end(heap, &mut Reading::new(text.chain(Broken)));
-    assert_eq!(rt; cut.err(), Some(ReadFault::Device));
-    let mut room = [0; 4];
-    let full = push_all(&mut Writing::new(room.as_mut_slice()), text);
-    assert_eq!(rt; full, Err(WriteFault { written: 4 }));
+fn a_failure_of_a_stream_is_told_once(rt: HostRuntime) -> Result<(), Fail> {
+    for kind in [ErrorKind::Interrupted, ErrorKind::Other] {
+        let mut reader = FailsOnce::new(b"abc".as_slice(), Some(kind));
+        let mut device = Reading::new(&mut reader);
+        let mut one = [0; 1];
+        let told = [
+            device.pull(&mut one),
+            device.pull(&mut one),
+            device.pull(&mut one),
+        ];
+        assert!(rt; told == [Ok(1), Err(Failed), Ok(1)] && reader.calls == 3);
+    }
+    for kind in [Some(ErrorKind::Interrupted), Some(ErrorKind::Other), None] {
+        let mut writer = FailsOnce::new(Vec::new(rt.alloc()), kind);
+        let mut device = Writing::new(&mut writer);
+        let told = [device.push(b"a"), device.push(b"b"), device.push(b"c")];
+        assert!(rt; told == [Ok(1), Err(Failed), Ok(1)] && writer.calls == 3);
+    }
     Ok(())
 }
 
 #[test]
-fn reads_to_end_of_pieces(rt: HostRuntime) -> Result<(), Fail> {
+fn long_texts_go_through(rt: HostRuntime) -> Result<(), Fail> {
     let mut text = Vec::new(rt.alloc());
-    for i in 0..200_000u32 {
-        text.push((i % 251) as u8)?;
-    }
-    for size in [1, 4099, 65_536, 200_000] {
-        let mut pieces = Pieces::new(&text, size, usize::MAX);
-        let read = read_to_end(Heap::new(rt.alloc())?, &mut pieces)?;
-        assert_eq!(rt; read.as_slice(), text.as_slice(), "in pieces of {size}");
-        assert_eq!(rt; is_at_end(&mut pieces), Ok(true));
-    }
-    // 64 KiB, 128 KiB and 256 KiB
-    for growths in 0..3 {
-        let heap = Heap::with_growths(rt.alloc(), growths)?;
-        let read = read_to_end(heap, &mut Bytes::new(&text));
-        assert_eq!(rt;
-            read.err(),
-            Some(ReadFault::OutOfMemory),
-            "after {growths} growths"
-        );
-    }
-    let read = read_to_end(Heap::with_growths(rt.alloc(), 3)?, &mut Bytes::new(&text))?;
-    assert_eq!(rt; read.len(), text.len());
-    let cut = read_to_end(
-        Heap::new(rt.alloc())?,
-        &mut Pieces::new(&text, 1000, 150_000),
-    );
-    assert_eq!(rt; cut.err(), Some(ReadFault::Device));
-    Ok(())
-}
+    text.resize(200_000, 7u8)?;
+    let mut taken = Vec::new(rt.alloc());
+    assert!(rt; Writing::new(&mut taken).push(&text) == Ok(200_000));
+    assert!(rt; Reading::new(text.as_slice()).pull(&mut taken) == Ok(200_000));
 
-#[test]
-fn holds_what_it_took(rt: HostRuntime) -> Result<(), Fail> {
     let heap = Heap::new(rt.alloc())?;
-    let mut grown = Grown::new(heap.clone()?);
-    let written = put(&mut grown, 0, b"head")?;
-    assert_eq!(rt; put(&mut grown, written, b" and body"), Ok(13));
-    assert_eq!(rt; grown.as_slice(), b"head and body".as_slice());
-    assert_eq!(rt; grown.into_bytes().as_slice(), b"head and body".as_slice());
+    assert!(rt; put(&mut Grown::new(heap.clone()?), 0, &text) == Ok(200_000));
+    assert!(rt; put(&mut Short::new(heap, 300_000), 0, &text) == Ok(200_000));
 
-    let mut short = Short::new(heap, 6);
-    let written = put(&mut short, 0, b"head")?;
-    assert_eq!(rt;
-        put(&mut short, written, b" and body"),
-        Err(WriteFault { written: 6 })
-    );
-    assert_eq!(rt; short.as_slice(), b"head a".as_slice());
-    assert_eq!(rt; short.push(b"nd"), Err(Failed));
-    assert_eq!(rt; Bytes::new(b"x").pull(&mut [0; 2]), Ok(1));
+    // The memory grows to 64 KiB, 128 KiB and 256 KiB.
+    for growths in 0..4 {
+        let heap = Heap::with_growths(rt.alloc(), growths)?;
+        let read = read_to_end(heap, &mut Pieces::new(&text, 4099, usize::MAX));
+        assert!(rt; read.is_ok() == (growths == 3), "after {growths} growths");
+    }
     Ok(())
 }
