@@ -7,11 +7,29 @@ use archive_records::{RecordFault, RecordFaultKind};
 use fat_slices::FatFault;
 use macho_image::ImageFault;
 use macho_symbols::SymbolFault;
-use std::fmt;
+use std::fmt::{self, Display};
 
 /// A value of another crate, shown as this program prints it.
 #[derive(Clone, Copy, Debug, PartialEq, Eq)]
 pub struct Text<T>(pub T);
+
+// A fault's name, and in parentheses the number that it holds.
+#[derive(Clone, Copy)]
+struct Numbered<'a>(&'a str, u32);
+
+impl<'a> fmt::Display for Numbered<'a> {
+    ghost use Rattle.std.specs.Prelude.{Some};
+    ghost use Rattle.std.specs.Fmt.{decimal};
+    ghost use Rattle.archive_lines.specs.Texts.{called};
+
+    ghost output = { λ fault. Some (called fault.0.now (decimal fault.1)) };
+
+    fn fmt<W: fmt::Write>(&self, f: &mut fmt::Formatter<W>) -> fmt::Result {
+        let name = self.0;
+        let number = self.1;
+        write!(f, "{name}({number})")
+    }
+}
 
 #[tactic(auto, unfolding(crate::specs::Texts::image_fault_text))]
 impl fmt::Display for Text<ImageFault> {
@@ -25,12 +43,12 @@ impl fmt::Display for Text<ImageFault> {
             ImageFault::NotMachO64 => f.write_str("NotMachO64"),
             ImageFault::HeaderTruncated => f.write_str("HeaderTruncated"),
             ImageFault::CommandsOutside => f.write_str("CommandsOutside"),
-            ImageFault::BadCommand(command) => write!(f, "BadCommand({command})"),
-            ImageFault::BadSegment(command) => write!(f, "BadSegment({command})"),
-            ImageFault::BadUuid(command) => write!(f, "BadUuid({command})"),
-            ImageFault::SecondUuid(command) => write!(f, "SecondUuid({command})"),
-            ImageFault::BadSymtab(command) => write!(f, "BadSymtab({command})"),
-            ImageFault::SecondSymtab(command) => write!(f, "SecondSymtab({command})"),
+            ImageFault::BadCommand(command) => Numbered("BadCommand", command).fmt(f),
+            ImageFault::BadSegment(command) => Numbered("BadSegment", command).fmt(f),
+            ImageFault::BadUuid(command) => Numbered("BadUuid", command).fmt(f),
+            ImageFault::SecondUuid(command) => Numbered("SecondUuid", command).fmt(f),
+            ImageFault::BadSymtab(command) => Numbered("BadSymtab", command).fmt(f),
+            ImageFault::SecondSymtab(command) => Numbered("SecondSymtab", command).fmt(f),
             ImageFault::NoUuid => f.write_str("NoUuid"),
             ImageFault::TooLarge => f.write_str("TooLarge"),
         }
@@ -125,10 +143,10 @@ impl fmt::Display for Text<FatFault> {
         match self.0 {
             FatFault::NotUniversal => f.write_str("NotUniversal"),
             FatFault::HeaderTruncated => f.write_str("HeaderTruncated"),
-            FatFault::TooManyArches(count) => write!(f, "TooManyArches({count})"),
+            FatFault::TooManyArches(count) => Numbered("TooManyArches", count).fmt(f),
             FatFault::TableTruncated => f.write_str("TableTruncated"),
-            FatFault::SliceOutside(entry) => write!(f, "SliceOutside({entry})"),
-            FatFault::TooLarge(entry) => write!(f, "TooLarge({entry})"),
+            FatFault::SliceOutside(entry) => Numbered("SliceOutside", entry).fmt(f),
+            FatFault::TooLarge(entry) => Numbered("TooLarge", entry).fmt(f),
         }
     }
 }
