@@ -1,5 +1,6 @@
 pub mod Numbers
 pub mod Names
+pub mod Pieces
 pub mod Entries
 pub mod Namesakes
 pub mod Scan

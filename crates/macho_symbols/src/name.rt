@@ -30,6 +30,21 @@ pub(crate) fn strings_in<'b>(image: &'b [u8], symtab: &Symtab) -> &'b [u8]
     from.split_at(from.len().min(symtab.strsize as usize)).0
 }
 
+/// How many bytes of two names are compared first.
+const FIRST_PIECE: usize = 64;
+
+/// How many are compared at once at most, so that a piece that was compared is still in the cache where its
+/// NUL is searched for.
+const LARGEST_PIECE: usize = 4096;
+
+/// The first bytes, so many or all that there are, and those behind them.
+fn split_piece(bytes: &[u8], size: usize) -> (&[u8], &[u8])
+    ensures piece { result.0.now ≡ take size bytes.now }
+    ensures rest { result.1.now ≡ drop size bytes.now }
+{
+    bytes.split_at(bytes.len().min(size))
+}
+
 /// A name: the string table from its first byte on. It ends before the first NUL, or with the table, and
 /// its end is searched for only where all of it is wanted.
 #[derive(Clone, Copy)]
@@ -65,19 +80,33 @@ impl<'a> Name<'a> {
         before_nul(self.from)
     }
 
-    /// Compares two names in byte order, and reads no further than to where they differ.
+    /// Compares two names in byte order, piece by piece: it reads no more than some times the bytes that they
+    /// share.
     pub(crate) fn compare(&self, other: &Name<'_>) -> Ordering
         ensures { result ≡ slice_cmp nat_cmp (name_view self.now) (name_view other.now) }
     {
-        let own = self.from.iter().take_while(|b| **b != 0);
-        own.cmp(other.from.iter().take_while(|b| **b != 0))
+        let (mut own, mut others) = (self.from, other.from);
+        let mut size = FIRST_PIECE;
+        'pieces: loop {
+            let (piece, rest) = split_piece(own, size);
+            let (other_piece, other_rest) = split_piece(others, size);
+            if piece != other_piece {
+                return before_nul(piece).cmp(&before_nul(other_piece));
+            }
+            if before_nul(piece).len() < size {
+                return Ordering::Equal;
+            }
+            own = rest;
+            others = other_rest;
+            size = LARGEST_PIECE.min(2 * size);
+        }
     }
 
-    /// Whether these are its bytes. It reads no further than to where they differ.
+    /// Whether these are its bytes. It reads no more than these, and one byte behind them.
     pub(crate) fn is(&self, bytes: &[u8]) -> bool
         ensures { result ≡ pointwise nat_eq (name_view self.now) bytes.now }
     {
-        let own = self.from.iter().take_while(|b| **b != 0);
-        own.cmp(bytes.iter()).is_eq()
+        let (piece, _) = split_piece(self.from, bytes.len() + 1);
+        self.from.starts_with(bytes) && before_nul(piece).len() == bytes.len()
     }
 }

@@ -1,13 +1,74 @@
-use Rattle.std.proofs.Common.{rules, tests, ◌≡◌, ◌==◌, not, refl}
+use Rattle.std.proofs.Common.{◌≡◌, ◌≢◌, ◌∙◌, ◌==◌, ◌<◌, ◌≤◌, ℕ, List, Bool, true, false, not, nat_eq, ap, sym, arith, take, drop, length, length-take, length-drop}
+use Rattle.std.specs.List.{before_first, position_or_len}
 use Rattle.std.specs.Ordering.{nat_cmp}
-use Rattle.std.proofs.lemmas.Iterator.{YieldsList-from_slice}
-use Rattle.std.proofs.lemmas.Iterator.Consumers.{YieldsList-at}
-use Rattle.std.proofs.lemmas.Iterator.Search.{YieldsList-from_take_while, cmp_from_yields_List}
+use Rattle.std.specs.Cmp.Lexicographic.{slice_cmp, pointwise, bytes_decides}
+use Rattle.macho_symbols.proofs.Pieces.{pieces_differ, pieces_same, names_same}
 use Rattle.macho_symbols.proofs.name.Name.compare.Goals as goal
 
-pub returns : goal.returns
-returns c =
-    cmp_from_yields_List (λ x y. y ≡ x) _ nat_cmp _ c.cmp.ensures.ran
-    (YieldsList-from_take_while _ (λ b. not (b == 0)) (YieldsList-from_slice c.args.self.now.from.now cc) c.take_while-own.ensures.closure c.take_while-own.ensures.done (λ x b q k. search (rules, tests)))
-    (λ it e. YieldsList-at e (YieldsList-from_take_while _ (λ b. not (b == 0)) (YieldsList-from_slice c.args.other.now.from.now cc) c.take_while.ensures.closure c.take_while.ensures.done (λ x b q k. search (rules, tests))))
-    (λ x y. refl)
+apart : (xs ys : List ℕ) → not (pointwise nat_eq xs ys) ≡ true → xs ≢ ys
+apart xs ys h e = by_test (pointwise nat_eq xs ys) h ((bytes_decides xs ys).1 e)
+  where
+    by_test : (b : Bool) → not b ≡ true → b ≡ true → ⊥
+    by_test true h e = cc
+    by_test false h e = cc
+
+alike : (xs ys : List ℕ) → not (pointwise nat_eq xs ys) ≡ false → xs ≡ ys
+alike xs ys h = (bytes_decides xs ys).0 (by_test (pointwise nat_eq xs ys) h)
+  where
+    by_test : (b : Bool) → not b ≡ false → b ≡ true
+    by_test true h = cc
+    by_test false h = cc
+
+pub returns-then-ne : goal.returns-then-ne
+returns-then-ne c =
+    let size = c.pieces.size in
+    let own = c.pieces.own.now in
+    let others = c.pieces.others.now in
+    let differ : take size own ≢ take size others =
+    λ e. apart _ _ (sym c.ne.ensures ∙ c.if-ne.true) (c.split_piece.ensures.piece ∙ e ∙ sym c.split_piece-in-pieces.ensures.piece) in
+    c.cmp.ensures
+    ∙ ap (λ xs. slice_cmp nat_cmp xs c.before_nul-then-ne.result.now) (c.before_nul.ensures ∙ ap (before_first (λ b. b == 0)) c.split_piece.ensures.piece)
+    ∙ ap (slice_cmp nat_cmp (before_first (λ b. b == 0) (take size own))) (c.before_nul-then-ne.ensures ∙ ap (before_first (λ b. b == 0)) c.split_piece-in-pieces.ensures.piece)
+    ∙ pieces_differ size own others differ ∙ c.pieces.invariant.same
+
+pub returns-then-before_nul-size : goal.returns-then-before_nul-size
+returns-then-before_nul-size c =
+    let size = c.pieces.size in
+    let own = c.pieces.own.now in
+    let others = c.pieces.others.now in
+    let same : take size own ≡ take size others = sym c.split_piece.ensures.piece ∙ alike _ _ (sym c.ne.ensures ∙ c.if-ne.false) ∙ c.split_piece-in-pieces.ensures.piece in
+    let front = c.before_nul-in-pieces.ensures ∙ ap (before_first (λ b. b == 0)) c.split_piece.ensures.piece in
+    let short : length (before_first (λ b. b == 0) (take size own)) < size = omega (arith, c.if-before_nul-size.true, ap length front) in
+    sym (names_same size own others same short) ∙ c.pieces.invariant.same
+
+pub pieces-smaller : goal.pieces-smaller
+pieces-smaller c =
+    let size = c.pieces.size in
+    let own = c.pieces.own.now in
+    let front = c.before_nul-in-pieces.ensures ∙ ap (before_first (λ b. b == 0)) c.split_piece.ensures.piece in
+    omega (
+      arith,
+      c.if-before_nul-size.false,
+      c.pieces.invariant.some,
+      ap length front,
+      ap length c.split_piece.ensures.rest,
+      length-take (position_or_len (λ b. b == 0) (take size own)) (take size own),
+      length-take size own,
+      length-drop size own,
+    )
+
+pub pieces-preserved : goal.pieces-preserved
+pieces-preserved c =
+    let size = c.pieces.size in
+    let own = c.pieces.own.now in
+    let others = c.pieces.others.now in
+    let same : take size own ≡ take size others = sym c.split_piece.ensures.piece ∙ alike _ _ (sym c.ne.ensures ∙ c.if-ne.false) ∙ c.split_piece-in-pieces.ensures.piece in
+    let front = c.before_nul-in-pieces.ensures ∙ ap (before_first (λ b. b == 0)) c.split_piece.ensures.piece in
+    let long : size ≤ length (before_first (λ b. b == 0) (take size own)) = omega (arith, c.if-before_nul-size.false, ap length front) in
+    record {
+      same = ap (λ xs. slice_cmp nat_cmp (before_first (λ b. b == 0) xs) (before_first (λ b. b == 0) c.split_piece-in-pieces.result.1.now)) c.split_piece.ensures.rest
+          ∙ ap (λ ys. slice_cmp nat_cmp (before_first (λ b. b == 0) (drop size own)) (before_first (λ b. b == 0) ys)) c.split_piece-in-pieces.ensures.rest
+          ∙ pieces_same size own others same long ∙ c.pieces.invariant.same;
+      some = omega (arith, c.min-size.ensures, c.pieces.invariant.some);
+      most = omega (arith, c.min-size.ensures);
+    }

@@ -1,15 +1,19 @@
-use Rattle.std.proofs.Common.{rules, tests, ◌≡◌, ◌==◌, not, refl, ap, ◌∙◌}
-use Rattle.std.specs.Ordering.{nat_cmp, is_eq}
-use Rattle.std.proofs.lemmas.Iterator.{YieldsList-from_slice}
-use Rattle.std.proofs.lemmas.Iterator.Search.{YieldsList-from_take_while, cmp_from_yields_List}
-use Rattle.std.proofs.lemmas.Map.Text.{is_eq-slice_cmp}
-use Rattle.macho_symbols.specs.Views.{name_view}
+use Rattle.std.proofs.Common.{◌≡◌, ◌+◌, ◌∙◌, ap, sym, arith, take, length, true, false, nat_eq, ◌&&◌, ◌==◌}
+use Rattle.std.specs.List.{before_first, starts_with}
+use Rattle.macho_symbols.proofs.Pieces.{name_is}
 use Rattle.macho_symbols.proofs.name.Name.is.Goals as goal
 
-pub returns : goal.returns
-returns c =
-    let order = cmp_from_yields_List (λ x y. y ≡ x) _ nat_cmp _ c.cmp.ensures.ran
-    (YieldsList-from_take_while _ (λ b. not (b == 0)) (YieldsList-from_slice c.args.self.now.from.now cc) c.take_while-own.ensures.closure c.take_while-own.ensures.done (λ x b q k. search (rules, tests)))
-    (λ it e. YieldsList-from_slice c.args.bytes.now cc)
-    (λ x y. refl) in
-    c.is_eq.ensures ∙ ap is_eq order ∙ is_eq-slice_cmp (name_view c.args.self.now) c.args.bytes.now
+pub returns-then-starts_with : goal.returns-then-starts_with
+returns-then-starts_with c =
+    let from = c.args.self.now.from.now in
+    let needle = c.args.bytes.now in
+    let ends = length (before_first (λ b. b == 0) (take (length needle + 1) from)) == length needle in
+    ap (λ xs. length xs == length needle) (c.before_nul.ensures ∙ ap (before_first (λ b. b == 0)) c.split_piece.ensures.piece)
+    ∙ sym (name_is from needle (length needle + 1) (omega arith) ∙ ap (λ b. b && ends) (sym c.starts_with.ensures.value ∙ c.if-starts_with.true))
+
+pub returns-else-starts_with : goal.returns-else-starts_with
+returns-else-starts_with c =
+    let from = c.args.self.now.from.now in
+    let needle = c.args.bytes.now in
+    let ends = length (before_first (λ b. b == 0) (take (length needle + 1) from)) == length needle in
+    c.if-starts_with.false ∙ sym (name_is from needle (length needle + 1) (omega arith) ∙ ap (λ b. b && ends) (sym c.starts_with.ensures.value ∙ c.if-starts_with.false))
