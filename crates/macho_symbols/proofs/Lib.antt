@@ -1,9 +1,9 @@
 pub mod Numbers
 pub mod Names
 pub mod Pieces
-pub mod Entries
+pub mod EntryLemmas
 pub mod Namesakes
-pub mod Scan
+pub mod ScanLemmas
 pub mod FaultLemmas
 pub mod Order
 pub mod CandidateFacts

@@ -4,7 +4,7 @@ use Rattle.std.proofs.lemmas.List.{drop-drop}
 use Rattle.std.proofs.lemmas.Option.{slice_get_within}
 use Rattle.std.specs.List.{filter_map, cons_option}
 use Rattle.macho_symbols.specs.Symbols.{Tuple, table_of, entries, entry_of, candidate_in, candidates}
-use Rattle.macho_symbols.proofs.Entries.{length-entries, entry_at}
+use Rattle.macho_symbols.proofs.EntryLemmas.{length-entries, entry_at}
 
 module _ {X Y : Type 0} (f : X → Option Y) where
   -- some element gives c

@@ -8,7 +8,7 @@ use Rattle.macho_symbols.specs.Symbols.{Tuple}
 use Rattle.macho_symbols.specs.Nearest.{tuple_cmp, IsFirst, UpTo}
 use Rattle.std.specs.Cmp.Lexicographic.{slice_cmp}
 use Rattle.macho_symbols.specs.Rows.{row_cmp, IsFirstOrNone, first_of_two}
-use Rattle.macho_symbols.proofs.Scan.{tuples_total, not_less, upto_back, upto_from_less}
+use Rattle.macho_symbols.proofs.ScanLemmas.{tuples_total, not_less, upto_back, upto_from_less}
 
 -- an order of several parts, told by its first three, where these differ
 heads_decide : (sect value external name heads : Ordering) → heads ≡ ordering_then (ordering_then sect value) external → is_ne heads ≡ true

@@ -1,6 +1,10 @@
 -- nlist_64: an entry of the symbol table, sixteen bytes (mach-o/nlist.h).
-use Rattle.std.specs.Prelude.{ℕ, List, slice_index}
+use Rattle.std.specs.Prelude.{ℕ, List, ◌≡◌, length, slice_index}
 use Rattle.macho_image.specs.Layout.{u32_at, u64_at}
+
+-- the bytes of an entry
+abbrev pub IsEntry : List ℕ → Type 0
+IsEntry entry = length entry ≡ 16
 
 -- nlist_64.n_strx: where the name begins in the string table
 abbrev pub n_strx : List ℕ → ℕ

@@ -3,30 +3,27 @@ use Rattle.std.specs.Prelude.{ℕ, Bool, List, map, ◌≡◌, ◌≤◌, ◌<�
 use Rattle.std.specs.Ordering.{ordering_then, nat_cmp, is_lt}
 use Rattle.std.specs.declared.cmp.Ordering.{Ordering}
 use Rattle.std.specs.List.Sorted.{IsPermutation, IsSortedByKey}
-use Rattle.macho_symbols.specs.Symbols.{Tuple, strings_of, name_of, candidates}
+use Rattle.macho_symbols.specs.Symbols.{Tuple, strings_of, candidates}
 use Rattle.macho_symbols.specs.Nearest.{tuple_cmp, IsFirst, StandsFor}
-use Rattle.macho_symbols.specs.declared.rows.Row.{Row}
-
--- the candidate that a row tells, with its name out of the string table
-unfoldable pub row_tuple : List ℕ → Row → Tuple
-row_tuple strings row = record { value = row.value; external = row.external; name = name_of strings row.strx; sect = row.sect }
+use Rattle.macho_symbols.specs.Views.{tuple_of}
+use Rattle.macho_symbols.specs.declared.candidate.Candidate.{Candidate}
 
 -- the order of the rows: by section, and as candidates in one section
 abbrev pub row_cmp : Tuple → Tuple → Ordering
 row_cmp c d = ordering_then (nat_cmp c.sect d.sect) (tuple_cmp c d)
 
 -- the rows tell the candidates of an image, each once, in the order of the rows
-pub record AreRows (image : List ℕ) (rows : List Row) : Type 0 where
-  pub members : IsPermutation (candidates image) (map (row_tuple (strings_of image)) rows)
-  pub ordered : IsSortedByKey (row_tuple (strings_of image)) row_cmp rows
+pub record AreRows (image : List ℕ) (rows : List Candidate) : Type 0 where
+  pub members : IsPermutation (candidates image) (map (tuple_of (strings_of image)) rows)
+  pub ordered : IsSortedByKey (tuple_of (strings_of image)) row_cmp rows
 
 -- sections rise along the rows, and values fall in a section
-abbrev pub AreFalling : List Row → Type 0
-AreFalling rows = (i j : ℕ) (d : Row) → i ≤ j → j < length rows
+abbrev pub AreFalling : List Candidate → Type 0
+AreFalling rows = (i j : ℕ) (d : Candidate) → i ≤ j → j < length rows
     → let r = slice_index_or rows i d in let s = slice_index_or rows j d in (r.sect < s.sect) ⊎ ((r.sect ≡ s.sect) × (s.value ≤ r.value))
 
 -- whether a row stands before those that may answer an address in the section of a number
-abbrev pub is_before : ℕ → ℕ → Row → Bool
+abbrev pub is_before : ℕ → ℕ → Candidate → Bool
 is_before number address row = nat_lt row.sect number || ((row.sect == number) && nat_lt address row.value)
 
 -- the first of some in the order of candidates, or none where there is none

@@ -59,10 +59,10 @@ unfoldable pub entries : ℕ → List ℕ → List (List ℕ)
 entries zero bytes = []
 entries (suc count) bytes = take 16 bytes ∷ entries count (drop 16 bytes)
 
--- the candidates among so many entries
-unfoldable pub candidates_among : List ℕ → ℕ → List ℕ → List Tuple
-candidates_among image count bytes = filter_map (candidate_in image) (entries count bytes)
+-- the entries of the symbol table
+abbrev pub entries_of : List ℕ → List (List ℕ)
+entries_of image = entries (table_of image).nsyms (drop (table_of image).symoff image)
 
 -- the candidates of an image, in the order of its symbol table
 unfoldable pub candidates : List ℕ → List Tuple
-candidates image = filter_map (candidate_in image) (entries (table_of image).nsyms (drop (table_of image).symoff image))
+candidates image = filter_map (candidate_in image) (entries_of image)

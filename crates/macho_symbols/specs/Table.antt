@@ -5,11 +5,11 @@ use Rattle.macho_symbols.specs.Symbols.{table_of}
 use Rattle.macho_symbols.specs.Extents.{AreExtents}
 use Rattle.macho_symbols.specs.Rows.{AreRows}
 use Rattle.macho_symbols.specs.declared.extents.Extent.{Extent}
-use Rattle.macho_symbols.specs.declared.rows.Row.{Row}
+use Rattle.macho_symbols.specs.declared.candidate.Candidate.{Candidate}
 
 -- what an address table holds
 pub record TableParts : Type 0 where
-  pub rows : List Row
+  pub rows : List Candidate
   pub extents : List Extent
   pub symtab : Symtab
 

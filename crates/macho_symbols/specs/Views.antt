@@ -1,23 +1,21 @@
 -- What candidates, finds and symbols of the code are in the definitions.
-use Rattle.std.specs.Prelude.{ℕ, List, Option, ◌≡◌, ◌==◌}
+use Rattle.std.specs.Prelude.{ℕ, List, ◌≡◌, ◌==◌}
 use Rattle.std.specs.List.{before_first}
 use Rattle.macho_image.specs.declared.symtab_command.Symtab.{Symtab}
-use Rattle.macho_symbols.specs.Symbols.{Tuple, table_of}
-use Rattle.macho_image.specs.declared.section.Section.{Section}
-use Rattle.macho_symbols.specs.SectionNumbers.{AreByNumber}
+use Rattle.macho_symbols.specs.Symbols.{Tuple, table_of, name_of}
 use Rattle.macho_symbols.specs.Fault.{HasSymbols}
 use Rattle.macho_symbols.specs.Found.{FoundRecord}
 use Rattle.macho_symbols.specs.declared.name.Name.{Name}
-use Rattle.macho_symbols.specs.declared.symbols.Candidate.{Candidate}
+use Rattle.macho_symbols.specs.declared.candidate.Candidate.{Candidate}
 use Rattle.macho_symbols.specs.declared.found.Found.{Found}
 
 -- the bytes of a name, which end before the first NUL or with the string table
 abbrev pub name_view : Name → List ℕ
 name_view n = before_first (λ b. b == 0) n.from.now
 
--- a candidate, without where its name lies
-abbrev pub tuple_of : Candidate → Tuple
-tuple_of c = record { value = c.value; external = c.external; name = name_view c.name; sect = c.sect }
+-- what counts of a candidate of the code, with its name out of the string table
+unfoldable pub tuple_of : List ℕ → Candidate → Tuple
+tuple_of strings c = record { value = c.value; external = c.external; name = name_of strings c.strx; sect = c.sect }
 
 -- what was found, without where its names lie
 abbrev pub found_view : Found → FoundRecord
@@ -30,8 +28,7 @@ found_view f = record {
   section = f.section.now;
 }
 
--- the symbols were read from an image, with this symbol table and these sections by number
-pub record IsRead (image : List ℕ) (table : Symtab) (sections : List (Option Section)) : Type 0 where
+-- the symbols were read from an image, with this symbol table
+pub record IsRead (image : List ℕ) (table : Symtab) : Type 0 where
   pub table_is : table ≡ table_of image
   pub sound : HasSymbols image
-  pub sections_are : AreByNumber image sections

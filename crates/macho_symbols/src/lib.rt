@@ -8,14 +8,18 @@
 //!
 //! - `fault`: why symbols cannot be read;
 //! - `nlist`: the layout of an entry;
-//! - `name`, `section_numbers`: what its numbers stand for;
+//! - `entries`: the entries one after another;
+//! - `name`, `section_numbers`: what their numbers stand for;
+//! - `symbols`: the two tables;
+//! - `candidate`: an entry that counts;
 //! - `found`: what is told of a symbol;
-//! - `symbols`: the two tables, and the entries that count;
-//! - `nearest`, `named`: the plain searches, by address and by name;
+//! - `scan`, `nearest`, `named`: the plain searches, by address and by name;
 //! - `extents`, `rows`, `table`: the table of addresses;
 //! - [`laws`]: what the definitions say of each other.
 #![tactic(auto)]
 
+mod candidate;
+mod entries;
 mod extents;
 mod fault;
 mod found;
@@ -25,6 +29,7 @@ mod named;
 mod nearest;
 mod nlist;
 mod rows;
+mod scan;
 mod section_numbers;
 mod symbols;
 mod table;

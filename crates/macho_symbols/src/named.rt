@@ -1,41 +1,67 @@
 //! The search by name.
 
 ghost use Rattle.std.specs.Prelude.{◌≡◌, ◌*◌, ◌≤◌, length};
-ghost use Rattle.macho_symbols.specs.Found.{named};
+ghost use Rattle.std.specs.Option.{option_map, option_to_list};
+ghost use Rattle.macho_symbols.specs.Symbols.{candidate_in};
+ghost use Rattle.macho_symbols.specs.Found.{named, named_among};
+ghost use Rattle.macho_symbols.specs.Views.{found_view};
 
+use crate::entries::Entries;
 use crate::found::Found;
-use crate::symbols::{Candidates, Symbols};
+use crate::scan::Scan;
+use crate::symbols::Symbols;
 use std::marker::Model;
 
 /// The symbols of a name that are left, in the order of the symbol table. A contract sees the list of them.
 #[derive(Drop)]
 pub struct Named<'a, 'n> {
-    symbols: Symbols<'a>,
-    candidates: Candidates<'a>,
+    scan: Scan<'a>,
+    entries: Entries<'a>,
     name: &'n [u8],
 }
 
 impl<'a, 'n> Model for Named<'a, 'n> {
     ghost use Rattle.std.specs.Prelude.{List};
+    ghost use Rattle.std.specs.List.{filter_map, AllByRecursion};
+    ghost use Rattle.macho_symbols.specs.Nlist.{IsEntry};
+    ghost use Rattle.macho_symbols.specs.Symbols.{candidate_in};
     ghost use Rattle.macho_symbols.specs.Found.{FoundRecord, named_among};
 
     ghost Value = { List FoundRecord };
 
-    ghost view = { λ n. named_among n.symbols n.name.now n.candidates };
+    ghost view = { λ n. named_among n.scan n.name.now (filter_map (candidate_in n.scan) n.entries) };
+
+    ghost invariant = { λ n. AllByRecursion IsEntry n.entries };
 }
 
 impl<'a> Symbols<'a> {
     /// The symbols of a name, with offset 0, in the order of the table: one for each entry that can be found,
     /// also where several are alike. The name has no NUL at its end.
+    #[tactic(auto, unfolding(crate::specs::Symbols::candidates))]
     pub fn named<'n>(&self, name: &'n [u8]) -> Named<'a, 'n>
         ensures all { result ≡ named self.now name.now }
         ensures fit { 16 * length (named self.now name.now) ≤ length self.now }
     {
         Named {
-            symbols: self.copy(),
-            candidates: self.candidates(),
+            scan: Scan::new(self),
+            entries: self.entries(),
             name,
         }
+    }
+}
+
+impl<'a> Scan<'a> {
+    /// What is found of an entry for a name, if it has that.
+    fn found_by_name(&self, name: &[u8], entry: &[u8]) -> Option<Found<'a>>
+        requires { 16 ≤ length entry.now }
+        ensures { option_to_list (option_map found_view result)
+            ≡ named_among self.now name.now (option_to_list (candidate_in self.now entry.now)) }
+    {
+        let candidate = self.candidate(entry)?;
+        if !candidate.name(self.symbols.strings()).is(name) {
+            return None;
+        }
+        Some(self.found(candidate.value, &candidate))
     }
 }
 
@@ -44,17 +70,16 @@ impl<'a, 'n> Iterator for Named<'a, 'n> {
     type Item = Found<'a>;
 
     ghost use Rattle.std.specs.Iterator.{YieldsFirstBy, item_count};
-    ghost use Rattle.macho_symbols.specs.Views.{found_view};
 
     ghost next_gives = { YieldsFirstBy found_view (λ n. n) };
 
     ghost remaining = { item_count (λ n. n) };
 
     fn next(&mut self) -> Option<Found<'a>> {
-        'candidates: loop {
-            let candidate = self.candidates.next()?;
-            if candidate.name.is(self.name) {
-                return Some(self.symbols.found(candidate.value, &candidate));
+        'entries: loop {
+            let entry = self.entries.next()?;
+            if let Some(found) = self.scan.found_by_name(self.name, entry) {
+                return Some(found);
             }
         }
     }

@@ -1,54 +1,19 @@
 //! The candidates of an image in the order of an address table.
 
-ghost use Rattle.std.specs.Prelude.{◌≡◌, ◌+◌, ◌-◌, ◌*◌, ◌≤◌, ◌<◌, ◌^◌, ◌++◌, IfOk, true, false, map, length};
+ghost use Rattle.std.specs.Prelude.{◌≡◌, ◌+◌, ◌-◌, ◌*◌, ◌<◌, ◌^◌, ◌++◌, ℕ, List, IfOk, true, false, map};
 ghost use Rattle.std.specs.List.Sorted.{IsPartitionPoint};
 ghost use Rattle.std.specs.Option.{option_map, option_to_list};
-ghost use Rattle.std.specs.Ordering.{nat_cmp};
-ghost use Rattle.std.specs.Cmp.Lexicographic.{slice_cmp};
-ghost use Rattle.macho_symbols.specs.Symbols.{table_of, strings_of, name_of, candidate_in, candidates};
+ghost use Rattle.macho_symbols.specs.Symbols.{strings_of, candidates};
 ghost use Rattle.macho_symbols.specs.Views.{tuple_of};
-ghost use Rattle.macho_symbols.specs.Rows.{row_tuple, row_cmp, is_before, AreFalling, AreRows, IsFirstNotAbove};
+ghost use Rattle.macho_symbols.specs.Rows.{row_cmp, is_before, AreFalling, AreRows, IsFirstNotAbove};
 
-use crate::name::{Name, strings_in};
-use crate::nlist::{N_EXT, NLIST_64_LEN, n_sect, n_strx, n_type, n_value};
-use crate::symbols::{Candidate, Symbols};
-use macho_image::Symtab;
+use crate::candidate::Candidate;
+use crate::scan::Scan;
+use crate::symbols::Symbols;
 use memory::{Heap, NoMemory};
 use std::cmp::Ordering;
 
-/// A candidate, with its name as `n_strx`: the place in the string table.
-#[derive(Clone, Copy)]
-pub(crate) struct Row {
-    value: u64,
-    strx: u32,
-    sect: u8,
-    external: bool,
-}
-
-impl Row {
-    /// The candidate, with its name out of the string table.
-    #[tactic(auto, unfolding(crate::specs::Rows::row_tuple))]
-    fn candidate<'b>(&self, strings: &'b [u8]) -> Candidate<'b>
-        ensures { tuple_of result ≡ row_tuple strings.now self.now }
-    {
-        Candidate {
-            value: self.value,
-            external: self.external,
-            name: Name::at(strings, self.strx),
-            sect: self.sect,
-        }
-    }
-
-    /// Compares the names of two rows. A name that both have is not read.
-    fn compare_names(&self, other: &Row, strings: &[u8]) -> Ordering
-        ensures { result ≡ slice_cmp nat_cmp (name_of strings.now self.now.strx) (name_of strings.now other.now.strx) }
-    {
-        if self.strx == other.strx {
-            return Ordering::Equal;
-        }
-        Name::at(strings, self.strx).compare(&Name::at(strings, other.strx))
-    }
-
+impl Candidate {
     /// The section and the value in one number, which rises along the rows of a table.
     fn rank(&self) -> u128
         ensures value { result ≡ self.now.sect * 2 ^ 64 + (2 ^ 64 - 1 - self.now.value) }
@@ -57,10 +22,10 @@ impl Row {
         u128::from(self.sect) * 0x1_0000_0000_0000_0000 + u128::from(u64::MAX - self.value)
     }
 
-    /// Compares two rows by section, and as candidates in one section. Names are read only where all that
+    /// Compares two candidates by section, and in one section by the order of candidates. Names are read only where all that
     /// counts more ties.
-    fn compare_by_section(&self, other: &Row, strings: &[u8]) -> Ordering
-        ensures { result ≡ row_cmp (row_tuple strings.now self.now) (row_tuple strings.now other.now) }
+    fn compare_by_section(&self, other: &Candidate, strings: &[u8]) -> Ordering
+        ensures { result ≡ row_cmp (tuple_of strings.now self.now) (tuple_of strings.now other.now) }
     {
         let heads = self
             .rank()
@@ -81,25 +46,8 @@ impl Row {
     }
 }
 
-/// The row of an entry, if it is a candidate.
-#[tactic(auto, unfolding(crate::specs::Rows::row_tuple, crate::specs::Symbols::candidate_in, crate::specs::Symbols::tuple_in, crate::specs::Symbols::name_in))]
-fn row_of(symbols: &Symbols<'_>, entry: &[u8]) -> Option<Row>
-    requires { 16 ≤ length entry.now }
-    ensures { option_map (row_tuple (strings_of symbols.now)) result ≡ candidate_in symbols.now entry.now }
-{
-    if !symbols.is_candidate(entry) {
-        return None;
-    }
-    Some(Row {
-        value: n_value(entry),
-        strx: n_strx(entry),
-        sect: n_sect(entry),
-        external: n_type(entry) & N_EXT == 1,
-    })
-}
-
 /// Adds a row, if there is one.
-fn push_some(rows: &mut Vec<Row, Heap>, row: Option<Row>) -> Result<(), NoMemory>
+fn push_some(rows: &mut Vec<Candidate, Heap>, row: Option<Candidate>) -> Result<(), NoMemory>
     ensures { IfOk result (λ _. rows.new.items ≡ rows.old.items ++ option_to_list row) }
 {
     if let Some(row) = row {
@@ -108,22 +56,23 @@ fn push_some(rows: &mut Vec<Row, Heap>, row: Option<Row>) -> Result<(), NoMemory
     Ok(())
 }
 
-/// The rows of the candidates, in the order of the symbol table.
-fn collect_rows(heap: Heap, symbols: &Symbols<'_>) -> Result<Vec<Row, Heap>, NoMemory>
-    ensures { IfOk result (λ rows. map (row_tuple (strings_of symbols.now)) rows.items ≡ candidates symbols.now) }
+/// The candidates, in the order of the symbol table.
+fn collect_rows(heap: Heap, symbols: &Symbols<'_>) -> Result<Vec<Candidate, Heap>, NoMemory>
+    ensures { IfOk result (λ rows. map (tuple_of (strings_of symbols.now)) rows.items ≡ candidates symbols.now) }
 {
+    let scan = Scan::new(symbols);
     let mut rows = Vec::new(heap);
-    let mut rest = symbols.entries();
-    for place in 0..symbols.table.nsyms {
-        let (entry, after) = rest.split_at(NLIST_64_LEN);
-        push_some(&mut rows, row_of(symbols, entry))?;
-        rest = after;
+    for entry in symbols.entries() {
+        push_some(&mut rows, scan.candidate(entry))?;
     }
     Ok(rows)
 }
 
-/// The rows of the candidates, in the order of a table.
-pub(crate) fn sorted_rows(heap: Heap, symbols: &Symbols<'_>) -> Result<Vec<Row, Heap>, NoMemory>
+/// The candidates, in the order of a table.
+pub(crate) fn sorted_rows(
+    heap: Heap,
+    symbols: &Symbols<'_>,
+) -> Result<Vec<Candidate, Heap>, NoMemory>
     ensures { IfOk result (λ rows. AreRows symbols.now rows.items) }
 {
     let strings = symbols.strings();
@@ -134,7 +83,7 @@ pub(crate) fn sorted_rows(heap: Heap, symbols: &Symbols<'_>) -> Result<Vec<Row, 
 }
 
 /// The place of the first row that is not before those that may answer.
-fn place_of(rows: &[Row], number: usize, address: u64) -> usize
+fn place_of(rows: &[Candidate], number: usize, address: u64) -> usize
     requires { AreFalling rows.now }
     ensures { IsPartitionPoint (λ r. is_before number address r ≡ true) (λ r. is_before number address r ≡ false) rows.now result }
 {
@@ -142,24 +91,18 @@ fn place_of(rows: &[Row], number: usize, address: u64) -> usize
 }
 
 /// The first candidate of the section of a number that is not above an address.
-pub(crate) fn first_not_above<'b>(
-    rows: &[Row],
-    number: usize,
-    address: u64,
-    image: &'b [u8],
-    symtab: &Symtab,
-) -> Option<Candidate<'b>>
-    requires rows { AreRows image.now rows.now }
-    requires symtab { symtab.now ≡ table_of image.now }
-    ensures { IsFirstNotAbove image.now number address (option_map tuple_of result) }
+pub(crate) fn first_not_above(rows: &[Candidate], number: usize, address: u64) -> Option<Candidate>
+    requires { AreFalling rows.now }
+    ensures { (image : List ℕ) → AreRows image rows.now →
+        IsFirstNotAbove image number address (option_map (tuple_of (strings_of image)) result) }
 {
     let place = place_of(rows, number, address);
     if place >= rows.len() {
         return None;
     }
-    let row = &rows[place];
+    let row = rows[place];
     if row.sect as usize != number {
         return None;
     }
-    Some(row.candidate(strings_in(image, symtab)))
+    Some(row)
 }

@@ -2,16 +2,18 @@
 
 ghost use Rattle.std.specs.Prelude.{◌≡◌, ◌+◌, ◌<◌, ◌≤◌, IfOk, length};
 ghost use Rattle.std.specs.Option.{option_map};
+ghost use Rattle.macho_symbols.specs.Symbols.{strings_of};
 ghost use Rattle.macho_symbols.specs.Nearest.{IsNearest};
 ghost use Rattle.macho_symbols.specs.Found.{found_of, FindsNearest};
 ghost use Rattle.macho_symbols.specs.Views.{tuple_of, found_view};
-ghost use Rattle.macho_symbols.specs.Extents.{AreExtents};
 ghost use Rattle.macho_symbols.specs.Rows.{IsFirstIn, first_of_two};
 
+use crate::candidate::Candidate;
 use crate::extents::{Extent, collect_extents, section_names};
 use crate::found::Found;
-use crate::rows::{Row, first_not_above, sorted_rows};
-use crate::symbols::{Candidate, Symbols};
+use crate::name::strings_in;
+use crate::rows::{first_not_above, sorted_rows};
+use crate::symbols::Symbols;
 use macho_image::Symtab;
 use memory::{Heap, NoMemory};
 use std::marker::Model;
@@ -21,7 +23,7 @@ use std::marker::Model;
 /// LC_SYMTAB.
 #[derive(Drop)]
 pub struct AddressTable {
-    rows: Vec<Row, Heap>,
+    rows: Vec<Candidate, Heap>,
     extents: Vec<Extent, Heap>,
     symtab: Symtab,
 }
@@ -35,41 +37,20 @@ impl Model for AddressTable {
 }
 
 /// The first of two candidates, either of which may be none.
-fn first_of_two<'b>(
-    best: Option<Candidate<'b>>,
-    next: Option<Candidate<'b>>,
-) -> Option<Candidate<'b>>
-    ensures { option_map tuple_of result ≡ first_of_two (option_map tuple_of best.entry) (option_map tuple_of next.entry) }
+fn first_of_two(
+    best: Option<Candidate>,
+    next: Option<Candidate>,
+    strings: &[u8],
+) -> Option<Candidate>
+    ensures { option_map (tuple_of strings.now) result
+        ≡ first_of_two (option_map (tuple_of strings.now) best) (option_map (tuple_of strings.now) next) }
 {
     let Some(candidate) = next else {
         return best;
     };
     match best {
-        Some(kept) if !candidate.comes_before(&kept) => best,
+        Some(kept) if !candidate.comes_before(&kept, strings) => best,
         _ => Some(candidate),
-    }
-}
-
-/// A candidate as what is found for an address.
-#[tactic(auto, unfolding(crate::specs::Found::found_of))]
-fn found<'b>(
-    extents: &[Extent],
-    address: u64,
-    candidate: &Candidate<'b>,
-    image: &'b [u8],
-) -> Found<'b>
-    requires extents { AreExtents image.now extents.now }
-    requires value { candidate.now.value ≤ address }
-    ensures { found_view result ≡ found_of image.now address (tuple_of candidate.now) }
-{
-    let (segment, section) = section_names(extents, candidate.sect, image);
-    Found {
-        name: candidate.name.bytes(),
-        address: candidate.value,
-        offset: address - candidate.value,
-        sect: candidate.sect,
-        segment,
-        section,
     }
 }
 
@@ -90,29 +71,57 @@ impl AddressTable {
         })
     }
 
+    /// The string table of the image.
+    #[tactic(auto, unfolding(crate::specs::Symbols::strings_of))]
+    fn strings<'b>(&self, image: &'b [u8]) -> &'b [u8]
+        requires { IsTableOf self.now image.now }
+        ensures { result.now ≡ strings_of image.now }
+    {
+        strings_in(image, &self.symtab)
+    }
+
     /// The first candidate that can stand for an address among those of one section, which is counted from 0
     /// here.
-    fn first_in<'b>(&self, place: usize, address: u64, image: &'b [u8]) -> Option<Candidate<'b>>
+    fn first_in(&self, place: usize, address: u64, image: &[u8]) -> Option<Candidate>
         requires table { IsTableOf self.now image.now }
         requires place { place < length self.now.extents }
-        ensures { IsFirstIn image.now (place + 1) address (option_map tuple_of result) }
+        ensures { IsFirstIn image.now (place + 1) address (option_map (tuple_of (strings_of image.now)) result) }
     {
         if !self.extents[place].contains(address) {
             return None;
         }
-        first_not_above(&self.rows, place + 1, address, image, &self.symtab)
+        first_not_above(&self.rows, place + 1, address)
     }
 
     /// The nearest candidate of an address.
-    fn nearest_candidate<'b>(&self, address: u64, image: &'b [u8]) -> Option<Candidate<'b>>
+    fn nearest_candidate(&self, address: u64, image: &[u8]) -> Option<Candidate>
         requires { IsTableOf self.now image.now }
-        ensures { IsNearest image.now address (option_map tuple_of result) }
+        ensures { IsNearest image.now address (option_map (tuple_of (strings_of image.now)) result) }
     {
+        let strings = self.strings(image);
         let mut best = None;
         for place in 0..self.extents.len() {
-            best = first_of_two(best, self.first_in(place, address, image));
+            best = first_of_two(best, self.first_in(place, address, image), strings);
         }
         best
+    }
+
+    /// A candidate as what is found for an address.
+    #[tactic(auto, unfolding(crate::specs::Found::found_of, crate::specs::Views::tuple_of))]
+    fn found<'b>(&self, address: u64, candidate: &Candidate, image: &'b [u8]) -> Found<'b>
+        requires table { IsTableOf self.now image.now }
+        requires value { candidate.now.value ≤ address }
+        ensures { found_view result ≡ found_of image.now address (tuple_of (strings_of image.now) candidate.now) }
+    {
+        let (segment, section) = section_names(&self.extents, candidate.sect, image);
+        Found {
+            name: candidate.name(self.strings(image)).bytes(),
+            address: candidate.value,
+            offset: address - candidate.value,
+            sect: candidate.sect,
+            segment,
+            section,
+        }
     }
 
     /// The symbol that an address belongs to, as `Symbols::nearest_plain` tells it, by halving. The slice is
@@ -122,6 +131,6 @@ impl AddressTable {
         ensures { FindsNearest slice.now address (option_map found_view result) }
     {
         let candidate = self.nearest_candidate(address, slice)?;
-        Some(found(&self.extents, address, &candidate, slice))
+        Some(self.found(address, &candidate, slice))
     }
 }

@@ -1,6 +1,6 @@
 use Rattle.std.proofs.Common.{None}
 use Rattle.macho_symbols.specs.Symbols.{candidates}
-use Rattle.macho_symbols.proofs.Scan.{keep, nearest_kept}
+use Rattle.macho_symbols.proofs.ScanLemmas.{keep, nearest_kept}
 use Rattle.macho_symbols.proofs.Order.{nearest_once}
 use Rattle.macho_symbols.proofs.laws.one_nearest.Goals as goal
 

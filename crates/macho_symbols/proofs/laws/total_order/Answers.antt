@@ -1,4 +1,4 @@
-use Rattle.macho_symbols.proofs.Scan.{tuples_total}
+use Rattle.macho_symbols.proofs.ScanLemmas.{tuples_total}
 use Rattle.macho_symbols.proofs.Order.{exact_tuples}
 use Rattle.macho_symbols.proofs.laws.total_order.Goals as goal
 

@@ -1,26 +1,34 @@
-use Rattle.std.proofs.Common.{◌≡◌, ◌-◌, ◌∙◌, ◌++◌, ap, arith, map}
-use Rattle.macho_symbols.specs.Symbols.{table_of, strings_of, candidates_among}
-use Rattle.macho_symbols.specs.Rows.{row_tuple}
-use Rattle.macho_symbols.proofs.Entries.{all_candidates}
+use Rattle.std.proofs.Common.{rules, ◌≡◌, ◌∙◌, ◌++◌, ap, sym, subst, map}
+use Rattle.std.specs.List.{AllByRecursion, filter_map}
+use Rattle.std.specs.Option.{option_map}
+use Rattle.macho_symbols.specs.Nlist.{IsEntry}
+use Rattle.macho_symbols.specs.Symbols.{strings_of, candidate_in, candidates}
+use Rattle.macho_symbols.specs.Views.{tuple_of}
 use Rattle.macho_symbols.proofs.BuildLemmas.{row_added, rows_end}
 use Rattle.macho_symbols.proofs.rows.collect_rows.Goals as goal
 
-pub loop-place-init : goal.loop-place-init
-loop-place-init c =
+pub loop-entry-init : goal.loop-entry-init
+unfolding candidates
+loop-entry-init c =
     let image = c.args.symbols.now in
-    let rest = c.entries-rest.result.now in
-    let count : c.symbols.inside.table.nsyms ≡ (table_of image).nsyms = ap (λ t. t.nsyms) c.symbols.invariant.table_is ∙ ap (λ b. (table_of b).nsyms) c.symbols.view_is in
+    let all = c.into_iter-entry-iterator.ensures.into_iter_gives ∙ c.entries-entry-items.ensures.all in
     record {
-      same = ap (λ rows. map (row_tuple (strings_of image)) rows ++ candidates_among image (c.symbols.inside.table.nsyms - 0) rest) c.new-rows.ensures.items
-          ∙ all_candidates image rest (c.symbols.inside.table.nsyms - 0) (omega (arith, count)) c.entries-rest.ensures.value;
-      room = omega (arith, count, c.entries-rest.ensures.room);
+      same = ap (λ rows. map (tuple_of (strings_of image)) rows ++ filter_map (candidate_in image) c.into_iter-entry-iterator.result) c.new-rows.ensures.items
+          ∙ ap (filter_map (candidate_in image)) all;
+      each = subst (AllByRecursion IsEntry) (sym all) c.entries-entry-items.ensures.each;
     }
 
-pub loop-place-preserved : goal.loop-place-preserved
-loop-place-preserved c = record {
-  same = row_added c.args.symbols.now _ _ _ _ _ _ _ _ (omega arith) (omega arith) c.split_at.ensures.back c.split_at.ensures.front c.row_of.ensures c.in_ok-push_some.ensures ∙ c.loop-place.invariant.same;
-  room = omega arith;
-}
+pub loop-entry-preserved : goal.loop-entry-preserved
+loop-entry-preserved c =
+    let image = c.args.symbols.now in
+    let rows = c.loop-entry.rows.items in
+    let told = subst (λ bytes. option_map (tuple_of (strings_of bytes)) c.candidate.result ≡ candidate_in bytes c.in-Some.entry.now) c.new-scan.ensures c.candidate.ensures in
+    record {
+      same = row_added image rows _ c.candidate.result c.in-Some.entry.now c.next.new.self told c.in_ok-push_some.ensures
+          ∙ ap (λ es. map (tuple_of (strings_of image)) rows ++ filter_map (candidate_in image) es) (sym c.in-Some.ensures.steps)
+          ∙ c.loop-entry.invariant.same;
+      each = search rules;
+    }
 
 pub returns : goal.returns
-returns c = rows_end c.args.symbols.now c.loop-place.rows.items _ _ _ (omega arith) c.loop-place.invariant.same
+returns c = rows_end c.args.symbols.now c.loop-entry.rows.items c.loop-entry.entry-iterator _ c.in-None.ensures.steps.0 c.loop-entry.invariant.same

@@ -1,10 +1,12 @@
-use Rattle.std.proofs.Common.{◌≡◌, ◌-◌, ◌*◌, ◌≤◌, ◌++◌, length, map}
-use Rattle.macho_symbols.specs.Symbols.{strings_of, candidates_among, candidates}
-use Rattle.macho_symbols.specs.Rows.{row_tuple}
+use Rattle.std.proofs.Common.{◌≡◌, ◌++◌, map}
+use Rattle.std.specs.List.{AllByRecursion, filter_map}
+use Rattle.macho_symbols.specs.Nlist.{IsEntry}
+use Rattle.macho_symbols.specs.Symbols.{strings_of, candidate_in, candidates}
+use Rattle.macho_symbols.specs.Views.{tuple_of}
 use Rattle.macho_symbols.proofs.rows.collect_rows.Given as goal
 
-abbrev pub invariant-loop-place : goal.invariant-loop-place
-invariant-loop-place l = record {
-  same : map (row_tuple (strings_of l.symbols)) l.rows.items ++ candidates_among l.symbols (l.place-end - l.place) l.rest ≡ candidates l.symbols;
-  room : 16 * (l.place-end - l.place) ≤ length l.rest;
+abbrev pub invariant-loop-entry : goal.invariant-loop-entry
+invariant-loop-entry l = record {
+  same : map (tuple_of (strings_of l.symbols)) l.rows.items ++ filter_map (candidate_in l.symbols) l.entry-iterator ≡ candidates l.symbols;
+  each : AllByRecursion IsEntry l.entry-iterator;
 }

@@ -1,5 +1,5 @@
-use Rattle.std.proofs.Common.{◌≡◌, ◌+◌, ◌∙◌, ap, sym, arith, take, length, true, false, nat_eq, ◌&&◌, ◌==◌}
-use Rattle.std.specs.List.{before_first, starts_with}
+use Rattle.std.proofs.Common.{◌+◌, ◌∙◌, ap, sym, arith, take, length, ◌&&◌, ◌==◌}
+use Rattle.std.specs.List.{before_first}
 use Rattle.macho_symbols.proofs.Pieces.{name_is}
 use Rattle.macho_symbols.proofs.name.Name.is.Goals as goal
 

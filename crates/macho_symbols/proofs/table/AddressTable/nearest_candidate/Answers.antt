@@ -1,5 +1,7 @@
-use Rattle.std.proofs.Common.{ap, arith, length, sym, subst}
-use Rattle.macho_symbols.specs.Rows.{IsFirstOrNone}
+use Rattle.std.proofs.Common.{◌≡◌, ap, arith, length, sym, subst}
+use Rattle.std.specs.Option.{option_map}
+use Rattle.macho_symbols.specs.Rows.{IsFirstOrNone, first_of_two}
+use Rattle.macho_symbols.specs.Views.{tuple_of}
 use Rattle.macho_symbols.proofs.Stands.{none_at_start, one_section_more, all_sections, numbers_fit}
 use Rattle.macho_symbols.proofs.table.AddressTable.nearest_candidate.Goals as goal
 
@@ -8,7 +10,10 @@ loop-place-init c = none_at_start c.args.image.now c.args.address
 
 pub loop-place-preserved : goal.loop-place-preserved
 loop-place-preserved c =
-    subst (IsFirstOrNone _) (sym c.first_of_two-best.ensures)
+    let first = subst
+    (λ s. option_map (tuple_of s) c.first_of_two-best.result ≡ first_of_two (option_map (tuple_of s) c.loop-place.best) (option_map (tuple_of s) c.first_in.result))
+    c.strings-strings.ensures c.first_of_two-best.ensures in
+    subst (IsFirstOrNone _) (sym first)
     (one_section_more c.args.image.now c.args.address c.loop-place.place _ _ c.loop-place.invariant c.first_in.ensures)
 
 pub returns : goal.returns

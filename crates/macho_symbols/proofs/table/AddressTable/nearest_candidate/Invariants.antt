@@ -1,9 +1,10 @@
 use Rattle.std.proofs.Common.{◌≤◌}
 use Rattle.std.specs.Option.{option_map}
+use Rattle.macho_symbols.specs.Symbols.{strings_of}
 use Rattle.macho_symbols.specs.Nearest.{StandsFor}
 use Rattle.macho_symbols.specs.Rows.{IsFirstOrNone}
 use Rattle.macho_symbols.specs.Views.{tuple_of}
 use Rattle.macho_symbols.proofs.table.AddressTable.nearest_candidate.Given as goal
 
 abbrev pub invariant-loop-place : goal.invariant-loop-place
-invariant-loop-place l = IsFirstOrNone (λ c. StandsFor l.image l.address c × (c.sect ≤ l.place)) (option_map tuple_of l.best)
+invariant-loop-place l = IsFirstOrNone (λ c. StandsFor l.image l.address c × (c.sect ≤ l.place)) (option_map (tuple_of (strings_of l.image)) l.best)

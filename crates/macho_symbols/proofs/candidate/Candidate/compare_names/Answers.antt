@@ -3,7 +3,7 @@ use Rattle.std.specs.Ordering.{nat_cmp}
 use Rattle.std.specs.Cmp.Lexicographic.{slice_cmp}
 use Rattle.std.proofs.lemmas.Cmp.{tied_itself, nat_cmp_total, lists_total}
 use Rattle.macho_symbols.specs.Symbols.{name_of}
-use Rattle.macho_symbols.proofs.rows.Row.compare_names.Goals as goal
+use Rattle.macho_symbols.proofs.candidate.Candidate.compare_names.Goals as goal
 
 pub returns-then-self-other : goal.returns-then-self-other
 returns-then-self-other c =

@@ -1,6 +1,6 @@
 -- One scan with a kept best finds the first in the order.
 use Rattle.std.proofs.Common.{◌≡◌, ◌≢◌, ℕ, suc, ◌≤◌, Bool, true, false, cond, ◌&&◌, List, [], ◌∷◌, Option, Some, None, MatchOption, ◌⊎◌, inl, inr, refl, sym, ap, ◌∙◌, arith, subst, Contains, nat_le}
-use Rattle.std.specs.List.{AllByRecursion}
+use Rattle.std.specs.List.{AllByRecursion, filter_map, cons_option}
 use Rattle.std.specs.Option.{option_map_or}
 use Rattle.std.specs.Ordering.{is_lt, is_gt, ordering_reverse}
 use Rattle.std.specs.declared.cmp.Ordering.{Ordering}
@@ -9,7 +9,7 @@ use Rattle.std.specs.Cmp.{IsTotalOrder, bool_cmp_total}
 use Rattle.std.proofs.lemmas.Cmp.{upto, tied_itself, nat_cmp_total, on_total, then_total, back_total, lists_total}
 use Rattle.std.proofs.lemmas.List.Elements.{All-from_recursion}
 use Rattle.std.proofs.lemmas.Bool.Decides.{nat_tests}
-use Rattle.macho_symbols.specs.Symbols.{Tuple, candidates, is_in_section}
+use Rattle.macho_symbols.specs.Symbols.{Tuple, candidate_in, candidates, is_in_section}
 use Rattle.macho_symbols.specs.Nearest.{tuple_cmp, can_stand_for, better, UpTo, StandsFor, IsNearest}
 
 -- the best of them and what was kept
@@ -141,17 +141,22 @@ module _ (image : List ℕ) (address : ℕ) where
               none_some e = cc
           member (inr h) = (contains_from (candidates image) c h.0, h.1)
 
--- none is left
-pub keep_nil : (image : List ℕ) (address : ℕ) (best : Option Tuple) (cs : List Tuple) → cs ≡ [] → keep image address best cs ≡ best
+-- after the last entry
+pub keep_end : (image : List ℕ) (address : ℕ) (best : Option Tuple) (es : List (List ℕ)) → es ≡ [] → keep image address best (filter_map (candidate_in image) es) ≡ best
 unfolding keep
-keep_nil image address best cs h = rw h refl
+keep_end image address best es h = rw h refl
 
--- one more
-pub keep_cons : (image : List ℕ) (address : ℕ) (best : Option Tuple) (c : Tuple) (cs : List Tuple) → keep image address best (c ∷ cs) ≡ keep image address (better image address best c) cs
+-- one entry more
+pub keep_entry : (image : List ℕ) (address : ℕ) (best : Option Tuple) (e : List ℕ) (es : List (List ℕ))
+    → keep image address (option_map_or (better image address best) (candidate_in image e) best) (filter_map (candidate_in image) es)
+    ≡ keep image address best (filter_map (candidate_in image) (e ∷ es))
 unfolding keep
-keep_cons image address best c cs = refl
-
-pub ruleset of_scan = (keep_nil, keep_cons)
+keep_entry image address best e es = by_entry (candidate_in image e)
+  where
+    by_entry : (o : Option Tuple) → keep image address (option_map_or (better image address best) o best) (filter_map (candidate_in image) es)
+        ≡ keep image address best (cons_option o (filter_map (candidate_in image) es))
+    by_entry None = refl
+    by_entry (Some c) = refl
 
 -- a candidate that can stand for an address is not above it
 pub stands_below : (image : List ℕ) (address : ℕ) (c : Tuple) → StandsFor image address c → c.value ≤ address

@@ -1,0 +1,133 @@
+//! What a scan over the entries reads: the symbols, and the sections that their numbers name.
+
+ghost use Rattle.std.specs.Prelude.{◌≡◌, ◌≤◌, [], length};
+ghost use Rattle.std.specs.Option.{option_map, option_map_or};
+ghost use Rattle.macho_image.specs.Sections.{section_of};
+ghost use Rattle.macho_image.specs.SectionViews.{section_view};
+ghost use Rattle.macho_symbols.specs.Symbols.{strings_of, is_in_section, name_in, is_candidate, candidate_in};
+ghost use Rattle.macho_symbols.specs.Found.{found_of};
+ghost use Rattle.macho_symbols.specs.Views.{name_view, tuple_of, found_view};
+
+use crate::candidate::Candidate;
+use crate::found::Found;
+use crate::name::Name;
+use crate::nlist::{N_EXT, N_SECT, N_STAB, N_TYPE, n_sect, n_strx, n_type, n_value};
+use crate::section_numbers::{N_SECT_COUNT, sections_by_number};
+use crate::symbols::Symbols;
+use macho_image::Section;
+use std::marker::Model;
+
+/// The symbols of an image beside its sections by number, which are collected once where a scan begins. A
+/// contract sees it as the bytes of the image.
+#[derive(Drop)]
+pub(crate) struct Scan<'a> {
+    pub(crate) symbols: Symbols<'a>,
+    sections: [Option<Section<'a>>; N_SECT_COUNT],
+}
+
+impl<'a> Model for Scan<'a> {
+    ghost use Rattle.std.specs.Prelude.{ℕ, List};
+    ghost use Rattle.macho_symbols.specs.SectionNumbers.{AreByNumber};
+
+    ghost Value = { List ℕ };
+
+    ghost view = { λ s. s.symbols };
+
+    ghost invariant = { λ s. AreByNumber s.symbols s.sections };
+}
+
+impl<'a> Scan<'a> {
+    /// Of these symbols.
+    pub(crate) fn new(symbols: &Symbols<'a>) -> Scan<'a>
+        ensures { result ≡ symbols.now }
+    {
+        Scan {
+            symbols: symbols.copy(),
+            sections: sections_by_number(&symbols.image),
+        }
+    }
+
+    /// The section of a number.
+    fn section(&self, number: u8) -> Option<Section<'a>>
+        ensures { option_map section_view result ≡ section_of self.now number }
+    {
+        self.sections[number as usize]
+    }
+
+    /// Whether an address lies in the section of a number.
+    #[tactic(auto, unfolding(crate::specs::Symbols::is_in_section))]
+    pub(crate) fn is_in_section(&self, number: u8, address: u64) -> bool
+        ensures { result ≡ is_in_section self.now number address }
+    {
+        match self.section(number) {
+            Some(section) => section.addr <= address && address - section.addr < section.size,
+            None => false,
+        }
+    }
+
+    /// The name of an entry.
+    #[tactic(auto, unfolding(crate::specs::Symbols::name_in))]
+    fn name(&self, entry: &[u8]) -> Name<'a>
+        requires { 16 ≤ length entry.now }
+        ensures { name_view result ≡ name_in self.now entry.now }
+    {
+        Name::at(self.symbols.strings(), n_strx(entry))
+    }
+
+    /// Whether an entry is a candidate.
+    #[tactic(auto, unfolding(crate::specs::Symbols::is_candidate))]
+    fn is_candidate(&self, entry: &[u8]) -> bool
+        requires { 16 ≤ length entry.now }
+        ensures { result ≡ is_candidate self.now entry.now }
+    {
+        n_type(entry) & N_STAB == 0
+            && n_type(entry) & N_TYPE == N_SECT
+            && self.is_in_section(n_sect(entry), n_value(entry))
+            && !self.name(entry).is_empty()
+    }
+
+    /// The candidate that an entry is, if it is one.
+    #[tactic(auto, unfolding(crate::specs::Views::tuple_of, crate::specs::Symbols::candidate_in, crate::specs::Symbols::tuple_in, crate::specs::Symbols::name_in))]
+    pub(crate) fn candidate(&self, entry: &[u8]) -> Option<Candidate>
+        requires { 16 ≤ length entry.now }
+        ensures { option_map (tuple_of (strings_of self.now)) result ≡ candidate_in self.now entry.now }
+    {
+        if !self.is_candidate(entry) {
+            return None;
+        }
+        Some(Candidate {
+            value: n_value(entry),
+            strx: n_strx(entry),
+            sect: n_sect(entry),
+            external: n_type(entry) & N_EXT == 1,
+        })
+    }
+
+    /// The names of the segment and of the section of a number, empty where there is no such section.
+    fn section_names(&self, number: u8) -> (&'a [u8], &'a [u8])
+        ensures segment { result.0.now ≡ option_map_or (λ s. s.segment) (section_of self.now number) [] }
+        ensures section { result.1.now ≡ option_map_or (λ s. s.section) (section_of self.now number) [] }
+    {
+        match self.section(number) {
+            Some(section) => (section.segment, section.section),
+            None => (&[], &[]),
+        }
+    }
+
+    /// A candidate as what is found for an address.
+    #[tactic(auto, unfolding(crate::specs::Found::found_of, crate::specs::Views::tuple_of))]
+    pub(crate) fn found(&self, address: u64, candidate: &Candidate) -> Found<'a>
+        requires { candidate.now.value ≤ address }
+        ensures { found_view result ≡ found_of self.now address (tuple_of (strings_of self.now) candidate.now) }
+    {
+        let (segment, section) = self.section_names(candidate.sect);
+        Found {
+            name: candidate.name(self.symbols.strings()).bytes(),
+            address: candidate.value,
+            offset: address - candidate.value,
+            sect: candidate.sect,
+            segment,
+            section,
+        }
+    }
+}
