@@ -19,15 +19,15 @@ use Rattle.archive_records.specs.declared.fault.RecordFaultKind.{RecordFaultKind
 use Rattle.archive_records.specs.declared.fault.RecordFaultKind.TheVariants.{BadMagic, Truncated, BadSlice, KeyMismatch, Trailing}
 use Rattle.archive_records.specs.declared.fault.RecordFault.{RecordFault}
 use Rattle.archive_records.specs.Layout.{head_length, body_length, slice_length, framed}
-use Rattle.archive_records.specs.Kind.{magic_of}
+use Rattle.archive_records.specs.Kind.{magic_of, IsItem}
 use Rattle.archive_records.specs.Text.{ending, text_of, IsWritten, InOrder, last_of, IsOperationsText}
-use Rattle.archive_records.specs.Fault.{is_end, next, Fails, IsTrailing, IsUnended, IsFault, IsOperationsFault, IsFaultOf}
+use Rattle.archive_records.specs.Fault.{is_end, next, FailsNext, RefusesSlice, Refuses, IsTrailing, IsUnended, IsFault, IsOperationsFault, IsFaultOf}
 use Rattle.archive_records.specs.Front.{front_length}
 use Rattle.archive_records.proofs.Framed.{same_body, framed-whole}
 use Rattle.archive_records.proofs.Holds.{holds, Holds-nine, Holds-end, next-framed, next-above, next-counts, done, whole-retirement, whole-admission}
 use Rattle.archive_records.proofs.Heads.{read_key}
 use Rattle.archive_records.proofs.SliceFacts.{slice_or_fault}
-use Rattle.archive_records.proofs.Forms.{IsBytes, IsBytes-take, IsBytes-drop, retires, admits, record-framed}
+use Rattle.archive_records.proofs.Forms.{IsBytes, IsBytes-take, IsBytes-drop, retires, admits, item-framed, archive_framed}
 use Rattle.archive_records.proofs.Ends.{ends}
 use Rattle.archive_records.proofs.Puts.{concat-push}
 use Rattle.archive_records.proofs.Longest.{Takes, is_end-grows}
@@ -67,6 +67,36 @@ key_at bytes long fits =
       record { uuid = omega (arith, length-take 16 (drop 1 bytes), length-drop 1 bytes); cputype = be_small a a4 a_fits; subtype = be_small b b4 b_fits },
     )
 
+-- whole bytes that are no end record are a record, or refused for what they hold
+record_or_refused : (bytes : List ℕ) → framed Archive bytes ≡ Ok (length bytes) → is_end bytes ≡ false → IsBytes bytes → IsRecord bytes ⊎ ((kind : RecordFaultKind) × RefusesSlice bytes kind)
+record_or_refused bytes whole no_end fits =
+    elim (cases_Bool (get_or bytes 0 0 == 1)) [
+      | inl one ↦
+          let tag = eqb-true _ _ one in
+          let long = whole-retirement Archive bytes whole tag in
+          let key = key_at bytes (omega arith) fits in
+          inl (inr (retires bytes key.0 whole tag key.1 key.2))
+      | inr other ↦ by_slice (whole-admission Archive bytes whole no_end (λ tag. not_one tag other))
+    ]
+  where
+    not_one : {t : ℕ} → t ≡ 1 → (t == 1) ≡ false → ⊥
+    not_one tag other = false≢true (sym other ∙ ap (λ (x : ℕ). x == 1) tag)
+
+    by_slice : (get_or bytes 0 0 ≡ 2) × (slice_length bytes + 33 ≡ length bytes) → IsRecord bytes ⊎ ((kind : RecordFaultKind) × RefusesSlice bytes kind)
+    by_slice form =
+        elim (slice_or_fault (drop 33 bytes)) [
+          | inl valid ↦ elim (same_or_not (take 24 (drop 1 bytes)) (key_bytes (key_of (drop 33 bytes)))) [
+            | inl key ↦ inl (inl (admits bytes form valid key fits))
+            | inr other ↦ inr (KeyMismatch, (form.0, valid, other))
+          ]
+          | inr fault ↦ inr (BadSlice fault.0, (form.0, fault.1))
+        ]
+
+-- and so of each kind of file
+item_or_refused : (file : FileKind) (bytes : List ℕ) → framed file bytes ≡ Ok (length bytes) → is_end bytes ≡ false → IsBytes bytes → IsItem file bytes ⊎ ((kind : RecordFaultKind) × Refuses file bytes kind)
+item_or_refused Archive bytes whole no_end fits = record_or_refused bytes whole no_end fits
+item_or_refused Operations_file bytes whole no_end fits = record_or_refused bytes (archive_framed Operations_file bytes whole no_end) no_end fits
+
 ended_or_not : (file : FileKind) (rest : List ℕ) (count : ℕ) → IsUnended file rest ⊎ (rest ≡ ending file count)
 ended_or_not Archive rest count = inl tt
 ended_or_not Operations_file [] count = inr refl
@@ -85,14 +115,14 @@ module _ (file : FileKind) where
       let split : item ++ drop n rest ≡ rest = take-append-drop n rest in
       let some = Holds-nine file rest n h in
       let tag : head_length file (get_or item 0 0) ≡ Some h.head = ap (head_length file) (get_or-take n rest 0 0 (omega arith)) ∙ h.tag in
-      let body : body_length rest ≡ body_length item = ap body_length (sym split) ∙ same_body file item (drop n rest) h.head (omega arith) tag (omega arith) in
-      let small : body_length item ≤ 4294967295 = rw (← body) h.small in
+      let body : body_length file rest ≡ body_length file item = ap (body_length file) (sym split) ∙ same_body file item (drop n rest) h.head (omega arith) tag (omega arith) in
+      let small : body_length file item ≤ 4294967295 = rw (← body) h.small in
       framed-whole file item h.head (omega arith) tag (omega arith) small (omega arith) ∙ ap done (omega arith)
 
   -- what stands in front of the rest: a fault, bytes behind the end record, the end record alone, or a record
   abbrev pub Found : List ℕ → ℕ → List ℕ → Type 0
   Found last count rest =
-      ((kind : RecordFaultKind) × Fails file last count rest kind)
+      ((kind : RecordFaultKind) × FailsNext file last count rest kind)
       ⊎ IsTrailing file last count rest
       ⊎ (rest ≡ ending file count)
       ⊎ Takes file last rest
@@ -114,45 +144,25 @@ module _ (file : FileKind) where
           | inr all ↦ inr (inr (inl (ending_is file rest n count whole three (ends file rest count (whole ∙ ap done (omega arith)) three (next-counts file last count rest n e end) fits))))
         ]
 
-    found_record : is_end rest ≡ false → IsRecord (take n rest) → Found last count rest
-    found_record no_end r = inr (inr (inr (record { item = take n rest; more = drop n rest; whole = sym (take-append-drop n rest); is = r; above = next-above file last count rest n e no_end })))
+    found_item : is_end rest ≡ false → IsItem file (take n rest) → Found last count rest
+    found_item no_end r = inr (inr (inr (record { item = take n rest; more = drop n rest; whole = sym (take-append-drop n rest); is = r; above = next-above file last count rest n e no_end })))
 
-    found_slice : is_end rest ≡ false → (get_or (take n rest) 0 0 ≡ 2) × (slice_length (take n rest) + 33 ≡ length (take n rest)) → Found last count rest
-    found_slice no_end form =
-        let bytes : List ℕ = take n rest in
-        elim (slice_or_fault (drop 33 bytes)) [
-          | inl valid ↦ elim (same_or_not (take 24 (drop 1 bytes)) (key_bytes (key_of (drop 33 bytes)))) [
-            | inl key ↦ found_record no_end (inl (admits bytes form valid key (IsBytes-take n rest fits)))
-            | inr other ↦ inl (KeyMismatch, inr (n, e, (form.0, valid, other)))
-          ]
-          | inr fault ↦ inl (BadSlice fault.0, inr (n, e, (form.0, fault.1)))
-        ]
-
-    found_item : is_end rest ≡ false → Found last count rest
-    found_item no_end =
+    found_whole : is_end rest ≡ false → Found last count rest
+    found_whole no_end =
         let bytes : List ℕ = take n rest in
         let cut : framed file bytes ≡ Ok (length bytes) = framed-cut rest n whole in
-        let h = holds file rest n whole in
-        let some = Holds-nine file rest n h in
         let same : is_end bytes ≡ false = sym (is_end-grows bytes (drop n rest) (holds file bytes (length bytes) cut).one) ∙ ap is_end (take-append-drop n rest) ∙ no_end in
-        elim (cases_Bool (get_or bytes 0 0 == 1)) [
-          | inl one ↦
-              let tag = eqb-true _ _ one in
-              let long = whole-retirement file bytes cut tag in
-              let key = key_at bytes (omega arith) (IsBytes-take n rest fits) in
-              found_record no_end (inr (retires file bytes key.0 cut tag key.1 key.2))
-          | inr other ↦ found_slice no_end (whole-admission file bytes cut same (λ tag. not_one tag other))
+        elim (item_or_refused file bytes cut same (IsBytes-take n rest fits)) [
+          | inl is ↦ found_item no_end is
+          | inr refused ↦ inl (refused.0, inr (n, e, refused.1))
         ]
-      where
-        not_one : {t : ℕ} → t ≡ 1 → (t == 1) ≡ false → ⊥
-        not_one tag other = false≢true (sym other ∙ ap (λ (x : ℕ). x == 1) tag)
 
   found : (last : List ℕ) (count : ℕ) (rest : List ℕ) → IsBytes rest → Found last count rest
   found last count rest fits = elim (next file last count rest) as (λ r. next file last count rest ≡ r → Found last count rest) [
     | Err kind ↦ λ e. inl (kind, inl e)
     | Ok n ↦ λ e. elim (cases_Bool (is_end rest)) [
       | inl end ↦ found_end last count rest n e fits end (three end)
-      | inr no_end ↦ found_item last count rest n e fits no_end
+      | inr no_end ↦ found_whole last count rest n e fits no_end
     ]
   ] refl
     where
@@ -163,7 +173,7 @@ module _ (file : FileKind) where
   abbrev pub Known : List ℕ → Type 0
   Known t = ((records : List (List ℕ)) × InOrder file [] records × (t ≡ text_of file records)) ⊎ ((fault : RecordFault) × IsFaultOf file t fault)
 
-  fault_known : (t : List ℕ) (records : List (List ℕ)) (rest : List ℕ) (kind : RecordFaultKind) → InOrder file [] records → t ≡ magic_of file ++ (concat records ++ rest) → IsUnended file rest → Fails file (last_of [] records) (length records) rest kind → Known t
+  fault_known : (t : List ℕ) (records : List (List ℕ)) (rest : List ℕ) (kind : RecordFaultKind) → InOrder file [] records → t ≡ magic_of file ++ (concat records ++ rest) → IsUnended file rest → FailsNext file (last_of [] records) (length records) rest kind → Known t
   fault_known t records rest kind ordered is u f =
       inr (record { kind = kind; offset = front_length records }, inr (records, record { ordered = ordered; rest = rest; whole = is }, u, inl (f, refl)))
 
@@ -179,7 +189,7 @@ module _ (file : FileKind) where
   goes_on : (t : List ℕ) (fuel : ℕ) (records : List (List ℕ)) (rest : List ℕ) → length rest < suc fuel → IsBytes rest → InOrder file [] records → t ≡ magic_of file ++ (concat records ++ rest)
       → ((more : List (List ℕ)) (left : List ℕ) → length left < fuel → IsBytes left → InOrder file [] more → t ≡ magic_of file ++ (concat more ++ left) → Known t) → Takes file (last_of [] records) rest → Known t
   goes_on t fuel records rest few fits ordered is walked k =
-      let some = (holds file k.item (length k.item) (record-framed file k.item k.is)).one in
+      let some = (holds file k.item (length k.item) (item-framed file k.item k.is)).one in
       let shorter : length k.more < fuel = omega (arith, ap length k.whole, length-append k.item k.more) in
       let tail : drop (length k.item) rest ≡ k.more = ap (drop (length k.item)) k.whole ∙ drop_at k.item k.more (length k.item) refl in
       let more_fits : IsBytes k.more = subst IsBytes tail (IsBytes-drop (length k.item) rest fits) in

@@ -18,7 +18,7 @@ use Rattle.archive_core.specs.Content.{Operations, IsContent}
 use Rattle.archive_records.specs.Kind.{magic, allows, may_follow}
 use Rattle.archive_records.specs.Text.{end_record, text_of, IsWritten, written, InOrder}
 use Rattle.archive_records.proofs.Holds.{holds}
-use Rattle.archive_records.proofs.Forms.{record-framed}
+use Rattle.archive_records.proofs.Forms.{item-framed}
 use Rattle.archive_records.proofs.Puts.{bytes_same, length_written}
 use Rattle.archive_records.specs.declared.kind.FileKind.TheVariants.{Archive}
 
@@ -58,7 +58,7 @@ InOrder-sorted low [] r b s = tt
 InOrder-sorted low (x ∷ xs) r b s = (r.0, is_below low x b.0, InOrder-sorted x xs r.1 s.0 s.1)
 
 above_empty : (x : List ℕ) → IsRecord x → order [] x ≡ Less
-above_empty [] r = absurd (omega (arith, (holds Archive [] 0 (record-framed Archive [] r)).one))
+above_empty [] r = absurd (omega (arith, (holds Archive [] 0 (item-framed Archive [] r)).one))
 above_empty (b ∷ bs) r = refl
 
 all_above_empty : (xs : List (List ℕ)) → AllByRecursion IsRecord xs → AllByRecursion (λ y. order [] y ≡ Less) xs

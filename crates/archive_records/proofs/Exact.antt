@@ -10,11 +10,11 @@ use Rattle.archive_records.specs.declared.fault.RecordFaultKind.TheVariants.{Bad
 use Rattle.archive_records.specs.declared.fault.RecordFault.{RecordFault}
 use Rattle.archive_records.specs.Kind.{magic_of}
 use Rattle.archive_records.specs.Text.{end_record, ending, text_of, InOrder, last_of, written}
-use Rattle.archive_records.specs.Fault.{is_end, Fails, IsTrailing, RefusesSlice, IsMagicFault, IsUnended, IsFaultBehind, IsFaultOf}
+use Rattle.archive_records.specs.Fault.{is_end, FailsNext, IsTrailing, RefusesSlice, Refuses, IsMagicFault, IsUnended, IsFaultBehind, IsFaultOf}
 use Rattle.archive_records.specs.Front.{IsGoodFront, IsLongestFront}
 use Rattle.archive_records.proofs.SliceFacts.{no_slice_fault, one_slice_fault}
 use Rattle.archive_records.proofs.Holds.{result_is, holds}
-use Rattle.archive_records.proofs.Forms.{record-framed}
+use Rattle.archive_records.proofs.Forms.{item-framed, refused_slice}
 use Rattle.archive_records.proofs.Grown.{kind_is, no_both, next-ok-grows}
 use Rattle.archive_records.proofs.Longest.{Takes, fault-stops, end-stops, unique, behind_magic, is_longest}
 use Rattle.archive_records.proofs.Ends.{is_three, length-end_record, next_end}
@@ -78,14 +78,14 @@ length-ending Archive n = omega (arith, length-end_record n)
 length-ending Operations_file n = lit≤ tt
 
 nothing_taken : (file : FileKind) (low : List ℕ) → Takes file low [] → ⊥
-nothing_taken file low t = omega (arith, (holds file t.item (length t.item) (record-framed file t.item t.is)).one, ap length t.whole, length-append t.item t.more)
+nothing_taken file low t = omega (arith, (holds file t.item (length t.item) (item-framed file t.item t.is)).one, ap length t.whole, length-append t.item t.more)
 
 -- no record begins with it; in an operations file nothing stands behind it
 ending_stops : (file : FileKind) (low : List ℕ) (n : ℕ) (more : List ℕ) → (file ≡ Operations_file → more ≡ []) → Takes file low (ending file n ++ more) → ⊥
 ending_stops Archive low n more alone t = end-stops Archive low (end_record n ++ more) (end_more n more) t
 ending_stops Operations_file low n more alone t = nothing_taken Operations_file low (subst (Takes Operations_file low) (alone refl) t)
 
-no_fails : (file : FileKind) (low : List ℕ) (n : ℕ) (more : List ℕ) (kind : RecordFaultKind) → (file ≡ Archive → n < 2 ^ 64) → (file ≡ Operations_file → more ≡ []) → IsUnended file (ending file n ++ more) → Fails file low n (ending file n ++ more) kind → ⊥
+no_fails : (file : FileKind) (low : List ℕ) (n : ℕ) (more : List ℕ) (kind : RecordFaultKind) → (file ≡ Archive → n < 2 ^ 64) → (file ≡ Operations_file → more ≡ []) → IsUnended file (ending file n ++ more) → FailsNext file low n (ending file n ++ more) kind → ⊥
 no_fails Operations_file low n more kind few alone unended f = unended (alone refl)
 no_fails Archive low n more kind few alone unended (inl e) = no_both 9 kind (sym (next-ok-grows Archive low n (end_record n) more 9 (next_end low n (few refl))) ∙ e)
 no_fails Archive low n more kind few alone unended (inr f) =
@@ -144,19 +144,19 @@ module _ (file : FileKind) where
   pub fault_longest : (text : List ℕ) (records : List (List ℕ)) (front : IsGoodFront file text records) (fault : RecordFault) → IsFaultBehind file records front.rest fault → IsLongestFront file text records
   fault_longest text records front fault f = is_longest file text records front (behind_stops records front.rest fault f)
 
-  same_kind : (last : List ℕ) (count : ℕ) (rest : List ℕ) (j k : RecordFaultKind) → Fails file last count rest j → Fails file last count rest k → j ≡ k
+  same_kind : (last : List ℕ) (count : ℕ) (rest : List ℕ) (j k : RecordFaultKind) → FailsNext file last count rest j → FailsNext file last count rest k → j ≡ k
   same_kind last count rest j k (inl a) (inl b) = kind_is j k (sym a ∙ b)
   same_kind last count rest j k (inl a) (inr b) = absurd (no_both b.0 j (sym b.1 ∙ a))
   same_kind last count rest j k (inr a) (inl b) = absurd (no_both a.0 k (sym a.1 ∙ b))
   same_kind last count rest j k (inr a) (inr b) =
       let n = result_is a.0 b.0 (sym a.1 ∙ b.1) in
-      one_refusal (take b.0 rest) j k (subst (λ (m : ℕ). RefusesSlice (take m rest) j) n a.2) b.2
+      one_refusal (take b.0 rest) j k (refused_slice file (take b.0 rest) j (subst (λ (m : ℕ). Refuses file (take m rest) j) n a.2)) (refused_slice file (take b.0 rest) k b.2)
 
-  no_fault_and_more : (last : List ℕ) (count : ℕ) (rest : List ℕ) (kind : RecordFaultKind) → Fails file last count rest kind → IsTrailing file last count rest → ⊥
+  no_fault_and_more : (last : List ℕ) (count : ℕ) (rest : List ℕ) (kind : RecordFaultKind) → FailsNext file last count rest kind → IsTrailing file last count rest → ⊥
   no_fault_and_more last count rest kind (inl a) t = no_both 9 kind (sym t.whole ∙ a)
   no_fault_and_more last count rest kind (inr a) t =
       let nine = result_is a.0 9 (sym a.1 ∙ t.whole) in
-      let two = refused_tag (take a.0 rest) kind a.2 in
+      let two = refused_tag (take a.0 rest) kind (refused_slice file (take a.0 rest) kind a.2) in
       let same : get_or (take a.0 rest) 0 0 ≡ get_or rest 0 0 = get_or-take a.0 rest 0 0 (omega arith) in
       omega (arith, is_three rest t.end)
 
@@ -189,7 +189,7 @@ module _ (file : FileKind) where
     pub no_fault_behind : (records : List (List ℕ)) (front : IsGoodFront file t records) (fault : RecordFault) → (file ≡ Archive → length records ≡ length xs → length xs < 2 ^ 64) → (fault.kind ≡ Trailing → more ≡ []) → IsUnended file front.rest → IsFaultBehind file records front.rest fault → ⊥
     no_fault_behind records front fault few all unended (inl f) =
         let same = same_front records front (behind_stops records front.rest fault (inl f)) in
-        let here = subst (λ (r : List ℕ). Fails file (last_of [] xs) (length xs) r fault.kind) same.1 (subst (λ (x : List (List ℕ)). Fails file (last_of [] x) (length x) front.rest fault.kind) same.0 f.0) in
+        let here = subst (λ (r : List ℕ). FailsNext file (last_of [] xs) (length xs) r fault.kind) same.1 (subst (λ (x : List (List ℕ)). FailsNext file (last_of [] x) (length x) front.rest fault.kind) same.0 f.0) in
         no_fails file (last_of [] xs) (length xs) more fault.kind (λ archive. few archive (ap length same.0)) alone (subst (IsUnended file) same.1 unended) here
     no_fault_behind records front fault few all unended (inr f) =
         let same = same_front records front (behind_stops records front.rest fault (inr f)) in

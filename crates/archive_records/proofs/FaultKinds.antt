@@ -9,12 +9,13 @@ use Rattle.archive_records.specs.declared.fault.RecordFault.{RecordFault}
 use Rattle.archive_records.specs.Layout.{head_length, body_length, record_count, largest_slice, framed, framed_by, framed_behind}
 use Rattle.archive_records.specs.Kind.{allows, may_follow}
 use Rattle.archive_records.specs.Text.{last_of}
-use Rattle.archive_records.specs.Fault.{is_end, tested, next, next_by, Fails, IsMagicFault, IsUnended, IsFaultBehind, IsOperationsFault, IsOfText}
+use Rattle.archive_records.specs.Fault.{is_end, tested, next, next_by, FailsNext, IsMagicFault, IsUnended, IsFaultBehind, IsOperationsFault, IsOfText}
 use Rattle.archive_records.specs.declared.buffer.Buffer.{Buffer}
 use Rattle.archive_records.specs.Reading.{bytes_so_far, seen_as, StopsInMagic}
 use Rattle.archive_records.proofs.Laid.{length-bytes_so_far}
 use Rattle.archive_records.proofs.Framed.{framed-empty}
 use Rattle.archive_records.proofs.Holds.{next-framed}
+use Rattle.archive_records.proofs.Forms.{refused_slice}
 use Rattle.archive_records.proofs.Ends.{is_three, no_end}
 use Rattle.archive_records.proofs.Grown.{failed, kind_is, no_both, either}
 
@@ -22,30 +23,30 @@ use Rattle.archive_records.proofs.Grown.{failed, kind_is, no_both, either}
 abbrev pub IsOfForm : RecordFaultKind → Type 0
 IsOfForm kind = (kind ≡ Truncated) ⊎ (kind ≡ BadTag) ⊎ (kind ≡ TooLarge)
 
-behind_kind : (head : ℕ) (bytes : List ℕ) (kind : RecordFaultKind) → framed_behind head bytes ≡ failed kind → IsOfForm kind
+behind_kind : (file : FileKind) (head : ℕ) (bytes : List ℕ) (kind : RecordFaultKind) → framed_behind file head bytes ≡ failed kind → IsOfForm kind
 unfolding framed_behind
-behind_kind head bytes kind e =
-    elim (either (ltb (length bytes) head) Truncated kind (cond (ltb largest_slice (body_length bytes)) (failed TooLarge) (cond (ltb (length bytes) (head + body_length bytes)) (failed Truncated) (Ok (head + body_length bytes)))) e) [
+behind_kind file head bytes kind e =
+    elim (either (ltb (length bytes) head) Truncated kind (cond (ltb largest_slice (body_length file bytes)) (failed TooLarge) (cond (ltb (length bytes) (head + body_length file bytes)) (failed Truncated) (Ok (head + body_length file bytes)))) e) [
       | inl a ↦ inl (sym a.1)
-      | inr a ↦ elim (either (ltb largest_slice (body_length bytes)) TooLarge kind (cond (ltb (length bytes) (head + body_length bytes)) (failed Truncated) (Ok (head + body_length bytes))) a.1) [
+      | inr a ↦ elim (either (ltb largest_slice (body_length file bytes)) TooLarge kind (cond (ltb (length bytes) (head + body_length file bytes)) (failed Truncated) (Ok (head + body_length file bytes))) a.1) [
         | inl b ↦ inr (inr (sym b.1))
-        | inr b ↦ elim (either (ltb (length bytes) (head + body_length bytes)) Truncated kind (Ok (head + body_length bytes)) b.1) [
+        | inr b ↦ elim (either (ltb (length bytes) (head + body_length file bytes)) Truncated kind (Ok (head + body_length file bytes)) b.1) [
           | inl d ↦ inl (sym d.1)
-          | inr d ↦ absurd (no_both (head + body_length bytes) kind d.1)
+          | inr d ↦ absurd (no_both (head + body_length file bytes) kind d.1)
         ]
       ]
     ]
 
-by_kind : (o : Option ℕ) (bytes : List ℕ) (kind : RecordFaultKind) → framed_by o bytes ≡ failed kind → IsOfForm kind
-by_kind None bytes kind e = inr (inl (sym (kind_is BadTag kind e)))
-by_kind (Some head) bytes kind e = behind_kind head bytes kind e
+by_kind : (file : FileKind) (o : Option ℕ) (bytes : List ℕ) (kind : RecordFaultKind) → framed_by file o bytes ≡ failed kind → IsOfForm kind
+by_kind file None bytes kind e = inr (inl (sym (kind_is BadTag kind e)))
+by_kind file (Some head) bytes kind e = behind_kind file head bytes kind e
 
 framed_kind : (file : FileKind) (bytes : List ℕ) (kind : RecordFaultKind) → framed file bytes ≡ failed kind → IsOfForm kind
 unfolding framed
 framed_kind file bytes kind e =
-    elim (either (ltb (length bytes) 1) Truncated kind (framed_by (head_length file (get_or bytes 0 0)) bytes) e) [
+    elim (either (ltb (length bytes) 1) Truncated kind (framed_by file (head_length file (get_or bytes 0 0)) bytes) e) [
       | inl a ↦ inl (sym a.1)
-      | inr a ↦ by_kind (head_length file (get_or bytes 0 0)) bytes kind a.1
+      | inr a ↦ by_kind file (head_length file (get_or bytes 0 0)) bytes kind a.1
     ]
 
 -- one way of a test
@@ -89,8 +90,8 @@ form_not_trailing kind t (inr (inr e)) = apart (sym e ∙ t)
     apart h = cc
 
 -- bytes too many are no fault of a record
-fails_not_trailing : (file : FileKind) (low : List ℕ) (count : ℕ) (rest : List ℕ) → Fails file low count rest Trailing → ⊥
-fails_not_trailing file low count rest (inr f) = f.2
+fails_not_trailing : (file : FileKind) (low : List ℕ) (count : ℕ) (rest : List ℕ) → FailsNext file low count rest Trailing → ⊥
+fails_not_trailing file low count rest (inr f) = refused_slice file (take f.0 rest) Trailing f.2
 fails_not_trailing file low count rest (inl e) =
     elim (next_kind file low count rest Trailing e) [
       | inl form ↦ form_not_trailing Trailing refl form
@@ -106,8 +107,8 @@ fails_not_trailing file low count rest (inl e) =
     not_ascending : Trailing ≡ NotAscending → ⊥
     not_ascending h = cc
 
-pub never_trailing : (file : FileKind) (low : List ℕ) (count : ℕ) (rest : List ℕ) (kind : RecordFaultKind) → Fails file low count rest (seen_as kind) → kind ≢ Trailing
-never_trailing file low count rest kind f t = fails_not_trailing file low count rest (subst (λ (k : RecordFaultKind). Fails file low count rest (seen_as k)) t f)
+pub never_trailing : (file : FileKind) (low : List ℕ) (count : ℕ) (rest : List ℕ) (kind : RecordFaultKind) → FailsNext file low count rest (seen_as kind) → kind ≢ Trailing
+never_trailing file low count rest kind f t = fails_not_trailing file low count rest (subst (λ (k : RecordFaultKind). FailsNext file low count rest (seen_as k)) t f)
 
 pub magic_never_trailing : (file : FileKind) (bytes : List ℕ) (kind : RecordFaultKind) → StopsInMagic file bytes kind → kind ≢ Trailing
 magic_never_trailing file bytes kind s t = none (subst (StopsInMagic file bytes) t s)
@@ -139,16 +140,16 @@ as_itself BadCount known = refl
 as_itself Trailing known = refl
 
 -- where nothing is left, a part is all that is missing
-empty_fails : (file : FileKind) (low : List ℕ) (count : ℕ) (kind : RecordFaultKind) → Fails file low count [] kind → kind ≡ Truncated
+empty_fails : (file : FileKind) (low : List ℕ) (count : ℕ) (kind : RecordFaultKind) → FailsNext file low count [] kind → kind ≡ Truncated
 unfolding next
 empty_fails file low count kind (inl e) = sym (kind_is Truncated kind (sym (ap (λ r. next_by file r low count []) (framed-empty file [] (lit≤ tt))) ∙ e))
 empty_fails file low count kind (inr f) = absurd (no_both f.0 Truncated (sym f.1 ∙ ap (λ r. next_by file r low count []) (framed-empty file [] (lit≤ tt))))
 
-pub unended_is : (file : FileKind) (low : List ℕ) (count : ℕ) (bytes : List ℕ) (kind : RecordFaultKind) → (kind ≡ Truncated → file ≡ Operations → bytes ≢ []) → Fails file low count bytes kind → IsUnended file bytes
+pub unended_is : (file : FileKind) (low : List ℕ) (count : ℕ) (bytes : List ℕ) (kind : RecordFaultKind) → (kind ≡ Truncated → file ≡ Operations → bytes ≢ []) → FailsNext file low count bytes kind → IsUnended file bytes
 unended_is Archive low count bytes kind some f = tt
-unended_is Operations low count bytes kind some f = λ e. some (empty_fails Operations low count kind (subst (λ (x : List ℕ). Fails Operations low count x kind) e f)) refl e
+unended_is Operations low count bytes kind some f = λ e. some (empty_fails Operations low count kind (subst (λ (x : List ℕ). FailsNext Operations low count x kind) e f)) refl e
 
-pub unended_behind : (file : FileKind) (low : List ℕ) (count : ℕ) (b : Buffer) (kind : RecordFaultKind) → b.at ≤ length b.bytes.items → (kind ≡ Truncated → b.at ≡ 0 → file ≡ Operations → ⊥) → Fails file low count (bytes_so_far b) (seen_as kind) → IsOfText kind → IsUnended file (bytes_so_far b)
+pub unended_behind : (file : FileKind) (low : List ℕ) (count : ℕ) (b : Buffer) (kind : RecordFaultKind) → b.at ≤ length b.bytes.items → (kind ≡ Truncated → b.at ≡ 0 → file ≡ Operations → ⊥) → FailsNext file low count (bytes_so_far b) (seen_as kind) → IsOfText kind → IsUnended file (bytes_so_far b)
 unended_behind file low count b kind within some f known =
     unended_is file low count (bytes_so_far b) kind (λ part is nil. some part (sym (length-bytes_so_far b within) ∙ ap length nil) is) (rw (as_itself kind known) at f)
 
@@ -168,7 +169,7 @@ BadCount-form (inl e) = cc
 BadCount-form (inr (inl e)) = cc
 BadCount-form (inr (inr e)) = cc
 
-no_order : (low : List ℕ) (count : ℕ) (rest : List ℕ) → Fails Operations low count rest NotAscending → ⊥
+no_order : (low : List ℕ) (count : ℕ) (rest : List ℕ) → FailsNext Operations low count rest NotAscending → ⊥
 no_order low count rest (inr f) = f.2
 no_order low count rest (inl e) =
     elim (next_kind Operations low count rest NotAscending e) [
@@ -182,7 +183,7 @@ no_order low count rest (inl e) =
     apart : NotAscending ≡ BadCount → ⊥
     apart h = cc
 
-no_count : (low : List ℕ) (count : ℕ) (rest : List ℕ) → Fails Operations low count rest BadCount → ⊥
+no_count : (low : List ℕ) (count : ℕ) (rest : List ℕ) → FailsNext Operations low count rest BadCount → ⊥
 no_count low count rest (inr f) = f.2
 no_count low count rest (inl e) =
     elim (next_kind Operations low count rest BadCount e) [
@@ -197,11 +198,11 @@ no_count low count rest (inl e) =
     apart h = cc
 
 -- it has no order, and no end record
-operations_fail : (low : List ℕ) (count : ℕ) (rest : List ℕ) (kind : RecordFaultKind) → Fails Operations low count rest kind → (kind ≢ NotAscending) × (kind ≢ BadCount) × (kind ≢ Trailing)
+operations_fail : (low : List ℕ) (count : ℕ) (rest : List ℕ) (kind : RecordFaultKind) → FailsNext Operations low count rest kind → (kind ≢ NotAscending) × (kind ≢ BadCount) × (kind ≢ Trailing)
 operations_fail low count rest kind f = (
-  λ e. no_order low count rest (subst (Fails Operations low count rest) e f),
-  λ e. no_count low count rest (subst (Fails Operations low count rest) e f),
-  λ e. fails_not_trailing Operations low count rest (subst (Fails Operations low count rest) e f),
+  λ e. no_order low count rest (subst (FailsNext Operations low count rest) e f),
+  λ e. no_count low count rest (subst (FailsNext Operations low count rest) e f),
+  λ e. fails_not_trailing Operations low count rest (subst (FailsNext Operations low count rest) e f),
 )
 
 magic_fault : (text : List ℕ) (kind : RecordFaultKind) → IsMagicFault Operations text kind → (kind ≢ NotAscending) × (kind ≢ BadCount) × (kind ≢ Trailing)

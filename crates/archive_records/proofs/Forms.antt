@@ -1,6 +1,6 @@
 -- A record as the bytes of a retirement or of an admission.
-use Rattle.std.proofs.Common.{◌≡◌, ℕ, suc, ◌+◌, ◌<◌, ◌≤◌, false, List, [], ◌∷◌, ◌++◌, length, get_or, take, drop, Ok, refl, sym, ap, ◌∙◌, subst, arith, inl, inr, length-append, length-drop}
-use Rattle.std.proofs.lemmas.Bool.{cases_lt}
+use Rattle.std.proofs.Common.{◌≡◌, ℕ, suc, ◌+◌, ◌<◌, ◌≤◌, eqb, false, List, [], ◌∷◌, ◌++◌, length, get_or, take, drop, Some, Ok, refl, sym, ap, ◌∙◌, subst, arith, inl, inr, length-append, length-drop}
+use Rattle.std.proofs.lemmas.Bool.{cases_Bool, cases_lt, eqb-true, false≢true}
 use Rattle.std.proofs.lemmas.List.{take_all, take_at, drop_at, length-take, get_or-take, get_or-drop, get_or_past, take-append-drop, drop-drop}
 use Rattle.std.proofs.lemmas.Nat.{be_bytes_8, from_be_bytes-to_be_bytes_8}
 use Rattle.std.specs.Int.{w64, from_be_bytes, to_be_bytes}
@@ -12,12 +12,14 @@ use Rattle.archive_core.proofs.Compare.{length_key_bytes}
 use Rattle.archive_core.proofs.Records.{length-key_of}
 use Rattle.archive_records.specs.declared.fault.RecordFaultKind.{RecordFaultKind}
 use Rattle.archive_records.specs.declared.fault.RecordFaultKind.TheVariants.{BadMagic, Truncated, BadTag, TooLarge, NotAscending, BadSlice, KeyMismatch, BadCount, Trailing, Device, OutOfMemory}
-use Rattle.archive_records.specs.Layout.{head_length, slice_length, body_length, framed}
-use Rattle.archive_records.specs.Fault.{is_end, RefusesSlice}
+use Rattle.archive_records.specs.Layout.{head_length, slice_length, admission_body, body_length, framed}
+use Rattle.archive_records.specs.Kind.{IsItem, admission_length}
+use Rattle.archive_records.specs.Fault.{is_end, RefusesSlice, Refuses}
 use Rattle.archive_records.proofs.Framed.{framed-whole}
-use Rattle.archive_records.proofs.Holds.{body_one, body_two, whole-retirement}
+use Rattle.archive_records.proofs.Holds.{holds, done, body_one, body_two, whole-retirement}
 use Rattle.archive_records.proofs.SliceFacts.{short_slice, no_slice_fault}
 use Rattle.archive_records.specs.declared.kind.FileKind.{FileKind}
+use Rattle.archive_records.specs.declared.kind.FileKind.TheVariants.{Archive, Operations}
 
 abbrev pub IsBytes : List ℕ → Type 0
 IsBytes bytes = (i : ℕ) → get_or bytes i 0 < 256
@@ -76,7 +78,7 @@ parts-retires r t = record {
 }
 
 -- and no end record
-pub record-item : (r : List ℕ) → IsRecord r → is_end r ≡ false
+record-item : (r : List ℕ) → IsRecord r → is_end r ≡ false
 unfolding is_end
 record-item r (inl a) = rw (parts-of r a).tag refl
 record-item r (inr t) = rw (parts-retires r t).tag refl
@@ -84,24 +86,21 @@ record-item r (inr t) = rw (parts-retires r t).tag refl
 one_two : (r : List ℕ) → Retires r → get_or r 0 0 ≡ 2 → ⊥
 one_two r t two = omega (arith, (parts-retires r t).tag)
 
-slice_good : (r : List ℕ) (kind : RecordFaultKind) → IsRecord r → RefusesSlice r kind → ⊥
-slice_good r (BadSlice fault) (inl a) f = no_slice_fault a.slice fault a.valid (rw (parts-of r a).slice_is at f.1)
-slice_good r (BadSlice fault) (inr t) f = one_two r t f.0
-slice_good r KeyMismatch (inl a) f = let p = parts-of r a in f.2 (p.key ∙ ap (λ (s : List ℕ). key_bytes (key_of s)) (sym p.slice_is))
-slice_good r KeyMismatch (inr t) f = one_two r t f.0
-slice_good r BadMagic i f = f
-slice_good r Truncated i f = f
-slice_good r BadTag i f = f
-slice_good r TooLarge i f = f
-slice_good r NotAscending i f = f
-slice_good r BadCount i f = f
-slice_good r Trailing i f = f
-slice_good r Device i f = f
-slice_good r OutOfMemory i f = f
-
--- a record's slice is not refused
-pub record-slice : (r : List ℕ) (kind : RecordFaultKind) → IsRecord r → RefusesSlice r kind → ⊥
-record-slice = slice_good
+-- its slice is not refused
+record-slice : (r : List ℕ) (kind : RecordFaultKind) → IsRecord r → RefusesSlice r kind → ⊥
+record-slice r (BadSlice fault) (inl a) f = no_slice_fault a.slice fault a.valid (rw (parts-of r a).slice_is at f.1)
+record-slice r (BadSlice fault) (inr t) f = one_two r t f.0
+record-slice r KeyMismatch (inl a) f = let p = parts-of r a in f.2 (p.key ∙ ap (λ (s : List ℕ). key_bytes (key_of s)) (sym p.slice_is))
+record-slice r KeyMismatch (inr t) f = one_two r t f.0
+record-slice r BadMagic i f = f
+record-slice r Truncated i f = f
+record-slice r BadTag i f = f
+record-slice r TooLarge i f = f
+record-slice r NotAscending i f = f
+record-slice r BadCount i f = f
+record-slice r Trailing i f = f
+record-slice r Device i f = f
+record-slice r OutOfMemory i f = f
 
 cons_both : (a b : ℕ) (xs ys : List ℕ) → a ≡ b → xs ≡ ys → a ∷ xs ≡ b ∷ ys
 cons_both a b xs ys p q = cc
@@ -155,31 +154,66 @@ admitted_valid bytes a = subst IsValid (sym (parts-of bytes a).slice_is) a.valid
 pub admitted_is : (bytes slice : List ℕ) → Admits bytes → slice ≡ drop 33 bytes → admission_record slice ≡ bytes
 admitted_is bytes slice a e = ap admission_record (e ∙ (parts-of bytes a).slice_is) ∙ sym a.is
 
-module _ (file : FileKind) where
-  -- a record is whole
-  pub record-framed : (r : List ℕ) → IsRecord r → framed file r ≡ Ok (length r)
+-- a record is whole where its slice stands behind an admission's head
+module _ (file : FileKind) (head : admission_length file ≡ 33) (behind : (bytes : List ℕ) → admission_body file bytes ≡ slice_length bytes) where
+  record-framed : (r : List ℕ) → IsRecord r → framed file r ≡ Ok (length r)
   unfolding head_length
   record-framed r (inl a) =
       let p = parts-of r a in
       let long = p.long in
-      let body : body_length r ≡ length a.slice = body_two r p.tag ∙ p.number in
+      let body : body_length file r ≡ length a.slice = body_two file r p.tag ∙ behind r ∙ p.number in
       let short = short_slice a.slice a.valid in
-      framed-whole file r 33 (omega arith) (ap (head_length file) p.tag) (omega arith) (omega (arith, body)) (omega (arith, body)) ∙ ap (λ (n : ℕ). Ok n) (omega (arith, body))
+      framed-whole file r 33 (omega arith) (ap (head_length file) p.tag ∙ ap (λ (n : ℕ). Some n) head) (omega arith) (omega (arith, body)) (omega (arith, body)) ∙ ap (λ (n : ℕ). Ok n) (omega (arith, body))
   record-framed r (inr t) =
       let p = parts-retires r t in
       let long = p.long in
-      let body : body_length r ≡ 0 = body_one r p.tag in
+      let body : body_length file r ≡ 0 = body_one file r p.tag in
       framed-whole file r 57 (omega arith) (ap (head_length file) p.tag) (omega arith) (omega (arith, body)) (omega (arith, body)) ∙ ap (λ (n : ℕ). Ok n) (omega (arith, body))
 
-  -- whole bytes with a retirement's tag are a retirement's record
-  pub retires : (bytes : List ℕ) (key : SliceKey) → framed file bytes ≡ Ok (length bytes) → get_or bytes 0 0 ≡ 1 → key_bytes key ≡ take 24 (drop 1 bytes) → IsKey key → Retires bytes
-  retires [] key f tag k w = absurd (omega (arith, whole-retirement file [] f tag))
-  retires (b ∷ bs) key f tag k w =
-      let long = whole-retirement file (b ∷ bs) f tag in
-      record {
-        key = key;
-        digest = drop 24 bs;
-        is_key = w;
-        long = omega (arith, length-drop 24 bs);
-        is = cons_both b 1 bs (key_bytes key ++ drop 24 bs) tag (sym (ap (λ (t : List ℕ). t ++ drop 24 bs) k ∙ take-append-drop 24 bs));
-      }
+-- an item is whole, is no end record, and is not refused for what it holds
+pub item-framed : (file : FileKind) (item : List ℕ) → IsItem file item → framed file item ≡ Ok (length item)
+item-framed Archive item is = record-framed Archive refl (λ bytes. refl) item is
+item-framed Operations item is = record-framed Operations refl (λ bytes. refl) item is
+
+pub item-no_end : (file : FileKind) (item : List ℕ) → IsItem file item → is_end item ≡ false
+item-no_end Archive item is = record-item item is
+item-no_end Operations item is = record-item item is
+
+pub item-refused : (file : FileKind) (item : List ℕ) (kind : RecordFaultKind) → IsItem file item → Refuses file item kind → ⊥
+item-refused Archive item kind is refused = record-slice item kind is refused
+item-refused Operations item kind is refused = record-slice item kind is refused
+
+-- what is refused is a slice
+pub refused_slice : (file : FileKind) (bytes : List ℕ) (kind : RecordFaultKind) → Refuses file bytes kind → RefusesSlice bytes kind
+refused_slice Archive bytes kind refused = refused
+refused_slice Operations bytes kind refused = refused
+
+-- whole operations are framed as in an archive
+same_head : (tag head : ℕ) → (tag ≡ 3 → ⊥) → head_length Operations tag ≡ Some head → head_length Archive tag ≡ Some head
+unfolding head_length
+same_head tag head other e =
+    elim (cases_Bool (eqb tag 3)) [
+      | inl three ↦ absurd (other (eqb-true _ _ three))
+      | inr below ↦ rw below (rw below at e)
+    ]
+
+pub archive_framed : (file : FileKind) (bytes : List ℕ) → framed file bytes ≡ Ok (length bytes) → is_end bytes ≡ false → framed Archive bytes ≡ Ok (length bytes)
+unfolding is_end body_length
+archive_framed Archive bytes whole no_end = whole
+archive_framed Operations bytes whole no_end =
+    let h = holds Operations bytes (length bytes) whole in
+    let tag : head_length Archive (get_or bytes 0 0) ≡ Some h.head = same_head (get_or bytes 0 0) h.head (λ three. false≢true (sym no_end ∙ ap (λ (t : ℕ). eqb t 3) three)) h.tag in
+    framed-whole Archive bytes h.head h.one tag h.long h.small (omega (arith, h.is)) ∙ ap done (sym h.is)
+
+-- whole bytes with a retirement's tag are a retirement's record
+pub retires : (bytes : List ℕ) (key : SliceKey) → framed Archive bytes ≡ Ok (length bytes) → get_or bytes 0 0 ≡ 1 → key_bytes key ≡ take 24 (drop 1 bytes) → IsKey key → Retires bytes
+retires [] key f tag k w = absurd (omega (arith, whole-retirement Archive [] f tag))
+retires (b ∷ bs) key f tag k w =
+    let long = whole-retirement Archive (b ∷ bs) f tag in
+    record {
+      key = key;
+      digest = drop 24 bs;
+      is_key = w;
+      long = omega (arith, length-drop 24 bs);
+      is = cons_both b 1 bs (key_bytes key ++ drop 24 bs) tag (sym (ap (λ (t : List ℕ). t ++ drop 24 bs) k ∙ take-append-drop 24 bs));
+    }

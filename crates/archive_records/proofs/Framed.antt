@@ -5,9 +5,11 @@ use Rattle.std.specs.Int.{w64, from_be_bytes}
 use Rattle.std.proofs.lemmas.Bool.{le-ltb, lt-ltb, eqb-true, cases_Bool}
 use Rattle.archive_records.specs.declared.fault.RecordFaultKind.{RecordFaultKind}
 use Rattle.archive_records.specs.declared.fault.RecordFaultKind.TheVariants.{Truncated, BadTag, TooLarge}
-use Rattle.archive_records.specs.Layout.{head_length, body_length, slice_length, largest_slice, framed, framed_behind}
+use Rattle.archive_records.specs.Layout.{head_length, admission_body, body_length, slice_length, largest_slice, framed, framed_behind}
 use Rattle.archive_records.specs.Reading.{seen_as}
+use Rattle.archive_records.specs.Kind.{admission_length}
 use Rattle.archive_records.specs.declared.kind.FileKind.{FileKind}
+use Rattle.archive_records.specs.declared.kind.FileKind.TheVariants.{Archive, Operations}
 
 same_tag : (bytes more : List ℕ) → 1 ≤ length bytes → get_or (bytes ++ more) 0 0 ≡ get_or bytes 0 0
 same_tag bytes more le = get_or_append_left bytes more 0 0 le
@@ -21,13 +23,27 @@ some x = Some x
 pub some_is : (x y : ℕ) → some x ≡ some y → x ≡ y
 some_is x y e = cc
 
-body-is : (bytes : List ℕ) → get_or bytes 0 0 ≡ 2 → body_length bytes ≡ slice_length bytes
+body-is : (file : FileKind) (bytes : List ℕ) → get_or bytes 0 0 ≡ 2 → body_length file bytes ≡ admission_body file bytes
 unfolding body_length
-body-is bytes e = rw (eq-eqb _ _ e) refl
+body-is file bytes e = rw (eq-eqb _ _ e) refl
 
-body-none : (bytes : List ℕ) → eqb (get_or bytes 0 0) 2 ≡ false → body_length bytes ≡ 0
+body-none : (file : FileKind) (bytes : List ℕ) → eqb (get_or bytes 0 0) 2 ≡ false → body_length file bytes ≡ 0
 unfolding body_length
-body-none bytes e = rw e refl
+body-none file bytes e = rw e refl
+
+slice_kept : (bytes more : List ℕ) → 33 ≤ length bytes → slice_length (bytes ++ more) ≡ slice_length bytes
+unfolding slice_length
+slice_kept bytes more le =
+    ap (λ (t : List ℕ). from_be_bytes w64 (take 8 t)) (drop-append-le 25 bytes more (omega arith)) ∙ ap (from_be_bytes w64) (take-append-le 8 (drop 25 bytes) more (omega (arith, length-drop 25 bytes)))
+
+-- the number in an admission's head, where its slice stands behind it
+pub slice_body : (file : FileKind) (bytes : List ℕ) (n : ℕ) → n ≡ slice_length bytes → n ≡ admission_body file bytes
+slice_body Archive bytes n e = e
+slice_body Operations bytes n e = e
+
+admission_kept : (file : FileKind) (bytes more : List ℕ) → admission_length file ≤ length bytes → admission_body file (bytes ++ more) ≡ admission_body file bytes
+admission_kept Archive bytes more le = slice_kept bytes more le
+admission_kept Operations bytes more le = slice_kept bytes more le
 
 module _ (file : FileKind) where
   pub framed-empty : (bytes : List ℕ) → length bytes < 1 → framed file bytes ≡ Err Truncated
@@ -38,7 +54,7 @@ module _ (file : FileKind) where
   unfolding framed
   framed-bad bytes le h = rw (le-ltb _ _ le, h) refl
 
-  pub framed-tag : (bytes : List ℕ) (head : ℕ) → 1 ≤ length bytes → head_length file (get_or bytes 0 0) ≡ Some head → framed file bytes ≡ framed_behind head bytes
+  pub framed-tag : (bytes : List ℕ) (head : ℕ) → 1 ≤ length bytes → head_length file (get_or bytes 0 0) ≡ Some head → framed file bytes ≡ framed_behind file head bytes
   unfolding framed
   framed-tag bytes head le h = rw (le-ltb _ _ le, h) refl
 
@@ -46,31 +62,28 @@ module _ (file : FileKind) where
   unfolding framed_behind
   framed-head bytes head le h lt = framed-tag bytes head le h ∙ rw (lt-ltb _ _ lt) refl
 
-  pub framed-large : (bytes : List ℕ) (head : ℕ) → 1 ≤ length bytes → head_length file (get_or bytes 0 0) ≡ Some head → head ≤ length bytes → largest_slice < body_length bytes → framed file bytes ≡ Err TooLarge
+  pub framed-large : (bytes : List ℕ) (head : ℕ) → 1 ≤ length bytes → head_length file (get_or bytes 0 0) ≡ Some head → head ≤ length bytes → largest_slice < body_length file bytes → framed file bytes ≡ Err TooLarge
   unfolding framed_behind
   framed-large bytes head le h long large = framed-tag bytes head le h ∙ rw (le-ltb _ _ long, lt-ltb _ _ large) refl
 
-  pub framed-body : (bytes : List ℕ) (head : ℕ) → 1 ≤ length bytes → head_length file (get_or bytes 0 0) ≡ Some head → head ≤ length bytes → body_length bytes ≤ largest_slice → length bytes < head + body_length bytes → framed file bytes ≡ Err Truncated
+  pub framed-body : (bytes : List ℕ) (head : ℕ) → 1 ≤ length bytes → head_length file (get_or bytes 0 0) ≡ Some head → head ≤ length bytes → body_length file bytes ≤ largest_slice → length bytes < head + body_length file bytes → framed file bytes ≡ Err Truncated
   unfolding framed_behind
   framed-body bytes head le h long small lt = framed-tag bytes head le h ∙ rw (le-ltb _ _ long, le-ltb _ _ small, lt-ltb _ _ lt) refl
 
-  pub framed-whole : (bytes : List ℕ) (head : ℕ) → 1 ≤ length bytes → head_length file (get_or bytes 0 0) ≡ Some head → head ≤ length bytes → body_length bytes ≤ largest_slice → head + body_length bytes ≤ length bytes → framed file bytes ≡ Ok (head + body_length bytes)
+  pub framed-whole : (bytes : List ℕ) (head : ℕ) → 1 ≤ length bytes → head_length file (get_or bytes 0 0) ≡ Some head → head ≤ length bytes → body_length file bytes ≤ largest_slice → head + body_length file bytes ≤ length bytes → framed file bytes ≡ Ok (head + body_length file bytes)
   unfolding framed_behind
   framed-whole bytes head le h long small le' = framed-tag bytes head le h ∙ rw (le-ltb _ _ long, le-ltb _ _ small, le-ltb _ _ le') refl
 
-  pub same_body : (bytes more : List ℕ) (head : ℕ) → 1 ≤ length bytes → head_length file (get_or bytes 0 0) ≡ Some head → head ≤ length bytes → body_length (bytes ++ more) ≡ body_length bytes
-  unfolding head_length slice_length
+  pub same_body : (bytes more : List ℕ) (head : ℕ) → 1 ≤ length bytes → head_length file (get_or bytes 0 0) ≡ Some head → head ≤ length bytes → body_length file (bytes ++ more) ≡ body_length file bytes
+  unfolding head_length
   same_body bytes more head le h long =
       let tag : get_or (bytes ++ more) 0 0 ≡ get_or bytes 0 0 = same_tag bytes more le in
       elim (cases_Bool (eqb (get_or bytes 0 0) 2)) [
         | inl same ↦
             let two : get_or bytes 0 0 ≡ 2 = eqb-true _ _ same in
-            let whole : 33 ≡ head = some_is 33 head (sym (ap (head_length file) two) ∙ h) in
-            let d : drop 25 (bytes ++ more) ≡ drop 25 bytes ++ more = drop-append-le 25 bytes more (omega arith) in
-            let l : 8 ≤ length (drop 25 bytes) = omega (arith, length-drop 25 bytes) in
-            let n : slice_length (bytes ++ more) ≡ slice_length bytes = ap (λ (t : List ℕ). from_be_bytes w64 (take 8 t)) d ∙ ap (from_be_bytes w64) (take-append-le 8 (drop 25 bytes) more l) in
-            body-is (bytes ++ more) (tag ∙ two) ∙ n ∙ sym (body-is bytes two)
-        | inr other ↦ body-none (bytes ++ more) (ap (λ (t : ℕ). eqb t 2) tag ∙ other) ∙ sym (body-none bytes other)
+            let whole : admission_length file ≡ head = some_is (admission_length file) head (sym (ap (head_length file) two) ∙ h) in
+            body-is file (bytes ++ more) (tag ∙ two) ∙ admission_kept file bytes more (omega arith) ∙ sym (body-is file bytes two)
+        | inr other ↦ body-none file (bytes ++ more) (ap (λ (t : ℕ). eqb t 2) tag ∙ other) ∙ sym (body-none file bytes other)
       ]
 
   -- a part of a record that came
@@ -88,18 +101,18 @@ module _ (file : FileKind) where
     pub grown-head : length grown < head → framed file grown ≡ Err Truncated
     grown-head lt = framed-head grown head long_kept tag_kept lt
 
-    pub grown-large : head ≤ length grown → largest_slice < body_length grown → framed file grown ≡ Err TooLarge
+    pub grown-large : head ≤ length grown → largest_slice < body_length file grown → framed file grown ≡ Err TooLarge
     grown-large long large = framed-large grown head long_kept tag_kept long large
 
-    body_kept : head ≤ length bytes → body_length grown ≡ body_length bytes
-    body_kept long = ap body_length grows ∙ same_body bytes more head le h long
+    body_kept : head ≤ length bytes → body_length file grown ≡ body_length file bytes
+    body_kept long = ap (body_length file) grows ∙ same_body bytes more head le h long
 
-    pub grown-body : head ≤ length bytes → body_length bytes ≤ largest_slice → length grown < head + body_length bytes → framed file grown ≡ Err Truncated
+    pub grown-body : head ≤ length bytes → body_length file bytes ≤ largest_slice → length grown < head + body_length file bytes → framed file grown ≡ Err Truncated
     grown-body long small lt =
-        let b : body_length grown ≡ body_length bytes = body_kept long in
+        let b : body_length file grown ≡ body_length file bytes = body_kept long in
         framed-body grown head long_kept tag_kept (rw grows (omega (arith, length-append bytes more))) (rw b small) (rw b lt)
 
-    pub grown-whole : head ≤ length bytes → body_length bytes ≤ largest_slice → length grown ≡ head + body_length bytes → framed file grown ≡ Ok (length grown)
+    pub grown-whole : head ≤ length bytes → body_length file bytes ≤ largest_slice → length grown ≡ head + body_length file bytes → framed file grown ≡ Ok (length grown)
     grown-whole long small len =
-        let b : body_length grown ≡ body_length bytes = body_kept long in
+        let b : body_length file grown ≡ body_length file bytes = body_kept long in
         framed-whole grown head long_kept tag_kept (rw grows (omega (arith, length-append bytes more))) (rw b small) (rw b (omega arith)) ∙ ap (λ (n : ℕ). Ok n) (rw b (sym len))

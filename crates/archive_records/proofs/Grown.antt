@@ -6,7 +6,7 @@ use Rattle.std.specs.Int.{w64, from_be_bytes}
 use Rattle.archive_records.specs.declared.fault.RecordFaultKind.{RecordFaultKind}
 use Rattle.archive_records.specs.declared.fault.RecordFaultKind.TheVariants.{Truncated, TooLarge}
 use Rattle.archive_records.specs.Layout.{head_length, body_length, record_count, largest_slice, framed, framed_by, framed_behind}
-use Rattle.archive_records.specs.Fault.{is_end, tested, next, next_by, Fails, IsTrailing, RefusesSlice}
+use Rattle.archive_records.specs.Fault.{is_end, tested, next, next_by, FailsNext, IsTrailing, Refuses}
 use Rattle.archive_records.proofs.Framed.{same_body, framed-bad, framed-large}
 use Rattle.archive_records.proofs.Holds.{holds, Holds-end, done, next-is, next-framed}
 use Rattle.archive_records.proofs.Longest.{framed-grows, is_end-grows}
@@ -38,25 +38,25 @@ module _ (file : FileKind) where
   Stays : List ℕ → RecordFaultKind → Type 0
   Stays bytes kind = (kind ≡ Truncated) ⊎ ((more : List ℕ) → framed file (bytes ++ more) ≡ Err kind)
 
-  behind_stays : (head : ℕ) (bytes : List ℕ) (kind : RecordFaultKind) → 1 ≤ length bytes → head_length file (get_or bytes 0 0) ≡ Some head → framed_behind head bytes ≡ failed kind → Stays bytes kind
+  behind_stays : (head : ℕ) (bytes : List ℕ) (kind : RecordFaultKind) → 1 ≤ length bytes → head_length file (get_or bytes 0 0) ≡ Some head → framed_behind file head bytes ≡ failed kind → Stays bytes kind
   unfolding framed_behind Stays
   behind_stays head bytes kind one tag e =
-      elim (either (ltb (length bytes) head) Truncated kind (cond (ltb largest_slice (body_length bytes)) (failed TooLarge) (cond (ltb (length bytes) (head + body_length bytes)) (failed Truncated) (done (head + body_length bytes)))) e) [
+      elim (either (ltb (length bytes) head) Truncated kind (cond (ltb largest_slice (body_length file bytes)) (failed TooLarge) (cond (ltb (length bytes) (head + body_length file bytes)) (failed Truncated) (done (head + body_length file bytes)))) e) [
         | inl a ↦ inl (sym a.1)
-        | inr a ↦ elim (either (ltb largest_slice (body_length bytes)) TooLarge kind (cond (ltb (length bytes) (head + body_length bytes)) (failed Truncated) (done (head + body_length bytes))) a.1) [
+        | inr a ↦ elim (either (ltb largest_slice (body_length file bytes)) TooLarge kind (cond (ltb (length bytes) (head + body_length file bytes)) (failed Truncated) (done (head + body_length file bytes))) a.1) [
           | inl b ↦ inr (λ more.
               let long : head ≤ length bytes = ltb-false _ _ a.0 in
-              let large : largest_slice < body_length bytes = ltb-true _ _ b.0 in
+              let large : largest_slice < body_length file bytes = ltb-true _ _ b.0 in
               framed-large file (bytes ++ more) head (omega (arith, length-append bytes more)) (ap (head_length file) (same_tag bytes more one) ∙ tag) (omega (arith, length-append bytes more))
               (rw (same_body file bytes more head one tag long) large) ∙ ap failed b.1)
-          | inr b ↦ elim (either (ltb (length bytes) (head + body_length bytes)) Truncated kind (done (head + body_length bytes)) b.1) [
+          | inr b ↦ elim (either (ltb (length bytes) (head + body_length file bytes)) Truncated kind (done (head + body_length file bytes)) b.1) [
             | inl d ↦ inl (sym d.1)
-            | inr d ↦ absurd (no_both (head + body_length bytes) kind d.1)
+            | inr d ↦ absurd (no_both (head + body_length file bytes) kind d.1)
           ]
         ]
       ]
 
-  by_stays : (o : Option ℕ) (bytes : List ℕ) (kind : RecordFaultKind) → 1 ≤ length bytes → head_length file (get_or bytes 0 0) ≡ o → framed_by o bytes ≡ failed kind → Stays bytes kind
+  by_stays : (o : Option ℕ) (bytes : List ℕ) (kind : RecordFaultKind) → 1 ≤ length bytes → head_length file (get_or bytes 0 0) ≡ o → framed_by file o bytes ≡ failed kind → Stays bytes kind
   unfolding Stays
   by_stays None bytes kind one tag e = inr (λ more. framed-bad file (bytes ++ more) (omega (arith, length-append bytes more)) (ap (head_length file) (same_tag bytes more one) ∙ tag) ∙ e)
   by_stays (Some head) bytes kind one tag e = behind_stays head bytes kind one tag e
@@ -64,7 +64,7 @@ module _ (file : FileKind) where
   framed-stays : (bytes : List ℕ) (kind : RecordFaultKind) → framed file bytes ≡ failed kind → Stays bytes kind
   unfolding framed Stays
   framed-stays bytes kind e =
-      elim (either (ltb (length bytes) 1) Truncated kind (framed_by (head_length file (get_or bytes 0 0)) bytes) e) [
+      elim (either (ltb (length bytes) 1) Truncated kind (framed_by file (head_length file (get_or bytes 0 0)) bytes) e) [
         | inl a ↦ inl (sym a.1)
         | inr a ↦ by_stays (head_length file (get_or bytes 0 0)) bytes kind (ltb-false _ _ a.0) refl a.1
       ]
@@ -102,11 +102,11 @@ module _ (file : FileKind) where
   next-err-grows low count bytes more kind known e = next_by-grows (framed file bytes) low count bytes more kind refl known e
 
   -- each fault but Truncated stays
-  pub Fails-grows : (low : List ℕ) (count : ℕ) (bytes more : List ℕ) (kind : RecordFaultKind) → kind ≢ Truncated → Fails file low count bytes kind → Fails file low count (bytes ++ more) kind
+  pub Fails-grows : (low : List ℕ) (count : ℕ) (bytes more : List ℕ) (kind : RecordFaultKind) → kind ≢ Truncated → FailsNext file low count bytes kind → FailsNext file low count (bytes ++ more) kind
   Fails-grows low count bytes more kind known (inl e) = inl (next-err-grows low count bytes more kind known e)
   Fails-grows low count bytes more kind known (inr f) =
       let h = holds file bytes f.0 (next-framed file low count bytes f.0 f.1) in
-      inr (f.0, next-ok-grows low count bytes more f.0 f.1, subst (λ (t : List ℕ). RefusesSlice t kind) (sym (take-append-le f.0 bytes more h.fits)) f.2)
+      inr (f.0, next-ok-grows low count bytes more f.0 f.1, subst (λ (t : List ℕ). Refuses file t kind) (sym (take-append-le f.0 bytes more h.fits)) f.2)
 
   pub IsTrailing-grows : (low : List ℕ) (count : ℕ) (bytes more : List ℕ) → IsTrailing file low count bytes → IsTrailing file low count (bytes ++ more)
   IsTrailing-grows low count bytes more t = record {

@@ -1,17 +1,17 @@
 -- A whole record at the front of bytes, and what follows from it.
-use Rattle.std.proofs.Common.{◌≡◌, ℕ, ◌+◌, ◌≤◌, Bool, true, false, cond, ltb, eqb, List, length, get_or, take, Option, Some, None, Result, Ok, Err, refl, sym, ap, ◌∙◌, arith, inl, inr, ◌⊎◌}
+use Rattle.std.proofs.Common.{◌≡◌, ℕ, ◌+◌, ◌≤◌, Bool, true, false, cond, ltb, eqb, List, length, get_or, take, Option, Some, None, Result, Ok, Err, refl, sym, ap, ◌∙◌, arith, inl, inr, ◌⊎◌, lit≤}
 use Rattle.archive_records.proofs.Framed.{some, none, some_is}
 use Rattle.std.proofs.lemmas.Bool.{ltb-false, eqb-true, cases_Bool, false≢true}
 use Rattle.archive_records.specs.declared.fault.RecordFaultKind.{RecordFaultKind}
 use Rattle.archive_records.specs.declared.fault.RecordFaultKind.TheVariants.{Truncated, TooLarge, NotAscending, BadCount}
-use Rattle.archive_records.specs.Layout.{head_length, body_length, slice_length, record_count, largest_slice, framed, framed_by, framed_behind}
+use Rattle.archive_records.specs.Layout.{head_length, admission_body, body_length, record_count, largest_slice, framed, framed_by, framed_behind}
 use Rattle.archive_records.specs.Reading.{seen_as}
 use Rattle.archive_records.specs.Kind.{may_follow}
 use Rattle.archive_records.specs.Fault.{is_end, tested, next, next_by}
 use Rattle.std.specs.Prelude.{MatchResult}
 use Rattle.archive_records.specs.declared.kind.FileKind.{FileKind}
 use Rattle.archive_records.specs.declared.kind.FileKind.TheVariants.{Archive, Operations}
-use Rattle.archive_records.specs.Kind.{end_length}
+use Rattle.archive_records.specs.Kind.{admission_length, end_length}
 
 -- a test that passed
 pub passed : {A : Type 0} (b : Bool) (kind : RecordFaultKind) (r : Result A RecordFaultKind) (x : A) → cond b (Err kind) r ≡ Ok x → (b ≡ false) × (r ≡ Ok x)
@@ -37,9 +37,14 @@ end_nine : (file : FileKind) (head : ℕ) → end_length file ≡ some head → 
 end_nine Archive head e = sym (some_is 9 head e)
 end_nine Operations head e = absurd (none_is_some head e)
 
-body_three : (bytes : List ℕ) → get_or bytes 0 0 ≡ 3 → body_length bytes ≡ 0
+-- nor has an admission's head fewer
+admission_nine : (file : FileKind) → 9 ≤ admission_length file
+admission_nine Archive = lit≤ tt
+admission_nine Operations = lit≤ tt
+
+body_three : (file : FileKind) (bytes : List ℕ) → get_or bytes 0 0 ≡ 3 → body_length file bytes ≡ 0
 unfolding body_length
-body_three bytes e = rw (ap (λ (t : ℕ). eqb t 2) e) refl
+body_three file bytes e = rw (ap (λ (t : ℕ). eqb t 2) e) refl
 
 -- the two ways of a test that passed
 chosen_ok : (b : Bool) (kind : RecordFaultKind) (n m : ℕ) → cond b (done n) (Err kind) ≡ done m → b ≡ true
@@ -50,13 +55,13 @@ ok_at : (b : Bool) (kind : RecordFaultKind) (m n : ℕ) → cond b (done m) (Err
 ok_at true kind m n e = result_is m n e
 ok_at false kind m n e = absurd cc
 
-pub body_one : (bytes : List ℕ) → get_or bytes 0 0 ≡ 1 → body_length bytes ≡ 0
+pub body_one : (file : FileKind) (bytes : List ℕ) → get_or bytes 0 0 ≡ 1 → body_length file bytes ≡ 0
 unfolding body_length
-body_one bytes e = rw (ap (λ (t : ℕ). eqb t 2) e) refl
+body_one file bytes e = rw (ap (λ (t : ℕ). eqb t 2) e) refl
 
-pub body_two : (bytes : List ℕ) → get_or bytes 0 0 ≡ 2 → body_length bytes ≡ slice_length bytes
+pub body_two : (file : FileKind) (bytes : List ℕ) → get_or bytes 0 0 ≡ 2 → body_length file bytes ≡ admission_body file bytes
 unfolding body_length
-body_two bytes e = rw (ap (λ (t : ℕ). eqb t 2) e) refl
+body_two file bytes e = rw (ap (λ (t : ℕ). eqb t 2) e) refl
 
 not_three : (bytes : List ℕ) → is_end bytes ≡ false → get_or bytes 0 0 ≡ 3 → ⊥
 unfolding is_end
@@ -69,34 +74,34 @@ module _ (file : FileKind) where
     pub one : 1 ≤ length bytes
     pub tag : head_length file (get_or bytes 0 0) ≡ Some head
     pub long : head ≤ length bytes
-    pub small : body_length bytes ≤ largest_slice
+    pub small : body_length file bytes ≤ largest_slice
     pub fits : n ≤ length bytes
-    pub is : n ≡ head + body_length bytes
+    pub is : n ≡ head + body_length file bytes
 
-  by_tag : (o : Option ℕ) (bytes : List ℕ) (n : ℕ) → framed_by o bytes ≡ Ok n → (head : ℕ) × (o ≡ Some head) × (framed_behind head bytes ≡ Ok n)
+  by_tag : (o : Option ℕ) (bytes : List ℕ) (n : ℕ) → framed_by file o bytes ≡ Ok n → (head : ℕ) × (o ≡ Some head) × (framed_behind file head bytes ≡ Ok n)
   by_tag None bytes n e = absurd cc
   by_tag (Some head) bytes n e = (head, refl, e)
 
   pub holds : (bytes : List ℕ) (n : ℕ) → framed file bytes ≡ Ok n → Holds bytes n
   unfolding framed framed_behind
   holds bytes n e =
-      let a = passed (ltb (length bytes) 1) Truncated (framed_by (head_length file (get_or bytes 0 0)) bytes) n e in
+      let a = passed (ltb (length bytes) 1) Truncated (framed_by file (head_length file (get_or bytes 0 0)) bytes) n e in
       let b = by_tag (head_length file (get_or bytes 0 0)) bytes n a.1 in
       let head = b.0 in
-      let c = passed (ltb (length bytes) head) Truncated (cond (ltb largest_slice (body_length bytes)) (Err TooLarge) (cond (ltb (length bytes) (head + body_length bytes)) (Err Truncated) (Ok (head + body_length bytes)))) n b.2 in
-      let d = passed (ltb largest_slice (body_length bytes)) TooLarge (cond (ltb (length bytes) (head + body_length bytes)) (Err Truncated) (Ok (head + body_length bytes))) n c.1 in
-      let f = passed (ltb (length bytes) (head + body_length bytes)) Truncated (Ok (head + body_length bytes)) n d.1 in
-      let is : head + body_length bytes ≡ n = result_is (head + body_length bytes) n f.1 in
-      let fit : head + body_length bytes ≤ length bytes = ltb-false _ _ f.0 in
+      let c = passed (ltb (length bytes) head) Truncated (cond (ltb largest_slice (body_length file bytes)) (Err TooLarge) (cond (ltb (length bytes) (head + body_length file bytes)) (Err Truncated) (Ok (head + body_length file bytes)))) n b.2 in
+      let d = passed (ltb largest_slice (body_length file bytes)) TooLarge (cond (ltb (length bytes) (head + body_length file bytes)) (Err Truncated) (Ok (head + body_length file bytes))) n c.1 in
+      let f = passed (ltb (length bytes) (head + body_length file bytes)) Truncated (Ok (head + body_length file bytes)) n d.1 in
+      let is : head + body_length file bytes ≡ n = result_is (head + body_length file bytes) n f.1 in
+      let fit : head + body_length file bytes ≤ length bytes = ltb-false _ _ f.0 in
       record { head = head; one = ltb-false _ _ a.0; tag = b.1; long = ltb-false _ _ c.0; small = ltb-false _ _ d.0; fits = omega arith; is = sym is }
 
   tag_nine : (tag head : ℕ) → head_length file tag ≡ Some head → 9 ≤ head
   unfolding head_length
   tag_nine tag head e =
-      elim (chosen (eqb tag 1) (some 57) (cond (eqb tag 2) (some 33) (cond (eqb tag 3) (end_length file) none)) (some head) e) [
+      elim (chosen (eqb tag 1) (some 57) (cond (eqb tag 2) (some (admission_length file)) (cond (eqb tag 3) (end_length file) none)) (some head) e) [
         | inl a ↦ omega (arith, some_is 57 head a)
-        | inr a ↦ elim (chosen (eqb tag 2) (some 33) (cond (eqb tag 3) (end_length file) none) (some head) a) [
-          | inl b ↦ omega (arith, some_is 33 head b)
+        | inr a ↦ elim (chosen (eqb tag 2) (some (admission_length file)) (cond (eqb tag 3) (end_length file) none) (some head) a) [
+          | inl b ↦ omega (arith, some_is (admission_length file) head b, admission_nine file)
           | inr b ↦ elim (chosen (eqb tag 3) (end_length file) none (some head) b) [
             | inl f ↦ omega (arith, end_nine file head f)
             | inr f ↦ absurd (none_is_some head f)
@@ -112,7 +117,7 @@ module _ (file : FileKind) where
   Holds-nine bytes n h = omega (arith, tag_nine (get_or bytes 0 0) h.head h.tag, h.is)
 
   pub Holds-end : (bytes : List ℕ) (n : ℕ) → Holds bytes n → get_or bytes 0 0 ≡ 3 → n ≡ 9
-  Holds-end bytes n h three = omega (arith, tag_three (get_or bytes 0 0) h.head three h.tag, body_three bytes three, h.is)
+  Holds-end bytes n h three = omega (arith, tag_three (get_or bytes 0 0) h.head three h.tag, body_three file bytes three, h.is)
 
   pub next-is : (bytes : List ℕ) (n : ℕ) (last : List ℕ) (count : ℕ) → framed file bytes ≡ Ok n → next file last count bytes ≡ tested file last count bytes n
   unfolding next
@@ -160,9 +165,9 @@ module _ (file : FileKind) where
   unfolding head_length
   tag_one tag head one e = sym (some_is 57 head (sym (ap (head_length file) one) ∙ e))
 
-  pub tag_two : (tag head : ℕ) → tag ≡ 2 → head_length file tag ≡ Some head → head ≡ 33
+  pub tag_two : (tag head : ℕ) → tag ≡ 2 → head_length file tag ≡ Some head → head ≡ admission_length file
   unfolding head_length
-  tag_two tag head two e = sym (some_is 33 head (sym (ap (head_length file) two) ∙ e))
+  tag_two tag head two e = sym (some_is (admission_length file) head (sym (ap (head_length file) two) ∙ e))
 
   tag_of : (tag head : ℕ) → head_length file tag ≡ Some head → (tag ≡ 1) ⊎ (tag ≡ 2) ⊎ (tag ≡ 3)
   unfolding head_length
@@ -181,13 +186,13 @@ module _ (file : FileKind) where
   pub whole-retirement : (bytes : List ℕ) → framed file bytes ≡ Ok (length bytes) → get_or bytes 0 0 ≡ 1 → length bytes ≡ 57
   whole-retirement bytes e one =
       let h = holds bytes (length bytes) e in
-      omega (arith, tag_one (get_or bytes 0 0) h.head one h.tag, body_one bytes one, h.is)
+      omega (arith, tag_one (get_or bytes 0 0) h.head one h.tag, body_one file bytes one, h.is)
 
-  pub whole-admission : (bytes : List ℕ) → framed file bytes ≡ Ok (length bytes) → is_end bytes ≡ false → (get_or bytes 0 0 ≡ 1 → ⊥) → (get_or bytes 0 0 ≡ 2) × (slice_length bytes + 33 ≡ length bytes)
+  pub whole-admission : (bytes : List ℕ) → framed file bytes ≡ Ok (length bytes) → is_end bytes ≡ false → (get_or bytes 0 0 ≡ 1 → ⊥) → (get_or bytes 0 0 ≡ 2) × (admission_body file bytes + admission_length file ≡ length bytes)
   whole-admission bytes e item not_one =
       let h = holds bytes (length bytes) e in
       elim (tag_of (get_or bytes 0 0) h.head h.tag) [
         | inl one ↦ absurd (not_one one)
-        | inr (inl two) ↦ (two, omega (arith, tag_two (get_or bytes 0 0) h.head two h.tag, body_two bytes two, h.is))
+        | inr (inl two) ↦ (two, omega (arith, tag_two (get_or bytes 0 0) h.head two h.tag, body_two file bytes two, h.is))
         | inr (inr three) ↦ absurd (not_three bytes item three)
       ]

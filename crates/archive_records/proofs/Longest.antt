@@ -4,16 +4,15 @@ use Rattle.std.proofs.lemmas.List.{get_or_append_left, take_at, drop_at, append_
 use Rattle.std.proofs.lemmas.List.Folds.{concat-append}
 use Rattle.std.proofs.lemmas.Bool.{false≢true}
 use Rattle.std.specs.List.{concat}
-use Rattle.archive_core.specs.Record.{IsRecord}
 use Rattle.archive_records.specs.declared.fault.RecordFaultKind.{RecordFaultKind}
 use Rattle.archive_records.specs.Layout.{head_length, body_length, framed}
-use Rattle.archive_records.specs.Kind.{magic_of, may_follow}
+use Rattle.archive_records.specs.Kind.{magic_of, IsItem, may_follow}
 use Rattle.archive_records.specs.Text.{InOrder, last_of}
-use Rattle.archive_records.specs.Fault.{is_end, tested, next, Fails, RefusesSlice}
+use Rattle.archive_records.specs.Fault.{is_end, tested, next, FailsNext, Refuses}
 use Rattle.archive_records.specs.Front.{IsGoodFront, IsLongestFront}
 use Rattle.archive_records.proofs.Framed.{same_body, framed-whole}
 use Rattle.archive_records.proofs.Holds.{holds, done, result_is, next-is}
-use Rattle.archive_records.proofs.Forms.{record-framed, record-item, record-slice}
+use Rattle.archive_records.proofs.Forms.{item-framed, item-no_end, item-refused}
 use Rattle.archive_records.specs.declared.kind.FileKind.{FileKind}
 
 -- what a front that stops has before another
@@ -47,7 +46,7 @@ module _ (file : FileKind) where
     pub item : List ℕ
     pub more : List ℕ
     pub whole : bytes ≡ item ++ more
-    pub is : IsRecord item
+    pub is : IsItem file item
     pub above : may_follow file low item ≡ true
 
   -- ---- more bytes behind
@@ -55,7 +54,7 @@ module _ (file : FileKind) where
   pub framed-grows : (bytes more : List ℕ) (n : ℕ) → framed file bytes ≡ Ok n → framed file (bytes ++ more) ≡ Ok n
   framed-grows bytes more n e =
       let h = holds file bytes n e in
-      let b : body_length (bytes ++ more) ≡ body_length bytes = same_body file bytes more h.head h.one h.tag h.long in
+      let b : body_length file (bytes ++ more) ≡ body_length file bytes = same_body file bytes more h.head h.one h.tag h.long in
       let f = h.fits in
       let i = h.is in
       framed-whole file (bytes ++ more) h.head (omega (arith, length-append bytes more, h.one)) (ap (head_length file) (same_tag bytes more h.one) ∙ h.tag) (omega (arith, length-append bytes more, h.long))
@@ -63,36 +62,36 @@ module _ (file : FileKind) where
 
   -- a record above low is what comes next
 
-  next-takes : (low : List ℕ) (count : ℕ) (item more : List ℕ) → IsRecord item → may_follow file low item ≡ true → next file low count (item ++ more) ≡ Ok (length item)
+  next-takes : (low : List ℕ) (count : ℕ) (item more : List ℕ) → IsItem file item → may_follow file low item ≡ true → next file low count (item ++ more) ≡ Ok (length item)
   unfolding tested
   next-takes low count item more is above =
-      let whole = record-framed file item is in
+      let whole = item-framed file item is in
       let h = holds file item (length item) whole in
-      let e : is_end (item ++ more) ≡ false = is_end-grows item more h.one ∙ record-item item is in
+      let e : is_end (item ++ more) ≡ false = is_end-grows item more h.one ∙ item-no_end file item is in
       let t : take (length item) (item ++ more) ≡ item = take_at item more (length item) refl in
       next-is file (item ++ more) (length item) low count (framed-grows item more (length item) whole) ∙ rw (e, t, above) refl
 
   -- where a test fails, no record stands
-  pub fault-stops : (low : List ℕ) (count : ℕ) (bytes : List ℕ) (kind : RecordFaultKind) → Fails file low count bytes kind → Takes low bytes → ⊥
+  pub fault-stops : (low : List ℕ) (count : ℕ) (bytes : List ℕ) (kind : RecordFaultKind) → FailsNext file low count bytes kind → Takes low bytes → ⊥
   fault-stops low count bytes kind (inl e) t = no_two (length t.item) kind (sym (next-takes low count t.item t.more t.is t.above) ∙ sym (ap (next file low count) t.whole) ∙ e)
   fault-stops low count bytes kind (inr f) t =
       let here : next file low count bytes ≡ Ok (length t.item) = ap (next file low count) t.whole ∙ next-takes low count t.item t.more t.is t.above in
       let n : f.0 ≡ length t.item = result_is f.0 (length t.item) (sym f.1 ∙ here) in
       let item : take f.0 bytes ≡ t.item = ap (take f.0) t.whole ∙ take_at t.item t.more f.0 (sym n) in
-      record-slice t.item kind t.is (subst (λ (x : List ℕ). RefusesSlice x kind) item f.2)
+      item-refused file t.item kind t.is (subst (λ (x : List ℕ). Refuses file x kind) item f.2)
 
   -- nor where an end record does
   pub end-stops : (low : List ℕ) (bytes : List ℕ) → is_end bytes ≡ true → Takes low bytes → ⊥
   end-stops low bytes end t =
-      let h = holds file t.item (length t.item) (record-framed file t.item t.is) in
-      let e : is_end bytes ≡ false = ap is_end t.whole ∙ is_end-grows t.item t.more h.one ∙ record-item t.item t.is in
+      let h = holds file t.item (length t.item) (item-framed file t.item t.is) in
+      let e : is_end bytes ≡ false = ap is_end t.whole ∙ is_end-grows t.item t.more h.one ∙ item-no_end file t.item t.is in
       false≢true (sym e ∙ end)
 
   -- ---- two fronts
 
-  same_length : (x y : List ℕ) (a b : List ℕ) → IsRecord x → IsRecord y → x ++ a ≡ y ++ b → length x ≡ length y
+  same_length : (x y : List ℕ) (a b : List ℕ) → IsItem file x → IsItem file y → x ++ a ≡ y ++ b → length x ≡ length y
   same_length x y a b p q e =
-      result_is (length x) (length y) (sym (framed-grows x a (length x) (record-framed file x p)) ∙ ap (framed file) e ∙ framed-grows y b (length y) (record-framed file y q))
+      result_is (length x) (length y) (sym (framed-grows x a (length x) (item-framed file x p)) ∙ ap (framed file) e ∙ framed-grows y b (length y) (item-framed file y q))
 
   -- A front at whose end no record stands is the longest: every other front begins it.
   pub longest : (xs ys : List (List ℕ)) (low r s : List ℕ) → InOrder file low xs → InOrder file low ys → concat xs ++ r ≡ concat ys ++ s → (Takes (last_of low xs) r → ⊥) → Before xs ys r s

@@ -7,20 +7,19 @@ use Rattle.std.specs.Io.KnownBytes.{Consumes}
 use Rattle.std.specs.Cmp.Lexicographic.{nat_list_cmp_total}
 use Rattle.std.specs.FinSet as set
 use Rattle.std.specs.FinSet.{from_list_push}
-use Rattle.archive_core.specs.Record.{IsRecord}
 use Rattle.archive_core.specs.Content.{Operations, with_record}
 use Rattle.byte_device.proofs.Known.{Consumes-then}
 use Rattle.archive_records.specs.declared.reader.RecordReader.{RecordReader}
 use Rattle.archive_records.specs.declared.fault.RecordFaultKind.{RecordFaultKind}
 use Rattle.archive_records.specs.declared.fault.RecordFaultKind.TheVariants.{Trailing, Device, OutOfMemory}
 use Rattle.archive_records.specs.declared.fault.RecordFault.{RecordFault}
-use Rattle.archive_records.specs.Kind.{magic_of, may_follow}
+use Rattle.archive_records.specs.Kind.{magic_of, IsItem, may_follow}
 use Rattle.archive_records.specs.Text.{end_record, ending, text_of, InOrder, last_of}
-use Rattle.archive_records.specs.Fault.{next, Fails, IsUnended, IsOfText}
+use Rattle.archive_records.specs.Fault.{next, FailsNext, IsUnended, IsOfText}
 use Rattle.archive_records.specs.Reading.{seen_as, HasRead, HasReadAll, Stopped, HasStopped, IsEnded, Makes, MakesAll, IsReadTo}
 use Rattle.archive_records.proofs.Puts.{concat-push, bytes_same}
 use Rattle.archive_records.proofs.Holds.{next-above}
-use Rattle.archive_records.proofs.Forms.{record-item}
+use Rattle.archive_records.proofs.Forms.{item-no_end}
 use Rattle.archive_records.proofs.Grown.{next-ok-grows}
 use Rattle.archive_records.proofs.Ends.{end-is_end, length-end_record, next_end}
 use Rattle.archive_records.proofs.Longest.{is_end-grows}
@@ -39,22 +38,22 @@ pub from_list-push : (records : List (List ℕ)) (x : List ℕ) (o : Operations)
 from_list-push records x o e = ap (λ (s : Operations). set.insert s x) e ∙ sym (from_list_push nat_list_cmp_total bytes_same records x)
 
 module _ (file : FileKind) where
-  pub InOrder-push : (low : List ℕ) (xs : List (List ℕ)) (x : List ℕ) → InOrder file low xs → IsRecord x → may_follow file (last_of low xs) x ≡ true → InOrder file low (xs ++ x ∷ [])
+  pub InOrder-push : (low : List ℕ) (xs : List (List ℕ)) (x : List ℕ) → InOrder file low xs → IsItem file x → may_follow file (last_of low xs) x ≡ true → InOrder file low (xs ++ x ∷ [])
   InOrder-push low [] x a r b = (r, b, tt)
   InOrder-push low (y ∷ ys) x a r b = (a.0, a.1, InOrder-push y ys x a.2 r b)
 
-  pub next-follows : (low : List ℕ) (count : ℕ) (bytes : List ℕ) → next file low count bytes ≡ Ok (length bytes) → IsRecord bytes → may_follow file low bytes ≡ true
-  next-follows low count bytes e item = rw (take_all (length bytes) bytes (omega arith)) at (next-above file low count bytes (length bytes) e (record-item bytes item))
+  pub next-follows : (low : List ℕ) (count : ℕ) (bytes : List ℕ) → next file low count bytes ≡ Ok (length bytes) → IsItem file bytes → may_follow file low bytes ≡ true
+  next-follows low count bytes e item = rw (take_all (length bytes) bytes (omega arith)) at (next-above file low count bytes (length bytes) e (item-no_end file bytes item))
 
   -- one record more was read
   pub HasRead-grows : (a b c : Option (List ℕ)) (records : List (List ℕ)) (bytes : List ℕ) (old new : RecordReader) → new.file ≡ old.file → new.buffer.bytes.items ≡ bytes → new.count ≡ old.count + 1 → new.offset ≡ old.offset + length old.buffer.bytes.items → HasRead file a b records old
-      → Consumes b c bytes → may_follow old.file old.buffer.bytes.items bytes ≡ true → IsRecord bytes → HasRead file a c (records ++ new.buffer.bytes.items ∷ []) new × (may_follow file (last_of [] records) new.buffer.bytes.items ≡ true)
+      → Consumes b c bytes → may_follow old.file old.buffer.bytes.items bytes ≡ true → IsItem old.file bytes → HasRead file a c (records ++ new.buffer.bytes.items ∷ []) new × (may_follow file (last_of [] records) new.buffer.bytes.items ≡ true)
   HasRead-grows a b c records bytes old new same is count offset h k follows item =
       let here : may_follow file (last_of [] records) bytes ≡ true = rw (← h.last_is, ← h.file_is) follows in
       let grown : HasRead file a c (records ++ bytes ∷ []) new = record {
         file_is = same ∙ h.file_is;
         taken = subst (λ (t : List ℕ). Consumes a c (magic_of file ++ t)) (sym (concat-push records bytes)) (taken_more a b c (magic_of file) (concat records) bytes h.taken k);
-        ordered = InOrder-push [] records bytes h.ordered item here;
+        ordered = InOrder-push [] records bytes h.ordered (subst (λ (f : FileKind). IsItem f bytes) h.file_is item) here;
         last_is = is ∙ sym (last_of-push [] records bytes);
         count_is = omega (arith, count, h.count_is, length-append records (bytes ∷ []));
         offset_is = omega (arith, offset, ap length is, h.offset_is, ap length (concat-push records bytes), length-append (concat records) bytes);
@@ -89,7 +88,7 @@ module _ (file : FileKind) where
 
   -- a test failed behind the records, or memory ran out there
   pub Stopped-fails : (a b c : Option (List ℕ)) (records : List (List ℕ)) (bytes : List ℕ) (kind : RecordFaultKind) (offset : ℕ) (reader : RecordReader) → HasRead file a b records reader → Consumes b c bytes
-      → (kind ≢ OutOfMemory → Fails reader.file reader.buffer.bytes.items reader.count bytes (seen_as kind)) → (IsOfText kind → IsUnended reader.file bytes) → reader.count < 2 ^ 63 → offset ≡ reader.offset + length reader.buffer.bytes.items
+      → (kind ≢ OutOfMemory → FailsNext reader.file reader.buffer.bytes.items reader.count bytes (seen_as kind)) → (IsOfText kind → IsUnended reader.file bytes) → reader.count < 2 ^ 63 → offset ≡ reader.offset + length reader.buffer.bytes.items
       → Stopped file a c records (record { kind = kind; offset = offset })
   Stopped-fails a b c records bytes kind offset reader h k fails unended few at = record {
     rest = bytes;

@@ -44,11 +44,20 @@ RefusesSlice bytes Trailing = ⊥
 RefusesSlice bytes Device = ⊥
 RefusesSlice bytes OutOfMemory = ⊥
 
--- the first test that fails in front of the rest, behind this last record and so many records
-abbrev pub Fails : FileKind → List ℕ → ℕ → List ℕ → RecordFaultKind → Type 0
-Fails file last count rest kind =
+-- why a whole item is refused for what it holds
+abbrev pub Refuses : FileKind → List ℕ → RecordFaultKind → Type 0
+Refuses Archive bytes kind = RefusesSlice bytes kind
+Refuses Operations bytes kind = RefusesSlice bytes kind
+
+-- the first test that fails in front of the rest, of those that know the last record and the number of records alone
+abbrev pub FailsNext : FileKind → List ℕ → ℕ → List ℕ → RecordFaultKind → Type 0
+FailsNext file last count rest kind =
     (next file last count rest ≡ Err kind)
-    ⊎ ((n : ℕ) × (next file last count rest ≡ Ok n) × RefusesSlice (take n rest) kind)
+    ⊎ ((n : ℕ) × (next file last count rest ≡ Ok n) × Refuses file (take n rest) kind)
+
+-- The first test that fails in front of the rest, behind these records. A test that looks at all of them would come last.
+abbrev pub Fails : FileKind → List (List ℕ) → List ℕ → RecordFaultKind → Type 0
+Fails file records rest kind = FailsNext file (last_of [] records) (length records) rest kind
 
 -- the end record of so many records, and bytes behind it
 pub record IsTrailing (file : FileKind) (last : List ℕ) (count : ℕ) (rest : List ℕ) : Type 0 where
@@ -73,7 +82,7 @@ IsMagicFault file text OutOfMemory = ⊥
 -- what is wrong behind a good front, and where
 abbrev pub IsFaultBehind : FileKind → List (List ℕ) → List ℕ → RecordFault → Type 0
 IsFaultBehind file records rest fault =
-    (Fails file (last_of [] records) (length records) rest fault.kind × (fault.offset ≡ front_length records))
+    (Fails file records rest fault.kind × (fault.offset ≡ front_length records))
     ⊎ ((fault.kind ≡ Trailing) × IsTrailing file (last_of [] records) (length records) rest × (fault.offset ≡ front_length records + 9))
 
 -- The file does not end before the rest: operations do where nothing is left, an archive only behind its end record.

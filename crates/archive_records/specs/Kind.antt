@@ -1,8 +1,9 @@
--- The kinds of files: what each begins with, how its records follow one another, and how it ends.
+-- The kinds of files: what each begins with, what its records are, how they follow one another, and how it ends.
 use Rattle.std.specs.Prelude.{ℕ, Bool, true, List, [], ◌∷◌, Option, Some, None}
 use Rattle.std.specs.declared.cmp.Ordering.{Ordering}
 use Rattle.std.specs.Ordering.{is_lt, nat_cmp}
 use Rattle.std.specs.Cmp.Lexicographic.{slice_cmp}
+use Rattle.archive_core.specs.Record.{IsRecord}
 use Rattle.archive_records.specs.declared.kind.FileKind.{FileKind}
 use Rattle.archive_records.specs.declared.kind.FileKind.TheVariants.{Archive, Operations}
 
@@ -17,6 +18,16 @@ operations_magic = 0x4d ∷ 0x53 ∷ 0x59 ∷ 0x4d ∷ 0x4f ∷ 0x50 ∷ 0x53 �
 abbrev pub magic_of : FileKind → List ℕ
 magic_of Archive = magic
 magic_of Operations = operations_magic
+
+-- what stands between the magic and what ends the file: records of operations
+abbrev pub IsItem : FileKind → List ℕ → Type 0
+IsItem Archive item = IsRecord item
+IsItem Operations item = IsRecord item
+
+-- how long the head of an admission is
+abbrev pub admission_length : FileKind → ℕ
+admission_length Archive = 33
+admission_length Operations = 33
 
 -- how long an end record is; an operations file has none
 abbrev pub end_length : FileKind → Option ℕ

@@ -2,14 +2,15 @@
 use Rattle.std.specs.Prelude.{ℕ, ◌+◌, List, length, take, drop, slice_index, nat_lt, ◌==◌, if◌then◌else◌, Option, Some, None, Result, Ok, Err}
 use Rattle.std.specs.Int.{w64, from_be_bytes}
 use Rattle.archive_records.specs.declared.kind.FileKind.{FileKind}
-use Rattle.archive_records.specs.Kind.{end_length}
+use Rattle.archive_records.specs.declared.kind.FileKind.TheVariants.{Archive, Operations}
+use Rattle.archive_records.specs.Kind.{admission_length, end_length}
 use Rattle.archive_records.specs.declared.fault.RecordFaultKind.{RecordFaultKind}
 use Rattle.archive_records.specs.declared.fault.RecordFaultKind.TheVariants.{Truncated, BadTag, TooLarge}
 
 -- How long the head is, by its tag: a retirement is tag, UUID, cputype, subtype and digest; an admission's head is tag,
 -- UUID, cputype, subtype and the length of its slice; an end record is tag and number of records.
 unfoldable pub head_length : FileKind → ℕ → Option ℕ
-head_length file tag = if tag == 1 then Some 57 else if tag == 2 then Some 33 else if tag == 3 then end_length file else None
+head_length file tag = if tag == 1 then Some 57 else if tag == 2 then Some (admission_length file) else if tag == 3 then end_length file else None
 
 -- the length of the slice that an admission's head claims
 unfoldable pub slice_length : List ℕ → ℕ
@@ -19,26 +20,31 @@ slice_length bytes = from_be_bytes w64 (take 8 (drop 25 bytes))
 unfoldable pub record_count : List ℕ → ℕ
 record_count bytes = from_be_bytes w64 (take 8 (drop 1 bytes))
 
--- how many bytes follow the head: an admission's slice
-unfoldable pub body_length : List ℕ → ℕ
-body_length bytes = if slice_index bytes 0 == 2 then slice_length bytes else 0
+-- how many bytes follow the head of an admission: those of its slice
+abbrev pub admission_body : FileKind → List ℕ → ℕ
+admission_body Archive bytes = slice_length bytes
+admission_body Operations bytes = slice_length bytes
+
+-- how many bytes follow the head; an admission alone has such
+unfoldable pub body_length : FileKind → List ℕ → ℕ
+body_length file bytes = if slice_index bytes 0 == 2 then admission_body file bytes else 0
 
 -- the greatest length of a slice
 abbrev pub largest_slice : ℕ
 largest_slice = 4294967295
 
 -- what a head of this length and the bytes behind it are
-unfoldable pub framed_behind : ℕ → List ℕ → Result ℕ RecordFaultKind
-framed_behind head bytes =
+unfoldable pub framed_behind : FileKind → ℕ → List ℕ → Result ℕ RecordFaultKind
+framed_behind file head bytes =
     if nat_lt (length bytes) head then Err Truncated
-    else if nat_lt largest_slice (body_length bytes) then Err TooLarge
-    else if nat_lt (length bytes) (head + body_length bytes) then Err Truncated
-    else Ok (head + body_length bytes)
+    else if nat_lt largest_slice (body_length file bytes) then Err TooLarge
+    else if nat_lt (length bytes) (head + body_length file bytes) then Err Truncated
+    else Ok (head + body_length file bytes)
 
-abbrev pub framed_by : Option ℕ → List ℕ → Result ℕ RecordFaultKind
-framed_by None bytes = Err BadTag
-framed_by (Some head) bytes = framed_behind head bytes
+abbrev pub framed_by : FileKind → Option ℕ → List ℕ → Result ℕ RecordFaultKind
+framed_by file None bytes = Err BadTag
+framed_by file (Some head) bytes = framed_behind file head bytes
 
 -- the length of the whole record or end record in front of the bytes, or else the first fault of its form
 unfoldable pub framed : FileKind → List ℕ → Result ℕ RecordFaultKind
-framed file bytes = if nat_lt (length bytes) 1 then Err Truncated else framed_by (head_length file (slice_index bytes 0)) bytes
+framed file bytes = if nat_lt (length bytes) 1 then Err Truncated else framed_by file (head_length file (slice_index bytes 0)) bytes

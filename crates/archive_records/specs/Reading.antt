@@ -90,7 +90,7 @@ pub record HasReadAll (file : FileKind) (a b : Option (List ℕ)) (records : Lis
 -- what came behind the records, and why reading stopped there
 abbrev pub Stops : FileKind → List (List ℕ) → List ℕ → RecordFault → Type 0
 Stops file records rest fault =
-    ((fault.offset ≡ front_length records) × (fault.kind ≢ OutOfMemory → Fails file (last_of [] records) (length records) rest (seen_as fault.kind)))
+    ((fault.offset ≡ front_length records) × (fault.kind ≢ OutOfMemory → Fails file records rest (seen_as fault.kind)))
     ⊎ ((fault.kind ≡ Trailing) × IsTrailing file (last_of [] records) (length records) rest × (fault.offset ≡ front_length records + 9))
     ⊎ ((fault.kind ≡ Device) × (rest ≡ end_record (length records)) × (fault.offset ≡ front_length records))
 

@@ -8,11 +8,11 @@ use Rattle.std.specs.Cmp.Lexicographic.{slice_cmp}
 use Rattle.std.specs.FinSet as set
 use Rattle.join_core.specs.Listing.{listing}
 use Rattle.archive_core.specs.declared.operations.Operation.{Operation}
-use Rattle.archive_core.specs.Record.{IsRecord, IsOperation, rec}
+use Rattle.archive_core.specs.Record.{IsOperation, rec}
 use Rattle.archive_core.specs.Content.{Operations}
 use Rattle.archive_records.specs.declared.kind.FileKind.{FileKind}
 use Rattle.archive_records.specs.declared.kind.FileKind.TheVariants.{Archive, Operations as Operations_file}
-use Rattle.archive_records.specs.Kind.{magic, operations_magic, magic_of, may_follow}
+use Rattle.archive_records.specs.Kind.{magic, operations_magic, magic_of, IsItem, may_follow}
 
 -- the end record of so many records
 unfoldable pub end_record : ℕ → List ℕ
@@ -43,10 +43,10 @@ pub record IsOperationsText (text : List ℕ) (operations : List Operation) : Ty
   pub are : All IsOperation operations
   pub whole : text ≡ operations_magic ++ concat (map rec operations)
 
--- records of operations, each of which may follow the one before it, and the first of which may follow low
+-- items of the file, each of which may follow the one before it, and the first of which may follow low
 abbrev pub InOrder : FileKind → List ℕ → List (List ℕ) → Type 0
 InOrder file low [] = Unit {0}
-InOrder file low (x ∷ xs) = IsRecord x × (may_follow file low x ≡ true) × InOrder file x xs
+InOrder file low (x ∷ xs) = IsItem file x × (may_follow file low x ≡ true) × InOrder file x xs
 
 -- the last record, or low where there is none; the empty list is below every record
 abbrev pub last_of : List ℕ → List (List ℕ) → List ℕ

@@ -63,7 +63,7 @@ fn read_body<R: Source>(
     ensures framed { MatchResult result (λ _. framed file (bytes_so_far buffer.new) ≡ Ok buffer.new.at) (λ kind. framed file (bytes_so_far buffer.new) ≡ Err (seen_as kind)) }
     ensures reader { BlamesReader R.left R.failures r.old r.new result }
 {
-    let body = body_length_of(&buffer.bytes[..buffer.at]);
+    let body = body_length_of(file, &buffer.bytes[..buffer.at]);
     if body > LARGEST_SLICE {
         return Err(RecordFaultKind::TooLarge);
     }

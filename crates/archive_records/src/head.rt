@@ -1,12 +1,12 @@
 //! The heads of records: numbers and keys at their places.
 
 ghost use Rattle.std.specs.Prelude.{◌≡◌, ◌+◌, ◌<◌, ◌≤◌, ◌^◌, ◌↔◌, ◌∷◌, ◌++◌, IsTrue, Some, IfSome, length, slice_index, take, drop};
-ghost use Rattle.std.specs.Int.{w32, w64, to_be_bytes};
+ghost use Rattle.std.specs.Int.{w32, w64, from_be_bytes, to_be_bytes};
 ghost use Rattle.archive_core.specs.Key.{IsKey, key_bytes};
 ghost use Rattle.archive_core.specs.Valid.{key_of};
 ghost use Rattle.archive_core.specs.Record.{retirement_record};
-ghost use Rattle.archive_records.specs.Kind.{end_length};
-ghost use Rattle.archive_records.specs.Layout.{head_length, slice_length, body_length, record_count};
+ghost use Rattle.archive_records.specs.Kind.{admission_length, end_length};
+ghost use Rattle.archive_records.specs.Layout.{head_length, admission_body, body_length, record_count};
 ghost use Rattle.archive_records.specs.Text.{end_record};
 
 use crate::kind::FileKind;
@@ -25,6 +25,16 @@ pub const RETIREMENT_LEN: usize = 57;
 pub const ADMISSION_HEAD_LEN: usize = 33;
 
 pub const END_LEN: usize = 9;
+
+// How long an admission's head is.
+fn admission_length_of(file: FileKind) -> usize
+    ensures value { result ≡ admission_length file }
+    ensures long { (8 < result) × (result < 58) }
+{
+    match file {
+        FileKind::Archive | FileKind::Operations => ADMISSION_HEAD_LEN,
+    }
+}
 
 // How long an end record is, where there is one.
 fn end_length_of(file: FileKind) -> Option<usize>
@@ -46,21 +56,39 @@ pub fn head_length_of(file: FileKind, bytes: &[u8]) -> Option<usize>
 {
     match bytes[0] {
         RETIREMENT => Some(RETIREMENT_LEN),
-        ADMISSION => Some(ADMISSION_HEAD_LEN),
+        ADMISSION => Some(admission_length_of(file)),
         END => end_length_of(file),
         _ => None,
     }
 }
 
+// The number of eight bytes at a place.
+fn length_at(bytes: &[u8], at: usize) -> u64
+    requires { at + 8 ≤ length bytes.now }
+    ensures { result ≡ from_be_bytes w64 (take 8 (drop at bytes.now)) }
+{
+    BigEndian::read_u64(&bytes[at..])
+}
+
+// How many bytes follow an admission's head.
+fn admission_body_of(file: FileKind, head: &[u8]) -> u64
+    requires { admission_length file ≤ length head.now }
+    ensures { result ≡ admission_body file head.now }
+{
+    match file {
+        FileKind::Archive | FileKind::Operations => length_at(head, 25),
+    }
+}
+
 /// How many bytes follow the head.
-#[tactic(auto, unfolding(crate::specs::Layout::body_length, crate::specs::Layout::slice_length))]
-pub fn body_length_of(head: &[u8]) -> u64
+#[tactic(auto, unfolding(crate::specs::Layout::body_length))]
+pub fn body_length_of(file: FileKind, head: &[u8]) -> u64
     requires one { 0 < length head.now }
-    requires whole { slice_index head.now 0 ≡ 2 → 33 ≤ length head.now }
-    ensures { result ≡ body_length head.now }
+    requires whole { slice_index head.now 0 ≡ 2 → admission_length file ≤ length head.now }
+    ensures { result ≡ body_length file head.now }
 {
     if head[0] == ADMISSION {
-        BigEndian::read_u64(&head[25..])
+        admission_body_of(file, head)
     } else {
         0
     }
@@ -72,7 +100,7 @@ pub fn record_count_of(end: &[u8]) -> u64
     requires { 9 ≤ length end.now }
     ensures { result ≡ record_count end.now }
 {
-    BigEndian::read_u64(&end[1..])
+    length_at(end, 1)
 }
 
 // A UUID has sixteen bytes.

@@ -5,12 +5,11 @@ ghost use Rattle.std.specs.Io.KnownBytes.{Consumes, IsAtEnd};
 ghost use Rattle.byte_device.specs.Devices.{FailedIn};
 ghost use Rattle.archive_core.specs.Record.{IsRecord};
 ghost use Rattle.archive_records.specs.declared.fault.RecordFaultKind.TheVariants.{Truncated, Device};
-ghost use Rattle.archive_records.specs.declared.kind.FileKind.{FileKind};
-ghost use Rattle.archive_records.specs.declared.kind.FileKind.TheVariants.{Operations};
-ghost use Rattle.archive_records.specs.Kind.{may_follow};
+ghost use Rattle.archive_records.specs.declared.kind.FileKind.TheVariants.{Archive, Operations};
+ghost use Rattle.archive_records.specs.Kind.{IsItem, may_follow};
 ghost use Rattle.archive_records.specs.Layout.{framed};
 ghost use Rattle.archive_records.specs.Text.{end_record, ending};
-ghost use Rattle.archive_records.specs.Fault.{is_end, tested, next, RefusesSlice, Fails, IsUnended, IsOfText};
+ghost use Rattle.archive_records.specs.Fault.{is_end, tested, next, RefusesSlice, Refuses, FailsNext, IsUnended, IsOfText};
 ghost use Rattle.archive_records.specs.Reading.{BlamesReader, bytes_so_far, seen_as, IsEnded};
 
 use crate::buffer::Buffer;
@@ -68,7 +67,7 @@ fn read_in_order<R: Source>(
 
 /// Whether the slice of a whole record is one, and of the record's key.
 fn test_slice(bytes: &[u8]) -> Result<(), RecordFaultKind>
-    requires whole { (file : FileKind) × (framed file bytes.now ≡ Ok (length bytes.now)) }
+    requires whole { framed Archive bytes.now ≡ Ok (length bytes.now) }
     requires item { is_end bytes.now ≡ false }
     ensures known { OnOk result (IsRecord bytes.now) }
     ensures refused { IfErr result (λ kind. RefusesSlice bytes.now kind) }
@@ -89,6 +88,18 @@ fn test_slice(bytes: &[u8]) -> Result<(), RecordFaultKind>
     }
 }
 
+/// Whether what a whole item holds is as it must be.
+fn test_item(file: FileKind, bytes: &[u8]) -> Result<(), RecordFaultKind>
+    requires whole { framed file bytes.now ≡ Ok (length bytes.now) }
+    requires item { is_end bytes.now ≡ false }
+    ensures known { OnOk result (IsItem file bytes.now) }
+    ensures refused { IfErr result (λ kind. Refuses file bytes.now kind) }
+{
+    match file {
+        FileKind::Archive | FileKind::Operations => test_slice(bytes),
+    }
+}
+
 /// Reads the next record or the end record over the last record, and says whether it is the end record.
 fn read_tested<R: Source>(
     file: FileKind,
@@ -101,17 +112,17 @@ fn read_tested<R: Source>(
     ensures within { buffer.new.at ≤ length buffer.new.bytes.items }
     ensures taken { Consumes (R.left r.old) (R.left r.new) (bytes_so_far buffer.new) }
     ensures next { OnOk result (next file buffer.old.bytes.items count (bytes_so_far buffer.new) ≡ Ok (length (bytes_so_far buffer.new))) }
-    ensures fails { IfErr result (λ kind. Fails file buffer.old.bytes.items count (bytes_so_far buffer.new) (seen_as kind)) }
+    ensures fails { IfErr result (λ kind. FailsNext file buffer.old.bytes.items count (bytes_so_far buffer.new) (seen_as kind)) }
     ensures whole { OnOk result (buffer.new.bytes.items ≡ bytes_so_far buffer.new) }
     ensures end { IfOk result (λ end. end ≡ true → (is_end (bytes_so_far buffer.new) ≡ true) × (bytes_so_far buffer.new ≡ end_record count)) }
-    ensures item { IfOk result (λ end. end ≡ false → IsRecord (bytes_so_far buffer.new)) }
+    ensures item { IfOk result (λ end. end ≡ false → IsItem file (bytes_so_far buffer.new)) }
     ensures reader { BlamesReader R.left R.failures r.old r.new result }
 {
     let end = read_in_order(file, r, chunk, buffer, count)?;
     if end {
         return Ok(true);
     }
-    match test_slice(&buffer.bytes) {
+    match test_item(file, &buffer.bytes) {
         Ok(()) => Ok(false),
         Err(kind) => Err(kind),
     }
@@ -137,9 +148,9 @@ pub fn read_next<R: Source>(
     ensures end { IfOk result (λ end. end ≡ true → bytes_so_far buffer.new ≡ ending file count) }
     ensures ends { IfOk result (λ end. end ≡ true → IsEnded file (R.left r.new)) }
     ensures whole { IfOk result (λ end. end ≡ false → buffer.new.bytes.items ≡ bytes_so_far buffer.new) }
-    ensures item { IfOk result (λ end. end ≡ false → IsRecord (bytes_so_far buffer.new)) }
+    ensures item { IfOk result (λ end. end ≡ false → IsItem file (bytes_so_far buffer.new)) }
     ensures follows { IfOk result (λ end. end ≡ false → may_follow file buffer.old.bytes.items (bytes_so_far buffer.new) ≡ true) }
-    ensures fails { IfErr result (λ kind. Fails file buffer.old.bytes.items count (bytes_so_far buffer.new) (seen_as kind)) }
+    ensures fails { IfErr result (λ kind. FailsNext file buffer.old.bytes.items count (bytes_so_far buffer.new) (seen_as kind)) }
     ensures unended { IfErr result (λ kind. IsOfText kind → IsUnended file (bytes_so_far buffer.new)) }
     ensures reader { BlamesReader R.left R.failures r.old r.new result }
 {

@@ -42,6 +42,7 @@ fn push_records<R: Source>(
     r: &mut R,
 ) -> Result<(), RecordFault>
     requires room { 0 < length reader.old.chunk.items }
+    requires operations { reader.old.file ≡ Operations }
     requires few { reader.old.count < 2 ^ 63 }
     requires fits { reader.old.offset + length reader.old.buffer.bytes.items ≤ 8 + reader.old.count * 2 ^ 64 }
     ensures all { OnOk result ((a : Option (List ℕ)) → Lists a (R.left r.old) operations.old.items reader.old → AreRead a (R.left r.new) operations.new.items) }
@@ -68,6 +69,7 @@ fn list_rest<R: Source>(
     r: &mut R,
 ) -> Result<Vec<Operation, Heap>, RecordFault>
     requires room { 0 < length reader.chunk.items }
+    requires operations { reader.file ≡ Operations }
     requires few { reader.count < 2 ^ 63 }
     requires fits { reader.offset + length reader.buffer.bytes.items ≤ 8 + reader.count * 2 ^ 64 }
     ensures all { IfOk result (λ read. (a : Option (List ℕ)) → Lists a (R.left r.old) operations.items reader → AreRead a (R.left r.new) read.items) }

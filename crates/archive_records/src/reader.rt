@@ -3,11 +3,10 @@
 ghost use Rattle.std.specs.Prelude.{◌≡◌, ◌≢◌, ◌+◌, ◌*◌, ◌<◌, ◌≤◌, ◌^◌, ℕ, List, Option, [], ◌∷◌, ◌++◌, true, false, length, take, OnOk, IfOk, IfErr, MatchResult, IsTrue, ◌↔◌};
 ghost use Rattle.std.specs.Io.KnownBytes.{Consumes, IsAtEnd};
 ghost use Rattle.byte_device.specs.Devices.{FailedIn};
-ghost use Rattle.archive_core.specs.Record.{IsRecord};
 ghost use Rattle.archive_records.specs.declared.kind.FileKind.{FileKind};
 ghost use Rattle.archive_records.specs.declared.kind.FileKind.TheVariants.{Archive};
 ghost use Rattle.archive_records.specs.declared.fault.RecordFaultKind.TheVariants.{Truncated, Trailing, Device};
-ghost use Rattle.archive_records.specs.Kind.{magic_of, may_follow};
+ghost use Rattle.archive_records.specs.Kind.{magic_of, IsItem, may_follow};
 ghost use Rattle.archive_records.specs.Text.{last_of};
 ghost use Rattle.archive_records.specs.Reading.{BlamesReader, FaultBlamesReader, bytes_so_far, StopsInMagic, HasRead, HasReadAll, Stopped};
 
@@ -131,7 +130,8 @@ impl RecordReader {
         requires fits { self.old.offset + length self.old.buffer.bytes.items ≤ 8 + self.old.count * 2 ^ 64 }
         ensures room { 0 < length self.new.chunk.items }
         ensures item { IfOk result (λ end. end ≡ false → (file : FileKind) (a : Option (List ℕ)) (records : List (List ℕ)) → HasRead file a (R.left r.old) records self.old → HasRead file a (R.left r.new) (records ++ self.new.buffer.bytes.items ∷ []) self.new × (may_follow file (last_of [] records) self.new.buffer.bytes.items ≡ true)) }
-        ensures known { IfOk result (λ end. end ≡ false → IsRecord self.new.buffer.bytes.items) }
+        ensures known { IfOk result (λ end. end ≡ false → IsItem self.new.file self.new.buffer.bytes.items) }
+        ensures same { self.new.file ≡ self.old.file }
         ensures end { IfOk result (λ end. end ≡ true → (file : FileKind) (a : Option (List ℕ)) (records : List (List ℕ)) → HasRead file a (R.left r.old) records self.old → HasReadAll file a (R.left r.new) records self.new) }
         ensures no_trailing { IfErr result (λ fault. fault.kind ≢ Trailing) }
         ensures stopped { IfErr result (λ fault. (file : FileKind) (a : Option (List ℕ)) (records : List (List ℕ)) → HasRead file a (R.left r.old) records self.old → Stopped file a (R.left r.new) records fault) }

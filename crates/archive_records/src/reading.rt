@@ -52,6 +52,7 @@ fn take_records<A: Archive, R: Source>(
     r: &mut R,
 ) -> Result<(), RecordFault>
     requires room { 0 < length reader.old.chunk.items }
+    requires archive { reader.old.file ≡ Archive }
     requires few { reader.old.count < 2 ^ 63 }
     requires fits { reader.old.offset + length reader.old.buffer.bytes.items ≤ 8 + reader.old.count * 2 ^ 64 }
     ensures all { OnOk result ((a : Option (List ℕ)) → Makes a (R.left r.old) (A.content archive.old) reader.old → MakesAll a (R.left r.new) (A.content archive.new) reader.new) }
@@ -80,6 +81,7 @@ fn read_rest<A: Archive + Drop, R: Source>(
     r: &mut R,
 ) -> Result<(A, RecordReader), RecordFault>
     requires room { 0 < length reader.chunk.items }
+    requires archive { reader.file ≡ Archive }
     requires few { reader.count < 2 ^ 63 }
     requires fits { reader.offset + length reader.buffer.bytes.items ≤ 8 + reader.count * 2 ^ 64 }
     ensures read { IfOk result (λ read. (a : Option (List ℕ)) → Makes a (R.left r.old) (A.content archive) reader → MakesAll a (R.left r.new) (A.content read.0) read.1) }

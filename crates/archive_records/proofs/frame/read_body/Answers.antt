@@ -15,11 +15,11 @@ pub returns-then-body-gt-LARGEST_SLICE-clause-framed : goal.returns-then-body-gt
 returns-then-body-gt-LARGEST_SLICE-clause-framed g c =
     let b = c.args.buffer.now in
     let x = length-bytes_so_far b c.requires.within in
-    let n-is = c.body_length_of-body.ensures ∙ ap (λ (t : List ℕ). body_length (take b.at t)) c.deref.ensures.value in
+    let n-is = c.body_length_of-body.ensures ∙ ap (λ (t : List ℕ). body_length c.args.file (take b.at t)) c.deref.ensures.value in
     framed-large c.args.file (bytes_so_far b) c.args.head (omega (arith, x)) c.requires.head (omega (arith, x)) (omega (arith, n-is))
 
 -- either way of the last read
-last : (file : FileKind) (r : Result (Unit {0}) RecordFaultKind) (bytes more grown : List ℕ) (b : Buffer) (head n : ℕ) → grown ≡ bytes_so_far b → b.at ≤ length b.bytes.items → n ≡ body_length bytes → grown ≡ bytes ++ more → 8 < head → head_length file (get_or bytes 0 0) ≡ Some head → length bytes ≡ head → n ≤ largest_slice
+last : (file : FileKind) (r : Result (Unit {0}) RecordFaultKind) (bytes more grown : List ℕ) (b : Buffer) (head n : ℕ) → grown ≡ bytes_so_far b → b.at ≤ length b.bytes.items → n ≡ body_length file bytes → grown ≡ bytes ++ more → 8 < head → head_length file (get_or bytes 0 0) ≡ Some head → length bytes ≡ head → n ≤ largest_slice
     → OnOk r (b.at ≡ head + n) → OnErr r (b.at < head + n) → IfErr r (λ kind. seen_as kind ≡ Truncated)
     → MatchResult r (λ _. framed file grown ≡ Ok b.at) (λ kind. framed file grown ≡ Err (seen_as kind))
 last file (Ok u) bytes more grown b head n here within is grows big h len small ok err part =
@@ -33,7 +33,7 @@ pub returns-clause-framed : goal.returns-clause-framed
 returns-clause-framed g c =
     let b = c.args.buffer.now in
     let d = c.fill.new.buffer in
-    let n-is = c.body_length_of-body.ensures ∙ ap (λ (t : List ℕ). body_length (take b.at t)) c.deref.ensures.value in
+    let n-is = c.body_length_of-body.ensures ∙ ap (λ (t : List ℕ). body_length c.args.file (take b.at t)) c.deref.ensures.value in
     last c.args.file c.fill.result (bytes_so_far b) c.fill.ensures.fills.more (bytes_so_far d) d c.args.head c.body_length_of-body.result refl c.fill.ensures.within n-is
     c.fill.ensures.fills.grows c.requires.long c.requires.head (length-bytes_so_far b c.requires.within ∙ c.requires.len) c.if-body-gt-LARGEST_SLICE.false (rw c.requires.len at c.fill.ensures.ok) (rw c.requires.len at c.fill.ensures.err) c.fill.ensures.part
 

@@ -4,39 +4,40 @@ use Rattle.std.proofs.lemmas.List.{take_rest}
 use Rattle.archive_core.specs.Key.{key_bytes}
 use Rattle.archive_records.proofs.Holds.{holds, whole-retirement, whole-admission}
 use Rattle.archive_records.proofs.Forms.{retires, admits}
+use Rattle.archive_records.specs.declared.kind.FileKind.TheVariants.{Archive}
 use Rattle.archive_records.proofs.next.test_slice.Goals as goal
 
 pub bounds-bytes-0 : goal.bounds-bytes-0
-bounds-bytes-0 c = omega (arith, (holds c.requires.whole.0 c.args.bytes.now (length c.args.bytes.now) c.requires.whole.1).one)
+bounds-bytes-0 c = omega (arith, (holds Archive c.args.bytes.now (length c.args.bytes.now) c.requires.whole).one)
 
 pub key_in-key-requires : goal.key_in-key-requires
-key_in-key-requires c = omega (arith, whole-retirement c.requires.whole.0 c.args.bytes.now c.requires.whole.1 c.if-bytes-eq-RETIREMENT.true)
+key_in-key-requires c = omega (arith, whole-retirement Archive c.args.bytes.now c.requires.whole c.if-bytes-eq-RETIREMENT.true)
 
 pub returns-then-bytes-eq-RETIREMENT-clause-known : goal.returns-then-bytes-eq-RETIREMENT-clause-known
 returns-then-bytes-eq-RETIREMENT-clause-known c =
-    inr (retires c.requires.whole.0 c.args.bytes.now c.key_in-key.result c.requires.whole.1 c.if-bytes-eq-RETIREMENT.true c.key_in-key.ensures.bytes c.key_in-key.ensures.widths)
+    inr (retires c.args.bytes.now c.key_in-key.result c.requires.whole c.if-bytes-eq-RETIREMENT.true c.key_in-key.ensures.bytes c.key_in-key.ensures.widths)
 
 pub slice_bounds-check-count : goal.slice_bounds-check-count
-slice_bounds-check-count c = omega (arith, (whole-admission c.requires.whole.0 c.args.bytes.now c.requires.whole.1 c.requires.item c.if-bytes-eq-RETIREMENT.false).1)
+slice_bounds-check-count c = omega (arith, (whole-admission Archive c.args.bytes.now c.requires.whole c.requires.item c.if-bytes-eq-RETIREMENT.false).1)
 
 pub slice_bounds-check-start : goal.slice_bounds-check-start
-slice_bounds-check-start c = omega (arith, (whole-admission c.requires.whole.0 c.args.bytes.now c.requires.whole.1 c.requires.item c.if-bytes-eq-RETIREMENT.false).1)
+slice_bounds-check-start c = omega (arith, (whole-admission Archive c.args.bytes.now c.requires.whole c.requires.item c.if-bytes-eq-RETIREMENT.false).1)
 
 pub returns-then-has_key-clause-known : goal.returns-then-has_key-clause-known
 returns-then-has_key-clause-known c =
-    let form = whole-admission c.requires.whole.0 c.args.bytes.now c.requires.whole.1 c.requires.item c.if-bytes-eq-RETIREMENT.false in
+    let form = whole-admission Archive c.args.bytes.now c.requires.whole c.requires.item c.if-bytes-eq-RETIREMENT.false in
     let v = rw take_rest at c.in-Ok.ensures.valid in
     let k = rw take_rest at c.in-Ok.ensures.key in
     inl (admits c.args.bytes.now form v (c.if-has_key.ensures.0 refl ∙ ap key_bytes k) (λ i. omega (arith, c.type_inv.bytes i)))
 
 pub returns-else-has_key-clause-refused : goal.returns-else-has_key-clause-refused
 returns-else-has_key-clause-refused c =
-    let form = whole-admission c.requires.whole.0 c.args.bytes.now c.requires.whole.1 c.requires.item c.if-bytes-eq-RETIREMENT.false in
+    let form = whole-admission Archive c.args.bytes.now c.requires.whole c.requires.item c.if-bytes-eq-RETIREMENT.false in
     let v = rw take_rest at c.in-Ok.ensures.valid in
     let k = rw take_rest at c.in-Ok.ensures.key in
     (form.0, v, λ e. false≢true (c.if-has_key.ensures.1 (e ∙ sym (ap key_bytes k))))
 
 pub returns-in-Err-clause-refused : goal.returns-in-Err-clause-refused
 returns-in-Err-clause-refused c =
-    let form = whole-admission c.requires.whole.0 c.args.bytes.now c.requires.whole.1 c.requires.item c.if-bytes-eq-RETIREMENT.false in
+    let form = whole-admission Archive c.args.bytes.now c.requires.whole c.requires.item c.if-bytes-eq-RETIREMENT.false in
     (form.0, rw take_rest at c.in-Err.ensures.faulty)

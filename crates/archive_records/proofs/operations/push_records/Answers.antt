@@ -25,6 +25,7 @@ pushing-preserved g c =
     let pushed = rw c.deref.ensures.value at c.in_default.ensures in
     record {
       lists = λ a start. Lists-grows a _ _ _ _ c.pushing.reader c.advance.new.self (λ records. c.in-Ok-false.ensures.item c.in-Ok-false.field-0-test Operations a records) pushed (c.pushing.invariant.lists a start);
+      operations = c.advance.ensures.same ∙ c.pushing.invariant.operations;
       room = c.in-Ok-false.ensures.room;
       few = c.in-Ok-false.ensures.few;
       fits = fits;

@@ -25,6 +25,7 @@ taking-preserved g c =
     record {
       makes = λ a start. Makes-grows a _ _ _ _ c.taking.reader c.advance.new.self (λ records. c.in-Ok-false.ensures.item c.in-Ok-false.field-0-test Archive a records)
           taken (c.taking.invariant.makes a start);
+      archive = c.advance.ensures.same ∙ c.taking.invariant.archive;
       room = c.in-Ok-false.ensures.room;
       few = c.in-Ok-false.ensures.few;
       fits = fits;
