@@ -1,7 +1,7 @@
 -- From the bytes that were read to the whole input.
 use Rattle.std.proofs.Common.{◌≡◌, ◌≢◌, ℕ, ◌<◌, ◌^◌, true, List, [], ◌∷◌, ◌++◌, length, Option, Some, None, Result, Ok, Err, refl, sym, ap, ◌∙◌, subst, arith, inl, inr, ◌⊎◌, append_assoc, length-append}
 use Rattle.std.proofs.lemmas.List.{append-nil, take-append-le}
-use Rattle.std.specs.Prelude.{IfOk, IfErr, IfSome, OnOk, MatchResult, All, map}
+use Rattle.std.specs.Prelude.{IfOk, IfErr, IfSome, OnOk, All, map}
 use Rattle.std.specs.List.{concat}
 use Rattle.std.specs.Io.KnownBytes.{Consumes, IsAtEnd}
 use Rattle.std.specs.Cmp.Lexicographic.{nat_list_cmp_total}
@@ -17,7 +17,8 @@ use Rattle.archive_records.specs.declared.fault.RecordFault.{RecordFault}
 use Rattle.archive_records.specs.Kind.{magic_of}
 use Rattle.archive_records.specs.Text.{ending, text_of, InOrder, last_of, written, IsOperationsText}
 use Rattle.archive_records.specs.Fault.{is_end, IsMagicFault, IsFaultBehind, IsUnended, IsOperationsFault, IsFaultOf, IsOfText}
-use Rattle.archive_records.specs.Front.{IsGoodFront, IsLongestLengthOf, front_length}
+use Rattle.archive_records.specs.Front.{IsGoodFront, IsFrontLengthOf, IsLongestLengthOf, front_length}
+use Rattle.archive_records.specs.Reads.{Blames, StandsBehind, IsRefused, IsOfMachine, ReadsWhole, ReadsFront}
 use Rattle.archive_records.specs.Reading.{FaultBlamesReader, seen_as, StopsInMagic, Stops, HasStopped, IsReadTo, AreRead}
 use Rattle.archive_records.proofs.Grown.{Fails-grows, IsTrailing-grows}
 use Rattle.archive_records.proofs.Longest.{Takes, fault-stops, end-stops, is_longest}
@@ -103,6 +104,9 @@ device_memory h = cc
 
 trailing_device : Trailing ≡ Device → ⊥
 trailing_device h = cc
+
+trailing_memory : Trailing ≡ OutOfMemory → ⊥
+trailing_memory h = cc
 
 module _ (file : FileKind) where
   behind_grows : (records : List (List ℕ)) (rest more : List ℕ) (fault : RecordFault) → fault.kind ≢ Truncated → IsFaultBehind file records rest fault → IsFaultBehind file records (rest ++ more) fault
@@ -205,67 +209,89 @@ module _ (file : FileKind) where
       let front : IsGoodFront file bytes records = record { ordered = s.1.ordered; rest = rest; whole = refl } in
       (bytes, s.1.taken, inr (records, is_longest file bytes records front (device_stops records rest fault e s.1.stops), device_offset records rest fault e s.1.stops))
 
-  pub read_device : {X : Type 0} (r : Result X RecordFault) (a b : Option (List ℕ)) → IfErr r (λ fault. HasStopped file a b fault) → IfErr r (λ fault. fault.kind ≡ Device → (bytes : List ℕ) × Consumes a b bytes × IsLongestLengthOf file bytes fault.offset)
-  read_device (Ok x) a b h = tt
-  read_device (Err fault) a b h = HasStopped-device a b fault h
+  -- ---- want of memory
 
-  pub read_refused : {X : Type 0} (r : Result X RecordFault) (a b : Option (List ℕ)) → IfErr r (λ fault. HasStopped file a b fault) → IfErr r (λ fault. fault.kind ≡ Truncated → IsAtEnd b) → IfErr r (λ fault. IsOfText fault.kind → IfSome a (λ t. IsFaultOf file t fault))
-  read_refused (Ok x) a b h e = tt
-  read_refused (Err fault) a b h e = HasStopped-fault a b fault h e
+  memory_magic : (bytes : List ℕ) (kind : RecordFaultKind) → kind ≡ OutOfMemory → StopsInMagic file bytes kind → length bytes < 8
+  memory_magic bytes kind e (inl m) = absurd (subst (IsMagicFault file bytes) e m)
+  memory_magic bytes kind e (inr (inl d)) = d.1
+  memory_magic bytes kind e (inr (inr d)) = d.1
+
+  memory_offset : (records : List (List ℕ)) (rest : List ℕ) (fault : RecordFault) → fault.kind ≡ OutOfMemory → Stops file records rest fault → fault.offset ≡ front_length records
+  memory_offset records rest fault e (inl f) = f.0
+  memory_offset records rest fault e (inr (inl t)) = absurd (trailing_memory (sym t.0 ∙ e))
+  memory_offset records rest fault e (inr (inr d)) = d.2
+
+  HasStopped-memory : (a b : Option (List ℕ)) (fault : RecordFault) → HasStopped file a b fault → fault.kind ≡ OutOfMemory → StandsBehind (IsFrontLengthOf file) a b fault.offset
+  HasStopped-memory a b fault (inl m) e = (m.0, m.1, inl (memory_magic m.0 fault.kind e m.2, m.3))
+  HasStopped-memory a b fault (inr s) e =
+      let records = s.0 in
+      let rest = s.1.rest in
+      let bytes : List ℕ = magic_of file ++ (concat records ++ rest) in
+      let front : IsGoodFront file bytes records = record { ordered = s.1.ordered; rest = rest; whole = refl } in
+      (bytes, s.1.taken, inr (records, front, memory_offset records rest fault e s.1.stops))
+
+  pub is_refused : {R : Type 0} (left : R → Option (List ℕ)) (failures : R → ℕ) (old new : R) (fault : RecordFault) → HasStopped file (left old) (left new) fault → Blames left failures old new fault.kind → IsRefused file left failures old new fault
+  is_refused left failures old new fault stopped blames = record {
+    blames = blames;
+    faulty = HasStopped-fault (left old) (left new) fault stopped blames.2;
+    device = HasStopped-device (left old) (left new) fault stopped;
+    memory = HasStopped-memory (left old) (left new) fault stopped;
+  }
 
 -- ---- an archive that is read
 
-module _ {X : Type 0} (content : X → Operations) where
-  pub read_found : (r : Result X RecordFault) (a b : Option (List ℕ)) → IfOk r (λ x. IsReadTo a b (content x)) → OnOk r (IsAtEnd b) → IfOk r (λ x. IfSome a (λ t. t ≡ written (content x)))
-  read_found (Ok x) a b h end = IsReadTo-text a b (content x) h end
-  read_found (Err fault) a b h end = tt
+-- the rest that is left behind the text of a content
+front_alone : (t : List ℕ) (b : Option (List ℕ)) (o p : Operations) (rest : List ℕ) → IsReadTo (Some t) b o → IsContent p → t ≡ written p ++ rest → (o ≡ p) × (b ≡ Some rest)
+front_alone t None o p rest h content is = absurd h.taken
+front_alone t (Some ys) o p rest h content is =
+    let same = one_front t o p ys rest (IsReadTo-content (Some t) (Some ys) o h) content (IsReadTo-taken (Some t) (Some ys) o h) is in
+    (same.0, ap (λ (y : List ℕ). Some y) same.1)
 
-  pub read_exactly : (r : Result X RecordFault) (a b : Option (List ℕ)) → IfOk r (λ x. IsReadTo a b (content x)) → IfOk r (λ x. Consumes a b (written (content x)))
-  read_exactly (Ok x) a b h = IsReadTo-taken a b (content x) h
-  read_exactly (Err fault) a b h = tt
+front_machine : (t : List ℕ) (b : Option (List ℕ)) (fault : RecordFault) (p : Operations) (rest : List ℕ) → HasStopped Archive (Some t) b fault → (fault.kind ≡ Truncated → IsAtEnd b) → (fault.kind ≡ Trailing → rest ≡ []) → IsContent p → t ≡ written p ++ rest → IsOfMachine fault.kind
+front_machine t b fault p rest stopped ended all content is =
+    machine_alone Archive t b (listing p) rest fault stopped ended (InOrder-listing p content) (is ∙ ap (λ (x : List ℕ). x ++ rest) (written_text p)) (λ h. absurd cc) all
 
-  pub read_content : (r : Result X RecordFault) (a b : Option (List ℕ)) → IfOk r (λ x. IsReadTo a b (content x)) → IfOk r (λ x. IsContent (content x))
-  read_content (Ok x) a b h = IsReadTo-content a b (content x) h
-  read_content (Err fault) a b h = tt
+whole_alone : (a b : Option (List ℕ)) (o : Operations) → IsReadTo a b o → IfSome a (λ t. (p : Operations) → IsContent p → t ≡ written p → o ≡ p)
+whole_alone None b o h = tt
+whole_alone (Some t) b o h = λ p content is. (front_alone t b o p [] h content (is ∙ sym (append-nil (written p)))).0
 
-  pub read_few : (r : Result X RecordFault) (a b : Option (List ℕ)) → IfOk r (λ x. IsReadTo a b (content x)) → IfOk r (λ x. set.len (content x) < 2 ^ 63)
-  read_few (Ok x) a b h = IsReadTo-few a b (content x) h
-  read_few (Err fault) a b h = tt
+whole_machine : (a b : Option (List ℕ)) (fault : RecordFault) → HasStopped Archive a b fault → (fault.kind ≡ Truncated → IsAtEnd b) → IfSome a (λ t. (p : Operations) → IsContent p → t ≡ written p → IsOfMachine fault.kind)
+whole_machine None b fault stopped ended = tt
+whole_machine (Some t) b fault stopped ended = λ p content is. front_machine t b fault p [] stopped ended (λ _. refl) content (is ∙ sym (append-nil (written p)))
 
-  -- the rest that is left behind the text of a content
-  front_is : (x : X) (t : List ℕ) (b : Option (List ℕ)) (o : Operations) (rest : List ℕ) → IsReadTo (Some t) b (content x) → IsContent o → t ≡ written o ++ rest → (content x ≡ o) × (b ≡ Some rest)
-  front_is x t None o rest h c is = absurd h.taken
-  front_is x t (Some ys) o rest h c is =
-      let same = one_front t (content x) o ys rest (IsReadTo-content (Some t) (Some ys) (content x) h) c (IsReadTo-taken (Some t) (Some ys) (content x) h) is in
-      (same.0, ap (λ (y : List ℕ). Some y) same.1)
+pub archive_whole : {R X : Type 0} (content : X → Operations) (left : R → Option (List ℕ)) (failures : R → ℕ) (old new : R) (r : Result X RecordFault)
+    → IfOk r (λ x. IsReadTo (left old) (left new) (content x)) → OnOk r (IsAtEnd (left new)) → IfErr r (λ fault. HasStopped Archive (left old) (left new) fault) → FaultBlamesReader left failures old new r
+    → ReadsWhole Archive content left failures old new r
+archive_whole content left failures old new (Ok x) h end stopped blames = record {
+  is = IsReadTo-content (left old) (left new) (content x) h;
+  few = IsReadTo-few (left old) (left new) (content x) h;
+  text = IsReadTo-text (left old) (left new) (content x) h end;
+  alone = whole_alone (left old) (left new) (content x) h;
+  at_end = end;
+  unfailed = blames;
+}
+archive_whole content left failures old new (Err fault) h end stopped blames = (is_refused Archive left failures old new fault stopped blames, whole_machine (left old) (left new) fault stopped blames.2)
 
-  front_only : (r : Result X RecordFault) (t : List ℕ) (b : Option (List ℕ)) (o : Operations) (rest : List ℕ) → IfOk r (λ x. IsReadTo (Some t) b (content x)) → IfErr r (λ fault. HasStopped Archive (Some t) b fault) → IfErr r (λ fault. fault.kind ≡ Truncated → IsAtEnd b)
-      → IfErr r (λ fault. fault.kind ≡ Trailing → rest ≡ []) → IsContent o → t ≡ written o ++ rest → MatchResult r (λ x. (content x ≡ o) × (b ≡ Some rest)) (λ fault. (fault.kind ≡ Device) ⊎ (fault.kind ≡ OutOfMemory))
-  front_only (Ok x) t b o rest h s e all c is = front_is x t b o rest h c is
-  front_only (Err fault) t b o rest h s e all c is =
-      machine_alone Archive t b (listing o) rest fault s e (InOrder-listing o c) (is ∙ ap (λ (x : List ℕ). x ++ rest) (written_text o)) (λ h. absurd cc) all
+front_of : (a b : Option (List ℕ)) (o : Operations) → IsReadTo a b o → IfSome a (λ input. (p : Operations) (text rest : List ℕ) → IsContent p → text ≡ written p → input ≡ text ++ rest → (o ≡ p) × (b ≡ Some rest))
+front_of None b o h = tt
+front_of (Some t) b o h = λ p text rest content is input. front_alone t b o p rest h content (input ∙ ap (λ (x : List ℕ). x ++ rest) is)
 
-  pub read_front_only : (r : Result X RecordFault) (a b : Option (List ℕ)) (o : Operations) (rest : List ℕ) → IfOk r (λ x. IsReadTo a b (content x)) → IfErr r (λ fault. HasStopped Archive a b fault) → IfErr r (λ fault. fault.kind ≡ Truncated → IsAtEnd b)
-      → IfErr r (λ fault. fault.kind ≡ Trailing → rest ≡ []) → IsContent o → IfSome a (λ t. t ≡ written o ++ rest → MatchResult r (λ x. (content x ≡ o) × (b ≡ Some rest)) (λ fault. (fault.kind ≡ Device) ⊎ (fault.kind ≡ OutOfMemory)))
-  read_front_only r None b o rest h s e all c = tt
-  read_front_only r (Some t) b o rest h s e all c = λ is. front_only r t b o rest h s e all c is
+fronts_machine : (a b : Option (List ℕ)) (fault : RecordFault) → HasStopped Archive a b fault → (fault.kind ≡ Truncated → IsAtEnd b) → fault.kind ≢ Trailing → IfSome a (λ input. (p : Operations) (text rest : List ℕ) → IsContent p → text ≡ written p → input ≡ text ++ rest → IsOfMachine fault.kind)
+fronts_machine None b fault stopped ended other = tt
+fronts_machine (Some t) b fault stopped ended other = λ p text rest content is input. front_machine t b fault p rest stopped ended (λ trailing. absurd (other trailing)) content (input ∙ ap (λ (x : List ℕ). x ++ rest) is)
 
-  content_alone : (r : Result X RecordFault) (o : Operations) (rest : List ℕ) (b : Option (List ℕ)) → MatchResult r (λ x. (content x ≡ o) × (b ≡ Some rest)) (λ fault. (fault.kind ≡ Device) ⊎ (fault.kind ≡ OutOfMemory)) → MatchResult r (λ x. content x ≡ o) (λ fault. (fault.kind ≡ Device) ⊎ (fault.kind ≡ OutOfMemory))
-  content_alone (Ok x) o rest b m = m.0
-  content_alone (Err fault) o rest b m = m
-
-  nothing_behind : (r : Result X RecordFault) (rest : List ℕ) → rest ≡ [] → IfErr r (λ fault. fault.kind ≡ Trailing → rest ≡ [])
-  nothing_behind (Ok x) rest e = tt
-  nothing_behind (Err fault) rest e = λ _. e
-
-  pub read_only : (r : Result X RecordFault) (a b : Option (List ℕ)) (o : Operations) → IfOk r (λ x. IsReadTo a b (content x)) → IfErr r (λ fault. HasStopped Archive a b fault) → IfErr r (λ fault. fault.kind ≡ Truncated → IsAtEnd b)
-      → IsContent o → IfSome a (λ t. t ≡ written o → MatchResult r (λ x. content x ≡ o) (λ fault. (fault.kind ≡ Device) ⊎ (fault.kind ≡ OutOfMemory)))
-  read_only r None b o h s e c = tt
-  read_only r (Some t) b o h s e c = λ is. content_alone r o [] b (front_only r t b o [] h s e (nothing_behind r [] refl) c (is ∙ sym (append-nil (written o))))
-
-pub not_trailing : {X : Type 0} (r : Result X RecordFault) (rest : List ℕ) → IfErr r (λ fault. fault.kind ≢ Trailing) → IfErr r (λ fault. fault.kind ≡ Trailing → rest ≡ [])
-not_trailing (Ok x) rest h = tt
-not_trailing (Err fault) rest h = λ t. absurd (h t)
+pub archive_front : {R X : Type 0} (content : X → Operations) (left : R → Option (List ℕ)) (failures : R → ℕ) (old new : R) (r : Result X RecordFault)
+    → IfOk r (λ x. IsReadTo (left old) (left new) (content x)) → IfErr r (λ fault. HasStopped Archive (left old) (left new) fault) → IfErr r (λ fault. fault.kind ≢ Trailing) → FaultBlamesReader left failures old new r
+    → ReadsFront Archive content left failures old new r
+archive_front content left failures old new (Ok x) h stopped other blames = record {
+  is = IsReadTo-content (left old) (left new) (content x) h;
+  few = IsReadTo-few (left old) (left new) (content x) h;
+  taken = (written (content x), refl, IsReadTo-taken (left old) (left new) (content x) h);
+  alone = front_of (left old) (left new) (content x) h;
+  unfailed = blames;
+}
+archive_front content left failures old new (Err fault) h stopped other blames =
+    (is_refused Archive left failures old new fault stopped blames, other, fronts_machine (left old) (left new) fault stopped blames.2 other)
 
 -- ---- operations that are read
 
@@ -276,37 +302,34 @@ one_operations t xs ys p q =
     let same = same_records Operations_file t (map rec ys) [] (InOrder-operations [] ys q.are) (text_is t ys q ∙ sym nil) (λ _. refl) (map rec xs) [] (InOrder-operations [] xs p.are) (λ _. refl) (text_is t xs p ∙ sym (append-nil (text_of Operations_file (map rec xs)))) in
     one_list xs ys p.are q.are same.0
 
-module _ {X : Type 0} (items : X → List Operation) where
-  pub ops_found : (r : Result X RecordFault) (a b : Option (List ℕ)) → IfOk r (λ x. AreRead a b (items x)) → IfOk r (λ x. IfSome a (λ t. IsOperationsText t (items x)))
-  ops_found (Err fault) a b h = tt
-  ops_found (Ok x) a b h = found a (all_taken a b (text_of Operations_file (map rec (items x))) h.taken h.at_end)
-    where
-      found : (a : Option (List ℕ)) → IfSome a (λ t. t ≡ text_of Operations_file (map rec (items x))) → IfSome a (λ t. IsOperationsText t (items x))
-      found None e = tt
-      found (Some t) e = IsOperationsText-text t (items x) h.are e
+operations_text : (a b : Option (List ℕ)) (xs : List Operation) → AreRead a b xs → IfSome a (λ t. IsOperationsText t xs)
+operations_text a b xs h = found a (all_taken a b (text_of Operations_file (map rec xs)) h.taken h.at_end)
+  where
+    found : (a : Option (List ℕ)) → IfSome a (λ t. t ≡ text_of Operations_file (map rec xs)) → IfSome a (λ t. IsOperationsText t xs)
+    found None e = tt
+    found (Some t) e = IsOperationsText-text t xs h.are e
 
-  pub ops_valid : (r : Result X RecordFault) (a b : Option (List ℕ)) → IfOk r (λ x. AreRead a b (items x)) → IfOk r (λ x. All IsOperation (items x))
-  ops_valid (Ok x) a b h = h.are
-  ops_valid (Err fault) a b h = tt
+operations_alone : (a b : Option (List ℕ)) (xs : List Operation) → AreRead a b xs → IfSome a (λ t. (ys : List Operation) → All IsOperation ys → IsOperationsText t ys → xs ≡ ys)
+operations_alone None b xs h = tt
+operations_alone (Some t) b xs h = λ ys _ text. one_operations t xs ys (operations_text (Some t) b xs h) text
 
-  pub ops_few : (r : Result X RecordFault) (a b : Option (List ℕ)) → IfOk r (λ x. AreRead a b (items x)) → IfOk r (λ x. length (items x) < 2 ^ 63)
-  ops_few (Ok x) a b h = h.few
-  ops_few (Err fault) a b h = tt
+operations_machine : (a b : Option (List ℕ)) (fault : RecordFault) → HasStopped Operations_file a b fault → (fault.kind ≡ Truncated → IsAtEnd b) → IfSome a (λ t. (ys : List Operation) → All IsOperation ys → IsOperationsText t ys → IsOfMachine fault.kind)
+operations_machine None b fault stopped ended = tt
+operations_machine (Some t) b fault stopped ended = λ ys _ text.
+    machine_alone Operations_file t b (map rec ys) [] fault stopped ended (InOrder-operations [] ys text.are) (text_is t ys text ∙ sym (append-nil (text_of Operations_file (map rec ys)))) (λ _. refl) (λ _. refl)
 
-  pub ops_at_end : (r : Result X RecordFault) (a b : Option (List ℕ)) → IfOk r (λ x. AreRead a b (items x)) → OnOk r (IsAtEnd b)
-  ops_at_end (Ok x) a b h = h.at_end
-  ops_at_end (Err fault) a b h = tt
-
-  ops_are : (r : Result X RecordFault) (t : List ℕ) (b : Option (List ℕ)) (xs : List Operation) → IfOk r (λ x. AreRead (Some t) b (items x)) → IfErr r (λ fault. HasStopped Operations_file (Some t) b fault) → IfErr r (λ fault. fault.kind ≡ Truncated → IsAtEnd b)
-      → IsOperationsText t xs → MatchResult r (λ x. items x ≡ xs) (λ fault. (fault.kind ≡ Device) ⊎ (fault.kind ≡ OutOfMemory))
-  ops_are (Ok x) t b xs h s e text = one_operations t (items x) xs (ops_found (Ok x) (Some t) b h) text
-  ops_are (Err fault) t b xs h s e text =
-      machine_alone Operations_file t b (map rec xs) [] fault s e (InOrder-operations [] xs text.are) (text_is t xs text ∙ sym (append-nil (text_of Operations_file (map rec xs)))) (λ _. refl) (λ _. refl)
-
-  pub ops_only : (r : Result X RecordFault) (a b : Option (List ℕ)) (xs : List Operation) → IfOk r (λ x. AreRead a b (items x)) → IfErr r (λ fault. HasStopped Operations_file a b fault) → IfErr r (λ fault. fault.kind ≡ Truncated → IsAtEnd b)
-      → IfSome a (λ t. IsOperationsText t xs → MatchResult r (λ x. items x ≡ xs) (λ fault. (fault.kind ≡ Device) ⊎ (fault.kind ≡ OutOfMemory)))
-  ops_only r None b xs h s e = tt
-  ops_only r (Some t) b xs h s e = λ text. ops_are r t b xs h s e text
+pub operations_whole : {R X : Type 0} (items : X → List Operation) (left : R → Option (List ℕ)) (failures : R → ℕ) (old new : R) (r : Result X RecordFault)
+    → IfOk r (λ x. AreRead (left old) (left new) (items x)) → IfErr r (λ fault. HasStopped Operations_file (left old) (left new) fault) → FaultBlamesReader left failures old new r
+    → ReadsWhole Operations_file items left failures old new r
+operations_whole items left failures old new (Ok x) h stopped blames = record {
+  is = h.are;
+  few = h.few;
+  text = operations_text (left old) (left new) (items x) h;
+  alone = operations_alone (left old) (left new) (items x) h;
+  at_end = h.at_end;
+  unfailed = blames;
+}
+operations_whole items left failures old new (Err fault) h stopped blames = (is_refused Operations_file left failures old new fault stopped blames, operations_machine (left old) (left new) fault stopped blames.2)
 
 -- and it has no fault: behind it nothing is left
 pub operations_no_fault : (t : List ℕ) (xs : List Operation) (fault : RecordFault) → IsOperationsText t xs → IsOperationsFault t fault → ⊥
@@ -317,8 +340,3 @@ operations_no_fault t xs fault p (inr f) =
   where
     apart : Operations_file ≡ Archive → ⊥
     apart h = cc
-
--- where the input was cut the reader is at its end
-pub cut_at_end : {R X : Type 0} (left : R → Option (List ℕ)) (failures : R → ℕ) (old new : R) (r : Result X RecordFault) → FaultBlamesReader left failures old new r → IfErr r (λ fault. fault.kind ≡ Truncated → IsAtEnd (left new))
-cut_at_end left failures old new (Ok x) h = tt
-cut_at_end left failures old new (Err fault) h = h.2

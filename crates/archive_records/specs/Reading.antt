@@ -1,11 +1,10 @@
--- Records that are read from a source one over the other.
+-- Records that are read from a source one over the other: the words of the inner functions. No contract of a public one has them.
 use Rattle.std.specs.Prelude.{◌≡◌, ◌≢◌, ℕ, ◌+◌, ◌^◌, ◌<◌, List, [], ◌++◌, length, take, drop, map, All, Option, Result, MatchResult, ◌⊎◌}
 use Rattle.std.specs.List.{concat}
 use Rattle.std.specs.Ordering.{nat_cmp}
 use Rattle.std.specs.Cmp.Lexicographic.{slice_cmp}
 use Rattle.std.specs.FinSet as set
 use Rattle.std.specs.Io.KnownBytes.{Consumes, IsAtEnd}
-use Rattle.byte_device.specs.Devices.{FailedIn}
 use Rattle.archive_core.specs.declared.operations.Operation.{Operation}
 use Rattle.archive_core.specs.Record.{IsOperation, rec}
 use Rattle.archive_core.specs.Content.{Operations}
@@ -20,6 +19,7 @@ use Rattle.archive_records.specs.Kind.{magic_of}
 use Rattle.archive_records.specs.Text.{end_record, text_of, InOrder, last_of}
 use Rattle.archive_records.specs.Fault.{Fails, IsTrailing, IsMagicFault, IsUnended, IsOfText}
 use Rattle.archive_records.specs.Front.{front_length}
+use Rattle.archive_records.specs.Reads.{Blames}
 
 -- the bytes of the next record that came
 abbrev pub bytes_so_far : Buffer → List ℕ
@@ -43,12 +43,6 @@ seen_as BadCount = BadCount
 seen_as Trailing = Trailing
 seen_as Device = Truncated
 seen_as OutOfMemory = Truncated
-
--- What a fault says of the reader in the call, which stood so before it and so after it: that it failed, if this is `Device`, and else
--- that it did not; and if this is `Truncated`, that it is at its end.
-abbrev pub Blames : {R : Type 0} → (R → Option (List ℕ)) → (R → ℕ) → R → R → RecordFaultKind → Type 0
-Blames left failures old new kind =
-    (kind ≡ Device → FailedIn (failures old) (failures new)) × (kind ≢ Device → failures new ≡ failures old) × (kind ≡ Truncated → IsAtEnd (left new))
 
 -- What a result says of the reader: on success it did not fail, and else what the fault says.
 abbrev pub BlamesReader : {R T : Type 0} → (R → Option (List ℕ)) → (R → ℕ) → R → R → Result T RecordFaultKind → Type 0

@@ -1,15 +1,10 @@
 //! Operations files that are read from a source.
 
-ghost use Rattle.std.specs.Prelude.{◌≡◌, ◌⊎◌, ◌+◌, ◌*◌, ◌<◌, ◌≤◌, ◌^◌, ◌∷◌, ◌++◌, ℕ, List, Option, [], All, length, OnOk, IfOk, IfErr, IfSome, MatchResult};
-ghost use Rattle.std.specs.Io.KnownBytes.{Consumes, IsAtEnd};
-ghost use Rattle.byte_device.specs.Devices.{FailedIn};
+ghost use Rattle.std.specs.Prelude.{◌≡◌, ◌+◌, ◌*◌, ◌<◌, ◌≤◌, ◌^◌, ◌∷◌, ◌++◌, ℕ, List, Option, [], length, OnOk, IfOk, IfErr};
 ghost use Rattle.archive_core.specs.declared.operations.Operation.{Operation};
 ghost use Rattle.archive_core.specs.Record.{rec, IsRecord, IsOperation};
-ghost use Rattle.archive_records.specs.declared.fault.RecordFaultKind.TheVariants.{Truncated, Device, OutOfMemory};
 ghost use Rattle.archive_records.specs.declared.kind.FileKind.TheVariants.{Operations};
-ghost use Rattle.archive_records.specs.Text.{IsOperationsText};
-ghost use Rattle.archive_records.specs.Fault.{IsOperationsFault, IsOfText};
-ghost use Rattle.archive_records.specs.Front.{IsFrontLengthOf, IsLongestLengthOf};
+ghost use Rattle.archive_records.specs.Reads.{ReadsWhole};
 ghost use Rattle.archive_records.specs.Reading.{FaultBlamesReader, HasStopped, Lists, AreRead};
 
 use crate::fault::RecordFault;
@@ -99,28 +94,10 @@ fn list_taken<R: Source>(heap: Heap, r: &mut R) -> Result<Vec<Operation, Heap>, 
 ///
 /// # Errors
 ///
-/// Those of [`crate::read_archive`], in the same order, but for NotAscending, BadCount and Trailing: such a file has no
-/// order and no end record, and the tag 3 is BadTag.
+/// Those of [`crate::read_archive`], in the same order and with the same offsets, but for NotAscending, BadCount and
+/// Trailing: such a file has no order and no end record, and the tag 3 is BadTag.
 pub fn read_ops<R: Source>(heap: Heap, r: &mut R) -> Result<Vec<Operation, Heap>, RecordFault>
-    // The whole input is the text of the operations that are listed.
-    ensures found { IfOk result (λ operations. IfSome (R.left r.old) (λ text. IsOperationsText text operations.items)) }
-    ensures valid { IfOk result (λ operations. All IsOperation operations.items) }
-    ensures few { IfOk result (λ operations. length operations.items < 2 ^ 63) }
-    ensures at_end { OnOk result (IsAtEnd (R.left r.new)) }
-
-    // Where neither the device nor memory failed, the fault is that of the whole input.
-    ensures refused { IfErr result (λ fault. IsOfText fault.kind → IfSome (R.left r.old) (λ text. IsOperationsFault text fault)) }
-
-    // The text of operations gives them, and is refused for the device and for memory alone.
-    ensures only { (operations : List Operation) → IfSome (R.left r.old) (λ text. IsOperationsText text operations → MatchResult result (λ read. read.items ≡ operations) (λ fault. (fault.kind ≡ Device) ⊎ (fault.kind ≡ OutOfMemory))) }
-
-    // Truncated comes only where the reader told its end, Device where it failed, and everything else where it did not.
-    ensures reader { FaultBlamesReader R.left R.failures r.old r.new result }
-
-    // The offset of Device is the length of the longest good front of what was read, that of OutOfMemory the length of a
-    // good front; both are 0 before the magic was read.
-    ensures device_offset { IfErr result (λ fault. fault.kind ≡ Device → (bytes : List ℕ) × Consumes (R.left r.old) (R.left r.new) bytes × IsLongestLengthOf Operations bytes fault.offset) }
-    ensures memory_offset { IfErr result (λ fault. fault.kind ≡ OutOfMemory → (bytes : List ℕ) × Consumes (R.left r.old) (R.left r.new) bytes × IsFrontLengthOf Operations bytes fault.offset) }
+    ensures { ReadsWhole Operations (λ operations. operations.items) R.left R.failures r.old r.new result }
 {
     list_taken(heap, r)
 }

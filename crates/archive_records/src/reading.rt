@@ -1,16 +1,12 @@
 //! Archives that are read from a source.
 
-ghost use Rattle.std.specs.Prelude.{◌≡◌, ◌≢◌, ◌⊎◌, ◌+◌, ◌*◌, ◌<◌, ◌≤◌, ◌^◌, ◌++◌, ℕ, List, Option, Some, length, slice_index, OnOk, IfOk, IfErr, IfSome, MatchResult};
-ghost use Rattle.std.specs.FinSet as set;
-ghost use Rattle.std.specs.Io.KnownBytes.{Consumes, IsAtEnd};
-ghost use Rattle.byte_device.specs.Devices.{FailedIn};
+ghost use Rattle.std.specs.Prelude.{◌≡◌, ◌≢◌, ◌+◌, ◌*◌, ◌<◌, ◌≤◌, ◌^◌, ℕ, List, Option, length, OnOk, IfOk, IfErr};
+ghost use Rattle.std.specs.Io.KnownBytes.{IsAtEnd};
 ghost use Rattle.archive_core.specs.Record.{rec, IsRecord, IsOperation};
-ghost use Rattle.archive_core.specs.Content.{Operations, IsContent, with_record};
-ghost use Rattle.archive_records.specs.declared.fault.RecordFaultKind.TheVariants.{Truncated, Trailing, Device, OutOfMemory};
+ghost use Rattle.archive_core.specs.Content.{with_record};
+ghost use Rattle.archive_records.specs.declared.fault.RecordFaultKind.TheVariants.{Trailing};
 ghost use Rattle.archive_records.specs.declared.kind.FileKind.TheVariants.{Archive};
-ghost use Rattle.archive_records.specs.Text.{written};
-ghost use Rattle.archive_records.specs.Fault.{IsFault, IsOfText};
-ghost use Rattle.archive_records.specs.Front.{IsFrontLength, IsLongestLength};
+ghost use Rattle.archive_records.specs.Reads.{ReadsWhole, ReadsFront};
 ghost use Rattle.archive_records.specs.Reading.{FaultBlamesReader, HasStopped, Makes, MakesAll, IsReadTo};
 
 use crate::fault::RecordFault;
@@ -141,34 +137,18 @@ fn read_first<A: Archive + Drop, R: Source>(heap: Heap, r: &mut R) -> Result<A, 
     Ok(archive)
 }
 
-/// Reads an archive: the whole input is its text. The pieces in which the reader gives its bytes do not matter. A fault
-/// leaves no archive, and how much of a faulty input was read is not promised.
+/// Reads an archive: the whole input is the one text of its content. The pieces in which the reader gives its bytes do not
+/// matter. A fault leaves no archive, and how much of a faulty input was read is not promised.
 ///
 /// # Errors
 ///
 /// Each kind of `RecordFaultKind`; within a record they are found in the order of its tests: BadTag, Truncated inside the
 /// head, TooLarge, Truncated inside the slice, NotAscending, BadSlice, KeyMismatch; for an end record Truncated, BadCount,
-/// Trailing.
+/// Trailing. Truncated comes only where the reader told its end, Device where it failed, and everything else where it did
+/// not. The offset of Device is the length of the longest good front of what was read, that of OutOfMemory the length of a
+/// good front; both are 0 before the magic was read.
 pub fn read_archive<A: Archive + Drop, R: Source>(heap: Heap, r: &mut R) -> Result<A, RecordFault>
-    // What is read is the one text of the archive's content.
-    ensures found { IfOk result (λ archive. IfSome (R.left r.old) (λ text. text ≡ written (A.content archive))) }
-    ensures content { IfOk result (λ archive. IsContent (A.content archive)) }
-    ensures few { IfOk result (λ archive. set.len (A.content archive) < 2 ^ 63) }
-    ensures at_end { OnOk result (IsAtEnd (R.left r.new)) }
-
-    // Where neither the device nor memory failed, the fault is that of the whole input.
-    ensures refused { IfErr result (λ fault. IsOfText fault.kind → IfSome (R.left r.old) (λ text. IsFault text fault)) }
-
-    // The text of a content gives that content, and is refused for the device and for memory alone.
-    ensures only { (o : Operations) → IsContent o → IfSome (R.left r.old) (λ text. text ≡ written o → MatchResult result (λ archive. A.content archive ≡ o) (λ fault. (fault.kind ≡ Device) ⊎ (fault.kind ≡ OutOfMemory))) }
-
-    // Truncated comes only where the reader told its end, Device where it failed, and everything else where it did not.
-    ensures reader { FaultBlamesReader R.left R.failures r.old r.new result }
-
-    // The offset of Device is the length of the longest good front of what was read, that of OutOfMemory the length of a
-    // good front; both are 0 before the magic was read.
-    ensures device_offset { IfErr result (λ fault. fault.kind ≡ Device → (bytes : List ℕ) × Consumes (R.left r.old) (R.left r.new) bytes × IsLongestLength bytes fault.offset) }
-    ensures memory_offset { IfErr result (λ fault. fault.kind ≡ OutOfMemory → (bytes : List ℕ) × Consumes (R.left r.old) (R.left r.new) bytes × IsFrontLength bytes fault.offset) }
+    ensures { ReadsWhole Archive A.content R.left R.failures r.old r.new result }
 {
     read_whole(heap, r)
 }
@@ -179,27 +159,9 @@ pub fn read_archive<A: Archive + Drop, R: Source>(heap: Heap, r: &mut R) -> Resu
 ///
 /// # Errors
 ///
-/// Those of [`read_archive`] but for Trailing, in the same order.
+/// Those of [`read_archive`] but for Trailing, in the same order and with the same offsets.
 pub fn read_front<A: Archive + Drop, R: Source>(heap: Heap, r: &mut R) -> Result<A, RecordFault>
-    // What is taken is the one text of the archive's content.
-    ensures taken { IfOk result (λ archive. Consumes (R.left r.old) (R.left r.new) (written (A.content archive))) }
-    ensures content { IfOk result (λ archive. IsContent (A.content archive)) }
-    ensures few { IfOk result (λ archive. set.len (A.content archive) < 2 ^ 63) }
-
-    // Where neither the device nor memory failed, the fault is that of the input, and it is never Trailing.
-    ensures refused { IfErr result (λ fault. IsOfText fault.kind → IfSome (R.left r.old) (λ text. IsFault text fault)) }
-    ensures no_trailing { IfErr result (λ fault. fault.kind ≢ Trailing) }
-
-    // An input that begins with the text of a content gives that content and leaves the rest, and is refused for the device
-    // and for memory alone.
-    ensures only { (o : Operations) (rest : List ℕ) → IsContent o → IfSome (R.left r.old) (λ text. text ≡ written o ++ rest → MatchResult result (λ archive. (A.content archive ≡ o) × (R.left r.new ≡ Some rest)) (λ fault. (fault.kind ≡ Device) ⊎ (fault.kind ≡ OutOfMemory))) }
-
-    // Truncated comes only where the reader told its end, Device where it failed, and everything else where it did not.
-    ensures reader { FaultBlamesReader R.left R.failures r.old r.new result }
-
-    // The offsets of Device and OutOfMemory are those of `read_archive`.
-    ensures device_offset { IfErr result (λ fault. fault.kind ≡ Device → (bytes : List ℕ) × Consumes (R.left r.old) (R.left r.new) bytes × IsLongestLength bytes fault.offset) }
-    ensures memory_offset { IfErr result (λ fault. fault.kind ≡ OutOfMemory → (bytes : List ℕ) × Consumes (R.left r.old) (R.left r.new) bytes × IsFrontLength bytes fault.offset) }
+    ensures { ReadsFront Archive A.content R.left R.failures r.old r.new result }
 {
     read_first(heap, r)
 }
