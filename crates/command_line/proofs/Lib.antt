@@ -1,6 +1,8 @@
 pub mod CommandLemmas
+pub mod Filled
 pub mod FormLemmas
 pub mod KeptInputs
 pub mod OnWords
 pub mod Simple
+pub mod Taken
 pub mod ToldLemmas

@@ -6,7 +6,7 @@ use Rattle.uuid.proofs.OnLiterals.{uuid_on_literals}
 use Rattle.clap.specs.declared.error.kind.ErrorKind.TheVariants as kind
 use Rattle.clap.proofs.OnLiterals.{clap_on_literals}
 use Rattle.command_line.specs.Commands.{symarch_command}
-use Rattle.command_line.specs.Lines.{admit, are_taken, error_kinds, find, line_of, merge, new}
+use Rattle.command_line.specs.Lines.{admit, are_taken, error_kinds, find, is_in_order, line_of, merge, new}
 use Rattle.command_line.specs.Lines.{named_command, retire, symbolicate}
 use Rattle.command_line.specs.Words.{address_of, arch_key, arch_of, digest_of}
 
@@ -70,6 +70,27 @@ out_is_file = refl
 out_is_last_file : line_of (symarch (codes "admit" ∷ codes "i" ∷ codes "o" ∷ codes "f" ∷ codes "o" ∷ [])) ≡ None
 unfolding named_command symarch_command clap_on_literals
 out_is_last_file = refl
+
+-- ---- lines that are in order
+
+admit_in_order : is_in_order (symarch (codes "admit" ∷ codes "i" ∷ codes "o" ∷ codes "f" ∷ [])) ≡ true
+unfolding named_command symarch_command clap_on_literals
+admit_in_order = refl
+
+-- of a value that is missing nothing is asked: `clap` refuses the line
+file_missing_in_order : is_in_order (symarch (codes "admit" ∷ codes "i" ∷ codes "o" ∷ [])) ≡ true
+unfolding named_command symarch_command clap_on_literals
+file_missing_in_order = refl
+
+-- OUT is the last FILE
+out_is_last_in_order : is_in_order (symarch (codes "admit" ∷ codes "i" ∷ codes "o" ∷ codes "f" ∷ codes "o" ∷ [])) ≡ false
+unfolding named_command symarch_command clap_on_literals
+out_is_last_in_order = refl
+
+-- a UUID of another form
+no_uuid_in_order : is_in_order (symarch (codes "find" ∷ codes "a" ∷ codes "x86_64" ∷ [])) ≡ false
+unfolding named_command symarch_command clap_on_literals uuid_on_literals
+no_uuid_in_order = refl
 
 -- ---- the other commands
 

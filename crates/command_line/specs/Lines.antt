@@ -1,7 +1,8 @@
 -- What a command line asks for.
-use Rattle.std.specs.Prelude.{ℕ, Bool, List, [], ◌∷◌, map, Contains, ⊤, codes, string_bytes}
-use Rattle.std.specs.Prelude.{Option, Some, None, option_and_then, option_map, if◌then◌else◌}
-use Rattle.std.specs.List.{list_any}
+use Rattle.std.specs.Prelude.{ℕ, Bool, true, not, ◌&&◌, List, [], ◌∷◌, ◌++◌, map, Contains, ⊤, codes, string_bytes}
+use Rattle.std.specs.Prelude.{Option, Some, None, is_some, option_and_then, option_map, unwrap_or, if◌then◌else◌}
+use Rattle.std.specs.List.{list_all, list_any}
+use Rattle.std.specs.Option.{option_map_or}
 use Rattle.std.specs.Str.{bytes_eq}
 use Rattle.clap.specs.Words.{Kinds, Row, Text, all_of, fault_of, first_of, subcommand_of, takes}
 use Rattle.uuid.specs.Text.{parsed}
@@ -145,6 +146,37 @@ line_in p =
 -- what the words ask for, where each value is there and has its form, and OUT is no input
 abbrev pub line_of : List Text → Option Line
 line_of words = option_and_then line_in (named_command words)
+
+-- ---- lines that are in order
+
+-- the words at this name
+abbrev pub words_at : Text → List Row → List Text
+words_at id rows = unwrap_or (all_of id rows) []
+
+-- each word at this name has the form
+abbrev pub has_form : {X : Type 0} → (Text → Option X) → Text → List Row → Bool
+has_form form id rows = list_all (λ word. is_some (form word)) (words_at id rows)
+
+-- each value has the form that its name asks for
+abbrev pub have_forms : List Row → Bool
+have_forms rows = has_form parsed (codes "UUID") rows && (has_form arch_of (codes "ARCH") rows
+    && (has_form digest_of (codes "DIGEST") rows && (has_form address_of (codes "HEX") rows
+    && has_form address_of (codes "ADDRESS") rows)))
+
+-- the paths of the inputs
+abbrev pub inputs_at : List Row → List Text
+inputs_at rows = words_at (codes "IN") rows ++ (words_at (codes "FILE") rows ++ words_at (codes "OPS") rows)
+
+-- OUT's path is no input's, as text
+abbrev pub spares_inputs : List Row → Bool
+spares_inputs rows = list_all (λ out. not (is_path_among out (inputs_at rows))) (words_at (codes "OUT") rows)
+
+-- of what stands at the names of the command that the words name, each value has its form, and OUT's path is no input's
+abbrev pub is_in_order : List Text → Bool
+is_in_order words =
+    option_map_or (λ p. have_forms p.1 && spares_inputs p.1) (named_command words) true
+
+-- ---- plans
 
 -- what a plan asks for
 abbrev pub plan_view : Plan → Line

@@ -3,8 +3,8 @@
 ghost use Rattle.std.specs.Prelude.{◌≡◌, IfErr, IfOk, IsErrAnd, IsSome, OnOk, Some, [], ◌∷◌};
 ghost use Rattle.std.specs.Prelude.{map, option_map, true};
 ghost use Rattle.clap.specs.Words.{IsAmong, found_of, rows_of, subcommand_rows_of};
-ghost use Rattle.command_line.specs.Lines.{KeepsInputs, admit_line, are_taken, error_kinds, line_in};
-ghost use Rattle.command_line.specs.Lines.{line_of, named_command, new_line, plan_view};
+ghost use Rattle.command_line.specs.Lines.{KeepsInputs, are_taken, error_kinds, is_in_order, line_in};
+ghost use Rattle.command_line.specs.Lines.{line_of, named_command, plan_view};
 ghost use Rattle.command_line.specs.Told.{IsHelpUnlessMemory, IsRefusalUnlessMemory};
 
 use crate::commands::symarch_command;
@@ -79,9 +79,9 @@ pub fn plan<S: AsStr>(alloc: Global, words: &[S]) -> Result<Plan, LineFault>
     ensures taken { OnOk result (error_kinds (map S.text words.now) ≡ []) }
     ensures keeps_inputs { IfOk result (λ p. KeepsInputs (plan_view p)) }
 
-    // A line that `clap` takes, and that asks for something, is refused for memory alone.
+    // A line that `clap` takes, in which each value has its form and OUT's path is no input's, is refused for memory alone.
     ensures err { are_taken (map S.text words.now) ≡ true
-        → IsSome (line_of (map S.text words.now))
+        → is_in_order (map S.text words.now) ≡ true
         → IfErr result (λ e. e ≡ LineFault.OutOfMemory) }
     ensures help { error_kinds (map S.text words.now) ≡ ErrorKind.DisplayHelp ∷ []
         → IsErrAnd result IsHelpUnlessMemory }

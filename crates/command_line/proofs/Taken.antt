@@ -1,0 +1,455 @@
+-- A line that `clap` takes names a command, with a value at each name that has to have one.
+use Rattle.std.proofs.Common.{◌≡◌, ◌∙◌, ◌&&◌, ◌||◌, ◌++◌, ℕ, Bool, true, false, not, cond, refl, sym, ap, ap₂, subst}
+use Rattle.std.proofs.Common.{List, [], ◌∷◌, Option, Some, None, IsSome, is_some, option_map, true≢false, codes, if◌then◌else◌}
+use Rattle.std.specs.Prelude.{find, option_and_then, slice_get, unwrap_or}
+use Rattle.std.specs.List.{list_all, list_any}
+use Rattle.std.specs.Option.{option_map_or}
+use Rattle.std.specs.Str.{bytes_eq}
+use Rattle.std.proofs.lemmas.List.Folds.{list_any-append}
+use Rattle.std.proofs.lemmas.Slice.Eq.{bytes_eq-Decides}
+use Rattle.uuid.specs.Text.{parsed}
+use Rattle.clap.specs.Words.{App, Row, Rule, Shape, Text, all_of, built, first_of, subcommand_of, takes}
+use Rattle.clap.specs.Facts.{explicit_source}
+use Rattle.clap.specs.Walk.{answers_to, is_empty, nothing_held, rows_after, stop_after, walk}
+use Rattle.clap.specs.Simple.{argument_words, entered, is_simple, label_of, names_of, rows_at}
+use Rattle.clap.specs.Takes.{built_takes, entered_passes, is_given, is_valid, level_passes}
+use Rattle.clap.proofs.SimpleLemmas.{is_nil}
+use Rattle.clap.proofs.WalkLemmas.{both}
+use Rattle.archive_core.specs.declared.keys.ArchKey.{ArchKey}
+use Rattle.archive_core.specs.declared.keys.Digest.{Digest}
+use Rattle.command_line.specs.Commands.{symarch_command}
+use Rattle.command_line.specs.Lines.{Line, admit, admit_line, admit_of, all_spelled, all_spelled_at, apply, apply_line, apply_of, are_taken}
+use Rattle.command_line.specs.Lines.{find_line, find_of, has_form, have_forms, inputs_at, is_in_order, is_path_among, kept, line_in}
+use Rattle.command_line.specs.Lines.{line_of, merge, merge_line, merge_of, named_command, new, new_line, optional_at, retire, retire_line, retire_of}
+use Rattle.command_line.specs.Lines.{spares_inputs, spelled_at, spelled_if_there, symbolicate, symbolicate_line, symbolicate_of, words_at}
+use Rattle.command_line.specs.Words.{address_of, arch_of, digest_of}
+use Rattle.command_line.proofs.Filled.{Level, are_filled, found_passes, is_filled, lets_name, lets_stop, level, want_values}
+
+-- ---- tests
+
+one_of_two : (a b : Bool) → (a || b) ≡ true → a ≡ false → b ≡ true
+one_of_two true b is none = absurd (true≢false none)
+one_of_two false b is none = is
+
+first_of_two : (a b : Bool) → (a || b) ≡ true → b ≡ false → a ≡ true
+first_of_two true b is none = refl
+first_of_two false b is none = absurd (true≢false (sym is ∙ none))
+
+neither : (a b : Bool) → (a || b) ≡ false → (a ≡ false) × (b ≡ false)
+neither true b is = absurd (true≢false is)
+neither false b is = (refl, is)
+
+given_if : (a b : Bool) → (not a || b) ≡ true → a ≡ true → b ≡ true
+given_if true b is there = is
+given_if false b is there = absurd (true≢false (sym there))
+
+none_in_front : (xs ys : List Text) (p : Text → Bool) → list_any p (xs ++ ys) ≡ false
+    → (list_any p xs ≡ false) × (list_any p ys ≡ false)
+none_in_front xs ys p none = neither (list_any p xs) (list_any p ys) (sym (list_any-append p xs ys) ∙ none)
+
+is_false : (b : Bool) → not b ≡ true → b ≡ false
+is_false true is = absurd (true≢false (sym is))
+is_false false is = refl
+
+some_of : {X : Type 0} (o : Option X) → is_some o ≡ true → (x : X) × (o ≡ Some x)
+some_of None is = absurd (true≢false (sym is))
+some_of (Some x) is = (x, refl)
+
+found_holds : {X : Type 0} (q : X → Bool) (xs : List X) (x : X) → find q xs ≡ Some x → q x ≡ true
+found_holds q [] x is = cc
+found_holds q (y ∷ ys) x is = go (q y) refl (found_holds q ys x) is
+  where
+    go : (b : Bool) → q y ≡ b → (find q ys ≡ Some x → q x ≡ true) → cond b (Some y) (find q ys) ≡ Some x → q x ≡ true
+    go true holds after here = let same : y ≡ x = cc in ap q (sym same) ∙ holds
+    go false fails after there = after there
+
+-- ---- what stands at a name
+
+-- a word stands at this name
+record Stands (id : Text) (rows : List Row) : Type 0 where
+  word : Text
+  more : List Text
+  first : first_of id rows ≡ Some word
+  all : all_of id rows ≡ Some (word ∷ more)
+
+row_stands : (id : Text) (rows : List Row) (r : Row) (values : List Text) → find (λ x. bytes_eq x.id id) rows ≡ Some r
+    → r.values ≡ values → is_filled values ≡ true → Stands id rows
+row_stands id rows r [] found is filled = absurd (true≢false (sym filled))
+row_stands id rows r (v ∷ vs) found is filled = record {
+  word = v;
+  more = vs;
+  first = ap (option_and_then (λ (x : Row). slice_get x.values 0)) found ∙ ap (λ (xs : List Text). slice_get xs 0) is;
+  all = ap (option_map (λ (x : Row). x.values)) found ∙ ap (λ (xs : List Text). Some xs) is;
+}
+
+given_stands : (id : Text) (rows : List Row) → is_given id rows ≡ true → are_filled rows ≡ true → Stands id rows
+given_stands id rows given filled = go (find (λ x. bytes_eq x.id id) rows) refl given
+  where
+    go : (o : Option Row) → find (λ x. bytes_eq x.id id) rows ≡ o
+        → option_map_or (λ (r : Row). explicit_source r.source) o false ≡ true → Stands id rows
+    go None found is = absurd (true≢false (sym is))
+    go (Some r) found is = row_stands id rows r r.values found refl
+        (found_passes (λ (x : Row). is_filled x.values) (λ x. bytes_eq x.id id) rows r filled found)
+
+-- the command requires the argument with this id
+abbrev requires : Text → List Rule → Bool
+requires id rules = list_any (λ a. a.required && bytes_eq a.id id) rules
+
+abbrev all_given : List Rule → List Row → Bool
+all_given rules rows = list_all (λ a. not a.required || is_given a.id rows) rules
+
+required_given : (id : Text) (rules : List Rule) (rows : List Row) → requires id rules ≡ true → all_given rules rows ≡ true
+    → is_given id rows ≡ true
+required_given id [] rows asks given = absurd (true≢false (sym asks))
+required_given id (a ∷ rules) rows asks given =
+    go (a.required && bytes_eq a.id id) refl asks
+    (λ later. required_given id rules rows later (both (not a.required || is_given a.id rows) _ given).1)
+  where
+    go : (b : Bool) → (a.required && bytes_eq a.id id) ≡ b → (b || requires id rules) ≡ true
+        → (requires id rules ≡ true → is_given id rows ≡ true) → is_given id rows ≡ true
+    go true here is later =
+        let parts = both a.required _ here in
+        let same : a.id ≡ id = (bytes_eq-Decides a.id id).0 parts.1 in
+        subst (λ i. is_given i rows ≡ true) same (given_if a.required _ (both _ _ given).0 parts.0)
+    go false here is later = later is
+
+-- ---- values with their forms
+
+abbrev spells : {X : Type 0} → (Text → Option X) → List Text → Bool
+spells form words = list_all (λ word. is_some (form word)) words
+
+stands_spelled : {X : Type 0} (form : Text → Option X) (id : Text) (rows : List Row) → Stands id rows → has_form form id rows ≡ true
+    → (x : X) × (spelled_at form id rows ≡ Some x)
+stands_spelled form id rows there has =
+    let words : spells form (there.word ∷ there.more) ≡ true =
+    ap (λ o. spells form (unwrap_or o [])) (sym there.all) ∙ has in
+    let x = some_of (form there.word) (both _ _ words).0 in
+    (x.0, ap (option_and_then form) there.first ∙ x.1)
+
+each_spelled : {X : Type 0} (form : Text → Option X) (words : List Text) → spells form words ≡ true
+    → (xs : List X) × (all_spelled form words ≡ Some xs)
+each_spelled form [] has = ([], refl)
+each_spelled form (word ∷ words) has =
+    let x = some_of (form word) (both _ _ has).0 in
+    let xs = each_spelled form words (both (is_some (form word)) _ has).1 in
+    (
+      x.0 ∷ xs.0,
+      ap (option_and_then (λ y. option_map (λ ys. y ∷ ys) (all_spelled form words))) x.1 ∙ ap (option_map (λ ys. x.0 ∷ ys)) xs.1,
+    )
+
+stands_all_spelled : {X : Type 0} (form : Text → Option X) (id : Text) (rows : List Row) → Stands id rows → has_form form id rows ≡ true
+    → (xs : List X) × (all_spelled_at form id rows ≡ Some xs)
+stands_all_spelled form id rows there has =
+    let words : spells form (there.word ∷ there.more) ≡ true =
+    ap (λ o. spells form (unwrap_or o [])) (sym there.all) ∙ has in
+    let xs = each_spelled form (there.word ∷ there.more) words in
+    (xs.0, ap (option_and_then (all_spelled form)) there.all ∙ xs.1)
+
+first_spelled : {X : Type 0} (form : Text → Option X) (words : List Text) → spells form words ≡ true
+    → (o : Option X) × (spelled_if_there form (slice_get words 0) ≡ Some o)
+first_spelled form [] has = (None, refl)
+first_spelled form (word ∷ words) has =
+    let x = some_of (form word) (both _ _ has).0 in
+    (Some x.0, ap (option_map (λ y. Some y)) x.1)
+
+optional_spelled : {X : Type 0} (form : Text → Option X) (id : Text) (rows : List Row) → has_form form id rows ≡ true
+    → (o : Option X) × (optional_at form id rows ≡ Some o)
+optional_spelled form id rows has = go (find (λ r. bytes_eq r.id id) rows) has
+  where
+    go : (o : Option Row) → spells form (unwrap_or (option_map (λ (r : Row). r.values) o) []) ≡ true
+        → (x : Option _) × (spelled_if_there form (option_and_then (λ (r : Row). slice_get r.values 0) o) ≡ Some x)
+    go None is = (None, refl)
+    go (Some r) is = first_spelled form r.values is
+
+-- ---- OUT is no input
+
+-- a path that is none of the inputs is none of those at their names
+record Apart (out : Text) (rows : List Row) : Type 0 where
+  input : is_path_among out (words_at (codes "IN") rows) ≡ false
+  files : is_path_among out (words_at (codes "FILE") rows) ≡ false
+  ops : is_path_among out (words_at (codes "OPS") rows) ≡ false
+
+out_apart : (rows : List Row) (out : Stands (codes "OUT") rows) → spares_inputs rows ≡ true → Apart out.word rows
+out_apart rows out spares =
+    let each : list_all (λ o. not (is_path_among o (inputs_at rows))) (out.word ∷ out.more) ≡ true =
+    ap (λ o. list_all (λ w. not (is_path_among w (inputs_at rows))) (unwrap_or o [])) (sym out.all) ∙ spares in
+    let none = is_false (is_path_among out.word (inputs_at rows)) (both _ _ each).0 in
+    let front = none_in_front (words_at (codes "IN") rows) _ (λ p. bytes_eq p out.word) none in
+    let back = none_in_front (words_at (codes "FILE") rows) _ (λ p. bytes_eq p out.word) front.1 in
+    record { input = front.0; files = back.0; ops = back.1 }
+
+-- the word at a name whose words a path is none of
+first_apart : (out id : Text) (rows : List Row) (there : Stands id rows) → is_path_among out (words_at id rows) ≡ false
+    → bytes_eq there.word out ≡ false
+first_apart out id rows there apart =
+    (neither (bytes_eq there.word out) _ (ap (λ o. is_path_among out (unwrap_or o [])) (sym there.all) ∙ apart)).0
+
+all_apart : (out id : Text) (rows : List Row) (there : Stands id rows) → is_path_among out (words_at id rows) ≡ false
+    → is_path_among out (there.word ∷ there.more) ≡ false
+all_apart out id rows there apart = ap (λ o. is_path_among out (unwrap_or o [])) (sym there.all) ∙ apart
+
+kept_some : (b : Bool) (l : Line) → b ≡ false → IsSome (if b then None else Some l)
+kept_some true l none = absurd (true≢false none)
+kept_some false l none = refl
+
+or_false : (a b : Bool) → a ≡ false → b ≡ false → (a || b) ≡ false
+or_false a b p q = ap₂ (λ x y. x || y) p q
+
+three : {X Y Z W : Type 0} {x x' : X} {y y' : Y} {z z' : Z} (f : X → Y → Z → W) → x ≡ x' → y ≡ y' → z ≡ z' → f x y z ≡ f x' y' z'
+three f p q r = λ i. f (p i) (q i) (r i)
+
+-- ---- the line of each command, where what is required stands there
+
+-- what a command's line needs of what stands at its names
+record InOrder (rules : List Rule) (rows : List Row) : Type 0 where
+  given : all_given rules rows ≡ true
+  filled : are_filled rows ≡ true
+  forms : have_forms rows ≡ true
+  spares : spares_inputs rows ≡ true
+
+there : (id : Text) (rules : List Rule) (rows : List Row) → InOrder rules rows → requires id rules ≡ true → Stands id rows
+there id rules rows o asks = given_stands id rows (required_given id rules rows asks o.given) o.filled
+
+uuids : (rows : List Row) → have_forms rows ≡ true → has_form parsed (codes "UUID") rows ≡ true
+uuids rows has = (both _ _ has).0
+
+archs : (rows : List Row) → have_forms rows ≡ true → has_form arch_of (codes "ARCH") rows ≡ true
+archs rows has = (both _ _ (both (has_form parsed (codes "UUID") rows) _ has).1).0
+
+digests : (rows : List Row) → have_forms rows ≡ true → has_form digest_of (codes "DIGEST") rows ≡ true
+digests rows has = (both _ _ (both (has_form arch_of (codes "ARCH") rows) _ (both (has_form parsed (codes "UUID") rows) _ has).1).1).0
+
+numbers : (rows : List Row) → have_forms rows ≡ true
+    → (has_form address_of (codes "HEX") rows && has_form address_of (codes "ADDRESS") rows) ≡ true
+numbers rows has = (both (has_form digest_of (codes "DIGEST") rows) _
+    (both (has_form arch_of (codes "ARCH") rows) _ (both (has_form parsed (codes "UUID") rows) _ has).1).1).1
+
+asks_new : List Rule → Bool
+asks_new rules = requires (codes "OUT") rules
+
+new_some : (rules : List Rule) (rows : List Row) → asks_new rules ≡ true → InOrder rules rows → IsSome (new_line rows)
+unfolding asks_new
+new_some rules rows asks o =
+    let out = there (codes "OUT") rules rows o asks in
+    subst (λ x. IsSome (option_map new x)) (sym out.first) refl
+
+-- IN and OUT are asked for, and what else
+asks_with : Bool → List Rule → Bool
+asks_with more rules = requires (codes "IN") rules && (requires (codes "OUT") rules && more)
+
+files_kept : (rules : List Rule) (rows : List Row) (line : Text → Text → List Text → Line)
+    (of : Option Text → Option Text → Option (List Text) → Option Line)
+    → ((i o : Text) (fs : List Text) → of (Some i) (Some o) (Some fs) ≡ kept o (i ∷ fs) (line i o fs))
+    → asks_with (requires (codes "FILE") rules) rules ≡ true → InOrder rules rows
+    → IsSome (of (first_of (codes "IN") rows) (first_of (codes "OUT") rows) (all_of (codes "FILE") rows))
+unfolding asks_with
+files_kept rules rows line of is asks o =
+    let parts = both (requires (codes "IN") rules) _ asks in
+    let rest = both (requires (codes "OUT") rules) _ parts.1 in
+    let input = there (codes "IN") rules rows o parts.0 in
+    let out = there (codes "OUT") rules rows o rest.0 in
+    let files = there (codes "FILE") rules rows o rest.1 in
+    let apart = out_apart rows out o.spares in
+    let none : is_path_among out.word (input.word ∷ files.word ∷ files.more) ≡ false =
+    or_false _ _ (first_apart out.word (codes "IN") rows input apart.input)
+    (all_apart out.word (codes "FILE") rows files apart.files) in
+    subst IsSome (sym (three of input.first out.first files.all ∙ is input.word out.word (files.word ∷ files.more)))
+    (kept_some _ (line input.word out.word (files.word ∷ files.more)) none)
+
+admit_some : (rules : List Rule) (rows : List Row) → asks_with (requires (codes "FILE") rules) rules ≡ true → InOrder rules rows
+    → IsSome (admit_line rows)
+admit_some rules rows asks o = files_kept rules rows admit admit_of (λ i x fs. refl) asks o
+
+merge_some : (rules : List Rule) (rows : List Row) → asks_with (requires (codes "FILE") rules) rules ≡ true → InOrder rules rows
+    → IsSome (merge_line rows)
+merge_some rules rows asks o = files_kept rules rows merge merge_of (λ i x fs. refl) asks o
+
+apply_some : (rules : List Rule) (rows : List Row) → asks_with (requires (codes "OPS") rules) rules ≡ true → InOrder rules rows
+    → IsSome (apply_line rows)
+unfolding asks_with
+apply_some rules rows asks o =
+    let parts = both (requires (codes "IN") rules) _ asks in
+    let rest = both (requires (codes "OUT") rules) _ parts.1 in
+    let input = there (codes "IN") rules rows o parts.0 in
+    let out = there (codes "OUT") rules rows o rest.0 in
+    let ops = there (codes "OPS") rules rows o rest.1 in
+    let apart = out_apart rows out o.spares in
+    let none : is_path_among out.word (input.word ∷ ops.word ∷ []) ≡ false =
+    or_false _ _ (first_apart out.word (codes "IN") rows input apart.input)
+    (or_false _ _ (first_apart out.word (codes "OPS") rows ops apart.ops) refl) in
+    subst IsSome (sym (three apply_of input.first out.first ops.first))
+    (kept_some _ (apply input.word out.word ops.word) none)
+
+-- an archive and a UUID are asked for, and what else
+asks_uuid : Text → Bool → List Rule → Bool
+asks_uuid archive more rules = requires archive rules && (requires (codes "UUID") rules && more)
+
+find_some : (rules : List Rule) (rows : List Row) → asks_uuid (codes "ARCHIVE") true rules ≡ true → InOrder rules rows
+    → IsSome (find_line rows)
+unfolding asks_uuid
+find_some rules rows asks o =
+    let parts = both (requires (codes "ARCHIVE") rules) _ asks in
+    let rest = both (requires (codes "UUID") rules) _ parts.1 in
+    let archive = there (codes "ARCHIVE") rules rows o parts.0 in
+    let uuid = stands_spelled parsed (codes "UUID") rows (there (codes "UUID") rules rows o rest.0) (uuids rows o.forms) in
+    subst IsSome (sym (ap₂ find_of archive.first uuid.1)) refl
+
+retire_some : (rules : List Rule) (rows : List Row)
+    → asks_with (asks_uuid (codes "ARCH") (requires (codes "DIGEST") rules) rules) rules ≡ true → InOrder rules rows
+    → IsSome (retire_line rows)
+unfolding asks_with asks_uuid
+retire_some rules rows asks o =
+    let parts = both (requires (codes "IN") rules) _ asks in
+    let more = both (requires (codes "OUT") rules) _ parts.1 in
+    let forms = both (requires (codes "ARCH") rules) _ more.1 in
+    let rest = both (requires (codes "UUID") rules) _ forms.1 in
+    let input = there (codes "IN") rules rows o parts.0 in
+    let out = there (codes "OUT") rules rows o more.0 in
+    let uuid = stands_spelled parsed (codes "UUID") rows (there (codes "UUID") rules rows o rest.0) (uuids rows o.forms) in
+    let arch = stands_spelled arch_of (codes "ARCH") rows (there (codes "ARCH") rules rows o forms.0) (archs rows o.forms) in
+    let digest = stands_spelled digest_of (codes "DIGEST") rows (there (codes "DIGEST") rules rows o rest.1) (digests rows o.forms) in
+    let none : is_path_among out.word (input.word ∷ []) ≡ false =
+    or_false _ _ (first_apart out.word (codes "IN") rows input (out_apart rows out o.spares).input) refl in
+    subst IsSome (sym (λ i. retire_of (input.first i) (out.first i) (uuid.1 i) (arch.1 i) (digest.1 i)))
+    (kept_some _ (retire input.word out.word uuid.0 arch.0 digest.0) none)
+
+symbolicate_some : (rules : List Rule) (rows : List Row)
+    → asks_uuid (codes "ARCHIVE") (requires (codes "ARCH") rules && requires (codes "ADDRESS") rules) rules ≡ true
+    → InOrder rules rows → IsSome (symbolicate_line rows)
+unfolding asks_uuid
+symbolicate_some rules rows asks o =
+    let parts = both (requires (codes "ARCHIVE") rules) _ asks in
+    let more = both (requires (codes "UUID") rules) _ parts.1 in
+    let rest = both (requires (codes "ARCH") rules) _ more.1 in
+    let tests = both (has_form address_of (codes "HEX") rows) _ (numbers rows o.forms) in
+    let archive = there (codes "ARCHIVE") rules rows o parts.0 in
+    let uuid = stands_spelled parsed (codes "UUID") rows (there (codes "UUID") rules rows o more.0) (uuids rows o.forms) in
+    let arch = stands_spelled arch_of (codes "ARCH") rows (there (codes "ARCH") rules rows o rest.0) (archs rows o.forms) in
+    let load = optional_spelled address_of (codes "HEX") rows tests.0 in
+    let addresses = stands_all_spelled address_of (codes "ADDRESS") rows (there (codes "ADDRESS") rules rows o rest.1) tests.1 in
+    subst IsSome (sym (λ i. symbolicate_of (archive.first i) (uuid.1 i) (arch.1 i) (load.1 i) (addresses.1 i))) refl
+
+-- ---- any of them
+
+-- the command of this name requires what its line asks for
+asks : Text → List Rule → Bool
+asks name rules =
+    if bytes_eq name (codes "new") then asks_new rules
+    else if bytes_eq name (codes "admit") then asks_with (requires (codes "FILE") rules) rules
+    else if bytes_eq name (codes "retire") then asks_with (asks_uuid (codes "ARCH") (requires (codes "DIGEST") rules) rules) rules
+    else if bytes_eq name (codes "merge") then asks_with (requires (codes "FILE") rules) rules
+    else if bytes_eq name (codes "apply") then asks_with (requires (codes "OPS") rules) rules
+    else if bytes_eq name (codes "find") then asks_uuid (codes "ARCHIVE") true rules
+    else if bytes_eq name (codes "symbolicate")
+        then asks_uuid (codes "ARCHIVE") (requires (codes "ARCH") rules && requires (codes "ADDRESS") rules) rules
+    else false
+
+chosen : (b p q : Bool) (x y : Option Line) → (p ≡ true → IsSome x) → (q ≡ true → IsSome y)
+    → (if b then p else q) ≡ true → IsSome (if b then x else y)
+chosen true p q x y here after is = here is
+chosen false p q x y here after is = after is
+
+line_some : (name : Text) (rules : List Rule) (rows : List Row) → InOrder rules rows → asks name rules ≡ true
+    → IsSome (line_in (name, rows))
+unfolding asks
+line_some name rules rows o =
+    chosen (bytes_eq name (codes "new")) _ _ _ _ (λ is. new_some rules rows is o)
+    (chosen (bytes_eq name (codes "admit")) _ _ _ _ (λ is. admit_some rules rows is o)
+    (chosen (bytes_eq name (codes "retire")) _ _ _ _ (λ is. retire_some rules rows is o)
+    (chosen (bytes_eq name (codes "merge")) _ _ _ _ (λ is. merge_some rules rows is o)
+    (chosen (bytes_eq name (codes "apply")) _ _ _ _ (λ is. apply_some rules rows is o)
+    (chosen (bytes_eq name (codes "find")) _ _ _ _ (λ is. find_some rules rows is o)
+    (chosen (bytes_eq name (codes "symbolicate")) _ _ _ _ (λ is. symbolicate_some rules rows is o)
+    (λ is. absurd (true≢false (sym is)))))))))
+
+-- ---- commands that are built
+
+-- the command is `help`, or it requires what its line asks for and none of its arguments may go without a value
+is_sound : Shape → Bool
+is_sound s = is_empty s.aliases && (bytes_eq s.name (codes "help") || (want_values s.rules && asks s.name s.rules))
+
+-- a program's command of which each line that is taken names a command that is sound
+record IsSound (a : App) : Type 0 where
+  needs_command : a.top.subcommand_required ≡ true
+  has_help : a.top.disable_help_subcommand ≡ false
+  values : want_values a.top.rules ≡ true
+  commands : list_all is_sound a.subs ≡ true
+
+abbrev in_order : Option (Text × List Row) → Bool
+in_order named = option_map_or (λ p. have_forms p.1 && spares_inputs p.1) named true
+
+required_here : (s : Shape) (rows : List Row) (has : Bool) → is_valid s rows has ≡ true → (s.subcommand_negates_reqs && has) ≡ false
+    → all_given s.rules rows ≡ true
+required_here s rows has valid not_excused =
+    let rest = both (not s.subcommand_required || has) _ (both (not s.arg_required_else_help || _) _ valid).1 in
+    one_of_two (s.subcommand_negates_reqs && has) _ (both (list_all (λ a. a.is_free) s.rules) _ rest.1).1 not_excused
+
+and_false : (b : Bool) → (b && false) ≡ false
+and_false true = refl
+and_false false = refl
+
+-- the line of a command that was entered
+entered_some : (top s : Shape) (name : Text) (words : List Text) → is_sound s ≡ true → answers_to name (label_of s) ≡ true
+    → lets_name top name ≡ true → top.disable_help_subcommand ≡ false → level_passes s [] nothing_held words false ≡ true
+    → in_order (Some (rows_at s words)) ≡ true → IsSome (line_in (rows_at s words))
+unfolding is_sound
+entered_some top s name words sound answers lets help passes tests =
+    let parts = both (is_empty s.aliases) _ sound in
+    let alone : list_any (λ alias. bytes_eq alias name) s.aliases ≡ false =
+    ap (list_any (λ alias. bytes_eq alias name)) (is_nil s.aliases parts.0) in
+    let same : s.name ≡ name = (bytes_eq-Decides s.name name).0 (first_of_two (bytes_eq s.name name) _ answers alone) in
+    let other : bytes_eq s.name (codes "help") ≡ false =
+    ap (λ n. bytes_eq n (codes "help")) same ∙ is_false _ (first_of_two (not (bytes_eq name (codes "help"))) _ lets help) in
+    let own = both (want_values s.rules) _ (one_of_two (bytes_eq s.name (codes "help")) _ parts.1 other) in
+    let passed = level s [] words false own.0 passes in
+    let ordered = both (have_forms (rows_after s.rules [] words)) _ tests in
+    line_some s.name s.rules (rows_after s.rules [] words) (record {
+      given = required_here s (rows_after s.rules [] words) false passed.valid (and_false s.subcommand_negates_reqs);
+      filled = passed.filled;
+      forms = ordered.0;
+      spares = ordered.1;
+    }) own.1
+
+found_some : (a : App) (p : Text × List Text) (o : Option Shape) → find (λ s. answers_to p.0 (label_of s)) a.subs ≡ o → IsSound a
+    → lets_name a.top p.0 ≡ true → is_some (option_map (λ s. rows_at s p.1) o) ≡ true
+    → option_map_or (λ s. level_passes s [] nothing_held p.1 false) o true ≡ true
+    → in_order (option_map (λ s. rows_at s p.1) o) ≡ true
+    → IsSome (option_and_then line_in (option_map (λ s. rows_at s p.1) o))
+found_some a p None found sound lets met passes tests = absurd (true≢false (sym met))
+found_some a p (Some s) found sound lets met passes tests =
+    entered_some a.top s p.0 p.1 (found_passes is_sound _ a.subs s sound.commands found)
+    (found_holds _ a.subs s found) lets sound.has_help passes tests
+
+stopped_some : (a : App) (stop : Option (Text × List Text)) → IsSound a → lets_stop a.top stop ≡ true
+    → is_some (entered a stop) ≡ true → entered_passes a stop ≡ true → in_order (entered a stop) ≡ true
+    → IsSome (option_and_then line_in (entered a stop))
+stopped_some a None sound lets met passes tests = absurd (true≢false (sym met))
+stopped_some a (Some p) sound lets met passes tests =
+    found_some a p (find (λ s. answers_to p.0 (label_of s)) a.subs) refl sound lets met passes tests
+
+built_some : (a : App) (words : List Text) → IsSound a → built_takes a nothing_held words ≡ true
+    → in_order (entered a (stop_after a.top.rules (names_of a) words)) ≡ true
+    → IsSome (option_and_then line_in (entered a (stop_after a.top.rules (names_of a) words)))
+built_some a words sound passes tests =
+    let stop = stop_after a.top.rules (names_of a) words in
+    let parts = both (entered_passes a stop) _ passes in
+    let top = level a.top (names_of a) words (is_some (entered a stop)) sound.values parts.1 in
+    let valid = both (not a.top.arg_required_else_help || _) _ top.valid in
+    let met = given_if a.top.subcommand_required (is_some (entered a stop)) (both _ _ valid.1).0 sound.needs_command in
+    stopped_some a stop sound top.stop met parts.0 tests
+
+taken_some : (a : App) (words : List Text) → IsSound (built a) → takes a words ≡ true → in_order (subcommand_of a words) ≡ true
+    → IsSome (option_and_then line_in (subcommand_of a words))
+taken_some a words sound taken tests =
+    built_some (built a) (argument_words a words) sound (both (is_simple a) _ taken).1 tests
+
+-- ---- the program's command
+
+symarch_sound : IsSound (built symarch_command)
+unfolding symarch_command is_sound asks asks_new asks_with asks_uuid
+symarch_sound = record { needs_command = refl; has_help = refl; values = refl; commands = refl }
+
+-- a line that is taken, in which each value has its form and OUT's path is no input's, asks for something
+pub taken_line : (words : List Text) → are_taken words ≡ true → is_in_order words ≡ true → IsSome (line_of words)
+unfolding are_taken named_command
+taken_line words = taken_some symarch_command words symarch_sound

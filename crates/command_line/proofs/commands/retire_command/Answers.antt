@@ -1,0 +1,15 @@
+use Rattle.command_line.proofs.CommandLemmas.{with_last, with_next}
+use Rattle.command_line.proofs.commands.retire_command.Goals as goal
+
+pub returns-clause-app : goal.returns-clause-app
+returns-clause-app c =
+    let a0 = c.bare_command-command.ensures.app in
+    let a1 = with_next _ _ _ _ a0 c.in_ok-command.ensures.app in
+    let a2 = with_next _ _ _ _ a1 c.in_ok-command-2.ensures.app in
+    let a3 = with_next _ _ _ _ a2 c.in_ok-command-3.ensures.app in
+    let a4 = with_next _ _ _ _ a3 c.in_ok-command-4.ensures.app in
+    with_last _ _ _ _ a4 c.with_one_value-5.ensures.app
+
+pub returns-clause-local : goal.returns-clause-local
+returns-clause-local c =
+    c.with_one_value-5.ensures.local (c.in_ok-command-4.ensures.local (c.in_ok-command-3.ensures.local (c.in_ok-command-2.ensures.local (c.in_ok-command.ensures.local c.bare_command-command.ensures.local))))
