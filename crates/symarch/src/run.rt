@@ -1,11 +1,11 @@
 //! The program over the words, the files and the standard streams that it is started with.
 
 use crate::Failure;
-use crate::files::{OutFile, open_all, open_all_buffered, open_buffered};
 use archive_commands::{
     run_admit, run_apply, run_find, run_merge, run_new, run_retire, run_symbolicate,
 };
 use archive_core::{Digest, PlainArchive, SliceKey};
+use archive_files::{OutFile, open_all, open_all_buffered, open_buffered};
 use archive_lines::{CannotCreate, CommandFault, Status};
 use byte_device::Writing;
 use command_line::{LineFault, Plan, plan};
@@ -31,25 +31,42 @@ pub fn run<R: Files + Env + Print + Eprint + AllocGlobal>(rt: &R) -> ExitCode {
     let _input = File::open(rt, "/dev/null");
     let _output = File::open(rt, "/dev/null");
     let _error = File::open(rt, "/dev/null");
-    let words = match env::args(rt) {
-        Ok(words) => words,
-        Err(_) => return refuse_line(rt, "error: a word is no UTF-8 text\n"),
-    };
-    let Ok(words) = words.collect::<Vec<String>>(rt.alloc()) else {
-        return fail(rt, Failure::from(CommandFault::OutOfMemory));
-    };
-    match plan(rt.alloc(), &words) {
-        Ok(plan) => match execute(rt, &plan) {
-            Ok(Status::Done) => ExitCode::SUCCESS,
-            Ok(Status::Partial) => ExitCode::FAILURE,
-            Err(failure) => fail(rt, failure),
-        },
-        Err(LineFault::Help(text)) => {
+    match env::args(rt) {
+        Ok(words) => run_words(rt, words),
+        Err(_) => refuse_line(rt, "error: a word is no UTF-8 text\n"),
+    }
+}
+
+fn run_words<R: Files + Print + Eprint + AllocGlobal>(rt: &R, words: env::Args) -> ExitCode {
+    match words.collect::<Vec<String>>(rt.alloc()) {
+        Ok(words) => run_line(rt, &words),
+        Err(_) => fail(rt, Failure::from(CommandFault::OutOfMemory)),
+    }
+}
+
+fn run_line<R: Files + Print + Eprint + AllocGlobal>(rt: &R, words: &[String]) -> ExitCode {
+    match plan(rt.alloc(), words) {
+        Ok(plan) => end(rt, execute(rt, &plan)),
+        Err(fault) => refuse(rt, fault),
+    }
+}
+
+fn end<R: Eprint>(rt: &R, ended: Result<Status, Failure>) -> ExitCode {
+    match ended {
+        Ok(Status::Done) => ExitCode::SUCCESS,
+        Ok(Status::Partial) => ExitCode::FAILURE,
+        Err(failure) => fail(rt, failure),
+    }
+}
+
+fn refuse<R: Print + Eprint>(rt: &R, fault: LineFault) -> ExitCode {
+    match fault {
+        LineFault::Help(text) => {
             let _ = rt.print(&text);
             ExitCode::SUCCESS
         }
-        Err(LineFault::Refused(text)) => refuse_line(rt, &text),
-        Err(LineFault::OutOfMemory) => fail(rt, Failure::from(CommandFault::OutOfMemory)),
+        LineFault::Refused(text) => refuse_line(rt, &text),
+        LineFault::OutOfMemory => fail(rt, Failure::from(CommandFault::OutOfMemory)),
     }
 }
 
