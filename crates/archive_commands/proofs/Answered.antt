@@ -1,5 +1,5 @@
 -- What is told of addresses, one after another.
-use Rattle.std.proofs.Common.{◌≡◌, ℕ, ◌+◌, ◌<◌, Bool, true, false, ◌&&◌, if◌then◌else◌, List, [], ◌∷◌, ◌++◌, length, take, slice_index_or, Option, Result, refl, sym, ap, ◌∙◌, add-one, subst}
+use Rattle.std.proofs.Common.{◌≡◌, ℕ, ◌+◌, ◌<◌, Bool, true, false, ◌&&◌, if◌then◌else◌, List, [], ◌∷◌, ◌++◌, length, take, slice_index_or, Option, refl, sym, ap, ◌∙◌, add-one, subst}
 use Rattle.std.proofs.lemmas.List.{map-append, flat_map_more}
 use Rattle.std.proofs.lemmas.List.Folds.{list_all-append}
 use Rattle.std.proofs.Math.Seq.{take-suc}
@@ -9,11 +9,10 @@ use Rattle.archive_core.specs.Lookup.{IsAnswer, answer_view}
 use Rattle.archive_core.specs.declared.keys.SliceKey.{SliceKey}
 use Rattle.archive_core.specs.declared.lookup.Answer.{Answer}
 use Rattle.archive_lines.specs.Answers.{answer_lines}
-use Rattle.archive_lines.specs.declared.faults.CannotOpen.{CannotOpen}
 use Rattle.archive_lines.specs.declared.faults.Status.{Status}
 use Rattle.archive_lines.specs.declared.faults.Status.TheVariants.{Done, Partial}
 use Rattle.archive_records.specs.Text.{written}
-use Rattle.archive_commands.specs.Inputs.{Gives}
+use Rattle.archive_commands.specs.Inputs.{Reader, Holds}
 use Rattle.archive_commands.specs.Symbolicate.{place_of, is_symbol, Answered, IsAnswered, answers_status, TellsAddresses, MakesAnswered}
 
 all_more : {X : Type 0} (P : X → Type 0) (xs : List X) (x : X) → AllByRecursion P xs → P x → AllByRecursion P (xs ++ x ∷ [])
@@ -54,11 +53,11 @@ more_told content key load before addresses status next text lines address answe
 pub take_more : (xs : List ℕ) (i : ℕ) → i < length xs → take (i + 1) xs ≡ take i xs ++ slice_index_or xs i 0 ∷ []
 take_more xs i lt = ap (λ (n : ℕ). take n xs) (add-one i) ∙ take-suc xs i 0 lt
 
-pub makes_answered : {R : Type 0} (left : R → Option (List ℕ)) (archive : Result R CannotOpen) (key : SliceKey) (load : Option ℕ) (addresses : List ℕ) (o : Operations) (status : Status) (text lines : List ℕ)
-    → IsContent o → Gives left archive (λ bytes. bytes ≡ written o) → TellsAddresses o key load addresses status lines → text ≡ lines → MakesAnswered left archive key load addresses status text
-makes_answered left archive key load addresses o status text lines content gives tells same = record {
+pub makes_answered : {R : Type 0} (archive : Reader R) (key : SliceKey) (load : Option ℕ) (addresses : List ℕ) (o : Operations) (status : Status) (text lines : List ℕ)
+    → IsContent o → Holds archive (written o) → TellsAddresses o key load addresses status lines → text ≡ lines → MakesAnswered archive key load addresses status text
+makes_answered archive key load addresses o status text lines content holds tells same = record {
   content = o;
   is_content = content;
-  archive_is = gives;
+  archive_is = holds;
   tells = subst (TellsAddresses o key load addresses status) (sym same) tells;
 }

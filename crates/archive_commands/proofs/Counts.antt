@@ -1,5 +1,5 @@
 -- The operations of `apply`, one after another.
-use Rattle.std.proofs.Common.{◌≡◌, ℕ, ◌+◌, ◌-◌, ◌≤◌, Bool, true, false, cond, List, [], ◌∷◌, length, map, Option, Result, refl, sym, ap, ◌∙◌, arith}
+use Rattle.std.proofs.Common.{◌≡◌, ℕ, ◌+◌, ◌-◌, ◌≤◌, Bool, true, false, cond, List, [], ◌∷◌, length, map, refl, sym, ap, ◌∙◌, arith}
 use Rattle.std.specs.Prelude.{not, if◌then◌else◌}
 use Rattle.std.specs.FinSet as set
 use Rattle.std.specs.Int.{from_bool}
@@ -9,9 +9,8 @@ use Rattle.archive_core.specs.Record.{rec}
 use Rattle.archive_core.specs.declared.operations.Operation.{Operation}
 use Rattle.archive_records.specs.Text.{IsOperationsText, written}
 use Rattle.archive_lines.specs.Report.{apply_line}
-use Rattle.archive_lines.specs.declared.faults.CannotOpen.{CannotOpen}
 use Rattle.archive_commands.specs.Apply.{new_among, MakesApplied}
-use Rattle.archive_commands.specs.Inputs.{Gives}
+use Rattle.archive_commands.specs.Inputs.{Reader, Gives, Holds}
 
 -- a taking that changed the content counts one
 pub counted : (changed : Bool) → from_bool changed ≡ (if changed then 1 else 0)
@@ -85,15 +84,15 @@ grown o (operation ∷ rest) =
     by_case true n more = omega arith
     by_case false n more = omega arith
 
-pub makes_applied : {R S : Type 0} (left_in : R → Option (List ℕ)) (left : S → Option (List ℕ)) (input : Result R CannotOpen) (ops : Result S CannotOpen) (o new_content : Operations) (operations : List Operation) (new known : ℕ) (lines : List ℕ)
-    → IsContent o → Gives left_in input (λ text. text ≡ written o) → Gives left ops (λ text. IsOperationsText text operations)
+pub makes_applied : {R S : Type 0} (input : Reader R) (ops : Reader S) (o new_content : Operations) (operations : List Operation) (new known : ℕ) (lines : List ℕ)
+    → IsContent o → Holds input (written o) → Gives ops (λ text. IsOperationsText text operations)
     → new_content ≡ with_records o (map rec operations) → new ≡ new_among o operations → known + new ≡ length operations → lines ≡ apply_line new known
-    → MakesApplied left_in left input ops new_content lines
-makes_applied left_in left input ops o new_content operations new known lines content gives ops_are content_is new_is known_is lines_are = record {
+    → MakesApplied input ops new_content lines
+makes_applied input ops o new_content operations new known lines content holds ops_are content_is new_is known_is lines_are = record {
   before = o;
   operations = operations;
   is_content = content;
-  archive = gives;
+  archive = holds;
   ops_are = ops_are;
   content_is = content_is;
   lines_are =

@@ -22,7 +22,7 @@ use Rattle.archive_lines.specs.Rows.{digest_text}
 use Rattle.archive_lines.specs.declared.faults.CannotOpen.{CannotOpen}
 use Rattle.archive_lines.specs.declared.faults.Status.{Status}
 use Rattle.archive_lines.specs.declared.faults.Status.TheVariants.{Done, Partial}
-use Rattle.archive_commands.specs.Inputs.{Gives, IsGiven}
+use Rattle.archive_commands.specs.Inputs.{Reader, reader, Holds, IsGiven}
 use Rattle.archive_commands.specs.Symbolicate.{place_of, is_symbol, Answered, IsAnswered, answers_text, TellsAddresses, MakesAnswered}
 
 abbrev seen_found : FoundRecord → List ℕ
@@ -121,24 +121,24 @@ module _ (one : (o : Operations) (key : SliceKey) (place : Where) (answer other 
 known : (left : Option (List ℕ)) (bytes : List ℕ) (P : List ℕ → Type 0) → left ≡ Some bytes → IfSome left P → P bytes
 known left bytes P is p = let q : IfSome (Some bytes) P = subst (λ (l : Option (List ℕ)). IfSome l P) is p in q
 
-given_text : {R : Type 0} (left : R → Option (List ℕ)) (archive : Result R CannotOpen) (bytes text : List ℕ) → IsGiven left archive bytes → Gives left archive (λ given. given ≡ text) → bytes ≡ text
-given_text left (Ok source) bytes text given gives = known (left source) bytes (λ b. b ≡ text) given gives
-given_text left (Err _) bytes text given gives = absurd given
+given_text : {R : Type 0} (left : R → Option (List ℕ)) (failures : R → ℕ) (old new : Result R CannotOpen) (bytes text : List ℕ) → IsGiven (reader left failures old new) bytes → Holds (reader left failures old new) text → bytes ≡ text
+given_text left failures (Ok source) new bytes text given holds = known (left source) bytes (λ b. b ≡ text) given holds
+given_text left failures (Err _) new bytes text given holds = absurd given
 
 -- a record of an archive that has this content tells what the content tells
 made_of : (one : (o p : Operations) → IsContent o → IsContent p → written o ≡ written p → o ≡ p)
-    {R : Type 0} (left : R → Option (List ℕ)) (archive : Result R CannotOpen) (o : Operations) (key : SliceKey) (load : Option ℕ) (addresses : List ℕ) (status : Status) (text : List ℕ)
-    → IsContent o → IsGiven left archive (written o) → MakesAnswered left archive key load addresses status text → TellsAddresses o key load addresses status text
-made_of one left archive o key load addresses status text content given makes =
-    let same = one o makes.content content makes.is_content (given_text left archive (written o) (written makes.content) given makes.archive_is) in
+    {R : Type 0} (archive : Reader R) (o : Operations) (key : SliceKey) (load : Option ℕ) (addresses : List ℕ) (status : Status) (text : List ℕ)
+    → IsContent o → IsGiven archive (written o) → MakesAnswered archive key load addresses status text → TellsAddresses o key load addresses status text
+made_of one archive o key load addresses status text content given makes =
+    let same = one o makes.content content makes.is_content (given_text archive.left archive.failures archive.old archive.new (written o) (written makes.content) given makes.archive_is) in
     subst (λ (p : Operations). TellsAddresses p key load addresses status text) (sym same) makes.tells
 
 pub one_made : (one : (o p : Operations) → IsContent o → IsContent p → written o ≡ written p → o ≡ p)
     (told : (content : Operations) (key : SliceKey) (load : Option ℕ) (addresses : List ℕ) (status other_status : Status) (text other_text : List ℕ)
     → TellsAddresses content key load addresses status text → TellsAddresses content key load addresses other_status other_text → (status ≡ other_status) × (text ≡ other_text))
-    {R S : Type 0} (left : R → Option (List ℕ)) (other_left : S → Option (List ℕ)) (archive : Result R CannotOpen) (other : Result S CannotOpen) (o : Operations) (key : SliceKey) (load : Option ℕ) (addresses : List ℕ)
+    {R S : Type 0} (archive : Reader R) (other : Reader S) (o : Operations) (key : SliceKey) (load : Option ℕ) (addresses : List ℕ)
     (status other_status : Status) (text other_text : List ℕ)
-    → IsContent o → IsGiven left archive (written o) → IsGiven other_left other (written o)
-    → MakesAnswered left archive key load addresses status text → MakesAnswered other_left other key load addresses other_status other_text → (status ≡ other_status) × (text ≡ other_text)
-one_made one told left other_left archive other o key load addresses status other_status text other_text content given other_given makes other_makes =
-    told o key load addresses status other_status text other_text (made_of one left archive o key load addresses status text content given makes) (made_of one other_left other o key load addresses other_status other_text content other_given other_makes)
+    → IsContent o → IsGiven archive (written o) → IsGiven other (written o)
+    → MakesAnswered archive key load addresses status text → MakesAnswered other key load addresses other_status other_text → (status ≡ other_status) × (text ≡ other_text)
+one_made one told archive other o key load addresses status other_status text other_text content given other_given makes other_makes =
+    told o key load addresses status other_status text other_text (made_of one archive o key load addresses status text content given makes) (made_of one other o key load addresses other_status other_text content other_given other_makes)

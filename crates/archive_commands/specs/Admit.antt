@@ -1,15 +1,16 @@
 -- What `admit` makes of an archive and files.
-use Rattle.std.specs.Prelude.{◌≡◌, ℕ, ◌+◌, List, [], ◌∷◌, ◌++◌, Result, Option}
-use Rattle.std.specs.List.{AllByRecursion, flat_map}
+use Rattle.std.specs.Prelude.{◌≡◌, ℕ, ◌+◌, List, [], ◌∷◌, ◌++◌}
+use Rattle.std.specs.List.{AllByRecursion, AllZip, flat_map}
 use Rattle.archive_core.specs.Content.{Operations, IsContent}
 use Rattle.archive_records.specs.Text.{written}
 use Rattle.archive_exchange.specs.File.{parts, admissible, IsAcceptedFile}
 use Rattle.archive_exchange.specs.Take.{admitted, taken_rows}
 use Rattle.archive_exchange.specs.declared.taken.Taken.{Taken}
 use Rattle.archive_lines.specs.Report.{admit_lines}
-use Rattle.archive_lines.specs.declared.faults.CannotOpen.{CannotOpen}
+use Rattle.archive_lines.specs.declared.faults.Place.TheVariants.{File}
 use Rattle.archive_lines.specs.declared.rows.AdmitRow.{AdmitRow}
-use Rattle.archive_commands.specs.Inputs.{Gives, GiveEach}
+use Rattle.archive_commands.specs.Ends.{Command}
+use Rattle.archive_commands.specs.Inputs.{Reader, Holds, Unfailed, EachUnfailed, EachUntouched, IsAccepted, IsFileRefused, IsFirstRefused, IsRefusedInOrder}
 
 -- the images of files: those of their parts that are one, in their order
 abbrev pub images_of : List (List ℕ) → List (List ℕ)
@@ -26,20 +27,29 @@ admit_rows o place [] = []
 admit_rows o place (file ∷ files) = file_rows place 0 (taken_rows o (parts file)) ++ admit_rows (admitted o (admissible file)) (place + 1) files
 
 -- The files are accepted, and the content has their images now; these are their rows.
-pub record HasTaken {S : Type 0} (left : S → Option (List ℕ)) (files : List (Result S CannotOpen)) (old new : Operations) (rows : List AdmitRow) : Type 0 where
+pub record HasTaken {S : Type 0} (files : List (Reader S)) (old new : Operations) (rows : List AdmitRow) : Type 0 where
   pub texts : List (List ℕ)
-  pub files_are : GiveEach left files texts
+  pub files_are : AllZip Holds files texts
   pub accepted : AllByRecursion IsAcceptedFile texts
   pub content : new ≡ admitted old (images_of texts)
   pub rows_are : rows ≡ admit_rows old 0 texts
 
--- IN is the text of a content and the files are accepted; this is the content with their images, and these are the lines of their rows.
-pub record MakesAdmitted {R S : Type 0} (left_in : R → Option (List ℕ)) (left : S → Option (List ℕ)) (input : Result R CannotOpen) (files : List (Result S CannotOpen)) (content : Operations) (lines : List ℕ) : Type 0 where
+-- IN is the text of a content and the files are accepted; this is the content with their images, and these are the lines of
+-- their rows.
+pub record MakesAdmitted {R S : Type 0} (input : Reader R) (files : List (Reader S)) (content : Operations) (lines : List ℕ) : Type 0 where
   pub before : Operations
   pub texts : List (List ℕ)
   pub is_content : IsContent before
-  pub archive : Gives left_in input (λ text. text ≡ written before)
-  pub files_are : GiveEach left files texts
+  pub archive : Holds input (written before)
+  pub files_are : AllZip Holds files texts
   pub accepted : AllByRecursion IsAcceptedFile texts
   pub content_is : content ≡ admitted before (images_of texts)
   pub lines_are : lines ≡ admit_lines (admit_rows before 0 texts)
+
+-- `admit`, over these inputs
+abbrev pub admit : {R S : Type 0} → Reader R → List (Reader S) → Command
+admit input files = record {
+  Makes = MakesAdmitted input files;
+  Refuses = IsRefusedInOrder input (EachUntouched files) (IsFirstRefused File IsAccepted IsFileRefused files);
+  Unfailed = Unfailed input × EachUnfailed files;
+}

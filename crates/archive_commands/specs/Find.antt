@@ -1,14 +1,14 @@
 -- What `find` tells of an archive.
-use Rattle.std.specs.Prelude.{◌≡◌, ℕ, List, [], ◌∷◌, Option, Result}
+use Rattle.std.specs.Prelude.{◌≡◌, ℕ, List, [], ◌∷◌}
 use Rattle.archive_core.specs.Content.{Operations, IsContent}
 use Rattle.archive_core.specs.Find.{IsFinds}
 use Rattle.archive_core.specs.declared.find.FindRow.{FindRow}
 use Rattle.archive_records.specs.Text.{written}
 use Rattle.archive_lines.specs.Finds.{find_lines}
-use Rattle.archive_lines.specs.declared.faults.CannotOpen.{CannotOpen}
 use Rattle.archive_lines.specs.declared.faults.Status.{Status}
 use Rattle.archive_lines.specs.declared.faults.Status.TheVariants.{Done, Partial}
-use Rattle.archive_commands.specs.Inputs.{Gives}
+use Rattle.archive_commands.specs.Ends.{Query}
+use Rattle.archive_commands.specs.Inputs.{Reader, Holds, Unfailed, IsRefusedArchive}
 
 -- an empty answer is told by the status
 abbrev pub find_status : List FindRow → Status
@@ -16,11 +16,19 @@ find_status [] = Partial
 find_status (_ ∷ _) = Done
 
 -- ARCHIVE is the text of a content; this is the status of its rows of the UUID, and these are their lines.
-pub record MakesFound {R : Type 0} (left : R → Option (List ℕ)) (archive : Result R CannotOpen) (uuid : List ℕ) (status : Status) (text : List ℕ) : Type 0 where
+pub record MakesFound {R : Type 0} (archive : Reader R) (uuid : List ℕ) (status : Status) (text : List ℕ) : Type 0 where
   pub content : Operations
   pub rows : List FindRow
   pub is_content : IsContent content
-  pub archive_is : Gives left archive (λ bytes. bytes ≡ written content)
+  pub archive_is : Holds archive (written content)
   pub finds : IsFinds content uuid rows
   pub status_is : status ≡ find_status rows
   pub text_is : text ≡ find_lines rows
+
+-- `find`, over this archive
+abbrev pub find : {R : Type 0} → Reader R → List ℕ → Query
+find archive uuid = record {
+  Makes = MakesFound archive uuid;
+  Refuses = IsRefusedArchive 0 archive;
+  Unfailed = Unfailed archive;
+}

@@ -1,5 +1,5 @@
--- The inputs of a command: which are refused, and why.
-use Rattle.std.specs.Prelude.{◌≡◌, ◌≢◌, ℕ, ◌+◌, List, [], ◌∷◌, map, take, drop, Option, Some, None, IfSome, Result, Ok, Err, slice_get, ◌⊎◌}
+-- The inputs of a command: what they hold, which are refused, and why.
+use Rattle.std.specs.Prelude.{◌≡◌, ◌≢◌, ℕ, ◌+◌, List, map, take, drop, zip, Option, Some, None, IfSome, Result, Ok, Err, MatchResult, slice_get, ◌⊎◌}
 use Rattle.std.specs.Io.KnownBytes.{Consumes}
 use Rattle.std.specs.List.{AllByRecursion}
 use Rattle.byte_device.specs.Devices.{FailedIn}
@@ -8,118 +8,154 @@ use Rattle.archive_records.specs.Text.{written}
 use Rattle.archive_records.specs.Fault.{IsFault, IsOperationsFault}
 use Rattle.archive_records.specs.Front.{IsLongestLength, IsLongestLengthOf}
 use Rattle.archive_records.specs.declared.fault.RecordFault.{RecordFault}
-use Rattle.archive_records.specs.declared.fault.RecordFaultKind.TheVariants.{Device, OutOfMemory}
+use Rattle.archive_records.specs.declared.fault.RecordFaultKind.TheVariants.{Device, OutOfMemory as RecordOutOfMemory}
 use Rattle.archive_records.specs.declared.kind.FileKind.TheVariants.{Operations as OperationsFile}
 use Rattle.archive_exchange.specs.File.{IsAcceptedFile, IsTakeFault}
 use Rattle.archive_exchange.specs.declared.fault.TakeFault.{TakeFault}
 use Rattle.archive_exchange.specs.declared.fault.TakeFault.TheVariants.{OutOfMemory as TakeOutOfMemory}
 use Rattle.archive_lines.specs.declared.faults.CannotOpen.{CannotOpen}
+use Rattle.archive_lines.specs.declared.faults.CommandFault.{CommandFault}
+use Rattle.archive_lines.specs.declared.faults.CommandFault.TheVariants.{Input, Output, Report, OutOfMemory}
 use Rattle.archive_lines.specs.declared.faults.Place.{Place}
 use Rattle.archive_lines.specs.declared.faults.Place.TheVariants.{Archive, File, Ops}
 use Rattle.archive_lines.specs.declared.faults.Why.{Why}
 use Rattle.archive_lines.specs.declared.faults.Why.TheVariants.{Device as CannotRead, Record, Take, CannotOpen as NotOpened}
 
--- The input was opened, and this holds of its bytes, where they are known.
-abbrev pub Gives : {S : Type 0} → (S → Option (List ℕ)) → Result S CannotOpen → (List ℕ → Type 0) → Type 0
-Gives left (Ok source) P = IfSome (left source) P
-Gives left (Err _) P = ⊥
+-- An input in a call, before it and after it: a reader, or that none was opened. The functions tell what a reader has left,
+-- where that is known, and how often it has failed.
+pub record Reader (S : Type 0) : Type 0 where
+  pub left : S → Option (List ℕ)
+  pub failures : S → ℕ
+  pub old : Result S CannotOpen
+  pub new : Result S CannotOpen
 
--- The files were opened and hold these bytes, one after another.
-abbrev pub GiveEach : {S : Type 0} → (S → Option (List ℕ)) → List (Result S CannotOpen) → List (List ℕ) → Type 0
-GiveEach left [] [] = Unit {0}
-GiveEach left [] (_ ∷ _) = ⊥
-GiveEach left (_ ∷ _) [] = ⊥
-GiveEach left (file ∷ files) (text ∷ texts) = Gives left file (λ bytes. bytes ≡ text) × GiveEach left files texts
+-- the input between these two states
+abbrev pub reader : {S : Type 0} → (S → Option (List ℕ)) → (S → ℕ) → Result S CannotOpen → Result S CannotOpen → Reader S
+reader left failures old new = record { left = left; failures = failures; old = old; new = new }
 
--- how often the reader of an input failed
+-- the inputs of a list, each between its two states
+abbrev pub readers : {S : Type 0} → (S → Option (List ℕ)) → (S → ℕ) → List (Result S CannotOpen) → List (Result S CannotOpen) → List (Reader S)
+readers left failures old new = map (λ states. reader left failures states.0 states.1) (zip old new)
+
+-- The input was opened, and this is true of its bytes, where they are known.
+abbrev pub Gives : {S : Type 0} → Reader S → (List ℕ → Type 0) → Type 0
+Gives input IsTrue = MatchResult input.old (λ source. IfSome (input.left source) IsTrue) (λ _. ⊥)
+
+-- The input was opened and holds these bytes, where its own are known.
+abbrev pub Holds : {S : Type 0} → Reader S → List ℕ → Type 0
+Holds input bytes = Gives input (λ text. text ≡ bytes)
+
+-- how often the reader of an input has failed
 abbrev pub failures_of : {S : Type 0} → (S → ℕ) → Result S CannotOpen → ℕ
 failures_of failures (Ok source) = failures source
 failures_of failures (Err _) = 0
-
--- the reader of an input did not fail between these states of it
-abbrev pub Unfailed : {S : Type 0} → (S → ℕ) → Result S CannotOpen → Result S CannotOpen → Type 0
-Unfailed failures old new = failures_of failures new ≡ failures_of failures old
-
--- nor did one of the readers of these inputs
-abbrev pub EachUnfailed : {S : Type 0} → (S → ℕ) → List (Result S CannotOpen) → List (Result S CannotOpen) → Type 0
-EachUnfailed failures old new = map (failures_of failures) new ≡ map (failures_of failures) old
 
 -- the bytes that an input has left, where they are known
 abbrev pub left_of : {S : Type 0} → (S → Option (List ℕ)) → Result S CannotOpen → Option (List ℕ)
 left_of left (Ok source) = left source
 left_of left (Err _) = None
 
--- The reader failed in the call, and the offset is the one that this relation has of the bytes that came before.
-abbrev pub FailedBehind : {S : Type 0} → (List ℕ → ℕ → Type 0) → (S → Option (List ℕ)) → (S → ℕ) → S → Result S CannotOpen → ℕ → Type 0
-FailedBehind IsOffsetOf left failures old new offset =
-    FailedIn (failures old) (failures_of failures new)
-    × (bytes : List ℕ) × Consumes (left old) (left_of left new) bytes × IsOffsetOf bytes offset
+-- The call is not the one in which the reader failed.
+abbrev pub Unfailed : {S : Type 0} → Reader S → Type 0
+Unfailed input = failures_of input.failures input.new ≡ failures_of input.failures input.old
 
--- why an archive is not read, between these states of the input: it was not opened, its text has this fault, or the reader
--- failed; the offset is then the length of the longest good front of what came
-abbrev pub IsArchiveRefused : {R : Type 0} → (R → Option (List ℕ)) → (R → ℕ) → Result R CannotOpen → Result R CannotOpen → Why → Type 0
-IsArchiveRefused left failures (Err _) new why = why ≡ NotOpened
-IsArchiveRefused left failures (Ok old) new why =
-    (fault : RecordFault) × (why ≡ Record fault) × (fault.kind ≢ OutOfMemory)
-    × (fault.kind ≢ Device → IfSome (left old) (λ text. IsFault text fault))
-    × (fault.kind ≡ Device → FailedBehind IsLongestLength left failures old new fault.offset)
+-- No reader of these failed.
+abbrev pub EachUnfailed : {S : Type 0} → List (Reader S) → Type 0
+EachUnfailed inputs = AllByRecursion Unfailed inputs
+
+-- The input is as it was.
+abbrev pub IsUntouched : {S : Type 0} → Reader S → Type 0
+IsUntouched input = input.new ≡ input.old
+
+-- Each of these inputs is as it was.
+abbrev pub EachUntouched : {S : Type 0} → List (Reader S) → Type 0
+EachUntouched inputs = AllByRecursion IsUntouched inputs
+
+-- The reader failed in the call, and the offset is the one that this relation has of the bytes that came before.
+abbrev pub FailedBehind : {S : Type 0} → (List ℕ → ℕ → Type 0) → Reader S → ℕ → Type 0
+FailedBehind IsOffsetOf input offset =
+    FailedIn (failures_of input.failures input.old) (failures_of input.failures input.new)
+    × (bytes : List ℕ) × Consumes (left_of input.left input.old) (left_of input.left input.new) bytes × IsOffsetOf bytes offset
+
+-- why an archive is not read: it was not opened, its text has this fault, or the reader failed; the offset is then the length
+-- of the longest good front of what came
+abbrev pub IsArchiveRefused : {S : Type 0} → Reader S → Why → Type 0
+IsArchiveRefused input why =
+    MatchResult input.old
+    (λ source. (fault : RecordFault) × (why ≡ Record fault) × (fault.kind ≢ RecordOutOfMemory)
+    × (fault.kind ≢ Device → IfSome (input.left source) (λ text. IsFault text fault))
+    × (fault.kind ≡ Device → FailedBehind IsLongestLength input fault.offset))
+    (λ _. why ≡ NotOpened)
+
+-- why an operations file is not applied, likewise
+abbrev pub IsOpsRefused : {S : Type 0} → Reader S → Why → Type 0
+IsOpsRefused input why =
+    MatchResult input.old
+    (λ source. (fault : RecordFault) × (why ≡ Record fault) × (fault.kind ≢ RecordOutOfMemory)
+    × (fault.kind ≢ Device → IfSome (input.left source) (λ text. IsOperationsFault text fault))
+    × (fault.kind ≡ Device → FailedBehind (IsLongestLengthOf OperationsFile) input fault.offset))
+    (λ _. why ≡ NotOpened)
 
 -- why a file is not taken: it was not opened, the reader failed, or its bytes have this fault
-abbrev pub IsFileRefused : {S : Type 0} → (S → Option (List ℕ)) → (S → ℕ) → Result S CannotOpen → Result S CannotOpen → Why → Type 0
-IsFileRefused left failures (Err _) new why = why ≡ NotOpened
-IsFileRefused left failures (Ok old) new why =
-    ((why ≡ CannotRead) × FailedIn (failures old) (failures_of failures new))
-    ⊎ ((fault : TakeFault) × (why ≡ Take fault) × (fault ≢ TakeOutOfMemory) × IfSome (left old) (λ bytes. IsTakeFault bytes fault))
+abbrev pub IsFileRefused : {S : Type 0} → Reader S → Why → Type 0
+IsFileRefused input why =
+    MatchResult input.old
+    (λ source. ((why ≡ CannotRead) × FailedIn (input.failures source) (failures_of input.failures input.new))
+    ⊎ ((fault : TakeFault) × (why ≡ Take fault) × (fault ≢ TakeOutOfMemory) × IfSome (input.left source) (λ bytes. IsTakeFault bytes fault)))
+    (λ _. why ≡ NotOpened)
 
--- This file is refused, which stands at this place of the words.
-abbrev pub IsRefusedFile : {S : Type 0} → (S → Option (List ℕ)) → (S → ℕ) → ℕ → Result S CannotOpen → Result S CannotOpen → Place → Why → Type 0
-IsRefusedFile left failures place old new at why = (at ≡ File place) × IsFileRefused left failures old new why
+-- The input is the text of a content.
+abbrev pub IsArchive : {S : Type 0} → Reader S → Type 0
+IsArchive input = (o : Operations) × IsContent o × Holds input (written o)
 
--- The bytes of the file at this place are refused.
+-- The input is a file whose slices are taken.
+abbrev pub IsAccepted : {S : Type 0} → Reader S → Type 0
+IsAccepted input = (bytes : List ℕ) × IsAcceptedFile bytes × Holds input bytes
+
+-- the archive at this place of the words is refused
+abbrev pub IsRefusedArchive : {S : Type 0} → ℕ → Reader S → Place → Why → Type 0
+IsRefusedArchive place input at why = (at ≡ Archive place) × IsArchiveRefused input why
+
+-- the file at this place is refused
+abbrev pub IsRefusedFile : {S : Type 0} → ℕ → Reader S → Place → Why → Type 0
+IsRefusedFile place input at why = (at ≡ File place) × IsFileRefused input why
+
+-- the bytes of the file at this place are refused
 abbrev pub IsRefusedBytes : ℕ → List ℕ → Place → Why → Type 0
 IsRefusedBytes place bytes at why = (at ≡ File place) × (fault : TakeFault) × (why ≡ Take fault) × (fault ≢ TakeOutOfMemory) × IsTakeFault bytes fault
 
--- This archive is refused, which stands at this place of the words.
-abbrev pub IsRefusedArchive : {R : Type 0} → (R → Option (List ℕ)) → (R → ℕ) → ℕ → Result R CannotOpen → Result R CannotOpen → Place → Why → Type 0
-IsRefusedArchive left failures place old new at why = (at ≡ Archive place) × IsArchiveRefused left failures old new why
+-- the operations file is refused
+abbrev pub IsRefusedOps : {S : Type 0} → Reader S → Place → Why → Type 0
+IsRefusedOps input at why = (at ≡ Ops) × IsOpsRefused input why
 
--- The file at this place is refused, as this relation has it between the states of one input.
-pub record IsRefusedAt {S : Type 0} (IsRefused : Result S CannotOpen → Result S CannotOpen → Why → Type 0) (old new : List (Result S CannotOpen)) (place : ℕ) (why : Why) : Type 0 where
-  pub before : Result S CannotOpen
-  pub after : Result S CannotOpen
-  pub before_is : slice_get old place ≡ Some before
-  pub after_is : slice_get new place ≡ Some after
-  pub refused : IsRefused before after why
+-- One of these inputs, which have such places in the words, is refused: those before it are accepted, and those behind it are
+-- untouched.
+pub record IsFirstRefused {S : Type 0} (place_of : ℕ → Place) (IsGood : Reader S → Type 0) (IsRefused : Reader S → Why → Type 0) (inputs : List (Reader S)) (at : Place) (why : Why) : Type 0 where
+  pub number : ℕ
+  pub at_is : at ≡ place_of number
+  pub before : AllByRecursion IsGood (take number inputs)
+  pub input : Reader S
+  pub input_is : slice_get inputs number ≡ Some input
+  pub refused : IsRefused input why
+  pub behind : EachUntouched (drop (number + 1) inputs)
 
--- The files before this place are accepted, and the one at it is refused; those behind it are as they were.
-abbrev pub IsFirstFileRefused : {S : Type 0} → (S → Option (List ℕ)) → (S → ℕ) → List (Result S CannotOpen) → List (Result S CannotOpen) → Place → Why → Type 0
-IsFirstFileRefused left failures old new Ops why = ⊥
-IsFirstFileRefused left failures old new (Archive place) why = ⊥
-IsFirstFileRefused left failures old new (File place) why =
-    ((texts : List (List ℕ)) × GiveEach left (take place old) texts × AllByRecursion IsAcceptedFile texts)
-    × IsRefusedAt (IsFileRefused left failures) old new place why
-    × (drop (place + 1) new ≡ drop (place + 1) old)
+-- The first input of a command is refused, and those behind it are untouched; or it is the text of a content, and behind it this
+-- one is refused.
+abbrev pub IsRefusedInOrder : {S : Type 0} → Reader S → Type 0 → (Place → Why → Type 0) → Place → Why → Type 0
+IsRefusedInOrder input Untouched IsRefusedBehind at why =
+    (IsRefusedArchive 0 input at why × Untouched)
+    ⊎ (IsArchive input × IsRefusedBehind at why)
 
--- The first input that is refused, in the order of the words: the archive, or where that is accepted the first such file.
-abbrev pub IsFirstRefused : {R S : Type 0} → (R → Option (List ℕ)) → (R → ℕ) → (S → Option (List ℕ)) → (S → ℕ) → Result R CannotOpen → Result R CannotOpen
-    → List (Result S CannotOpen) → List (Result S CannotOpen) → Place → Why → Type 0
-IsFirstRefused left_in failures_in left failures in_old in_new old new Ops why = ⊥
-IsFirstRefused left_in failures_in left failures in_old in_new old new (Archive place) why = (place ≡ 0) × IsArchiveRefused left_in failures_in in_old in_new why × (new ≡ old)
-IsFirstRefused left_in failures_in left failures in_old in_new old new (File place) why =
-    ((o : Operations) × IsContent o × Gives left_in in_old (λ text. text ≡ written o))
-    × IsFirstFileRefused left failures old new (File place) why
+-- The fault is that of an input, of which this holds, or want of memory, where this does.
+abbrev pub IsRefusal : (Place → Why → Type 0) → Type 0 → CommandFault → Type 0
+IsRefusal Refused Unfailed (Input place why) = Refused place why
+IsRefusal Refused Unfailed (Output _) = ⊥
+IsRefusal Refused Unfailed (Report _) = ⊥
+IsRefusal Refused Unfailed OutOfMemory = Unfailed
 
 -- The input was opened, and these are its bytes.
-abbrev pub IsGiven : {S : Type 0} → (S → Option (List ℕ)) → Result S CannotOpen → List ℕ → Type 0
-IsGiven left (Ok source) bytes = left source ≡ Some bytes
-IsGiven left (Err _) bytes = ⊥
-
--- The files were opened, and these are their bytes.
-abbrev pub AreGiven : {S : Type 0} → (S → Option (List ℕ)) → List (Result S CannotOpen) → List (List ℕ) → Type 0
-AreGiven left [] [] = Unit {0}
-AreGiven left [] (_ ∷ _) = ⊥
-AreGiven left (_ ∷ _) [] = ⊥
-AreGiven left (file ∷ files) (bytes ∷ rest) = IsGiven left file bytes × AreGiven left files rest
+abbrev pub IsGiven : {S : Type 0} → Reader S → List ℕ → Type 0
+IsGiven input bytes = MatchResult input.old (λ source. input.left source ≡ Some bytes) (λ _. ⊥)
 
 -- the reader failed, and nothing else is wrong
 abbrev pub IsDeviceFault : Why → Type 0
@@ -127,43 +163,3 @@ IsDeviceFault NotOpened = ⊥
 IsDeviceFault CannotRead = Unit {0}
 IsDeviceFault (Record fault) = fault.kind ≡ Device
 IsDeviceFault (Take _) = ⊥
-
--- The files were opened and hold the texts of contents.
-pub record AreArchives {S : Type 0} (left : S → Option (List ℕ)) (files : List (Result S CannotOpen)) : Type 0 where
-  pub contents : List Operations
-  pub are_contents : AllByRecursion IsContent contents
-  pub files_are : GiveEach left files (map written contents)
-
--- The files before this place are archives, and the one at it is refused; those behind it are as they were.
-abbrev pub IsFirstJoinRefused : {S : Type 0} → (S → Option (List ℕ)) → (S → ℕ) → List (Result S CannotOpen) → List (Result S CannotOpen) → Place → Why → Type 0
-IsFirstJoinRefused left failures old new at why =
-    (place : ℕ) × (at ≡ Archive (place + 1)) × AreArchives left (take place old)
-    × IsRefusedAt (IsArchiveRefused left failures) old new place why
-    × (drop (place + 1) new ≡ drop (place + 1) old)
-
--- The first archive that is refused, in the order of the words: IN, which is archive 0, or where that is accepted the first such file.
-abbrev pub IsFirstArchiveRefused : {R S : Type 0} → (R → Option (List ℕ)) → (R → ℕ) → (S → Option (List ℕ)) → (S → ℕ) → Result R CannotOpen → Result R CannotOpen
-    → List (Result S CannotOpen) → List (Result S CannotOpen) → Place → Why → Type 0
-IsFirstArchiveRefused left_in failures_in left failures in_old in_new old new at why =
-    (IsRefusedArchive left_in failures_in 0 in_old in_new at why × (new ≡ old))
-    ⊎ (((o : Operations) × IsContent o × Gives left_in in_old (λ text. text ≡ written o)) × IsFirstJoinRefused left failures old new at why)
-
--- why an operations file is not applied, between these states of the input: it was not opened, its text has this fault, or the
--- reader failed; the offset is then the length of the longest good front of what came
-abbrev pub IsOpsRefused : {S : Type 0} → (S → Option (List ℕ)) → (S → ℕ) → Result S CannotOpen → Result S CannotOpen → Why → Type 0
-IsOpsRefused left failures (Err _) new why = why ≡ NotOpened
-IsOpsRefused left failures (Ok old) new why =
-    (fault : RecordFault) × (why ≡ Record fault) × (fault.kind ≢ OutOfMemory)
-    × (fault.kind ≢ Device → IfSome (left old) (λ text. IsOperationsFault text fault))
-    × (fault.kind ≡ Device → FailedBehind (IsLongestLengthOf OperationsFile) left failures old new fault.offset)
-
--- The operations file is refused.
-abbrev pub IsRefusedOps : {S : Type 0} → (S → Option (List ℕ)) → (S → ℕ) → Result S CannotOpen → Result S CannotOpen → Place → Why → Type 0
-IsRefusedOps left failures old new at why = (at ≡ Ops) × IsOpsRefused left failures old new why
-
--- The first input of `apply` that is refused: IN, or where that is accepted the operations file.
-abbrev pub IsFirstApplyRefused : {R S : Type 0} → (R → Option (List ℕ)) → (R → ℕ) → (S → Option (List ℕ)) → (S → ℕ) → Result R CannotOpen → Result R CannotOpen
-    → Result S CannotOpen → Result S CannotOpen → Place → Why → Type 0
-IsFirstApplyRefused left_in failures_in left failures in_old in_new old new at why =
-    (IsRefusedArchive left_in failures_in 0 in_old in_new at why × (new ≡ old))
-    ⊎ (((o : Operations) × IsContent o × Gives left_in in_old (λ text. text ≡ written o)) × IsRefusedOps left failures old new at why)

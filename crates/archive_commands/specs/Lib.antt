@@ -1,9 +1,9 @@
 pub mod Inputs
-pub mod Leaves
+pub mod Outputs
 pub mod Ends
 pub mod Admit
 pub mod Retire
-pub mod Find
 pub mod Merge
 pub mod Apply
+pub mod Find
 pub mod Symbolicate

@@ -1,18 +1,27 @@
 -- What `retire` makes of an archive.
-use Rattle.std.specs.Prelude.{◌≡◌, ℕ, List, Option, Result}
+use Rattle.std.specs.Prelude.{◌≡◌, ℕ, List}
 use Rattle.archive_core.specs.Record.{retirement_record}
 use Rattle.archive_core.specs.Content.{Operations, IsContent, with_record, changes}
 use Rattle.archive_core.specs.declared.keys.SliceKey.{SliceKey}
 use Rattle.archive_core.specs.declared.keys.Digest.{Digest}
 use Rattle.archive_records.specs.Text.{written}
 use Rattle.archive_lines.specs.Report.{retire_line}
-use Rattle.archive_lines.specs.declared.faults.CannotOpen.{CannotOpen}
-use Rattle.archive_commands.specs.Inputs.{Gives}
+use Rattle.archive_commands.specs.Ends.{Command}
+use Rattle.archive_commands.specs.Inputs.{Reader, Holds, Unfailed, IsRefusedArchive}
 
--- IN is the text of a content; this is the content with the retirement, and this is the line that tells whether that changed it.
-pub record MakesRetired {R : Type 0} (left : R → Option (List ℕ)) (input : Result R CannotOpen) (key : SliceKey) (digest : Digest) (content : Operations) (lines : List ℕ) : Type 0 where
+-- IN is the text of a content; this is the content with the retirement, and this is the line that tells whether that
+-- changed it.
+pub record MakesRetired {R : Type 0} (input : Reader R) (key : SliceKey) (digest : Digest) (content : Operations) (lines : List ℕ) : Type 0 where
   pub before : Operations
   pub is_content : IsContent before
-  pub archive : Gives left input (λ bytes. bytes ≡ written before)
+  pub archive : Holds input (written before)
   pub content_is : content ≡ with_record before (retirement_record key digest.0)
   pub lines_are : lines ≡ retire_line (changes before (retirement_record key digest.0)) key digest
+
+-- `retire`, over this input
+abbrev pub retire : {R : Type 0} → Reader R → SliceKey → Digest → Command
+retire input key digest = record {
+  Makes = MakesRetired input key digest;
+  Refuses = IsRefusedArchive 0 input;
+  Unfailed = Unfailed input;
+}

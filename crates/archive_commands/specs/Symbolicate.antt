@@ -1,5 +1,5 @@
 -- What `symbolicate` tells of an archive.
-use Rattle.std.specs.Prelude.{◌≡◌, ℕ, List, Bool, true, false, Option, Some, None, Result, map, if◌then◌else◌}
+use Rattle.std.specs.Prelude.{◌≡◌, ℕ, List, Bool, true, false, Option, Some, None, map, if◌then◌else◌}
 use Rattle.std.specs.List.{AllByRecursion, flat_map, list_all}
 use Rattle.archive_core.specs.Content.{Operations, IsContent}
 use Rattle.archive_core.specs.Lookup.{IsAnswer, answer_view}
@@ -10,10 +10,10 @@ use Rattle.archive_core.specs.declared.lookup.Where.{Where}
 use Rattle.archive_core.specs.declared.lookup.Where.TheVariants.{File, Loaded}
 use Rattle.archive_records.specs.Text.{written}
 use Rattle.archive_lines.specs.Answers.{answer_lines}
-use Rattle.archive_lines.specs.declared.faults.CannotOpen.{CannotOpen}
 use Rattle.archive_lines.specs.declared.faults.Status.{Status}
 use Rattle.archive_lines.specs.declared.faults.Status.TheVariants.{Done, Partial}
-use Rattle.archive_commands.specs.Inputs.{Gives}
+use Rattle.archive_commands.specs.Ends.{Query}
+use Rattle.archive_commands.specs.Inputs.{Reader, Holds, Unfailed, IsRefusedArchive}
 
 -- the place that an address of the words means: one of the image where it was loaded, if the words say where, and else one of its file
 abbrev pub place_of : Option ℕ → ℕ → Where
@@ -53,8 +53,16 @@ pub record TellsAddresses (content : Operations) (key : SliceKey) (load : Option
   pub text_is : text ≡ answers_text rows
 
 -- ARCHIVE is the text of a content; this is the status of its answers to the addresses, and these are their lines.
-pub record MakesAnswered {R : Type 0} (left : R → Option (List ℕ)) (archive : Result R CannotOpen) (key : SliceKey) (load : Option ℕ) (addresses : List ℕ) (status : Status) (text : List ℕ) : Type 0 where
+pub record MakesAnswered {R : Type 0} (archive : Reader R) (key : SliceKey) (load : Option ℕ) (addresses : List ℕ) (status : Status) (text : List ℕ) : Type 0 where
   pub content : Operations
   pub is_content : IsContent content
-  pub archive_is : Gives left archive (λ bytes. bytes ≡ written content)
+  pub archive_is : Holds archive (written content)
   pub tells : TellsAddresses content key load addresses status text
+
+-- `symbolicate`, over this archive
+abbrev pub symbolicate : {R : Type 0} → Reader R → SliceKey → Option ℕ → List ℕ → Query
+symbolicate archive key load addresses = record {
+  Makes = MakesAnswered archive key load addresses;
+  Refuses = IsRefusedArchive 0 archive;
+  Unfailed = Unfailed archive;
+}

@@ -3,10 +3,11 @@ ghost use Rattle.std.specs.Prelude.{◌≡◌, ◌++◌, ℕ, List, OnOk, OnErr,
 ghost use Rattle.archive_core.specs.Content.{Operations};
 ghost use Rattle.archive_exchange.specs.File.{admissible, parts, IsAcceptedFile, IsTakeFault};
 ghost use Rattle.archive_exchange.specs.Take.{admitted, taken_rows};
-ghost use Rattle.archive_commands.specs.Admit.{file_rows, HasTaken, MakesAdmitted};
-ghost use Rattle.archive_commands.specs.Inputs.{EachUnfailed, Gives, IsRefusedBytes, IsRefusedFile, IsFirstFileRefused, IsFirstRefused, Unfailed};
-ghost use Rattle.archive_commands.specs.Leaves.{IsRefusal};
-ghost use Rattle.archive_commands.specs.Ends.{Ends, writer};
+ghost use Rattle.archive_lines.specs.declared.faults.Place.TheVariants.{File};
+ghost use Rattle.archive_commands.specs.Admit.{HasTaken, admit, file_rows};
+ghost use Rattle.archive_commands.specs.Ends.{Ends};
+ghost use Rattle.archive_commands.specs.Inputs.{EachUnfailed, Holds, IsAccepted, IsFileRefused, IsFirstRefused, IsRefusal, IsRefusedBytes, IsRefusedFile, Unfailed, reader, readers};
+ghost use Rattle.archive_commands.specs.Outputs.{writer};
 
 use crate::publish::publish;
 use crate::sources::{read_file, read_input};
@@ -67,11 +68,12 @@ fn admit_file<A: Archive, S: Source>(
 ) -> Result<(), CommandFault>
     ensures taken { OnOk result ((bytes : List ℕ)
         × IsAcceptedFile bytes
-        × Gives S.left file.old (λ text. text ≡ bytes)
+        × Holds (reader S.left S.failures file.old file.new) bytes
         × (A.content archive.new ≡ admitted (A.content archive.old) (admissible bytes))
         × (rows.new.items ≡ rows.old.items ++ file_rows place 0 (taken_rows (A.content archive.old) (parts bytes)))) }
-    ensures unfailed { OnOk result (Unfailed S.failures file.old file.new) }
-    ensures refused { IfErr result (IsRefusal (IsRefusedFile S.left S.failures place file.old file.new) (Unfailed S.failures file.old file.new)) }
+    ensures unfailed { OnOk result (Unfailed (reader S.left S.failures file.old file.new)) }
+    ensures refused { IfErr result (IsRefusal (IsRefusedFile place (reader S.left S.failures file.old file.new))
+        (Unfailed (reader S.left S.failures file.old file.new))) }
 {
     let bytes = read_file(heap.clone()?, place, file)?;
     let taken = take_bytes(archive, place, bytes)?;
@@ -85,9 +87,10 @@ fn admit_files<A: Archive, S: Source>(
     archive: &mut A,
     files: &mut [Result<S, CannotOpen>],
 ) -> Result<Vec<AdmitRow, Heap>, CommandFault>
-    ensures taken { IfOk result (λ rows. HasTaken S.left files.old (A.content archive.old) (A.content archive.new) rows.items) }
-    ensures unfailed { OnOk result (EachUnfailed S.failures files.old files.new) }
-    ensures refused { IfErr result (IsRefusal (IsFirstFileRefused S.left S.failures files.old files.new) (EachUnfailed S.failures files.old files.new)) }
+    ensures taken { IfOk result (λ rows. HasTaken (readers S.left S.failures files.old files.new) (A.content archive.old) (A.content archive.new) rows.items) }
+    ensures unfailed { OnOk result (EachUnfailed (readers S.left S.failures files.old files.new)) }
+    ensures refused { IfErr result (IsRefusal (IsFirstRefused File IsAccepted IsFileRefused (readers S.left S.failures files.old files.new))
+        (EachUnfailed (readers S.left S.failures files.old files.new))) }
 {
     let mut rows = Vec::new(heap.clone()?);
     'files: for (place, file) in files.iter_mut().enumerate() {
@@ -109,9 +112,7 @@ pub fn run_admit<A: Archive + Drop, R: Source, S: Source, W: Sink, P: Sink>(
     out: &mut W,
     report: &mut P,
 ) -> Result<Status, CommandFault>
-    ensures { Ends (Unfailed R.failures input.old input.new × EachUnfailed S.failures files.old files.new)
-        (MakesAdmitted R.left S.left input.old files.old)
-        (IsFirstRefused R.left R.failures S.left S.failures input.old input.new files.old files.new)
+    ensures { Ends (admit (reader R.left R.failures input.old input.new) (readers S.left S.failures files.old files.new))
         (writer W.held W.failures out.old out.new) (writer P.held P.failures report.old report.new) result }
 {
     let mut archive: A = read_input(heap.clone()?, 0, input)?;

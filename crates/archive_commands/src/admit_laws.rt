@@ -1,18 +1,17 @@
 //! What the definitions of `admit` say in the words of its user. Each law is the contract of a function that does nothing
 //! but call laws of the crates below.
-ghost use Rattle.std.specs.Prelude.{◌≡◌, ◌↔◌, ◌<◌, ◌+◌, ◌++◌, ◌^◌, ℕ, List, Result, Some, Contains, drop, map, take, slice_get};
-ghost use Rattle.std.specs.List.{AllByRecursion};
+ghost use Rattle.std.specs.Prelude.{◌≡◌, ◌↔◌, ◌<◌, ◌+◌, ◌++◌, ◌^◌, ℕ, List, Some, Contains, drop, map, take, slice_get};
+ghost use Rattle.std.specs.List.{AllByRecursion, AllZip};
 ghost use Rattle.std.specs.FinSet as set;
 ghost use Rattle.archive_core.specs.Record.{admission_record};
 ghost use Rattle.archive_core.specs.Content.{Operations, IsContent, IsMade, made, joined};
 ghost use Rattle.archive_records.specs.Text.{written};
 ghost use Rattle.archive_exchange.specs.File.{parts, IsAcceptedFile};
 ghost use Rattle.archive_exchange.specs.Take.{admitted, taken_rows};
-ghost use Rattle.archive_lines.specs.declared.faults.CannotOpen.{CannotOpen};
 ghost use Rattle.archive_lines.specs.declared.faults.Place.{Place};
 ghost use Rattle.archive_lines.specs.declared.faults.Why.{Why};
-ghost use Rattle.archive_commands.specs.Admit.{images_of, file_rows, admit_rows};
-ghost use Rattle.archive_commands.specs.Inputs.{AreGiven, IsDeviceFault, IsFirstRefused, IsGiven};
+ghost use Rattle.archive_commands.specs.Admit.{admit, admit_rows, file_rows, images_of};
+ghost use Rattle.archive_commands.specs.Inputs.{IsDeviceFault, IsGiven, Reader};
 
 use archive_exchange::laws::one_take_fault;
 use archive_records::laws::text_has_no_fault;
@@ -36,13 +35,13 @@ pub fn rows_in_order()
 
 /// Where IN is the text of a content and each file is accepted, no input is refused but for its device.
 pub fn accepted_inputs_are_not_refused<R: Source, S: Source>()
-    ensures { (in_old in_new : Result R CannotOpen) (old new : List (Result S CannotOpen)) (o : Operations) (texts : List (List ℕ)) (place : Place) (why : Why)
+    ensures { (input : Reader R) (files : List (Reader S)) (o : Operations) (texts : List (List ℕ)) (place : Place) (why : Why)
         → IsContent o
         → set.len o < 2 ^ 64
-        → IsGiven R.left in_old (written o)
-        → AreGiven S.left old texts
+        → IsGiven input (written o)
+        → AllZip IsGiven files texts
         → AllByRecursion IsAcceptedFile texts
-        → IsFirstRefused R.left R.failures S.left S.failures in_old in_new old new place why
+        → (admit input files).Refuses place why
         → IsDeviceFault why }
 {
     text_has_no_fault();

@@ -2,9 +2,10 @@
 ghost use Rattle.std.specs.Prelude.{◌≡◌, ◌≤◌, if◌then◌else◌, length, map, OnOk, IfOk};
 ghost use Rattle.archive_core.specs.Content.{with_record, with_records, changes};
 ghost use Rattle.archive_core.specs.Record.{rec};
-ghost use Rattle.archive_commands.specs.Apply.{new_among, MakesApplied};
-ghost use Rattle.archive_commands.specs.Inputs.{IsFirstApplyRefused, Unfailed};
-ghost use Rattle.archive_commands.specs.Ends.{Ends, writer};
+ghost use Rattle.archive_commands.specs.Apply.{apply, new_among};
+ghost use Rattle.archive_commands.specs.Ends.{Ends};
+ghost use Rattle.archive_commands.specs.Inputs.{reader};
+ghost use Rattle.archive_commands.specs.Outputs.{writer};
 
 use crate::publish::publish;
 use crate::sources::{read_input, read_operations};
@@ -51,9 +52,7 @@ pub fn run_apply<A: Archive + Drop, R: Source, S: Source, W: Sink, P: Sink>(
     out: &mut W,
     report: &mut P,
 ) -> Result<Status, CommandFault>
-    ensures { Ends (Unfailed R.failures input.old input.new × Unfailed S.failures ops.old ops.new)
-        (MakesApplied R.left S.left input.old ops.old)
-        (IsFirstApplyRefused R.left R.failures S.left S.failures input.old input.new ops.old ops.new)
+    ensures { Ends (apply (reader R.left R.failures input.old input.new) (reader S.left S.failures ops.old ops.new))
         (writer W.held W.failures out.old out.new) (writer P.held P.failures report.old report.new) result }
 {
     let mut archive: A = read_input(heap.clone()?, 0, input)?;

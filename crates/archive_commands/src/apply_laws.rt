@@ -1,18 +1,17 @@
 //! What the definitions of `apply` say in the words of its user. Each law is the contract of a function that does nothing
 //! but call other laws.
-ghost use Rattle.std.specs.Prelude.{◌≡◌, ◌↔◌, ◌<◌, ◌≤◌, ◌+◌, ◌^◌, ℕ, List, Result, Contains, length, map};
+ghost use Rattle.std.specs.Prelude.{◌≡◌, ◌↔◌, ◌<◌, ◌≤◌, ◌+◌, ◌^◌, ℕ, List, Contains, length, map};
 ghost use Rattle.std.specs.FinSet as set;
 ghost use Rattle.archive_core.specs.Content.{Operations, IsContent, IsMade, made, joined, with_records};
 ghost use Rattle.archive_core.specs.Record.{rec};
 ghost use Rattle.archive_core.specs.declared.operations.Operation.{Operation};
 ghost use Rattle.archive_records.specs.Text.{IsOperationsText, written};
-ghost use Rattle.archive_lines.specs.declared.faults.CannotOpen.{CannotOpen};
 ghost use Rattle.archive_lines.specs.declared.faults.Place.{Place};
 ghost use Rattle.archive_lines.specs.declared.faults.Why.{Why};
-ghost use Rattle.archive_commands.specs.Apply.{new_among};
-ghost use Rattle.archive_commands.specs.Inputs.{IsDeviceFault, IsFirstApplyRefused, IsGiven};
+ghost use Rattle.archive_commands.specs.Apply.{apply, new_among};
+ghost use Rattle.archive_commands.specs.Inputs.{IsDeviceFault, IsGiven, Reader};
 
-use crate::laws::accepted_inputs_are_not_refused;
+use crate::admit_laws::accepted_inputs_are_not_refused;
 use archive_core::laws::takes_in_any_order;
 use archive_records::laws::operations_have_no_fault;
 use byte_device::Source;
@@ -37,13 +36,13 @@ pub fn new_ones_are_counted()
 
 /// Where IN is the text of a content and OPS that of operations, neither is refused but for its device.
 pub fn accepted_operations_are_not_refused<R: Source, S: Source>()
-    ensures { (in_old in_new : Result R CannotOpen) (old new : Result S CannotOpen) (o : Operations) (text : List ℕ) (operations : List Operation) (place : Place) (why : Why)
+    ensures { (input : Reader R) (ops : Reader S) (o : Operations) (text : List ℕ) (operations : List Operation) (place : Place) (why : Why)
         → IsContent o
         → set.len o < 2 ^ 64
-        → IsGiven R.left in_old (written o)
-        → IsGiven S.left old text
+        → IsGiven input (written o)
+        → IsGiven ops text
         → IsOperationsText text operations
-        → IsFirstApplyRefused R.left R.failures S.left S.failures in_old in_new old new place why
+        → (apply input ops).Refuses place why
         → IsDeviceFault why }
 {
     accepted_inputs_are_not_refused::<R, R>();

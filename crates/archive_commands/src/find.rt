@@ -1,8 +1,9 @@
 //! `find ARCHIVE UUID`.
 ghost use Rattle.std.specs.Prelude.{◌≡◌};
-ghost use Rattle.archive_commands.specs.Find.{MakesFound, find_status};
-ghost use Rattle.archive_commands.specs.Inputs.{IsRefusedArchive, Unfailed};
-ghost use Rattle.archive_commands.specs.Ends.{EndsReport, writer};
+ghost use Rattle.archive_commands.specs.Ends.{EndsReport};
+ghost use Rattle.archive_commands.specs.Find.{find, find_status};
+ghost use Rattle.archive_commands.specs.Inputs.{reader};
+ghost use Rattle.archive_commands.specs.Outputs.{writer};
 
 use crate::publish::tell;
 use crate::sources::read_input;
@@ -35,7 +36,7 @@ pub fn run_find<A: Archive + Drop, R: Source, P: Sink>(
     uuid: &Uuid,
     report: &mut P,
 ) -> Result<Status, CommandFault>
-    ensures { EndsReport (Unfailed R.failures archive.old archive.new) (MakesFound R.left archive.old uuid.now) (IsRefusedArchive R.left R.failures 0 archive.old archive.new)
+    ensures { EndsReport (find (reader R.left R.failures archive.old archive.new) uuid.now)
         (writer P.held P.failures report.old report.new) result }
 {
     let archive: A = read_input(heap.clone()?, 0, archive)?;

@@ -6,15 +6,15 @@
 //! - `sources`: the inputs;
 //! - `publish`: the end of each command that writes an archive;
 //! - `new`, `admit`, `retire`, `merge`, `apply`, `find`, `symbolicate`: a command each;
-//! - [`laws`], [`merge_laws`], [`apply_laws`], [`symbolicate_laws`]: what the definitions of the commands say in the words of
+//! - [`admit_laws`], [`merge_laws`], [`apply_laws`], [`symbolicate_laws`]: what the definitions of the commands say in the words of
 //!   their user.
 #![tactic(auto)]
 
 mod admit;
+pub mod admit_laws;
 mod apply;
 pub mod apply_laws;
 mod find;
-pub mod laws;
 mod merge;
 pub mod merge_laws;
 mod new;

@@ -2,10 +2,10 @@
 ghost use Rattle.std.specs.Prelude.{◌≡◌, ◌+◌, OnOk, IfErr};
 ghost use Rattle.archive_core.specs.Content.{Operations, IsContent, joined};
 ghost use Rattle.archive_records.specs.Text.{written};
-ghost use Rattle.archive_commands.specs.Inputs.{EachUnfailed, Gives, IsRefusedArchive, IsFirstJoinRefused, IsFirstArchiveRefused, Unfailed};
-ghost use Rattle.archive_commands.specs.Leaves.{IsRefusal};
-ghost use Rattle.archive_commands.specs.Ends.{Ends, writer};
-ghost use Rattle.archive_commands.specs.Merge.{HasJoined, MakesMerged};
+ghost use Rattle.archive_commands.specs.Ends.{Ends};
+ghost use Rattle.archive_commands.specs.Inputs.{EachUnfailed, Holds, IsArchive, IsArchiveRefused, IsFirstRefused, IsRefusal, IsRefusedArchive, Unfailed, reader, readers};
+ghost use Rattle.archive_commands.specs.Merge.{HasJoined, file_place, merge};
+ghost use Rattle.archive_commands.specs.Outputs.{writer};
 
 use crate::publish::publish;
 use crate::sources::read_input;
@@ -23,10 +23,11 @@ fn join_file<A: Archive + Drop, S: Source>(
 ) -> Result<(), CommandFault>
     ensures joined { OnOk result ((other : Operations)
         × IsContent other
-        × Gives S.left file.old (λ text. text ≡ written other)
+        × Holds (reader S.left S.failures file.old file.new) (written other)
         × (A.content archive.new ≡ joined (A.content archive.old) other)) }
-    ensures unfailed { OnOk result (Unfailed S.failures file.old file.new) }
-    ensures refused { IfErr result (IsRefusal (IsRefusedArchive S.left S.failures number file.old file.new) (Unfailed S.failures file.old file.new)) }
+    ensures unfailed { OnOk result (Unfailed (reader S.left S.failures file.old file.new)) }
+    ensures refused { IfErr result (IsRefusal (IsRefusedArchive number (reader S.left S.failures file.old file.new))
+        (Unfailed (reader S.left S.failures file.old file.new))) }
 {
     let other: A = read_input(heap, number, file)?;
     take_all(archive, &other)?;
@@ -39,9 +40,10 @@ fn join_files<A: Archive + Drop, S: Source>(
     archive: &mut A,
     files: &mut [Result<S, CannotOpen>],
 ) -> Result<(), CommandFault>
-    ensures joined { OnOk result (HasJoined S.left files.old (A.content archive.old) (A.content archive.new)) }
-    ensures unfailed { OnOk result (EachUnfailed S.failures files.old files.new) }
-    ensures refused { IfErr result (IsRefusal (IsFirstJoinRefused S.left S.failures files.old files.new) (EachUnfailed S.failures files.old files.new)) }
+    ensures joined { OnOk result (HasJoined (readers S.left S.failures files.old files.new) (A.content archive.old) (A.content archive.new)) }
+    ensures unfailed { OnOk result (EachUnfailed (readers S.left S.failures files.old files.new)) }
+    ensures refused { IfErr result (IsRefusal (IsFirstRefused file_place IsArchive IsArchiveRefused (readers S.left S.failures files.old files.new))
+        (EachUnfailed (readers S.left S.failures files.old files.new))) }
 {
     'files: for (place, file) in files.iter_mut().enumerate() {
         join_file(heap.clone()?, archive, place as u64 + 1, file)?;
@@ -63,9 +65,7 @@ pub fn run_merge<A: Archive + Drop, R: Source, S: Source, W: Sink, P: Sink>(
     out: &mut W,
     report: &mut P,
 ) -> Result<Status, CommandFault>
-    ensures { Ends (Unfailed R.failures input.old input.new × EachUnfailed S.failures files.old files.new)
-        (MakesMerged R.left S.left input.old files.old)
-        (IsFirstArchiveRefused R.left R.failures S.left S.failures input.old input.new files.old files.new)
+    ensures { Ends (merge (reader R.left R.failures input.old input.new) (readers S.left S.failures files.old files.new))
         (writer W.held W.failures out.old out.new) (writer P.held P.failures report.old report.new) result }
 {
     let mut archive: A = read_input(heap.clone()?, 0, input)?;

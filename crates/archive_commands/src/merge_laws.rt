@@ -1,17 +1,16 @@
 //! What the definitions of `merge` say in the words of its user. Each law is the contract of a function that does nothing
 //! but call other laws.
-ghost use Rattle.std.specs.Prelude.{◌≡◌, ◌↔◌, ◌<◌, ◌^◌, ◌++◌, ◌∷◌, [], ℕ, List, Result, Contains, map};
-ghost use Rattle.std.specs.List.{AllByRecursion};
+ghost use Rattle.std.specs.Prelude.{◌≡◌, ◌↔◌, ◌<◌, ◌^◌, ◌++◌, ◌∷◌, [], ℕ, List, Contains, map};
+ghost use Rattle.std.specs.List.{AllByRecursion, AllZip};
 ghost use Rattle.std.specs.FinSet as set;
 ghost use Rattle.archive_core.specs.Content.{Operations, IsBelow, IsContent, made, joined};
 ghost use Rattle.archive_records.specs.Text.{written};
-ghost use Rattle.archive_lines.specs.declared.faults.CannotOpen.{CannotOpen};
 ghost use Rattle.archive_lines.specs.declared.faults.Place.{Place};
 ghost use Rattle.archive_lines.specs.declared.faults.Why.{Why};
-ghost use Rattle.archive_commands.specs.Inputs.{AreGiven, IsDeviceFault, IsFirstArchiveRefused, IsGiven};
-ghost use Rattle.archive_commands.specs.Merge.{merged, operations_of};
+ghost use Rattle.archive_commands.specs.Inputs.{IsDeviceFault, IsGiven, Reader};
+ghost use Rattle.archive_commands.specs.Merge.{merge, merged, operations_of};
 
-use crate::laws::accepted_inputs_are_not_refused;
+use crate::admit_laws::accepted_inputs_are_not_refused;
 use archive_core::laws::contents_join;
 use byte_device::Source;
 
@@ -44,14 +43,14 @@ pub fn merged_in_any_order()
 
 /// Where IN and each FILE is the text of a content, no archive is refused but for its device.
 pub fn accepted_archives_are_not_refused<R: Source, S: Source>()
-    ensures { (in_old in_new : Result R CannotOpen) (old new : List (Result S CannotOpen)) (o : Operations) (contents : List Operations) (place : Place) (why : Why)
+    ensures { (input : Reader R) (files : List (Reader S)) (o : Operations) (contents : List Operations) (place : Place) (why : Why)
         → IsContent o
         → set.len o < 2 ^ 64
         → AllByRecursion IsContent contents
         → AllByRecursion (λ p. set.len p < 2 ^ 64) contents
-        → IsGiven R.left in_old (written o)
-        → AreGiven S.left old (map written contents)
-        → IsFirstArchiveRefused R.left R.failures S.left S.failures in_old in_new old new place why
+        → IsGiven input (written o)
+        → AllZip IsGiven files (map written contents)
+        → (merge input files).Refuses place why
         → IsDeviceFault why }
 {
     accepted_inputs_are_not_refused::<R, R>();

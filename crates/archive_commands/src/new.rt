@@ -2,8 +2,7 @@
 ghost use Rattle.std.specs.Prelude.{[]};
 ghost use Rattle.std.specs.FinSet as set;
 ghost use Rattle.archive_records.specs.Text.{written};
-ghost use Rattle.archive_commands.specs.Leaves.{report_of};
-ghost use Rattle.archive_commands.specs.Ends.{Publishes, writer};
+ghost use Rattle.archive_commands.specs.Outputs.{Publishes, report_of, writer};
 
 use crate::publish::publish;
 use archive_core::Archive;
@@ -21,7 +20,8 @@ pub fn run_new<A: Archive + Drop, W: Sink, P: Sink>(
     out: &mut W,
     report: &mut P,
 ) -> Result<Status, CommandFault>
-    ensures { Publishes (writer W.held W.failures out.old out.new) (writer P.held P.failures report.old report.new) (written set.empty) (report_of set.empty []) result }
+    ensures { Publishes (writer W.held W.failures out.old out.new) (writer P.held P.failures report.old report.new)
+        (written set.empty) (report_of set.empty []) result }
 {
     let archive = A::empty(heap.clone()?);
     publish(&archive, String::new(heap), out, report)

@@ -1,8 +1,7 @@
 //! The end of each command that writes an archive: OUT, and then the report.
 ghost use Rattle.std.specs.Prelude.{string_bytes};
 ghost use Rattle.archive_records.specs.Text.{written};
-ghost use Rattle.archive_commands.specs.Leaves.{report_of};
-ghost use Rattle.archive_commands.specs.Ends.{Publishes, Reports, writer};
+ghost use Rattle.archive_commands.specs.Outputs.{Publishes, Reports, report_of, writer};
 
 use archive_core::Archive;
 use archive_lines::{CommandFault, Status, with_sizes};
@@ -18,7 +17,8 @@ pub(crate) fn publish<A: Archive, W: Sink, P: Sink>(
     out: &mut W,
     report: &mut P,
 ) -> Result<Status, CommandFault>
-    ensures published { Publishes (writer W.held W.failures out.old out.new) (writer P.held P.failures report.old report.new) (written (A.content archive.now)) (report_of (A.content archive.now) (string_bytes lines)) result }
+    ensures { Publishes (writer W.held W.failures out.old out.new) (writer P.held P.failures report.old report.new)
+        (written (A.content archive.now)) (report_of (A.content archive.now) (string_bytes lines)) result }
 {
     let sizes = match write_archive(archive, out) {
         Ok(sizes) => sizes,

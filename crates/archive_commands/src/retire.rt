@@ -2,9 +2,10 @@
 ghost use Rattle.std.specs.Prelude.{◌≡◌, OnOk, IfOk};
 ghost use Rattle.archive_core.specs.Content.{with_record, changes};
 ghost use Rattle.archive_core.specs.Record.{retirement_record};
-ghost use Rattle.archive_commands.specs.Inputs.{IsRefusedArchive, Unfailed};
-ghost use Rattle.archive_commands.specs.Ends.{Ends, writer};
-ghost use Rattle.archive_commands.specs.Retire.{MakesRetired};
+ghost use Rattle.archive_commands.specs.Ends.{Ends};
+ghost use Rattle.archive_commands.specs.Inputs.{reader};
+ghost use Rattle.archive_commands.specs.Outputs.{writer};
+ghost use Rattle.archive_commands.specs.Retire.{retire};
 
 use crate::publish::publish;
 use crate::sources::read_input;
@@ -40,7 +41,7 @@ pub fn run_retire<A: Archive + Drop, R: Source, W: Sink, P: Sink>(
     out: &mut W,
     report: &mut P,
 ) -> Result<Status, CommandFault>
-    ensures { Ends (Unfailed R.failures input.old input.new) (MakesRetired R.left input.old key digest) (IsRefusedArchive R.left R.failures 0 input.old input.new)
+    ensures { Ends (retire (reader R.left R.failures input.old input.new) key digest)
         (writer W.held W.failures out.old out.new) (writer P.held P.failures report.old report.new) result }
 {
     let mut archive: A = read_input(heap.clone()?, 0, input)?;

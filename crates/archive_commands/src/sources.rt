@@ -4,8 +4,7 @@ ghost use Rattle.archive_core.specs.Content.{IsContent};
 ghost use Rattle.archive_records.specs.declared.fault.RecordFaultKind.TheVariants.{OutOfMemory as RecordOutOfMemory};
 ghost use Rattle.archive_records.specs.Text.{IsOperationsText, written};
 ghost use Rattle.archive_lines.specs.declared.faults.Why.TheVariants.{Record};
-ghost use Rattle.archive_commands.specs.Inputs.{Gives, IsRefusedArchive, IsRefusedFile, IsRefusedOps, Unfailed};
-ghost use Rattle.archive_commands.specs.Leaves.{IsRefusal};
+ghost use Rattle.archive_commands.specs.Inputs.{Gives, Holds, IsRefusal, IsRefusedArchive, IsRefusedFile, IsRefusedOps, Unfailed, reader};
 
 use archive_core::{Archive, Operation};
 use archive_lines::{CannotOpen, CommandFault, Place, Why};
@@ -30,9 +29,9 @@ pub(crate) fn read_input<A: Archive + Drop, R: Source>(
     input: &mut Result<R, CannotOpen>,
 ) -> Result<A, CommandFault>
     ensures content { IfOk result (λ archive. IsContent (A.content archive)) }
-    ensures text { IfOk result (λ archive. Gives R.left input.old (λ text. text ≡ written (A.content archive))) }
-    ensures unfailed { OnOk result (Unfailed R.failures input.old input.new) }
-    ensures refused { IfErr result (IsRefusal (IsRefusedArchive R.left R.failures place input.old input.new) (Unfailed R.failures input.old input.new)) }
+    ensures text { IfOk result (λ archive. Holds (reader R.left R.failures input.old input.new) (written (A.content archive))) }
+    ensures unfailed { OnOk result (Unfailed (reader R.left R.failures input.old input.new)) }
+    ensures refused { IfErr result (IsRefusal (IsRefusedArchive place (reader R.left R.failures input.old input.new)) (Unfailed (reader R.left R.failures input.old input.new))) }
 {
     let at = Place::Archive(place);
     let source = match input {
@@ -51,9 +50,9 @@ pub(crate) fn read_file<S: Source>(
     place: u64,
     file: &mut Result<S, CannotOpen>,
 ) -> Result<Vec<u8, Heap>, CommandFault>
-    ensures bytes { IfOk result (λ bytes. Gives S.left file.old (λ text. text ≡ bytes.items)) }
-    ensures unfailed { OnOk result (Unfailed S.failures file.old file.new) }
-    ensures refused { IfErr result (IsRefusal (IsRefusedFile S.left S.failures place file.old file.new) (Unfailed S.failures file.old file.new)) }
+    ensures bytes { IfOk result (λ bytes. Holds (reader S.left S.failures file.old file.new) bytes.items) }
+    ensures unfailed { OnOk result (Unfailed (reader S.left S.failures file.old file.new)) }
+    ensures refused { IfErr result (IsRefusal (IsRefusedFile place (reader S.left S.failures file.old file.new)) (Unfailed (reader S.left S.failures file.old file.new))) }
 {
     let at = Place::File(place);
     let source = match file {
@@ -72,9 +71,9 @@ pub(crate) fn read_operations<S: Source>(
     heap: Heap,
     ops: &mut Result<S, CannotOpen>,
 ) -> Result<Vec<Operation, Heap>, CommandFault>
-    ensures text { IfOk result (λ operations. Gives S.left ops.old (λ text. IsOperationsText text operations.items)) }
-    ensures unfailed { OnOk result (Unfailed S.failures ops.old ops.new) }
-    ensures refused { IfErr result (IsRefusal (IsRefusedOps S.left S.failures ops.old ops.new) (Unfailed S.failures ops.old ops.new)) }
+    ensures text { IfOk result (λ operations. Gives (reader S.left S.failures ops.old ops.new) (λ text. IsOperationsText text operations.items)) }
+    ensures unfailed { OnOk result (Unfailed (reader S.left S.failures ops.old ops.new)) }
+    ensures refused { IfErr result (IsRefusal (IsRefusedOps (reader S.left S.failures ops.old ops.new)) (Unfailed (reader S.left S.failures ops.old ops.new))) }
 {
     let at = Place::Ops;
     let source = match ops {

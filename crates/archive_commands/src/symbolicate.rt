@@ -1,9 +1,10 @@
 //! `symbolicate ARCHIVE UUID ARCH [--load HEX] ADDRESS...`.
 ghost use Rattle.std.specs.Prelude.{◌≡◌, if◌then◌else◌, IfOk, string_bytes};
 ghost use Rattle.archive_lines.specs.declared.faults.Status.TheVariants.{Partial};
-ghost use Rattle.archive_commands.specs.Inputs.{IsRefusedArchive, Unfailed};
-ghost use Rattle.archive_commands.specs.Ends.{EndsReport, writer};
-ghost use Rattle.archive_commands.specs.Symbolicate.{MakesAnswered, TellsAddresses, is_symbol, place_of};
+ghost use Rattle.archive_commands.specs.Ends.{EndsReport};
+ghost use Rattle.archive_commands.specs.Inputs.{reader};
+ghost use Rattle.archive_commands.specs.Outputs.{writer};
+ghost use Rattle.archive_commands.specs.Symbolicate.{TellsAddresses, is_symbol, place_of, symbolicate};
 
 use crate::publish::tell;
 use crate::sources::read_input;
@@ -68,8 +69,7 @@ pub fn run_symbolicate<A: Archive + Drop, R: Source, P: Sink>(
     addresses: &[u64],
     report: &mut P,
 ) -> Result<Status, CommandFault>
-    ensures { EndsReport (Unfailed R.failures archive.old archive.new) (MakesAnswered R.left archive.old key.now load addresses.now)
-        (IsRefusedArchive R.left R.failures 0 archive.old archive.new)
+    ensures { EndsReport (symbolicate (reader R.left R.failures archive.old archive.new) key.now load addresses.now)
         (writer P.held P.failures report.old report.new) result }
 {
     let archive: A = read_input(heap.clone()?, 0, archive)?;

@@ -1,12 +1,11 @@
 //! What the definitions of `symbolicate` say in the words of its user. Each law is the contract of a function that does
 //! nothing but call laws of the crates below.
-ghost use Rattle.std.specs.Prelude.{◌≡◌, ℕ, List, Option, Result};
+ghost use Rattle.std.specs.Prelude.{◌≡◌, ℕ, List, Option};
 ghost use Rattle.archive_core.specs.Content.{Operations, IsContent};
 ghost use Rattle.archive_core.specs.declared.keys.SliceKey.{SliceKey};
 ghost use Rattle.archive_records.specs.Text.{written};
-ghost use Rattle.archive_lines.specs.declared.faults.CannotOpen.{CannotOpen};
 ghost use Rattle.archive_lines.specs.declared.faults.Status.{Status};
-ghost use Rattle.archive_commands.specs.Inputs.{IsGiven};
+ghost use Rattle.archive_commands.specs.Inputs.{IsGiven, Reader};
 ghost use Rattle.archive_commands.specs.Symbolicate.{MakesAnswered, TellsAddresses};
 
 use archive_core::laws::one_answer;
@@ -25,12 +24,12 @@ pub fn one_telling()
 
 /// Two files that hold the text of one content give the same status and the same report.
 pub fn one_report<R: Source, S: Source>()
-    ensures { (archive : Result R CannotOpen) (other : Result S CannotOpen) (o : Operations) (key : SliceKey) (load : Option ℕ) (addresses : List ℕ) (status other_status : Status) (text other_text : List ℕ)
+    ensures { (archive : Reader R) (other : Reader S) (o : Operations) (key : SliceKey) (load : Option ℕ) (addresses : List ℕ) (status other_status : Status) (text other_text : List ℕ)
         → IsContent o
-        → IsGiven R.left archive (written o)
-        → IsGiven S.left other (written o)
-        → MakesAnswered R.left archive key load addresses status text
-        → MakesAnswered S.left other key load addresses other_status other_text
+        → IsGiven archive (written o)
+        → IsGiven other (written o)
+        → MakesAnswered archive key load addresses status text
+        → MakesAnswered other key load addresses other_status other_text
         → (status ≡ other_status) × (text ≡ other_text) }
 {
     one_content();

@@ -1,29 +1,57 @@
-use Rattle.std.proofs.Common.{◌<◌, length, arith, refl}
+use Rattle.std.proofs.Common.{◌≡◌, ◌<◌, length, take, arith, refl, subst, ap, ◌∙◌}
 use Rattle.std.proofs.lemmas.Result.{err_from_is_err_and}
-use Rattle.archive_commands.proofs.Files.{taken_none, taken_more, same_at, rest_kept, numbers_kept, refused_at}
-use Rattle.archive_commands.specs.Inputs.{failures_of}
+use Rattle.archive_lines.specs.declared.faults.Place.TheVariants.{File}
+use Rattle.archive_commands.specs.Admit.{HasTaken}
+use Rattle.archive_commands.specs.Inputs.{readers, reader, IsAccepted, IsFileRefused}
+use Rattle.archive_commands.proofs.Files.{taken_none, taken_more, taken_accepted}
+use Rattle.archive_commands.proofs.Readers.{all_read, none_failed, one_more, read_to, refused_at, rest_kept, same_at, unfailed_more}
 use Rattle.archive_commands.proofs.admit.admit_files.Goals as goal
 
+pub returns-in_err-clone-clause-refused : goal.returns-in_err-clone-clause-refused
+returns-in_err-clone-clause-refused g c =
+    let p = err_from_is_err_and c.from_residual.result c.from_residual.ensures.1 in
+    rw (p.1, p.2) (none_failed g.S.Source.left g.S.Source.failures c.args.files.now)
+
 pub files-init : goal.files-init
-files-init g c = record { taken = taken_none g.S.Source.left _ _ c.new-rows.ensures.items; unfailed = refl; rest = refl }
+files-init g c = record { taken = taken_none _ _ c.new-rows.ensures.items; unfailed = none_failed g.S.Source.left g.S.Source.failures c.args.files.now; rest = refl }
 
 pub files-preserved : goal.files-preserved
 files-preserved g c =
+    let left = g.S.Source.left in
+    let failures = g.S.Source.failures in
     let files = c.args.files.now in
+    let now = c.files.files in
+    let place = c.files.place in
+    let file = c.index-files-place.result in
+    let after = c.admit_file.new.file in
     let got = c.in_ok-admit_file.ensures.taken in
-    let lt : c.files.place < length files = omega arith in
+    let lt : place < length files = omega arith in
+    let is = same_at now files place file c.files.invariant.rest c.index-files-place.is in
     record {
-      taken = taken_more g.S.Source.left files c.files.place c.index-files-place.result _ _ _ c.files.rows.items _ got.0 lt
-          (same_at c.files.files files c.files.place _ c.files.invariant.rest c.index-files-place.is) c.files.invariant.taken got.1 (rw (← c.index-files-place.is) at got.2) got.3 got.4;
-      unfailed = numbers_kept (failures_of g.S.Source.failures) files c.files.files c.files.place c.index-files-place.result c.admit_file.new.file c.index-files-place.is (rw (← c.index-files-place.is) at c.in_ok-admit_file.ensures.unfailed) c.files.invariant.unfailed;
-      rest = rest_kept c.files.files files c.files.place c.admit_file.new.file c.files.invariant.rest;
+      taken = taken_more (take place (readers left failures files now)) _ place (reader left failures file after) _ _ _ c.files.rows.items _ got.0
+          (read_to left failures files now place lt c.files.auto.files) (one_more left failures files now place file after lt c.files.auto.files is)
+          c.files.invariant.taken got.1 (rw (← c.index-files-place.is) at got.2) got.3 got.4;
+      unfailed = unfailed_more left failures files now place file after lt c.files.auto.files is c.files.invariant.unfailed (rw (← c.index-files-place.is) at c.in_ok-admit_file.ensures.unfailed);
+      rest = rest_kept now files place after c.files.invariant.rest;
     }
 
 pub returns-in_err-admit_file-clause-refused : goal.returns-in_err-admit_file-clause-refused
 returns-in_err-admit_file-clause-refused g c =
     let files = c.args.files.now in
+    let now = c.files.files in
+    let place = c.files.place in
     let p = err_from_is_err_and c.from_residual-in_err-admit_file.result c.from_residual-in_err-admit_file.ensures.1 in
-    let lt : c.files.place < length files = omega arith in
+    let lt : place < length files = omega arith in
     rw (p.1, p.2)
-    (refused_at g.S.Source.left g.S.Source.failures files c.files.files c.files.place c.index-files-place.result _ _ _ c.files.rows.items _ lt c.files.auto.files
-    (same_at c.files.files files c.files.place _ c.files.invariant.rest c.index-files-place.is) c.files.invariant.taken c.index-files-place.is c.files.invariant.rest c.files.invariant.unfailed (rw (← c.index-files-place.is) at c.in_err-admit_file.ensures.refused))
+    (refused_at g.S.Source.left g.S.Source.failures (λ n. File n) IsAccepted IsFileRefused files now place c.index-files-place.result _ _ lt c.files.auto.files
+    (same_at now files place _ c.files.invariant.rest c.index-files-place.is) (taken_accepted _ _ _ _ c.files.invariant.taken) c.files.invariant.rest c.files.invariant.unfailed
+    (rw (← c.index-files-place.is) at c.in_err-admit_file.ensures.refused))
+
+pub returns-clause-taken : goal.returns-clause-taken
+returns-clause-taken g c =
+    let files = c.args.files.now in
+    let now = c.files.files in
+    let end : c.files.place ≡ length files = omega arith in
+    subst (λ seen. HasTaken seen (g.A.Join.content c.args.archive.now) (g.A.Join.content c.files.archive) c.files.rows.items)
+    (ap (λ n. take n (readers g.S.Source.left g.S.Source.failures files now)) end ∙ all_read g.S.Source.left g.S.Source.failures files now c.files.auto.files)
+    c.files.invariant.taken

@@ -1,6 +1,6 @@
 use Rattle.archive_commands.specs.Admit.{images_of}
 use Rattle.archive_commands.proofs.Orders.{admitted_joined, admitted_alike}
-use Rattle.archive_commands.proofs.laws.admitted_in_any_order.Goals as goal
+use Rattle.archive_commands.proofs.admit_laws.admitted_in_any_order.Goals as goal
 
 pub returns : goal.returns
 returns c = record { content = λ o files _. admitted_joined o (images_of files); order = λ o files others _ same. admitted_alike o files others same }

@@ -1,20 +1,19 @@
-use Rattle.std.proofs.Common.{◌≡◌, ◌+◌, ◌-◌, length, arith, inr, refl}
+use Rattle.std.proofs.Common.{◌≡◌, ◌+◌, ◌-◌, length, arith, refl}
 use Rattle.std.proofs.lemmas.Result.{err_from_is_err_and}
 use Rattle.byte_device.proofs.Known.{Appends-none}
-use Rattle.archive_commands.proofs.Endings.{published, refused_behind, refused}
+use Rattle.archive_commands.proofs.Endings.{behind_refused, published}
 use Rattle.archive_commands.proofs.Counts.{makes_applied}
 use Rattle.archive_commands.proofs.apply.run_apply.Goals as goal
 
 pub returns-in_err-operations : goal.returns-in_err-operations
 returns-in_err-operations g c =
     let p = err_from_is_err_and c.from_residual-in_err-operations.result c.from_residual-in_err-operations.ensures.1 in
-    rw (p.1, p.2) (refused _ _ _ _ _ c.in_err-operations.field-0.0
-    (refused_behind _ _ _ _ _ (λ place why r. inr ((g.A.Join.content c.in_ok-archive.archive, c.in_ok-archive.ensures.content, c.in_ok-archive.ensures.text), r)) c.in_ok-archive.ensures.unfailed c.in_err-operations.ensures.refused)
-    (Appends-none _, refl) (Appends-none _, refl))
+    rw (p.1, p.2) (behind_refused _ _ _ _ _ _ _ c.in_err-operations.field-0.0 _ c.in_ok-archive.ensures.content c.in_ok-archive.ensures.text c.in_ok-archive.ensures.unfailed
+    c.in_err-operations.ensures.refused (Appends-none _, refl) (Appends-none _, refl))
 
 pub returns : goal.returns
 returns g c =
     let known : c.len-number.result - c.in_ok-new.new + c.in_ok-new.new ≡ length c.in_ok-operations.operations.items = omega (arith, c.in_ok-new.ensures.within) in
     published _ _ _ _ _ c.publish.result _ _ (c.in_ok-archive.ensures.unfailed, c.in_ok-operations.ensures.unfailed)
-    (makes_applied g.R.Source.left g.S.Source.left _ _ _ _ _ _ _ _ c.in_ok-archive.ensures.content c.in_ok-archive.ensures.text c.in_ok-operations.ensures.text c.in_ok-new.ensures.content c.in_ok-new.ensures.counted known c.in_ok-lines.ensures)
-    c.publish.ensures.published
+    (makes_applied _ _ _ _ _ _ _ _ c.in_ok-archive.ensures.content c.in_ok-archive.ensures.text c.in_ok-operations.ensures.text c.in_ok-new.ensures.content c.in_ok-new.ensures.counted known c.in_ok-lines.ensures)
+    c.publish.ensures

@@ -12,4 +12,4 @@ returns g c = published _ _ _ _ _ c.publish.result _ _ c.in_ok-archive.ensures.u
       content_is = c.in_ok-changed.ensures.content;
       lines_are = c.in_ok-lines.ensures ∙ ap (λ changed. retire_line changed c.args.key c.args.digest) c.in_ok-changed.ensures.changed;
     })
-    c.publish.ensures.published
+    c.publish.ensures

@@ -5,6 +5,6 @@ use Rattle.archive_commands.proofs.symbolicate.run_symbolicate.Goals as goal
 
 pub returns : goal.returns
 returns g c = reported _ _ _ _ c.tell.result _ _ c.in_ok-archive.ensures.unfailed
-    (makes_answered g.R.Source.left c.args.archive.now c.args.key.now c.args.load c.args.addresses.now (g.A.Join.content c.in_ok-archive.archive) c.in_ok-status.status c.deref.result.now (string_bytes c.in_ok-status.text)
+    (makes_answered _ c.args.key.now c.args.load c.args.addresses.now (g.A.Join.content c.in_ok-archive.archive) c.in_ok-status.status c.deref.result.now (string_bytes c.in_ok-status.text)
     c.in_ok-archive.ensures.content c.in_ok-archive.ensures.text c.in_ok-status.ensures c.deref.ensures)
     c.tell.ensures
