@@ -1,0 +1,256 @@
+//! The lines of cases. A case is a line, and what has to come of it stands behind it, in lines that begin with two
+//! spaces.
+//!
+//! Files in memory, and what holds for the next case alone:
+//!
+//! - an empty line, and one that begins with `#`, say nothing;
+//! - `file NAME PART..` keeps bytes under a name, and tells their number; `parts` has the forms of PART;
+//! - `same NAME PART..` tells whether a file has these bytes, or where the two differ first;
+//! - `hold pieces N`: inputs give at most N bytes at a time; `hold growths N`: N growths are granted;
+//! - `hold out N`, `hold report N`: OUT, or the report, fails when it took N bytes;
+//! - `hold cut NAME N`: a file has its first N bytes alone; `hold read NAME N`: it fails when it gave N bytes;
+//! - `each cut NAME`, `each read NAME`, `each out`, `each report`, `each pieces N` carry the next case out at each
+//!   place, and tell places in a row that have one outcome in one line;
+//! - `each growth` carries it out with 0, 1, .. growths until none is refused, and tells how many runs met a refusal. A
+//!   refused run leaves its report empty and OUT empty or whole.
+//!
+//! The program, whose report stands behind `|`:
+//!
+//! - `plan WORD..` tells what a command line asks for, or why it is refused; `-` stands for no words;
+//! - `run WORD..` carries a command line out, and tells the report, the length and the SHA-256 of OUT, the fault and
+//!   the status. OUT is kept as a file where it took bytes.
+//!
+//! Calls below the commands. What one gives stands behind `|`, and its fault in a line of its own, `Truncated at 8`:
+//!
+//! - `kind NAME`: the kind of a file;
+//! - `fat NAME`: a universal file, a line for each slice: `slice 0: 28 bytes SHA256`;
+//! - `image NAME`: an image: `UUID ARCH image` (or `dsym`), `text base 0x..` (or `-`), `symtab SYMOFF NSYMS STROFF
+//!   STRSIZE` (or `-`), `commands N`, and a line for each section: `section 1 __TEXT,__text from 0x.., SIZE addresses`;
+//! - `check NAME`: a slice, by `Slice::check` and `Slice::admit`: `UUID ARCH SHA256`;
+//! - `nearest NAME ADDRESS..`: the nearest symbol by the scan and by the table: `0x.. NAME + OFFSET (SEGMENT,SECTION)
+//!   in section 1`, or `0x.. -`; `addresses` has the forms of ADDRESS;
+//! - `named NAME PART..`: each symbol of a name, as `nearest` tells it, at its own address;
+//! - `front NAME`: an archive's text, read from the front of a file: `2 records, 106 bytes are left`, with `then it
+//!   fails` where the reader fails behind them;
+//! - `take ARCHIVE OPS`: the operations of a file, taken into an archive in turn: `admit UUID ARCH SHA256 new` or
+//!   `retire ..`, where the word at the end is `new` if that changed the archive, `held` if it was there before, or
+//!   else `covered`; then `2 records`;
+//! - `join ARCHIVE OTHER`: an archive before and after it is joined with another: `2 records, all of the other: no`.
+//!
+//! A case that is neither held nor a sweep's is carried out again with inputs in pieces of 1 and of 7 bytes. A report of
+//! more than 40 lines is told as their number and the SHA-256 of all: `5000 lines SHA256`. What contradicts itself is
+//! told in a line that has the word `WRONG`.
+
+use crate::calls::Task;
+use crate::commands::out_of;
+use crate::desk::Desk;
+use crate::ends::Left;
+use crate::faults::CaseFault;
+use crate::limits::{Front, Limits, Sweep};
+use crate::parts::{bytes_of, number};
+use crate::store::Store;
+use crate::sweeps::{tell_growths, tell_sweep};
+use crate::tellings::{tell_left, tell_line_fault, tell_same};
+use command_line::{LineFault, Plan, plan};
+use std::alloc::Global;
+
+// How often the next case is carried out.
+#[derive(Clone, Copy)]
+enum Mode<'t> {
+    Once,
+    Growths,
+    Sweep(Sweep<'t>),
+}
+
+// Files in memory, and what holds for the next case.
+#[derive(Drop)]
+struct Bench<'t> {
+    alloc: Global,
+    store: Store,
+    limits: Limits<'t>,
+    mode: Mode<'t>,
+}
+
+/// Carries out the cases of a text, and tells what came of each.
+pub fn carry_out(alloc: Global, text: &str, told: &mut String) -> Result<(), CaseFault> {
+    let mut bench = Bench {
+        alloc,
+        store: Store::new(alloc),
+        limits: Limits::AMPLE,
+        mode: Mode::Once,
+    };
+    for line in text.lines() {
+        if line.starts_with("  ") {
+            continue;
+        }
+        writeln!(told, "{line}")?;
+        if let Err(fault) = bench.read_line(line, told) {
+            writeln!(told, "  NOT CARRIED OUT: {fault:?}")?;
+            return Err(fault);
+        }
+    }
+    Ok(())
+}
+
+impl<'t> Bench<'t> {
+    fn read_line(&mut self, line: &'t str, told: &mut String) -> Result<(), CaseFault> {
+        if line.is_empty() || line.starts_with('#') {
+            return Ok(());
+        }
+        let (verb, words) = line.split_once(' ').unwrap_or((line, ""));
+        match verb {
+            "file" => self.keep(words, told),
+            "same" => self.compare(words, told),
+            "hold" => self.hold(words),
+            "each" => self.sweep(words),
+            "plan" => self.plan(words, told),
+            "run" => self.run(words, told),
+            _ => self.carry(Task::of_verb(verb, words)?, None, told),
+        }
+    }
+
+    // Keeps bytes under a name.
+    fn keep(&mut self, words: &str, told: &mut String) -> Result<(), CaseFault> {
+        let (name, parts) = words.split_once(' ').ok_or(CaseFault::BadLine)?;
+        let bytes = bytes_of(self.alloc, &self.store, parts)?;
+        let len = bytes.len();
+        writeln!(told, "  {len} bytes")?;
+        self.store.keep(self.alloc, name, bytes)
+    }
+
+    // Tells whether a file has these bytes.
+    fn compare(&self, words: &str, told: &mut String) -> Result<(), CaseFault> {
+        let (name, parts) = words.split_once(' ').ok_or(CaseFault::BadLine)?;
+        let bytes = bytes_of(self.alloc, &self.store, parts)?;
+        tell_same(self.store.named(name)?, &bytes, told)?;
+        Ok(())
+    }
+
+    // Sets a limit of the next case.
+    fn hold(&mut self, words: &'t str) -> Result<(), CaseFault> {
+        let (what, value) = words.split_once(' ').ok_or(CaseFault::BadLine)?;
+        match what {
+            "cut" => self.limits.cut = Some(front(value)?),
+            "read" => self.limits.read = Some(front(value)?),
+            _ => return self.hold_number(what, number(value)?),
+        }
+        Ok(())
+    }
+
+    fn hold_number(&mut self, what: &str, number: u64) -> Result<(), CaseFault> {
+        match what {
+            "pieces" => self.limits.pieces = number as usize,
+            "growths" => self.limits.growths = number,
+            "out" => self.limits.out = number as usize,
+            "report" => self.limits.report = number as usize,
+            _ => return Err(CaseFault::BadLine),
+        }
+        Ok(())
+    }
+
+    // Makes the next case a sweep.
+    fn sweep(&mut self, words: &'t str) -> Result<(), CaseFault> {
+        let (what, value) = words.split_once(' ').unwrap_or((words, ""));
+        self.mode = match what {
+            "cut" => Mode::Sweep(Sweep::Cut(value)),
+            "read" => Mode::Sweep(Sweep::Read(value)),
+            "pieces" => Mode::Sweep(Sweep::Pieces(number(value)? as usize)),
+            "out" => Mode::Sweep(Sweep::Out),
+            "report" => Mode::Sweep(Sweep::Report),
+            "growth" => Mode::Growths,
+            _ => return Err(CaseFault::BadLine),
+        };
+        Ok(())
+    }
+
+    // What the words of a line ask for, which stand behind the program's name.
+    fn planned(&self, words: &str) -> Result<Plan, LineFault> {
+        let mut line = Vec::new(self.alloc);
+        line.push("symarch")?;
+        if words != "-" {
+            for word in words.split(' ') {
+                line.push(word)?;
+            }
+        }
+        plan(self.alloc, &line)
+    }
+
+    // Tells what a command line asks for.
+    fn plan(&self, words: &str, told: &mut String) -> Result<(), CaseFault> {
+        match self.planned(words) {
+            Ok(plan) => writeln!(told, "  {plan:?}")?,
+            Err(fault) => tell_line_fault(&fault, told)?,
+        }
+        Ok(())
+    }
+
+    // Carries out a command line.
+    fn run(&mut self, words: &str, told: &mut String) -> Result<(), CaseFault> {
+        match self.planned(words) {
+            Ok(plan) => self.carry(Task::Run(&plan), out_of(&plan), told),
+            Err(fault) => Ok(tell_line_fault(&fault, told)?),
+        }
+    }
+
+    // Carries out a case, keeps what it left in OUT under its name, and sets what holds for the next one back.
+    fn carry(
+        &mut self,
+        task: Task,
+        out: Option<&str>,
+        told: &mut String,
+    ) -> Result<(), CaseFault> {
+        let mode = self.mode;
+        let limits = self.limits;
+        self.mode = Mode::Once;
+        self.limits = Limits::AMPLE;
+        let desk = Desk {
+            alloc: self.alloc,
+            store: &self.store,
+            limits,
+        };
+        match mode {
+            Mode::Growths => tell_growths(desk, task, told),
+            Mode::Sweep(sweep) => tell_sweep(desk, sweep, task, told),
+            Mode::Once => {
+                let left = desk.carry_out(task)?;
+                tell_left(&left, told)?;
+                tell_pieces(desk, task, &left, told)?;
+                self.keep_out(out, left.out)
+            }
+        }
+    }
+
+    // Keeps OUT under its name, where it took bytes.
+    fn keep_out(&mut self, name: Option<&str>, out: Vec<u8>) -> Result<(), CaseFault> {
+        match name {
+            Some(name) if !out.is_empty() => self.store.keep(self.alloc, name, out),
+            _ => Ok(()),
+        }
+    }
+}
+
+// The name and the number of a limit on a file.
+fn front(words: &str) -> Result<Front<'_>, CaseFault> {
+    let (name, len) = words.split_once(' ').ok_or(CaseFault::BadLine)?;
+    Ok(Front {
+        name,
+        len: number(len)? as usize,
+    })
+}
+
+// Tells where it makes a difference that the inputs come in small pieces.
+fn tell_pieces(desk: Desk, task: Task, left: &Left, told: &mut String) -> Result<(), CaseFault> {
+    for pieces in [1, 7] {
+        let limits = Limits {
+            pieces,
+            ..desk.limits
+        };
+        if !(Desk { limits, ..desk }.carry_out(task)?.is_as(left)) {
+            writeln!(
+                told,
+                "  WRONG: another end with inputs in pieces of {pieces}"
+            )?;
+        }
+    }
+    Ok(())
+}

@@ -1,0 +1,118 @@
+//! A plan, carried out over files in memory.
+
+use crate::desk::{Desk, TriedArchive};
+use crate::ends::{End, Left};
+use archive_commands::{
+    run_admit, run_apply, run_find, run_merge, run_new, run_retire, run_symbolicate,
+};
+use archive_core::SliceKey;
+use archive_lines::{CommandFault, Status};
+use byte_device::Short;
+use command_line::Plan;
+use memory::{Heap, NoMemory};
+
+// OUT and the report.
+#[derive(Drop)]
+struct Outputs {
+    out: Short,
+    report: Short,
+}
+
+impl<'a> Desk<'a> {
+    /// Carries out a plan.
+    pub fn run(self, plan: &Plan) -> Result<Left, NoMemory> {
+        let mut outputs = Outputs {
+            out: Short::new(Heap::new(self.alloc)?, self.limits.out),
+            report: Short::new(Heap::new(self.alloc)?, self.limits.report),
+        };
+        let end = End::of_command(self.execute(plan, &mut outputs));
+        Ok(Left {
+            end,
+            out: outputs.out.as_slice().to_vec(self.alloc)?,
+            report: outputs.report.as_slice().to_vec(self.alloc)?,
+        })
+    }
+
+    // A plan that asks, or else one that writes OUT.
+    fn execute(self, plan: &Plan, outputs: &mut Outputs) -> Result<Status, CommandFault> {
+        match plan {
+            Plan::Find { archive, uuid } => {
+                let mut input = self.open(archive);
+                run_find::<TriedArchive, _, _>(self.heap()?, &mut input, uuid, &mut outputs.report)
+            }
+            Plan::Symbolicate {
+                archive,
+                uuid,
+                arch,
+                load,
+                addresses,
+            } => {
+                let mut input = self.open(archive);
+                let key = SliceKey {
+                    uuid: *uuid,
+                    arch: *arch,
+                };
+                let report = &mut outputs.report;
+                run_symbolicate::<TriedArchive, _, _>(
+                    self.heap()?,
+                    &mut input,
+                    &key,
+                    *load,
+                    addresses,
+                    report,
+                )
+            }
+            _ => self.update(plan, outputs),
+        }
+    }
+
+    // A plan that writes OUT.
+    fn update(self, plan: &Plan, outputs: &mut Outputs) -> Result<Status, CommandFault> {
+        let heap = self.heap()?;
+        let Outputs { out, report } = outputs;
+        match plan {
+            Plan::Admit { input, files, .. } => {
+                let mut files = self.open_all(files)?;
+                let input = &mut self.open(input);
+                run_admit::<TriedArchive, _, _, _, _>(heap, input, &mut files, out, report)
+            }
+            Plan::Merge { input, files, .. } => {
+                let mut files = self.open_all(files)?;
+                let input = &mut self.open(input);
+                run_merge::<TriedArchive, _, _, _, _>(heap, input, &mut files, out, report)
+            }
+            Plan::Apply { input, ops, .. } => {
+                let mut ops = self.open(ops);
+                let input = &mut self.open(input);
+                run_apply::<TriedArchive, _, _, _, _>(heap, input, &mut ops, out, report)
+            }
+            Plan::Retire {
+                input,
+                uuid,
+                arch,
+                digest,
+                ..
+            } => {
+                let key = SliceKey {
+                    uuid: *uuid,
+                    arch: *arch,
+                };
+                let input = &mut self.open(input);
+                run_retire::<TriedArchive, _, _, _>(heap, input, key, *digest, out, report)
+            }
+            _ => run_new::<TriedArchive, _, _>(heap, out, report),
+        }
+    }
+}
+
+/// The name of OUT, if the command writes it.
+pub fn out_of(plan: &Plan) -> Option<&str> {
+    match plan {
+        Plan::New { out }
+        | Plan::Admit { out, .. }
+        | Plan::Retire { out, .. }
+        | Plan::Merge { out, .. }
+        | Plan::Apply { out, .. } => Some(out),
+        Plan::Find { .. } | Plan::Symbolicate { .. } => None,
+    }
+}

@@ -1,0 +1,168 @@
+//! Calls over the bytes of a file: kinds, slices, images and symbols.
+
+use crate::faults::CallFault;
+use archive_core::{ArchKey, Digest, Slice, SliceKey};
+use archive_lines::{Address, Escaped, Text};
+use fat_slices::{Universal, kind};
+use macho_image::{Image, Section};
+use macho_symbols::{AddressTable, Found, Symbols};
+use memory::{Heap, NoMemory};
+use sha2::{Digest as _, Sha256};
+
+/// Tells the kind of a file.
+pub fn tell_kind(file: &[u8], told: &mut String) -> Result<(), CallFault> {
+    let kind = kind(file);
+    writeln!(told, "{kind:?}")?;
+    Ok(())
+}
+
+/// Tells the slices of a universal file.
+pub fn tell_fat(file: &[u8], told: &mut String) -> Result<(), CallFault> {
+    let universal = Universal::read(file)?;
+    for place in 0..universal.len() {
+        let slice = universal.slice(place);
+        let len = slice.len();
+        let digest = Text(Digest(Sha256::digest(slice)));
+        writeln!(told, "slice {place}: {len} bytes {digest}")?;
+    }
+    Ok(())
+}
+
+/// Tells an image: its key and kind, its text base, its symbol table, and its sections.
+pub fn tell_image(bytes: &[u8], told: &mut String) -> Result<(), CallFault> {
+    let image = Image::read(bytes)?;
+    tell_header(&image, told)?;
+    tell_text_base(&image, told)?;
+    tell_symtab(&image, told)?;
+    tell_commands(&image, told)?;
+    tell_sections(&image, told)?;
+    Ok(())
+}
+
+fn tell_header(image: &Image, told: &mut String) -> Result<(), NoMemory> {
+    let (cputype, subtype) = image.arch();
+    let key = Text(SliceKey {
+        uuid: image.uuid(),
+        arch: ArchKey { cputype, subtype },
+    });
+    let kind = if image.is_dsym() { "dsym" } else { "image" };
+    writeln!(told, "{key} {kind}")
+}
+
+fn tell_text_base(image: &Image, told: &mut String) -> Result<(), NoMemory> {
+    match image.text_base() {
+        Some(base) => {
+            let base = Address(base);
+            writeln!(told, "text base {base}")
+        }
+        None => writeln!(told, "text base -"),
+    }
+}
+
+fn tell_symtab(image: &Image, told: &mut String) -> Result<(), NoMemory> {
+    match image.symtab() {
+        Some(table) => {
+            let symoff = table.symoff;
+            let nsyms = table.nsyms;
+            let stroff = table.stroff;
+            let strsize = table.strsize;
+            writeln!(told, "symtab {symoff} {nsyms} {stroff} {strsize}")
+        }
+        None => writeln!(told, "symtab -"),
+    }
+}
+
+fn tell_commands(image: &Image, told: &mut String) -> Result<(), NoMemory> {
+    let mut commands: u32 = 0;
+    for _ in image.commands() {
+        commands = commands.saturating_add(1);
+    }
+    writeln!(told, "commands {commands}")
+}
+
+fn tell_sections(image: &Image, told: &mut String) -> Result<(), NoMemory> {
+    let mut number: u32 = 0;
+    for section in image.sections() {
+        number = number.saturating_add(1);
+        tell_section(number, section, told)?;
+    }
+    Ok(())
+}
+
+fn tell_section(number: u32, section: Section, told: &mut String) -> Result<(), NoMemory> {
+    let segment = Escaped(section.segment);
+    let name = Escaped(section.section);
+    let from = Address(section.addr);
+    let size = section.size;
+    writeln!(
+        told,
+        "section {number} {segment},{name} from {from}, {size} addresses"
+    )
+}
+
+/// Tells the key and the digest of a slice.
+pub fn tell_slice(heap: Heap, bytes: &[u8], told: &mut String) -> Result<(), CallFault> {
+    let checked = Slice::check(bytes);
+    let slice = Slice::admit(heap, bytes)?;
+    let key = Text(slice.key());
+    let digest = Text(slice.digest());
+    writeln!(told, "{key} {digest}")?;
+    if checked != Ok(slice.key()) || slice.bytes() != bytes {
+        writeln!(told, "WRONG: the check says otherwise")?;
+    }
+    Ok(())
+}
+
+/// Tells the nearest symbol of each address.
+pub fn tell_nearest(
+    heap: Heap,
+    bytes: &[u8],
+    addresses: &[u64],
+    told: &mut String,
+) -> Result<(), CallFault> {
+    let image = Image::read(bytes)?;
+    let symbols = Symbols::read(&image)?;
+    let table = AddressTable::build(heap, &symbols)?;
+    for address in addresses {
+        let scanned = symbols.nearest_plain(*address);
+        tell_both(*address, table.nearest(*address, bytes), scanned, told)?;
+    }
+    Ok(())
+}
+
+// Tells what the table finds at an address, and whether the scan finds another symbol.
+fn tell_both(
+    address: u64,
+    found: Option<Found>,
+    scanned: Option<Found>,
+    told: &mut String,
+) -> Result<(), NoMemory> {
+    tell_found(address, found, told)?;
+    if found != scanned {
+        writeln!(told, "WRONG: the scan says otherwise")?;
+    }
+    Ok(())
+}
+
+/// Tells each symbol of a name.
+pub fn tell_named(bytes: &[u8], name: &[u8], told: &mut String) -> Result<(), CallFault> {
+    let image = Image::read(bytes)?;
+    let symbols = Symbols::read(&image)?;
+    for found in symbols.named(name) {
+        tell_found(found.address, Some(found), told)?;
+    }
+    Ok(())
+}
+
+// Tells what is found at an address.
+fn tell_found(address: u64, found: Option<Found>, told: &mut String) -> Result<(), NoMemory> {
+    let address = Address(address);
+    match found {
+        Some(found) => {
+            let sect = found.sect;
+            let text = Text(found);
+            writeln!(told, "{address} {text} in section {sect}")
+        }
+        None => writeln!(told, "{address} -"),
+    }
+}

@@ -1,0 +1,121 @@
+//! One case at each place of a device.
+
+use crate::calls::Task;
+use crate::desk::Desk;
+use crate::ends::Left;
+use crate::faults::CaseFault;
+use crate::limits::{Limits, Sweep};
+use crate::outcomes::Outcome;
+use memory::NoMemory;
+
+// Places in a row with one outcome.
+#[derive(Clone, Copy)]
+struct Group {
+    first: usize,
+    last: usize,
+    outcome: Outcome,
+}
+
+/// Carries out a case at each place of a sweep, the last of which is the uncut one, and tells the places in groups of
+/// one outcome.
+pub fn tell_sweep<'a>(
+    desk: Desk<'a>,
+    sweep: Sweep<'a>,
+    task: Task,
+    told: &mut String,
+) -> Result<(), CaseFault> {
+    let mut groups = Vec::new(desk.alloc);
+    sweep_places(desk, sweep, task, &mut groups)?;
+    tell_groups(&groups, told)?;
+    Ok(())
+}
+
+// Carries out a case at each place, and groups them.
+fn sweep_places<'a>(
+    desk: Desk<'a>,
+    sweep: Sweep<'a>,
+    task: Task,
+    groups: &mut Vec<Group>,
+) -> Result<(), CaseFault> {
+    let whole = desk.carry_out(task)?;
+    for place in 0..=last_place(desk, sweep, &whole)? {
+        let limits = sweep.limits(desk.limits, place);
+        let left = Desk { limits, ..desk }.carry_out(task)?;
+        add_place(groups, place, Outcome::at(place, &left, &whole))?;
+    }
+    Ok(())
+}
+
+fn tell_groups(groups: &[Group], told: &mut String) -> Result<(), NoMemory> {
+    for group in groups {
+        let first = group.first;
+        let last = group.last;
+        let outcome = group.outcome;
+        if first == last {
+            writeln!(told, "  {first}: {outcome}")?;
+        } else {
+            writeln!(told, "  {first} to {last}: {outcome}")?;
+        }
+    }
+    Ok(())
+}
+
+// The place at which nothing is cut any more, and no device fails.
+fn last_place(desk: Desk, sweep: Sweep, whole: &Left) -> Result<usize, CaseFault> {
+    match sweep {
+        Sweep::Cut(name) => Ok(desk.store.named(name)?.len()),
+        Sweep::Read(name) => Ok(desk.store.named(name)?.len().saturating_add(1)),
+        Sweep::Out => Ok(whole.out.len()),
+        Sweep::Report => Ok(whole.report.len()),
+        Sweep::Pieces(most) => Ok(most),
+    }
+}
+
+// Adds a place to the last group, where it has its outcome, or else as a new one.
+fn add_place(groups: &mut Vec<Group>, place: usize, outcome: Outcome) -> Result<(), NoMemory> {
+    if let Some(group) = groups.last_mut() {
+        if group.outcome == outcome {
+            group.last = place;
+            return Ok(());
+        }
+    }
+    groups.push(Group {
+        first: place,
+        last: place,
+        outcome,
+    })?;
+    Ok(())
+}
+
+// How many growths are granted at most before a sweep of them gives up.
+const MOST_GROWTHS: u64 = 100_000;
+
+/// Carries out a case with each number of growths from 0 on, until it meets no refusal, and tells how many met one.
+pub fn tell_growths(desk: Desk, task: Task, told: &mut String) -> Result<(), CaseFault> {
+    let whole = desk.carry_out(task)?;
+    for growths in 0..MOST_GROWTHS {
+        let limits = Limits {
+            growths,
+            ..desk.limits
+        };
+        let left = Desk { limits, ..desk }.carry_out(task)?;
+        if !left.end.wants_memory() {
+            return tell_last_growth(growths, left.is_as(&whole), told);
+        }
+        if !left.may_want_memory(&whole) {
+            writeln!(told, "  WRONG: growth {growths} was refused, and something was written")?;
+        }
+    }
+    writeln!(told, "  WRONG: every run was refused")?;
+    Ok(())
+}
+
+// Tells how many runs met a refusal, and whether the first that met none left what ample memory leaves.
+fn tell_last_growth(growths: u64, same: bool, told: &mut String) -> Result<(), CaseFault> {
+    if same {
+        writeln!(told, "  {growths} refusals, then the same as with ample memory")?;
+    } else {
+        writeln!(told, "  WRONG: {growths} refusals, then not the same as with ample memory")?;
+    }
+    Ok(())
+}
