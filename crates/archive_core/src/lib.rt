@@ -31,8 +31,6 @@ pub mod machine;
 mod operations;
 mod plain;
 mod slices;
-#[cfg(test)]
-mod tests;
 mod told;
 
 pub use archives::{Archive, Contents, take_all};

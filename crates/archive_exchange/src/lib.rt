@@ -16,8 +16,6 @@ mod fault;
 pub mod laws;
 mod taken;
 mod taking;
-#[cfg(test)]
-mod tests;
 
 pub use checking::check_file;
 pub use fault::TakeFault;

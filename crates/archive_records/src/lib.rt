@@ -27,8 +27,6 @@ mod next;
 mod operations;
 mod reader;
 mod reading;
-#[cfg(test)]
-mod tests;
 mod writing;
 
 pub use fault::{RecordFault, RecordFaultKind};

@@ -16,8 +16,6 @@ mod fault;
 mod file_kind;
 pub mod laws;
 mod number;
-#[cfg(test)]
-mod tests;
 mod universal;
 
 pub use fault::FatFault;

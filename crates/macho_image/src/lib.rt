@@ -20,8 +20,6 @@ mod section;
 mod segment;
 mod survey;
 mod symtab_command;
-#[cfg(test)]
-mod tests;
 mod uuid_command;
 
 pub use fault::ImageFault;

@@ -33,10 +33,6 @@ mod scan;
 mod section_numbers;
 mod symbols;
 mod table;
-#[cfg(test)]
-mod table_tests;
-#[cfg(test)]
-mod tests;
 
 pub use fault::SymbolFault;
 pub use found::Found;
