@@ -6,8 +6,6 @@
 
 mod failures;
 mod run;
-#[cfg(test)]
-mod tests;
 
 pub use failures::Failure;
 use std::process::ExitCode;
