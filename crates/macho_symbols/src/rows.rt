@@ -22,8 +22,8 @@ impl Candidate {
         u128::from(self.sect) * 0x1_0000_0000_0000_0000 + u128::from(u64::MAX - self.value)
     }
 
-    /// Compares two candidates by section, and in one section by the order of candidates. Names are read only where all that
-    /// counts more ties.
+    /// Compares two candidates by section, and in one section by the order of candidates. Names are read only
+    /// where all that counts more ties.
     fn compare_by_section(&self, other: &Candidate, strings: &[u8]) -> Ordering
         ensures { result ≡ row_cmp (tuple_of strings.now self.now) (tuple_of strings.now other.now) }
     {
