@@ -4,11 +4,12 @@ use Rattle.std.proofs.lemmas.List.{take_all}
 use Rattle.std.proofs.lemmas.Nat.{be_bytes_8, from_be_bytes-to_be_bytes_8}
 use Rattle.std.proofs.lemmas.Bool.{eqb-true}
 use Rattle.std.specs.Int.{w64, from_be_bytes, to_be_bytes}
+use Rattle.archive_records.specs.Kind.{end_length}
 use Rattle.archive_records.specs.Layout.{head_length, body_length, framed, record_count}
-use Rattle.archive_records.specs.Fault.{is_end, tested, next}
+use Rattle.archive_records.specs.Fault.{is_end, tested, next, IsUnended}
 use Rattle.std.specs.Io.KnownBytes.{IsAtEnd}
 use Rattle.archive_records.specs.declared.buffer.Buffer.{Buffer}
-use Rattle.archive_records.specs.Reading.{bytes_so_far, IsEnded}
+use Rattle.archive_records.specs.Reader.{bytes_so_far, IsEnded}
 use Rattle.archive_records.specs.Text.{end_record, ending}
 use Rattle.archive_records.proofs.Framed.{framed-whole}
 use Rattle.archive_records.proofs.Holds.{none_is_some, holds, Holds-end, next-is}
@@ -32,13 +33,23 @@ number_of_end : (n : ℕ) → n < 2 ^ 64 → record_count (end_record n) ≡ n
 unfolding record_count end_record
 number_of_end n lt = from_be_bytes-to_be_bytes_8 n lt
 
-framed_end : (n : ℕ) → framed Archive (end_record n) ≡ Ok 9
-unfolding head_length body_length end_record
-framed_end n = framed-whole Archive (end_record n) 9 (lit≤ tt) refl (lit≤ tt) (lit≤ tt) (lit≤ tt)
+-- a file with an end record
+module _ (file : FileKind) (end : end_length file ≡ Some 9) where
+  framed_end : (n : ℕ) → framed file (end_record n) ≡ Ok 9
+  unfolding head_length body_length end_record
+  framed_end n = framed-whole file (end_record n) 9 (lit≤ tt) end (lit≤ tt) (lit≤ tt) (lit≤ tt)
 
-pub next_end : (low : List ℕ) (n : ℕ) → n < 2 ^ 64 → next Archive low n (end_record n) ≡ Ok 9
-unfolding tested
-next_end low n lt = next-is Archive (end_record n) 9 low n (framed_end n) ∙ rw (end-is_end n, eq-eqb _ _ (number_of_end n lt)) refl
+  pub next_end : (low : List ℕ) (n : ℕ) → n < 2 ^ 64 → next file low n (end_record n) ≡ Ok 9
+  unfolding tested
+  next_end low n lt = next-is file (end_record n) 9 low n (framed_end n) ∙ rw (end-is_end n, eq-eqb _ _ (number_of_end n lt)) refl
+
+pub counted : (file : FileKind) → end_length file ≡ Some 9 → (n : ℕ) → ending file n ≡ end_record n
+counted Archive end n = refl
+counted Operations end n = absurd (none_is_some 9 end)
+
+pub counted_unended : (file : FileKind) → end_length file ≡ Some 9 → (rest : List ℕ) → IsUnended file rest
+counted_unended Archive end rest = tt
+counted_unended Operations end rest = absurd (none_is_some 9 end)
 
 -- an operations file has none
 no_tag : (tag head : ℕ) → tag ≡ 3 → head_length Operations tag ≡ Some head → ⊥

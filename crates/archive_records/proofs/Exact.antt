@@ -87,9 +87,9 @@ ending_stops Operations_file low n more alone t = nothing_taken Operations_file 
 
 no_fails : (file : FileKind) (low : List ℕ) (n : ℕ) (more : List ℕ) (kind : RecordFaultKind) → (file ≡ Archive → n < 2 ^ 64) → (file ≡ Operations_file → more ≡ []) → IsUnended file (ending file n ++ more) → FailsNext file low n (ending file n ++ more) kind → ⊥
 no_fails Operations_file low n more kind few alone unended f = unended (alone refl)
-no_fails Archive low n more kind few alone unended (inl e) = no_both 9 kind (sym (next-ok-grows Archive low n (end_record n) more 9 (next_end low n (few refl))) ∙ e)
+no_fails Archive low n more kind few alone unended (inl e) = no_both 9 kind (sym (next-ok-grows Archive low n (end_record n) more 9 (next_end Archive refl low n (few refl))) ∙ e)
 no_fails Archive low n more kind few alone unended (inr f) =
-    let nine = result_is f.0 9 (sym f.1 ∙ next-ok-grows Archive low n (end_record n) more 9 (next_end low n (few refl))) in
+    let nine = result_is f.0 9 (sym f.1 ∙ next-ok-grows Archive low n (end_record n) more 9 (next_end Archive refl low n (few refl))) in
     let two = refused_tag (take f.0 (end_record n ++ more)) kind f.2 in
     let same : get_or (take f.0 (end_record n ++ more)) 0 0 ≡ get_or (end_record n ++ more) 0 0 = get_or-take f.0 (end_record n ++ more) 0 0 (omega arith) in
     omega (arith, is_three (end_record n ++ more) (end_more n more))

@@ -11,7 +11,8 @@ use Rattle.archive_records.specs.Kind.{allows, may_follow}
 use Rattle.archive_records.specs.Text.{last_of}
 use Rattle.archive_records.specs.Fault.{is_end, tested, next, next_by, FailsNext, IsMagicFault, IsUnended, IsFaultBehind, IsOperationsFault, IsOfText}
 use Rattle.archive_records.specs.declared.buffer.Buffer.{Buffer}
-use Rattle.archive_records.specs.Reading.{bytes_so_far, seen_as, StopsInMagic}
+use Rattle.archive_records.specs.Reading.{Blames}
+use Rattle.archive_records.specs.Reader.{bytes_so_far, seen_as, StopsInMagic}
 use Rattle.archive_records.proofs.Laid.{length-bytes_so_far}
 use Rattle.archive_records.proofs.Framed.{framed-empty}
 use Rattle.archive_records.proofs.Holds.{next-framed}
@@ -219,6 +220,16 @@ operations_faults text fault (inr f) = behind f.0 f.1.rest f.3
     behind : (records : List (List ℕ)) (rest : List ℕ) → IsFaultBehind Operations records rest fault → (fault.kind ≢ NotAscending) × (fault.kind ≢ BadCount) × (fault.kind ≢ Trailing)
     behind records rest (inl b) = operations_fail (last_of [] records) (length records) rest fault.kind b.0
     behind records rest (inr t) = absurd (no_end rest 9 (next-framed Operations (last_of [] records) (length records) rest 9 t.1.whole) (is_three rest t.1.end))
+
+-- want of memory says that the reader did not fail
+pub memory_blames : {R : Type 0} (left : R → Option (List ℕ)) (failures : R → ℕ) (old new : R) → failures new ≡ failures old → Blames left failures old new OutOfMemory
+memory_blames left failures old new unfailed = ((λ e. absurd (no_device e)), (λ _. unfailed), λ e. absurd (no_end_told e))
+  where
+    no_device : OutOfMemory ≡ Device → ⊥
+    no_device e = cc
+
+    no_end_told : OutOfMemory ≡ Truncated → ⊥
+    no_end_told e = cc
 
 -- an input that ended is no failing device
 pub not_device : (kind : RecordFaultKind) → kind ≡ Truncated → kind ≢ Device

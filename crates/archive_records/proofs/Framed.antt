@@ -6,7 +6,7 @@ use Rattle.std.proofs.lemmas.Bool.{le-ltb, lt-ltb, eqb-true, cases_Bool}
 use Rattle.archive_records.specs.declared.fault.RecordFaultKind.{RecordFaultKind}
 use Rattle.archive_records.specs.declared.fault.RecordFaultKind.TheVariants.{Truncated, BadTag, TooLarge}
 use Rattle.archive_records.specs.Layout.{head_length, admission_body, body_length, slice_length, largest_slice, framed, framed_behind}
-use Rattle.archive_records.specs.Reading.{seen_as}
+use Rattle.archive_records.specs.Reader.{seen_as}
 use Rattle.archive_records.specs.Kind.{admission_length}
 use Rattle.archive_records.specs.declared.kind.FileKind.{FileKind}
 use Rattle.archive_records.specs.declared.kind.FileKind.TheVariants.{Archive, Operations}

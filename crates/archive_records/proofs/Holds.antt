@@ -5,7 +5,7 @@ use Rattle.std.proofs.lemmas.Bool.{ltb-false, eqb-true, cases_Bool, false≢true
 use Rattle.archive_records.specs.declared.fault.RecordFaultKind.{RecordFaultKind}
 use Rattle.archive_records.specs.declared.fault.RecordFaultKind.TheVariants.{Truncated, TooLarge, NotAscending, BadCount}
 use Rattle.archive_records.specs.Layout.{head_length, admission_body, body_length, record_count, largest_slice, framed, framed_by, framed_behind}
-use Rattle.archive_records.specs.Reading.{seen_as}
+use Rattle.archive_records.specs.Reader.{seen_as}
 use Rattle.archive_records.specs.Kind.{may_follow}
 use Rattle.archive_records.specs.Fault.{is_end, tested, next, next_by}
 use Rattle.std.specs.Prelude.{MatchResult}

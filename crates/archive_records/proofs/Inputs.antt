@@ -18,8 +18,8 @@ use Rattle.archive_records.specs.Kind.{magic_of}
 use Rattle.archive_records.specs.Text.{ending, text_of, InOrder, last_of, written, IsOperationsText}
 use Rattle.archive_records.specs.Fault.{is_end, IsMagicFault, IsFaultBehind, IsUnended, IsOperationsFault, IsFaultOf, IsOfText}
 use Rattle.archive_records.specs.Front.{IsGoodFront, IsFrontLengthOf, IsLongestLengthOf, front_length}
-use Rattle.archive_records.specs.Reads.{Blames, StandsBehind, IsRefused, IsOfMachine, ReadsWhole, ReadsFront}
-use Rattle.archive_records.specs.Reading.{FaultBlamesReader, seen_as, StopsInMagic, Stops, HasStopped, IsReadTo, AreRead}
+use Rattle.archive_records.specs.Reading.{Blames, StandsBehind, IsRefused, IsOfMachine, ReadsWhole, ReadsFront}
+use Rattle.archive_records.specs.Reader.{FaultBlamesReader, seen_as, StopsInMagic, Stops, HasStopped, IsReadTo, AreRead}
 use Rattle.archive_records.proofs.Grown.{Fails-grows, IsTrailing-grows}
 use Rattle.archive_records.proofs.Longest.{Takes, fault-stops, end-stops, is_longest}
 use Rattle.archive_records.proofs.Puts.{bytes_same}

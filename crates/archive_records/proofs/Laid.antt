@@ -11,7 +11,7 @@ use Rattle.std.specs.Io.KnownBytes.{Consumes}
 use Rattle.byte_device.specs.Taking.{Fills}
 use Rattle.byte_device.proofs.Known.{Consumes-then}
 use Rattle.archive_records.specs.declared.buffer.Buffer.{Buffer}
-use Rattle.archive_records.specs.Reading.{bytes_so_far, Over}
+use Rattle.archive_records.specs.Reader.{bytes_so_far, Over}
 
 then_assoc : (a b c : Ordering) → ordering_then a (ordering_then b c) ≡ ordering_then (ordering_then a b) c
 then_assoc Less b c = refl

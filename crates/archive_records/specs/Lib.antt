@@ -3,5 +3,5 @@ pub mod Layout
 pub mod Text
 pub mod Fault
 pub mod Front
-pub mod Reads
 pub mod Reading
+pub mod Reader

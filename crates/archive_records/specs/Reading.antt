@@ -1,136 +1,91 @@
--- Records that are read from a source one over the other: the words of the inner functions. No contract of a public one has them.
-use Rattle.std.specs.Prelude.{◌≡◌, ◌≢◌, ℕ, ◌+◌, ◌^◌, ◌<◌, List, [], ◌++◌, length, take, drop, map, All, Option, Result, MatchResult, ◌⊎◌}
-use Rattle.std.specs.List.{concat}
-use Rattle.std.specs.Ordering.{nat_cmp}
-use Rattle.std.specs.Cmp.Lexicographic.{slice_cmp}
+-- What a reader of a whole input, or of its front, gives, and why it is refused.
+use Rattle.std.specs.Prelude.{◌≡◌, ◌≢◌, ℕ, ◌^◌, ◌<◌, List, ◌++◌, length, All, Option, Some, IfSome, Result, Ok, Err, ◌⊎◌}
 use Rattle.std.specs.FinSet as set
 use Rattle.std.specs.Io.KnownBytes.{Consumes, IsAtEnd}
+use Rattle.byte_device.specs.Devices.{FailedIn}
 use Rattle.archive_core.specs.declared.operations.Operation.{Operation}
-use Rattle.archive_core.specs.Record.{IsOperation, rec}
-use Rattle.archive_core.specs.Content.{Operations}
+use Rattle.archive_core.specs.Record.{IsOperation}
+use Rattle.archive_core.specs.Content.{Operations, IsContent}
 use Rattle.archive_records.specs.declared.kind.FileKind.{FileKind}
 use Rattle.archive_records.specs.declared.kind.FileKind.TheVariants.{Archive, Operations as Operations_file}
-use Rattle.archive_records.specs.declared.buffer.Buffer.{Buffer}
-use Rattle.archive_records.specs.declared.reader.RecordReader.{RecordReader}
 use Rattle.archive_records.specs.declared.fault.RecordFaultKind.{RecordFaultKind}
-use Rattle.archive_records.specs.declared.fault.RecordFaultKind.TheVariants.{BadMagic, Truncated, BadTag, TooLarge, NotAscending, BadSlice, KeyMismatch, BadCount, Trailing, Device, OutOfMemory}
+use Rattle.archive_records.specs.declared.fault.RecordFaultKind.TheVariants.{Truncated, Trailing, Device, OutOfMemory}
 use Rattle.archive_records.specs.declared.fault.RecordFault.{RecordFault}
-use Rattle.archive_records.specs.Kind.{magic_of}
-use Rattle.archive_records.specs.Text.{end_record, text_of, InOrder, last_of}
-use Rattle.archive_records.specs.Fault.{Fails, IsTrailing, IsMagicFault, IsUnended, IsOfText}
-use Rattle.archive_records.specs.Front.{front_length}
-use Rattle.archive_records.specs.Reads.{Blames}
+use Rattle.archive_records.specs.Text.{written, IsOperationsText}
+use Rattle.archive_records.specs.Fault.{IsFaultOf, IsOfText}
+use Rattle.archive_records.specs.Front.{IsFrontLengthOf, IsLongestLengthOf}
 
--- the bytes of the next record that came
-abbrev pub bytes_so_far : Buffer → List ℕ
-bytes_so_far b = take b.at b.bytes.items
+-- what the text of a file says: an archive's a content, an operations file's a list of operations
+abbrev pub Meaning : FileKind → Type 0
+Meaning Archive = Operations
+Meaning Operations_file = List Operation
 
--- Behind what came stands the rest of the last record, and the order is that of the last record's front and what came.
-pub record Over (last : List ℕ) (b : Buffer) : Type 0 where
-  pub rest : drop b.at b.bytes.items ≡ drop b.at last
-  pub order : b.order ≡ slice_cmp nat_cmp (take b.at last) (bytes_so_far b)
+-- what such texts may say
+abbrev pub IsMeaning : (file : FileKind) → Meaning file → Type 0
+IsMeaning Archive o = IsContent o
+IsMeaning Operations_file operations = All IsOperation operations
 
--- What a fault says of the bytes that came: a device that failed, and want of memory, leave a part of a record.
-abbrev pub seen_as : RecordFaultKind → RecordFaultKind
-seen_as BadMagic = BadMagic
-seen_as Truncated = Truncated
-seen_as BadTag = BadTag
-seen_as TooLarge = TooLarge
-seen_as NotAscending = NotAscending
-seen_as (BadSlice fault) = BadSlice fault
-seen_as KeyMismatch = KeyMismatch
-seen_as BadCount = BadCount
-seen_as Trailing = Trailing
-seen_as Device = Truncated
-seen_as OutOfMemory = Truncated
+-- in how many records
+abbrev pub records_of : (file : FileKind) → Meaning file → ℕ
+records_of Archive o = set.len o
+records_of Operations_file operations = length operations
 
--- What a result says of the reader: on success it did not fail, and else what the fault says.
-abbrev pub BlamesReader : {R T : Type 0} → (R → Option (List ℕ)) → (R → ℕ) → R → R → Result T RecordFaultKind → Type 0
-BlamesReader left failures old new result = MatchResult result (λ _. failures new ≡ failures old) (Blames left failures old new)
+-- the text that says it
+abbrev pub IsTextOf : (file : FileKind) → Meaning file → List ℕ → Type 0
+IsTextOf Archive o text = text ≡ written o
+IsTextOf Operations_file operations text = IsOperationsText text operations
 
--- the same of a fault with its offset
-abbrev pub FaultBlamesReader : {R T : Type 0} → (R → Option (List ℕ)) → (R → ℕ) → R → R → Result T RecordFault → Type 0
-FaultBlamesReader left failures old new result = MatchResult result (λ _. failures new ≡ failures old) (λ fault. Blames left failures old new fault.kind)
+-- What a fault says of the reader in the call, which stood so before it and so after it: that it failed, if this is `Device`, and else
+-- that it did not; and if this is `Truncated`, that it is at its end.
+abbrev pub Blames : {R : Type 0} → (R → Option (List ℕ)) → (R → ℕ) → R → R → RecordFaultKind → Type 0
+Blames left failures old new kind =
+    (kind ≡ Device → FailedIn (failures old) (failures new)) × (kind ≢ Device → failures new ≡ failures old) × (kind ≡ Truncated → IsAtEnd (left new))
 
--- why the magic was not read, and the bytes that came instead
-abbrev pub StopsInMagic : FileKind → List ℕ → RecordFaultKind → Type 0
-StopsInMagic file bytes kind =
-    IsMagicFault file bytes kind
-    ⊎ ((kind ≡ Device) × (length bytes < 8))
-    ⊎ ((kind ≡ OutOfMemory) × (length bytes < 8))
+-- The offset is the one that this relation has of the bytes that were taken.
+abbrev pub StandsBehind : (List ℕ → ℕ → Type 0) → Option (List ℕ) → Option (List ℕ) → ℕ → Type 0
+StandsBehind IsOffsetOf a b offset = (bytes : List ℕ) × Consumes a b bytes × IsOffsetOf bytes offset
 
--- The magic and these records were read, and nothing behind them. The last of them is in the buffer.
-pub record HasRead (file : FileKind) (a b : Option (List ℕ)) (records : List (List ℕ)) (reader : RecordReader) : Type 0 where
-  pub file_is : reader.file ≡ file
-  pub taken : Consumes a b (magic_of file ++ concat records)
-  pub ordered : InOrder file [] records
-  pub last_is : reader.buffer.bytes.items ≡ last_of [] records
-  pub count_is : reader.count ≡ length records
-  pub offset_is : reader.offset + length reader.buffer.bytes.items ≡ front_length records
+-- Why an input is refused: its text has this fault, its reader failed behind the longest good front of what came, or memory was
+-- wanted behind a good front.
+pub record IsRefused {R : Type 0} (file : FileKind) (left : R → Option (List ℕ)) (failures : R → ℕ) (old new : R) (fault : RecordFault) : Type 0 where
+  pub blames : Blames left failures old new fault.kind
+  pub faulty : IsOfText fault.kind → IfSome (left old) (λ text. IsFaultOf file text fault)
+  pub device : fault.kind ≡ Device → StandsBehind (IsLongestLengthOf file) (left old) (left new) fault.offset
+  pub memory : fault.kind ≡ OutOfMemory → StandsBehind (IsFrontLengthOf file) (left old) (left new) fault.offset
 
--- a file without an end record ends with the input
-abbrev pub IsEnded : FileKind → Option (List ℕ) → Type 0
-IsEnded Archive left = Unit {0}
-IsEnded Operations_file left = IsAtEnd left
+-- no text is at fault
+abbrev pub IsOfMachine : RecordFaultKind → Type 0
+IsOfMachine kind = (kind ≡ Device) ⊎ (kind ≡ OutOfMemory)
 
--- The magic, these records and what ends the file behind them were read, and nothing behind it.
-pub record HasReadAll (file : FileKind) (a b : Option (List ℕ)) (records : List (List ℕ)) (reader : RecordReader) : Type 0 where
-  pub taken : Consumes a b (text_of file records)
-  pub ordered : InOrder file [] records
-  pub few : length records < 2 ^ 63
-  pub ended : IsEnded file b
-  pub offset_is : reader.offset ≡ front_length records
+-- The whole input is the text of this meaning, and of no other.
+pub record IsReadWhole {R : Type 0} (file : FileKind) (meaning : Meaning file) (left : R → Option (List ℕ)) (failures : R → ℕ) (old new : R) : Type 0 where
+  pub is : IsMeaning file meaning
+  pub few : records_of file meaning < 2 ^ 63
+  pub text : IfSome (left old) (IsTextOf file meaning)
+  pub alone : IfSome (left old) (λ text. (other : Meaning file) → IsMeaning file other → IsTextOf file other text → meaning ≡ other)
+  pub at_end : IsAtEnd (left new)
+  pub unfailed : failures new ≡ failures old
 
--- what came behind the records, and why reading stopped there
-abbrev pub Stops : FileKind → List (List ℕ) → List ℕ → RecordFault → Type 0
-Stops file records rest fault =
-    ((fault.offset ≡ front_length records) × (fault.kind ≢ OutOfMemory → Fails file records rest (seen_as fault.kind)))
-    ⊎ ((fault.kind ≡ Trailing) × IsTrailing file (last_of [] records) (length records) rest × (fault.offset ≡ front_length records + 9))
-    ⊎ ((fault.kind ≡ Device) × (rest ≡ end_record (length records)) × (fault.offset ≡ front_length records))
+-- What came of reading a whole input, where this is the meaning of what is given. Texts of such files are refused by the machine alone.
+abbrev pub ReadsWhole : {R T : Type 0} → (file : FileKind) → (T → Meaning file) → (R → Option (List ℕ)) → (R → ℕ) → R → R → Result T RecordFault → Type 0
+ReadsWhole file meaning left failures old new (Ok value) = IsReadWhole file (meaning value) left failures old new
+ReadsWhole file meaning left failures old new (Err fault) =
+    IsRefused file left failures old new fault
+    × IfSome (left old) (λ text. (m : Meaning file) → IsMeaning file m → IsTextOf file m text → IsOfMachine fault.kind)
 
--- The magic, these records and what came behind them were read, where reading stopped.
-pub record Stopped (file : FileKind) (a b : Option (List ℕ)) (records : List (List ℕ)) (fault : RecordFault) : Type 0 where
-  pub rest : List ℕ
-  pub taken : Consumes a b (magic_of file ++ (concat records ++ rest))
-  pub ordered : InOrder file [] records
-  pub few : length records < 2 ^ 63
-  pub unended : IsOfText fault.kind → IsUnended file rest
-  pub stops : Stops file records rest fault
+-- The text of this meaning was taken from the front of the input, and the input begins with that of no other.
+pub record IsReadFront {R : Type 0} (file : FileKind) (meaning : Meaning file) (left : R → Option (List ℕ)) (failures : R → ℕ) (old new : R) : Type 0 where
+  pub is : IsMeaning file meaning
+  pub few : records_of file meaning < 2 ^ 63
+  pub taken : (text : List ℕ) × IsTextOf file meaning text × Consumes (left old) (left new) text
+  pub alone : IfSome (left old) (λ input. (other : Meaning file) (text rest : List ℕ) → IsMeaning file other → IsTextOf file other text → input ≡ text ++ rest → (meaning ≡ other) × (left new ≡ Some rest))
+  pub unfailed : failures new ≡ failures old
 
--- reading stopped, in the magic or behind some records
-abbrev pub HasStopped : FileKind → Option (List ℕ) → Option (List ℕ) → RecordFault → Type 0
-HasStopped file a b fault =
-    ((bytes : List ℕ) × Consumes a b bytes × StopsInMagic file bytes fault.kind × (fault.offset ≡ 0))
-    ⊎ ((records : List (List ℕ)) × Stopped file a b records fault)
-
--- The records of an archive's text that were read make the content.
-pub record Makes (a b : Option (List ℕ)) (o : Operations) (reader : RecordReader) : Type 0 where
-  pub records : List (List ℕ)
-  pub read : HasRead Archive a b records reader
-  pub content : o ≡ set.from_list records
-
--- The records that were read make the content, and their end record was read.
-pub record MakesAll (a b : Option (List ℕ)) (o : Operations) (reader : RecordReader) : Type 0 where
-  pub records : List (List ℕ)
-  pub read : HasReadAll Archive a b records reader
-  pub content : o ≡ set.from_list records
-
--- An archive's text was read, and its records make the content.
-pub record IsReadTo (a b : Option (List ℕ)) (o : Operations) : Type 0 where
-  pub records : List (List ℕ)
-  pub few : length records < 2 ^ 63
-  pub taken : Consumes a b (text_of Archive records)
-  pub ordered : InOrder Archive [] records
-  pub content : o ≡ set.from_list records
-
--- The records of these operations were read, in their order.
-pub record Lists (a b : Option (List ℕ)) (operations : List Operation) (reader : RecordReader) : Type 0 where
-  pub read : HasRead Operations_file a b (map rec operations) reader
-  pub are : All IsOperation operations
-
--- The text of these operations was read, to the end of the input.
-pub record AreRead (a b : Option (List ℕ)) (operations : List Operation) : Type 0 where
-  pub few : length operations < 2 ^ 63
-  pub taken : Consumes a b (text_of Operations_file (map rec operations))
-  pub at_end : IsAtEnd b
-  pub are : All IsOperation operations
+-- What came of reading the front of an input. No byte behind it is at fault, and inputs that begin with such a text are refused by
+-- the machine alone.
+abbrev pub ReadsFront : {R T : Type 0} → (file : FileKind) → (T → Meaning file) → (R → Option (List ℕ)) → (R → ℕ) → R → R → Result T RecordFault → Type 0
+ReadsFront file meaning left failures old new (Ok value) = IsReadFront file (meaning value) left failures old new
+ReadsFront file meaning left failures old new (Err fault) =
+    IsRefused file left failures old new fault
+    × (fault.kind ≢ Trailing)
+    × IfSome (left old) (λ input. (m : Meaning file) (text rest : List ℕ) → IsMeaning file m → IsTextOf file m text → input ≡ text ++ rest → IsOfMachine fault.kind)

@@ -1,8 +1,7 @@
 //! The next record, tested against what came before it.
 
-ghost use Rattle.std.specs.Prelude.{◌≡◌, ◌≢◌, ◌<◌, ◌≤◌, ℕ, List, length, drop, Ok, Err, OnOk, IfOk, IfErr, MatchResult, IsTrue, ◌↔◌, true, false};
-ghost use Rattle.std.specs.Io.KnownBytes.{Consumes, IsAtEnd};
-ghost use Rattle.byte_device.specs.Devices.{FailedIn};
+ghost use Rattle.std.specs.Prelude.{◌≡◌, ◌≢◌, ◌<◌, ◌≤◌, ℕ, List, length, Ok, Err, OnOk, IfOk, IfErr, MatchResult, IsTrue, ◌↔◌, true, false};
+ghost use Rattle.std.specs.Io.KnownBytes.{Consumes};
 ghost use Rattle.archive_core.specs.Record.{IsRecord};
 ghost use Rattle.archive_records.specs.declared.fault.RecordFaultKind.TheVariants.{Truncated, Device};
 ghost use Rattle.archive_records.specs.declared.kind.FileKind.TheVariants.{Archive, Operations};
@@ -10,7 +9,7 @@ ghost use Rattle.archive_records.specs.Kind.{IsItem, may_follow};
 ghost use Rattle.archive_records.specs.Layout.{framed};
 ghost use Rattle.archive_records.specs.Text.{end_record, ending};
 ghost use Rattle.archive_records.specs.Fault.{is_end, tested, next, RefusesSlice, Refuses, FailsNext, IsUnended, IsOfText};
-ghost use Rattle.archive_records.specs.Reading.{BlamesReader, bytes_so_far, seen_as, IsEnded};
+ghost use Rattle.archive_records.specs.Reader.{BlamesReader, bytes_so_far, seen_as, IsEnded};
 
 use crate::buffer::Buffer;
 use crate::fault::RecordFaultKind;

@@ -1,11 +1,11 @@
 //! Operations files that are read from a source.
 
-ghost use Rattle.std.specs.Prelude.{◌≡◌, ◌+◌, ◌*◌, ◌<◌, ◌≤◌, ◌^◌, ◌∷◌, ◌++◌, ℕ, List, Option, [], length, OnOk, IfOk, IfErr};
+ghost use Rattle.std.specs.Prelude.{◌≡◌, ◌+◌, ◌∷◌, ◌++◌, ℕ, List, Option, [], OnOk, IfOk, IfErr};
 ghost use Rattle.archive_core.specs.declared.operations.Operation.{Operation};
 ghost use Rattle.archive_core.specs.Record.{rec, IsRecord, IsOperation};
 ghost use Rattle.archive_records.specs.declared.kind.FileKind.TheVariants.{Operations};
-ghost use Rattle.archive_records.specs.Reads.{ReadsWhole};
-ghost use Rattle.archive_records.specs.Reading.{FaultBlamesReader, HasStopped, Lists, AreRead};
+ghost use Rattle.archive_records.specs.Reading.{ReadsWhole};
+ghost use Rattle.archive_records.specs.Reader.{FaultBlamesReader, HasStopped, Lists, AreRead};
 
 use crate::fault::RecordFault;
 use crate::kind::FileKind;
@@ -36,22 +36,20 @@ fn push_records<R: Source>(
     reader: &mut RecordReader,
     r: &mut R,
 ) -> Result<(), RecordFault>
-    requires room { 0 < length reader.old.chunk.items }
-    requires operations { reader.old.file ≡ Operations }
-    requires few { reader.old.count < 2 ^ 63 }
-    requires fits { reader.old.offset + length reader.old.buffer.bytes.items ≤ 8 + reader.old.count * 2 ^ 64 }
+    requires { reader.old.file ≡ Operations }
     ensures all { OnOk result ((a : Option (List ℕ)) → Lists a (R.left r.old) operations.old.items reader.old → AreRead a (R.left r.new) operations.new.items) }
     ensures stopped { IfErr result (λ fault. (a : Option (List ℕ)) → Lists a (R.left r.old) operations.old.items reader.old → HasStopped Operations a (R.left r.new) fault) }
     ensures reader { FaultBlamesReader R.left R.failures r.old r.new result }
 {
     'pushing: loop {
+        let offset = reader.offset();
         match reader.advance(r) {
             Ok(true) => return Ok(()),
             Ok(false) => {}
             Err(fault) => return Err(fault),
         }
-        if let Err(_) = push_record(operations, heap, &reader.buffer.bytes) {
-            return Err(RecordFault::out_of_memory(reader.offset));
+        if let Err(_) = push_record(operations, heap, reader.last()) {
+            return Err(RecordFault::out_of_memory(offset));
         }
     }
 }
@@ -63,10 +61,7 @@ fn list_rest<R: Source>(
     mut reader: RecordReader,
     r: &mut R,
 ) -> Result<Vec<Operation, Heap>, RecordFault>
-    requires room { 0 < length reader.chunk.items }
-    requires operations { reader.file ≡ Operations }
-    requires few { reader.count < 2 ^ 63 }
-    requires fits { reader.offset + length reader.buffer.bytes.items ≤ 8 + reader.count * 2 ^ 64 }
+    requires { reader.file ≡ Operations }
     ensures all { IfOk result (λ read. (a : Option (List ℕ)) → Lists a (R.left r.old) operations.items reader → AreRead a (R.left r.new) read.items) }
     ensures stopped { IfErr result (λ fault. (a : Option (List ℕ)) → Lists a (R.left r.old) operations.items reader → HasStopped Operations a (R.left r.new) fault) }
     ensures reader { FaultBlamesReader R.left R.failures r.old r.new result }

@@ -1,14 +1,10 @@
 //! A source that is read record by record.
 
-ghost use Rattle.std.specs.Prelude.{◌≡◌, ◌≢◌, ◌+◌, ◌*◌, ◌<◌, ◌≤◌, ◌^◌, ℕ, List, Option, [], ◌∷◌, ◌++◌, true, false, length, take, OnOk, IfOk, IfErr, MatchResult, IsTrue, ◌↔◌};
+ghost use Rattle.std.specs.Prelude.{◌≡◌, ◌<◌, ◌≤◌, ℕ, List, Option, Some, [], length, take, OnOk, IfOk, IfErr, IsTrue, ◌↔◌};
 ghost use Rattle.std.specs.Io.KnownBytes.{Consumes, IsAtEnd};
-ghost use Rattle.byte_device.specs.Devices.{FailedIn};
 ghost use Rattle.archive_records.specs.declared.kind.FileKind.{FileKind};
-ghost use Rattle.archive_records.specs.declared.kind.FileKind.TheVariants.{Archive};
-ghost use Rattle.archive_records.specs.declared.fault.RecordFaultKind.TheVariants.{Truncated, Trailing, Device};
-ghost use Rattle.archive_records.specs.Kind.{magic_of, IsItem, may_follow};
-ghost use Rattle.archive_records.specs.Text.{last_of};
-ghost use Rattle.archive_records.specs.Reading.{BlamesReader, FaultBlamesReader, bytes_so_far, StopsInMagic, HasRead, HasReadAll, Stopped};
+ghost use Rattle.archive_records.specs.Kind.{magic_of, end_length};
+ghost use Rattle.archive_records.specs.Reader.{Position, Bounds, Advances, BlamesReader, FaultBlamesReader, bytes_so_far, StopsInMagic, HasRead, HasReadAll, Stopped};
 
 use crate::buffer::{Buffer, fill};
 use crate::fault::{RecordFault, RecordFaultKind};
@@ -17,6 +13,7 @@ use crate::next::read_next;
 use byte_device::{Failed, Source, is_at_end};
 use memory::{Heap, NoMemory};
 use std::cmp::Ordering;
+use std::marker::Model;
 
 /// How many records a file has at most.
 const MOST: u64 = 9223372036854775807;
@@ -24,16 +21,25 @@ const MOST: u64 = 9223372036854775807;
 /// How many bytes are pulled at once, at most.
 const CHUNK: usize = 65536;
 
-/// What was read: the last record, how many there were, and where the last one begins.
+/// What was read so far: contracts see where the reader stands.
 #[derive(Drop)]
 pub struct RecordReader {
-    pub file: FileKind,
-    pub buffer: Buffer,
+    file: FileKind,
+    /// The last record.
+    buffer: Buffer,
     /// Where the next piece of a record is pulled to.
-    pub chunk: Vec<u8, Heap>,
-    pub count: u64,
-    /// How many bytes stand before the record in the buffer, or before what ends the file.
-    pub offset: u128,
+    chunk: Vec<u8, Heap>,
+    count: u64,
+    /// How many bytes were read of the magic and the records.
+    offset: u128,
+}
+
+impl Model for RecordReader {
+    ghost Value = { Position };
+
+    ghost view = { λ r. record { file = r.file; last = r.buffer.bytes.items; count = r.count; offset = r.offset } };
+
+    ghost invariant = { λ r. Bounds (length r.chunk.items) r.count r.offset };
 }
 
 // A place for pieces of this many bytes.
@@ -94,10 +100,7 @@ impl RecordReader {
         file: FileKind,
         r: &mut R,
     ) -> Result<RecordReader, RecordFault>
-        ensures room { IfOk result (λ reader. 0 < length reader.chunk.items) }
         ensures read { IfOk result (λ reader. HasRead file (R.left r.old) (R.left r.new) [] reader) }
-        ensures count { IfOk result (λ reader. reader.count ≡ 0) }
-        ensures offset { IfOk result (λ reader. reader.offset + length reader.buffer.bytes.items ≡ 8) }
         ensures start { IfErr result (λ fault. fault.offset ≡ 0) }
         ensures stops { IfErr result (λ fault. (bytes : List ℕ) × Consumes (R.left r.old) (R.left r.new) bytes × StopsInMagic file bytes fault.kind) }
         ensures reader { FaultBlamesReader R.left R.failures r.old r.new result }
@@ -123,47 +126,45 @@ impl RecordReader {
         })
     }
 
+    /// The last record.
+    pub fn last(&self) -> &[u8]
+        ensures { result.now ≡ self.now.last }
+    {
+        &self.buffer.bytes
+    }
+
+    /// How many bytes were read of the magic and the records.
+    pub fn offset(&self) -> u128
+        ensures { result ≡ self.now.offset }
+    {
+        self.offset
+    }
+
     /// Reads the next record over the last, or else what ends the file, and says whether the file ends.
     pub fn advance<R: Source>(&mut self, r: &mut R) -> Result<bool, RecordFault>
-        requires room { 0 < length self.old.chunk.items }
-        requires few { self.old.count < 2 ^ 63 }
-        requires fits { self.old.offset + length self.old.buffer.bytes.items ≤ 8 + self.old.count * 2 ^ 64 }
-        ensures room { 0 < length self.new.chunk.items }
-        ensures item { IfOk result (λ end. end ≡ false → (file : FileKind) (a : Option (List ℕ)) (records : List (List ℕ)) → HasRead file a (R.left r.old) records self.old → HasRead file a (R.left r.new) (records ++ self.new.buffer.bytes.items ∷ []) self.new × (may_follow file (last_of [] records) self.new.buffer.bytes.items ≡ true)) }
-        ensures known { IfOk result (λ end. end ≡ false → IsItem self.new.file self.new.buffer.bytes.items) }
-        ensures same { self.new.file ≡ self.old.file }
-        ensures end { IfOk result (λ end. end ≡ true → (file : FileKind) (a : Option (List ℕ)) (records : List (List ℕ)) → HasRead file a (R.left r.old) records self.old → HasReadAll file a (R.left r.new) records self.new) }
-        ensures no_trailing { IfErr result (λ fault. fault.kind ≢ Trailing) }
-        ensures stopped { IfErr result (λ fault. (file : FileKind) (a : Option (List ℕ)) (records : List (List ℕ)) → HasRead file a (R.left r.old) records self.old → Stopped file a (R.left r.new) records fault) }
-        ensures more { IfOk result (λ end. end ≡ false → self.new.count ≡ self.old.count + 1) }
-        ensures few { OnOk result (self.new.count < 2 ^ 63) }
-        ensures fits { IfOk result (λ end. end ≡ false → self.new.offset + length self.new.buffer.bytes.items ≤ 8 + self.new.count * 2 ^ 64) }
-        ensures bound { OnOk result (self.new.offset ≤ 8 + 2 ^ 127) }
-        ensures reader { FaultBlamesReader R.left R.failures r.old r.new result }
+        ensures { Advances R.left R.failures r.old r.new self.old self.new result }
     {
-        let offset = self.offset + self.buffer.bytes.len() as u128;
         match read_next(self.file, r, &mut self.chunk, &mut self.buffer, self.count) {
-            Ok(true) => {
-                self.offset = offset;
-                Ok(true)
-            }
+            Ok(true) => Ok(true),
             Ok(false) => {
                 if self.count == MOST {
-                    return Err(RecordFault::out_of_memory(offset));
+                    return Err(RecordFault::out_of_memory(self.offset));
                 }
                 self.count += 1;
-                self.offset = offset;
+                self.offset += self.buffer.bytes.len() as u128;
                 Ok(false)
             }
-            Err(kind) => Err(RecordFault { kind, offset }),
+            Err(kind) => Err(RecordFault {
+                kind,
+                offset: self.offset,
+            }),
         }
     }
 
-    /// Whether the input ends behind the end record of an archive.
+    /// Whether the input ends behind the end record.
     pub fn finish<R: Source>(&self, r: &mut R) -> Result<(), RecordFault>
-        requires { self.now.offset ≤ 8 + 2 ^ 127 }
         ensures at_end { OnOk result (IsAtEnd (R.left r.new) × Consumes (R.left r.old) (R.left r.new) []) }
-        ensures stopped { IfErr result (λ fault. (a : Option (List ℕ)) (records : List (List ℕ)) → HasReadAll Archive a (R.left r.old) records self.now → Stopped Archive a (R.left r.new) records fault) }
+        ensures stopped { IfErr result (λ fault. (file : FileKind) (a : Option (List ℕ)) (records : List (List ℕ)) → end_length file ≡ Some 9 → HasReadAll file a (R.left r.old) records self.now → Stopped file a (R.left r.new) records fault) }
         ensures reader { FaultBlamesReader R.left R.failures r.old r.new result }
     {
         match is_at_end(r) {

@@ -1,13 +1,13 @@
 //! Archives that are read from a source.
 
-ghost use Rattle.std.specs.Prelude.{◌≡◌, ◌≢◌, ◌+◌, ◌*◌, ◌<◌, ◌≤◌, ◌^◌, ℕ, List, Option, length, OnOk, IfOk, IfErr};
+ghost use Rattle.std.specs.Prelude.{◌≡◌, ◌≢◌, ℕ, List, Option, OnOk, IfOk, IfErr};
 ghost use Rattle.std.specs.Io.KnownBytes.{IsAtEnd};
 ghost use Rattle.archive_core.specs.Record.{rec, IsRecord, IsOperation};
 ghost use Rattle.archive_core.specs.Content.{with_record};
 ghost use Rattle.archive_records.specs.declared.fault.RecordFaultKind.TheVariants.{Trailing};
 ghost use Rattle.archive_records.specs.declared.kind.FileKind.TheVariants.{Archive};
-ghost use Rattle.archive_records.specs.Reads.{ReadsWhole, ReadsFront};
-ghost use Rattle.archive_records.specs.Reading.{FaultBlamesReader, HasStopped, Makes, MakesAll, IsReadTo};
+ghost use Rattle.archive_records.specs.Reading.{ReadsWhole, ReadsFront};
+ghost use Rattle.archive_records.specs.Reader.{FaultBlamesReader, HasStopped, Makes, MakesAll, IsReadTo};
 
 use crate::fault::RecordFault;
 use crate::head::{ADMISSION_HEAD_LEN, RETIREMENT, digest_in, key_in};
@@ -47,24 +47,21 @@ fn take_records<A: Archive, R: Source>(
     reader: &mut RecordReader,
     r: &mut R,
 ) -> Result<(), RecordFault>
-    requires room { 0 < length reader.old.chunk.items }
-    requires archive { reader.old.file ≡ Archive }
-    requires few { reader.old.count < 2 ^ 63 }
-    requires fits { reader.old.offset + length reader.old.buffer.bytes.items ≤ 8 + reader.old.count * 2 ^ 64 }
+    requires { reader.old.file ≡ Archive }
     ensures all { OnOk result ((a : Option (List ℕ)) → Makes a (R.left r.old) (A.content archive.old) reader.old → MakesAll a (R.left r.new) (A.content archive.new) reader.new) }
     ensures stopped { IfErr result (λ fault. (a : Option (List ℕ)) → Makes a (R.left r.old) (A.content archive.old) reader.old → HasStopped Archive a (R.left r.new) fault) }
-    ensures bound { OnOk result (reader.new.offset ≤ 8 + 2 ^ 127) }
     ensures no_trailing { IfErr result (λ fault. fault.kind ≢ Trailing) }
     ensures reader { FaultBlamesReader R.left R.failures r.old r.new result }
 {
     'taking: loop {
+        let offset = reader.offset();
         match reader.advance(r) {
             Ok(true) => return Ok(()),
             Ok(false) => {}
             Err(fault) => return Err(fault),
         }
-        if let Err(_) = take_record(archive, heap, &reader.buffer.bytes) {
-            return Err(RecordFault::out_of_memory(reader.offset));
+        if let Err(_) = take_record(archive, heap, reader.last()) {
+            return Err(RecordFault::out_of_memory(offset));
         }
     }
 }
@@ -76,13 +73,9 @@ fn read_rest<A: Archive + Drop, R: Source>(
     mut reader: RecordReader,
     r: &mut R,
 ) -> Result<(A, RecordReader), RecordFault>
-    requires room { 0 < length reader.chunk.items }
-    requires archive { reader.file ≡ Archive }
-    requires few { reader.count < 2 ^ 63 }
-    requires fits { reader.offset + length reader.buffer.bytes.items ≤ 8 + reader.count * 2 ^ 64 }
+    requires { reader.file ≡ Archive }
     ensures read { IfOk result (λ read. (a : Option (List ℕ)) → Makes a (R.left r.old) (A.content archive) reader → MakesAll a (R.left r.new) (A.content read.0) read.1) }
     ensures stopped { IfErr result (λ fault. (a : Option (List ℕ)) → Makes a (R.left r.old) (A.content archive) reader → HasStopped Archive a (R.left r.new) fault) }
-    ensures bound { IfOk result (λ read. read.1.offset ≤ 8 + 2 ^ 127) }
     ensures no_trailing { IfErr result (λ fault. fault.kind ≢ Trailing) }
     ensures reader { FaultBlamesReader R.left R.failures r.old r.new result }
 {
@@ -103,7 +96,6 @@ fn read_text<A: Archive + Drop, R: Source>(
 ) -> Result<(A, RecordReader), RecordFault>
     ensures read { IfOk result (λ read. MakesAll (R.left r.old) (R.left r.new) (A.content read.0) read.1) }
     ensures stopped { IfErr result (λ fault. HasStopped Archive (R.left r.old) (R.left r.new) fault) }
-    ensures bound { IfOk result (λ read. read.1.offset ≤ 8 + 2 ^ 127) }
     ensures no_trailing { IfErr result (λ fault. fault.kind ≢ Trailing) }
     ensures reader { FaultBlamesReader R.left R.failures r.old r.new result }
 {

@@ -5,7 +5,7 @@ use Rattle.archive_records.specs.declared.fault.RecordFaultKind.TheVariants.{Tru
 use Rattle.archive_records.specs.Layout.{head_length, body_length, framed, largest_slice}
 use Rattle.archive_records.proofs.Framed.{seen, framed-large, grown-body, grown-whole}
 use Rattle.archive_records.specs.declared.buffer.Buffer.{Buffer}
-use Rattle.archive_records.specs.Reading.{bytes_so_far, seen_as}
+use Rattle.archive_records.specs.Reader.{bytes_so_far, seen_as}
 use Rattle.archive_records.specs.declared.kind.FileKind.{FileKind}
 use Rattle.archive_records.proofs.Holds.{tag_two}
 use Rattle.archive_records.proofs.Laid.{length-bytes_so_far}

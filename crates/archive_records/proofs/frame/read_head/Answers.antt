@@ -1,7 +1,7 @@
 use Rattle.std.proofs.Common.{arith, sym}
 use Rattle.std.proofs.lemmas.Result.{err_from_is_err_and}
 use Rattle.archive_records.proofs.Framed.{seen, framed-empty, framed-bad, grown-head}
-use Rattle.archive_records.specs.Reading.{bytes_so_far}
+use Rattle.archive_records.specs.Reader.{bytes_so_far}
 use Rattle.archive_records.proofs.Laid.{length-bytes_so_far}
 use Rattle.archive_records.proofs.frame.read_head.Goals as goal
 

@@ -1,7 +1,7 @@
 use Rattle.std.proofs.Common.{ap}
 use Rattle.std.proofs.lemmas.Result.{err_from_is_err_and}
 use Rattle.archive_records.specs.Fault.{next, next_by}
-use Rattle.archive_records.specs.Reading.{bytes_so_far}
+use Rattle.archive_records.specs.Reader.{bytes_so_far}
 use Rattle.archive_records.proofs.Above.{next_over}
 use Rattle.archive_records.proofs.next.read_in_order.Goals as goal
 

@@ -1,6 +1,6 @@
 use Rattle.std.proofs.Common.{length, refl}
 use Rattle.std.proofs.lemmas.Bool.{false≢true}
-use Rattle.archive_records.specs.Reading.{bytes_so_far}
+use Rattle.archive_records.specs.Reader.{bytes_so_far}
 use Rattle.archive_records.proofs.Holds.{next-framed}
 use Rattle.archive_records.proofs.Ends.{is_three, ending_is, ended_is, open_end, open_ended}
 use Rattle.archive_records.proofs.Steps.{next-follows}

@@ -1,15 +1,12 @@
-use Rattle.std.proofs.Common.{◌≡◌, ◌≤◌, ◌<◌, ◌+◌, ◌-◌, ◌*◌, ◌^◌, ℕ, List, Option, length}
-use Rattle.archive_records.specs.Reading.{Makes}
+use Rattle.std.proofs.Common.{◌≡◌, ◌-◌, ◌^◌, List, ℕ, Option}
 use Rattle.archive_records.specs.declared.kind.FileKind.TheVariants.{Archive}
+use Rattle.archive_records.specs.Reader.{Makes}
 use Rattle.archive_records.proofs.reading.take_records.Given as goal
 
 abbrev pub invariant-taking : goal.invariant-taking
 invariant-taking g l = record {
   makes : (a : Option (List ℕ)) → Makes a (g.R.Source.left l.initial.r) (g.A.Join.content l.initial.archive) l.initial.reader → Makes a (g.R.Source.left l.r) (g.A.Join.content l.archive) l.reader;
   archive : l.reader.file ≡ Archive;
-  room : 0 < length l.reader.chunk.items;
-  few : l.reader.count < 2 ^ 63;
-  fits : l.reader.offset + length l.reader.buffer.bytes.items ≤ 8 + l.reader.count * 2 ^ 64;
   unfailed : g.R.Source.failures l.r ≡ g.R.Source.failures l.initial.r;
 }
 

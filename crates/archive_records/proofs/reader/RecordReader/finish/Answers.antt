@@ -4,7 +4,7 @@ use Rattle.archive_records.proofs.reader.RecordReader.finish.Goals as goal
 pub returns-in-Ok-false-clause-stopped : goal.returns-in-Ok-false-clause-stopped
 returns-in-Ok-false-clause-stopped g c =
     let more = c.in-Ok-false.ensures.more c.in-Ok-false.field-0-test in
-    λ a records h. Stopped-behind a _ _ records more.0 c.args.self.now h more.1
+    rw (← c.self.view_is) (λ file a records counts h. Stopped-behind file counts a _ _ records more.0 _ h more.1)
 
 pub returns-in-Err-clause-stopped : goal.returns-in-Err-clause-stopped
-returns-in-Err-clause-stopped g c = λ a records h. Stopped-end a _ _ records c.args.self.now h c.in-Err.ensures.err
+returns-in-Err-clause-stopped g c = rw (← c.self.view_is) (λ file a records counts h. Stopped-end file counts a _ _ records _ h c.in-Err.ensures.err)

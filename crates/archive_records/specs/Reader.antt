@@ -1,0 +1,180 @@
+-- Records that are read from a source one over the other: the words of the inner functions. No contract of a public one has them.
+use Rattle.std.specs.Prelude.{◌≡◌, ◌≢◌, ℕ, ◌+◌, ◌*◌, ◌^◌, ◌<◌, ◌≤◌, Bool, true, false, List, [], ◌++◌, length, take, drop, map, All, Option, Result, Ok, Err, MatchResult, ◌⊎◌}
+use Rattle.std.specs.List.{concat}
+use Rattle.std.specs.Ordering.{nat_cmp}
+use Rattle.std.specs.Cmp.Lexicographic.{slice_cmp}
+use Rattle.std.specs.FinSet as set
+use Rattle.std.specs.Io.KnownBytes.{Consumes, IsAtEnd}
+use Rattle.archive_core.specs.declared.operations.Operation.{Operation}
+use Rattle.archive_core.specs.Record.{IsOperation, rec}
+use Rattle.archive_core.specs.Content.{Operations}
+use Rattle.archive_records.specs.declared.kind.FileKind.{FileKind}
+use Rattle.archive_records.specs.declared.kind.FileKind.TheVariants.{Archive, Operations as Operations_file}
+use Rattle.archive_records.specs.declared.buffer.Buffer.{Buffer}
+use Rattle.archive_records.specs.declared.fault.RecordFaultKind.{RecordFaultKind}
+use Rattle.archive_records.specs.declared.fault.RecordFaultKind.TheVariants.{BadMagic, Truncated, BadTag, TooLarge, NotAscending, BadSlice, KeyMismatch, BadCount, Trailing, Device, OutOfMemory}
+use Rattle.archive_records.specs.declared.fault.RecordFault.{RecordFault}
+use Rattle.archive_records.specs.Kind.{magic_of, IsItem, may_follow}
+use Rattle.archive_records.specs.Text.{end_record, ending, text_of, InOrder, last_of}
+use Rattle.archive_records.specs.Fault.{FailsNext, Fails, IsTrailing, IsMagicFault, IsUnended, IsOfText}
+use Rattle.archive_records.specs.Front.{front_length}
+use Rattle.archive_records.specs.Reading.{Blames}
+
+-- the bytes of the next record that came
+abbrev pub bytes_so_far : Buffer → List ℕ
+bytes_so_far b = take b.at b.bytes.items
+
+-- Behind what came stands the rest of the last record, and the order is that of the last record's front and what came.
+pub record Over (last : List ℕ) (b : Buffer) : Type 0 where
+  pub rest : drop b.at b.bytes.items ≡ drop b.at last
+  pub order : b.order ≡ slice_cmp nat_cmp (take b.at last) (bytes_so_far b)
+
+-- What a fault says of the bytes that came: a device that failed, and want of memory, leave a part of a record.
+abbrev pub seen_as : RecordFaultKind → RecordFaultKind
+seen_as BadMagic = BadMagic
+seen_as Truncated = Truncated
+seen_as BadTag = BadTag
+seen_as TooLarge = TooLarge
+seen_as NotAscending = NotAscending
+seen_as (BadSlice fault) = BadSlice fault
+seen_as KeyMismatch = KeyMismatch
+seen_as BadCount = BadCount
+seen_as Trailing = Trailing
+seen_as Device = Truncated
+seen_as OutOfMemory = Truncated
+
+-- What a result says of the reader: on success it did not fail, and else what the fault says.
+abbrev pub BlamesReader : {R T : Type 0} → (R → Option (List ℕ)) → (R → ℕ) → R → R → Result T RecordFaultKind → Type 0
+BlamesReader left failures old new result = MatchResult result (λ _. failures new ≡ failures old) (Blames left failures old new)
+
+-- the same of a fault with its offset
+abbrev pub FaultBlamesReader : {R T : Type 0} → (R → Option (List ℕ)) → (R → ℕ) → R → R → Result T RecordFault → Type 0
+FaultBlamesReader left failures old new result = MatchResult result (λ _. failures new ≡ failures old) (λ fault. Blames left failures old new fault.kind)
+
+-- why the magic was not read, and the bytes that came instead
+abbrev pub StopsInMagic : FileKind → List ℕ → RecordFaultKind → Type 0
+StopsInMagic file bytes kind =
+    IsMagicFault file bytes kind
+    ⊎ ((kind ≡ Device) × (length bytes < 8))
+    ⊎ ((kind ≡ OutOfMemory) × (length bytes < 8))
+
+-- Where a reader of records stands: in which kind of file, behind which last record, how many records and how many bytes.
+pub record Position : Type 0 where
+  pub file : FileKind
+  pub last : List ℕ
+  pub count : ℕ
+  pub offset : ℕ
+
+-- what is kept of it: a piece has room for some bytes, and there are not too many records, nor bytes of them
+pub record Bounds (room count offset : ℕ) : Type 0 where
+  pub some : 0 < room
+  pub few : count < 2 ^ 63
+  pub fits : offset ≤ 8 + count * 2 ^ 64
+
+-- One item more was read.
+pub record Passes (a b : Option (List ℕ)) (before after : Position) : Type 0 where
+  pub taken : Consumes a b after.last
+  pub item : IsItem before.file after.last
+  pub follows : may_follow before.file before.last after.last ≡ true
+  pub file_is : after.file ≡ before.file
+  pub count_is : after.count ≡ before.count + 1
+  pub offset_is : after.offset ≡ before.offset + length after.last
+  pub few : after.count < 2 ^ 63
+
+-- a file without an end record ends with the input
+abbrev pub IsEnded : FileKind → Option (List ℕ) → Type 0
+IsEnded Archive left = Unit {0}
+IsEnded Operations_file left = IsAtEnd left
+
+-- What ends the file was read.
+pub record Finishes (a b : Option (List ℕ)) (before after : Position) : Type 0 where
+  pub taken : Consumes a b (ending before.file before.count)
+  pub ended : IsEnded before.file b
+  pub offset_is : after.offset ≡ before.offset
+  pub few : before.count < 2 ^ 63
+
+-- What came was no item of the file that may stand there, nor what ends the file, or memory was wanted.
+pub record StopsAt (a b : Option (List ℕ)) (before : Position) (fault : RecordFault) : Type 0 where
+  pub rest : List ℕ
+  pub taken : Consumes a b rest
+  pub unended : IsOfText fault.kind → IsUnended before.file rest
+  pub fails : fault.kind ≢ OutOfMemory → FailsNext before.file before.last before.count rest (seen_as fault.kind)
+  pub offset_is : fault.offset ≡ before.offset
+  pub few : before.count < 2 ^ 63
+
+-- What came of one step: the end of the file, one item more, or why the reader stops.
+abbrev pub Advances : {R : Type 0} → (R → Option (List ℕ)) → (R → ℕ) → R → R → Position → Position → Result Bool RecordFault → Type 0
+Advances left failures old new before after (Ok true) = Finishes (left old) (left new) before after × (failures new ≡ failures old)
+Advances left failures old new before after (Ok false) = Passes (left old) (left new) before after × (failures new ≡ failures old)
+Advances left failures old new before after (Err fault) = StopsAt (left old) (left new) before fault × Blames left failures old new fault.kind
+
+-- The magic and these records were read, and nothing behind them.
+pub record HasRead (file : FileKind) (a b : Option (List ℕ)) (records : List (List ℕ)) (position : Position) : Type 0 where
+  pub file_is : position.file ≡ file
+  pub taken : Consumes a b (magic_of file ++ concat records)
+  pub ordered : InOrder file [] records
+  pub last_is : position.last ≡ last_of [] records
+  pub count_is : position.count ≡ length records
+  pub offset_is : position.offset ≡ front_length records
+
+-- The magic, these records and what ends the file behind them were read, and nothing behind it.
+pub record HasReadAll (file : FileKind) (a b : Option (List ℕ)) (records : List (List ℕ)) (position : Position) : Type 0 where
+  pub taken : Consumes a b (text_of file records)
+  pub ordered : InOrder file [] records
+  pub few : length records < 2 ^ 63
+  pub ended : IsEnded file b
+  pub offset_is : position.offset ≡ front_length records
+
+-- what came behind the records, and why reading stopped there
+abbrev pub Stops : FileKind → List (List ℕ) → List ℕ → RecordFault → Type 0
+Stops file records rest fault =
+    ((fault.offset ≡ front_length records) × (fault.kind ≢ OutOfMemory → Fails file records rest (seen_as fault.kind)))
+    ⊎ ((fault.kind ≡ Trailing) × IsTrailing file (last_of [] records) (length records) rest × (fault.offset ≡ front_length records + 9))
+    ⊎ ((fault.kind ≡ Device) × (rest ≡ end_record (length records)) × (fault.offset ≡ front_length records))
+
+-- The magic, these records and what came behind them were read, where reading stopped.
+pub record Stopped (file : FileKind) (a b : Option (List ℕ)) (records : List (List ℕ)) (fault : RecordFault) : Type 0 where
+  pub rest : List ℕ
+  pub taken : Consumes a b (magic_of file ++ (concat records ++ rest))
+  pub ordered : InOrder file [] records
+  pub few : length records < 2 ^ 63
+  pub unended : IsOfText fault.kind → IsUnended file rest
+  pub stops : Stops file records rest fault
+
+-- reading stopped, in the magic or behind some records
+abbrev pub HasStopped : FileKind → Option (List ℕ) → Option (List ℕ) → RecordFault → Type 0
+HasStopped file a b fault =
+    ((bytes : List ℕ) × Consumes a b bytes × StopsInMagic file bytes fault.kind × (fault.offset ≡ 0))
+    ⊎ ((records : List (List ℕ)) × Stopped file a b records fault)
+
+-- The records of an archive's text that were read make the content.
+pub record Makes (a b : Option (List ℕ)) (o : Operations) (position : Position) : Type 0 where
+  pub records : List (List ℕ)
+  pub read : HasRead Archive a b records position
+  pub content : o ≡ set.from_list records
+
+-- The records that were read make the content, and their end record was read.
+pub record MakesAll (a b : Option (List ℕ)) (o : Operations) (position : Position) : Type 0 where
+  pub records : List (List ℕ)
+  pub read : HasReadAll Archive a b records position
+  pub content : o ≡ set.from_list records
+
+-- An archive's text was read, and its records make the content.
+pub record IsReadTo (a b : Option (List ℕ)) (o : Operations) : Type 0 where
+  pub records : List (List ℕ)
+  pub few : length records < 2 ^ 63
+  pub taken : Consumes a b (text_of Archive records)
+  pub ordered : InOrder Archive [] records
+  pub content : o ≡ set.from_list records
+
+-- The records of these operations were read, in their order.
+pub record Lists (a b : Option (List ℕ)) (operations : List Operation) (position : Position) : Type 0 where
+  pub read : HasRead Operations_file a b (map rec operations) position
+  pub are : All IsOperation operations
+
+-- The text of these operations was read, to the end of the input.
+pub record AreRead (a b : Option (List ℕ)) (operations : List Operation) : Type 0 where
+  pub few : length operations < 2 ^ 63
+  pub taken : Consumes a b (text_of Operations_file (map rec operations))
+  pub at_end : IsAtEnd b
+  pub are : All IsOperation operations
