@@ -23,7 +23,8 @@ with_last (Ok c) old a rule is more = with_next old c a rule is more
 with_last (Err e) old a rule is more = tt
 
 -- an argument that is not global adds its rule
-pub adds_rule : {E : Type 0} (r : Result Command E) (old : Command) (a : Arg) (rule : Rule) → IfOk r (λ c. AddsArg old a c)
+pub adds_rule : {E : Type 0} (r : Result Command E) (old : Command) (a : Arg) (rule : Rule)
+    → IfOk r (λ c. AddsArg old a c)
     → a.global ≡ false → rule_of a ≡ rule → IfOk r (λ c. app_of c ≡ with_rule (app_of old) rule)
 adds_rule (Ok c) old a rule adds local is = adds.shape local ∙ ap (with_rule (app_of old)) is
 adds_rule (Err e) old a rule adds local is = tt

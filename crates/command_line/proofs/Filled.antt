@@ -1,6 +1,8 @@
 -- A walk over words that `clap` takes leaves no row without a value, where no argument may be used without one.
-use Rattle.std.proofs.Common.{◌≡◌, ◌∙◌, ◌≤◌, ◌&&◌, ◌||◌, ◌++◌, ℕ, zero, suc, Bool, true, false, not, cond, refl, sym, ap, ap₂, arith}
-use Rattle.std.proofs.Common.{List, [], ◌∷◌, Option, Some, None, is_some, nat_le, true≢false, drop, length, codes, leb-true}
+use Rattle.std.proofs.Common.{◌≡◌, ◌∙◌, ◌≤◌, ◌&&◌, ◌||◌, ◌++◌, ℕ, zero, suc, Bool, true, false, not, cond, refl, sym}
+use Rattle.std.proofs.Common.{ap, ap₂, arith}
+use Rattle.std.proofs.Common.{List, [], ◌∷◌, Option, Some, None, is_some, nat_le, true≢false, drop, length, codes}
+use Rattle.std.proofs.Common.{leb-true}
 use Rattle.std.specs.Prelude.{encode_utf8, find, slice_get}
 use Rattle.std.specs.List.{fold, list_all}
 use Rattle.std.specs.Option.{option_map_or}
@@ -9,20 +11,29 @@ use Rattle.std.proofs.lemmas.List.Folds.{list_all-append}
 use Rattle.clap.specs.Lexer.{long_of, short_of}
 use Rattle.clap.specs.Values.{is_request}
 use Rattle.clap.specs.Facts.{unwrap_or_range}
-use Rattle.clap.specs.Walk.{Held, Names, Outcome, Row, Rule, Step, Text, Waiting, Walk, action_of, after_flag, after_step}
-use Rattle.clap.specs.Walk.{arg_by_id, arg_by_index, arg_by_long, arg_by_short, at_row, attached_value, bundle, bundle_met}
-use Rattle.clap.specs.Walk.{bundle_step, default_rows, done, finished, flag_met, has_row, idle, is_pending, long_met, long_or_other}
-use Rattle.clap.specs.Walk.{more_values, next, option, option_met, option_word, plain, plain_word, positional, positional_held}
+use Rattle.clap.specs.Walk.{Held, Names, Outcome, Row, Rule, Step, Text, Waiting, Walk, action_of, after_flag}
+use Rattle.clap.specs.Walk.{after_step}
+use Rattle.clap.specs.Walk.{arg_by_id, arg_by_index, arg_by_long, arg_by_short, at_row, attached_value, bundle}
+use Rattle.clap.specs.Walk.{bundle_met}
+use Rattle.clap.specs.Walk.{bundle_step, default_rows, done, finished, flag_met, has_row, idle, is_pending, long_met}
+use Rattle.clap.specs.Walk.{long_or_other}
+use Rattle.clap.specs.Walk.{more_values, next, option, option_met, option_word, plain, plain_word, positional}
+use Rattle.clap.specs.Walk.{positional_held}
 use Rattle.clap.specs.Walk.{reacted, reading_by, refused, settled, settled_rows, short_met, short_or_plain, subcommand}
-use Rattle.clap.specs.Walk.{subcommand_met, subcommand_or_other, takes_several, takes_values, to_positional, trailing, used}
-use Rattle.clap.specs.Walk.{used_as, used_by_id, value, values_or_missing, waits, walk, walk_from, walked, walked_from, with_default}
+use Rattle.clap.specs.Walk.{subcommand_met, subcommand_or_other, takes_several, takes_values, to_positional, trailing}
+use Rattle.clap.specs.Walk.{used}
+use Rattle.clap.specs.Walk.{used_as, used_by_id, value, values_or_missing, waits, walk, walk_from, walked, walked_from}
+use Rattle.clap.specs.Walk.{with_default}
 use Rattle.clap.specs.Walk.{nothing_held, rows_after, with_values, without, word_met}
 use Rattle.clap.specs.Simple.{Shape}
-use Rattle.clap.specs.Takes.{action_passes, is_valid, bundle_passes, bundle_step_passes, flag_word_passes, flags_pass, level_passes}
-use Rattle.clap.specs.Takes.{long_passes, option_passes, other_passes, positional_passes, react_passes, settle_passes, short_passes}
+use Rattle.clap.specs.Takes.{action_passes, is_valid, bundle_passes, bundle_step_passes, flag_word_passes, flags_pass}
+use Rattle.clap.specs.Takes.{level_passes}
+use Rattle.clap.specs.Takes.{long_passes, option_passes, other_passes, positional_passes, react_passes, settle_passes}
+use Rattle.clap.specs.Takes.{short_passes}
 use Rattle.clap.specs.Takes.{step_passes, turn_passes, use_passes, walk_passes, word_passes}
 use Rattle.clap.specs.declared.builder.action.ArgAction.{ArgAction}
-use Rattle.clap.specs.declared.builder.action.ArgAction.TheVariants.{Append, Count, Help, HelpLong, HelpShort, Set, SetFalse}
+use Rattle.clap.specs.declared.builder.action.ArgAction.TheVariants.{Append, Count, Help, HelpLong, HelpShort, Set}
+use Rattle.clap.specs.declared.builder.action.ArgAction.TheVariants.{SetFalse}
 use Rattle.clap.specs.declared.builder.action.ArgAction.TheVariants.{SetTrue, Version}
 use Rattle.clap.specs.declared.parser.matches.ValueSource.{ValueSource}
 use Rattle.clap.specs.declared.parser.matches.ValueSource.TheVariants.{CommandLine, DefaultValue}
@@ -56,7 +67,8 @@ pair : (a b : Bool) → a ≡ true → b ≡ true → (a && b) ≡ true
 pair a b p q = ap₂ (λ x y. x && y) p q
 
 -- what is found among elements that all pass passes
-pub found_passes : {X : Type 0} (p q : X → Bool) (xs : List X) (x : X) → list_all p xs ≡ true → find q xs ≡ Some x → p x ≡ true
+pub found_passes : {X : Type 0} (p q : X → Bool) (xs : List X) (x : X) → list_all p xs ≡ true → find q xs ≡ Some x
+    → p x ≡ true
 found_passes p q [] x all is = cc
 found_passes p q (y ∷ ys) x all is = go (q y) (found_passes p q ys x (both (p y) _ all).1) is
   where
@@ -132,7 +144,8 @@ none_fails : (again : Bool) (a : Rule) (rows : List Row) → wants_value a ≡ t
 none_fails again a rows wants passes =
     go (nat_le 1 (unwrap_or_range a.range).start_inclusive) refl wants
   where
-    go : (b : Bool) → nat_le 1 (unwrap_or_range a.range).start_inclusive ≡ b → (b || is_request (action_of a)) ≡ true → ⊥
+    go : (b : Bool) → nat_le 1 (unwrap_or_range a.range).start_inclusive ≡ b → (b || is_request (action_of a)) ≡ true
+        → ⊥
     go true low is = small_fails _ low (both _ _ passes).0
     go false low is = request_fails (action_of a) again a (values_or_missing a []) rows is
         (both _ _ (both (nat_le (unwrap_or_range a.range).start_inclusive 0) _ passes).1).1
@@ -140,7 +153,8 @@ none_fails again a rows wants passes =
 used_filled : (again : Bool) (a : Rule) (values : List Text) (rows : List Row) → wants_value a ≡ true
     → use_passes again a values rows ≡ true → are_filled rows ≡ true → are_filled (used a values rows) ≡ true
 used_filled again a [] rows wants passes filled = absurd (none_fails again a rows wants passes)
-used_filled again a (v ∷ vs) rows wants passes filled = used_as_filled (action_of a) a.id (reading_by a) v vs rows filled
+used_filled again a (v ∷ vs) rows wants passes filled =
+    used_as_filled (action_of a) a.id (reading_by a) v vs rows filled
 
 -- ---- what is held
 
@@ -148,7 +162,8 @@ used_filled again a (v ∷ vs) rows wants passes filled = used_as_filled (action
 abbrev pub holds_values : Held → Bool
 holds_values h = are_filled h.rows
 
-settled_rows_filled : (c : List Rule) (again : Bool) (pending : Option (Text × List Text)) (rows : List Row) → want_values c ≡ true
+settled_rows_filled : (c : List Rule) (again : Bool) (pending : Option (Text × List Text)) (rows : List Row)
+    → want_values c ≡ true
     → option_map_or (λ p. option_map_or (λ a. use_passes again a p.1 rows) (arg_by_id c p.0) true) pending true ≡ true
     → are_filled rows ≡ true → are_filled (settled_rows c pending rows) ≡ true
 settled_rows_filled c again None rows wants passes filled = filled
@@ -157,7 +172,8 @@ settled_rows_filled c again (Some p) rows wants passes filled = go (arg_by_id c 
     go : (o : Option Rule) → arg_by_id c p.0 ≡ o → option_map_or (λ a. use_passes again a p.1 rows) o true ≡ true
         → are_filled (used_by_id o p.1 rows) ≡ true
     go None is ok = filled
-    go (Some a) is ok = used_filled again a p.1 rows (found_passes wants_value (λ x. bytes_eq x.id p.0) c a wants is) ok filled
+    go (Some a) is ok =
+        used_filled again a p.1 rows (found_passes wants_value (λ x. bytes_eq x.id p.0) c a wants is) ok filled
 
 settled_filled : (c : List Rule) (again : Bool) (h : Held) → want_values c ≡ true → settle_passes c again h ≡ true
     → holds_values h ≡ true → holds_values (settled c h) ≡ true
@@ -175,7 +191,8 @@ reacted_filled c again a values h wants one passes filled =
 option_met_filled : (c : List Rule) (again : Bool) (a : Rule) (v : Option Text) (h : Held) → want_values c ≡ true
     → wants_value a ≡ true → option_passes c again a v h ≡ true → holds_values h ≡ true
     → holds_values (option_met c a v h).0 ≡ true
-option_met_filled c again a (Some v) h wants one passes filled = reacted_filled c again a (v ∷ []) h wants one passes filled
+option_met_filled c again a (Some v) h wants one passes filled =
+    reacted_filled c again a (v ∷ []) h wants one passes filled
 option_met_filled c again a None h wants one passes filled = settled_filled c again h wants passes filled
 
 flag_met_filled : (c : List Rule) (again : Bool) (a : Rule) (v : Option Text) (h : Held) → want_values c ≡ true
@@ -184,8 +201,10 @@ flag_met_filled : (c : List Rule) (again : Bool) (a : Rule) (v : Option Text) (h
 flag_met_filled c again a (Some v) h wants one passes filled = filled
 flag_met_filled c again a None h wants one passes filled = reacted_filled c again a [] h wants one passes filled
 
-long_met_filled : (c : List Rule) (again : Bool) (found : Option Rule) (v : Option Text) (h : Held) → want_values c ≡ true
-    → ((a : Rule) → found ≡ Some a → wants_value a ≡ true) → long_passes c again found v h ≡ true → holds_values h ≡ true
+long_met_filled : (c : List Rule) (again : Bool) (found : Option Rule) (v : Option Text) (h : Held)
+    → want_values c ≡ true
+    → ((a : Rule) → found ≡ Some a → wants_value a ≡ true) → long_passes c again found v h ≡ true
+    → holds_values h ≡ true
     → holds_values (long_met c found v h).0 ≡ true
 long_met_filled c again None v h wants one passes filled = filled
 long_met_filled c again (Some a) v h wants one passes filled = go (takes_values a) passes
@@ -198,20 +217,24 @@ long_met_filled c again (Some a) v h wants one passes filled = go (takes_values 
 short_met_filled : (c : List Rule) (again : Bool) (found : Option Rule) (rest : Text) (h : Held) (ok : Held → Bool)
     (then : Held → Held × Outcome) → want_values c ≡ true → ((a : Rule) → found ≡ Some a → wants_value a ≡ true)
     → ((k : Held) → ok k ≡ true → holds_values k ≡ true → holds_values (then k).0 ≡ true)
-    → short_passes c again found rest h ok ≡ true → holds_values h ≡ true → holds_values (short_met c found rest h then).0 ≡ true
+    → short_passes c again found rest h ok ≡ true → holds_values h ≡ true
+    → holds_values (short_met c found rest h then).0 ≡ true
 short_met_filled c again None rest h ok then wants one after passes filled = filled
 short_met_filled c again (Some a) rest h ok then wants one after passes filled = go (takes_values a) passes
   where
-    go : (b : Bool) → cond b (option_passes c again a (attached_value rest) h) (react_passes c again a [] h && ok (reacted c a [] h)) ≡ true
+    go : (b : Bool) → cond b (option_passes c again a (attached_value rest) h)
+        (react_passes c again a [] h && ok (reacted c a [] h)) ≡ true
         → holds_values (cond b (option_met c a (attached_value rest) h) (then (reacted c a [] h))).0 ≡ true
     go true is = option_met_filled c again a (attached_value rest) h wants (one a refl) is filled
     go false is =
         let parts = both (react_passes c again a [] h) _ is in
         after _ parts.1 (reacted_filled c again a [] h wants (one a refl) parts.0 filled)
 
-bundle_step_filled : (c : List Rule) (again : Bool) (first : Option ℕ) (flags : Text) (skip : ℕ) (so_far : Outcome) (h : Held)
+bundle_step_filled : (c : List Rule) (again : Bool) (first : Option ℕ) (flags : Text) (skip : ℕ) (so_far : Outcome)
+    (h : Held)
     (ok : Text → ℕ → Held → Bool) (then : Text → ℕ → Outcome → Held → Held × Outcome) → want_values c ≡ true
-    → ((rest : Text) (n : ℕ) (o : Outcome) (k : Held) → ok rest n k ≡ true → holds_values k ≡ true → holds_values (then rest n o k).0 ≡ true)
+    → ((rest : Text) (n : ℕ) (o : Outcome) (k : Held) → ok rest n k ≡ true → holds_values k ≡ true
+    → holds_values (then rest n o k).0 ≡ true)
     → bundle_step_passes c again first flags skip h ok ≡ true → holds_values h ≡ true
     → holds_values (bundle_step c first flags skip so_far h then).0 ≡ true
 bundle_step_filled c again None flags skip so_far h ok then wants after passes filled = filled
@@ -222,17 +245,21 @@ bundle_step_filled c again (Some x) flags zero so_far h ok then wants after pass
 bundle_step_filled c again (Some x) flags (suc skip) so_far h ok then wants after passes filled =
     after (drop (length (encode_utf8 x)) flags) skip so_far h passes filled
 
-bundle_met_filled : (c : List Rule) (again : Bool) (n : ℕ) (flags : Text) (skip : ℕ) (so_far : Outcome) (h : Held) → want_values c ≡ true
-    → flags_pass c again n flags skip h ≡ true → holds_values h ≡ true → holds_values (bundle_met c n flags skip so_far h).0 ≡ true
+bundle_met_filled : (c : List Rule) (again : Bool) (n : ℕ) (flags : Text) (skip : ℕ) (so_far : Outcome) (h : Held)
+    → want_values c ≡ true
+    → flags_pass c again n flags skip h ≡ true → holds_values h ≡ true
+    → holds_values (bundle_met c n flags skip so_far h).0 ≡ true
 unfolding flags_pass bundle_met
 bundle_met_filled c again zero flags skip so_far h wants passes filled = filled
 bundle_met_filled c again (suc n) flags skip so_far h wants passes filled =
-    bundle_step_filled c again (slice_get (chars flags) 0) flags skip so_far h (flags_pass c again n) (bundle_met c n) wants
+    bundle_step_filled c again (slice_get (chars flags) 0) flags skip so_far h (flags_pass c again n)
+    (bundle_met c n) wants
     (λ rest m o k. bundle_met_filled c again n rest m o k wants) passes filled
 
 -- ---- one word
 
-option_word_rows : (o : Option Rule) (id word : Text) (h : Held) → holds_values (option_word o id word h).0 ≡ holds_values h
+option_word_rows : (o : Option Rule) (id word : Text) (h : Held)
+    → holds_values (option_word o id word h).0 ≡ holds_values h
 option_word_rows None id word h = refl
 option_word_rows (Some a) id word h = refl
 
@@ -249,7 +276,8 @@ after_flag_rows c waiting word h (waits id) = refl
 after_flag_rows c waiting word h plain = plain_word_rows c waiting word h
 after_flag_rows c waiting word h refused = plain_word_rows c waiting word h
 
-short_or_plain_filled : (c : List Rule) (again : Bool) (waiting : Waiting) (word : Text) (flags : Option Text) (h : Held) → want_values c ≡ true
+short_or_plain_filled : (c : List Rule) (again : Bool) (waiting : Waiting) (word : Text) (flags : Option Text)
+    (h : Held) → want_values c ≡ true
     → option_map_or (λ f. bundle_passes c again f h) flags true ≡ true → holds_values h ≡ true
     → holds_values (short_or_plain c waiting word flags h).0 ≡ true
 short_or_plain_filled c again waiting word None h wants passes filled = plain_word_rows c waiting word h ∙ filled
@@ -257,16 +285,19 @@ short_or_plain_filled c again waiting word (Some flags) h wants passes filled =
     after_flag_rows c waiting word (bundle c flags h).0 (bundle c flags h).1
     ∙ bundle_met_filled c again (length flags) flags h.skip plain (record h { skip = 0 }) wants passes filled
 
-long_or_other_filled : (c : List Rule) (again : Bool) (waiting : Waiting) (word : Text) (named : Option (Text × Option Text)) (h : Held)
+long_or_other_filled : (c : List Rule) (again : Bool) (waiting : Waiting) (word : Text)
+    (named : Option (Text × Option Text)) (h : Held)
     → want_values c ≡ true → flag_word_passes c again named word h ≡ true → holds_values h ≡ true
     → holds_values (long_or_other c waiting word named h).0 ≡ true
 long_or_other_filled c again waiting word None h wants passes filled =
     short_or_plain_filled c again waiting word (short_of word) h wants passes filled
 long_or_other_filled c again waiting word (Some p) h wants passes filled =
     after_flag_rows c waiting word (long_met c (arg_by_long c p.0) p.1 h).0 (long_met c (arg_by_long c p.0) p.1 h).1
-    ∙ long_met_filled c again (arg_by_long c p.0) p.1 h wants (λ a is. found_passes wants_value _ c a wants is) passes filled
+    ∙ long_met_filled c again (arg_by_long c p.0) p.1 h wants (λ a is. found_passes wants_value _ c a wants is)
+    passes filled
 
-subcommand_or_other_filled : (s : Shape) (named : Option Text) (waiting : Waiting) (position : ℕ) (word : Text) (h : Held)
+subcommand_or_other_filled : (s : Shape) (named : Option Text) (waiting : Waiting) (position : ℕ) (word : Text)
+    (h : Held)
     → want_values s.rules ≡ true → other_passes s named word h ≡ true → holds_values h ≡ true
     → holds_values (subcommand_or_other s.rules named waiting position word h).0 ≡ true
 subcommand_or_other_filled s (Some name) waiting position word h wants passes filled = filled
@@ -277,7 +308,8 @@ subcommand_or_other_filled s None waiting position word h wants passes filled = 
     go true ok = filled
     go false ok = long_or_other_filled s.rules s.args_override_self waiting word (long_of word) h wants ok filled
 
-word_met_filled : (s : Shape) (names : Names) (is_trailing : Bool) (waiting : Waiting) (position : ℕ) (word : Text) (h : Held)
+word_met_filled : (s : Shape) (names : Names) (is_trailing : Bool) (waiting : Waiting) (position : ℕ) (word : Text)
+    (h : Held)
     → want_values s.rules ≡ true → word_passes s names is_trailing waiting word h ≡ true → holds_values h ≡ true
     → holds_values (word_met s.rules names is_trailing waiting position word h).0 ≡ true
 word_met_filled s names true waiting position word h wants passes filled = filled
@@ -297,7 +329,8 @@ lets_step s _ = true
 abbrev pub lets_stop : Shape → Option (Text × List Text) → Bool
 lets_stop s stop = option_map_or (λ p. lets_name s p.0) stop true
 
-plain_word_step : (s : Shape) (waiting : Waiting) (word : Text) (h : Held) → lets_step s (plain_word s.rules waiting word h).1 ≡ true
+plain_word_step : (s : Shape) (waiting : Waiting) (word : Text) (h : Held)
+    → lets_step s (plain_word s.rules waiting word h).1 ≡ true
 plain_word_step s idle word h = refl
 plain_word_step s (option id) word h = refl
 plain_word_step s positional word h = refl
@@ -322,15 +355,18 @@ long_or_other_step s waiting word (Some p) h = after_flag_step s waiting word
     (long_met s.rules (arg_by_long s.rules p.0) p.1 h).0 (long_met s.rules (arg_by_long s.rules p.0) p.1 h).1
 
 subcommand_or_other_step : (s : Shape) (named : Option Text) (waiting : Waiting) (position : ℕ) (word : Text) (h : Held)
-    → other_passes s named word h ≡ true → lets_step s (subcommand_or_other s.rules named waiting position word h).1 ≡ true
+    → other_passes s named word h ≡ true
+    → lets_step s (subcommand_or_other s.rules named waiting position word h).1 ≡ true
 subcommand_or_other_step s (Some name) waiting position word h passes = passes
 subcommand_or_other_step s None waiting position word h passes = go (bytes_eq word (45 ∷ 45 ∷ []))
   where
-    go : (b : Bool) → lets_step s (cond b (h, trailing position) (long_or_other s.rules waiting word (long_of word) h)).1 ≡ true
+    go : (b : Bool)
+        → lets_step s (cond b (h, trailing position) (long_or_other s.rules waiting word (long_of word) h)).1 ≡ true
     go true = refl
     go false = long_or_other_step s waiting word (long_of word) h
 
-word_met_step : (s : Shape) (names : Names) (is_trailing : Bool) (waiting : Waiting) (position : ℕ) (word : Text) (h : Held)
+word_met_step : (s : Shape) (names : Names) (is_trailing : Bool) (waiting : Waiting) (position : ℕ) (word : Text)
+    (h : Held)
     → word_passes s names is_trailing waiting word h ≡ true
     → lets_step s (word_met s.rules names is_trailing waiting position word h).1 ≡ true
 word_met_step s names true waiting position word h passes = refl
@@ -350,7 +386,8 @@ abbrev stands : Shape → Walk → Bool
 stands s w = holds_values w.held && lets_stop s w.stopped
 
 after_step_stands : (s : Shape) (word : Text) (w : Walk) (h : Held) (step : Step) → want_values s.rules ≡ true
-    → holds_values h ≡ true → lets_step s step ≡ true → step_passes s w.position h step ≡ true → lets_stop s w.stopped ≡ true
+    → holds_values h ≡ true → lets_step s step ≡ true → step_passes s w.position h step ≡ true
+    → lets_stop s w.stopped ≡ true
     → stands s (after_step s.rules word w h step) ≡ true
 after_step_stands s word w h (next waiting) wants filled lets passes stop = pair _ _ filled stop
 after_step_stands s word w h (trailing position) wants filled lets passes stop = pair _ _ filled stop
@@ -387,7 +424,8 @@ unfolding walk_passes
 walk_stands s names w [] wants passes before = before
 walk_stands s names w (word ∷ words) wants passes before =
     let parts = both (turn_passes s names w word) _ passes in
-    walk_stands s names (walked s.rules names w word) words wants parts.1 (turn_stands s names w word wants parts.0 before)
+    walk_stands s names (walked s.rules names w word) words wants parts.1
+    (turn_stands s names w word wants parts.0 before)
 
 -- ---- after the walk
 
@@ -403,7 +441,8 @@ with_default_filled rows a filled = go (has_row a.id rows)
     go true = filled
     go false = default_filled a.id (reading_by a) a.defaults rows filled
 
-defaults_filled : (c : List Rule) (rows : List Row) → are_filled rows ≡ true → are_filled (fold with_default rows c) ≡ true
+defaults_filled : (c : List Rule) (rows : List Row) → are_filled rows ≡ true
+    → are_filled (fold with_default rows c) ≡ true
 defaults_filled [] rows filled = filled
 defaults_filled (a ∷ c) rows filled = defaults_filled c (with_default rows a) (with_default_filled rows a filled)
 
@@ -419,7 +458,8 @@ level s names words has_subcommand wants passes =
     let end = walk s.rules names nothing_held words in
     let parts = both (walk_passes s names (walk_from nothing_held) words) _ passes in
     let rest = both (settle_passes s.rules s.args_override_self end.held) _ parts.1 in
-    let stood = both (holds_values end.held) _ (walk_stands s names (walk_from nothing_held) words wants parts.0 refl) in
+    let stood = both (holds_values end.held) _
+    (walk_stands s names (walk_from nothing_held) words wants parts.0 refl) in
     record {
       stop = stood.1;
       filled = defaults_filled s.rules (settled s.rules end.held).rows

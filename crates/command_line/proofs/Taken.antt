@@ -1,6 +1,7 @@
 -- A line that `clap` takes names a command, with a value at each name that has to have one.
 use Rattle.std.proofs.Common.{◌≡◌, ◌∙◌, ◌&&◌, ◌||◌, ◌++◌, ℕ, Bool, true, false, not, cond, refl, sym, ap, ap₂, subst}
-use Rattle.std.proofs.Common.{List, [], ◌∷◌, Option, Some, None, IsSome, is_some, option_map, true≢false, codes, if◌then◌else◌}
+use Rattle.std.proofs.Common.{List, [], ◌∷◌, Option, Some, None, IsSome, is_some, option_map, true≢false, codes}
+use Rattle.std.proofs.Common.{if◌then◌else◌}
 use Rattle.std.specs.Prelude.{find, option_and_then, slice_get, unwrap_or}
 use Rattle.std.specs.List.{list_all, list_any}
 use Rattle.std.specs.Option.{option_map_or}
@@ -18,12 +19,17 @@ use Rattle.clap.proofs.WalkLemmas.{both}
 use Rattle.archive_core.specs.declared.keys.ArchKey.{ArchKey}
 use Rattle.archive_core.specs.declared.keys.Digest.{Digest}
 use Rattle.command_line.specs.Commands.{symarch_command}
-use Rattle.command_line.specs.Lines.{Line, admit, admit_line, admit_of, all_spelled, all_spelled_at, apply, apply_line, apply_of, are_taken}
-use Rattle.command_line.specs.Lines.{find_line, find_of, has_form, have_forms, inputs_at, is_in_order, is_path_among, kept, line_in}
-use Rattle.command_line.specs.Lines.{line_of, merge, merge_line, merge_of, named_command, new, new_line, optional_at, retire, retire_line, retire_of}
-use Rattle.command_line.specs.Lines.{spares_inputs, spelled_at, spelled_if_there, symbolicate, symbolicate_line, symbolicate_of, words_at}
+use Rattle.command_line.specs.Lines.{Line, admit, admit_line, admit_of, all_spelled, all_spelled_at, apply, apply_line}
+use Rattle.command_line.specs.Lines.{apply_of, are_taken}
+use Rattle.command_line.specs.Lines.{find_line, find_of, has_form, have_forms, inputs_at, is_in_order, is_path_among}
+use Rattle.command_line.specs.Lines.{kept, line_in}
+use Rattle.command_line.specs.Lines.{line_of, merge, merge_line, merge_of, named_command, new, new_line, optional_at}
+use Rattle.command_line.specs.Lines.{retire, retire_line, retire_of}
+use Rattle.command_line.specs.Lines.{spares_inputs, spelled_at, spelled_if_there, symbolicate, symbolicate_line}
+use Rattle.command_line.specs.Lines.{symbolicate_of, words_at}
 use Rattle.command_line.specs.Words.{address_of, arch_of, digest_of}
-use Rattle.command_line.proofs.Filled.{Level, are_filled, found_passes, is_filled, lets_name, lets_stop, level, want_values}
+use Rattle.command_line.proofs.Filled.{Level, are_filled, found_passes, is_filled, lets_name, lets_stop, level}
+use Rattle.command_line.proofs.Filled.{want_values}
 
 -- ---- tests
 
@@ -98,7 +104,8 @@ requires id rules = list_any (λ a. a.required && bytes_eq a.id id) rules
 abbrev all_given : List Rule → List Row → Bool
 all_given rules rows = list_all (λ a. not a.required || is_given a.id rows) rules
 
-required_given : (id : Text) (rules : List Rule) (rows : List Row) → requires id rules ≡ true → all_given rules rows ≡ true
+required_given : (id : Text) (rules : List Rule) (rows : List Row) → requires id rules ≡ true
+    → all_given rules rows ≡ true
     → is_given id rows ≡ true
 required_given id [] rows asks given = absurd (true≢false (sym asks))
 required_given id (a ∷ rules) rows asks given =
@@ -118,7 +125,8 @@ required_given id (a ∷ rules) rows asks given =
 abbrev spells : {X : Type 0} → (Text → Option X) → List Text → Bool
 spells form words = list_all (λ word. is_some (form word)) words
 
-stands_spelled : {X : Type 0} (form : Text → Option X) (id : Text) (rows : List Row) → Stands id rows → has_form form id rows ≡ true
+stands_spelled : {X : Type 0} (form : Text → Option X) (id : Text) (rows : List Row) → Stands id rows
+    → has_form form id rows ≡ true
     → (x : X) × (spelled_at form id rows ≡ Some x)
 stands_spelled form id rows there has =
     let words : spells form (there.word ∷ there.more) ≡ true =
@@ -134,10 +142,12 @@ each_spelled form (word ∷ words) has =
     let xs = each_spelled form words (both (is_some (form word)) _ has).1 in
     (
       x.0 ∷ xs.0,
-      ap (option_and_then (λ y. option_map (λ ys. y ∷ ys) (all_spelled form words))) x.1 ∙ ap (option_map (λ ys. x.0 ∷ ys)) xs.1,
+      ap (option_and_then (λ y. option_map (λ ys. y ∷ ys) (all_spelled form words))) x.1
+          ∙ ap (option_map (λ ys. x.0 ∷ ys)) xs.1,
     )
 
-stands_all_spelled : {X : Type 0} (form : Text → Option X) (id : Text) (rows : List Row) → Stands id rows → has_form form id rows ≡ true
+stands_all_spelled : {X : Type 0} (form : Text → Option X) (id : Text) (rows : List Row) → Stands id rows
+    → has_form form id rows ≡ true
     → (xs : List X) × (all_spelled_at form id rows ≡ Some xs)
 stands_all_spelled form id rows there has =
     let words : spells form (there.word ∷ there.more) ≡ true =
@@ -195,7 +205,8 @@ kept_some false l none = refl
 or_false : (a b : Bool) → a ≡ false → b ≡ false → (a || b) ≡ false
 or_false a b p q = ap₂ (λ x y. x || y) p q
 
-three : {X Y Z W : Type 0} {x x' : X} {y y' : Y} {z z' : Z} (f : X → Y → Z → W) → x ≡ x' → y ≡ y' → z ≡ z' → f x y z ≡ f x' y' z'
+three : {X Y Z W : Type 0} {x x' : X} {y y' : Y} {z z' : Z} (f : X → Y → Z → W) → x ≡ x' → y ≡ y' → z ≡ z'
+    → f x y z ≡ f x' y' z'
 three f p q r = λ i. f (p i) (q i) (r i)
 
 -- ---- the line of each command, where what is required stands there
@@ -207,7 +218,8 @@ record InOrder (rules : List Rule) (rows : List Row) : Type 0 where
   forms : have_forms rows ≡ true
   spares : spares_inputs rows ≡ true
 
-there : (id : Text) (rules : List Rule) (rows : List Row) → InOrder rules rows → requires id rules ≡ true → Stands id rows
+there : (id : Text) (rules : List Rule) (rows : List Row) → InOrder rules rows → requires id rules ≡ true
+    → Stands id rows
 there id rules rows o asks = given_stands id rows (required_given id rules rows asks o.given) o.filled
 
 uuids : (rows : List Row) → have_forms rows ≡ true → has_form parsed (codes "UUID") rows ≡ true
@@ -217,7 +229,8 @@ archs : (rows : List Row) → have_forms rows ≡ true → has_form arch_of (cod
 archs rows has = (both _ _ (both (has_form parsed (codes "UUID") rows) _ has).1).0
 
 digests : (rows : List Row) → have_forms rows ≡ true → has_form digest_of (codes "DIGEST") rows ≡ true
-digests rows has = (both _ _ (both (has_form arch_of (codes "ARCH") rows) _ (both (has_form parsed (codes "UUID") rows) _ has).1).1).0
+digests rows has = (both _ _ (both (has_form arch_of (codes "ARCH") rows) _
+    (both (has_form parsed (codes "UUID") rows) _ has).1).1).0
 
 numbers : (rows : List Row) → have_forms rows ≡ true
     → (has_form address_of (codes "HEX") rows && has_form address_of (codes "ADDRESS") rows) ≡ true
@@ -256,15 +269,18 @@ files_kept rules rows line of is asks o =
     subst IsSome (sym (three of input.first out.first files.all ∙ is input.word out.word (files.word ∷ files.more)))
     (kept_some _ (line input.word out.word (files.word ∷ files.more)) none)
 
-admit_some : (rules : List Rule) (rows : List Row) → asks_with (requires (codes "FILE") rules) rules ≡ true → InOrder rules rows
+admit_some : (rules : List Rule) (rows : List Row) → asks_with (requires (codes "FILE") rules) rules ≡ true
+    → InOrder rules rows
     → IsSome (admit_line rows)
 admit_some rules rows asks o = files_kept rules rows admit admit_of (λ i x fs. refl) asks o
 
-merge_some : (rules : List Rule) (rows : List Row) → asks_with (requires (codes "FILE") rules) rules ≡ true → InOrder rules rows
+merge_some : (rules : List Rule) (rows : List Row) → asks_with (requires (codes "FILE") rules) rules ≡ true
+    → InOrder rules rows
     → IsSome (merge_line rows)
 merge_some rules rows asks o = files_kept rules rows merge merge_of (λ i x fs. refl) asks o
 
-apply_some : (rules : List Rule) (rows : List Row) → asks_with (requires (codes "OPS") rules) rules ≡ true → InOrder rules rows
+apply_some : (rules : List Rule) (rows : List Row) → asks_with (requires (codes "OPS") rules) rules ≡ true
+    → InOrder rules rows
     → IsSome (apply_line rows)
 unfolding asks_with
 apply_some rules rows asks o =
@@ -291,7 +307,8 @@ find_some rules rows asks o =
     let parts = both (requires (codes "ARCHIVE") rules) _ asks in
     let rest = both (requires (codes "UUID") rules) _ parts.1 in
     let archive = there (codes "ARCHIVE") rules rows o parts.0 in
-    let uuid = stands_spelled parsed (codes "UUID") rows (there (codes "UUID") rules rows o rest.0) (uuids rows o.forms) in
+    let uuid = stands_spelled parsed (codes "UUID") rows (there (codes "UUID") rules rows o rest.0)
+    (uuids rows o.forms) in
     subst IsSome (sym (ap₂ find_of archive.first uuid.1)) refl
 
 retire_some : (rules : List Rule) (rows : List Row)
@@ -305,9 +322,12 @@ retire_some rules rows asks o =
     let rest = both (requires (codes "UUID") rules) _ forms.1 in
     let input = there (codes "IN") rules rows o parts.0 in
     let out = there (codes "OUT") rules rows o more.0 in
-    let uuid = stands_spelled parsed (codes "UUID") rows (there (codes "UUID") rules rows o rest.0) (uuids rows o.forms) in
-    let arch = stands_spelled arch_of (codes "ARCH") rows (there (codes "ARCH") rules rows o forms.0) (archs rows o.forms) in
-    let digest = stands_spelled digest_of (codes "DIGEST") rows (there (codes "DIGEST") rules rows o rest.1) (digests rows o.forms) in
+    let uuid = stands_spelled parsed (codes "UUID") rows (there (codes "UUID") rules rows o rest.0)
+    (uuids rows o.forms) in
+    let arch = stands_spelled arch_of (codes "ARCH") rows (there (codes "ARCH") rules rows o forms.0)
+    (archs rows o.forms) in
+    let digest = stands_spelled digest_of (codes "DIGEST") rows (there (codes "DIGEST") rules rows o rest.1)
+    (digests rows o.forms) in
     let none : is_path_among out.word (input.word ∷ []) ≡ false =
     or_false _ _ (first_apart out.word (codes "IN") rows input (out_apart rows out o.spares).input) refl in
     subst IsSome (sym (λ i. retire_of (input.first i) (out.first i) (uuid.1 i) (arch.1 i) (digest.1 i)))
@@ -323,10 +343,13 @@ symbolicate_some rules rows asks o =
     let rest = both (requires (codes "ARCH") rules) _ more.1 in
     let tests = both (has_form address_of (codes "HEX") rows) _ (numbers rows o.forms) in
     let archive = there (codes "ARCHIVE") rules rows o parts.0 in
-    let uuid = stands_spelled parsed (codes "UUID") rows (there (codes "UUID") rules rows o more.0) (uuids rows o.forms) in
-    let arch = stands_spelled arch_of (codes "ARCH") rows (there (codes "ARCH") rules rows o rest.0) (archs rows o.forms) in
+    let uuid = stands_spelled parsed (codes "UUID") rows (there (codes "UUID") rules rows o more.0)
+    (uuids rows o.forms) in
+    let arch = stands_spelled arch_of (codes "ARCH") rows (there (codes "ARCH") rules rows o rest.0)
+    (archs rows o.forms) in
     let load = optional_spelled address_of (codes "HEX") rows tests.0 in
-    let addresses = stands_all_spelled address_of (codes "ADDRESS") rows (there (codes "ADDRESS") rules rows o rest.1) tests.1 in
+    let addresses = stands_all_spelled address_of (codes "ADDRESS") rows
+    (there (codes "ADDRESS") rules rows o rest.1) tests.1 in
     subst IsSome (sym (λ i. symbolicate_of (archive.first i) (uuid.1 i) (arch.1 i) (load.1 i) (addresses.1 i))) refl
 
 -- ---- any of them
@@ -336,7 +359,8 @@ asks : Text → List Rule → Bool
 asks name rules =
     if bytes_eq name (codes "new") then asks_new rules
     else if bytes_eq name (codes "admit") then asks_with (requires (codes "FILE") rules) rules
-    else if bytes_eq name (codes "retire") then asks_with (asks_uuid (codes "ARCH") (requires (codes "DIGEST") rules) rules) rules
+    else if bytes_eq name (codes "retire")
+        then asks_with (asks_uuid (codes "ARCH") (requires (codes "DIGEST") rules) rules) rules
     else if bytes_eq name (codes "merge") then asks_with (requires (codes "FILE") rules) rules
     else if bytes_eq name (codes "apply") then asks_with (requires (codes "OPS") rules) rules
     else if bytes_eq name (codes "find") then asks_uuid (codes "ARCHIVE") true rules
@@ -378,7 +402,8 @@ record IsSound (a : App) : Type 0 where
 abbrev in_order : Option (Text × List Row) → Bool
 in_order named = option_map_or (λ p. have_forms p.1 && spares_inputs p.1) named true
 
-required_here : (s : Shape) (rows : List Row) (has : Bool) → is_valid s rows has ≡ true → (s.subcommand_negates_reqs && has) ≡ false
+required_here : (s : Shape) (rows : List Row) (has : Bool) → is_valid s rows has ≡ true
+    → (s.subcommand_negates_reqs && has) ≡ false
     → all_given s.rules rows ≡ true
 required_here s rows has valid not_excused =
     let rest = both (not s.subcommand_required || has) _ (both (not s.arg_required_else_help || _) _ valid).1 in
@@ -389,8 +414,10 @@ and_false true = refl
 and_false false = refl
 
 -- the line of a command that was entered
-entered_some : (top s : Shape) (name : Text) (words : List Text) → is_sound s ≡ true → answers_to name (label_of s) ≡ true
-    → lets_name top name ≡ true → top.disable_help_subcommand ≡ false → level_passes s [] nothing_held words false ≡ true
+entered_some : (top s : Shape) (name : Text) (words : List Text) → is_sound s ≡ true
+    → answers_to name (label_of s) ≡ true
+    → lets_name top name ≡ true → top.disable_help_subcommand ≡ false
+    → level_passes s [] nothing_held words false ≡ true
     → in_order (Some (rows_at s words)) ≡ true → IsSome (line_in (rows_at s words))
 unfolding is_sound
 entered_some top s name words sound answers lets help passes tests =
@@ -399,7 +426,8 @@ entered_some top s name words sound answers lets help passes tests =
     ap (list_any (λ alias. bytes_eq alias name)) (is_nil s.aliases parts.0) in
     let same : s.name ≡ name = (bytes_eq-Decides s.name name).0 (first_of_two (bytes_eq s.name name) _ answers alone) in
     let other : bytes_eq s.name (codes "help") ≡ false =
-    ap (λ n. bytes_eq n (codes "help")) same ∙ is_false _ (first_of_two (not (bytes_eq name (codes "help"))) _ lets help) in
+    ap (λ n. bytes_eq n (codes "help")) same
+    ∙ is_false _ (first_of_two (not (bytes_eq name (codes "help"))) _ lets help) in
     let own = both (want_values s.rules) _ (one_of_two (bytes_eq s.name (codes "help")) _ parts.1 other) in
     let passed = level s [] words false own.0 passes in
     let ordered = both (have_forms (rows_after s.rules [] words)) _ tests in
@@ -410,7 +438,8 @@ entered_some top s name words sound answers lets help passes tests =
       spares = ordered.1;
     }) own.1
 
-found_some : (a : App) (p : Text × List Text) (o : Option Shape) → find (λ s. answers_to p.0 (label_of s)) a.subs ≡ o → IsSound a
+found_some : (a : App) (p : Text × List Text) (o : Option Shape) → find (λ s. answers_to p.0 (label_of s)) a.subs ≡ o
+    → IsSound a
     → lets_name a.top p.0 ≡ true → is_some (option_map (λ s. rows_at s p.1) o) ≡ true
     → option_map_or (λ s. level_passes s [] nothing_held p.1 false) o true ≡ true
     → in_order (option_map (λ s. rows_at s p.1) o) ≡ true
@@ -438,7 +467,8 @@ built_some a words sound passes tests =
     let met = given_if a.top.subcommand_required (is_some (entered a stop)) (both _ _ valid.1).0 sound.needs_command in
     stopped_some a stop sound top.stop met parts.0 tests
 
-taken_some : (a : App) (words : List Text) → IsSound (built a) → takes a words ≡ true → in_order (subcommand_of a words) ≡ true
+taken_some : (a : App) (words : List Text) → IsSound (built a) → takes a words ≡ true
+    → in_order (subcommand_of a words) ≡ true
     → IsSome (option_and_then line_in (subcommand_of a words))
 taken_some a words sound taken tests =
     built_some (built a) (argument_words a words) sound (both (is_simple a) _ taken).1 tests

@@ -79,7 +79,8 @@ pub fn plan<S: AsStr>(alloc: Global, words: &[S]) -> Result<Plan, LineFault>
     ensures taken { OnOk result (error_kinds (map S.text words.now) ≡ []) }
     ensures keeps_inputs { IfOk result (λ p. KeepsInputs (plan_view p)) }
 
-    // A line that `clap` takes, in which each value has its form and OUT's path is no input's, is refused for memory alone.
+    // A line that `clap` takes, in which each value has its form and OUT's path is no input's, is refused for memory
+    // alone.
     ensures err { are_taken (map S.text words.now) ≡ true
         → is_in_order (map S.text words.now) ≡ true
         → IfErr result (λ e. e ≡ LineFault.OutOfMemory) }

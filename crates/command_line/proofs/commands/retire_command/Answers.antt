@@ -12,4 +12,9 @@ returns-clause-app c =
 
 pub returns-clause-local : goal.returns-clause-local
 returns-clause-local c =
-    c.with_one_value-5.ensures.local (c.in_ok-command-4.ensures.local (c.in_ok-command-3.ensures.local (c.in_ok-command-2.ensures.local (c.in_ok-command.ensures.local c.bare_command-command.ensures.local))))
+    let l0 = c.bare_command-command.ensures.local in
+    let l1 = c.in_ok-command.ensures.local l0 in
+    let l2 = c.in_ok-command-2.ensures.local l1 in
+    let l3 = c.in_ok-command-3.ensures.local l2 in
+    let l4 = c.in_ok-command-4.ensures.local l3 in
+    c.with_one_value-5.ensures.local l4

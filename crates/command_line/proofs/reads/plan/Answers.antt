@@ -1,4 +1,5 @@
-use Rattle.std.proofs.Common.{◌≡◌, ◌∙◌, List, Option, Some, None, IsSome, ap, is_some, map, option_map, refl, subst, sym, true≢false}
+use Rattle.std.proofs.Common.{◌≡◌, ◌∙◌, List, Option, Some, None, IsSome, ap, is_some, map, option_map, refl, subst}
+use Rattle.std.proofs.Common.{sym, true≢false}
 use Rattle.std.specs.Prelude.{option_and_then}
 use Rattle.clap.specs.Words.{Row, Text, found_of, rows_of}
 use Rattle.command_line.specs.Lines.{line_in}
@@ -7,18 +8,20 @@ use Rattle.command_line.proofs.Taken.{taken_line}
 use Rattle.command_line.proofs.reads.plan.Goals as goal
 
 -- a line that asks for something names a command
-unnamed : {A : Type 0} (o : Option A) (f : A → Text × List Row) (named : Option (Text × List Row)) → option_map f o ≡ named
-    → ((x : A) → o ≡ Some x → ⊥) → IsSome (option_and_then line_in named) → ⊥
+unnamed : {A : Type 0} (o : Option A) (f : A → Text × List Row) (named : Option (Text × List Row))
+    → option_map f o ≡ named → ((x : A) → o ≡ Some x → ⊥) → IsSome (option_and_then line_in named) → ⊥
 unnamed None f named is none some = true≢false (sym (ap (λ n. is_some (option_and_then line_in n)) is ∙ some))
 unnamed (Some x) f named is none some = none x refl
 
 pub returns-clause-keeps_inputs : goal.returns-clause-keeps_inputs
 returns-clause-keeps_inputs g c =
-    planned-KeepsInputs (c.in-Some.name.now, rows_of (found_of c.in-Some.inner.now)) c.plan_in.result c.plan_in.ensures.ok
+    planned-KeepsInputs (c.in-Some.name.now, rows_of (found_of c.in-Some.inner.now)) c.plan_in.result
+    c.plan_in.ensures.ok
 
 pub returns-clause-err : goal.returns-clause-err
 returns-clause-err g c = λ taken ordered.
-    c.plan_in.ensures.err (subst (λ o. IsSome (option_and_then line_in o)) (sym (c.in-Some.ensures ∙ c.in_ok-matches.ensures.ok))
+    let named = c.in-Some.ensures ∙ c.in_ok-matches.ensures.ok in
+    c.plan_in.ensures.err (subst (λ o. IsSome (option_and_then line_in o)) (sym named)
     (taken_line (map g.S.AsStr.text c.args.words.now) taken ordered))
 
 pub returns-in_default-clause-err : goal.returns-in_default-clause-err
