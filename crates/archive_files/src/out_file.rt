@@ -50,14 +50,11 @@ impl<'a, F: Files> OutFile<'a, F> {
         matches!(self.state, OutState::NotCreated)
     }
 
-    /// Writes some first bytes, and says how many: `None` where the file does not take any. A file that is not there
-    /// yet is created first, and one that could not be created is not tried again.
-    fn write(&mut self, bytes: &[u8]) -> Option<usize>
-        ensures bound { IfSome result (λ n. n ≤ length bytes.now) }
-        ensures count { self.new.failures ≡ self.old.failures }
+    /// Creates the file where no bytes came before: once, also where that fails.
+    fn create(&mut self)
+        ensures once { is_untouched self.old.state ≡ false → self.new.state ≡ self.old.state }
         ensures tried { is_untouched self.new.state ≡ false }
-        ensures created { IsSome result → is_created self.new.state ≡ true }
-        ensures given_up { is_not_created self.old.state ≡ true → is_not_created self.new.state ≡ true }
+        ensures count { self.new.failures ≡ self.old.failures }
     {
         if let OutState::Untouched = self.state {
             self.state = match fs::create(self.files, self.path) {
@@ -65,6 +62,18 @@ impl<'a, F: Files> OutFile<'a, F> {
                 Err(_) => OutState::NotCreated,
             };
         }
+    }
+
+    /// Writes some first bytes, and says how many: `None` where the file does not take any. A file that is not there
+    /// yet is created first.
+    fn write(&mut self, bytes: &[u8]) -> Option<usize>
+        ensures bound { IfSome result (λ n. n ≤ length bytes.now) }
+        ensures count { self.new.failures ≡ self.old.failures }
+        ensures tried { is_untouched self.new.state ≡ false }
+        ensures created { IsSome result → is_created self.new.state ≡ true }
+        ensures given_up { is_not_created self.old.state ≡ true → is_not_created self.new.state ≡ true }
+    {
+        self.create();
         match &mut self.state {
             OutState::Created(file) => file.write(bytes).ok(),
             _ => None,

@@ -15,7 +15,7 @@ use Rattle.clap.specs.Walk.{Held, Names, Outcome, Row, Rule, Step, Text, Waiting
 use Rattle.clap.specs.Walk.{after_step}
 use Rattle.clap.specs.Walk.{arg_by_id, arg_by_index, arg_by_long, arg_by_short, at_row, attached_value, bundle}
 use Rattle.clap.specs.Walk.{bundle_met}
-use Rattle.clap.specs.Walk.{bundle_step, default_rows, done, finished, flag_met, has_row, idle, is_pending, long_met}
+use Rattle.clap.specs.Walk.{bundle_step, default_rows, done, flag_met, has_row, idle, is_pending, long_met}
 use Rattle.clap.specs.Walk.{long_or_other}
 use Rattle.clap.specs.Walk.{more_values, next, option, option_met, option_word, plain, plain_word, positional}
 use Rattle.clap.specs.Walk.{positional_held}

@@ -1,5 +1,5 @@
 -- A line that `clap` takes names a command, with a value at each name that has to have one.
-use Rattle.std.proofs.Common.{◌≡◌, ◌∙◌, ◌&&◌, ◌||◌, ◌++◌, ℕ, Bool, true, false, not, cond, refl, sym, ap, ap₂, subst}
+use Rattle.std.proofs.Common.{◌≡◌, ◌∙◌, ◌&&◌, ◌||◌, ◌++◌, Bool, true, false, not, cond, refl, sym, ap, ap₂, subst}
 use Rattle.std.proofs.Common.{List, [], ◌∷◌, Option, Some, None, IsSome, is_some, option_map, true≢false, codes}
 use Rattle.std.proofs.Common.{if◌then◌else◌}
 use Rattle.std.specs.Prelude.{find, option_and_then, slice_get, unwrap_or}
@@ -11,13 +11,11 @@ use Rattle.std.proofs.lemmas.Slice.Eq.{bytes_eq-Decides}
 use Rattle.uuid.specs.Text.{parsed}
 use Rattle.clap.specs.Words.{App, Row, Rule, Shape, Text, all_of, built, first_of, subcommand_of, takes}
 use Rattle.clap.specs.Facts.{explicit_source}
-use Rattle.clap.specs.Walk.{answers_to, is_empty, nothing_held, rows_after, stop_after, walk}
+use Rattle.clap.specs.Walk.{answers_to, is_empty, nothing_held, rows_after, stop_after}
 use Rattle.clap.specs.Simple.{argument_words, entered, is_simple, label_of, names_of, rows_at}
 use Rattle.clap.specs.Takes.{built_takes, entered_passes, is_given, is_valid, level_passes}
 use Rattle.clap.proofs.SimpleLemmas.{is_nil}
 use Rattle.clap.proofs.WalkLemmas.{both}
-use Rattle.archive_core.specs.declared.keys.ArchKey.{ArchKey}
-use Rattle.archive_core.specs.declared.keys.Digest.{Digest}
 use Rattle.command_line.specs.Commands.{symarch_command}
 use Rattle.command_line.specs.Lines.{Line, admit, admit_line, admit_of, all_spelled, all_spelled_at, apply, apply_line}
 use Rattle.command_line.specs.Lines.{apply_of, are_taken}
@@ -28,7 +26,7 @@ use Rattle.command_line.specs.Lines.{retire, retire_line, retire_of}
 use Rattle.command_line.specs.Lines.{spares_inputs, spelled_at, spelled_if_there, symbolicate, symbolicate_line}
 use Rattle.command_line.specs.Lines.{symbolicate_of, words_at}
 use Rattle.command_line.specs.Words.{address_of, arch_of, digest_of}
-use Rattle.command_line.proofs.Filled.{Level, are_filled, found_passes, is_filled, lets_name, lets_stop, level}
+use Rattle.command_line.proofs.Filled.{are_filled, found_passes, is_filled, lets_name, lets_stop, level}
 use Rattle.command_line.proofs.Filled.{want_values}
 
 -- ---- tests

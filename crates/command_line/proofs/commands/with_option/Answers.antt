@@ -1,4 +1,4 @@
-use Rattle.std.proofs.Common.{◌≡◌, ◌∙◌, ap, false, Some}
+use Rattle.std.proofs.Common.{◌∙◌, ap, Some}
 use Rattle.clap.specs.Words.{Rule, rule_of}
 use Rattle.clap.specs.declared.builder.arg.Arg.{Arg}
 use Rattle.command_line.proofs.CommandLemmas.{adds_no_global, adds_rule}
