@@ -19,12 +19,14 @@ images_of files = flat_map admissible files
 -- the rows of the file at a place, from a slice on
 unfoldable pub file_rows : ℕ → ℕ → List Taken → List AdmitRow
 file_rows place slice [] = []
-file_rows place slice (taken ∷ rest) = record { file = place; slice = slice; taken = taken } ∷ file_rows place (slice + 1) rest
+file_rows place slice (taken ∷ rest) =
+    record { file = place; slice = slice; taken = taken } ∷ file_rows place (slice + 1) rest
 
 -- the rows of files from a place on, each over what those before it left
 unfoldable pub admit_rows : Operations → ℕ → List (List ℕ) → List AdmitRow
 admit_rows o place [] = []
-admit_rows o place (file ∷ files) = file_rows place 0 (taken_rows o (parts file)) ++ admit_rows (admitted o (admissible file)) (place + 1) files
+admit_rows o place (file ∷ files) =
+    file_rows place 0 (taken_rows o (parts file)) ++ admit_rows (admitted o (admissible file)) (place + 1) files
 
 -- The files are accepted, and the content has their images now; these are their rows.
 pub record HasTaken {S : Type 0} (files : List (Reader S)) (old new : Operations) (rows : List AdmitRow) : Type 0 where
@@ -34,9 +36,10 @@ pub record HasTaken {S : Type 0} (files : List (Reader S)) (old new : Operations
   pub content : new ≡ admitted old (images_of texts)
   pub rows_are : rows ≡ admit_rows old 0 texts
 
--- IN is the text of a content and the files are accepted; this is the content with their images, and these are the lines of
--- their rows.
-pub record MakesAdmitted {R S : Type 0} (input : Reader R) (files : List (Reader S)) (content : Operations) (lines : List ℕ) : Type 0 where
+-- IN is the text of a content and the files are accepted; this is the content with their images, and these are the
+-- lines of their rows.
+pub record MakesAdmitted {R S : Type 0} (input : Reader R) (files : List (Reader S)) (content : Operations)
+    (lines : List ℕ) : Type 0 where
   pub before : Operations
   pub texts : List (List ℕ)
   pub is_content : IsContent before

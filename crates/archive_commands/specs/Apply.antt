@@ -11,11 +11,13 @@ use Rattle.archive_commands.specs.Inputs.{Reader, Gives, Holds, Unfailed, IsUnto
 -- how many of the operations are new: each changes what those before it left
 unfoldable pub new_among : Operations → List Operation → ℕ
 new_among o [] = 0
-new_among o (operation ∷ rest) = (if changes o (rec operation) then 1 else 0) + new_among (with_record o (rec operation)) rest
+new_among o (operation ∷ rest) =
+    (if changes o (rec operation) then 1 else 0) + new_among (with_record o (rec operation)) rest
 
--- IN is the text of a content and OPS that of operations; this is the content with their records, and this is the line that
--- counts the new and the known ones.
-pub record MakesApplied {R S : Type 0} (input : Reader R) (ops : Reader S) (content : Operations) (lines : List ℕ) : Type 0 where
+-- IN is the text of a content and OPS that of operations; this is the content with their records, and this is the line
+-- that counts the new and the known ones.
+pub record MakesApplied {R S : Type 0} (input : Reader R) (ops : Reader S) (content : Operations)
+    (lines : List ℕ) : Type 0 where
   pub before : Operations
   pub operations : List Operation
   pub is_content : IsContent before

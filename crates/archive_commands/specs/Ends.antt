@@ -9,15 +9,16 @@ use Rattle.archive_lines.specs.declared.faults.Status.{Status}
 use Rattle.archive_lines.specs.declared.faults.Why.{Why}
 use Rattle.archive_commands.specs.Outputs.{Writer, Takes, Publishes, Reports, report_of}
 
--- A command that writes an archive, with its inputs: the content and the lines that accepted inputs make, which input is
--- refused, and why, and that no reader fails.
+-- A command that writes an archive, with its inputs: the content and the lines that accepted inputs make, which input
+-- is refused, and why, and that no reader fails.
 pub record Command : Type 1 where
   pub Makes : Operations → List ℕ → Type 0
   pub Refuses : Place → Why → Type 0
   pub Unfailed : Type 0
 
 -- The inputs are accepted, and what they make is published.
-pub record Carries (Makes : Operations → List ℕ → Type 0) (out report : Writer) (result : Result Status CommandFault) : Type 0 where
+pub record Carries (Makes : Operations → List ℕ → Type 0) (out report : Writer)
+    (result : Result Status CommandFault) : Type 0 where
   pub content : Operations
   pub lines : List ℕ
   pub makes : Makes content lines
@@ -31,25 +32,27 @@ Ends command out report (Ok status) = command.Unfailed × Carries command.Makes 
 Ends command out report (Err (Input place why)) = command.Refuses place why × Takes out [] × Takes report []
 Ends command out report (Err (Output n)) = command.Unfailed × Carries command.Makes out report (Err (Output n))
 Ends command out report (Err (Report n)) = command.Unfailed × Carries command.Makes out report (Err (Report n))
-Ends command out report (Err OutOfMemory) = command.Unfailed × ((Takes out [] × Takes report []) ⊎ Carries command.Makes out report (Err OutOfMemory))
+Ends command out report (Err OutOfMemory) =
+    command.Unfailed × ((Takes out [] × Takes report []) ⊎ Carries command.Makes out report (Err OutOfMemory))
 
--- A command that only reports, with its input: the status and the text that an accepted input makes, whether it is refused,
--- and why, and that its reader does not fail.
+-- A command that only reports, with its input: the status and the text that an accepted input makes, whether it is
+-- refused, and why, and that its reader does not fail.
 pub record Query : Type 1 where
   pub Makes : Status → List ℕ → Type 0
   pub Refuses : Place → Why → Type 0
   pub Unfailed : Type 0
 
 -- The input is accepted, and what it makes is reported.
-pub record Tells (Makes : Status → List ℕ → Type 0) (report : Writer) (result : Result Status CommandFault) : Type 0 where
+pub record Tells (Makes : Status → List ℕ → Type 0) (report : Writer)
+    (result : Result Status CommandFault) : Type 0 where
   pub status : Status
   pub text : List ℕ
   pub makes : Makes status text
   pub reported : Reports report status text result
 
--- How a command ends that only reports. Its input is refused, and nothing is written; or it is accepted, and what it makes
--- is reported, wholly or up to where the report failed. Where memory is wanting nothing is written. No reader fails but that
--- of an input that is refused.
+-- How a command ends that only reports. Its input is refused, and nothing is written; or it is accepted, and what it
+-- makes is reported, wholly or up to where the report failed. Where memory is wanting nothing is written. No reader
+-- fails but that of an input that is refused.
 abbrev pub EndsReport : Query → Writer → Result Status CommandFault → Type 0
 EndsReport query report (Ok status) = query.Unfailed × Tells query.Makes report (Ok status)
 EndsReport query report (Err (Input place why)) = query.Refuses place why × Takes report []

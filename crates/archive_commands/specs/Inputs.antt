@@ -21,8 +21,8 @@ use Rattle.archive_lines.specs.declared.faults.Place.TheVariants.{Archive, File,
 use Rattle.archive_lines.specs.declared.faults.Why.{Why}
 use Rattle.archive_lines.specs.declared.faults.Why.TheVariants.{Device as CannotRead, Record, Take, CannotOpen as NotOpened}
 
--- An input in a call, before it and after it: a reader, or that none was opened. The functions tell what a reader has left,
--- where that is known, and how often it has failed.
+-- An input in a call, before it and after it: a reader, or that none was opened. The functions tell what a reader has
+-- left, where that is known, and how often it has failed.
 pub record Reader (S : Type 0) : Type 0 where
   pub left : S → Option (List ℕ)
   pub failures : S → ℕ
@@ -30,11 +30,13 @@ pub record Reader (S : Type 0) : Type 0 where
   pub new : Result S CannotOpen
 
 -- the input between these two states
-abbrev pub reader : {S : Type 0} → (S → Option (List ℕ)) → (S → ℕ) → Result S CannotOpen → Result S CannotOpen → Reader S
+abbrev pub reader : {S : Type 0} → (S → Option (List ℕ)) → (S → ℕ) → Result S CannotOpen → Result S CannotOpen
+    → Reader S
 reader left failures old new = record { left = left; failures = failures; old = old; new = new }
 
 -- the inputs of a list, each between its two states
-abbrev pub readers : {S : Type 0} → (S → Option (List ℕ)) → (S → ℕ) → List (Result S CannotOpen) → List (Result S CannotOpen) → List (Reader S)
+abbrev pub readers : {S : Type 0} → (S → Option (List ℕ)) → (S → ℕ)
+    → List (Result S CannotOpen) → List (Result S CannotOpen) → List (Reader S)
 readers left failures old new = map (λ states. reader left failures states.0 states.1) (zip old new)
 
 -- The input was opened, and this is true of its bytes, where they are known.
@@ -55,7 +57,7 @@ abbrev pub left_of : {S : Type 0} → (S → Option (List ℕ)) → Result S Can
 left_of left (Ok source) = left source
 left_of left (Err _) = None
 
--- The call is not the one in which the reader failed.
+-- The input's reader did not fail in the call.
 abbrev pub Unfailed : {S : Type 0} → Reader S → Type 0
 Unfailed input = failures_of input.failures input.new ≡ failures_of input.failures input.old
 
@@ -75,10 +77,11 @@ EachUntouched inputs = AllByRecursion IsUntouched inputs
 abbrev pub FailedBehind : {S : Type 0} → (List ℕ → ℕ → Type 0) → Reader S → ℕ → Type 0
 FailedBehind IsOffsetOf input offset =
     FailedIn (failures_of input.failures input.old) (failures_of input.failures input.new)
-    × (bytes : List ℕ) × Consumes (left_of input.left input.old) (left_of input.left input.new) bytes × IsOffsetOf bytes offset
+    × (bytes : List ℕ) × Consumes (left_of input.left input.old) (left_of input.left input.new) bytes
+    × IsOffsetOf bytes offset
 
--- why an archive is not read: it was not opened, its text has this fault, or the reader failed; the offset is then the length
--- of the longest good front of what came
+-- why an archive is not read: it was not opened, its text has this fault, or the reader failed; the offset is then the
+-- length of the longest good front of what came
 abbrev pub IsArchiveRefused : {S : Type 0} → Reader S → Why → Type 0
 IsArchiveRefused input why =
     MatchResult input.old
@@ -101,7 +104,8 @@ abbrev pub IsFileRefused : {S : Type 0} → Reader S → Why → Type 0
 IsFileRefused input why =
     MatchResult input.old
     (λ source. ((why ≡ CannotRead) × FailedIn (input.failures source) (failures_of input.failures input.new))
-    ⊎ ((fault : TakeFault) × (why ≡ Take fault) × (fault ≢ TakeOutOfMemory) × IfSome (input.left source) (λ bytes. IsTakeFault bytes fault)))
+    ⊎ ((fault : TakeFault) × (why ≡ Take fault) × (fault ≢ TakeOutOfMemory)
+    × IfSome (input.left source) (λ bytes. IsTakeFault bytes fault)))
     (λ _. why ≡ NotOpened)
 
 -- The input is the text of a content.
@@ -122,15 +126,17 @@ IsRefusedFile place input at why = (at ≡ File place) × IsFileRefused input wh
 
 -- the bytes of the file at this place are refused
 abbrev pub IsRefusedBytes : ℕ → List ℕ → Place → Why → Type 0
-IsRefusedBytes place bytes at why = (at ≡ File place) × (fault : TakeFault) × (why ≡ Take fault) × (fault ≢ TakeOutOfMemory) × IsTakeFault bytes fault
+IsRefusedBytes place bytes at why =
+    (at ≡ File place) × (fault : TakeFault) × (why ≡ Take fault) × (fault ≢ TakeOutOfMemory) × IsTakeFault bytes fault
 
 -- the operations file is refused
 abbrev pub IsRefusedOps : {S : Type 0} → Reader S → Place → Why → Type 0
 IsRefusedOps input at why = (at ≡ Ops) × IsOpsRefused input why
 
--- One of these inputs, which have such places in the words, is refused: those before it are accepted, and those behind it are
--- untouched.
-pub record IsFirstRefused {S : Type 0} (place_of : ℕ → Place) (IsGood : Reader S → Type 0) (IsRefused : Reader S → Why → Type 0) (inputs : List (Reader S)) (at : Place) (why : Why) : Type 0 where
+-- One of these inputs, which have such places in the words, is refused: those before it are accepted, and those behind
+-- it are untouched.
+pub record IsFirstRefused {S : Type 0} (place_of : ℕ → Place) (IsGood : Reader S → Type 0)
+    (IsRefused : Reader S → Why → Type 0) (inputs : List (Reader S)) (at : Place) (why : Why) : Type 0 where
   pub number : ℕ
   pub at_is : at ≡ place_of number
   pub before : AllByRecursion IsGood (take number inputs)
@@ -139,8 +145,8 @@ pub record IsFirstRefused {S : Type 0} (place_of : ℕ → Place) (IsGood : Read
   pub refused : IsRefused input why
   pub behind : EachUntouched (drop (number + 1) inputs)
 
--- The first input of a command is refused, and those behind it are untouched; or it is the text of a content, and behind it this
--- one is refused.
+-- The first input of a command is refused, and what is behind it is untouched; or it is the text of a content, and
+-- behind it this one is refused.
 abbrev pub IsRefusedInOrder : {S : Type 0} → Reader S → Type 0 → (Place → Why → Type 0) → Place → Why → Type 0
 IsRefusedInOrder input Untouched IsRefusedBehind at why =
     (IsRefusedArchive 0 input at why × Untouched)

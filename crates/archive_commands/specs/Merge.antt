@@ -29,7 +29,8 @@ pub record HasJoined {S : Type 0} (files : List (Reader S)) (old new : Operation
   pub content : new ≡ merged old contents
 
 -- IN and the files are the texts of contents; this is what their join gives, and there are no lines but the sizes.
-pub record MakesMerged {R S : Type 0} (input : Reader R) (files : List (Reader S)) (content : Operations) (lines : List ℕ) : Type 0 where
+pub record MakesMerged {R S : Type 0} (input : Reader R) (files : List (Reader S)) (content : Operations)
+    (lines : List ℕ) : Type 0 where
   pub before : Operations
   pub contents : List Operations
   pub is_content : IsContent before

@@ -22,7 +22,12 @@ pub record Writer : Type 0 where
 
 -- the writer between these two states
 abbrev pub writer : {W : Type 0} → (W → Option (List ℕ)) → (W → ℕ) → W → W → Writer
-writer held failures old new = record { old = held old; new = held new; failures_old = failures old; failures_new = failures new }
+writer held failures old new = record {
+  old = held old;
+  new = held new;
+  failures_old = failures old;
+  failures_new = failures new;
+}
 
 -- The writer took exactly this text, and did not fail.
 abbrev pub Takes : Writer → List ℕ → Type 0

@@ -11,7 +11,8 @@ use Rattle.archive_commands.specs.Inputs.{Reader, Holds, Unfailed, IsRefusedArch
 
 -- IN is the text of a content; this is the content with the retirement, and this is the line that tells whether that
 -- changed it.
-pub record MakesRetired {R : Type 0} (input : Reader R) (key : SliceKey) (digest : Digest) (content : Operations) (lines : List ℕ) : Type 0 where
+pub record MakesRetired {R : Type 0} (input : Reader R) (key : SliceKey) (digest : Digest) (content : Operations)
+    (lines : List ℕ) : Type 0 where
   pub before : Operations
   pub is_content : IsContent before
   pub archive : Holds input (written before)

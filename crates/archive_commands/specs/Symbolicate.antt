@@ -15,7 +15,8 @@ use Rattle.archive_lines.specs.declared.faults.Status.TheVariants.{Done, Partial
 use Rattle.archive_commands.specs.Ends.{Query}
 use Rattle.archive_commands.specs.Inputs.{Reader, Holds, Unfailed, IsRefusedArchive}
 
--- the place that an address of the words means: one of the image where it was loaded, if the words say where, and else one of its file
+-- the place that an address of the words means: one of the image where it was loaded, if the words say where, and else
+-- one of its file
 abbrev pub place_of : Option ℕ → ℕ → Where
 place_of None address = File address
 place_of (Some load) address = Loaded load address
@@ -45,7 +46,8 @@ abbrev pub answers_text : List Answered → List ℕ
 answers_text rows = flat_map (λ row. answer_lines row.address row.answer) rows
 
 -- what a content tells of addresses, one answer an address and in their order: the status, and the lines
-pub record TellsAddresses (content : Operations) (key : SliceKey) (load : Option ℕ) (addresses : List ℕ) (status : Status) (text : List ℕ) : Type 0 where
+pub record TellsAddresses (content : Operations) (key : SliceKey) (load : Option ℕ) (addresses : List ℕ)
+    (status : Status) (text : List ℕ) : Type 0 where
   pub rows : List Answered
   pub addresses_are : map (λ row. row.address) rows ≡ addresses
   pub answered : AllByRecursion (IsAnswered content key load) rows
@@ -53,7 +55,8 @@ pub record TellsAddresses (content : Operations) (key : SliceKey) (load : Option
   pub text_is : text ≡ answers_text rows
 
 -- ARCHIVE is the text of a content; this is the status of its answers to the addresses, and these are their lines.
-pub record MakesAnswered {R : Type 0} (archive : Reader R) (key : SliceKey) (load : Option ℕ) (addresses : List ℕ) (status : Status) (text : List ℕ) : Type 0 where
+pub record MakesAnswered {R : Type 0} (archive : Reader R) (key : SliceKey) (load : Option ℕ) (addresses : List ℕ)
+    (status : Status) (text : List ℕ) : Type 0 where
   pub content : Operations
   pub is_content : IsContent content
   pub archive_is : Holds archive (written content)

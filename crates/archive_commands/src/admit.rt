@@ -19,7 +19,8 @@ use memory::{Heap, NoMemory};
 
 /// The refusal of a file at a place, whose bytes have this fault.
 fn refusal(place: u64, fault: TakeFault) -> CommandFault
-    ensures refused { (bytes : List ℕ) → IsTakeFault bytes fault → IsRefusal (IsRefusedBytes place bytes) (Unit {0}) result }
+    ensures refused { (bytes : List ℕ) → IsTakeFault bytes fault
+        → IsRefusal (IsRefusedBytes place bytes) (Unit {0}) result }
 {
     match fault {
         TakeFault::OutOfMemory => CommandFault::OutOfMemory,
@@ -87,9 +88,11 @@ fn admit_files<A: Archive, S: Source>(
     archive: &mut A,
     files: &mut [Result<S, CannotOpen>],
 ) -> Result<Vec<AdmitRow, Heap>, CommandFault>
-    ensures taken { IfOk result (λ rows. HasTaken (readers S.left S.failures files.old files.new) (A.content archive.old) (A.content archive.new) rows.items) }
+    ensures taken { IfOk result (λ rows. HasTaken (readers S.left S.failures files.old files.new)
+        (A.content archive.old) (A.content archive.new) rows.items) }
     ensures unfailed { OnOk result (EachUnfailed (readers S.left S.failures files.old files.new)) }
-    ensures refused { IfErr result (IsRefusal (IsFirstRefused File IsAccepted IsFileRefused (readers S.left S.failures files.old files.new))
+    ensures refused { IfErr result
+        (IsRefusal (IsFirstRefused File IsAccepted IsFileRefused (readers S.left S.failures files.old files.new))
         (EachUnfailed (readers S.left S.failures files.old files.new))) }
 {
     let mut rows = Vec::new(heap.clone()?);
@@ -99,8 +102,8 @@ fn admit_files<A: Archive, S: Source>(
     Ok(rows)
 }
 
-/// Writes IN's archive to OUT with the slices of each file, and a row a slice and the sizes to the report. The inputs are
-/// read in the order of the words, IN first, each to its end, before anything is written.
+/// Writes IN's archive to OUT with the slices of each file, and a row a slice and the sizes to the report. The inputs
+/// are read in the order of the words, IN first, each to its end, before anything is written.
 ///
 /// # Errors
 ///
@@ -112,7 +115,8 @@ pub fn run_admit<A: Archive + Drop, R: Source, S: Source, W: Sink, P: Sink>(
     out: &mut W,
     report: &mut P,
 ) -> Result<Status, CommandFault>
-    ensures { Ends (admit (reader R.left R.failures input.old input.new) (readers S.left S.failures files.old files.new))
+    ensures { Ends
+        (admit (reader R.left R.failures input.old input.new) (readers S.left S.failures files.old files.new))
         (writer W.held W.failures out.old out.new) (writer P.held P.failures report.old report.new) result }
 {
     let mut archive: A = read_input(heap.clone()?, 0, input)?;

@@ -1,5 +1,5 @@
-//! What the definitions of `admit` say in the words of its user. Each law is the contract of a function that does nothing
-//! but call laws of the crates below.
+//! What the definitions of `admit` say in the words of its user. Each law is the contract of a function that does
+//! nothing but call laws of the crates below.
 ghost use Rattle.std.specs.Prelude.{◌≡◌, ◌↔◌, ◌<◌, ◌+◌, ◌++◌, ◌^◌, ℕ, List, Some, Contains, drop, map, take, slice_get};
 ghost use Rattle.std.specs.List.{AllByRecursion, AllZip};
 ghost use Rattle.std.specs.FinSet as set;
@@ -20,12 +20,15 @@ use byte_device::Source;
 /// The content that `admit` makes is IN's with the admissions of the files' images, in whatever order and however often
 /// the files stand among the words.
 pub fn admitted_in_any_order()
-    ensures content { (o : Operations) (files : List (List ℕ)) → IsMade o → admitted o (images_of files) ≡ joined o (made (set.from_list (map admission_record (images_of files)))) }
-    ensures order { (o : Operations) (files others : List (List ℕ)) → IsMade o → ((file : List ℕ) → Contains files file ↔ Contains others file) → admitted o (images_of files) ≡ admitted o (images_of others) }
+    ensures content { (o : Operations) (files : List (List ℕ)) → IsMade o
+        → admitted o (images_of files) ≡ joined o (made (set.from_list (map admission_record (images_of files)))) }
+    ensures order { (o : Operations) (files others : List (List ℕ)) → IsMade o
+        → ((file : List ℕ) → Contains files file ↔ Contains others file)
+        → admitted o (images_of files) ≡ admitted o (images_of others) }
 {}
 
-/// The rows of a file stand behind those of the files before it, and say what became of its slices over IN with the images
-/// of these.
+/// The rows of a file stand behind those of the files before it, and say what became of its slices over IN with the
+/// images of these.
 pub fn rows_in_order()
     ensures { (o : Operations) (files : List (List ℕ)) (place : ℕ) (file : List ℕ) → slice_get files place ≡ Some file
         → admit_rows o 0 files ≡ admit_rows o 0 (take place files)
@@ -35,7 +38,8 @@ pub fn rows_in_order()
 
 /// Where IN is the text of a content and each file is accepted, no input is refused but for its device.
 pub fn accepted_inputs_are_not_refused<R: Source, S: Source>()
-    ensures { (input : Reader R) (files : List (Reader S)) (o : Operations) (texts : List (List ℕ)) (place : Place) (why : Why)
+    ensures { (input : Reader R) (files : List (Reader S)) (o : Operations) (texts : List (List ℕ)) (place : Place)
+        (why : Why)
         → IsContent o
         → set.len o < 2 ^ 64
         → IsGiven input (written o)

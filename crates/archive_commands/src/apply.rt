@@ -28,7 +28,8 @@ fn take_operations<A: Archive>(
     archive: &mut A,
     operations: Vec<Operation, Heap>,
 ) -> Result<u64, NoMemory>
-    ensures content { OnOk result (A.content archive.new ≡ with_records (A.content archive.old) (map rec operations.items)) }
+    ensures content { OnOk result
+        (A.content archive.new ≡ with_records (A.content archive.old) (map rec operations.items)) }
     ensures counted { IfOk result (λ new. new ≡ new_among (A.content archive.old) operations.items) }
     ensures within { IfOk result (λ new. new ≤ length operations.items) }
 {
@@ -39,8 +40,8 @@ fn take_operations<A: Archive>(
     Ok(new)
 }
 
-/// Writes IN's archive to OUT with the operations of an operations file, and to the report how many of them were new and
-/// how many were there, and the sizes. IN is read first, then OPS, each to its end, before anything is written.
+/// Writes IN's archive to OUT with the operations of an operations file, and to the report how many of them were new
+/// and how many were there, and the sizes. IN is read first, then OPS, each to its end, before anything is written.
 ///
 /// # Errors
 ///

@@ -1,5 +1,5 @@
-//! What the definitions of `apply` say in the words of its user. Each law is the contract of a function that does nothing
-//! but call other laws.
+//! What the definitions of `apply` say in the words of its user. Each law is the contract of a function that does
+//! nothing but call other laws.
 ghost use Rattle.std.specs.Prelude.{◌≡◌, ◌↔◌, ◌<◌, ◌≤◌, ◌+◌, ◌^◌, ℕ, List, Contains, length, map};
 ghost use Rattle.std.specs.FinSet as set;
 ghost use Rattle.archive_core.specs.Content.{Operations, IsContent, IsMade, made, joined, with_records};
@@ -16,13 +16,16 @@ use archive_core::laws::takes_in_any_order;
 use archive_records::laws::operations_have_no_fault;
 use byte_device::Source;
 
-/// The content that `apply` makes is IN's with what the operations make, in whatever order and however often they stand in
-/// the file; so two files with the same operations leave one text in OUT.
+/// The content that `apply` makes is IN's with what the operations make, in whatever order and however often they
+/// stand in the file; so two files with the same operations leave one text in OUT.
 pub fn applied_in_any_order()
-    ensures content { (o : Operations) (operations : List Operation) → IsMade o → with_records o (map rec operations) ≡ joined o (made (set.from_list (map rec operations))) }
-    ensures order { (o : Operations) (operations others : List Operation) → IsMade o → ((operation : Operation) → Contains operations operation ↔ Contains others operation)
+    ensures content { (o : Operations) (operations : List Operation) → IsMade o
+        → with_records o (map rec operations) ≡ joined o (made (set.from_list (map rec operations))) }
+    ensures order { (o : Operations) (operations others : List Operation) → IsMade o
+        → ((operation : Operation) → Contains operations operation ↔ Contains others operation)
         → with_records o (map rec operations) ≡ with_records o (map rec others) }
-    ensures text { (o : Operations) (operations others : List Operation) → IsMade o → ((operation : Operation) → Contains operations operation ↔ Contains others operation)
+    ensures text { (o : Operations) (operations others : List Operation) → IsMade o
+        → ((operation : Operation) → Contains operations operation ↔ Contains others operation)
         → written (with_records o (map rec operations)) ≡ written (with_records o (map rec others)) }
 {
     takes_in_any_order();
@@ -30,13 +33,15 @@ pub fn applied_in_any_order()
 
 /// OUT has as many records more than IN as operations are told to be new, and these are no more than the file has.
 pub fn new_ones_are_counted()
-    ensures grown { (o : Operations) (operations : List Operation) → set.len (with_records o (map rec operations)) ≡ set.len o + new_among o operations }
+    ensures grown { (o : Operations) (operations : List Operation)
+        → set.len (with_records o (map rec operations)) ≡ set.len o + new_among o operations }
     ensures within { (o : Operations) (operations : List Operation) → new_among o operations ≤ length operations }
 {}
 
 /// Where IN is the text of a content and OPS that of operations, neither is refused but for its device.
 pub fn accepted_operations_are_not_refused<R: Source, S: Source>()
-    ensures { (input : Reader R) (ops : Reader S) (o : Operations) (text : List ℕ) (operations : List Operation) (place : Place) (why : Why)
+    ensures { (input : Reader R) (ops : Reader S) (o : Operations) (text : List ℕ) (operations : List Operation)
+        (place : Place) (why : Why)
         → IsContent o
         → set.len o < 2 ^ 64
         → IsGiven input (written o)

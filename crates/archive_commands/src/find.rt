@@ -24,8 +24,8 @@ fn status_of(rows: &[FindRow]) -> Status
     }
 }
 
-/// Writes a row for each retirement and each live slice of the UUID to the report, and behind the rows of an architecture
-/// how many slices answer for it, where these are several.
+/// Writes a row for each retirement and each live slice of the UUID to the report, and behind the rows of an
+/// architecture how many slices answer for it, where these are several.
 ///
 /// # Errors
 ///

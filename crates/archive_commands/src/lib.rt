@@ -6,8 +6,8 @@
 //! - `sources`: the inputs;
 //! - `publish`: the end of each command that writes an archive;
 //! - `new`, `admit`, `retire`, `merge`, `apply`, `find`, `symbolicate`: a command each;
-//! - [`admit_laws`], [`merge_laws`], [`apply_laws`], [`symbolicate_laws`]: what the definitions of the commands say in the words of
-//!   their user.
+//! - [`admit_laws`], [`merge_laws`], [`apply_laws`], [`symbolicate_laws`]: what the definitions of the commands say in
+//!   the words of their user.
 #![tactic(auto)]
 
 mod admit;

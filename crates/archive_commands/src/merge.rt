@@ -40,9 +40,11 @@ fn join_files<A: Archive + Drop, S: Source>(
     archive: &mut A,
     files: &mut [Result<S, CannotOpen>],
 ) -> Result<(), CommandFault>
-    ensures joined { OnOk result (HasJoined (readers S.left S.failures files.old files.new) (A.content archive.old) (A.content archive.new)) }
+    ensures joined { OnOk result
+        (HasJoined (readers S.left S.failures files.old files.new) (A.content archive.old) (A.content archive.new)) }
     ensures unfailed { OnOk result (EachUnfailed (readers S.left S.failures files.old files.new)) }
-    ensures refused { IfErr result (IsRefusal (IsFirstRefused file_place IsArchive IsArchiveRefused (readers S.left S.failures files.old files.new))
+    ensures refused { IfErr result (IsRefusal
+        (IsFirstRefused file_place IsArchive IsArchiveRefused (readers S.left S.failures files.old files.new))
         (EachUnfailed (readers S.left S.failures files.old files.new))) }
 {
     'files: for (place, file) in files.iter_mut().enumerate() {
@@ -51,13 +53,13 @@ fn join_files<A: Archive + Drop, S: Source>(
     Ok(())
 }
 
-/// Writes the join of IN's archive with that of each file to OUT, and its sizes to the report. The inputs are read in the
-/// order of the words, IN first, each to its end, before anything is written.
+/// Writes the join of IN's archive with that of each file to OUT, and its sizes to the report. The inputs are read in
+/// the order of the words, IN first, each to its end, before anything is written.
 ///
 /// # Errors
 ///
-/// `Input` for the first archive that is refused, IN being archive 0 and the first file archive 1; `Output` and `Report`
-/// where that writer failed; `OutOfMemory`.
+/// `Input` for the first archive that is refused, IN being archive 0 and the first file archive 1; `Output` and
+/// `Report` where that writer failed; `OutOfMemory`.
 pub fn run_merge<A: Archive + Drop, R: Source, S: Source, W: Sink, P: Sink>(
     heap: Heap,
     input: &mut Result<R, CannotOpen>,
@@ -65,7 +67,8 @@ pub fn run_merge<A: Archive + Drop, R: Source, S: Source, W: Sink, P: Sink>(
     out: &mut W,
     report: &mut P,
 ) -> Result<Status, CommandFault>
-    ensures { Ends (merge (reader R.left R.failures input.old input.new) (readers S.left S.failures files.old files.new))
+    ensures { Ends
+        (merge (reader R.left R.failures input.old input.new) (readers S.left S.failures files.old files.new))
         (writer W.held W.failures out.old out.new) (writer P.held P.failures report.old report.new) result }
 {
     let mut archive: A = read_input(heap.clone()?, 0, input)?;

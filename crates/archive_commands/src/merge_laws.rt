@@ -1,5 +1,5 @@
-//! What the definitions of `merge` say in the words of its user. Each law is the contract of a function that does nothing
-//! but call other laws.
+//! What the definitions of `merge` say in the words of its user. Each law is the contract of a function that does
+//! nothing but call other laws.
 ghost use Rattle.std.specs.Prelude.{◌≡◌, ◌↔◌, ◌<◌, ◌^◌, ◌++◌, ◌∷◌, [], ℕ, List, Contains, map};
 ghost use Rattle.std.specs.List.{AllByRecursion, AllZip};
 ghost use Rattle.std.specs.FinSet as set;
@@ -16,10 +16,14 @@ use byte_device::Source;
 
 /// What `merge` makes is the least content above IN and above each FILE: it holds what they hold, and nothing else.
 pub fn merged_is_least()
-    ensures content { (o : Operations) (contents : List Operations) → IsContent o → AllByRecursion IsContent contents → IsContent (merged o contents) }
-    ensures input { (o : Operations) (contents : List Operations) → IsContent o → AllByRecursion IsContent contents → IsBelow o (merged o contents) }
-    ensures each { (o : Operations) (contents : List Operations) (p : Operations) → IsContent o → AllByRecursion IsContent contents → Contains contents p → IsBelow p (merged o contents) }
-    ensures least { (o : Operations) (contents : List Operations) (q : Operations) → IsContent o → AllByRecursion IsContent contents → IsContent q
+    ensures content { (o : Operations) (contents : List Operations) → IsContent o → AllByRecursion IsContent contents
+        → IsContent (merged o contents) }
+    ensures input { (o : Operations) (contents : List Operations) → IsContent o → AllByRecursion IsContent contents
+        → IsBelow o (merged o contents) }
+    ensures each { (o : Operations) (contents : List Operations) (p : Operations) → IsContent o
+        → AllByRecursion IsContent contents → Contains contents p → IsBelow p (merged o contents) }
+    ensures least { (o : Operations) (contents : List Operations) (q : Operations) → IsContent o
+        → AllByRecursion IsContent contents → IsContent q
         → IsBelow o q
         → ((p : Operations) → Contains contents p → IsBelow p q)
         → IsBelow (merged o contents) q }
@@ -27,23 +31,28 @@ pub fn merged_is_least()
     contents_join();
 }
 
-/// What `merge` makes does not rest on the order of the FILEs, on one that is named twice, on which of the archives is IN,
-/// nor on FILEs that were merged among themselves before: it is what the operations of all of them make.
+/// What `merge` makes does not rest on the order of the FILEs, on one that is named twice, on which of the archives is
+/// IN, nor on FILEs that were merged among themselves before: it is what the operations of all of them make.
 pub fn merged_in_any_order()
-    ensures order { (o : Operations) (contents others : List Operations) → IsContent o → AllByRecursion IsContent contents → AllByRecursion IsContent others
+    ensures order { (o : Operations) (contents others : List Operations) → IsContent o
+        → AllByRecursion IsContent contents → AllByRecursion IsContent others
         → ((p : Operations) → Contains contents p ↔ Contains others p)
         → merged o contents ≡ merged o others }
-    ensures input { (o p : Operations) (contents : List Operations) → IsContent o → IsContent p → merged o (p ∷ contents) ≡ merged p (o ∷ contents) }
-    ensures grouping { (o p : Operations) (contents others : List Operations) → IsContent o → IsContent p → AllByRecursion IsContent contents → AllByRecursion IsContent others
+    ensures input { (o p : Operations) (contents : List Operations) → IsContent o → IsContent p
+        → merged o (p ∷ contents) ≡ merged p (o ∷ contents) }
+    ensures grouping { (o p : Operations) (contents others : List Operations) → IsContent o → IsContent p
+        → AllByRecursion IsContent contents → AllByRecursion IsContent others
         → merged o (contents ++ merged p others ∷ []) ≡ merged o (contents ++ p ∷ others) }
-    ensures union { (o : Operations) (contents : List Operations) → IsContent o → AllByRecursion IsContent contents → merged o contents ≡ joined o (made (operations_of contents)) }
+    ensures union { (o : Operations) (contents : List Operations) → IsContent o → AllByRecursion IsContent contents
+        → merged o contents ≡ joined o (made (operations_of contents)) }
 {
     contents_join();
 }
 
 /// Where IN and each FILE is the text of a content, no archive is refused but for its device.
 pub fn accepted_archives_are_not_refused<R: Source, S: Source>()
-    ensures { (input : Reader R) (files : List (Reader S)) (o : Operations) (contents : List Operations) (place : Place) (why : Why)
+    ensures { (input : Reader R) (files : List (Reader S)) (o : Operations) (contents : List Operations)
+        (place : Place) (why : Why)
         → IsContent o
         → set.len o < 2 ^ 64
         → AllByRecursion IsContent contents

@@ -20,8 +20,10 @@ fn take_retirement<A: Archive>(
     key: SliceKey,
     digest: Digest,
 ) -> Result<bool, NoMemory>
-    ensures content { OnOk result (A.content archive.new ≡ with_record (A.content archive.old) (retirement_record key digest.0)) }
-    ensures changed { IfOk result (λ changed. changed ≡ changes (A.content archive.old) (retirement_record key digest.0)) }
+    ensures content { OnOk result
+        (A.content archive.new ≡ with_record (A.content archive.old) (retirement_record key digest.0)) }
+    ensures changed { IfOk result
+        (λ changed. changed ≡ changes (A.content archive.old) (retirement_record key digest.0)) }
 {
     let changed = archive.take(Operation::Retire(key, digest))?;
     Ok(changed)

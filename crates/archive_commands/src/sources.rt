@@ -14,7 +14,8 @@ use memory::Heap;
 
 /// The refusal of an input at a place, whose text has this fault or whose reader failed.
 fn refusal(at: Place, fault: RecordFault) -> CommandFault
-    ensures refused { IsRefusal (λ place why. (place ≡ at) × (why ≡ Record fault) × (fault.kind ≢ RecordOutOfMemory)) (fault.kind ≡ RecordOutOfMemory) result }
+    ensures refused { IsRefusal (λ place why. (place ≡ at) × (why ≡ Record fault) × (fault.kind ≢ RecordOutOfMemory))
+        (fault.kind ≡ RecordOutOfMemory) result }
 {
     match fault.kind {
         RecordFaultKind::OutOfMemory => CommandFault::OutOfMemory,
@@ -29,9 +30,12 @@ pub(crate) fn read_input<A: Archive + Drop, R: Source>(
     input: &mut Result<R, CannotOpen>,
 ) -> Result<A, CommandFault>
     ensures content { IfOk result (λ archive. IsContent (A.content archive)) }
-    ensures text { IfOk result (λ archive. Holds (reader R.left R.failures input.old input.new) (written (A.content archive))) }
+    ensures text { IfOk result
+        (λ archive. Holds (reader R.left R.failures input.old input.new) (written (A.content archive))) }
     ensures unfailed { OnOk result (Unfailed (reader R.left R.failures input.old input.new)) }
-    ensures refused { IfErr result (IsRefusal (IsRefusedArchive place (reader R.left R.failures input.old input.new)) (Unfailed (reader R.left R.failures input.old input.new))) }
+    ensures refused { IfErr result
+        (IsRefusal (IsRefusedArchive place (reader R.left R.failures input.old input.new))
+        (Unfailed (reader R.left R.failures input.old input.new))) }
 {
     let at = Place::Archive(place);
     let source = match input {
@@ -52,7 +56,9 @@ pub(crate) fn read_file<S: Source>(
 ) -> Result<Vec<u8, Heap>, CommandFault>
     ensures bytes { IfOk result (λ bytes. Holds (reader S.left S.failures file.old file.new) bytes.items) }
     ensures unfailed { OnOk result (Unfailed (reader S.left S.failures file.old file.new)) }
-    ensures refused { IfErr result (IsRefusal (IsRefusedFile place (reader S.left S.failures file.old file.new)) (Unfailed (reader S.left S.failures file.old file.new))) }
+    ensures refused { IfErr result
+        (IsRefusal (IsRefusedFile place (reader S.left S.failures file.old file.new))
+        (Unfailed (reader S.left S.failures file.old file.new))) }
 {
     let at = Place::File(place);
     let source = match file {
@@ -71,9 +77,13 @@ pub(crate) fn read_operations<S: Source>(
     heap: Heap,
     ops: &mut Result<S, CannotOpen>,
 ) -> Result<Vec<Operation, Heap>, CommandFault>
-    ensures text { IfOk result (λ operations. Gives (reader S.left S.failures ops.old ops.new) (λ text. IsOperationsText text operations.items)) }
+    ensures text { IfOk result
+        (λ operations. Gives (reader S.left S.failures ops.old ops.new)
+        (λ text. IsOperationsText text operations.items)) }
     ensures unfailed { OnOk result (Unfailed (reader S.left S.failures ops.old ops.new)) }
-    ensures refused { IfErr result (IsRefusal (IsRefusedOps (reader S.left S.failures ops.old ops.new)) (Unfailed (reader S.left S.failures ops.old ops.new))) }
+    ensures refused { IfErr result
+        (IsRefusal (IsRefusedOps (reader S.left S.failures ops.old ops.new))
+        (Unfailed (reader S.left S.failures ops.old ops.new))) }
 {
     let at = Place::Ops;
     let source = match ops {

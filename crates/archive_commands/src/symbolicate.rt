@@ -41,7 +41,8 @@ fn answer_each<A: Archive>(
     load: Option<u64>,
     addresses: &[u64],
 ) -> Result<(Status, String<Heap>), NoMemory>
-    ensures { IfOk result (λ told. TellsAddresses (A.content archive.now) key.now load addresses.now told.0 (string_bytes told.1)) }
+    ensures { IfOk result
+        (λ told. TellsAddresses (A.content archive.now) key.now load addresses.now told.0 (string_bytes told.1)) }
 {
     let mut status = Status::Done;
     let mut text = String::new(heap);
@@ -53,8 +54,8 @@ fn answer_each<A: Archive>(
     Ok((status, text))
 }
 
-/// Writes an answer for each address to the report, in their order. They are addresses of the image where it was loaded, if
-/// `load` says where that was, and else of its file.
+/// Writes an answer for each address to the report, in their order. They are addresses of the image where it was
+/// loaded, if `load` says where that was, and else of its file.
 ///
 /// The status is `Done` where each answer is one symbol, and else `Partial`.
 ///

@@ -14,7 +14,8 @@ use byte_device::Source;
 
 /// A content tells one status and one text of addresses, whatever archive keeps it.
 pub fn one_telling()
-    ensures { (content : Operations) (key : SliceKey) (load : Option ℕ) (addresses : List ℕ) (status other_status : Status) (text other_text : List ℕ)
+    ensures { (content : Operations) (key : SliceKey) (load : Option ℕ) (addresses : List ℕ)
+        (status other_status : Status) (text other_text : List ℕ)
         → TellsAddresses content key load addresses status text
         → TellsAddresses content key load addresses other_status other_text
         → (status ≡ other_status) × (text ≡ other_text) }
@@ -24,7 +25,8 @@ pub fn one_telling()
 
 /// Two files that hold the text of one content give the same status and the same report.
 pub fn one_report<R: Source, S: Source>()
-    ensures { (archive : Reader R) (other : Reader S) (o : Operations) (key : SliceKey) (load : Option ℕ) (addresses : List ℕ) (status other_status : Status) (text other_text : List ℕ)
+    ensures { (archive : Reader R) (other : Reader S) (o : Operations) (key : SliceKey) (load : Option ℕ)
+        (addresses : List ℕ) (status other_status : Status) (text other_text : List ℕ)
         → IsContent o
         → IsGiven archive (written o)
         → IsGiven other (written o)
