@@ -83,7 +83,8 @@ pub trait Archive: Join<Content = Contents> {
 /// `other` may then have been taken in.
 pub fn take_all<A: Archive>(archive: &mut A, other: &A) -> Result<(), NoMemory>
     ensures joined { OnOk result (A.content archive.new ≡ joined (A.content archive.old) (A.content other.now)) }
-    ensures refused { OnErr result (IsTowards IsContent IsBelow (A.content archive.old) (A.content other.now) (A.content archive.new)) }
+    ensures refused { OnErr result
+        (IsTowards IsContent IsBelow (A.content archive.old) (A.content other.now) (A.content archive.new)) }
 {
     let _known = archive.covers(other);
     archive.join(other)

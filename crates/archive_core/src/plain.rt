@@ -125,7 +125,8 @@ impl PlainArchive {
 
     // The slice with its digest, unless a retirement covers it.
     fn unless_retired<'a>(&self, slice: &'a Slice) -> Option<Hashed<'a>>
-        ensures { result ≡ if set.contains self.now (retirement_record (key_of slice.now) (sha256 slice.now)) then None else Some slice.now }
+        ensures { result
+            ≡ if set.contains self.now (retirement_record (key_of slice.now) (sha256 slice.now)) then None else Some slice.now }
     {
         let hashed = Hashed::of(slice);
         if self.holds(&Operation::Retire(slice.key(), hashed.digest())) {
@@ -173,7 +174,8 @@ impl PlainArchive {
         dsym: bool,
         place: Where,
     ) -> Result<Vec<(Digest, Own<'a>), Heap>, NoMemory>
-        ensures { IfOk result (λ rows. AllZip (IsOwnRow place) (live_among self.now key.now dsym operations.now) (map own_row rows.items)) }
+        ensures { IfOk result (λ rows.
+            AllZip (IsOwnRow place) (live_among self.now key.now dsym operations.now) (map own_row rows.items)) }
     {
         let mut rows = Vec::new(self.operations.allocator().clone()?);
         'operations: for operation in operations {
@@ -194,7 +196,8 @@ impl PlainArchive {
         place: Where,
     ) -> Result<Answer<'a>, NoMemory>
         requires { IsFew few (live_among self.now key.now dsym operations.now) }
-        ensures told { IfOk result (λ answer. IsToldBy place (live_among self.now key.now dsym operations.now) (answer_view answer)) }
+        ensures told { IfOk result (λ answer.
+            IsToldBy place (live_among self.now key.now dsym operations.now) (answer_view answer)) }
         ensures memory { OnErr result (2 ≤ length (live_among self.now key.now dsym operations.now)) }
     {
         match few {
@@ -206,7 +209,8 @@ impl PlainArchive {
 
     // Copies of those operations that the archive does not hold.
     fn copy_missing(&self, operations: &[Operation]) -> Result<Vec<Operation, Heap>, NoMemory>
-        ensures { IfOk result (λ missing. missing.items ≡ filter (λ operation. not (set.contains self.now (rec operation))) operations.now) }
+        ensures { IfOk result (λ missing.
+            missing.items ≡ filter (λ operation. not (set.contains self.now (rec operation))) operations.now) }
     {
         let heap = self.operations.allocator();
         let mut missing = Vec::new(heap.clone()?);
@@ -239,7 +243,8 @@ impl Join for PlainArchive {
 
     ghost transitive = { subset_transitive nat_list_cmp_total };
 
-    ghost antisymmetric = { λ o p _ _. subset_antisymmetric nat_list_cmp_total (slice_cmp-IsAntisymmetric nat_cmp-IsAntisymmetric) o p };
+    ghost antisymmetric = { λ o p _ _.
+        subset_antisymmetric nat_list_cmp_total (slice_cmp-IsAntisymmetric nat_cmp-IsAntisymmetric) o p };
 
     fn join(&mut self, other: &Self) -> Result<(), NoMemory> {
         let mut missing = self.copy_missing(&other.operations)?;

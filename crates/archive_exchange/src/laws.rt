@@ -28,15 +28,21 @@ pub fn one_take_fault()
 /// content with the admissible parts before it.
 pub fn rows_in_order()
     ensures number { (o : Operations) (file : List (List ℕ)) → length (taken_rows o file) ≡ length file }
-    ensures skipped { (o : Operations) (file : List (List ℕ)) (i : ℕ) (part : List ℕ) → slice_get file i ≡ Some part → is_admissible part ≡ false
+    ensures skipped { (o : Operations) (file : List (List ℕ)) (i : ℕ) (part : List ℕ)
+        → slice_get file i ≡ Some part
+        → is_admissible part ≡ false
         → slice_get (taken_rows o file) i ≡ Some Skipped }
-    ensures taken { (o : Operations) (file : List (List ℕ)) (i : ℕ) (part : List ℕ) → slice_get file i ≡ Some part → is_admissible part ≡ true
+    ensures taken { (o : Operations) (file : List (List ℕ)) (i : ℕ) (part : List ℕ)
+        → slice_get file i ≡ Some part
+        → is_admissible part ≡ true
         → slice_get (taken_rows o file) i ≡ Some (taken_of (admitted o (filter is_admissible (take i file))) part) }
 {}
 
 /// What images make does not rest on their order, nor on repeats.
 pub fn admitted_in_any_order()
-    ensures { (o : Operations) (images others : List (List ℕ)) → IsMade o → ((image : List ℕ) → Contains images image ↔ Contains others image)
+    ensures { (o : Operations) (images others : List (List ℕ))
+        → IsMade o
+        → ((image : List ℕ) → Contains images image ↔ Contains others image)
         → admitted o images ≡ admitted o others }
 {}
 

@@ -39,7 +39,8 @@ fn take_slice<A: Archive>(archive: &mut A, slice: Slice) -> Result<Taken, NoMemo
 /// Takes a part of an accepted file, and tells what became of it. Its bytes are copied.
 fn take_part<A: Archive>(archive: &mut A, heap: Heap, part: &[u8]) -> Result<Taken, NoMemory>
     requires { is_admissible part.now ≡ true → IsValid part.now }
-    ensures content { OnOk result (A.content archive.new ≡ admitted (A.content archive.old) (filter is_admissible (part.now ∷ []))) }
+    ensures content { OnOk result
+        (A.content archive.new ≡ admitted (A.content archive.old) (filter is_admissible (part.now ∷ []))) }
     ensures row { IfOk result (λ row. row ∷ [] ≡ taken_rows (A.content archive.old) (part.now ∷ [])) }
     ensures refused { OnErr result (A.content archive.new ≡ A.content archive.old) }
 {
@@ -151,7 +152,8 @@ pub fn take_file<A: Archive>(
 
     // Why it is refused, and what the archive holds then.
     ensures refused { IfErr result (IsTakeFault file.items) }
-    ensures kept { IfErr result (λ fault. fault ≢ TakeFault.OutOfMemory → A.content archive.new ≡ A.content archive.old) }
+    ensures kept { IfErr result (λ fault.
+        fault ≢ TakeFault.OutOfMemory → A.content archive.new ≡ A.content archive.old) }
     ensures stopped { OnErr result (IsTakenInPart file.items (A.content archive.old) (A.content archive.new)) }
 {
     check_file(&file)?;
