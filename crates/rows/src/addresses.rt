@@ -26,12 +26,7 @@ fn push_word(addresses: &mut Vec<u64>, word: &str) -> Result<(), CaseFault> {
 }
 
 // The addresses from one to before another in steps.
-fn push_steps(
-    addresses: &mut Vec<u64>,
-    from: u64,
-    to: u64,
-    step: u64,
-) -> Result<(), CaseFault> {
+fn push_steps(addresses: &mut Vec<u64>, from: u64, to: u64, step: u64) -> Result<(), CaseFault> {
     let count = to.saturating_sub(from).div_ceil(step.max(1));
     for place in 0..count {
         addresses.push(from.saturating_add(place.saturating_mul(step)))?;
@@ -41,5 +36,7 @@ fn push_steps(
 
 fn address(word: &str) -> Result<u64, CaseFault> {
     let digits = word.strip_prefix("0x").ok_or(CaseFault::BadLine)?;
-    u64::from_str_radix(digits, 16).ok().ok_or(CaseFault::BadLine)
+    u64::from_str_radix(digits, 16)
+        .ok()
+        .ok_or(CaseFault::BadLine)
 }

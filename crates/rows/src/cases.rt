@@ -52,6 +52,7 @@ use crate::store::Store;
 use crate::sweeps::{tell_growths, tell_sweep};
 use crate::tellings::{tell_left, tell_line_fault, tell_same};
 use command_line::{LineFault, Plan, plan};
+use memory::NoMemory;
 use std::alloc::Global;
 
 // How often the next case is carried out.
@@ -71,8 +72,8 @@ struct Bench<'t> {
     mode: Mode<'t>,
 }
 
-/// Carries out the cases of a text, and tells what came of each.
-pub fn carry_out(alloc: Global, text: &str, told: &mut String) -> Result<(), CaseFault> {
+/// Carries out the cases of a text, and tells what came of each. One that cannot be carried out is passed over.
+pub fn carry_out(alloc: Global, text: &str, told: &mut String) -> Result<(), NoMemory> {
     let mut bench = Bench {
         alloc,
         store: Store::new(alloc),
@@ -85,8 +86,7 @@ pub fn carry_out(alloc: Global, text: &str, told: &mut String) -> Result<(), Cas
         }
         writeln!(told, "{line}")?;
         if let Err(fault) = bench.read_line(line, told) {
-            writeln!(told, "  NOT CARRIED OUT: {fault:?}")?;
-            return Err(fault);
+            writeln!(told, "  WRONG: not carried out, {fault:?}")?;
         }
     }
     Ok(())
@@ -193,12 +193,7 @@ impl<'t> Bench<'t> {
     }
 
     // Carries out a case, keeps what it left in OUT under its name, and sets what holds for the next one back.
-    fn carry(
-        &mut self,
-        task: Task,
-        out: Option<&str>,
-        told: &mut String,
-    ) -> Result<(), CaseFault> {
+    fn carry(&mut self, task: Task, out: Option<&str>, told: &mut String) -> Result<(), CaseFault> {
         let mode = self.mode;
         let limits = self.limits;
         self.mode = Mode::Once;

@@ -80,12 +80,7 @@ fn cut<'a>(bytes: &'a [u8], range: &str) -> Result<&'a [u8], CaseFault> {
 }
 
 // The bytes with others at these places, where the counters went on so many times.
-fn changed(
-    alloc: Global,
-    bytes: &[u8],
-    changes: &str,
-    time: u64,
-) -> Result<Vec<u8>, CaseFault> {
+fn changed(alloc: Global, bytes: &[u8], changes: &str, time: u64) -> Result<Vec<u8>, CaseFault> {
     let mut changed = bytes.to_vec(alloc)?;
     for change in changes.split('@') {
         make_change(alloc, &mut changed, change, time)?;
@@ -94,12 +89,7 @@ fn changed(
 }
 
 // Makes a change, `AT=VALUE`.
-fn make_change(
-    alloc: Global,
-    bytes: &mut [u8],
-    change: &str,
-    time: u64,
-) -> Result<(), CaseFault> {
+fn make_change(alloc: Global, bytes: &mut [u8], change: &str, time: u64) -> Result<(), CaseFault> {
     let (place, value) = change.split_once('=').ok_or(CaseFault::BadLine)?;
     let place = number(place)? as usize;
     put(bytes, place, &value_of(alloc, value, time)?)

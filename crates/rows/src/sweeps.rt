@@ -103,7 +103,10 @@ pub fn tell_growths(desk: Desk, task: Task, told: &mut String) -> Result<(), Cas
             return tell_last_growth(growths, left.is_as(&whole), told);
         }
         if !left.may_want_memory(&whole) {
-            writeln!(told, "  WRONG: growth {growths} was refused, and something was written")?;
+            writeln!(
+                told,
+                "  WRONG: growth {growths} was refused, and something was written"
+            )?;
         }
     }
     writeln!(told, "  WRONG: every run was refused")?;
@@ -113,9 +116,15 @@ pub fn tell_growths(desk: Desk, task: Task, told: &mut String) -> Result<(), Cas
 // Tells how many runs met a refusal, and whether the first that met none left what ample memory leaves.
 fn tell_last_growth(growths: u64, same: bool, told: &mut String) -> Result<(), CaseFault> {
     if same {
-        writeln!(told, "  {growths} refusals, then the same as with ample memory")?;
+        writeln!(
+            told,
+            "  {growths} refusals, then the same as with ample memory"
+        )?;
     } else {
-        writeln!(told, "  WRONG: {growths} refusals, then not the same as with ample memory")?;
+        writeln!(
+            told,
+            "  WRONG: {growths} refusals, then not the same as with ample memory"
+        )?;
     }
     Ok(())
 }

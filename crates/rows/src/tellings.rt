@@ -4,8 +4,8 @@ use crate::ends::{End, Left, refused_status};
 use archive_core::Digest;
 use archive_lines::Text;
 use command_line::LineFault;
-use sha2::{Digest as _, Sha256};
 use memory::NoMemory;
+use sha2::{Digest as _, Sha256};
 
 // How many lines of a report are told at most, before their digest stands for them.
 const MOST_LINES: usize = 40;
