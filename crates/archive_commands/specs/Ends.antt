@@ -26,7 +26,7 @@ pub record Carries (Makes : Operations → List ℕ → Type 0) (out report : Wr
 
 -- How a command ends. An input is refused, and nothing is written; or the inputs are accepted, and what they make is
 -- published, wholly or up to where a writer failed. Where memory is wanting, OUT has nothing or the whole text, and the
--- report nothing. No reader fails but that of an input that is refused.
+-- report nothing. Where no input is refused, no reader fails.
 abbrev pub Ends : Command → Writer → Writer → Result Status CommandFault → Type 0
 Ends command out report (Ok status) = command.Unfailed × Carries command.Makes out report (Ok status)
 Ends command out report (Err (Input place why)) = command.Refuses place why × Takes out [] × Takes report []
@@ -51,8 +51,8 @@ pub record Tells (Makes : Status → List ℕ → Type 0) (report : Writer)
   pub reported : Reports report status text result
 
 -- How a command ends that only reports. Its input is refused, and nothing is written; or it is accepted, and what it
--- makes is reported, wholly or up to where the report failed. Where memory is wanting nothing is written. No reader
--- fails but that of an input that is refused.
+-- makes is reported, wholly or up to where the report failed. Where memory is wanting nothing is written. Where
+-- it is not refused, its reader does not fail.
 abbrev pub EndsReport : Query → Writer → Result Status CommandFault → Type 0
 EndsReport query report (Ok status) = query.Unfailed × Tells query.Makes report (Ok status)
 EndsReport query report (Err (Input place why)) = query.Refuses place why × Takes report []
