@@ -67,7 +67,7 @@ module _ (no_fault : (o : Operations) (fault : RecordFault) → IsContent o → 
       elim refused [
         | inl p ↦ archive input.left input.failures input.old input.new o why content few given p.0.1
         | inr p ↦
-            let first = p.1 in
+            let first = p.2 in
             let found = at_place IsGiven IsAcceptedFile files texts first.number first.input files_given accepted first.input_is in
             let one = first.input in
             file one.left one.failures one.old one.new found.0 why found.1 found.2 first.refused

@@ -37,5 +37,5 @@ module _ (no_fault : (text : List ℕ) (operations : List Operation) (fault : Re
   operations_not_refused in_alone input ops o text operations place why content few given ops_given is refused =
       elim refused [
         | inl p ↦ in_alone input o why content few given p.0.1
-        | inr p ↦ ops_alone ops.left ops.failures ops.old ops.new text operations why ops_given is p.1.1
+        | inr p ↦ ops_alone ops.left ops.failures ops.old ops.new text operations why ops_given is p.2.1
       ]

@@ -32,7 +32,7 @@ archives_not_refused in_alone alone input files o contents place why content few
     elim refused [
       | inl p ↦ in_alone input o why content few given p.0.1
       | inr p ↦
-          let first = p.1 in
+          let first = p.2 in
           let found = content_at files contents first.number first.input files_given are all_few first.input_is in
           alone first.input found.0 why found.1 found.2 found.3 first.refused
     ]

@@ -55,7 +55,7 @@ module _ {R : Type 0} (Makes : Operations → List ℕ → Type 0) (input : Read
   -- the archive is accepted, and of the inputs behind it one is refused, or memory is wanting for them
   pub behind_refused : (fault : CommandFault) (content : Operations) → IsContent content → Holds input (written content) → Unfailed input
       → IsRefusal IsRefusedBehind OthersUnfailed fault → Takes out [] → Takes report [] → EndsInOrder (Err fault)
-  behind_refused (Input place why) content is holds unfailed r o p = (inr ((content, is, holds), r), o, p)
+  behind_refused (Input place why) content is holds unfailed r o p = (inr ((content, is, holds), unfailed, r), o, p)
   behind_refused (Output _) content is holds unfailed r o p = absurd r
   behind_refused (Report _) content is holds unfailed r o p = absurd r
   behind_refused OutOfMemory content is holds unfailed r o p = ((unfailed, r), inl (o, p))

@@ -33,6 +33,11 @@ all_set P [] i x all one = tt
 all_set P (y ∷ ys) zero x all one = (one, all.1)
 all_set P (y ∷ ys) (suc i) x all one = (all.0, all_set P ys i x all.1 one)
 
+all_take : {X : Type 0} (P : X → Type 0) (n : ℕ) (xs : List X) → AllByRecursion P xs → AllByRecursion P (take n xs)
+all_take P zero xs all = tt
+all_take P (suc n) [] all = tt
+all_take P (suc n) (x ∷ xs) all = (all.0, all_take P n xs all.1)
+
 pub all_more : {X : Type 0} (P : X → Type 0) (xs : List X) (x : X) → AllByRecursion P xs → P x → AllByRecursion P (xs ++ x ∷ [])
 all_more P [] x all one = (one, tt)
 all_more P (y ∷ ys) x all one = (all.0, all_more P ys x all.1 one)
@@ -117,11 +122,13 @@ module _ {S : Type 0} (left : S → Option (List ℕ)) (failures : S → ℕ) wh
       let seen = between old now in
       let set_is = set_one old now place file after lt long is in
       let within : place < length seen = subst (λ (n : ℕ). place < n) (sym (readers_long old now long)) lt in
+      let front : take place (between old (set now place after)) ≡ take place seen = ap (take place) set_is ∙ take-set seen place x in
       let within_set : place < length (set seen place x) = subst (λ (n : ℕ). place < n) (sym (length-set seen place x)) within in
       record {
         number = place;
         at_is = refused.0;
-        before = subst (λ (rs : List (Reader S)). AllByRecursion IsGood rs) (sym (ap (take place) set_is ∙ take-set seen place x)) before;
+        before = subst (λ (rs : List (Reader S)). AllByRecursion IsGood rs) (sym front) before;
+        unfailed = subst (λ (rs : List (Reader S)). EachUnfailed rs) (sym front) (all_take (λ (r : Reader S). Unfailed r) place seen each);
         input = x;
         input_is = ap (λ (rs : List (Reader S)). slice_get rs place) set_is ∙ slice_get-get_or (set seen place x) place x within_set ∙ ap Some (get_or-set_same seen place x x within);
         refused = refused.1;

@@ -133,24 +133,25 @@ IsRefusedBytes place bytes at why =
 abbrev pub IsRefusedOps : {S : Type 0} → Reader S → Place → Why → Type 0
 IsRefusedOps input at why = (at ≡ Ops) × IsOpsRefused input why
 
--- One of these inputs, which have such places in the words, is refused: those before it are accepted, and those behind
--- it are untouched.
+-- One of these inputs, which have such places in the words, is refused: those before it are accepted, with no reader
+-- of theirs failing, and those behind it are untouched.
 pub record IsFirstRefused {S : Type 0} (place_of : ℕ → Place) (IsGood : Reader S → Type 0)
     (IsRefused : Reader S → Why → Type 0) (inputs : List (Reader S)) (at : Place) (why : Why) : Type 0 where
   pub number : ℕ
   pub at_is : at ≡ place_of number
   pub before : AllByRecursion IsGood (take number inputs)
+  pub unfailed : EachUnfailed (take number inputs)
   pub input : Reader S
   pub input_is : slice_get inputs number ≡ Some input
   pub refused : IsRefused input why
   pub behind : EachUntouched (drop (number + 1) inputs)
 
--- The first input of a command is refused, and what is behind it is untouched; or it is the text of a content, and
--- behind it this one is refused.
+-- The first input of a command is refused, and what is behind it is untouched; or it is the text of a content, its
+-- reader does not fail, and behind it this one is refused.
 abbrev pub IsRefusedInOrder : {S : Type 0} → Reader S → Type 0 → (Place → Why → Type 0) → Place → Why → Type 0
 IsRefusedInOrder input Untouched IsRefusedBehind at why =
     (IsRefusedArchive 0 input at why × Untouched)
-    ⊎ (IsArchive input × IsRefusedBehind at why)
+    ⊎ (IsArchive input × Unfailed input × IsRefusedBehind at why)
 
 -- The fault is that of an input, of which this holds, or want of memory, where this does.
 abbrev pub IsRefusal : (Place → Why → Type 0) → Type 0 → CommandFault → Type 0
