@@ -2,6 +2,7 @@
 //!
 //! - `faults`: how a command ends, and why one is refused;
 //! - `texts`: the printed texts of faults;
+//! - `failures`: the line that the program says where it fails;
 //! - `rows`: keys, digests and the rows of reports;
 //! - `report`: reports, made whole in memory;
 //! - `finds`: the lines of `find`;
@@ -10,6 +11,7 @@
 #![tactic(auto)]
 
 mod answers;
+mod failures;
 mod faults;
 mod finds;
 pub mod laws;
@@ -18,6 +20,7 @@ mod rows;
 mod texts;
 
 pub use answers::{Address, Escaped, push_answer};
+pub use failures::Failure;
 pub use faults::{CannotCreate, CannotOpen, CommandFault, Place, Status, Why};
 pub use finds::find_lines;
 pub use report::{admit_lines, apply_line, retire_line, with_sizes};

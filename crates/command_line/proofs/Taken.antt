@@ -137,8 +137,7 @@ each_spelled : {X : Type 0} (form : Text → Option X) (words : List Text) → s
 each_spelled form [] has = ([], refl)
 each_spelled form (word ∷ words) has =
     let x = some_of (form word) (both _ _ has).0 in
-    let xs = each_spelled form words (both (is_some (form word)) _ has).1 in
-    (
+    let xs = each_spelled form words (both (is_some (form word)) _ has).1 in (
       x.0 ∷ xs.0,
       ap (option_and_then (λ y. option_map (λ ys. y ∷ ys) (all_spelled form words))) x.1
           ∙ ap (option_map (λ ys. x.0 ∷ ys)) xs.1,
@@ -358,12 +357,12 @@ asks name rules =
     if bytes_eq name (codes "new") then asks_new rules
     else if bytes_eq name (codes "admit") then asks_with (requires (codes "FILE") rules) rules
     else if bytes_eq name (codes "retire")
-        then asks_with (asks_uuid (codes "ARCH") (requires (codes "DIGEST") rules) rules) rules
+    then asks_with (asks_uuid (codes "ARCH") (requires (codes "DIGEST") rules) rules) rules
     else if bytes_eq name (codes "merge") then asks_with (requires (codes "FILE") rules) rules
     else if bytes_eq name (codes "apply") then asks_with (requires (codes "OPS") rules) rules
     else if bytes_eq name (codes "find") then asks_uuid (codes "ARCHIVE") true rules
     else if bytes_eq name (codes "symbolicate")
-        then asks_uuid (codes "ARCHIVE") (requires (codes "ARCH") rules && requires (codes "ADDRESS") rules) rules
+    then asks_uuid (codes "ARCHIVE") (requires (codes "ARCH") rules && requires (codes "ADDRESS") rules) rules
     else false
 
 chosen : (b p q : Bool) (x y : Option Line) → (p ≡ true → IsSome x) → (q ≡ true → IsSome y)

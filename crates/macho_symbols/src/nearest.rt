@@ -31,7 +31,7 @@ impl<'a> Scan<'a> {
     ) -> Option<Candidate>
         ensures { option_map (tuple_of (strings_of self.now)) result
             ≡ better self.now address (option_map (tuple_of (strings_of self.now)) best)
-                (tuple_of (strings_of self.now) candidate) }
+            (tuple_of (strings_of self.now) candidate) }
     {
         if !self.can_stand_for(&candidate, address) {
             return best;

@@ -2,7 +2,7 @@
 
 use crate::ends::{End, Left, refused_status};
 use archive_core::Digest;
-use archive_lines::Text;
+use archive_lines::{Failure, Text};
 use command_line::LineFault;
 use memory::NoMemory;
 use sha2::{Digest as _, Sha256};
@@ -32,7 +32,8 @@ fn tell_end(end: End, told: &mut String) -> Result<(), NoMemory> {
         End::Done(_) | End::Fault(_) => writeln!(told, "  {end}"),
         End::Refused(fault) => {
             let status = refused_status(fault);
-            writeln!(told, "  symarch: {fault}\n  status {status}")
+            let failure = Failure::from(fault);
+            writeln!(told, "  {failure}\n  status {status}")
         }
     }
 }

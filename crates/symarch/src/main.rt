@@ -4,10 +4,8 @@
 //! print is that of `archive_lines`. `archive_files` stands over the file system, and `run` puts them together.
 #![tactic(auto)]
 
-mod failures;
 mod run;
 
-pub use failures::Failure;
 use std::process::ExitCode;
 
 fn main(rt: HostRuntime) -> ExitCode {

@@ -1,6 +1,6 @@
 //! What the program says on standard error.
 
-use archive_lines::{CannotCreate, CommandFault};
+use crate::{CannotCreate, CommandFault};
 use memory::NoMemory;
 use thiserror::Error;
 
@@ -18,7 +18,7 @@ pub enum Failure {
 impl From<NoMemory> for Failure {
     ghost use Rattle.std.specs.Prelude.{◌≡◌};
     ghost use Rattle.archive_lines.specs.declared.faults.CommandFault.TheVariants.{OutOfMemory};
-    ghost use Rattle.symarch.specs.declared.failures.Failure.TheVariants.{Command};
+    ghost use Rattle.archive_lines.specs.declared.failures.Failure.TheVariants.{Command};
 
     ghost from_gives = { λ _ failure. failure ≡ Command OutOfMemory };
 
