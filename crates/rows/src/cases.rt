@@ -37,9 +37,9 @@
 //!   else `covered`; then `2 records`;
 //! - `join ARCHIVE OTHER`: an archive before and after it is joined with another: `2 records, all of the other: no`.
 //!
-//! A case that is neither held nor a sweep's is carried out again with inputs in pieces of 1 and of 7 bytes. A report of
-//! more than 40 lines is told as their number and the SHA-256 of all: `5000 lines SHA256`. What contradicts itself is
-//! told in a line that has the word `WRONG`.
+//! A case that is not swept is carried out again with inputs in pieces of 1 and of 7 bytes. A report of more than 40
+//! lines is told as their number and the SHA-256 of all: `5000 lines SHA256`. What contradicts itself is told in a line
+//! that has the word `WRONG`.
 
 use crate::calls::Task;
 use crate::commands::out_of;
