@@ -118,7 +118,7 @@ pub fn join_gives_union<A: Archive>()
 
 /// An operation changes a content just where the content with it is another one.
 pub fn unchanged_is_the_same()
-    ensures { (o : Operations) (r : List ℕ) → IsContent o → (changes o r ≡ false) ↔ (with_record o r ≡ o) }
+    ensures { (o : Operations) (r : List ℕ) → IsMade o → (changes o r ≡ false) ↔ (with_record o r ≡ o) }
 {}
 
 /// The same operations, taken in any order and with any repeats, give one content: the join with
