@@ -5,11 +5,12 @@ use Rattle.std.specs.List.{AllByRecursion}
 use Rattle.byte_device.specs.Devices.{FailedIn}
 use Rattle.archive_core.specs.Content.{Operations, IsContent}
 use Rattle.archive_records.specs.Text.{written}
-use Rattle.archive_records.specs.Fault.{IsFault, IsOperationsFault}
-use Rattle.archive_records.specs.Front.{IsLongestLength, IsLongestLengthOf}
+use Rattle.archive_records.specs.Fault.{IsFaultOf}
+use Rattle.archive_records.specs.Front.{IsLongestLengthOf}
 use Rattle.archive_records.specs.declared.fault.RecordFault.{RecordFault}
 use Rattle.archive_records.specs.declared.fault.RecordFaultKind.TheVariants.{Device, OutOfMemory as RecordOutOfMemory}
-use Rattle.archive_records.specs.declared.kind.FileKind.TheVariants.{Operations as OperationsFile}
+use Rattle.archive_records.specs.declared.kind.FileKind.{FileKind}
+use Rattle.archive_records.specs.declared.kind.FileKind.TheVariants.{Archive as ArchiveFile, Operations as OperationsFile}
 use Rattle.archive_exchange.specs.File.{IsAcceptedFile, IsTakeFault}
 use Rattle.archive_exchange.specs.declared.fault.TakeFault.{TakeFault}
 use Rattle.archive_exchange.specs.declared.fault.TakeFault.TheVariants.{OutOfMemory as TakeOutOfMemory}
@@ -80,24 +81,23 @@ FailedBehind IsOffsetOf input offset =
     × (bytes : List ℕ) × Consumes (left_of input.left input.old) (left_of input.left input.new) bytes
     × IsOffsetOf bytes offset
 
--- why an archive is not read: it was not opened, its text has this fault, or the reader failed; the offset is then the
--- length of the longest good front of what came
-abbrev pub IsArchiveRefused : {S : Type 0} → Reader S → Why → Type 0
-IsArchiveRefused input why =
+-- why the text of such a file is not read: it was not opened, it has this fault, or the reader failed; the offset is then
+-- the length of the longest good front of what came
+abbrev pub IsTextRefused : {S : Type 0} → FileKind → Reader S → Why → Type 0
+IsTextRefused kind input why =
     MatchResult input.old
     (λ source. (fault : RecordFault) × (why ≡ Record fault) × (fault.kind ≢ RecordOutOfMemory)
-    × (fault.kind ≢ Device → IfSome (input.left source) (λ text. IsFault text fault))
-    × (fault.kind ≡ Device → FailedBehind IsLongestLength input fault.offset))
+    × (fault.kind ≢ Device → IfSome (input.left source) (λ text. IsFaultOf kind text fault))
+    × (fault.kind ≡ Device → FailedBehind (IsLongestLengthOf kind) input fault.offset))
     (λ _. why ≡ NotOpened)
 
--- why an operations file is not applied, likewise
+-- why an archive is not read
+abbrev pub IsArchiveRefused : {S : Type 0} → Reader S → Why → Type 0
+IsArchiveRefused input why = IsTextRefused ArchiveFile input why
+
+-- why an operations file is not applied
 abbrev pub IsOpsRefused : {S : Type 0} → Reader S → Why → Type 0
-IsOpsRefused input why =
-    MatchResult input.old
-    (λ source. (fault : RecordFault) × (why ≡ Record fault) × (fault.kind ≢ RecordOutOfMemory)
-    × (fault.kind ≢ Device → IfSome (input.left source) (λ text. IsOperationsFault text fault))
-    × (fault.kind ≡ Device → FailedBehind (IsLongestLengthOf OperationsFile) input fault.offset))
-    (λ _. why ≡ NotOpened)
+IsOpsRefused input why = IsTextRefused OperationsFile input why
 
 -- why a file is not taken: it was not opened, the reader failed, or its bytes have this fault
 abbrev pub IsFileRefused : {S : Type 0} → Reader S → Why → Type 0
