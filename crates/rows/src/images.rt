@@ -25,6 +25,9 @@ pub fn tell_fat(file: &[u8], told: &mut String) -> Result<(), CallFault> {
         let digest = Text(Digest(Sha256::digest(slice)));
         writeln!(told, "slice {place}: {len} bytes {digest}")?;
     }
+    if universal.is_empty() != (universal.len() == 0) {
+        writeln!(told, "WRONG: it is said to be empty")?;
+    }
     Ok(())
 }
 
@@ -85,8 +88,25 @@ fn tell_sections(image: &Image, told: &mut String) -> Result<(), NoMemory> {
     for section in image.sections() {
         number = number.saturating_add(1);
         tell_section(number, section, told)?;
+        tell_by_number(image, number, Some(section), told)?;
     }
-    Ok(())
+    tell_by_number(image, 0, None, told)?;
+    tell_by_number(image, number.saturating_add(1), None, told)
+}
+
+// Tells where a number stands for another section. It is one byte, and a greater one stands for none.
+fn tell_by_number(
+    image: &Image,
+    number: u32,
+    section: Option<Section>,
+    told: &mut String,
+) -> Result<(), NoMemory> {
+    match u8::try_from(number) {
+        Ok(number) if image.section(number) != section => {
+            writeln!(told, "WRONG: section {number} is another one")
+        }
+        _ => Ok(()),
+    }
 }
 
 fn tell_section(number: u32, section: Section, told: &mut String) -> Result<(), NoMemory> {
