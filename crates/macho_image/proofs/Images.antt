@@ -8,7 +8,8 @@ use Rattle.std.proofs.lemmas.Bool.Decides.{nat_tests}
 use Rattle.macho_image.specs.Layout.{u32_at, ncmds, command_bytes}
 use Rattle.macho_image.specs.Commands.{IsCommand, IsFront, first_commands, commands, is_uuid, HasNoCommand}
 use Rattle.macho_image.specs.Fault.{header_fault, IsFirstFault, AreCommands, IsImageFault}
-use Rattle.macho_image.specs.Contents.{uuid_bytes, uuid_among, symtab_among, IsSurveyed, IsRead}
+use Rattle.macho_image.specs.Contents.{uuid_bytes, uuid_among, symtab_among}
+use Rattle.macho_image.specs.Inner.{AreContents, IsRead}
 use Rattle.macho_image.specs.declared.fault.ImageFault.{ImageFault}
 use Rattle.macho_image.specs.declared.fault.ImageFault.TheVariants.{NoUuid}
 use Rattle.macho_image.specs.declared.symtab_command.Symtab.{Symtab}
@@ -81,23 +82,23 @@ module _ (bytes area : List ℕ) (count : ℕ) (header : header_fault bytes ≡ 
   pub faulty_walk : (fault : ImageFault) → IsFirstFault area count fault → IsImageFault bytes fault
   faulty_walk fault first = inr (inl (header, rw (place, number) at first))
 
-  module _ (uuid : Option (List ℕ)) (symtab : Option Symtab) (surveyed : IsSurveyed area count uuid symtab) where
-    here : AreCommands (command_bytes bytes) (ncmds bytes) surveyed.commands
-    here = rw (place, number) at surveyed.sound
+  module _ (uuid : Option (List ℕ)) (symtab : Option Symtab) (read : AreContents area count uuid symtab) where
+    here : AreCommands (command_bytes bytes) (ncmds bytes) read.commands
+    here = rw (place, number) at read.sound
 
     -- as is the lack of a UUID
     pub no_uuid_walk : uuid ≡ None → IsImageFault bytes NoUuid
     no_uuid_walk none =
-        inr (inr (header, refl, surveyed.commands, here, sym (is_some-found uuid_bytes is_uuid surveyed.commands) ∙ ap is_some (sym surveyed.uuid_is ∙ none)))
+        inr (inr (header, refl, read.commands, here, sym (is_some-found uuid_bytes is_uuid read.commands) ∙ ap is_some (sym read.uuid_is ∙ none)))
 
     -- and what the walk found is what the image says
     pub sound_walk : (found : List ℕ) → uuid ≡ Some found → IsRead bytes found symtab
     sound_walk found u =
-        let all : commands bytes ≡ surveyed.commands = first_commands-front (ncmds bytes) (command_bytes bytes) surveyed.commands here.1 in
-        let first : Some found ≡ uuid_among surveyed.commands = sym u ∙ surveyed.uuid_is in
+        let all : commands bytes ≡ read.commands = first_commands-front (ncmds bytes) (command_bytes bytes) read.commands here.1 in
+        let first : Some found ≡ uuid_among read.commands = sym u ∙ read.uuid_is in
         record {
-          sound = record { header = header; commands = surveyed.commands; sound = here; has_uuid = sym (is_some-found uuid_bytes is_uuid surveyed.commands) ∙ ap is_some (sym first) };
-          room = rw all surveyed.room;
+          sound = record { header = header; commands = read.commands; sound = here; has_uuid = sym (is_some-found uuid_bytes is_uuid read.commands) ∙ ap is_some (sym first) };
+          room = rw all read.room;
           uuid_is = ap (λ o. unwrap_or o []) first ∙ ap (λ xs. unwrap_or (uuid_among xs) []) (sym all);
-          symtab_is = surveyed.symtab_is ∙ ap symtab_among (sym all);
+          symtab_is = read.symtab_is ∙ ap symtab_among (sym all);
         }

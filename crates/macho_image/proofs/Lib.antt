@@ -1,9 +1,12 @@
 pub mod Fronts
+pub mod CommandFaults
 pub mod Walk
 pub mod Images
 pub mod FaultLemmas
 pub mod Existence
 pub mod SectionLemmas
+pub mod KindLemmas
 pub mod SectionPlaces
 pub mod Room
 pub mod Told
+pub mod Standing

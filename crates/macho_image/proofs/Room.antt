@@ -1,10 +1,12 @@
 -- Commands and sections have room in an image, so there are not too many of them.
-use Rattle.std.proofs.Common.{◌≡◌, ℕ, zero, suc, ◌*◌, ◌≤◌, Bool, true, false, cond, nat_le, ◌&&◌, List, [], ◌∷◌, ◌++◌, length, take, drop, filter, refl, arith, length-append, length-drop, length-take}
-use Rattle.std.specs.List.{concat, AllByRecursion, flat_map}
+use Rattle.std.proofs.Common.{◌≡◌, ℕ, zero, suc, ◌+◌, ◌*◌, ◌≤◌, Bool, true, false, cond, nat_le, ◌&&◌, List, [], ◌∷◌, ◌++◌, length, take, drop, refl, arith, length-append, length-drop, length-take}
+use Rattle.std.specs.List.{concat, AllByRecursion, filter_map, flat_map}
 use Rattle.macho_image.specs.Layout.{u32_at, command_bytes, ncmds}
-use Rattle.macho_image.specs.Commands.{HasRoom, is_segment, first_commands, commands}
+use Rattle.macho_image.specs.Commands.{SegmentRecord, HasRoom, is_segment, first_commands, commands}
+use Rattle.macho_image.specs.Kinds.{load_commands_from, segment_of}
 use Rattle.macho_image.specs.Sections.{sections_in, sections}
 use Rattle.macho_image.proofs.Images.{high_of}
+use Rattle.macho_image.proofs.KindLemmas.{segments-cons}
 use Rattle.macho_image.proofs.SectionPlaces.{length-sections_in}
 
 -- the commands that are cut from bytes are no longer than these
@@ -22,15 +24,18 @@ length-first_commands (suc count) area = by_test (nat_le 8 (u32_at area 4) && na
         omega (arith, below, length-append (take (u32_at area 4) area) (concat (first_commands count (drop (u32_at area 4) area))), length-take (u32_at area 4) area, length-drop (u32_at area 4) area)
 
 -- sections have room in their commands
-sections_fit : (cs : List (List ℕ)) → AllByRecursion HasRoom cs → 80 * length (flat_map sections_in (filter is_segment cs)) ≤ length (concat cs)
-sections_fit [] h = omega arith
-sections_fit (c ∷ cs) h = by_kind (is_segment c) refl (sections_fit cs h.1)
+sections_fit : (place : ℕ) (cs : List (List ℕ)) → AllByRecursion HasRoom cs → 80 * length (flat_map sections_in (filter_map segment_of (load_commands_from place cs))) ≤ length (concat cs)
+unfolding load_commands_from
+sections_fit place [] h = omega arith
+sections_fit place (c ∷ cs) h =
+    rw (segments-cons place c cs) (by_kind (is_segment c) refl (filter_map segment_of (load_commands_from (place + length c) cs)) (sections_fit (place + length c) cs h.1))
   where
-    by_kind : (b : Bool) → is_segment c ≡ b → 80 * length (flat_map sections_in (filter is_segment cs)) ≤ length (concat cs)
-        → 80 * length (flat_map sections_in (cond b (c ∷ filter is_segment cs) (filter is_segment cs))) ≤ length (c ++ concat cs)
-    by_kind false e below = omega (arith, below, length-append c (concat cs))
-    by_kind true e below =
-        omega (arith, below, h.0.sections e, length-sections_in c, length-append c (concat cs), length-append (sections_in c) (flat_map sections_in (filter is_segment cs)))
+    by_kind : (b : Bool) → is_segment c ≡ b → (rest : List SegmentRecord) → 80 * length (flat_map sections_in rest) ≤ length (concat cs)
+        → 80 * length (flat_map sections_in (cond b (record { place = place; bytes = c } ∷ rest) rest)) ≤ length (c ++ concat cs)
+    by_kind false e rest below = omega (arith, below, length-append c (concat cs))
+    by_kind true e rest below =
+        let segment : SegmentRecord = record { place = place; bytes = c } in
+        omega (arith, below, h.0.sections e, length-sections_in segment, length-append c (concat cs), length-append (sections_in segment) (flat_map sections_in rest))
 
 -- each command has eight bytes
 commands_fit : (cs : List (List ℕ)) → AllByRecursion HasRoom cs → 8 * length cs ≤ length (concat cs)
@@ -47,4 +52,4 @@ length-commands image room =
 pub length-sections : (image : List ℕ) → AllByRecursion HasRoom (commands image) → 80 * length (sections image) ≤ length image
 unfolding sections
 length-sections image room =
-    omega (arith, sections_fit (commands image) room, length-first_commands (ncmds image) (command_bytes image), length-area image)
+    omega (arith, sections_fit 32 (commands image) room, length-first_commands (ncmds image) (command_bytes image), length-area image)

@@ -8,23 +8,16 @@ use Rattle.std.proofs.lemmas.List.{append-nil}
 use Rattle.std.proofs.lemmas.List.Folds.{concat-append}
 use Rattle.std.proofs.lemmas.Bool.Decides.{nat_tests}
 use Rattle.macho_image.specs.Layout.{magic, sizeofcmds, ncmds, command_bytes}
-use Rattle.macho_image.specs.Commands.{IsCommand, IsFront, commands, is_segment, is_uuid, is_symtab, nsects}
+use Rattle.macho_image.specs.Commands.{IsCommand, IsFront, HasRoom, commands, is_uuid, is_symtab}
 use Rattle.macho_image.specs.Fault.{header_fault, command_fault, IsImage}
 use Rattle.macho_image.specs.Contents.{uuid_bytes, uuid_of, symtab_fields, symtab_of}
 use Rattle.macho_image.specs.declared.fault.ImageFault.{ImageFault}
+use Rattle.macho_image.proofs.CommandFaults.{not_taken, not_below, passes_tests, room_of}
 use Rattle.macho_image.proofs.Images.{first_commands-front}
-
--- a choice that gives nothing did not take the fault
-not_taken : {A : Type 0} (b : Bool) (fault : A) (o : Option A) → cond b (Some fault) o ≡ None → (b ≡ false) × (o ≡ None)
-not_taken true fault o h = absurd (none-some fault (sym h))
-not_taken false fault o h = (refl, h)
 
 not_untaken : {A : Type 0} (b : Bool) (fault : A) (o : Option A) → cond b o (Some fault) ≡ None → (b ≡ true) × (o ≡ None)
 not_untaken true fault o h = (refl, h)
 not_untaken false fault o h = absurd (none-some fault (sym h))
-
-not_below : (a b : ℕ) → nat_lt a b ≡ false → b ≤ a
-not_below a b h = grind (arith, nat_tests)
 
 -- bytes without a fault in the header are at least as long as it and the commands, and not too long
 pub record HasHeader (bytes : List ℕ) : Type 0 where
@@ -85,13 +78,6 @@ command_fault-image image sound before after command split = none_of (command_fa
     none_of None e = e
     none_of (Some fault) e = absurd (sound.sound.0 (length before) below fault (inr (before, command, front_to (command_bytes image) (ncmds image) before after command front, e)))
 
--- an LC_UUID without a fault has room for the UUID
-pub uuid_fits : (place : ℕ) (has_uuid has_symtab : Bool) (command : List ℕ) → is_uuid command ≡ true → command_fault place has_uuid has_symtab command ≡ None → 24 ≤ length command
-uuid_fits place has_uuid has_symtab command uuid fine =
-    let first = not_taken (is_segment command && nat_lt (length command) (72 + 80 * nsects command)) _ _ fine in
-    let second = not_taken (is_uuid command && nat_lt (length command) 24) _ _ first.1 in
-    not_below _ _ (rw uuid at second.0)
-
 -- what passes first stands between others
 pub record FirstBetween (p : List ℕ → Bool) (xs : List (List ℕ)) : Type 0 where
   pub before : List (List ℕ)
@@ -119,7 +105,8 @@ pub uuid_of-length : (image : List ℕ) → IsImage image → length (uuid_of im
 uuid_of-length image sound =
     let same : sound.commands ≡ commands image = sym (first_commands-front (ncmds image) (command_bytes image) sound.commands sound.sound.1) in
     let first = first_between is_uuid (commands image) (rw same at sound.has_uuid) in
-    let long : 24 ≤ length first.command = uuid_fits _ _ _ first.command first.passes (command_fault-image image sound first.before first.after first.command first.split) in
+    let fine = command_fault-image image sound first.before first.after first.command first.split in
+    let long : 24 ≤ length first.command = not_below _ _ (rw first.passes at (passes_tests _ _ _ first.command fine).uuid) in
     rw first.found (simp (length-take, length-drop) (omega arith))
 
 -- what a list contains stands between others
@@ -144,32 +131,34 @@ find_behind p (y ∷ before) after x none passes =
         true_false : true ≡ false → ⊥
         true_false e = cc
 
--- no LC_UUID stands behind another, and no LC_SYMTAB
-first_uuid : (place : ℕ) (has_uuid has_symtab : Bool) (command : List ℕ) → is_uuid command ≡ true → command_fault place has_uuid has_symtab command ≡ None → has_uuid ≡ false
-first_uuid place has_uuid has_symtab command uuid fine =
-    let first = not_taken (is_segment command && nat_lt (length command) (72 + 80 * nsects command)) _ _ fine in
-    let second = not_taken (is_uuid command && nat_lt (length command) 24) _ _ first.1 in
-    let third = not_taken (is_uuid command && has_uuid) _ _ second.1 in
-    rw uuid at third.0
-
-first_symtab : (place : ℕ) (has_uuid has_symtab : Bool) (command : List ℕ) → is_symtab command ≡ true → command_fault place has_uuid has_symtab command ≡ None → has_symtab ≡ false
-first_symtab place has_uuid has_symtab command symtab fine =
-    let first = not_taken (is_segment command && nat_lt (length command) (72 + 80 * nsects command)) _ _ fine in
-    let second = not_taken (is_uuid command && nat_lt (length command) 24) _ _ first.1 in
-    let third = not_taken (is_uuid command && has_uuid) _ _ second.1 in
-    let fourth = not_taken (is_symtab command && nat_lt (length command) 24) _ _ third.1 in
-    let fifth = not_taken (is_symtab command && has_symtab) _ _ fourth.1 in
-    rw symtab at fifth.0
-
 -- so the UUID of an image is that of any LC_UUID in it, and likewise the symbol table
 pub uuid_of-any : (image command : List ℕ) → IsImage image → Contains (commands image) command → is_uuid command ≡ true → uuid_of image ≡ uuid_bytes command
 uuid_of-any image command sound contained uuid =
     let split = split_contained (commands image) command contained.0 contained.1 contained.2 in
-    let alone = first_uuid _ _ _ command uuid (command_fault-image image sound split.0 split.1 command split.2) in
+    let passes = passes_tests _ _ _ command (command_fault-image image sound split.0 split.1 command split.2) in
+    let alone : list_any is_uuid split.0 ≡ false = rw uuid at passes.one_uuid in
     ap (λ o. unwrap_or (option_map uuid_bytes o) []) (ap (find is_uuid) split.2 ∙ find_behind is_uuid split.0 split.1 command alone uuid)
 
 pub symtab_of-any : (image command : List ℕ) → IsImage image → Contains (commands image) command → is_symtab command ≡ true → symtab_of image ≡ Some (symtab_fields command)
 symtab_of-any image command sound contained symtab =
     let split = split_contained (commands image) command contained.0 contained.1 contained.2 in
-    let alone = first_symtab _ _ _ command symtab (command_fault-image image sound split.0 split.1 command split.2) in
+    let passes = passes_tests _ _ _ command (command_fault-image image sound split.0 split.1 command split.2) in
+    let alone : list_any is_symtab split.0 ≡ false = rw symtab at passes.one_symtab in
     ap (λ o. option_map symtab_fields o) (ap (find is_symtab) split.2 ∙ find_behind is_symtab split.0 split.1 command alone symtab)
+
+-- each command of an image has room for what its kind holds
+pub commands-room : (image : List ℕ) → IsImage image → AllByRecursion HasRoom (commands image)
+commands-room image sound = each_room [] (commands image) refl whole
+  where
+    same : sound.commands ≡ commands image
+    same = sym (first_commands-front (ncmds image) (command_bytes image) sound.commands sound.sound.1)
+
+    whole : AllByRecursion IsCommand (commands image)
+    whole = rw same at sound.sound.1.each
+
+    each_room : (before after : List (List ℕ)) → commands image ≡ before ++ after → AllByRecursion IsCommand after → AllByRecursion HasRoom after
+    each_room before [] split h = tt
+    each_room before (command ∷ after) split h = (
+      room_of _ _ _ command h.0.long (command_fault-image image sound before after command split),
+      each_room (before ++ command ∷ []) after (split ∙ sym (append_assoc before (command ∷ []) after)) h.1,
+    )

@@ -6,11 +6,13 @@ use Rattle.std.proofs.lemmas.List.{append-nil}
 use Rattle.std.proofs.lemmas.List.Folds.{concat-append, find-append}
 use Rattle.macho_image.specs.Commands.{IsCommand, IsFront, HasNoCommand, HasRoom, is_segment, nsects, is_uuid, is_symtab}
 use Rattle.macho_image.specs.Fault.{command_fault, IsFaultAt, NoneBelow, IsFirstFault}
-use Rattle.macho_image.specs.Contents.{uuid_bytes, symtab_fields, uuid_among, symtab_among, IsSurveyed}
+use Rattle.macho_image.specs.Contents.{uuid_bytes, symtab_fields, uuid_among, symtab_among}
+use Rattle.macho_image.specs.Inner.{AreContents}
 use Rattle.macho_image.specs.declared.fault.ImageFault.{ImageFault}
 use Rattle.macho_image.specs.declared.fault.ImageFault.TheVariants.{BadCommand}
 use Rattle.macho_image.specs.declared.symtab_command.Symtab.{Symtab}
 use Rattle.macho_image.proofs.Fronts.{fronts_agree, one_front}
+use Rattle.macho_image.proofs.CommandFaults.{room_of}
 use Rattle.std.proofs.lemmas.Option.{none-some}
 use Rattle.std.proofs.lemmas.Bool.Decides.{nat_tests}
 
@@ -44,14 +46,6 @@ found-append f p xs ys = ap (option_map f) (find-append p xs ys) ∙ elim (find 
 each_more : (P : List ℕ → Type 0) (xs : List (List ℕ)) (x : List ℕ) → AllByRecursion P xs → P x → AllByRecursion P (xs ++ x ∷ [])
 each_more P [] x h p = (p, tt)
 each_more P (y ∷ xs) x h p = (h.0, each_more P xs x h.1 p)
-
--- a command without a fault has room for its sections
-room_of : (i : ℕ) (u s : Bool) (command : List ℕ) → 8 ≤ length command → command_fault i u s command ≡ None → HasRoom command
-room_of i u s command long fine = record { long = long; sections = λ segment. short segment (nat_lt (length command) (72 + 80 * nsects command)) refl }
-  where
-    short : is_segment command ≡ true → (b : Bool) → nat_lt (length command) (72 + 80 * nsects command) ≡ b → 72 + 80 * nsects command ≤ length command
-    short segment false h = grind (arith, nat_tests)
-    short segment true h = absurd (none-some _ (sym (rw (segment, h) at fine)))
 
 -- the last one of a list
 pub last_same : (xs ys : List (List ℕ)) (x y : List ℕ) → length xs ≡ length ys → xs ++ x ∷ [] ≡ ys ++ y ∷ [] → (xs ≡ ys) × (x ≡ y)
@@ -149,7 +143,7 @@ pub reached_start : (area : List ℕ) → Reached area 0 area None None
 reached_start area = record { before = []; number = refl; each = tt; room = tt; begins = refl; fine = λ j h. absurd (omega arith); uuid_is = refl; symtab_is = refl }
 
 -- at the end, these are all commands
-pub reached_all : (area : List ℕ) (place count : ℕ) (rest : List ℕ) (uuid : Option (List ℕ)) (symtab : Option Symtab) → Reached area place rest uuid symtab → place ≡ count → IsSurveyed area count uuid symtab
+pub reached_all : (area : List ℕ) (place count : ℕ) (rest : List ℕ) (uuid : Option (List ℕ)) (symtab : Option Symtab) → Reached area place rest uuid symtab → place ≡ count → AreContents area count uuid symtab
 reached_all area place count rest uuid symtab reached e =
     let all : Reached area count rest uuid symtab = subst (λ n. Reached area n rest uuid symtab) e reached in
     record {

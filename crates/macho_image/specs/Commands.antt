@@ -39,10 +39,18 @@ is_symtab command = u32_at command 0 == 0x2
 abbrev pub nsects : List ℕ → ℕ
 nsects segment = u32_at segment 64
 
--- a command has its eight bytes, and a segment_command_64 (72 bytes) each section_64 (80 bytes) behind it
+-- a segment_command_64 with the sections behind it: its place in the image, in bytes from the start, and its bytes
+pub record SegmentRecord : Type 0 where
+  pub place : ℕ
+  pub bytes : List ℕ
+
+-- a command has its eight bytes, a segment_command_64 (72 bytes) each section_64 (80 bytes) behind it, and a uuid_command
+-- and a symtab_command their twenty-four
 pub record HasRoom (command : List ℕ) : Type 0 where
   pub long : 8 ≤ length command
   pub sections : is_segment command ≡ true → 72 + 80 * nsects command ≤ length command
+  pub uuid : is_uuid command ≡ true → 24 ≤ length command
+  pub symtab : is_symtab command ≡ true → 24 ≤ length command
 
 -- the commands that begin the bytes, at most so many; laws.one_front says that they are the front, where there is one
 unfoldable pub first_commands : ℕ → List ℕ → List (List ℕ)

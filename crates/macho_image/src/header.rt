@@ -5,17 +5,11 @@ ghost use Rattle.macho_image.specs.Layout.{cputype, cpusubtype, filetype, ncmds,
 ghost use Rattle.macho_image.specs.Fault.{header_fault};
 
 use crate::fault::ImageFault;
+use crate::loader::{MACH_HEADER_64_LEN, MH_MAGIC_64};
 use crate::number::number32;
-
-const MH_MAGIC_64: u32 = 0xfeed_facf;
-
-/// A file type: a companion with debug information, and no contents for most sections.
-pub(crate) const MH_DSYM: u32 = 0xa;
 
 /// The bits of `cpusubtype` that tell capabilities (mach/machine.h).
 pub(crate) const CPU_SUBTYPE_MASK: u32 = 0xff00_0000;
-
-const HEADER_LEN: usize = 32;
 
 /// `cputype`.
 pub(crate) fn cputype(image: &[u8]) -> u32
@@ -62,7 +56,7 @@ pub(crate) fn command_bytes(image: &[u8]) -> &[u8]
     requires { 32 + sizeofcmds image.now ≤ length image.now }
     ensures { result.now ≡ command_bytes image.now }
 {
-    &image[HEADER_LEN..][..sizeofcmds(image) as usize]
+    &image[MACH_HEADER_64_LEN..][..sizeofcmds(image) as usize]
 }
 
 /// Whether the bytes begin with a header and have room for the load commands behind it.
@@ -76,10 +70,10 @@ pub(crate) fn check_header(bytes: &[u8]) -> Result<(), ImageFault>
     if !bytes.starts_with(&MH_MAGIC_64.to_le_bytes()) {
         return Err(ImageFault::NotMachO64);
     }
-    if bytes.len() < HEADER_LEN {
+    if bytes.len() < MACH_HEADER_64_LEN {
         return Err(ImageFault::HeaderTruncated);
     }
-    if bytes.len() < HEADER_LEN + sizeofcmds(bytes) as usize {
+    if bytes.len() < MACH_HEADER_64_LEN + sizeofcmds(bytes) as usize {
         return Err(ImageFault::CommandsOutside);
     }
     Ok(())

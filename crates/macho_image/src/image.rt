@@ -4,18 +4,21 @@ ghost use Rattle.std.specs.Prelude.{◌≡◌, ◌*◌, ◌^◌, ◌≤◌, ◌<
 ghost use Rattle.std.specs.List.{AllByRecursion};
 ghost use Rattle.std.specs.Option.{option_map};
 ghost use Rattle.macho_image.specs.Commands.{commands, HasRoom};
+ghost use Rattle.macho_image.specs.Kinds.{load_commands};
 ghost use Rattle.macho_image.specs.Contents.{uuid_of, symtab_of, arch_of, is_dsym_image};
 ghost use Rattle.macho_image.specs.Fault.{IsImageFault, IsImage};
 ghost use Rattle.macho_image.specs.Sections.{sections, section_of, text_base_of};
 
+use crate::contents::read_contents;
 use crate::fault::ImageFault;
 use crate::header::{
-    CPU_SUBTYPE_MASK, MH_DSYM, check_header, command_bytes, cpusubtype, cputype, filetype, ncmds,
+    CPU_SUBTYPE_MASK, check_header, command_bytes, cpusubtype, cputype, filetype, ncmds,
 };
-use crate::load_command::LoadCommands;
+use crate::load_command::LoadCommand;
+use crate::load_commands::LoadCommands;
+use crate::loader::{MACH_HEADER_64_LEN, MH_DSYM};
 use crate::section::Section;
-use crate::segment::{Sections, is_text, vmaddr};
-use crate::survey::survey;
+use crate::sections::Sections;
 use crate::symtab_command::Symtab;
 use std::marker::Model;
 use uuid::Uuid;
@@ -30,7 +33,7 @@ pub struct Image<'a> {
 
 impl<'a> Model for Image<'a> {
     ghost use Rattle.std.specs.Prelude.{ℕ, List};
-    ghost use Rattle.macho_image.specs.Contents.{IsRead};
+    ghost use Rattle.macho_image.specs.Inner.{IsRead};
 
     ghost Value = { List ℕ };
 
@@ -51,14 +54,18 @@ impl<'a> Image<'a> {
         ensures bytes { IfOk result (λ image. image ≡ bytes.now) }
     {
         check_header(bytes)?;
-        let found = survey(command_bytes(bytes), ncmds(bytes))?;
-        let Some(uuid) = found.uuid else {
+        let contents = read_contents(
+            command_bytes(bytes),
+            MACH_HEADER_64_LEN as u32,
+            ncmds(bytes),
+        )?;
+        let Some(uuid) = contents.uuid else {
             return Err(ImageFault::NoUuid);
         };
         Ok(Image {
             bytes,
             uuid,
-            symtab: found.symtab,
+            symtab: contents.symtab,
         })
     }
 
@@ -114,13 +121,17 @@ impl<'a> Image<'a> {
         self.symtab
     }
 
-    /// The load commands, in the order of the file. Each has at least its 8 bytes.
+    /// The load commands, in the order of the file. Each has room for what its kind holds.
     pub fn commands(&self) -> LoadCommands<'a>
-        ensures all { result ≡ commands self.now }
+        ensures all { result ≡ load_commands self.now }
         ensures room { AllByRecursion HasRoom (commands self.now) }
         ensures fit { 8 * length (commands self.now) ≤ length self.now }
     {
-        LoadCommands::new(command_bytes(self.bytes), ncmds(self.bytes))
+        LoadCommands::new(
+            MACH_HEADER_64_LEN as u32,
+            command_bytes(self.bytes),
+            ncmds(self.bytes),
+        )
     }
 
     /// The sections of all segments, in the order of the load commands. Each has its 80 bytes.
@@ -149,8 +160,10 @@ impl<'a> Image<'a> {
         ensures { result ≡ text_base_of self.now }
     {
         for command in self.commands() {
-            if is_text(command) {
-                return Some(vmaddr(command));
+            if let LoadCommand::Segment(segment) = command {
+                if segment.is_text() {
+                    return Some(segment.vmaddr());
+                }
             }
         }
         None

@@ -1,11 +1,12 @@
 //! What the definitions say of each other, for every list of bytes. Each law is the contract of a function
 //! that does nothing.
 
-ghost use Rattle.std.specs.Prelude.{◌≡◌, ◌+◌, ◌*◌, ◌<◌, ◌⊎◌, ℕ, List, true, Some, Contains, drop, length, slice_get};
-ghost use Rattle.macho_image.specs.Commands.{IsFront, first_commands, commands, is_uuid, is_symtab, nsects};
+ghost use Rattle.std.specs.Prelude.{◌≡◌, ◌+◌, ◌*◌, ◌<◌, ◌≤◌, ◌⊎◌, ℕ, List, true, Some, Contains, drop, take, length, slice_get};
+ghost use Rattle.macho_image.specs.Commands.{IsFront, SegmentRecord, first_commands, commands, is_uuid, is_symtab, nsects};
+ghost use Rattle.macho_image.specs.Kinds.{segments};
 ghost use Rattle.macho_image.specs.Contents.{uuid_bytes, uuid_of, symtab_fields, symtab_of};
 ghost use Rattle.macho_image.specs.Fault.{IsImageFault, IsImage};
-ghost use Rattle.macho_image.specs.Sections.{section_record, sections_in};
+ghost use Rattle.macho_image.specs.Sections.{SectionRecord, section_at, section_record, sections, sections_in};
 ghost use Rattle.macho_image.specs.declared.fault.ImageFault.{ImageFault};
 
 /// There is at most one front of a length, and it is what the definition cuts.
@@ -34,7 +35,17 @@ pub fn one_of_each()
 
 /// The sections of a segment stand behind its 72 bytes, as many as it says and 80 bytes apart.
 pub fn section_places()
-    ensures number { (segment : List ℕ) → length (sections_in segment) ≡ nsects segment }
-    ensures places { (segment : List ℕ) (i : ℕ) → i < nsects segment →
-        slice_get (sections_in segment) i ≡ Some (section_record (drop (72 + 80 * i) segment)) }
+    ensures number { (segment : SegmentRecord) → length (sections_in segment) ≡ nsects segment.bytes }
+    ensures places { (segment : SegmentRecord) (i : ℕ) → i < nsects segment.bytes →
+        slice_get (sections_in segment) i ≡ Some (section_record (segment.place + 72 + 80 * i) (drop (72 + 80 * i) segment.bytes)) }
+{}
+
+/// Each segment of an image stands there at its place, and so does each section.
+pub fn standing()
+    ensures segment { (image : List ℕ) (segment : SegmentRecord) → IsImage image → Contains (segments image) segment →
+        take (length segment.bytes) (drop segment.place image) ≡ segment.bytes }
+    ensures section { (image : List ℕ) (section : SectionRecord) → IsImage image → Contains (sections image) section →
+        section_at image section.place ≡ section }
+    ensures room { (image : List ℕ) (section : SectionRecord) → IsImage image → Contains (sections image) section →
+        section.place + 80 ≤ length image }
 {}

@@ -4,27 +4,33 @@
 //! `Image::read` says whether bytes are an image, and else what is wrong with them. An image borrows its
 //! bytes; no call takes memory. File ranges of segments, sections and symbols are not checked here.
 //!
-//! The modules in reading order, one structure each: `number` and `name`, `fault`, `header`, `load_command`,
-//! `uuid_command`, `symtab_command`, `segment`, `section`; then `survey`, the walk that tests the commands,
-//! `image`, and `laws`, what the definitions say of each other.
+//! The modules in reading order: `loader`, the constants; `number` and `name`; `fault`; then the structures,
+//! one each: `header`, `uuid_command`, `symtab_command`, `section`, `segment`, `load_command`; `load_commands`
+//! and `sections`, one after another; `contents`, the walk that tests the commands, and `image`; and `laws`,
+//! what the definitions say of each other.
 #![tactic(auto)]
 
+mod contents;
 mod fault;
 mod header;
 mod image;
 pub mod laws;
 mod load_command;
+mod load_commands;
+mod loader;
 mod name;
 mod number;
 mod section;
+mod sections;
 mod segment;
-mod survey;
 mod symtab_command;
 mod uuid_command;
 
 pub use fault::ImageFault;
 pub use image::Image;
-pub use load_command::LoadCommands;
+pub use load_command::{LoadCommand, OtherCommand};
+pub use load_commands::LoadCommands;
 pub use section::Section;
-pub use segment::Sections;
+pub use sections::Sections;
+pub use segment::{SegmentCommand64, SegmentSections};
 pub use symtab_command::Symtab;

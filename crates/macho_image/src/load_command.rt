@@ -1,20 +1,63 @@
-//! `load_command`: the commands behind the header, one after another.
+//! `load_command`: what each command is.
 
-ghost use Rattle.std.specs.Prelude.{◌≡◌, ◌≤◌, ◌++◌, length, MatchOption};
+ghost use Rattle.std.specs.Prelude.{◌≡◌, ◌+◌, ◌<◌, ◌≤◌, ◌^◌, ◌++◌, length, MatchOption};
 ghost use Rattle.macho_image.specs.Layout.{u32_at};
-ghost use Rattle.macho_image.specs.Commands.{IsCommand, HasNoCommand, first_commands};
+ghost use Rattle.macho_image.specs.Commands.{IsCommand, HasNoCommand, HasRoom};
+ghost use Rattle.macho_image.specs.Kinds.{load_command};
 
+use crate::loader::{LC_SEGMENT_64, LC_SYMTAB, LC_UUID, LOAD_COMMAND_LEN};
 use crate::number::number32;
+use crate::segment::SegmentCommand64;
+use crate::symtab_command::{Symtab, symtab_in};
+use crate::uuid_command::uuid_in;
 use std::marker::Model;
+use uuid::Uuid;
 
-pub(crate) const LC_SYMTAB: u32 = 0x2;
+/// A command of another kind. A contract sees it as its bytes.
+#[derive(Drop)]
+pub struct OtherCommand<'a> {
+    bytes: &'a [u8],
+}
 
-pub(crate) const LC_SEGMENT_64: u32 = 0x19;
+impl<'a> Model for OtherCommand<'a> {
+    ghost use Rattle.std.specs.Prelude.{ℕ, List, ◌≤◌, length};
 
-pub(crate) const LC_UUID: u32 = 0x1b;
+    ghost Value = { List ℕ };
 
-/// The size of `cmd` and `cmdsize`, with which each command begins.
-const LOAD_COMMAND_LEN: usize = 8;
+    ghost view = { λ c. c.bytes.now };
+
+    ghost invariant = { λ c. 8 ≤ length c.bytes.now };
+}
+
+impl<'a> OtherCommand<'a> {
+    /// `cmd`: the kind.
+    pub fn cmd(&self) -> u32
+        ensures { result ≡ u32_at self.now 0 }
+    {
+        cmd(self.bytes)
+    }
+
+    /// All its bytes, `cmd` and `cmdsize` first.
+    pub fn bytes(&self) -> &'a [u8]
+        ensures bytes { result.now ≡ self.now }
+        ensures long { 8 ≤ length self.now }
+    {
+        self.bytes
+    }
+}
+
+/// A load command, by its `cmd`.
+#[derive(Drop)]
+pub enum LoadCommand<'a> {
+    /// LC_UUID: the UUID.
+    Uuid(Uuid),
+    /// LC_SEGMENT_64: a segment with its sections.
+    Segment(SegmentCommand64<'a>),
+    /// LC_SYMTAB: where the symbol table and its strings lie.
+    Symtab(Symtab),
+    /// Any other.
+    Other(OtherCommand<'a>),
+}
 
 /// `cmd`: the kind of a command.
 pub(crate) fn cmd(command: &[u8]) -> u32
@@ -24,8 +67,8 @@ pub(crate) fn cmd(command: &[u8]) -> u32
     number32(command, 0)
 }
 
-/// The load command with which bytes begin, and the bytes behind it. Any `cmdsize` that fits will do, a
-/// multiple of 8 or not.
+/// The bytes of the load command that begins some bytes, and those behind it. Any `cmdsize` that fits will
+/// do, a multiple of 8 or not.
 #[tactic(auto, using(crate::proofs::Fronts::commands_in_front))]
 pub(crate) fn split_command(bytes: &[u8]) -> Option<(&[u8], &[u8])>
     ensures { MatchOption result (HasNoCommand bytes.now) (λ p. IsCommand p.0.now × (bytes.now ≡ p.0.now ++ p.1.now)) }
@@ -40,55 +83,19 @@ pub(crate) fn split_command(bytes: &[u8]) -> Option<(&[u8], &[u8])>
     Some(bytes.split_at(cmdsize))
 }
 
-/// The load commands of an image, in order. Each is its whole bytes, `cmd` and `cmdsize` first. A contract
-/// sees the list of those that are left.
-#[derive(Drop)]
-pub struct LoadCommands<'a> {
-    rest: &'a [u8],
-    left: u32,
-}
-
-impl<'a> Model for LoadCommands<'a> {
-    ghost use Rattle.std.specs.Prelude.{ℕ, List};
-    ghost use Rattle.macho_image.specs.Commands.{first_commands};
-
-    ghost Value = { List (List ℕ) };
-
-    ghost view = { λ c. first_commands c.left c.rest.now };
-}
-
-impl<'a> LoadCommands<'a> {
-    /// So many, from the first of the bytes on.
-    pub(crate) fn new(bytes: &'a [u8], count: u32) -> LoadCommands<'a>
-        ensures { result ≡ first_commands count bytes.now }
+impl<'a> LoadCommand<'a> {
+    /// The command of these bytes, which stand at a place of the image.
+    #[tactic(auto, unfolding(crate::specs::Kinds::load_command))]
+    pub(crate) fn of(place: u32, bytes: &'a [u8]) -> LoadCommand<'a>
+        requires room { HasRoom bytes.now }
+        requires small { place + length bytes.now < 2 ^ 32 }
+        ensures { result ≡ load_command place bytes.now }
     {
-        LoadCommands {
-            rest: bytes,
-            left: count,
+        match cmd(bytes) {
+            LC_SEGMENT_64 => LoadCommand::Segment(SegmentCommand64::of(place, bytes)),
+            LC_UUID => LoadCommand::Uuid(uuid_in(bytes)),
+            LC_SYMTAB => LoadCommand::Symtab(symtab_in(bytes)),
+            _ => LoadCommand::Other(OtherCommand { bytes }),
         }
-    }
-}
-
-#[tactic(auto, using(crate::proofs::Images::of_commands))]
-impl<'a> Iterator for LoadCommands<'a> {
-    type Item = &'a [u8];
-
-    ghost use Rattle.std.specs.Iterator.{YieldsFirstRef, item_count};
-
-    ghost next_gives = { YieldsFirstRef (λ c. c) };
-
-    ghost remaining = { item_count (λ c. c) };
-
-    fn next(&mut self) -> Option<&'a [u8]> {
-        if self.left == 0 {
-            return None;
-        }
-        let Some((command, after)) = split_command(self.rest) else {
-            self.left = 0;
-            return None;
-        };
-        self.rest = after;
-        self.left -= 1;
-        Some(command)
     }
 }

@@ -4,7 +4,7 @@ ghost use Rattle.std.specs.Prelude.{◌≡◌, ◌+◌, ◌≤◌, ◌==◌, len
 ghost use Rattle.std.specs.List.{before_first, position};
 ghost use Rattle.macho_image.specs.Layout.{name_at};
 
-const NAME_LEN: usize = 16;
+use crate::loader::NAME_LEN;
 
 /// The place of the first NUL.
 fn nul_in(field: &[u8]) -> Option<usize>

@@ -1,17 +1,17 @@
 //! `section_64`: a section of a segment.
 
-ghost use Rattle.std.specs.Prelude.{◌≡◌, ◌≤◌, length};
-ghost use Rattle.macho_image.specs.Sections.{section_record};
+ghost use Rattle.std.specs.Prelude.{◌≡◌, ◌+◌, ◌≤◌, length};
+ghost use Rattle.macho_image.specs.Sections.{section_at, section_record};
 
 use crate::name::name;
 use crate::number::number64;
-
-pub(crate) const SECTION_64_LEN: usize = 80;
 
 /// A section. Its addresses are those from `addr` on, `size` of them; as whole numbers they may pass the
 /// end of the 64-bit space.
 #[derive(Clone, Copy, Debug, PartialEq, Eq)]
 pub struct Section<'a> {
+    /// Where its `section_64` stands, in bytes from the start of the image.
+    pub place: u32,
     /// `segname`: the name of its segment, as the section itself tells it, at most 16 bytes and without NUL.
     pub segment: &'a [u8],
     /// `sectname`: its own name, at most 16 bytes and without NUL.
@@ -25,13 +25,24 @@ pub struct Section<'a> {
 impl<'a> Section<'a> {
     ghost use Rattle.macho_image.specs.SectionViews.{section_view};
 
-    /// The section that the first 80 bytes tell.
+    /// The section whose `section_64` stands at a place of the image, as `place` of a section of that image
+    /// told it.
+    #[tactic(auto, unfolding(crate::specs::Sections::section_at))]
+    pub fn at(image: &'a [u8], place: u32) -> Section<'a>
+        requires { place + 80 ≤ length image.now }
+        ensures { section_view result ≡ section_at image.now place }
+    {
+        Section::first_of(place, image.split_at(place as usize).1)
+    }
+
+    /// The section that the first 80 bytes tell, which stand at a place of the image.
     #[tactic(auto, unfolding(crate::specs::Sections::section_record))]
-    pub(crate) fn first_of(bytes: &'a [u8]) -> Section<'a>
+    pub(crate) fn first_of(place: u32, bytes: &'a [u8]) -> Section<'a>
         requires { 80 ≤ length bytes.now }
-        ensures { section_view result ≡ section_record bytes.now }
+        ensures { section_view result ≡ section_record place bytes.now }
     {
         Section {
+            place,
             segment: name(bytes, 16),
             section: name(bytes, 0),
             addr: number64(bytes, 32),

@@ -1,18 +1,15 @@
 //! `segment_command_64`: the command LC_SEGMENT_64, and the sections behind it.
 
-ghost use Rattle.std.specs.Prelude.{◌≡◌, ◌*◌, ◌+◌, ◌≤◌, [], IsTrue, length, nat_lt};
-ghost use Rattle.std.specs.List.{AllByRecursion, flat_map};
-ghost use Rattle.macho_image.specs.Layout.{u64_at};
-ghost use Rattle.macho_image.specs.Commands.{HasRoom, is_segment, nsects};
+ghost use Rattle.std.specs.Prelude.{◌≡◌, ◌*◌, ◌+◌, ◌<◌, ◌≤◌, ◌^◌, [], length, nat_lt};
+ghost use Rattle.macho_image.specs.Layout.{name_at, u64_at};
+ghost use Rattle.macho_image.specs.Commands.{nsects};
 ghost use Rattle.macho_image.specs.Sections.{is_text, sections_in};
 
-use crate::load_command::{LC_SEGMENT_64, LoadCommands, cmd};
+use crate::loader::{SECTION_64_LEN, SEG_TEXT, SEGMENT_COMMAND_64_LEN};
 use crate::name::name;
 use crate::number::{number32, number64};
-use crate::section::{SECTION_64_LEN, Section};
+use crate::section::Section;
 use std::marker::Model;
-
-const SEGMENT_COMMAND_64_LEN: usize = 72;
 
 /// `nsects`.
 fn nsects(segment: &[u8]) -> u32
@@ -20,14 +17,6 @@ fn nsects(segment: &[u8]) -> u32
     ensures { result ≡ nsects segment.now }
 {
     number32(segment, 64)
-}
-
-/// `vmaddr`.
-pub(crate) fn vmaddr(segment: &[u8]) -> u64
-    requires { 72 ≤ length segment.now }
-    ensures { result ≡ u64_at segment.now 24 }
-{
-    number64(segment, 24)
 }
 
 /// Whether a segment is too short for its sections.
@@ -40,52 +29,114 @@ pub(crate) fn is_short(segment: &[u8]) -> bool
     segment.len() < SEGMENT_COMMAND_64_LEN + SECTION_64_LEN * nsects(segment) as usize
 }
 
-/// Whether a command is a segment whose `segname` is SEG_TEXT.
-#[tactic(auto, unfolding(crate::specs::Sections::is_text))]
-pub(crate) fn is_text(command: &[u8]) -> bool
-    requires { HasRoom command.now }
-    ensures value { result ≡ is_text command.now }
-    ensures segment { IsTrue result → 72 ≤ length command.now }
-{
-    cmd(command) == LC_SEGMENT_64 && name(command, 8) == b"__TEXT".as_slice()
+/// A segment, which has room for its sections. A contract sees its place in the image, and its bytes.
+#[derive(Drop)]
+pub struct SegmentCommand64<'a> {
+    place: u32,
+    bytes: &'a [u8],
 }
 
-/// The sections of one segment that are left.
+impl<'a> Model for SegmentCommand64<'a> {
+    ghost use Rattle.std.specs.Prelude.{◌+◌, ◌*◌, ◌<◌, ◌≤◌, ◌^◌, length};
+    ghost use Rattle.macho_image.specs.Commands.{SegmentRecord, nsects};
+
+    ghost Value = { SegmentRecord };
+
+    ghost view = { λ s. record { place = s.place; bytes = s.bytes.now } };
+
+    ghost invariant = { λ s. (72 + 80 * nsects s.bytes.now ≤ length s.bytes.now) × (s.place + length s.bytes.now < 2 ^ 32) };
+}
+
+impl<'a> SegmentCommand64<'a> {
+    /// The segment of these bytes, which stand at a place of the image.
+    pub(crate) fn of(place: u32, bytes: &'a [u8]) -> SegmentCommand64<'a>
+        requires room { 72 + 80 * nsects bytes.now ≤ length bytes.now }
+        requires small { place + length bytes.now < 2 ^ 32 }
+        ensures place { result.place ≡ place }
+        ensures bytes { result.bytes ≡ bytes.now }
+    {
+        SegmentCommand64 { place, bytes }
+    }
+
+    /// Where it stands, in bytes from the start of the image.
+    pub fn place(&self) -> u32
+        ensures { result ≡ self.now.place }
+    {
+        self.place
+    }
+
+    /// All its bytes, those of its sections among them.
+    pub fn bytes(&self) -> &'a [u8]
+        ensures bytes { result.now ≡ self.now.bytes }
+        ensures room { 72 + 80 * nsects self.now.bytes ≤ length self.now.bytes }
+    {
+        self.bytes
+    }
+
+    /// `segname`: its name, at most 16 bytes and without NUL.
+    pub fn name(&self) -> &'a [u8]
+        ensures { result.now ≡ name_at self.now.bytes 8 }
+    {
+        name(self.bytes, 8)
+    }
+
+    /// Whether its name is SEG_TEXT.
+    #[tactic(auto, unfolding(crate::specs::Sections::is_text))]
+    pub(crate) fn is_text(&self) -> bool
+        ensures { result ≡ is_text self.now }
+    {
+        self.name() == SEG_TEXT
+    }
+
+    /// `vmaddr`: its first address.
+    pub fn vmaddr(&self) -> u64
+        ensures { result ≡ u64_at self.now.bytes 24 }
+    {
+        number64(self.bytes, 24)
+    }
+
+    /// Its sections, `nsects` of them.
+    #[tactic(auto, unfolding(crate::specs::Sections::sections_in))]
+    pub fn sections(&self) -> SegmentSections<'a>
+        ensures { result ≡ sections_in self.now }
+    {
+        SegmentSections {
+            place: self.place + SEGMENT_COMMAND_64_LEN as u32,
+            rest: self.bytes.split_at(SEGMENT_COMMAND_64_LEN).1,
+            left: nsects(self.bytes),
+        }
+    }
+}
+
+/// The sections of one segment. A contract sees the list of those that are left.
 #[derive(Drop)]
-struct SegmentSections<'a> {
+pub struct SegmentSections<'a> {
+    place: u32,
     rest: &'a [u8],
     left: u32,
 }
 
 impl<'a> Model for SegmentSections<'a> {
-    ghost use Rattle.std.specs.Prelude.{List, ◌≤◌, ◌*◌, length};
+    ghost use Rattle.std.specs.Prelude.{List, ◌+◌, ◌<◌, ◌≤◌, ◌*◌, ◌^◌, length};
     ghost use Rattle.macho_image.specs.Sections.{SectionRecord, section_records};
 
     ghost Value = { List SectionRecord };
 
-    ghost view = { λ s. section_records s.left s.rest.now };
+    ghost view = { λ s. section_records s.left s.place s.rest.now };
 
-    ghost invariant = { λ s. 80 * s.left ≤ length s.rest.now };
+    ghost invariant = { λ s. (80 * s.left ≤ length s.rest.now) × (s.place + length s.rest.now < 2 ^ 32) };
 }
 
 impl<'a> SegmentSections<'a> {
     /// None at all.
     #[tactic(auto, unfolding(crate::specs::Sections::section_records))]
-    fn none() -> SegmentSections<'a>
+    pub(crate) fn none() -> SegmentSections<'a>
         ensures { result ≡ [] }
     {
-        SegmentSections { rest: &[], left: 0 }
-    }
-
-    /// Those of a segment.
-    #[tactic(auto, unfolding(crate::specs::Sections::sections_in))]
-    fn of_segment(segment: &'a [u8]) -> SegmentSections<'a>
-        requires { 72 + 80 * nsects segment.now ≤ length segment.now }
-        ensures { result ≡ sections_in segment.now }
-    {
         SegmentSections {
-            rest: segment.split_at(SEGMENT_COMMAND_64_LEN).1,
-            left: nsects(segment),
+            place: 0,
+            rest: &[],
+            left: 0,
         }
     }
 }
@@ -105,68 +156,10 @@ impl<'a> Iterator for SegmentSections<'a> {
         if self.left == 0 {
             return None;
         }
-        let section = Section::first_of(self.rest);
+        let section = Section::first_of(self.place, self.rest);
+        self.place += SECTION_64_LEN as u32;
         self.rest = self.rest.split_at(SECTION_64_LEN).1;
         self.left -= 1;
         Some(section)
-    }
-}
-
-/// The sections of an image, over all its segments and in the order of the load commands. A contract sees
-/// the list of those that are left.
-#[derive(Drop)]
-pub struct Sections<'a> {
-    of_segment: SegmentSections<'a>,
-    commands: LoadCommands<'a>,
-}
-
-impl<'a> Model for Sections<'a> {
-    ghost use Rattle.std.specs.Prelude.{List, ◌++◌, filter};
-    ghost use Rattle.std.specs.List.{flat_map, AllByRecursion};
-    ghost use Rattle.macho_image.specs.Sections.{SectionRecord, sections_in};
-    ghost use Rattle.macho_image.specs.Commands.{HasRoom, is_segment};
-
-    ghost Value = { List SectionRecord };
-
-    ghost view = { λ s. s.of_segment ++ flat_map sections_in (filter is_segment s.commands) };
-
-    ghost invariant = { λ s. AllByRecursion HasRoom s.commands };
-}
-
-impl<'a> Sections<'a> {
-    ghost use Rattle.std.specs.Prelude.{filter};
-
-    /// Those of load commands.
-    pub(crate) fn of_commands(commands: LoadCommands<'a>) -> Sections<'a>
-        requires { AllByRecursion HasRoom commands }
-        ensures { result ≡ flat_map sections_in (filter is_segment commands.entry) }
-    {
-        Sections {
-            of_segment: SegmentSections::none(),
-            commands,
-        }
-    }
-}
-
-impl<'a> Iterator for Sections<'a> {
-    type Item = Section<'a>;
-
-    ghost use Rattle.std.specs.Iterator.{YieldsFirstBy, item_count};
-    ghost use Rattle.macho_image.specs.SectionViews.{section_view};
-
-    ghost next_gives = { YieldsFirstBy section_view (λ s. s) };
-
-    ghost remaining = { item_count (λ s. s) };
-
-    fn next(&mut self) -> Option<Section<'a>> {
-        'segments: loop {
-            if let Some(section) = self.of_segment.next() {
-                return Some(section);
-            }
-            let command = self.commands.next()?;
-            if cmd(command) == LC_SEGMENT_64 {
-                self.of_segment = SegmentSections::of_segment(command);
-            }
-        }
     }
 }

@@ -5,8 +5,6 @@ ghost use Rattle.macho_image.specs.Contents.{symtab_fields};
 
 use crate::number::number32;
 
-pub(crate) const SYMTAB_COMMAND_LEN: usize = 24;
-
 /// Where the symbol table and its strings lie, as LC_SYMTAB tells it. Neither range is checked: it may pass
 /// the end of the image.
 #[derive(Clone, Copy, Debug, PartialEq, Eq)]

@@ -5,8 +5,6 @@ ghost use Rattle.macho_image.specs.Contents.{uuid_bytes};
 
 use uuid::Uuid;
 
-pub(crate) const UUID_COMMAND_LEN: usize = 24;
-
 /// `uuid`.
 pub(crate) fn uuid_in(command: &[u8]) -> Uuid
     requires { 24 ≤ length command.now }

@@ -1,0 +1,42 @@
+-- What it takes that a command has no fault.
+use Rattle.std.proofs.Common.{◌≡◌, ℕ, ◌+◌, ◌*◌, ◌≤◌, Bool, true, false, cond, nat_lt, ◌&&◌, List, length, Option, Some, None, refl, sym, arith}
+use Rattle.std.proofs.lemmas.Option.{none-some}
+use Rattle.std.proofs.lemmas.Bool.Decides.{nat_tests}
+use Rattle.macho_image.specs.Commands.{HasRoom, is_segment, nsects, is_uuid, is_symtab}
+use Rattle.macho_image.specs.Fault.{command_fault}
+
+-- a choice that gives nothing did not take the fault
+pub not_taken : {A : Type 0} (b : Bool) (fault : A) (o : Option A) → cond b (Some fault) o ≡ None → (b ≡ false) × (o ≡ None)
+not_taken true fault o h = absurd (none-some fault (sym h))
+not_taken false fault o h = (refl, h)
+
+pub not_below : (a b : ℕ) → nat_lt a b ≡ false → b ≤ a
+not_below a b h = grind (arith, nat_tests)
+
+-- none of the tests of a command was met
+pub record PassesTests (has_uuid has_symtab : Bool) (command : List ℕ) : Type 0 where
+  pub segment : (is_segment command && nat_lt (length command) (72 + 80 * nsects command)) ≡ false
+  pub uuid : (is_uuid command && nat_lt (length command) 24) ≡ false
+  pub one_uuid : (is_uuid command && has_uuid) ≡ false
+  pub symtab : (is_symtab command && nat_lt (length command) 24) ≡ false
+  pub one_symtab : (is_symtab command && has_symtab) ≡ false
+
+pub passes_tests : (place : ℕ) (has_uuid has_symtab : Bool) (command : List ℕ) → command_fault place has_uuid has_symtab command ≡ None → PassesTests has_uuid has_symtab command
+passes_tests place has_uuid has_symtab command fine =
+    let first = not_taken (is_segment command && nat_lt (length command) (72 + 80 * nsects command)) _ _ fine in
+    let second = not_taken (is_uuid command && nat_lt (length command) 24) _ _ first.1 in
+    let third = not_taken (is_uuid command && has_uuid) _ _ second.1 in
+    let fourth = not_taken (is_symtab command && nat_lt (length command) 24) _ _ third.1 in
+    let fifth = not_taken (is_symtab command && has_symtab) _ _ fourth.1 in
+    record { segment = first.0; uuid = second.0; one_uuid = third.0; symtab = fourth.0; one_symtab = fifth.0 }
+
+-- a command without a fault has room for what its kind holds
+pub room_of : (place : ℕ) (has_uuid has_symtab : Bool) (command : List ℕ) → 8 ≤ length command → command_fault place has_uuid has_symtab command ≡ None → HasRoom command
+room_of place has_uuid has_symtab command long fine =
+    let passes = passes_tests place has_uuid has_symtab command fine in
+    record {
+      long = long;
+      sections = λ segment. not_below _ _ (rw segment at passes.segment);
+      uuid = λ uuid. not_below _ _ (rw uuid at passes.uuid);
+      symtab = λ symtab. not_below _ _ (rw symtab at passes.symtab);
+    }

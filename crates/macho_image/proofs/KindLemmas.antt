@@ -1,0 +1,24 @@
+-- Load commands by their kinds, one by one.
+use Rattle.std.proofs.Common.{◌≡◌, ℕ, ◌+◌, Bool, true, false, cond, List, [], ◌∷◌, length, refl}
+use Rattle.std.specs.List.{filter_map, cons_option}
+use Rattle.macho_image.specs.Commands.{SegmentRecord, is_segment, is_uuid, is_symtab}
+use Rattle.macho_image.specs.Contents.{uuid_bytes, symtab_fields}
+use Rattle.macho_image.specs.Kinds.{load_command, load_commands_from, segment_of}
+use Rattle.macho_image.specs.declared.load_command.LoadCommand.{LoadCommand}
+use Rattle.macho_image.specs.declared.load_command.LoadCommand.TheVariants.{Uuid, Segment, Symtab, Other}
+
+-- the segments among commands, one command more
+pub segments-cons : (place : ℕ) (command : List ℕ) (commands : List (List ℕ))
+    → filter_map segment_of (load_commands_from place (command ∷ commands))
+    ≡ cond (is_segment command) (record { place = place; bytes = command } ∷ filter_map segment_of (load_commands_from (place + length command) commands)) (filter_map segment_of (load_commands_from (place + length command) commands))
+unfolding load_commands_from load_command
+segments-cons place command commands =
+    by_kind (is_segment command) (is_uuid command) (is_symtab command) (filter_map segment_of (load_commands_from (place + length command) commands))
+  where
+    by_kind : (s u t : Bool) (rest : List SegmentRecord)
+        → cons_option (segment_of (cond s (Segment (record { place = place; bytes = command })) (cond u (Uuid (uuid_bytes command)) (cond t (Symtab (symtab_fields command)) (Other command))))) rest
+        ≡ cond s (record { place = place; bytes = command } ∷ rest) rest
+    by_kind true u t rest = refl
+    by_kind false true t rest = refl
+    by_kind false false true rest = refl
+    by_kind false false false rest = refl

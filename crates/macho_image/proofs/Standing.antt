@@ -1,0 +1,97 @@
+-- The segments and the sections of an image stand there at their places.
+use Rattle.std.proofs.Common.{◌≡◌, ℕ, zero, suc, ◌+◌, ◌*◌, ◌≤◌, Bool, true, false, cond, List, [], ◌∷◌, ◌++◌, length, take, drop, refl, sym, ap, ◌∙◌, arith, append_assoc, length-append, length-drop}
+use Rattle.std.specs.Prelude.{Contains}
+use Rattle.std.specs.List.{concat, AllByRecursion, filter_map, flat_map}
+use Rattle.std.proofs.lemmas.List.{drop-drop, drop-append-le, take-append-drop, take_at, drop_at}
+use Rattle.std.proofs.lemmas.List.Elements.{All-contains, All-from_recursion}
+use Rattle.macho_image.specs.Layout.{ncmds, sizeofcmds, command_bytes}
+use Rattle.macho_image.specs.Commands.{SegmentRecord, HasRoom, commands, is_segment, nsects}
+use Rattle.macho_image.specs.Kinds.{load_commands_from, segment_of, segments}
+use Rattle.macho_image.specs.Sections.{SectionRecord, section_at, section_record, section_records, sections_in, sections}
+use Rattle.macho_image.specs.Fault.{IsImage}
+use Rattle.macho_image.proofs.Images.{first_commands-front}
+use Rattle.macho_image.proofs.KindLemmas.{segments-cons}
+use Rattle.macho_image.proofs.SectionPlaces.{section_record-append}
+use Rattle.macho_image.proofs.Told.{commands-room}
+
+-- a segment stands in an image at its place, and has room for its sections
+record IsSegmentOf (image : List ℕ) (segment : SegmentRecord) : Type 0 where
+  rest : List ℕ
+  stands : drop segment.place image ≡ segment.bytes ++ rest
+  room : 72 + 80 * nsects segment.bytes ≤ length segment.bytes
+
+-- a section stands in an image at its place
+pub record IsSectionOf (image : List ℕ) (section : SectionRecord) : Type 0 where
+  pub stands : section_at image section.place ≡ section
+  pub room : section.place + 80 ≤ length image
+
+segments_stand : (image : List ℕ) (place : ℕ) (cs : List (List ℕ)) (tail : List ℕ) → AllByRecursion HasRoom cs → drop place image ≡ concat cs ++ tail
+    → AllByRecursion (IsSegmentOf image) (filter_map segment_of (load_commands_from place cs))
+unfolding load_commands_from
+segments_stand image place [] tail room stands = tt
+segments_stand image place (c ∷ cs) tail room stands =
+    rw (segments-cons place c cs) (by_kind (is_segment c) refl (filter_map segment_of (load_commands_from (place + length c) cs)) (segments_stand image (place + length c) cs tail room.1 next))
+  where
+    here : drop place image ≡ c ++ (concat cs ++ tail)
+    here = stands ∙ append_assoc c (concat cs) tail
+
+    next : drop (place + length c) image ≡ concat cs ++ tail
+    next = sym (drop-drop (length c) place image) ∙ ap (drop (length c)) here ∙ drop_at c (concat cs ++ tail) (length c) refl
+
+    by_kind : (b : Bool) → is_segment c ≡ b → (rest : List SegmentRecord) → AllByRecursion (IsSegmentOf image) rest → AllByRecursion (IsSegmentOf image) (cond b (record { place = place; bytes = c } ∷ rest) rest)
+    by_kind false e rest more = more
+    by_kind true e rest more = (record { rest = concat cs ++ tail; stands = here; room = room.0.sections e }, more)
+
+-- sections that stand one behind another
+records_stand : (image : List ℕ) (count place : ℕ) (bytes rest : List ℕ) → 80 * count ≤ length bytes → drop place image ≡ bytes ++ rest
+    → AllByRecursion (IsSectionOf image) (section_records count place bytes)
+unfolding section_records section_at section_record
+records_stand image zero place bytes rest room stands = tt
+records_stand image (suc count) place bytes rest room stands = (
+  record {
+    stands = ap (section_record place) stands ∙ section_record-append place bytes rest (omega arith);
+    room = omega (arith, ap length stands, length-append bytes rest, length-drop place image);
+  },
+  records_stand image count (place + 80) (drop 80 bytes) rest (omega (arith, length-drop 80 bytes)) next,
+)
+  where
+    next : drop (place + 80) image ≡ drop 80 bytes ++ rest
+    next = sym (drop-drop 80 place image) ∙ ap (drop 80) stands ∙ drop-append-le 80 bytes rest (omega arith)
+
+-- those of a segment
+sections_in-stand : (image : List ℕ) (segment : SegmentRecord) → IsSegmentOf image segment → AllByRecursion (IsSectionOf image) (sections_in segment)
+unfolding sections_in
+sections_in-stand image segment is =
+    records_stand image (nsects segment.bytes) (segment.place + 72) (drop 72 segment.bytes) is.rest (omega (arith, is.room, length-drop 72 segment.bytes))
+    (sym (drop-drop 72 segment.place image) ∙ ap (drop 72) is.stands ∙ drop-append-le 72 segment.bytes is.rest (omega (arith, is.room)))
+
+-- and of several
+all_stand : (image : List ℕ) (segments : List SegmentRecord) → AllByRecursion (IsSegmentOf image) segments → AllByRecursion (IsSectionOf image) (flat_map sections_in segments)
+all_stand image [] h = tt
+all_stand image (segment ∷ segments) h = both (sections_in segment) (sections_in-stand image segment h.0) (all_stand image segments h.1)
+  where
+    both : (xs : List SectionRecord) → AllByRecursion (IsSectionOf image) xs → AllByRecursion (IsSectionOf image) (flat_map sections_in segments) → AllByRecursion (IsSectionOf image) (xs ++ flat_map sections_in segments)
+    both [] p q = q
+    both (x ∷ xs) p q = (p.0, both xs p.1 q)
+
+module _ (image : List ℕ) (sound : IsImage image) where
+  each_segment : AllByRecursion (IsSegmentOf image) (segments image)
+  each_segment =
+      let front = sound.sound.1 in
+      let cut : commands image ≡ sound.commands = first_commands-front (ncmds image) (command_bytes image) sound.commands front in
+      let rest = drop (sizeofcmds image) (drop 32 image) in
+      segments_stand image 32 (commands image) (front.rest ++ rest) (commands-room image sound)
+      (sym (take-append-drop (sizeofcmds image) (drop 32 image)) ∙ ap (λ bytes. bytes ++ rest) front.begins
+      ∙ append_assoc (concat sound.commands) front.rest rest ∙ ap (λ cs. concat cs ++ (front.rest ++ rest)) (sym cut))
+
+  pub each_section : AllByRecursion (IsSectionOf image) (sections image)
+  unfolding sections
+  each_section = all_stand image (segments image) each_segment
+
+  pub segment_stands : (segment : SegmentRecord) → Contains (segments image) segment → take (length segment.bytes) (drop segment.place image) ≡ segment.bytes
+  segment_stands segment member =
+      let is = All-contains (IsSegmentOf image) (segments image) segment (All-from_recursion _ _ each_segment) member in
+      ap (take (length segment.bytes)) is.stands ∙ take_at segment.bytes is.rest (length segment.bytes) refl
+
+  pub section_stands : (section : SectionRecord) → Contains (sections image) section → IsSectionOf image section
+  section_stands section member = All-contains (IsSectionOf image) (sections image) section (All-from_recursion _ _ each_section) member

@@ -1,0 +1,36 @@
+-- The load commands of an image by their kinds, and the segments among them (mach-o/loader.h).
+use Rattle.std.specs.Prelude.{ℕ, ◌+◌, List, [], ◌∷◌, length, Option, Some, None, if◌then◌else◌}
+use Rattle.std.specs.List.{filter_map}
+use Rattle.macho_image.specs.Commands.{SegmentRecord, commands, is_segment, is_uuid, is_symtab}
+use Rattle.macho_image.specs.Contents.{uuid_bytes, symtab_fields}
+use Rattle.macho_image.specs.declared.load_command.LoadCommand.{LoadCommand}
+use Rattle.macho_image.specs.declared.load_command.LoadCommand.TheVariants.{Uuid, Segment, Symtab, Other}
+
+-- the command of these bytes, which stand at a place of the image, by its cmd
+unfoldable pub load_command : ℕ → List ℕ → LoadCommand
+load_command place command =
+    if is_segment command then Segment (record { place = place; bytes = command })
+    else if is_uuid command then Uuid (uuid_bytes command)
+    else if is_symtab command then Symtab (symtab_fields command)
+    else Other command
+
+-- commands that stand one behind another from a place on
+unfoldable pub load_commands_from : ℕ → List (List ℕ) → List LoadCommand
+load_commands_from place [] = []
+load_commands_from place (command ∷ commands) =
+    load_command place command ∷ load_commands_from (place + length command) commands
+
+-- the load commands of an image, which follow its header of 32 bytes
+abbrev pub load_commands : List ℕ → List LoadCommand
+load_commands image = load_commands_from 32 (commands image)
+
+-- the segment that a load command is, if it is one
+abbrev pub segment_of : LoadCommand → Option SegmentRecord
+segment_of (Uuid uuid) = None
+segment_of (Segment segment) = Some segment
+segment_of (Symtab symtab) = None
+segment_of (Other command) = None
+
+-- the segments of an image, in the order of its load commands
+abbrev pub segments : List ℕ → List SegmentRecord
+segments image = filter_map segment_of (load_commands image)
