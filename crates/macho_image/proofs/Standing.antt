@@ -1,15 +1,14 @@
 -- The segments and the sections of an image stand there at their places.
-use Rattle.std.proofs.Common.{◌≡◌, ℕ, zero, suc, ◌+◌, ◌*◌, ◌≤◌, Bool, true, false, cond, List, [], ◌∷◌, ◌++◌, length, take, drop, refl, sym, ap, ◌∙◌, arith, append_assoc, length-append, length-drop}
+use Rattle.std.proofs.Common.{◌≡◌, ℕ, zero, suc, ◌+◌, ◌*◌, ◌≤◌, ◌&&◌, nat_le, Bool, true, false, cond, List, [], ◌∷◌, ◌++◌, length, take, drop, refl, sym, ap, ◌∙◌, arith, append_assoc, length-append, length-drop}
 use Rattle.std.specs.Prelude.{Contains}
 use Rattle.std.specs.List.{concat, AllByRecursion, filter_map, flat_map}
 use Rattle.std.proofs.lemmas.List.{drop-drop, drop-append-le, take-append-drop, take_at, drop_at}
 use Rattle.std.proofs.lemmas.List.Elements.{All-contains, All-from_recursion}
-use Rattle.macho_image.specs.Layout.{ncmds, sizeofcmds, command_bytes}
-use Rattle.macho_image.specs.Commands.{SegmentRecord, HasRoom, commands, is_segment, nsects}
+use Rattle.macho_image.specs.Layout.{u32_at, ncmds, sizeofcmds, command_bytes}
+use Rattle.macho_image.specs.Commands.{SegmentRecord, HasRoom, first_commands, commands, is_segment, nsects}
 use Rattle.macho_image.specs.Kinds.{load_commands_from, segment_of, segments}
-use Rattle.macho_image.specs.Sections.{SectionRecord, section_at, section_record, section_records, sections_in, sections}
+use Rattle.macho_image.specs.Sections.{SectionRecord, IsSectionOf, section_at, section_record, section_records, sections_in, sections}
 use Rattle.macho_image.specs.Fault.{IsImage}
-use Rattle.macho_image.proofs.Images.{first_commands-front}
 use Rattle.macho_image.proofs.KindLemmas.{segments-cons}
 use Rattle.macho_image.proofs.SectionPlaces.{section_record-append}
 use Rattle.macho_image.proofs.Told.{commands-room}
@@ -19,11 +18,6 @@ record IsSegmentOf (image : List ℕ) (segment : SegmentRecord) : Type 0 where
   rest : List ℕ
   stands : drop segment.place image ≡ segment.bytes ++ rest
   room : 72 + 80 * nsects segment.bytes ≤ length segment.bytes
-
--- a section stands in an image at its place
-pub record IsSectionOf (image : List ℕ) (section : SectionRecord) : Type 0 where
-  pub stands : section_at image section.place ≡ section
-  pub room : section.place + 80 ≤ length image
 
 segments_stand : (image : List ℕ) (place : ℕ) (cs : List (List ℕ)) (tail : List ℕ) → AllByRecursion HasRoom cs → drop place image ≡ concat cs ++ tail
     → AllByRecursion (IsSegmentOf image) (filter_map segment_of (load_commands_from place cs))
@@ -74,24 +68,39 @@ all_stand image (segment ∷ segments) h = both (sections_in segment) (sections_
     both [] p q = q
     both (x ∷ xs) p q = (p.0, both xs p.1 q)
 
-module _ (image : List ℕ) (sound : IsImage image) where
+-- the commands that are cut from bytes begin them
+front_of : (count : ℕ) (area : List ℕ) → (rest : List ℕ) × (area ≡ concat (first_commands count area) ++ rest)
+unfolding first_commands
+front_of zero area = (area, refl)
+front_of (suc count) area =
+    by_test (nat_le 8 (u32_at area 4) && nat_le 8 (length area) && nat_le (u32_at area 4) (length area)) (front_of count (drop (u32_at area 4) area))
+  where
+    by_test : (b : Bool) → (rest : List ℕ) × (drop (u32_at area 4) area ≡ concat (first_commands count (drop (u32_at area 4) area)) ++ rest)
+        → (rest : List ℕ) × (area ≡ concat (cond b (take (u32_at area 4) area ∷ first_commands count (drop (u32_at area 4) area)) []) ++ rest)
+    by_test false below = (area, refl)
+    by_test true below = (
+      below.0,
+      sym (take-append-drop (u32_at area 4) area) ∙ ap (λ bytes. take (u32_at area 4) area ++ bytes) below.1
+          ∙ sym (append_assoc (take (u32_at area 4) area) (concat (first_commands count (drop (u32_at area 4) area))) below.0),
+    )
+
+module _ (image : List ℕ) (room : AllByRecursion HasRoom (commands image)) where
   each_segment : AllByRecursion (IsSegmentOf image) (segments image)
   each_segment =
-      let front = sound.sound.1 in
-      let cut : commands image ≡ sound.commands = first_commands-front (ncmds image) (command_bytes image) sound.commands front in
+      let front = front_of (ncmds image) (command_bytes image) in
       let rest = drop (sizeofcmds image) (drop 32 image) in
-      segments_stand image 32 (commands image) (front.rest ++ rest) (commands-room image sound)
-      (sym (take-append-drop (sizeofcmds image) (drop 32 image)) ∙ ap (λ bytes. bytes ++ rest) front.begins
-      ∙ append_assoc (concat sound.commands) front.rest rest ∙ ap (λ cs. concat cs ++ (front.rest ++ rest)) (sym cut))
+      segments_stand image 32 (commands image) (front.0 ++ rest) room
+      (sym (take-append-drop (sizeofcmds image) (drop 32 image)) ∙ ap (λ bytes. bytes ++ rest) front.1 ∙ append_assoc (concat (commands image)) front.0 rest)
 
   pub each_section : AllByRecursion (IsSectionOf image) (sections image)
   unfolding sections
   each_section = all_stand image (segments image) each_segment
 
-  pub segment_stands : (segment : SegmentRecord) → Contains (segments image) segment → take (length segment.bytes) (drop segment.place image) ≡ segment.bytes
-  segment_stands segment member =
-      let is = All-contains (IsSegmentOf image) (segments image) segment (All-from_recursion _ _ each_segment) member in
-      ap (take (length segment.bytes)) is.stands ∙ take_at segment.bytes is.rest (length segment.bytes) refl
+pub segment_stands : (image : List ℕ) (segment : SegmentRecord) → IsImage image → Contains (segments image) segment → take (length segment.bytes) (drop segment.place image) ≡ segment.bytes
+segment_stands image segment sound member =
+    let is = All-contains (IsSegmentOf image) (segments image) segment (All-from_recursion _ _ (each_segment image (commands-room image sound))) member in
+    ap (take (length segment.bytes)) is.stands ∙ take_at segment.bytes is.rest (length segment.bytes) refl
 
-  pub section_stands : (section : SectionRecord) → Contains (sections image) section → IsSectionOf image section
-  section_stands section member = All-contains (IsSectionOf image) (sections image) section (All-from_recursion _ _ each_section) member
+pub section_stands : (image : List ℕ) (section : SectionRecord) → IsImage image → Contains (sections image) section → IsSectionOf image section
+section_stands image section sound member =
+    All-contains (IsSectionOf image) (sections image) section (All-from_recursion _ _ (each_section image (commands-room image sound))) member

@@ -1,5 +1,5 @@
 -- The sections of an image, and where its text is to be loaded (mach-o/loader.h).
-use Rattle.std.specs.Prelude.{ℕ, zero, suc, Bool, List, [], ◌∷◌, ◌&&◌, ◌+◌, drop, Option, None, codes, slice_get, nat_eq, nat_lt, nat_le}
+use Rattle.std.specs.Prelude.{ℕ, zero, suc, Bool, List, [], ◌∷◌, ◌≡◌, ◌≤◌, ◌&&◌, ◌+◌, drop, length, Option, None, codes, slice_get, nat_eq, nat_lt, nat_le}
 use Rattle.std.specs.List.{find, flat_map}
 use Rattle.std.specs.Option.{option_map}
 use Rattle.std.specs.Cmp.Lexicographic.{pointwise}
@@ -23,6 +23,11 @@ section_record place bytes =
 -- the section_64 at a place of the image
 unfoldable pub section_at : List ℕ → ℕ → SectionRecord
 section_at image place = section_record place (drop place image)
+
+-- a section stands in an image at its place
+pub record IsSectionOf (image : List ℕ) (section : SectionRecord) : Type 0 where
+  pub stands : section_at image section.place ≡ section
+  pub room : section.place + 80 ≤ length image
 
 -- so many of them, 80 bytes each
 unfoldable pub section_records : ℕ → ℕ → List ℕ → List SectionRecord

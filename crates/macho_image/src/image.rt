@@ -7,7 +7,7 @@ ghost use Rattle.macho_image.specs.Commands.{commands, HasRoom};
 ghost use Rattle.macho_image.specs.Kinds.{load_commands};
 ghost use Rattle.macho_image.specs.Contents.{uuid_of, symtab_of, arch_of, is_dsym_image};
 ghost use Rattle.macho_image.specs.Fault.{IsImageFault, IsImage};
-ghost use Rattle.macho_image.specs.Sections.{sections, section_of, text_base_of};
+ghost use Rattle.macho_image.specs.Sections.{IsSectionOf, sections, section_of, text_base_of};
 
 use crate::contents::read_contents;
 use crate::fault::ImageFault;
@@ -134,10 +134,12 @@ impl<'a> Image<'a> {
         )
     }
 
-    /// The sections of all segments, in the order of the load commands. Each has its 80 bytes.
+    /// The sections of all segments, in the order of the load commands. `Section::at` tells each of them again
+    /// out of its place.
     #[tactic(auto, unfolding(crate::specs::Sections::sections))]
     pub fn sections(&self) -> Sections<'a>
         ensures all { result ≡ sections self.now }
+        ensures each { AllByRecursion (IsSectionOf self.now) (sections self.now) }
         ensures fit { 80 * length (sections self.now) ≤ length self.now }
     {
         Sections::of_commands(self.commands())

@@ -1,12 +1,12 @@
 //! What the definitions say of each other, for every list of bytes. Each law is the contract of a function
 //! that does nothing.
 
-ghost use Rattle.std.specs.Prelude.{◌≡◌, ◌+◌, ◌*◌, ◌<◌, ◌≤◌, ◌⊎◌, ℕ, List, true, Some, Contains, drop, take, length, slice_get};
+ghost use Rattle.std.specs.Prelude.{◌≡◌, ◌+◌, ◌*◌, ◌<◌, ◌⊎◌, ℕ, List, true, Some, Contains, drop, take, length, slice_get};
 ghost use Rattle.macho_image.specs.Commands.{IsFront, SegmentRecord, first_commands, commands, is_uuid, is_symtab, nsects};
 ghost use Rattle.macho_image.specs.Kinds.{segments};
 ghost use Rattle.macho_image.specs.Contents.{uuid_bytes, uuid_of, symtab_fields, symtab_of};
 ghost use Rattle.macho_image.specs.Fault.{IsImageFault, IsImage};
-ghost use Rattle.macho_image.specs.Sections.{SectionRecord, section_at, section_record, sections, sections_in};
+ghost use Rattle.macho_image.specs.Sections.{SectionRecord, IsSectionOf, section_record, sections, sections_in};
 ghost use Rattle.macho_image.specs.declared.fault.ImageFault.{ImageFault};
 
 /// There is at most one front of a length, and it is what the definition cuts.
@@ -45,7 +45,5 @@ pub fn standing()
     ensures segment { (image : List ℕ) (segment : SegmentRecord) → IsImage image → Contains (segments image) segment →
         take (length segment.bytes) (drop segment.place image) ≡ segment.bytes }
     ensures section { (image : List ℕ) (section : SectionRecord) → IsImage image → Contains (sections image) section →
-        section_at image section.place ≡ section }
-    ensures room { (image : List ℕ) (section : SectionRecord) → IsImage image → Contains (sections image) section →
-        section.place + 80 ≤ length image }
+        IsSectionOf image section }
 {}
