@@ -13,4 +13,3 @@ pub mod RowLemmas
 pub mod ExtentLemmas
 pub mod Stands
 pub mod BuildLemmas
-pub mod WalkLemmas

@@ -1,10 +1,12 @@
-//! `nlist_64`: an entry of the symbol table.
+//! `nlist_64`: an entry of the symbol table, and the constants of mach-o/nlist.h that are read here, in the
+//! header's order.
 
 ghost use Rattle.std.specs.Prelude.{◌≡◌, ◌≤◌, length};
 ghost use Rattle.macho_symbols.specs.Nlist.{n_strx, n_type, n_sect, n_value};
 
 use byteorder::{ByteOrder, LittleEndian};
 
+/// The size of `nlist_64` in bytes.
 pub(crate) const NLIST_64_LEN: usize = 16;
 
 /// Bits of `n_type`: any of them is set in an entry for a debugger.
@@ -18,6 +20,12 @@ pub(crate) const N_EXT: u8 = 0x01;
 
 /// A value of the bits N_TYPE: the symbol is defined in the section `n_sect`.
 pub(crate) const N_SECT: u8 = 0xe;
+
+/// A value of `n_sect`: the symbol is in no section.
+pub(crate) const NO_SECT: u8 = 0;
+
+/// The greatest value of `n_sect`. The sections that a symbol can name are 1 to this.
+pub(crate) const MAX_SECT: u8 = 255;
 
 /// `n_strx`: where the name begins in the string table.
 #[tactic(auto, unfolding(macho_image::specs::Layout::u32_at))]

@@ -3,10 +3,11 @@
 ghost use Rattle.std.specs.Prelude.{◌≡◌};
 ghost use Rattle.macho_symbols.specs.SectionNumbers.{AreByNumber};
 
+use crate::nlist::MAX_SECT;
 use macho_image::{Image, Section};
 
-/// How many numbers `n_sect` has, NO_SECT (0) among them.
-pub(crate) const N_SECT_COUNT: usize = 256;
+/// How many numbers `n_sect` has, NO_SECT among them.
+pub(crate) const N_SECT_COUNT: usize = MAX_SECT as usize + 1;
 
 /// The sections of an image by number. One walk over the load commands is enough for all entries.
 pub(crate) fn sections_by_number<'a>(image: &Image<'a>) -> [Option<Section<'a>>; N_SECT_COUNT]

@@ -14,12 +14,16 @@ returns-then-number-extents-clause-section c =
     sym (ap (λ o. option_map_or (λ s. s.section) o [])
     (section_past c.args.image.now c.args.extents.now c.requires c.args.number c.if-number-extents.true (Fits-lt-pow c.ranges.number)))
 
+pub section-section-requires : goal.section-section-requires
+section-section-requires c =
+    (section_is c.args.image.now c.args.extents.now c.requires c.args.number _ (omega arith) c.if-number-extents.false).room
+
 pub returns-clause-segment : goal.returns-clause-segment
 returns-clause-segment c =
-    c.names.ensures.segment ∙ sym (ap (λ o. option_map_or (λ s. s.segment) o [])
-    (section_is c.args.image.now c.args.extents.now c.requires c.args.number _ (omega arith) c.if-number-extents.false))
+    ap (λ s. s.segment) c.section-section.ensures ∙ sym (ap (λ o. option_map_or (λ s. s.segment) o [])
+    (section_is c.args.image.now c.args.extents.now c.requires c.args.number _ (omega arith) c.if-number-extents.false).is)
 
 pub returns-clause-section : goal.returns-clause-section
 returns-clause-section c =
-    c.names.ensures.section ∙ sym (ap (λ o. option_map_or (λ s. s.section) o [])
-    (section_is c.args.image.now c.args.extents.now c.requires c.args.number _ (omega arith) c.if-number-extents.false))
+    ap (λ s. s.section) c.section-section.ensures ∙ sym (ap (λ o. option_map_or (λ s. s.section) o [])
+    (section_is c.args.image.now c.args.extents.now c.requires c.args.number _ (omega arith) c.if-number-extents.false).is)
