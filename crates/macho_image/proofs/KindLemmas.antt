@@ -1,10 +1,9 @@
 -- Load commands by their kinds, one by one.
-use Rattle.std.proofs.Common.{◌≡◌, ℕ, ◌+◌, Bool, true, false, cond, List, [], ◌∷◌, length, refl}
+use Rattle.std.proofs.Common.{◌≡◌, ℕ, ◌+◌, Bool, true, false, cond, List, ◌∷◌, length, refl}
 use Rattle.std.specs.List.{filter_map, cons_option}
 use Rattle.macho_image.specs.Commands.{SegmentRecord, is_segment, is_uuid, is_symtab}
 use Rattle.macho_image.specs.Contents.{uuid_bytes, symtab_fields}
 use Rattle.macho_image.specs.Kinds.{load_command, load_commands_from, segment_of}
-use Rattle.macho_image.specs.declared.load_command.LoadCommand.{LoadCommand}
 use Rattle.macho_image.specs.declared.load_command.LoadCommand.TheVariants.{Uuid, Segment, Symtab, Other}
 
 -- the segments among commands, one command more

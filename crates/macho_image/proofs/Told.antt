@@ -1,12 +1,11 @@
 -- What is known of each image: how long it is, that its commands have no fault, and that its UUID has sixteen bytes.
-use Rattle.std.proofs.Common.{◌≡◌, ℕ, zero, suc, ◌+◌, ◌*◌, ◌^◌, ◌<◌, ◌≤◌, Bool, true, false, cond, nat_lt, ◌&&◌, ◌||◌, List, [], ◌∷◌, ◌++◌, length, Option, Some, None, refl, sym, ap, ◌∙◌, inr, arith, append_assoc, length-append, length-take, length-drop, unwrap_or}
+use Rattle.std.proofs.Common.{◌≡◌, ℕ, zero, suc, ◌+◌, ◌^◌, ◌<◌, ◌≤◌, Bool, true, false, cond, nat_lt, ◌||◌, List, [], ◌∷◌, ◌++◌, length, Option, Some, None, refl, sym, ap, ◌∙◌, inr, arith, append_assoc, length-append, length-take, length-drop, unwrap_or}
 use Rattle.std.specs.List.{concat, AllByRecursion, list_any, find, starts_with}
 use Rattle.std.specs.Option.{option_map}
 use Rattle.std.specs.Prelude.{nat_eq, Contains, slice_index_or}
 use Rattle.std.proofs.lemmas.Option.{none-some}
 use Rattle.std.proofs.lemmas.List.{append-nil}
 use Rattle.std.proofs.lemmas.List.Folds.{concat-append}
-use Rattle.std.proofs.lemmas.Bool.Decides.{nat_tests}
 use Rattle.macho_image.specs.Layout.{magic, sizeofcmds, ncmds, command_bytes}
 use Rattle.macho_image.specs.Commands.{IsCommand, IsFront, HasRoom, commands, is_uuid, is_symtab}
 use Rattle.macho_image.specs.Fault.{header_fault, command_fault, IsImage}

@@ -1,10 +1,10 @@
 -- How far a walk over the load commands has come, and what it shows where it ends.
-use Rattle.std.proofs.Common.{◌≡◌, ℕ, ◌+◌, ◌*◌, nat_lt, ◌<◌, ◌≤◌, Bool, true, false, cond, ◌||◌, List, [], ◌∷◌, ◌++◌, length, Option, Some, None, refl, sym, ap, ◌∙◌, inl, inr, arith, append_assoc, length-append, below_more, subst}
+use Rattle.std.proofs.Common.{◌≡◌, ℕ, ◌+◌, ◌<◌, Bool, true, false, cond, ◌||◌, List, [], ◌∷◌, ◌++◌, length, Option, Some, None, refl, sym, ap, ◌∙◌, inl, inr, arith, append_assoc, length-append, below_more, subst}
 use Rattle.std.specs.List.{concat, AllByRecursion, list_any, find}
 use Rattle.std.specs.Option.{option_map, option_or, is_some}
 use Rattle.std.proofs.lemmas.List.{append-nil}
 use Rattle.std.proofs.lemmas.List.Folds.{concat-append, find-append}
-use Rattle.macho_image.specs.Commands.{IsCommand, IsFront, HasNoCommand, HasRoom, is_segment, nsects, is_uuid, is_symtab}
+use Rattle.macho_image.specs.Commands.{IsCommand, IsFront, HasNoCommand, HasRoom, is_uuid, is_symtab}
 use Rattle.macho_image.specs.Fault.{command_fault, IsFaultAt, NoneBelow, IsFirstFault}
 use Rattle.macho_image.specs.Contents.{uuid_bytes, symtab_fields, uuid_among, symtab_among}
 use Rattle.macho_image.specs.Inner.{AreContents}
@@ -14,7 +14,6 @@ use Rattle.macho_image.specs.declared.symtab_command.Symtab.{Symtab}
 use Rattle.macho_image.proofs.Fronts.{fronts_agree, one_front}
 use Rattle.macho_image.proofs.CommandFaults.{room_of}
 use Rattle.std.proofs.lemmas.Option.{none-some}
-use Rattle.std.proofs.lemmas.Bool.Decides.{nat_tests}
 
 -- Before this place stand commands without a fault, the rest is behind them, and they say this.
 pub record Reached (area : List ℕ) (place : ℕ) (rest : List ℕ) (uuid : Option (List ℕ)) (symtab : Option Symtab) : Type 0 where

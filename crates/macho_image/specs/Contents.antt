@@ -1,9 +1,10 @@
 -- What an image says of itself (mach-o/loader.h).
 use Rattle.std.specs.Prelude.{◌≡◌, ℕ, Bool, List, [], ◌==◌, ◌%◌, ◌^◌, take, drop, Option, unwrap_or}
-use Rattle.std.specs.List.{find}
+use Rattle.std.specs.List.{find, AllByRecursion}
 use Rattle.std.specs.Option.{option_map}
 use Rattle.macho_image.specs.Layout.{u32_at, cputype, cpusubtype, filetype}
-use Rattle.macho_image.specs.Commands.{commands, is_uuid, is_symtab}
+use Rattle.macho_image.specs.Commands.{commands, is_uuid, is_symtab, HasRoom}
+use Rattle.macho_image.specs.Fault.{IsImage}
 use Rattle.macho_image.specs.declared.symtab_command.Symtab.{Symtab}
 
 -- uuid_command.uuid: sixteen bytes
@@ -38,3 +39,10 @@ arch_of image = (cputype image, cpusubtype image % 2 ^ 24)
 -- whether filetype is MH_DSYM (0xa), a companion file with only debug sections
 abbrev pub is_dsym_image : List ℕ → Bool
 is_dsym_image image = filetype image == 0xa
+
+-- the bytes are an image, with this UUID and this symbol table
+pub record IsRead (image : List ℕ) (uuid : List ℕ) (symtab : Option Symtab) : Type 0 where
+  pub sound : IsImage image
+  pub room : AllByRecursion HasRoom (commands image)
+  pub uuid_is : uuid ≡ uuid_of image
+  pub symtab_is : symtab ≡ symtab_of image

@@ -4,8 +4,8 @@ ghost use Rattle.std.specs.Prelude.{◌≡◌, ◌*◌, ◌^◌, ◌≤◌, ◌<
 ghost use Rattle.std.specs.List.{AllByRecursion};
 ghost use Rattle.std.specs.Option.{option_map};
 ghost use Rattle.macho_image.specs.Commands.{commands, HasRoom};
+ghost use Rattle.macho_image.specs.Contents.{uuid_of, symtab_of, arch_of, is_dsym_image, IsRead};
 ghost use Rattle.macho_image.specs.Kinds.{load_commands};
-ghost use Rattle.macho_image.specs.Contents.{uuid_of, symtab_of, arch_of, is_dsym_image};
 ghost use Rattle.macho_image.specs.Fault.{IsImageFault, IsImage};
 ghost use Rattle.macho_image.specs.Sections.{IsSectionOf, sections, section_of, text_base_of};
 
@@ -33,7 +33,7 @@ pub struct Image<'a> {
 
 impl<'a> Model for Image<'a> {
     ghost use Rattle.std.specs.Prelude.{ℕ, List};
-    ghost use Rattle.macho_image.specs.Inner.{IsRead};
+    ghost use Rattle.macho_image.specs.Contents.{IsRead};
 
     ghost Value = { List ℕ };
 
@@ -67,6 +67,26 @@ impl<'a> Image<'a> {
             uuid,
             symtab: contents.symtab,
         })
+    }
+
+    /// The image of bytes that were read before, by what [`Image::parts`] gave of them. No command is looked at
+    /// again.
+    pub fn of_parts(bytes: &'a [u8], uuid: Uuid, symtab: Option<Symtab>) -> Image<'a>
+        requires { IsRead bytes.now uuid symtab }
+        ensures { result ≡ bytes.now }
+    {
+        Image {
+            bytes,
+            uuid,
+            symtab,
+        }
+    }
+
+    /// What reading found, for who keeps the bytes: [`Image::uuid`] and [`Image::symtab`].
+    pub fn parts(&self) -> (Uuid, Option<Symtab>)
+        ensures { IsRead self.now result.0 result.1 }
+    {
+        (self.uuid, self.symtab)
     }
 
     /// The same image once more, of the same borrowed bytes.

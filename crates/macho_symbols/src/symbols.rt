@@ -33,18 +33,12 @@ impl<'a> Model for Symbols<'a> {
 impl<'a> Symbols<'a> {
     /// Reads the symbols of an image, or says what is wrong with its LC_SYMTAB, as `SymbolFault` tells. An
     /// image without one has no symbols. No entry is looked at, and none is a fault.
-    #[tactic(auto, unfolding(crate::specs::Symbols::table_of))]
     pub fn read(image: &Image<'a>) -> Result<Symbols<'a>, SymbolFault>
         ensures faulty { IfErr result (λ fault. IsSymbolFault image.now fault) }
         ensures sound { IfOk result (λ _. HasSymbols image.now) }
         ensures bytes { IfOk result (λ symbols. symbols ≡ image.now) }
     {
-        let table = image.symtab().unwrap_or(Symtab {
-            symoff: 0,
-            nsyms: 0,
-            stroff: 0,
-            strsize: 0,
-        });
+        let table = table_in(image);
         let len = image.bytes().len() as u64;
         if table.nsyms > 0 && len < u64::from(table.symoff) + 16 * u64::from(table.nsyms) {
             return Err(SymbolFault::SymbolsOutside);
@@ -52,10 +46,18 @@ impl<'a> Symbols<'a> {
         if table.strsize > 0 && len < u64::from(table.stroff) + u64::from(table.strsize) {
             return Err(SymbolFault::StringsOutside);
         }
-        Ok(Symbols {
+        Ok(Symbols::of_read(image))
+    }
+
+    /// The symbols of an image that [`Symbols::read`] has accepted before. Nothing is tested again.
+    pub fn of_read(image: &Image<'a>) -> Symbols<'a>
+        requires { HasSymbols image.now }
+        ensures { result ≡ image.now }
+    {
+        Symbols {
             image: image.copy(),
-            table,
-        })
+            table: table_in(image),
+        }
     }
 
     /// The same symbols once more, of the same borrowed bytes.
@@ -96,4 +98,17 @@ impl<'a> Symbols<'a> {
     {
         strings_in(self.image.bytes(), &self.table)
     }
+}
+
+/// Where the tables of an image lie.
+#[tactic(auto, unfolding(crate::specs::Symbols::table_of))]
+fn table_in(image: &Image<'_>) -> Symtab
+    ensures { result ≡ table_of image.now }
+{
+    image.symtab().unwrap_or(Symtab {
+        symoff: 0,
+        nsyms: 0,
+        stroff: 0,
+        strsize: 0,
+    })
 }

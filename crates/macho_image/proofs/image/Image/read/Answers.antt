@@ -1,6 +1,6 @@
 use Rattle.std.proofs.lemmas.Result.{err_from_is_err_and}
 use Rattle.macho_image.proofs.Images.{faulty_walk, no_uuid_walk, sound_walk}
-use Rattle.macho_image.specs.Inner.{IsRead}
+use Rattle.macho_image.specs.Contents.{IsRead}
 use Rattle.macho_image.proofs.image.Image.read.Goals as goal
 use Rattle.macho_image.proofs.image.Image.read.Goals.{In-Some}
 
