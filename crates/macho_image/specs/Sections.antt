@@ -18,7 +18,13 @@ pub record SectionRecord : Type 0 where
 -- the section_64 that begins the bytes, which stand at a place of the image
 unfoldable pub section_record : ℕ → List ℕ → SectionRecord
 section_record place bytes =
-    record { place = place; segment = name_at bytes 16; section = name_at bytes 0; addr = u64_at bytes 32; size = u64_at bytes 40 }
+    record {
+      place = place;
+      segment = name_at bytes 16;
+      section = name_at bytes 0;
+      addr = u64_at bytes 32;
+      size = u64_at bytes 40;
+    }
 
 -- the section_64 at a place of the image
 unfoldable pub section_at : List ℕ → ℕ → SectionRecord

@@ -15,7 +15,7 @@ use crate::segment::is_short;
 use crate::symtab_command::Symtab;
 use uuid::Uuid;
 
-/// Tests that a command, which is so many from the first, has room for what its kind holds.
+/// Tests that a command has room for what its kind holds. Its number counts the commands before it.
 fn check_room(number: u32, command: &[u8]) -> Result<(), ImageFault>
     requires { IsCommand command.now }
     ensures faulty { IfErr result (λ fault. (has_uuid has_symtab : Bool) →
@@ -38,7 +38,7 @@ pub(crate) struct Contents {
 }
 
 impl Contents {
-    /// What they say with the UUID of one command more, which is so many from the first.
+    /// What they say with the UUID of one command more. Its number counts the commands before it.
     fn with_uuid(self, number: u32, uuid: Uuid) -> Result<Contents, ImageFault>
         ensures faulty { IfErr result (λ fault. (fault ≡ SecondUuid number) × (is_some self.uuid ≡ true)) }
         ensures alone { IfOk result (λ _. self.uuid ≡ None) }
@@ -54,7 +54,7 @@ impl Contents {
         })
     }
 
-    /// What they say with the symbol table of one command more, which is so many from the first.
+    /// What they say with the symbol table of one command more. Its number counts the commands before it.
     fn with_symtab(self, number: u32, symtab: Symtab) -> Result<Contents, ImageFault>
         ensures faulty { IfErr result (λ fault. (fault ≡ SecondSymtab number) × (is_some self.symtab ≡ true)) }
         ensures alone { IfOk result (λ _. self.symtab ≡ None) }
@@ -70,17 +70,19 @@ impl Contents {
         })
     }
 
-    /// What they say with one command more, which is so many from the first and stands at a place of the
-    /// image. A segment and a command of any other kind say nothing.
+    /// What they say with one command more, which stands at a place of the image. Its number counts the
+    /// commands before it. A segment and a command of any other kind say nothing.
     #[tactic(auto, unfolding(crate::specs::Kinds::load_command))]
     fn with_command(self, number: u32, place: u32, command: &[u8]) -> Result<Contents, ImageFault>
         requires command { IsCommand command.now }
         requires small { place + length command.now < 2 ^ 32 }
         ensures faulty { IfErr result (λ fault.
             command_fault number (is_some self.uuid) (is_some self.symtab) command.now ≡ Some fault) }
-        ensures sound { IfOk result (λ _. command_fault number (is_some self.uuid) (is_some self.symtab) command.now ≡ None) }
+        ensures sound { IfOk result (λ _.
+            command_fault number (is_some self.uuid) (is_some self.symtab) command.now ≡ None) }
         ensures uuid { IfOk result (λ contents. contents.uuid ≡ option_or self.uuid (uuid_among (command.now ∷ []))) }
-        ensures symtab { IfOk result (λ contents. contents.symtab ≡ option_or self.symtab (symtab_among (command.now ∷ []))) }
+        ensures symtab { IfOk result (λ contents.
+            contents.symtab ≡ option_or self.symtab (symtab_among (command.now ∷ []))) }
     {
         check_room(number, command)?;
         match LoadCommand::of(place, command) {

@@ -37,7 +37,8 @@ pub fn one_of_each()
 pub fn section_places()
     ensures number { (segment : SegmentRecord) → length (sections_in segment) ≡ nsects segment.bytes }
     ensures places { (segment : SegmentRecord) (i : ℕ) → i < nsects segment.bytes →
-        slice_get (sections_in segment) i ≡ Some (section_record (segment.place + 72 + 80 * i) (drop (72 + 80 * i) segment.bytes)) }
+        slice_get (sections_in segment) i
+        ≡ Some (section_record (segment.place + 72 + 80 * i) (drop (72 + 80 * i) segment.bytes)) }
 {}
 
 /// Each segment of an image stands there at its place, and so does each section.

@@ -28,7 +28,8 @@ impl<'a> Model for LoadCommands<'a> {
 
     ghost view = { λ c. load_commands_from c.place (first_commands c.left c.rest.now) };
 
-    ghost invariant = { λ c. (c.place + length c.rest.now < 2 ^ 32) × AllByRecursion HasRoom (first_commands c.left c.rest.now) };
+    ghost invariant = { λ c. (c.place + length c.rest.now < 2 ^ 32)
+        × AllByRecursion HasRoom (first_commands c.left c.rest.now) };
 }
 
 impl<'a> LoadCommands<'a> {

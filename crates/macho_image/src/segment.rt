@@ -44,7 +44,8 @@ impl<'a> Model for SegmentCommand64<'a> {
 
     ghost view = { λ s. record { place = s.place; bytes = s.bytes.now } };
 
-    ghost invariant = { λ s. (72 + 80 * nsects s.bytes.now ≤ length s.bytes.now) × (s.place + length s.bytes.now < 2 ^ 32) };
+    ghost invariant = { λ s. (72 + 80 * nsects s.bytes.now ≤ length s.bytes.now)
+        × (s.place + length s.bytes.now < 2 ^ 32) };
 }
 
 impl<'a> SegmentCommand64<'a> {

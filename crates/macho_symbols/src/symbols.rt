@@ -9,6 +9,7 @@ ghost use Rattle.macho_symbols.specs.Fault.{IsSymbolFault, HasSymbols};
 use crate::entries::Entries;
 use crate::fault::SymbolFault;
 use crate::name::strings_in;
+use crate::nlist::NLIST_64_LEN;
 use macho_image::{Image, Symtab};
 use std::marker::Model;
 
@@ -40,7 +41,8 @@ impl<'a> Symbols<'a> {
     {
         let table = table_in(image);
         let len = image.bytes().len() as u64;
-        if table.nsyms > 0 && len < u64::from(table.symoff) + 16 * u64::from(table.nsyms) {
+        let entries_len = NLIST_64_LEN as u64 * u64::from(table.nsyms);
+        if table.nsyms > 0 && len < u64::from(table.symoff) + entries_len {
             return Err(SymbolFault::SymbolsOutside);
         }
         if table.strsize > 0 && len < u64::from(table.stroff) + u64::from(table.strsize) {
