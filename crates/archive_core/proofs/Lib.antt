@@ -9,3 +9,4 @@ pub mod Answering
 pub mod Lookups
 pub mod Entries
 pub mod Summaries
+pub mod Beginnings

@@ -1,9 +1,10 @@
 -- Which bytes are a slice, why others are none, and the key of a slice.
 use Rattle.std.specs.Prelude.{◌≡◌, ℕ, List}
 use Rattle.macho_image.specs.Fault.{IsImage, IsImageFault}
-use Rattle.macho_image.specs.Contents.{uuid_of, arch_of}
+use Rattle.macho_image.specs.Contents.{uuid_of, arch_of, IsRead}
 use Rattle.macho_symbols.specs.Fault.{HasSymbols, IsSymbolFault}
 use Rattle.archive_core.specs.declared.keys.SliceKey.{SliceKey}
+use Rattle.archive_core.specs.declared.slices.SliceFacts.{SliceFacts}
 use Rattle.archive_core.specs.declared.faults.SliceFault.{SliceFault}
 use Rattle.archive_core.specs.declared.faults.SliceFault.TheVariants.{Image, Symbols}
 use Rattle.archive_core.specs.declared.faults.AdmitFault.{AdmitFault}
@@ -31,7 +32,8 @@ key_of bytes = record {
   arch = record { cputype = (arch_of bytes).0; subtype = (arch_of bytes).1 };
 }
 
--- what a slice keeps: valid bytes, and their key
-pub record IsKept (bytes : List ℕ) (key : SliceKey) : Type 0 where
-  pub valid : IsValid bytes
-  pub key_is : key ≡ key_of bytes
+-- what a check finds out of a slice: the bytes are valid, and this is their key, and where their symbols lie
+pub record IsCheckedOf (bytes : List ℕ) (facts : SliceFacts) : Type 0 where
+  pub image : IsRead bytes facts.key.uuid facts.symtab
+  pub symbols : HasSymbols bytes
+  pub key_is : facts.key ≡ key_of bytes

@@ -40,4 +40,4 @@ pub use keys::{ArchKey, Digest, SliceKey};
 pub use lookup::{Answer, Own, Where};
 pub use operations::{Operation, Record};
 pub use plain::PlainArchive;
-pub use slices::Slice;
+pub use slices::{CheckedSlice, Slice, SliceFacts};

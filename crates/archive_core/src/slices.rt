@@ -1,41 +1,130 @@
-//! Slices that an archive keeps.
+//! Slices: bytes that were checked, borrowed or owned.
 ghost use Rattle.std.specs.Prelude.{◌≡◌, IfOk, IfErr, OnOk};
 ghost use Rattle.sha2.specs.Sha256.{sha256};
-ghost use Rattle.archive_core.specs.Valid.{IsValid, IsSliceFault, IsAdmitFault, key_of};
+ghost use Rattle.macho_symbols.specs.Fault.{HasSymbols};
+ghost use Rattle.archive_core.specs.Valid.{IsValid, IsSliceFault, IsAdmitFault, IsCheckedOf, key_of};
 
+use crate::laws::one_slice_fault;
 use crate::{AdmitFault, ArchKey, Digest, SliceFault, SliceKey};
-use macho_image::Image;
+use macho_image::{Image, Symtab};
 use macho_symbols::Symbols;
 use memory::{Heap, NoMemory};
 use sha2::{Digest as _, Sha256};
 use std::marker::Model;
 
-/// A slice: the bytes of a valid image with valid symbols, owned. A contract sees it as its bytes.
+/// What a check finds out of a slice, so that its bytes are read once: its key, and where its symbols lie.
+#[derive(Clone, Copy, Debug)]
+pub struct SliceFacts {
+    key: SliceKey,
+    symtab: Option<Symtab>,
+}
+
+/// A slice whose bytes are borrowed: the bytes of a valid image with valid symbols, with what their check found
+/// out. A contract sees it as its bytes.
 ///
-/// Its key is kept beside the bytes, since every comparison of records begins with it.
+/// No call reads the load commands again, but for what it is asked of them.
+#[derive(Drop)]
+pub struct CheckedSlice<'a> {
+    bytes: &'a [u8],
+    facts: SliceFacts,
+}
+
+impl<'a> Model for CheckedSlice<'a> {
+    ghost use Rattle.std.specs.Prelude.{ℕ, List};
+    ghost use Rattle.archive_core.specs.Valid.{IsCheckedOf};
+
+    ghost Value = { List ℕ };
+
+    ghost view = { λ slice. slice.bytes.now };
+
+    ghost invariant = { λ slice. IsCheckedOf slice.bytes.now slice.facts };
+}
+
+/// A slice that an archive keeps: the bytes of a valid image with valid symbols, owned. A contract sees it as its
+/// bytes.
+///
+/// What its check found out is kept beside the bytes: every comparison of records begins with the key, and every
+/// lookup reads the symbols.
 #[derive(Drop)]
 pub struct Slice {
     bytes: Vec<u8, Heap>,
-    key: SliceKey,
+    facts: SliceFacts,
 }
 
 impl Model for Slice {
     ghost use Rattle.std.specs.Prelude.{ℕ, List};
-    ghost use Rattle.archive_core.specs.Valid.{IsKept};
+    ghost use Rattle.archive_core.specs.Valid.{IsCheckedOf};
 
     ghost Value = { List ℕ };
 
     ghost view = { λ slice. slice.bytes.items };
 
-    ghost invariant = { λ slice. IsKept slice.bytes.items slice.key };
+    ghost invariant = { λ slice. IsCheckedOf slice.bytes.items slice.facts };
+}
+
+impl<'a> CheckedSlice<'a> {
+    /// The bytes.
+    pub fn bytes(&self) -> &'a [u8]
+        ensures bytes { result.now ≡ self.now }
+        ensures valid { IsValid self.now }
+    {
+        self.bytes
+    }
+
+    /// What the check found out, for who takes the bytes over: [`Slice::of_checked`].
+    pub fn facts(&self) -> SliceFacts
+        ensures { IsCheckedOf self.now result }
+    {
+        self.facts
+    }
+
+    /// Under what the slice is kept.
+    pub fn key(&self) -> SliceKey
+        ensures { result ≡ key_of self.now }
+    {
+        self.facts.key
+    }
+
+    /// The SHA-256 of the bytes, computed anew by each call.
+    pub fn digest(&self) -> Digest
+        ensures { result.0 ≡ sha256 self.now }
+    {
+        Digest(Sha256::digest(self.bytes))
+    }
+
+    /// The image.
+    pub fn image(&self) -> Image<'a>
+        ensures { result ≡ self.now }
+    {
+        Image::of_parts(self.bytes, self.facts.key.uuid, self.facts.symtab)
+    }
+
+    /// The symbols of the image.
+    pub fn symbols(&self) -> Symbols<'a>
+        ensures { result ≡ self.now }
+    {
+        let image = Image::of_parts(self.bytes, self.facts.key.uuid, self.facts.symtab);
+        Symbols::of_read(&image)
+    }
+
+    /// The slice, whose bytes are copied.
+    pub fn admit(&self, heap: Heap) -> Result<Slice, NoMemory>
+        ensures { IfOk result (λ slice. slice ≡ self.now) }
+    {
+        let bytes = Vec::from_slice(heap, self.bytes)?;
+        Ok(Slice {
+            bytes,
+            facts: self.facts,
+        })
+    }
 }
 
 impl Slice {
-    /// Tests whether the bytes are a slice, and gives its key, or else the first fault of the image,
-    /// or of the symbols of one that has none. Takes no memory.
-    pub fn check(bytes: &[u8]) -> Result<SliceKey, SliceFault>
+    /// Tests whether the bytes are a slice, and gives them as one, or else the first fault of the image, or of the
+    /// symbols of one that has none. Takes no memory.
+    pub fn check(bytes: &[u8]) -> Result<CheckedSlice<'_>, SliceFault>
         ensures valid { OnOk result (IsValid bytes.now) }
-        ensures key { IfOk result (λ key. key ≡ key_of bytes.now) }
+        ensures slice { IfOk result (λ slice. slice ≡ bytes.now) }
         ensures faulty { IfErr result (IsSliceFault bytes.now) }
     {
         let image = match Image::read(bytes) {
@@ -43,7 +132,10 @@ impl Slice {
             Err(fault) => return Err(SliceFault::Image(fault)),
         };
         match Symbols::read(&image) {
-            Ok(_) => Ok(key_in(&image)),
+            Ok(_) => Ok(CheckedSlice {
+                bytes,
+                facts: facts_in(&image),
+            }),
             Err(fault) => Err(SliceFault::Symbols(fault)),
         }
     }
@@ -54,11 +146,11 @@ impl Slice {
         ensures slice { IfOk result (λ slice. slice ≡ bytes.now) }
         ensures faulty { IfErr result (IsAdmitFault bytes.now) }
     {
-        let key = match Slice::check(bytes) {
-            Ok(key) => key,
+        let checked = match Slice::check(bytes) {
+            Ok(checked) => checked,
             Err(fault) => return Err(AdmitFault::Slice(fault)),
         };
-        match keep(heap, bytes, key) {
+        match checked.admit(heap) {
             Ok(slice) => Ok(slice),
             Err(NoMemory) => Err(AdmitFault::OutOfMemory),
         }
@@ -70,24 +162,43 @@ impl Slice {
         ensures slice { IfOk result (λ slice. slice ≡ bytes.items) }
         ensures faulty { IfErr result (IsSliceFault bytes.items) }
     {
-        let key = Slice::check(&bytes)?;
-        Ok(Slice { bytes, key })
+        let facts = Slice::check(&bytes)?.facts();
+        Ok(Slice::of_checked(bytes, facts))
     }
 
-    /// The slice of bytes that [`Slice::check`] has accepted, which are copied.
+    /// The slice of bytes that [`Slice::check`] has accepted, by what it found out of them. They are taken over
+    /// without a copy.
+    pub fn of_checked(bytes: Vec<u8, Heap>, facts: SliceFacts) -> Slice
+        requires { IsCheckedOf bytes.items facts }
+        ensures { result ≡ bytes.items }
+    {
+        Slice { bytes, facts }
+    }
+
+    /// The slice of bytes that [`Slice::check`] has accepted, of which nothing was kept. They are read again and copied.
     pub fn of_valid(heap: Heap, bytes: &[u8]) -> Result<Slice, NoMemory>
         requires { IsValid bytes.now }
         ensures { IfOk result (λ slice. slice ≡ bytes.now) }
     {
-        let key = key_in(&image_in(bytes));
-        keep(heap, bytes, key)
+        one_slice_fault();
+        Slice::check(bytes).unwrap().admit(heap)
+    }
+
+    /// The slice, borrowed.
+    pub fn lend(&self) -> CheckedSlice<'_>
+        ensures { result ≡ self.now }
+    {
+        CheckedSlice {
+            bytes: &self.bytes,
+            facts: self.facts,
+        }
     }
 
     /// A slice of the same bytes.
     pub fn copy(&self, heap: Heap) -> Result<Slice, NoMemory>
         ensures { IfOk result (λ slice. slice ≡ self.now) }
     {
-        keep(heap, &self.bytes, self.key)
+        self.lend().admit(heap)
     }
 
     /// The bytes.
@@ -95,78 +206,51 @@ impl Slice {
         ensures bytes { result.now ≡ self.now }
         ensures valid { IsValid self.now }
     {
-        self.bytes.as_slice()
+        self.lend().bytes()
     }
 
     /// Under what the slice is kept.
     pub fn key(&self) -> SliceKey
         ensures { result ≡ key_of self.now }
     {
-        self.key
+        self.facts.key
     }
 
     /// The SHA-256 of the bytes, computed anew by each call.
     pub fn digest(&self) -> Digest
         ensures { result.0 ≡ sha256 self.now }
     {
-        Digest(Sha256::digest(self.bytes()))
+        self.lend().digest()
     }
 
-    /// The image, read anew from the bytes. Takes no memory.
+    /// The image. Takes no memory.
     pub fn image(&self) -> Image<'_>
         ensures { result ≡ self.now }
     {
-        image_in(self.bytes())
+        self.lend().image()
     }
 
-    /// The symbols of the image, read anew from the bytes. Takes no memory.
+    /// The symbols of the image. Takes no memory.
     pub fn symbols(&self) -> Symbols<'_>
         ensures { result ≡ self.now }
     {
-        symbols_in(self.bytes())
+        self.lend().symbols()
     }
 }
 
-// The slice of valid bytes under their key.
-fn keep(heap: Heap, bytes: &[u8], key: SliceKey) -> Result<Slice, NoMemory>
-    requires valid { IsValid bytes.now }
-    requires key_is { key ≡ key_of bytes.now }
-    ensures { IfOk result (λ slice. slice ≡ bytes.now) }
-{
-    let bytes = Vec::from_slice(heap, bytes)?;
-    Ok(Slice { bytes, key })
-}
-
-// The image that valid bytes are.
-fn image_in(bytes: &[u8]) -> Image<'_>
-    requires { IsValid bytes.now }
-    ensures { result ≡ bytes.now }
-{
-    match Image::read(bytes) {
-        Ok(image) => image,
-        Err(_) => unreachable!(),
-    }
-}
-
-// The symbols that valid bytes have.
-fn symbols_in(bytes: &[u8]) -> Symbols<'_>
-    requires { IsValid bytes.now }
-    ensures { result ≡ bytes.now }
-{
-    match Symbols::read(&image_in(bytes)) {
-        Ok(symbols) => symbols,
-        Err(_) => unreachable!(),
-    }
-}
-
-// The key of an image.
+// What is to be kept of an image whose symbols can be read.
 #[tactic(auto, unfolding(crate::specs::Valid::key_of))]
-fn key_in(image: &Image<'_>) -> SliceKey
-    ensures { result ≡ key_of image.now }
+fn facts_in(image: &Image<'_>) -> SliceFacts
+    requires { HasSymbols image.now }
+    ensures { IsCheckedOf image.now result }
 {
+    let (uuid, symtab) = image.parts();
     let (cputype, subtype) = image.arch();
-    SliceKey {
-        uuid: image.uuid(),
-        arch: ArchKey { cputype, subtype },
+    SliceFacts {
+        key: SliceKey {
+            uuid,
+            arch: ArchKey { cputype, subtype },
+        },
+        symtab,
     }
 }
