@@ -1,5 +1,5 @@
 -- What the kind of a file says of its first bytes and of its parts.
-use Rattle.std.proofs.Common.{◌≡◌, ◌≢◌, ℕ, Bool, true, false, List, [], ◌∷◌, refl, ap, arith}
+use Rattle.std.proofs.Common.{◌≡◌, ◌≢◌, ℕ, Bool, true, false, List, [], ◌∷◌, refl, sym, ap, arith}
 use Rattle.std.specs.Prelude.{◌&&◌, nat_eq, if◌then◌else◌}
 use Rattle.std.proofs.lemmas.Bool.Decides.{nat_tests}
 use Rattle.fat_slices.specs.Kind.{kind_of, is_fat}
@@ -7,6 +7,8 @@ use Rattle.fat_slices.specs.Slices.{slices}
 use Rattle.fat_slices.specs.Fault.{IsUniversal}
 use Rattle.fat_slices.specs.declared.file_kind.FileKind.{FileKind}
 use Rattle.fat_slices.specs.declared.file_kind.FileKind.TheVariants.{Thin, Universal, Universal64, Other}
+use Rattle.archive_core.specs.Valid.{IsValid}
+use Rattle.archive_core.proofs.Beginnings.{slice_begins}
 use Rattle.archive_exchange.specs.File.{is_admissible, parts, parts_of, HasParts}
 
 -- a file does not begin in two ways
@@ -63,3 +65,15 @@ has_parts_thin file e = record { kind = λ w. cc; table = λ h. let fat : is_fat
 
 pub has_parts_fat : (file : List ℕ) → is_fat (kind_of file) ≡ true → IsUniversal file → HasParts file
 has_parts_fat file e sound = record { kind = not_other (kind_of file) e; table = λ h. sound }
+
+-- a slice begins as an image does
+pub valid_begins : (part : List ℕ) → IsValid part → true ≡ is_admissible part
+valid_begins part valid = sym (slice_begins part valid)
+
+-- and what does so in an accepted file is a slice, so what is none does not
+pub faulty_begins : (part : List ℕ) → (is_admissible part ≡ true → IsValid part) → (IsValid part → ⊥) → false ≡ is_admissible part
+faulty_begins part slice none = by (is_admissible part) refl
+  where
+    by : (b : Bool) → is_admissible part ≡ b → false ≡ b
+    by true e = absurd (none (slice e))
+    by false e = refl

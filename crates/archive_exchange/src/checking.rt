@@ -6,11 +6,21 @@ ghost use Rattle.fat_slices.specs.Slices.{slices};
 ghost use Rattle.archive_core.specs.Valid.{IsValid, IsSliceFault};
 ghost use Rattle.archive_core.specs.declared.faults.SliceFault.{SliceFault};
 ghost use Rattle.archive_exchange.specs.File.{IsAcceptedFile, IsTakeFault, is_admissible};
+ghost use Rattle.archive_exchange.specs.Accepted.{IsAcceptedAs};
 
 use crate::TakeFault;
-use archive_core::Slice;
 use archive_core::laws::one_slice_fault;
+use archive_core::{CheckedSlice, Slice};
 use fat_slices::{FileKind, Universal, kind};
+
+/// An accepted file, as its check found it. It borrows the file's bytes.
+#[derive(Drop)]
+pub enum AcceptedFile<'a> {
+    /// A thin file, which is its only part: the slice that it is.
+    Thin(CheckedSlice<'a>),
+    /// A universal file, each of whose parts was checked.
+    Universal(Universal<'a>),
+}
 
 /// Whether a part of a file begins as a 64-bit little-endian image.
 pub(crate) fn begins_as_image(part: &[u8]) -> bool
@@ -35,23 +45,25 @@ fn check_part(place: u64, part: &[u8]) -> Result<bool, TakeFault>
 }
 
 /// Checks a file that is its only part.
-fn check_thin(file: &[u8]) -> Result<(), TakeFault>
+fn check_thin(file: &[u8]) -> Result<CheckedSlice<'_>, TakeFault>
     requires { kind_of file.now ≡ FileKind.Thin }
     ensures accepted { OnOk result (IsAcceptedFile file.now) }
+    ensures slice { IfOk result (λ slice. slice ≡ file.now) }
     ensures refused { IfErr result (IsTakeFault file.now) }
     ensures no_memory { IfErr result (λ fault. fault ≢ TakeFault.OutOfMemory) }
 {
     one_slice_fault();
     match Slice::check(file) {
-        Ok(_) => Ok(()),
+        Ok(slice) => Ok(slice),
         Err(fault) => Err(TakeFault::Slice(0, fault)),
     }
 }
 
 /// Checks the slices of a universal file.
-fn check_universal(file: &[u8]) -> Result<(), TakeFault>
+fn check_universal(file: &[u8]) -> Result<Universal<'_>, TakeFault>
     requires { is_fat (kind_of file.now) ≡ true }
     ensures accepted { OnOk result (IsAcceptedFile file.now) }
+    ensures universal { IfOk result (λ universal. universal ≡ file.now) }
     ensures refused { IfErr result (IsTakeFault file.now) }
     ensures no_memory { IfErr result (λ fault. fault ≢ TakeFault.OutOfMemory) }
 {
@@ -62,21 +74,25 @@ fn check_universal(file: &[u8]) -> Result<(), TakeFault>
         found |= check_part(place as u64, universal.slice(place))?;
     }
     if found {
-        Ok(())
+        Ok(universal)
     } else {
         Err(TakeFault::NothingToAdmit)
     }
 }
 
-/// Tests whether a file is accepted, and else tells its fault, which is never want of memory. Takes no memory.
-pub fn check_file(file: &[u8]) -> Result<(), TakeFault>
+/// Tests whether a file is accepted, and gives what it was accepted as, or else its fault, which is never want of
+/// memory. Takes no memory.
+pub fn check_file(file: &[u8]) -> Result<AcceptedFile<'_>, TakeFault>
     ensures accepted { OnOk result (IsAcceptedFile file.now) }
+    ensures found { IfOk result (λ accepted. IsAcceptedAs file.now accepted) }
     ensures refused { IfErr result (IsTakeFault file.now) }
     ensures no_memory { IfErr result (λ fault. fault ≢ TakeFault.OutOfMemory) }
 {
     match kind(file) {
         FileKind::Other => Err(TakeFault::Unrecognised),
-        FileKind::Thin => check_thin(file),
-        FileKind::Universal | FileKind::Universal64 => check_universal(file),
+        FileKind::Thin => Ok(AcceptedFile::Thin(check_thin(file)?)),
+        FileKind::Universal | FileKind::Universal64 => {
+            Ok(AcceptedFile::Universal(check_universal(file)?))
+        }
     }
 }

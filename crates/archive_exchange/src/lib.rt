@@ -17,7 +17,7 @@ pub mod laws;
 mod taken;
 mod taking;
 
-pub use checking::check_file;
+pub use checking::{AcceptedFile, check_file};
 pub use fault::TakeFault;
 pub use taken::Taken;
 pub use taking::take_file;

@@ -11,26 +11,26 @@ places-preserved g c =
 
 pub take_part-requires : goal.take_part-requires
 take_part-requires g c =
-    valid_slice c.args.file.now c.universal_in-universal.result c.requires.fat c.universal_in-universal.ensures c.places.place c.slice.result.now c.requires.accepted c.slice.ensures.part
+    valid_slice c.args.universal.now c.args.universal.now c.requires.fat refl c.places.place c.slice.result.now c.requires.accepted c.slice.ensures.part
 
 pub returns-in_err-clone-2-clause-stopped : goal.returns-in_err-clone-2-clause-stopped
 returns-in_err-clone-2-clause-stopped g c =
-    errs _ (stopped_before c.args.file.now c.universal_in-universal.result c.requires.fat c.universal_in-universal.ensures c.places.place _ _ _ c.places.rows.items c.places.invariant refl)
+    errs _ (stopped_before c.args.universal.now c.args.universal.now c.requires.fat refl c.places.place _ _ _ c.places.rows.items c.places.invariant refl)
 
 pub returns-in_err-row-clause-stopped : goal.returns-in_err-row-clause-stopped
 returns-in_err-row-clause-stopped g c =
-    errs _ (stopped_before c.args.file.now c.universal_in-universal.result c.requires.fat c.universal_in-universal.ensures c.places.place _ _ _ c.places.rows.items c.places.invariant c.in_err-row.ensures.refused)
+    errs _ (stopped_before c.args.universal.now c.args.universal.now c.requires.fat refl c.places.place _ _ _ c.places.rows.items c.places.invariant c.in_err-row.ensures.refused)
 
 pub returns-in_err-push-clause-stopped : goal.returns-in_err-push-clause-stopped
 returns-in_err-push-clause-stopped g c =
-    errs _ (stopped_behind c.args.file.now c.universal_in-universal.result c.requires.fat c.universal_in-universal.ensures c.places.place c.slice.result.now _ _ _ c.places.rows.items c.places.invariant c.slice.ensures.part c.in_ok-row.ensures.content)
+    errs _ (stopped_behind c.args.universal.now c.args.universal.now c.requires.fat refl c.places.place c.slice.result.now _ _ _ c.places.rows.items c.places.invariant c.slice.ensures.part c.in_ok-row.ensures.content)
 
 pub returns-clause-content : goal.returns-clause-content
 returns-clause-content g c =
     let all : c.places.place ≡ c.len-place-end.result = omega arith in
-    all_content c.args.file.now c.universal_in-universal.result c.requires.fat c.universal_in-universal.ensures c.places.place _ _ _ c.places.invariant (all ∙ c.len-place-end.ensures.number)
+    all_content c.args.universal.now c.args.universal.now c.requires.fat refl c.places.place _ _ _ c.places.invariant (all ∙ c.len-place-end.ensures.number)
 
 pub returns-clause-rows : goal.returns-clause-rows
 returns-clause-rows g c =
     let all : c.places.place ≡ c.len-place-end.result = omega arith in
-    all_rows c.args.file.now c.universal_in-universal.result c.requires.fat c.universal_in-universal.ensures c.places.place _ _ _ c.places.invariant (all ∙ c.len-place-end.ensures.number)
+    all_rows c.args.universal.now c.args.universal.now c.requires.fat refl c.places.place _ _ _ c.places.invariant (all ∙ c.len-place-end.ensures.number)
