@@ -28,11 +28,12 @@ fn compare(a: &[u8], b: &[u8]) -> Ordering
     a.cmp(&b)
 }
 
-/// Lays the bytes over those from `at` on, and says how what lay there compares with them, behind what compared so before.
-fn lay(under: &mut Vec<u8, Heap>, at: usize, order: Ordering, bytes: &[u8]) -> Ordering
+/// Writes the bytes over those from `at` on, and says how what stood there compares with them, behind what compared so
+/// before.
+fn write_over(under: &mut Vec<u8, Heap>, at: usize, order: Ordering, bytes: &[u8]) -> Ordering
     requires within { at ≤ length under.old.items }
     requires room { at + length bytes.now ≤ vec_capacity under.old }
-    ensures laid { under.new.items ≡ take at under.old.items ++ (bytes.now ++ drop (at + length bytes.now) under.old.items) }
+    ensures written { under.new.items ≡ take at under.old.items ++ (bytes.now ++ drop (at + length bytes.now) under.old.items) }
     ensures order { result ≡ ordering_then order (slice_cmp nat_cmp (take (length bytes.now) (drop at under.old.items)) bytes.now) }
 {
     let over = bytes.len().min(under.len() - at);
@@ -42,10 +43,7 @@ fn lay(under: &mut Vec<u8, Heap>, at: usize, order: Ordering, bytes: &[u8]) -> O
     };
     let (front, back) = bytes.split_at(over);
     under[at..at + over].copy_from_slice(front);
-    match under.extend_from_slice(back) {
-        Ok(()) => {}
-        Err(_) => unreachable!(),
-    }
+    under.extend_from_slice(back).unwrap();
     order
 }
 
@@ -77,7 +75,7 @@ pub fn fill<R: Source>(
         match r.pull(&mut chunk[..want]) {
             Ok(0) => return Err(RecordFaultKind::Truncated),
             Ok(n) => {
-                buffer.order = lay(&mut buffer.bytes, buffer.at, buffer.order, &chunk[..n]);
+                buffer.order = write_over(&mut buffer.bytes, buffer.at, buffer.order, &chunk[..n]);
                 buffer.at += n;
             }
             Err(Failed) => return Err(RecordFaultKind::Device),

@@ -76,8 +76,8 @@ fn test_slice(bytes: &[u8]) -> Result<(), RecordFaultKind>
         return Ok(());
     }
     match Slice::check(&bytes[ADMISSION_HEAD_LEN..]) {
-        Ok(key) => {
-            if has_key(bytes, &key) {
+        Ok(slice) => {
+            if has_key(bytes, &slice.key()) {
                 Ok(())
             } else {
                 Err(RecordFaultKind::KeyMismatch)

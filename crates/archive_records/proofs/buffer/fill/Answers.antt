@@ -8,8 +8,8 @@ use Rattle.archive_records.proofs.buffer.fill.Goals as goal
 
 pub filling-preserved : goal.filling-preserved
 filling-preserved g c =
-    let a = rw c.reserve.ensures.items at c.lay-buffer.ensures.laid in
-    let o = rw c.reserve.ensures.items at c.lay-buffer.ensures.order in
+    let a = rw c.reserve.ensures.items at c.write_over-buffer.ensures.written in
+    let o = rw c.reserve.ensures.items at c.write_over-buffer.ensures.order in
     let b = c.in-Ok.ensures.bytes in
     let n = c.in-Ok.n in
     let f = c.filling.buffer in
@@ -23,7 +23,7 @@ filling-preserved g c =
     record {
       within = rw a (omega (arith, length-append (take f.at f.bytes.items) (m ++ drop (f.at + length m) f.bytes.items), length-append m (drop (f.at + length m) f.bytes.items), length-take f.at f.bytes.items));
       below = omega (arith, c.min-want.ensures, length-take c.min-want.result c.filling.chunk);
-      fills = Fills-laid _ _ _ _ f (record { bytes = c.lay-buffer.new.under; at = f.at + n; order = c.lay-buffer.result }) m i.within at a i.fills (subst (λ (t : List ℕ). Consumes (g.R.Source.left c.filling.r) (g.R.Source.left c.pull.new.self) t) (sym same) b.0);
-      over = λ last p. Over-laid last f (record { bytes = c.lay-buffer.new.under; at = f.at + n; order = c.lay-buffer.result }) m (slice_cmp nat_cmp (take (length m) (drop f.at f.bytes.items)) m) i.within at a o refl (i.over last p);
+      fills = Fills-laid _ _ _ _ f (record { bytes = c.write_over-buffer.new.under; at = f.at + n; order = c.write_over-buffer.result }) m i.within at a i.fills (subst (λ (t : List ℕ). Consumes (g.R.Source.left c.filling.r) (g.R.Source.left c.pull.new.self) t) (sym same) b.0);
+      over = λ last p. Over-laid last f (record { bytes = c.write_over-buffer.new.under; at = f.at + n; order = c.write_over-buffer.result }) m (slice_cmp nat_cmp (take (length m) (drop f.at f.bytes.items)) m) i.within at a o refl (i.over last p);
       unfailed = c.in-Ok.ensures.count.1 ∙ i.unfailed;
     }

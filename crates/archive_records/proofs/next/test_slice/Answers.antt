@@ -2,6 +2,7 @@ use Rattle.std.proofs.Common.{length, inl, inr, refl, arith, sym, ◌∙◌, ap}
 use Rattle.std.proofs.lemmas.Bool.{false≢true}
 use Rattle.std.proofs.lemmas.List.{take_rest}
 use Rattle.archive_core.specs.Key.{key_bytes}
+use Rattle.archive_core.specs.Valid.{key_of}
 use Rattle.archive_records.proofs.Holds.{holds, whole-retirement, whole-admission}
 use Rattle.archive_records.proofs.Forms.{retires, admits}
 use Rattle.archive_records.specs.declared.kind.FileKind.TheVariants.{Archive}
@@ -27,14 +28,14 @@ pub returns-then-has_key-clause-known : goal.returns-then-has_key-clause-known
 returns-then-has_key-clause-known c =
     let form = whole-admission Archive c.args.bytes.now c.requires.whole c.requires.item c.if-bytes-eq-RETIREMENT.false in
     let v = rw take_rest at c.in-Ok.ensures.valid in
-    let k = rw take_rest at c.in-Ok.ensures.key in
+    let k = c.key.ensures ∙ ap key_of (rw take_rest at c.in-Ok.ensures.slice) in
     inl (admits c.args.bytes.now form v (c.if-has_key.ensures.0 refl ∙ ap key_bytes k) (λ i. omega (arith, c.type_inv.bytes i)))
 
 pub returns-else-has_key-clause-refused : goal.returns-else-has_key-clause-refused
 returns-else-has_key-clause-refused c =
     let form = whole-admission Archive c.args.bytes.now c.requires.whole c.requires.item c.if-bytes-eq-RETIREMENT.false in
     let v = rw take_rest at c.in-Ok.ensures.valid in
-    let k = rw take_rest at c.in-Ok.ensures.key in
+    let k = c.key.ensures ∙ ap key_of (rw take_rest at c.in-Ok.ensures.slice) in
     (form.0, v, λ e. false≢true (c.if-has_key.ensures.1 (e ∙ sym (ap key_bytes k))))
 
 pub returns-in-Err-clause-refused : goal.returns-in-Err-clause-refused
