@@ -9,12 +9,12 @@ use Rattle.archive_records.specs.Fault.{IsFault}
 use Rattle.archive_records.specs.declared.fault.RecordFault.{RecordFault}
 use Rattle.archive_records.specs.declared.fault.RecordFaultKind.{RecordFaultKind}
 use Rattle.archive_records.specs.declared.fault.RecordFaultKind.TheVariants.{BadMagic, Truncated, BadTag, TooLarge, NotAscending, BadSlice, KeyMismatch, BadCount, Trailing, Device, OutOfMemory}
-use Rattle.archive_lines.specs.declared.faults.CannotOpen.{CannotOpen}
-use Rattle.archive_lines.specs.declared.faults.Place.{Place}
+use Rattle.archive_commands.specs.declared.faults.CannotOpen.{CannotOpen}
+use Rattle.archive_commands.specs.declared.faults.Place.{Place}
 use Rattle.archive_exchange.specs.File.{IsAcceptedFile, IsTakeFault}
 use Rattle.archive_exchange.specs.declared.fault.TakeFault.{TakeFault}
 use Rattle.archive_exchange.specs.declared.fault.TakeFault.TheVariants.{OutOfMemory as TakeOutOfMemory}
-use Rattle.archive_lines.specs.declared.faults.Why.{Why}
+use Rattle.archive_commands.specs.declared.faults.Why.{Why}
 use Rattle.archive_commands.specs.Admit.{admit}
 use Rattle.archive_commands.specs.Inputs.{Reader, reader, IsDeviceFault, IsGiven, IsArchiveRefused, IsFileRefused}
 

@@ -9,9 +9,9 @@ use Rattle.archive_records.specs.Text.{IsOperationsText, written}
 use Rattle.archive_records.specs.declared.fault.RecordFault.{RecordFault}
 use Rattle.archive_records.specs.declared.fault.RecordFaultKind.{RecordFaultKind}
 use Rattle.archive_records.specs.declared.fault.RecordFaultKind.TheVariants.{Device}
-use Rattle.archive_lines.specs.declared.faults.CannotOpen.{CannotOpen}
-use Rattle.archive_lines.specs.declared.faults.Place.{Place}
-use Rattle.archive_lines.specs.declared.faults.Why.{Why}
+use Rattle.archive_commands.specs.declared.faults.CannotOpen.{CannotOpen}
+use Rattle.archive_commands.specs.declared.faults.Place.{Place}
+use Rattle.archive_commands.specs.declared.faults.Why.{Why}
 use Rattle.archive_commands.specs.Apply.{apply}
 use Rattle.archive_commands.specs.Inputs.{Reader, reader, IsDeviceFault, IsGiven, IsOpsRefused}
 use Rattle.archive_commands.proofs.Archives.{IsRefusedByDeviceAlone}

@@ -8,9 +8,9 @@ use Rattle.archive_core.specs.Content.{Operations, IsContent}
 use Rattle.archive_core.specs.Lookup.{IsAnswer, answer_view}
 use Rattle.archive_core.specs.declared.keys.SliceKey.{SliceKey}
 use Rattle.archive_core.specs.declared.lookup.Answer.{Answer}
-use Rattle.archive_lines.specs.Answers.{answer_lines}
-use Rattle.archive_lines.specs.declared.faults.Status.{Status}
-use Rattle.archive_lines.specs.declared.faults.Status.TheVariants.{Done, Partial}
+use Rattle.report_text.specs.Answers.{answer_lines}
+use Rattle.archive_commands.specs.declared.faults.Status.{Status}
+use Rattle.archive_commands.specs.declared.faults.Status.TheVariants.{Done, Partial}
 use Rattle.archive_records.specs.Text.{written}
 use Rattle.archive_commands.specs.Inputs.{Reader, Holds}
 use Rattle.archive_commands.specs.Symbolicate.{place_of, is_symbol, Answered, IsAnswered, answers_status, TellsAddresses, MakesAnswered}

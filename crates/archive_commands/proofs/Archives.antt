@@ -5,8 +5,8 @@ use Rattle.std.specs.List.{AllByRecursion, AllZip}
 use Rattle.std.specs.FinSet as set
 use Rattle.archive_core.specs.Content.{Operations, IsContent}
 use Rattle.archive_records.specs.Text.{written}
-use Rattle.archive_lines.specs.declared.faults.Place.{Place}
-use Rattle.archive_lines.specs.declared.faults.Why.{Why}
+use Rattle.archive_commands.specs.declared.faults.Place.{Place}
+use Rattle.archive_commands.specs.declared.faults.Why.{Why}
 use Rattle.archive_commands.specs.Inputs.{Reader, IsArchiveRefused, IsDeviceFault, IsGiven}
 use Rattle.archive_commands.specs.Merge.{merge}
 

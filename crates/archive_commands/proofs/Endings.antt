@@ -2,13 +2,13 @@
 use Rattle.std.proofs.Common.{◌≡◌, ℕ, ap, ◌∙◌, List, [], Result, Ok, Err, inl, inr}
 use Rattle.archive_core.specs.Content.{Operations, IsContent}
 use Rattle.archive_records.specs.Text.{written}
-use Rattle.archive_lines.specs.Report.{admit_lines}
-use Rattle.archive_lines.specs.declared.faults.CommandFault.{CommandFault}
-use Rattle.archive_lines.specs.declared.faults.CommandFault.TheVariants.{Input, Output, Report, OutOfMemory}
-use Rattle.archive_lines.specs.declared.faults.Place.{Place}
-use Rattle.archive_lines.specs.declared.faults.Status.{Status}
-use Rattle.archive_lines.specs.declared.faults.Why.{Why}
-use Rattle.archive_lines.specs.declared.rows.AdmitRow.{AdmitRow}
+use Rattle.report_text.specs.Report.{admit_lines}
+use Rattle.archive_commands.specs.declared.faults.CommandFault.{CommandFault}
+use Rattle.archive_commands.specs.declared.faults.CommandFault.TheVariants.{Input, Output, Report, OutOfMemory}
+use Rattle.archive_commands.specs.declared.faults.Place.{Place}
+use Rattle.archive_commands.specs.declared.faults.Status.{Status}
+use Rattle.archive_commands.specs.declared.faults.Why.{Why}
+use Rattle.report_text.specs.declared.rows.AdmitRow.{AdmitRow}
 use Rattle.archive_commands.specs.Admit.{HasTaken, MakesAdmitted}
 use Rattle.archive_commands.specs.Ends.{Ends, EndsReport}
 use Rattle.archive_commands.specs.Inputs.{Reader, Holds, Unfailed, IsRefusal, IsRefusedArchive, IsRefusedInOrder}

@@ -4,7 +4,7 @@ use Rattle.std.proofs.lemmas.List.{append-nil}
 use Rattle.std.proofs.lemmas.Grind.{flat_map-append}
 use Rattle.std.specs.List.{AllByRecursion, AllZip}
 use Rattle.archive_core.specs.Content.{Operations}
-use Rattle.archive_lines.specs.declared.rows.AdmitRow.{AdmitRow}
+use Rattle.report_text.specs.declared.rows.AdmitRow.{AdmitRow}
 use Rattle.archive_exchange.proofs.Rows.{admitted-append}
 use Rattle.archive_exchange.specs.File.{admissible, parts, IsAcceptedFile}
 use Rattle.archive_exchange.specs.Take.{admitted, taken_rows}

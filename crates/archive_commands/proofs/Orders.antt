@@ -12,7 +12,7 @@ use Rattle.archive_exchange.proofs.Resumed.{admitted_alike as images_alike}
 use Rattle.archive_exchange.proofs.Rows.{admitted-append}
 use Rattle.archive_exchange.specs.File.{parts, admissible}
 use Rattle.archive_exchange.specs.Take.{admitted, taken_rows}
-use Rattle.archive_lines.specs.declared.rows.AdmitRow.{AdmitRow}
+use Rattle.report_text.specs.declared.rows.AdmitRow.{AdmitRow}
 use Rattle.archive_commands.specs.Admit.{images_of, file_rows, admit_rows}
 use Rattle.archive_commands.proofs.Files.{admit_rows-append}
 

@@ -5,11 +5,11 @@ use Rattle.std.specs.Prelude.{slice_get}
 use Rattle.std.proofs.lemmas.Option.{slice_get-get_or}
 use Rattle.std.proofs.Math.ListN.{length-set}
 use Rattle.std.specs.List.{AllByRecursion, AllZip}
-use Rattle.archive_lines.specs.declared.faults.CannotOpen.{CannotOpen}
-use Rattle.archive_lines.specs.declared.faults.CommandFault.{CommandFault}
-use Rattle.archive_lines.specs.declared.faults.CommandFault.TheVariants.{Input, Output, Report, OutOfMemory}
-use Rattle.archive_lines.specs.declared.faults.Place.{Place}
-use Rattle.archive_lines.specs.declared.faults.Why.{Why}
+use Rattle.archive_commands.specs.declared.faults.CannotOpen.{CannotOpen}
+use Rattle.archive_commands.specs.declared.faults.CommandFault.{CommandFault}
+use Rattle.archive_commands.specs.declared.faults.CommandFault.TheVariants.{Input, Output, Report, OutOfMemory}
+use Rattle.archive_commands.specs.declared.faults.Place.{Place}
+use Rattle.archive_commands.specs.declared.faults.Why.{Why}
 use Rattle.archive_commands.specs.Inputs.{Reader, reader, readers, Unfailed, EachUnfailed, EachUntouched, IsRefusal, IsFirstRefused}
 
 -- an element at a place from which on the lists are alike

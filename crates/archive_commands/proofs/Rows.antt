@@ -3,7 +3,7 @@ use Rattle.std.proofs.Common.{◌≡◌, ℕ, ◌+◌, ◌<◌, List, [], ◌∷
 use Rattle.std.proofs.lemmas.List.{append-nil, length-take}
 use Rattle.std.proofs.Math.Seq.{take-suc}
 use Rattle.archive_exchange.specs.declared.taken.Taken.{Taken}
-use Rattle.archive_lines.specs.declared.rows.AdmitRow.{AdmitRow}
+use Rattle.report_text.specs.declared.rows.AdmitRow.{AdmitRow}
 use Rattle.archive_commands.specs.Admit.{file_rows}
 
 file_rows-push : (place slice : ℕ) (xs : List Taken) (x : Taken) → file_rows place slice (xs ++ x ∷ []) ≡ file_rows place slice xs ++ record { file = place; slice = slice + length xs; taken = x } ∷ []

@@ -16,12 +16,12 @@ use Rattle.archive_core.specs.declared.lookup.Answer.{Answer}
 use Rattle.archive_core.specs.declared.lookup.Answer.TheVariants.{Unknown, NoSymbol, Symbol, Conflict}
 use Rattle.archive_core.specs.declared.lookup.Where.{Where}
 use Rattle.archive_records.specs.Text.{written}
-use Rattle.archive_lines.specs.Answers.{address_text, escaped, found_text, own_text, own_line, answer_lines}
-use Rattle.archive_lines.specs.Report.{line}
-use Rattle.archive_lines.specs.Rows.{digest_text}
-use Rattle.archive_lines.specs.declared.faults.CannotOpen.{CannotOpen}
-use Rattle.archive_lines.specs.declared.faults.Status.{Status}
-use Rattle.archive_lines.specs.declared.faults.Status.TheVariants.{Done, Partial}
+use Rattle.report_text.specs.Answers.{address_text, escaped, found_text, own_text, own_line, answer_lines}
+use Rattle.report_text.specs.Report.{line}
+use Rattle.report_text.specs.Rows.{digest_text}
+use Rattle.archive_commands.specs.declared.faults.CannotOpen.{CannotOpen}
+use Rattle.archive_commands.specs.declared.faults.Status.{Status}
+use Rattle.archive_commands.specs.declared.faults.Status.TheVariants.{Done, Partial}
 use Rattle.archive_commands.specs.Inputs.{Reader, reader, Holds, IsGiven}
 use Rattle.archive_commands.specs.Symbolicate.{place_of, is_symbol, Answered, IsAnswered, answers_text, TellsAddresses, MakesAnswered}
 

@@ -6,9 +6,9 @@ use Rattle.archive_records.specs.Text.{written}
 use Rattle.archive_exchange.specs.File.{parts, admissible, IsAcceptedFile}
 use Rattle.archive_exchange.specs.Take.{admitted, taken_rows}
 use Rattle.archive_exchange.specs.declared.taken.Taken.{Taken}
-use Rattle.archive_lines.specs.Report.{admit_lines}
-use Rattle.archive_lines.specs.declared.faults.Place.TheVariants.{File}
-use Rattle.archive_lines.specs.declared.rows.AdmitRow.{AdmitRow}
+use Rattle.report_text.specs.Report.{admit_lines}
+use Rattle.archive_commands.specs.declared.faults.Place.TheVariants.{File}
+use Rattle.report_text.specs.declared.rows.AdmitRow.{AdmitRow}
 use Rattle.archive_commands.specs.Ends.{Command}
 use Rattle.archive_commands.specs.Inputs.{Reader, Holds, Unfailed, EachUnfailed, EachUntouched, IsAccepted, IsFileRefused, IsFirstRefused, IsRefusedInOrder}
 

@@ -4,7 +4,7 @@ use Rattle.archive_core.specs.Content.{Operations, IsContent, with_record, with_
 use Rattle.archive_core.specs.Record.{rec}
 use Rattle.archive_core.specs.declared.operations.Operation.{Operation}
 use Rattle.archive_records.specs.Text.{IsOperationsText, written}
-use Rattle.archive_lines.specs.Report.{apply_line}
+use Rattle.report_text.specs.Report.{apply_line}
 use Rattle.archive_commands.specs.Ends.{Command}
 use Rattle.archive_commands.specs.Inputs.{Reader, Gives, Holds, Unfailed, IsUntouched, IsRefusedOps, IsRefusedInOrder}
 

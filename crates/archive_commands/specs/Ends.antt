@@ -2,11 +2,11 @@
 use Rattle.std.specs.Prelude.{ℕ, List, [], Result, Ok, Err, ◌⊎◌}
 use Rattle.archive_core.specs.Content.{Operations}
 use Rattle.archive_records.specs.Text.{written}
-use Rattle.archive_lines.specs.declared.faults.CommandFault.{CommandFault}
-use Rattle.archive_lines.specs.declared.faults.CommandFault.TheVariants.{Input, Output, Report, OutOfMemory}
-use Rattle.archive_lines.specs.declared.faults.Place.{Place}
-use Rattle.archive_lines.specs.declared.faults.Status.{Status}
-use Rattle.archive_lines.specs.declared.faults.Why.{Why}
+use Rattle.archive_commands.specs.declared.faults.CommandFault.{CommandFault}
+use Rattle.archive_commands.specs.declared.faults.CommandFault.TheVariants.{Input, Output, Report, OutOfMemory}
+use Rattle.archive_commands.specs.declared.faults.Place.{Place}
+use Rattle.archive_commands.specs.declared.faults.Status.{Status}
+use Rattle.archive_commands.specs.declared.faults.Why.{Why}
 use Rattle.archive_commands.specs.Outputs.{Writer, Takes, Publishes, Reports, report_of}
 
 -- A command that writes an archive, with its inputs: the content and the lines that accepted inputs make, which input

@@ -4,9 +4,9 @@ use Rattle.archive_core.specs.Content.{Operations, IsContent}
 use Rattle.archive_core.specs.Find.{IsFinds}
 use Rattle.archive_core.specs.declared.find.FindRow.{FindRow}
 use Rattle.archive_records.specs.Text.{written}
-use Rattle.archive_lines.specs.Finds.{find_lines}
-use Rattle.archive_lines.specs.declared.faults.Status.{Status}
-use Rattle.archive_lines.specs.declared.faults.Status.TheVariants.{Done, Partial}
+use Rattle.report_text.specs.Finds.{find_lines}
+use Rattle.archive_commands.specs.declared.faults.Status.{Status}
+use Rattle.archive_commands.specs.declared.faults.Status.TheVariants.{Done, Partial}
 use Rattle.archive_commands.specs.Ends.{Query}
 use Rattle.archive_commands.specs.Inputs.{Reader, Holds, Unfailed, IsRefusedArchive}
 

@@ -14,13 +14,13 @@ use Rattle.archive_records.specs.declared.kind.FileKind.TheVariants.{Archive as 
 use Rattle.archive_exchange.specs.File.{IsAcceptedFile, IsTakeFault}
 use Rattle.archive_exchange.specs.declared.fault.TakeFault.{TakeFault}
 use Rattle.archive_exchange.specs.declared.fault.TakeFault.TheVariants.{OutOfMemory as TakeOutOfMemory}
-use Rattle.archive_lines.specs.declared.faults.CannotOpen.{CannotOpen}
-use Rattle.archive_lines.specs.declared.faults.CommandFault.{CommandFault}
-use Rattle.archive_lines.specs.declared.faults.CommandFault.TheVariants.{Input, Output, Report, OutOfMemory}
-use Rattle.archive_lines.specs.declared.faults.Place.{Place}
-use Rattle.archive_lines.specs.declared.faults.Place.TheVariants.{Archive, File, Ops}
-use Rattle.archive_lines.specs.declared.faults.Why.{Why}
-use Rattle.archive_lines.specs.declared.faults.Why.TheVariants.{Device as CannotRead, Record, Take, CannotOpen as NotOpened}
+use Rattle.archive_commands.specs.declared.faults.CannotOpen.{CannotOpen}
+use Rattle.archive_commands.specs.declared.faults.CommandFault.{CommandFault}
+use Rattle.archive_commands.specs.declared.faults.CommandFault.TheVariants.{Input, Output, Report, OutOfMemory}
+use Rattle.archive_commands.specs.declared.faults.Place.{Place}
+use Rattle.archive_commands.specs.declared.faults.Place.TheVariants.{Archive, File, Ops}
+use Rattle.archive_commands.specs.declared.faults.Why.{Why}
+use Rattle.archive_commands.specs.declared.faults.Why.TheVariants.{Device as CannotRead, Record, Take, CannotOpen as NotOpened}
 
 -- An input in a call, before it and after it: a reader, or that none was opened. The functions tell what a reader has
 -- left, where that is known, and how often it has failed.

@@ -1,3 +1,4 @@
+pub mod FaultTexts
 pub mod Inputs
 pub mod Outputs
 pub mod Ends

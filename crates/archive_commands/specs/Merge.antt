@@ -4,8 +4,8 @@ use Rattle.std.specs.List.{AllByRecursion, AllZip}
 use Rattle.std.specs.FinSet as set
 use Rattle.archive_core.specs.Content.{Operations, IsContent, joined}
 use Rattle.archive_records.specs.Text.{written}
-use Rattle.archive_lines.specs.declared.faults.Place.{Place}
-use Rattle.archive_lines.specs.declared.faults.Place.TheVariants.{Archive}
+use Rattle.archive_commands.specs.declared.faults.Place.{Place}
+use Rattle.archive_commands.specs.declared.faults.Place.TheVariants.{Archive}
 use Rattle.archive_commands.specs.Ends.{Command}
 use Rattle.archive_commands.specs.Inputs.{Reader, Holds, Unfailed, EachUnfailed, EachUntouched, IsArchive, IsArchiveRefused, IsFirstRefused, IsRefusedInOrder}
 

@@ -7,11 +7,11 @@ use Rattle.byte_device.specs.Writes.{WritesFirst}
 use Rattle.archive_core.specs.Content.{Operations}
 use Rattle.archive_records.specs.Text.{written}
 use Rattle.archive_records.specs.declared.writing.Sizes.{Sizes}
-use Rattle.archive_lines.specs.Report.{archive_line}
-use Rattle.archive_lines.specs.declared.faults.CommandFault.{CommandFault}
-use Rattle.archive_lines.specs.declared.faults.CommandFault.TheVariants.{Input, Output, Report, OutOfMemory}
-use Rattle.archive_lines.specs.declared.faults.Status.{Status}
-use Rattle.archive_lines.specs.declared.faults.Status.TheVariants.{Done}
+use Rattle.report_text.specs.Report.{archive_line}
+use Rattle.archive_commands.specs.declared.faults.CommandFault.{CommandFault}
+use Rattle.archive_commands.specs.declared.faults.CommandFault.TheVariants.{Input, Output, Report, OutOfMemory}
+use Rattle.archive_commands.specs.declared.faults.Status.{Status}
+use Rattle.archive_commands.specs.declared.faults.Status.TheVariants.{Done}
 
 -- A writer in a call: what it held before and after it, where that is known, and how often it had failed.
 pub record Writer : Type 0 where

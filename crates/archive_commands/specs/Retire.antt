@@ -5,7 +5,7 @@ use Rattle.archive_core.specs.Content.{Operations, IsContent, with_record, chang
 use Rattle.archive_core.specs.declared.keys.SliceKey.{SliceKey}
 use Rattle.archive_core.specs.declared.keys.Digest.{Digest}
 use Rattle.archive_records.specs.Text.{written}
-use Rattle.archive_lines.specs.Report.{retire_line}
+use Rattle.report_text.specs.Report.{retire_line}
 use Rattle.archive_commands.specs.Ends.{Command}
 use Rattle.archive_commands.specs.Inputs.{Reader, Holds, Unfailed, IsRefusedArchive}
 

@@ -9,9 +9,9 @@ use Rattle.archive_core.specs.declared.lookup.Answer.TheVariants.{Unknown, NoSym
 use Rattle.archive_core.specs.declared.lookup.Where.{Where}
 use Rattle.archive_core.specs.declared.lookup.Where.TheVariants.{File, Loaded}
 use Rattle.archive_records.specs.Text.{written}
-use Rattle.archive_lines.specs.Answers.{answer_lines}
-use Rattle.archive_lines.specs.declared.faults.Status.{Status}
-use Rattle.archive_lines.specs.declared.faults.Status.TheVariants.{Done, Partial}
+use Rattle.report_text.specs.Answers.{answer_lines}
+use Rattle.archive_commands.specs.declared.faults.Status.{Status}
+use Rattle.archive_commands.specs.declared.faults.Status.TheVariants.{Done, Partial}
 use Rattle.archive_commands.specs.Ends.{Query}
 use Rattle.archive_commands.specs.Inputs.{Reader, Holds, Unfailed, IsRefusedArchive}
 

@@ -3,19 +3,20 @@ ghost use Rattle.std.specs.Prelude.{◌≡◌, ◌++◌, ℕ, List, OnOk, OnErr,
 ghost use Rattle.archive_core.specs.Content.{Operations};
 ghost use Rattle.archive_exchange.specs.File.{admissible, parts, IsAcceptedFile, IsTakeFault};
 ghost use Rattle.archive_exchange.specs.Take.{admitted, taken_rows};
-ghost use Rattle.archive_lines.specs.declared.faults.Place.TheVariants.{File};
+ghost use Rattle.archive_commands.specs.declared.faults.Place.TheVariants.{File};
 ghost use Rattle.archive_commands.specs.Admit.{HasTaken, admit, file_rows};
 ghost use Rattle.archive_commands.specs.Ends.{Ends};
 ghost use Rattle.archive_commands.specs.Inputs.{EachUnfailed, Holds, IsAccepted, IsFileRefused, IsFirstRefused, IsRefusal, IsRefusedBytes, IsRefusedFile, Unfailed, reader, readers};
 ghost use Rattle.archive_commands.specs.Outputs.{writer};
 
+use crate::faults::{CannotOpen, CommandFault, Place, Status, Why};
 use crate::publish::publish;
 use crate::sources::{read_file, read_input};
 use archive_core::Archive;
 use archive_exchange::{TakeFault, Taken, take_file};
-use archive_lines::{AdmitRow, CannotOpen, CommandFault, Place, Status, Why, admit_lines};
 use byte_device::{Sink, Source};
 use memory::{Heap, NoMemory};
+use report_text::{AdmitRow, admit_lines};
 
 /// The refusal of a file at a place, whose bytes have this fault.
 fn refusal(place: u64, fault: TakeFault) -> CommandFault

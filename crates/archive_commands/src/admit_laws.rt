@@ -8,8 +8,8 @@ ghost use Rattle.archive_core.specs.Content.{Operations, IsContent, IsMade, made
 ghost use Rattle.archive_records.specs.Text.{written};
 ghost use Rattle.archive_exchange.specs.File.{parts, IsAcceptedFile};
 ghost use Rattle.archive_exchange.specs.Take.{admitted, taken_rows};
-ghost use Rattle.archive_lines.specs.declared.faults.Place.{Place};
-ghost use Rattle.archive_lines.specs.declared.faults.Why.{Why};
+ghost use Rattle.archive_commands.specs.declared.faults.Place.{Place};
+ghost use Rattle.archive_commands.specs.declared.faults.Why.{Why};
 ghost use Rattle.archive_commands.specs.Admit.{admit, admit_rows, file_rows, images_of};
 ghost use Rattle.archive_commands.specs.Inputs.{IsDeviceFault, IsGiven, Reader};
 

@@ -7,12 +7,13 @@ ghost use Rattle.archive_commands.specs.Ends.{Ends};
 ghost use Rattle.archive_commands.specs.Inputs.{reader};
 ghost use Rattle.archive_commands.specs.Outputs.{writer};
 
+use crate::faults::{CannotOpen, CommandFault, Status};
 use crate::publish::publish;
 use crate::sources::{read_input, read_operations};
 use archive_core::{Archive, Operation};
-use archive_lines::{CannotOpen, CommandFault, Status, apply_line};
 use byte_device::{Sink, Source};
 use memory::{Heap, NoMemory};
+use report_text::apply_line;
 
 /// Takes an operation, and counts it where it is new.
 fn take_counted<A: Archive>(archive: &mut A, operation: Operation) -> Result<u64, NoMemory>

@@ -6,8 +6,8 @@ ghost use Rattle.archive_core.specs.Content.{Operations, IsContent, IsMade, made
 ghost use Rattle.archive_core.specs.Record.{rec};
 ghost use Rattle.archive_core.specs.declared.operations.Operation.{Operation};
 ghost use Rattle.archive_records.specs.Text.{IsOperationsText, written};
-ghost use Rattle.archive_lines.specs.declared.faults.Place.{Place};
-ghost use Rattle.archive_lines.specs.declared.faults.Why.{Why};
+ghost use Rattle.archive_commands.specs.declared.faults.Place.{Place};
+ghost use Rattle.archive_commands.specs.declared.faults.Why.{Why};
 ghost use Rattle.archive_commands.specs.Apply.{apply, new_among};
 ghost use Rattle.archive_commands.specs.Inputs.{IsDeviceFault, IsGiven, Reader};
 

@@ -5,12 +5,13 @@ ghost use Rattle.archive_commands.specs.Find.{find, find_status};
 ghost use Rattle.archive_commands.specs.Inputs.{reader};
 ghost use Rattle.archive_commands.specs.Outputs.{writer};
 
+use crate::faults::{CannotOpen, CommandFault, Status};
 use crate::publish::tell;
 use crate::sources::read_input;
 use archive_core::{Archive, FindRow};
-use archive_lines::{CannotOpen, CommandFault, Status, find_lines};
 use byte_device::{Sink, Source};
 use memory::Heap;
+use report_text::find_lines;
 use uuid::Uuid;
 
 /// How a search ends that gave these rows.

@@ -3,6 +3,8 @@
 //! A command reads its inputs in the order of its words, each opened beforehand and refused at its turn, and only then
 //! writes OUT, and after that its report.
 //!
+//! - `faults`: how a command ends, and why one is refused;
+//! - `failures`: the line that the program says where it fails;
 //! - `sources`: the inputs;
 //! - `publish`: the end of each command that writes an archive;
 //! - `new`, `admit`, `retire`, `merge`, `apply`, `find`, `symbolicate`: a command each;
@@ -14,6 +16,8 @@ mod admit;
 pub mod admit_laws;
 mod apply;
 pub mod apply_laws;
+mod failures;
+mod faults;
 mod find;
 mod merge;
 pub mod merge_laws;
@@ -26,6 +30,8 @@ pub mod symbolicate_laws;
 
 pub use admit::run_admit;
 pub use apply::run_apply;
+pub use failures::Failure;
+pub use faults::{CannotCreate, CannotOpen, CommandFault, Place, Status, Why};
 pub use find::run_find;
 pub use merge::run_merge;
 pub use new::run_new;

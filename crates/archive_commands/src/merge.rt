@@ -7,10 +7,10 @@ ghost use Rattle.archive_commands.specs.Inputs.{EachUnfailed, Holds, IsArchive, 
 ghost use Rattle.archive_commands.specs.Merge.{HasJoined, file_place, merge};
 ghost use Rattle.archive_commands.specs.Outputs.{writer};
 
+use crate::faults::{CannotOpen, CommandFault, Status};
 use crate::publish::publish;
 use crate::sources::read_input;
 use archive_core::{Archive, take_all};
-use archive_lines::{CannotOpen, CommandFault, Status};
 use byte_device::{Sink, Source};
 use memory::Heap;
 

@@ -5,8 +5,8 @@ ghost use Rattle.std.specs.List.{AllByRecursion, AllZip};
 ghost use Rattle.std.specs.FinSet as set;
 ghost use Rattle.archive_core.specs.Content.{Operations, IsBelow, IsContent, made, joined};
 ghost use Rattle.archive_records.specs.Text.{written};
-ghost use Rattle.archive_lines.specs.declared.faults.Place.{Place};
-ghost use Rattle.archive_lines.specs.declared.faults.Why.{Why};
+ghost use Rattle.archive_commands.specs.declared.faults.Place.{Place};
+ghost use Rattle.archive_commands.specs.declared.faults.Why.{Why};
 ghost use Rattle.archive_commands.specs.Inputs.{IsDeviceFault, IsGiven, Reader};
 ghost use Rattle.archive_commands.specs.Merge.{merge, merged, operations_of};
 

@@ -4,9 +4,9 @@ ghost use Rattle.std.specs.FinSet as set;
 ghost use Rattle.archive_records.specs.Text.{written};
 ghost use Rattle.archive_commands.specs.Outputs.{Publishes, report_of, writer};
 
+use crate::faults::{CommandFault, Status};
 use crate::publish::publish;
 use archive_core::Archive;
-use archive_lines::{CommandFault, Status};
 use byte_device::Sink;
 use memory::Heap;
 

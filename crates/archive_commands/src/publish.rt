@@ -3,11 +3,12 @@ ghost use Rattle.std.specs.Prelude.{string_bytes};
 ghost use Rattle.archive_records.specs.Text.{written};
 ghost use Rattle.archive_commands.specs.Outputs.{Publishes, Reports, report_of, writer};
 
+use crate::faults::{CommandFault, Status};
 use archive_core::Archive;
-use archive_lines::{CommandFault, Status, with_sizes};
 use archive_records::write_archive;
 use byte_device::{Sink, push_all};
 use memory::Heap;
+use report_text::with_sizes;
 
 /// Writes the archive to OUT, and then the lines and the sizes to the report, which is made whole before its first byte
 /// is given.

@@ -7,12 +7,13 @@ ghost use Rattle.archive_commands.specs.Inputs.{reader};
 ghost use Rattle.archive_commands.specs.Outputs.{writer};
 ghost use Rattle.archive_commands.specs.Retire.{retire};
 
+use crate::faults::{CannotOpen, CommandFault, Status};
 use crate::publish::publish;
 use crate::sources::read_input;
 use archive_core::{Archive, Digest, Operation, SliceKey};
-use archive_lines::{CannotOpen, CommandFault, Status, retire_line};
 use byte_device::{Sink, Source};
 use memory::{Heap, NoMemory};
+use report_text::retire_line;
 
 /// Takes a retirement, and tells whether that changed the archive.
 fn take_retirement<A: Archive>(

@@ -3,11 +3,11 @@ ghost use Rattle.std.specs.Prelude.{◌≡◌, ◌≢◌, OnOk, IfOk, IfErr};
 ghost use Rattle.archive_core.specs.Content.{IsContent};
 ghost use Rattle.archive_records.specs.declared.fault.RecordFaultKind.TheVariants.{OutOfMemory as RecordOutOfMemory};
 ghost use Rattle.archive_records.specs.Text.{IsOperationsText, written};
-ghost use Rattle.archive_lines.specs.declared.faults.Why.TheVariants.{Record};
+ghost use Rattle.archive_commands.specs.declared.faults.Why.TheVariants.{Record};
 ghost use Rattle.archive_commands.specs.Inputs.{Gives, Holds, IsRefusal, IsRefusedArchive, IsRefusedFile, IsRefusedOps, Unfailed, reader};
 
+use crate::faults::{CannotOpen, CommandFault, Place, Why};
 use archive_core::{Archive, Operation};
-use archive_lines::{CannotOpen, CommandFault, Place, Why};
 use archive_records::{RecordFault, RecordFaultKind, read_archive, read_ops};
 use byte_device::{ReadFault, Source, read_to_end};
 use memory::Heap;

@@ -1,17 +1,18 @@
 //! `symbolicate ARCHIVE UUID ARCH [--load HEX] ADDRESS...`.
 ghost use Rattle.std.specs.Prelude.{◌≡◌, if◌then◌else◌, IfOk, string_bytes};
-ghost use Rattle.archive_lines.specs.declared.faults.Status.TheVariants.{Partial};
+ghost use Rattle.archive_commands.specs.declared.faults.Status.TheVariants.{Partial};
 ghost use Rattle.archive_commands.specs.Ends.{EndsReport};
 ghost use Rattle.archive_commands.specs.Inputs.{reader};
 ghost use Rattle.archive_commands.specs.Outputs.{writer};
 ghost use Rattle.archive_commands.specs.Symbolicate.{TellsAddresses, is_symbol, place_of, symbolicate};
 
+use crate::faults::{CannotOpen, CommandFault, Status};
 use crate::publish::tell;
 use crate::sources::read_input;
 use archive_core::{Answer, Archive, SliceKey, Where};
-use archive_lines::{CannotOpen, CommandFault, Status, push_answer};
 use byte_device::{Sink, Source};
 use memory::{Heap, NoMemory};
+use report_text::push_answer;
 
 /// The place that an address of the words means.
 fn place_of(load: Option<u64>, address: u64) -> Where

@@ -4,7 +4,7 @@ ghost use Rattle.std.specs.Prelude.{◌≡◌, ℕ, List, Option};
 ghost use Rattle.archive_core.specs.Content.{Operations, IsContent};
 ghost use Rattle.archive_core.specs.declared.keys.SliceKey.{SliceKey};
 ghost use Rattle.archive_records.specs.Text.{written};
-ghost use Rattle.archive_lines.specs.declared.faults.Status.{Status};
+ghost use Rattle.archive_commands.specs.declared.faults.Status.{Status};
 ghost use Rattle.archive_commands.specs.Inputs.{IsGiven, Reader};
 ghost use Rattle.archive_commands.specs.Symbolicate.{MakesAnswered, TellsAddresses};
 

@@ -1,6 +1,6 @@
 //! Files that are read. What they hold is in no contract.
 
-use archive_lines::CannotOpen;
+use archive_commands::CannotOpen;
 use byte_device::Reading;
 use memory::NoMemory;
 use std::alloc::Global;

@@ -3,11 +3,11 @@
 use crate::desk::TriedArchive;
 use crate::faults::CallFault;
 use archive_core::{Archive, Operation};
-use archive_lines::Text;
 use archive_records::{RecordFault, read_archive, read_front, read_ops};
 use byte_device::{Pieces, Source};
 use join_core::Join;
 use memory::{Heap, NoMemory};
+use report_text::Text;
 
 /// Reads an archive's text from the front of an input, and tells what is left of it.
 pub fn tell_front(heap: Heap, source: &mut Pieces, told: &mut String) -> Result<(), CallFault> {

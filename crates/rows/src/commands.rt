@@ -3,10 +3,10 @@
 use crate::desk::{Desk, TriedArchive};
 use crate::ends::{End, Left};
 use archive_commands::{
-    run_admit, run_apply, run_find, run_merge, run_new, run_retire, run_symbolicate,
+    CommandFault, Status, run_admit, run_apply, run_find, run_merge, run_new, run_retire,
+    run_symbolicate,
 };
 use archive_core::SliceKey;
-use archive_lines::{CommandFault, Status};
 use byte_device::Short;
 use command_line::Plan;
 use memory::{Heap, NoMemory};

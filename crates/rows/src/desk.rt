@@ -3,8 +3,8 @@
 use crate::faults::CaseFault;
 use crate::limits::Limits;
 use crate::store::Store;
+use archive_commands::CannotOpen;
 use archive_core::PlainArchive;
-use archive_lines::CannotOpen;
 use byte_device::Pieces;
 use memory::{Heap, NoMemory};
 use std::alloc::Global;

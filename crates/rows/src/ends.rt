@@ -1,7 +1,7 @@
 //! How a case ends, and what it leaves.
 
 use crate::faults::CallFault;
-use archive_lines::{CommandFault, Status};
+use archive_commands::{CommandFault, Status};
 use std::fmt;
 
 /// How a case ends.

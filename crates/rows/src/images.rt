@@ -2,11 +2,11 @@
 
 use crate::faults::CallFault;
 use archive_core::{ArchKey, Digest, Slice, SliceKey};
-use archive_lines::{Address, Escaped, Text};
 use fat_slices::{Universal, kind};
 use macho_image::{Image, Section};
 use macho_symbols::{AddressTable, Found, Symbols};
 use memory::{Heap, NoMemory};
+use report_text::{Address, Escaped, Text};
 use sha2::{Digest as _, Sha256};
 
 /// Tells the kind of a file.

@@ -1,10 +1,11 @@
 //! What is printed of a case.
 
 use crate::ends::{End, Left, refused_status};
+use archive_commands::Failure;
 use archive_core::Digest;
-use archive_lines::{Failure, Text};
 use command_line::LineFault;
 use memory::NoMemory;
+use report_text::Text;
 use sha2::{Digest as _, Sha256};
 
 // How many lines of a report are told at most, before their digest stands for them.

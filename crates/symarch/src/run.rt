@@ -1,11 +1,11 @@
 //! The program over the words, the files and the standard streams that it is started with.
 
 use archive_commands::{
-    run_admit, run_apply, run_find, run_merge, run_new, run_retire, run_symbolicate,
+    CannotCreate, CommandFault, Failure, Status, run_admit, run_apply, run_find, run_merge,
+    run_new, run_retire, run_symbolicate,
 };
 use archive_core::{Digest, PlainArchive, SliceKey};
 use archive_files::{OutFile, open_all, open_all_buffered, open_buffered};
-use archive_lines::{CannotCreate, CommandFault, Failure, Status};
 use byte_device::Writing;
 use command_line::{LineFault, Plan, plan};
 use memory::Heap;

@@ -1,6 +1,6 @@
 use Rattle.std.proofs.Common.{◌≡◌, ◌<◌, length, take, arith, refl, subst, ap, ◌∙◌}
 use Rattle.std.proofs.lemmas.Result.{err_from_is_err_and}
-use Rattle.archive_lines.specs.declared.faults.Place.TheVariants.{File}
+use Rattle.archive_commands.specs.declared.faults.Place.TheVariants.{File}
 use Rattle.archive_commands.specs.Admit.{HasTaken}
 use Rattle.archive_commands.specs.Inputs.{readers, reader, IsAccepted, IsFileRefused}
 use Rattle.archive_commands.proofs.Files.{taken_none, taken_more, taken_accepted}

@@ -1,5 +1,5 @@
 use Rattle.std.proofs.Common.{ap, ◌∙◌}
-use Rattle.archive_lines.specs.Finds.{find_lines}
+use Rattle.report_text.specs.Finds.{find_lines}
 use Rattle.archive_commands.specs.Find.{find_status}
 use Rattle.archive_commands.proofs.Endings.{reported}
 use Rattle.archive_commands.proofs.find.run_find.Goals as goal

@@ -1,5 +1,5 @@
 use Rattle.std.proofs.Common.{[], refl, inl}
-use Rattle.archive_lines.specs.declared.faults.Place.TheVariants.{Archive}
+use Rattle.archive_commands.specs.declared.faults.Place.TheVariants.{Archive}
 use Rattle.archive_commands.proofs.Archives.{archives_not_refused}
 use Rattle.archive_commands.proofs.merge_laws.accepted_archives_are_not_refused.Goals as goal
 

@@ -1,5 +1,5 @@
 use Rattle.std.proofs.Common.{ap, ◌∙◌}
-use Rattle.archive_lines.specs.Report.{retire_line}
+use Rattle.report_text.specs.Report.{retire_line}
 use Rattle.archive_commands.proofs.Endings.{published}
 use Rattle.archive_commands.proofs.retire.run_retire.Goals as goal
 

@@ -1,0 +1,38 @@
+-- The printed texts of the faults of commands.
+use Rattle.std.specs.Prelude.{List, ℕ, ◌++◌, codes}
+use Rattle.std.specs.Fmt.{decimal}
+use Rattle.report_text.specs.Texts.{record_fault_text, take_fault_text}
+use Rattle.archive_commands.specs.declared.faults.Place.{Place}
+use Rattle.archive_commands.specs.declared.faults.Place.TheVariants.{Archive, File, Ops}
+use Rattle.archive_commands.specs.declared.faults.Why.{Why}
+use Rattle.archive_commands.specs.declared.faults.Why.TheVariants.{CannotOpen, Device, Record, Take}
+use Rattle.archive_commands.specs.declared.faults.CommandFault.{CommandFault}
+use Rattle.archive_commands.specs.declared.faults.CommandFault.TheVariants.{Input, Output, Report, OutOfMemory}
+
+-- an input by its kind, with its number where there may be several
+unfoldable pub place_text : Place → List ℕ
+place_text (Archive number) = codes "archive " ++ decimal number
+place_text (File number) = codes "file " ++ decimal number
+place_text Ops = codes "ops"
+
+-- what is wrong with an input
+unfoldable pub why_text : Why → List ℕ
+why_text CannotOpen = codes "cannot open"
+why_text Device = codes "Device"
+why_text (Record fault) = record_fault_text fault
+why_text (Take fault) = take_fault_text fault
+
+-- where a device failed: the number of bytes that it had taken
+abbrev pub failed_after : ℕ → List ℕ
+failed_after written = codes "failed after " ++ decimal written ++ codes " bytes"
+
+-- the place and its fault
+unfoldable pub command_fault_text : CommandFault → List ℕ
+command_fault_text (Input place why) = place_text place ++ codes ": " ++ why_text why
+command_fault_text (Output written) = codes "output: " ++ failed_after written
+command_fault_text (Report written) = codes "report: " ++ failed_after written
+command_fault_text OutOfMemory = codes "out of memory"
+
+-- an output whose file cannot be created
+unfoldable pub cannot_create_text : List ℕ
+cannot_create_text = codes "output: cannot create"

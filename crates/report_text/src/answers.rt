@@ -1,0 +1,141 @@
+//! The lines of `symbolicate`.
+ghost use Rattle.std.specs.Prelude.{◌≡◌, ◌++◌, OnOk, string_bytes};
+ghost use Rattle.std.specs.List.{flat_map};
+ghost use Rattle.report_text.specs.Answers.{own_line, answer_lines};
+
+use crate::Text;
+use archive_core::{Answer, Digest, Own};
+use macho_symbols::Found;
+use memory::{Heap, NoMemory};
+use std::fmt;
+
+/// An address as it is printed: `0x` and sixteen hex digits.
+#[derive(Clone, Copy, Debug, PartialEq, Eq)]
+pub struct Address(pub u64);
+
+/// A name of a symbol, a segment or a section as it is printed: each byte that is no printed
+/// character of ASCII, and the backslash, as `\x` and two hex digits.
+#[derive(Clone, Copy, Debug, PartialEq, Eq)]
+pub struct Escaped<'a>(pub &'a [u8]);
+
+// A byte of a name.
+#[derive(Clone, Copy)]
+struct EscapedByte(u8);
+
+#[tactic(auto, using(crate::proofs::HexText::padded_hex16), unfolding(crate::specs::Answers::address_text))]
+impl fmt::Display for Address {
+    ghost use Rattle.std.specs.Prelude.{Some};
+    ghost use Rattle.report_text.specs.Answers.{address_text};
+
+    ghost output = { λ address. Some (address_text address.0) };
+
+    fn fmt<W: fmt::Write>(&self, f: &mut fmt::Formatter<W>) -> fmt::Result {
+        let address = self.0;
+        write!(f, "0x{address:016x}")
+    }
+}
+
+#[tactic(auto, using(crate::proofs::HexText::padded_hex2), unfolding(crate::specs::Answers::escaped_byte))]
+impl fmt::Display for EscapedByte {
+    ghost use Rattle.std.specs.Prelude.{Some};
+    ghost use Rattle.report_text.specs.Answers.{escaped_byte};
+
+    ghost output = { λ byte. Some (escaped_byte byte.0) };
+
+    fn fmt<W: fmt::Write>(&self, f: &mut fmt::Formatter<W>) -> fmt::Result {
+        let byte = self.0;
+        if byte < 0x20 || byte > 0x7e || byte == b'\\' {
+            write!(f, "\\x{byte:02x}")
+        } else {
+            f.write_char(char::from(byte))
+        }
+    }
+}
+
+impl<'a> fmt::Display for Escaped<'a> {
+    ghost use Rattle.std.specs.Prelude.{Some};
+    ghost use Rattle.report_text.specs.Answers.{escaped};
+
+    ghost output = { λ name. Some (escaped name.0.now) };
+
+    fn fmt<W: fmt::Write>(&self, f: &mut fmt::Formatter<W>) -> fmt::Result {
+        'bytes: for byte in self.0 {
+            let byte = EscapedByte(*byte);
+            write!(f, "{byte}")?;
+        }
+        Ok(())
+    }
+}
+
+#[tactic(auto, unfolding(crate::specs::Answers::found_text))]
+impl<'a> fmt::Display for Text<Found<'a>> {
+    ghost use Rattle.std.specs.Prelude.{Some};
+    ghost use Rattle.report_text.specs.Answers.{found_text};
+
+    ghost output = { λ text. Some (found_text text.0) };
+
+    fn fmt<W: fmt::Write>(&self, f: &mut fmt::Formatter<W>) -> fmt::Result {
+        let name = Escaped(self.0.name);
+        let offset = self.0.offset;
+        let segment = Escaped(self.0.segment);
+        let section = Escaped(self.0.section);
+        write!(f, "{name} + {offset} ({segment},{section})")
+    }
+}
+
+#[tactic(auto, unfolding(crate::specs::Answers::own_text))]
+impl<'a> fmt::Display for Text<Own<'a>> {
+    ghost use Rattle.std.specs.Prelude.{Some};
+    ghost use Rattle.report_text.specs.Answers.{own_text};
+
+    ghost output = { λ text. Some (own_text text.0) };
+
+    fn fmt<W: fmt::Write>(&self, f: &mut fmt::Formatter<W>) -> fmt::Result {
+        match self.0 {
+            Own::NoSymbol => f.write_str("-"),
+            Own::Symbol(found) => {
+                let found = Text(found);
+                write!(f, "{found}")
+            }
+        }
+    }
+}
+
+// Writes what each of several slices answers.
+#[tactic(auto, unfolding(crate::specs::Answers::own_line))]
+fn push_owns(text: &mut String<Heap>, owns: &[(Digest, Own<'_>)]) -> Result<(), NoMemory>
+    ensures { OnOk result (string_bytes text.new ≡ string_bytes text.old ++ flat_map own_line owns.now) }
+{
+    'owns: for (digest, own) in owns {
+        let digest = Text(*digest);
+        let own = Text(*own);
+        writeln!(text, "  {digest} {own}")?;
+    }
+    Ok(())
+}
+
+/// Writes what a key answers for an address: a line, and behind that of a conflict one for each
+/// slice that answers. Where memory is refused, a part of them may stand there.
+#[tactic(auto, unfolding(crate::specs::Answers::answer_lines))]
+pub fn push_answer(
+    text: &mut String<Heap>,
+    address: u64,
+    answer: &Answer<'_>,
+) -> Result<(), NoMemory>
+    ensures { OnOk result (string_bytes text.new ≡ string_bytes text.old ++ answer_lines address answer.now) }
+{
+    let address = Address(address);
+    match answer {
+        Answer::Unknown => writeln!(text, "{address} ?"),
+        Answer::NoSymbol => writeln!(text, "{address} -"),
+        Answer::Symbol(found) => {
+            let found = Text(*found);
+            writeln!(text, "{address} {found}")
+        }
+        Answer::Conflict(owns) => {
+            let count = owns.len();
+            writeln!(text, "{address} !{count}")?;
+            push_owns(text, owns)
+        }
+    }
+}
