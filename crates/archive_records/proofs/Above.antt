@@ -16,7 +16,7 @@ use Rattle.archive_records.specs.declared.buffer.Buffer.{Buffer}
 use Rattle.archive_records.specs.Reader.{bytes_so_far, seen_as, Over}
 use Rattle.archive_records.proofs.Laid.{cmp_parts, length-bytes_so_far}
 use Rattle.archive_records.specs.declared.kind.FileKind.{FileKind}
-use Rattle.archive_records.specs.declared.kind.FileKind.TheVariants.{Archive, Operations}
+use Rattle.archive_records.specs.declared.kind.FileKind.TheVariants.{Archive, Operations, Summary}
 
 not_less : (o : Ordering) (xs : List ℕ) → is_lt (ordering_then o (slice_cmp nat_cmp xs [])) ≡ is_lt o
 not_less Less xs = refl
@@ -28,6 +28,7 @@ not_after : (file : FileKind) (o : Ordering) (xs : List ℕ) → allows file (or
 unfolding allows
 not_after Archive o xs = not_less o xs
 not_after Operations o xs = refl
+not_after Summary o xs = not_less o xs
 
 module _ (file : FileKind) where
   -- What is left of the last record changes nothing.

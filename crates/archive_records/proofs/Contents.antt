@@ -1,5 +1,5 @@
 -- Ascending records and the set of them.
-use Rattle.std.proofs.Common.{◌≡◌, ℕ, Bool, true, false, ◌||◌, List, [], ◌∷◌, ◌++◌, refl, sym, ap, ◌∙◌, subst, arith}
+use Rattle.std.proofs.Common.{◌≡◌, ◌↔◌, ℕ, Bool, true, false, ◌||◌, List, [], ◌∷◌, ◌++◌, refl, sym, ap, ◌∙◌, subst, arith}
 use Rattle.std.specs.declared.cmp.Ordering.{Ordering}
 use Rattle.std.specs.declared.cmp.Ordering.TheVariants.{Less, Equal, Greater}
 use Rattle.std.specs.Ordering.{nat_cmp, is_lt, is_eq, eq_by_cmp}
@@ -13,14 +13,16 @@ use Rattle.std.proofs.lemmas.Cmp.{eq_by_cmp_equiv}
 use Rattle.std.proofs.lemmas.Map.Views.{list_any-from_Contains, Contains-from_any}
 use Rattle.join_core.specs.Listing.{listing}
 use Rattle.join_core.proofs.Listing.{listed, listing_ascending, one_listing, any_listing}
-use Rattle.archive_core.specs.Record.{IsRecord}
+use Rattle.archive_core.specs.Summary.{Entries}
+use Rattle.archive_records.specs.Entry.{AreEntries}
 use Rattle.archive_core.specs.Content.{Operations, IsContent}
-use Rattle.archive_records.specs.Kind.{magic, allows, may_follow}
-use Rattle.archive_records.specs.Text.{end_record, text_of, IsWritten, written, InOrder}
+use Rattle.archive_records.specs.Kind.{magic, summary_magic, IsItem, allows, may_follow}
+use Rattle.archive_records.specs.Text.{end_record, text_of, IsWritten, written, IsSummaryText, summary_text, InOrder}
 use Rattle.archive_records.proofs.Holds.{holds}
 use Rattle.archive_records.proofs.Forms.{item-framed}
 use Rattle.archive_records.proofs.Puts.{bytes_same, length_written}
-use Rattle.archive_records.specs.declared.kind.FileKind.TheVariants.{Archive}
+use Rattle.archive_records.specs.declared.kind.FileKind.{FileKind}
+use Rattle.archive_records.specs.declared.kind.FileKind.TheVariants.{Archive, Summary}
 
 abbrev pub order : List ℕ → List ℕ → Ordering
 order = slice_cmp nat_cmp
@@ -30,69 +32,106 @@ less_is Less e = refl
 less_is Equal e = absurd cc
 less_is Greater e = absurd cc
 
-below_is : (a b : List ℕ) → may_follow Archive a b ≡ true → order a b ≡ Less
-unfolding may_follow allows
-below_is a b e = less_is (order a b) e
+archive_ascends : (o : Ordering) → allows Archive o ≡ is_lt o
+unfolding allows
+archive_ascends o = refl
 
-is_below : (a b : List ℕ) → order a b ≡ Less → may_follow Archive a b ≡ true
-unfolding may_follow allows
-is_below a b e = ap is_lt e
+summary_ascends : (o : Ordering) → allows Summary o ≡ is_lt o
+unfolding allows
+summary_ascends o = refl
 
 all_below : (low x : List ℕ) (xs : List (List ℕ)) → order low x ≡ Less → AllByRecursion (λ y. order x y ≡ Less) xs → AllByRecursion (λ y. order low y ≡ Less) xs
 all_below low x [] e h = tt
 all_below low x (y ∷ ys) e h = (nat_list_cmp_total.trans low x y e h.0, all_below low x ys e h.1)
-
--- ascending records are strictly sorted, and above what they are above
-pub sorted-InOrder : (low : List ℕ) (xs : List (List ℕ)) → InOrder Archive low xs → AllByRecursion (λ y. order low y ≡ Less) xs × IsStrictlySortedBy order xs
-unfolding IsStrictlySortedBy
-sorted-InOrder low [] a = (tt, tt)
-sorted-InOrder low (x ∷ xs) a =
-    let rest = sorted-InOrder x xs a.2 in
-    let lt = below_is low x a.1 in
-    ((lt, all_below low x xs lt rest.0), rest)
-
--- strictly sorted records ascend
-InOrder-sorted : (low : List ℕ) (xs : List (List ℕ)) → AllByRecursion IsRecord xs → AllByRecursion (λ y. order low y ≡ Less) xs → IsStrictlySortedBy order xs → InOrder Archive low xs
-unfolding IsStrictlySortedBy
-InOrder-sorted low [] r b s = tt
-InOrder-sorted low (x ∷ xs) r b s = (r.0, is_below low x b.0, InOrder-sorted x xs r.1 s.0 s.1)
-
-above_empty : (x : List ℕ) → IsRecord x → order [] x ≡ Less
-above_empty [] r = absurd (omega (arith, (holds Archive [] 0 (item-framed Archive [] r)).one))
-above_empty (b ∷ bs) r = refl
-
-all_above_empty : (xs : List (List ℕ)) → AllByRecursion IsRecord xs → AllByRecursion (λ y. order [] y ≡ Less) xs
-all_above_empty [] r = tt
-all_above_empty (x ∷ xs) r = (above_empty x r.0, all_above_empty xs r.1)
 
 or_right : (a b : Bool) → b ≡ true → (a || b) ≡ true
 or_right true b e = refl
 or_right false b e = e
 
 -- what holds of each member holds along the list
-along : (P : List ℕ → Type 0) (xs : List (List ℕ)) → ((q : List ℕ) → list_any (eq_by_cmp order q) xs ≡ true → P q) → AllByRecursion P xs
+pub along : (P : List ℕ → Type 0) (xs : List (List ℕ)) → ((q : List ℕ) → list_any (eq_by_cmp order q) xs ≡ true → P q) → AllByRecursion P xs
 along P [] h = tt
 along P (x ∷ xs) h = (
   h x (ap (λ r. is_eq r || list_any (eq_by_cmp order x) xs) (tied_itself nat_list_cmp_total x)),
   along P xs (λ q e. h q (or_right (eq_by_cmp order q x) (list_any (eq_by_cmp order q) xs) e)),
 )
 
+-- a file whose items ascend
+module _ (file : FileKind) (ascends : (o : Ordering) → allows file o ≡ is_lt o) where
+  below_is : (a b : List ℕ) → may_follow file a b ≡ true → order a b ≡ Less
+  unfolding may_follow
+  below_is a b e = less_is (order a b) (sym (ascends (order a b)) ∙ e)
+
+  is_below : (a b : List ℕ) → order a b ≡ Less → may_follow file a b ≡ true
+  unfolding may_follow
+  is_below a b e = ascends (order a b) ∙ ap is_lt e
+
+  -- items that ascend are strictly sorted, and above what they are above
+  sorted_items : (low : List ℕ) (xs : List (List ℕ)) → InOrder file low xs → AllByRecursion (λ y. order low y ≡ Less) xs × IsStrictlySortedBy order xs
+  unfolding IsStrictlySortedBy
+  sorted_items low [] a = (tt, tt)
+  sorted_items low (x ∷ xs) a =
+      let rest = sorted_items x xs a.2 in
+      let lt = below_is low x a.1 in
+      ((lt, all_below low x xs lt rest.0), rest)
+
+  -- strictly sorted items ascend
+  InOrder-sorted : (low : List ℕ) (xs : List (List ℕ)) → AllByRecursion (IsItem file) xs → AllByRecursion (λ y. order low y ≡ Less) xs → IsStrictlySortedBy order xs → InOrder file low xs
+  unfolding IsStrictlySortedBy
+  InOrder-sorted low [] r b s = tt
+  InOrder-sorted low (x ∷ xs) r b s = (r.0, is_below low x b.0, InOrder-sorted x xs r.1 s.0 s.1)
+
+  above_empty : (x : List ℕ) → IsItem file x → order [] x ≡ Less
+  above_empty [] r = absurd (omega (arith, (holds file [] 0 (item-framed file [] r)).one))
+  above_empty (b ∷ bs) r = refl
+
+  all_above_empty : (xs : List (List ℕ)) → AllByRecursion (IsItem file) xs → AllByRecursion (λ y. order [] y ≡ Less) xs
+  all_above_empty [] r = tt
+  all_above_empty (x ∷ xs) r = (above_empty x r.0, all_above_empty xs r.1)
+
+  -- the members of a set of items, in their order
+  InOrder-members : (s : Operations) → ((q : List ℕ) → set.contains s q ≡ true → IsItem file q) → InOrder file [] (listing s)
+  InOrder-members s items =
+      let each : AllByRecursion (IsItem file) (listing s) = along (IsItem file) (listing s) (λ q e. items q (sym (any_listing nat_list_cmp_total s q) ∙ e)) in
+      InOrder-sorted [] (listing s) each (all_above_empty (listing s) each) (listed nat_list_cmp_total bytes_same s).ascending
+
+  -- each member is one of the items
+  item_member : (low : List ℕ) (xs : List (List ℕ)) (q : List ℕ) → InOrder file low xs → list_any (eq_by_cmp order q) xs ≡ true → IsItem file q
+  item_member low [] q a e = absurd cc
+  item_member low (x ∷ xs) q a e = elim (eq_by_cmp order q x) as (λ b. eq_by_cmp order q x ≡ b → (b || list_any (eq_by_cmp order q) xs) ≡ true → IsItem file q) [
+    | true ↦ λ h _. subst (IsItem file) (sym (bytes_same q x ((Equal-is (order q x)).0 h))) a.0
+    | false ↦ λ _ rest. item_member x xs q a.2 rest
+  ] refl e
+
+  members_are_items : (xs : List (List ℕ)) → InOrder file [] xs → (q : List ℕ) → set.contains (set.from_list {R = order} xs) q ≡ true → IsItem file q
+  members_are_items xs a q e = item_member [] xs q a (sym (contains-from_list nat_list_cmp_total xs q) ∙ e)
+
+pub sorted-InOrder : (low : List ℕ) (xs : List (List ℕ)) → InOrder Archive low xs → AllByRecursion (λ y. order low y ≡ Less) xs × IsStrictlySortedBy order xs
+sorted-InOrder = sorted_items Archive archive_ascends
+
+pub sorted-entries : (low : List ℕ) (xs : List (List ℕ)) → InOrder Summary low xs → AllByRecursion (λ y. order low y ≡ Less) xs × IsStrictlySortedBy order xs
+sorted-entries = sorted_items Summary summary_ascends
+
 -- the records of a content ascend
 pub InOrder-listing : (o : Operations) → IsContent o → InOrder Archive [] (listing o)
-InOrder-listing o c =
-    let records : AllByRecursion IsRecord (listing o) = along IsRecord (listing o) (λ q e. c.records q (sym (any_listing nat_list_cmp_total o q) ∙ e)) in
-    InOrder-sorted [] (listing o) records (all_above_empty (listing o) records) (listed nat_list_cmp_total bytes_same o).ascending
-
--- each member is one of the records
-member : (low : List ℕ) (xs : List (List ℕ)) (q : List ℕ) → InOrder Archive low xs → list_any (eq_by_cmp order q) xs ≡ true → IsRecord q
-member low [] q a e = absurd cc
-member low (x ∷ xs) q a e = elim (eq_by_cmp order q x) as (λ b. eq_by_cmp order q x ≡ b → (b || list_any (eq_by_cmp order q) xs) ≡ true → IsRecord q) [
-  | true ↦ λ h _. subst IsRecord (sym (bytes_same q x ((Equal-is (order q x)).0 h))) a.0
-  | false ↦ λ _ rest. member x xs q a.2 rest
-] refl e
+InOrder-listing o c = InOrder-members Archive archive_ascends o c.records
 
 pub IsContent-records : (xs : List (List ℕ)) → InOrder Archive [] xs → IsContent (set.from_list xs)
-IsContent-records xs a = record { itself = refl; records = λ q e. member [] xs q a (sym (contains-from_list nat_list_cmp_total xs q) ∙ e) }
+IsContent-records xs a = record { itself = refl; records = members_are_items Archive archive_ascends xs a }
+
+-- and so do the entries of a summary
+pub InOrder-entries : (s : Entries) → AreEntries s → InOrder Summary [] (listing s)
+InOrder-entries s are = InOrder-members Summary summary_ascends s are
+
+pub AreEntries-entries : (xs : List (List ℕ)) → InOrder Summary [] xs → AreEntries (set.from_list xs)
+AreEntries-entries xs a = members_are_items Summary summary_ascends xs a
+
+pub summary_text_is : (s : Entries) → summary_text s ≡ text_of Summary (listing s)
+unfolding summary_text
+summary_text_is s = ap (λ n. summary_magic ++ (concat (listing s) ++ end_record n)) (sym (length_written s))
+
+pub summary_text-entries : (xs : List (List ℕ)) → InOrder Summary [] xs → summary_text (set.from_list xs) ≡ text_of Summary xs
+summary_text-entries xs a = summary_text_is (set.from_list xs) ∙ ap (text_of Summary) (listing_ascending nat_list_cmp_total bytes_same xs (sorted-entries [] xs a).1)
 
 -- the text of the set is that of the records
 pub written_text : (o : Operations) → written o ≡ text_of Archive (listing o)
@@ -123,17 +162,34 @@ iff_same true b f g = sym (f refl)
 iff_same false true f g = g refl
 iff_same false false f g = refl
 
+-- an ascending list with the members of a set is its listing
+listing_is : (o : Operations) (records : List (List ℕ)) → IsStrictlySortedBy order records → ((r : List ℕ) → Contains records r ↔ (set.contains o r ≡ true)) → listing o ≡ records
+listing_is o records ascending members =
+    let same : o ≡ set.from_list records = same_set nat_list_cmp_total bytes_same o (set.from_list records) (λ q.
+    iff_same (set.contains o q) (list_any (eq_by_cmp order q) records) (λ h. contained records q ((members q).1 h)) (λ h. (members q).0 (containing records q h)) ∙ sym (contains-from_list nat_list_cmp_total records q)) in
+    one_listing nat_list_cmp_total bytes_same o records (record { ascending = ascending; same = same })
+
+members_listed : (o : Operations) (q : List ℕ) → Contains (listing o) q ↔ (set.contains o q ≡ true)
+members_listed o q = (λ h. sym (any_listing nat_list_cmp_total o q) ∙ contained (listing o) q h, λ h. containing (listing o) q (any_listing nat_list_cmp_total o q ∙ h))
+
 pub one_text : (o : Operations) (text : List ℕ) → IsWritten o text → text ≡ written o
-one_text o text w =
-    let same : o ≡ set.from_list w.records = same_set nat_list_cmp_total bytes_same o (set.from_list w.records) (λ q.
-    iff_same (set.contains o q) (list_any (eq_by_cmp order q) w.records) (λ h. contained w.records q ((w.members q).1 h)) (λ h. (w.members q).0 (containing w.records q h)) ∙ sym (contains-from_list nat_list_cmp_total w.records q)) in
-    let list : listing o ≡ w.records = one_listing nat_list_cmp_total bytes_same o w.records (record { ascending = w.ascending; same = same }) in
-    w.whole ∙ sym (ap (text_of Archive) list) ∙ sym (written_text o)
+one_text o text w = w.whole ∙ sym (ap (text_of Archive) (listing_is o w.records w.ascending w.members)) ∙ sym (written_text o)
 
 pub text_written : (o : Operations) (text : List ℕ) → text ≡ written o → IsWritten o text
 text_written o text e = record {
   records = listing o;
   ascending = (listed nat_list_cmp_total bytes_same o).ascending;
-  members = λ q. (λ h. sym (any_listing nat_list_cmp_total o q) ∙ contained (listing o) q h, λ h. containing (listing o) q (any_listing nat_list_cmp_total o q ∙ h));
+  members = members_listed o;
   whole = e ∙ written_text o;
+}
+
+pub one_summary_text : (s : Entries) (text : List ℕ) → IsSummaryText s text → text ≡ summary_text s
+one_summary_text s text w = w.whole ∙ sym (ap (text_of Summary) (listing_is s w.entries w.ascending w.members)) ∙ sym (summary_text_is s)
+
+pub text_of_summary : (s : Entries) (text : List ℕ) → text ≡ summary_text s → IsSummaryText s text
+text_of_summary s text e = record {
+  entries = listing s;
+  ascending = (listed nat_list_cmp_total bytes_same s).ascending;
+  members = members_listed s;
+  whole = e ∙ summary_text_is s;
 }

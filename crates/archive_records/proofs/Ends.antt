@@ -15,7 +15,7 @@ use Rattle.archive_records.proofs.Framed.{framed-whole}
 use Rattle.archive_records.proofs.Holds.{none_is_some, holds, Holds-end, next-is}
 use Rattle.archive_records.proofs.Forms.{IsBytes}
 use Rattle.archive_records.specs.declared.kind.FileKind.{FileKind}
-use Rattle.archive_records.specs.declared.kind.FileKind.TheVariants.{Archive, Operations}
+use Rattle.archive_records.specs.declared.kind.FileKind.TheVariants.{Archive, Operations, Summary}
 
 pub is_three : (bytes : List ℕ) → is_end bytes ≡ true → get_or bytes 0 0 ≡ 3
 unfolding is_end
@@ -46,10 +46,12 @@ module _ (file : FileKind) (end : end_length file ≡ Some 9) where
 pub counted : (file : FileKind) → end_length file ≡ Some 9 → (n : ℕ) → ending file n ≡ end_record n
 counted Archive end n = refl
 counted Operations end n = absurd (none_is_some 9 end)
+counted Summary end n = refl
 
 pub counted_unended : (file : FileKind) → end_length file ≡ Some 9 → (rest : List ℕ) → IsUnended file rest
 counted_unended Archive end rest = tt
 counted_unended Operations end rest = absurd (none_is_some 9 end)
+counted_unended Summary end rest = tt
 
 -- an operations file has none
 no_tag : (tag head : ℕ) → tag ≡ 3 → head_length Operations tag ≡ Some head → ⊥
@@ -77,10 +79,12 @@ module _ (file : FileKind) where
 pub ending_is : (file : FileKind) (rest : List ℕ) (n count : ℕ) → framed file rest ≡ Ok n → get_or rest 0 0 ≡ 3 → rest ≡ end_record count → rest ≡ ending file count
 ending_is Archive rest n count whole three e = e
 ending_is Operations rest n count whole three e = absurd (no_end rest n whole three)
+ending_is Summary rest n count whole three e = e
 
 pub ended_is : (file : FileKind) (left : Option (List ℕ)) (rest : List ℕ) (n : ℕ) → framed file rest ≡ Ok n → get_or rest 0 0 ≡ 3 → IsEnded file left
 ended_is Archive left rest n whole three = tt
 ended_is Operations left rest n whole three = absurd (no_end rest n whole three)
+ended_is Summary left rest n whole three = tt
 
 -- where nothing is left, an operations file ends
 pub open_end : (file : FileKind) (count : ℕ) (b : Buffer) → b.at ≡ 0 → file ≡ Operations → bytes_so_far b ≡ ending file count

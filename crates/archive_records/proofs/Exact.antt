@@ -1,5 +1,5 @@
 -- Each text has one content, or one fault.
-use Rattle.std.proofs.Common.{◌≡◌, ℕ, ◌<◌, ◌≤◌, ◌^◌, true, List, [], ◌++◌, length, get_or, take, drop, refl, sym, ap, ◌∙◌, subst, arith, inl, inr, append_assoc, length-append, lit≤}
+use Rattle.std.proofs.Common.{◌≡◌, ◌≢◌, ℕ, ◌<◌, ◌≤◌, ◌^◌, true, List, [], ◌++◌, length, get_or, take, drop, refl, sym, ap, ◌∙◌, subst, arith, inl, inr, append_assoc, length-append, lit≤}
 use Rattle.std.proofs.lemmas.List.{append-nil, take-append-le, append_cancel_left, take-take, get_or-take}
 use Rattle.std.specs.List.{concat}
 use Rattle.std.specs.FinSet as set
@@ -20,7 +20,7 @@ use Rattle.archive_records.proofs.Longest.{Takes, fault-stops, end-stops, unique
 use Rattle.archive_records.proofs.Ends.{is_three, length-end_record, next_end}
 use Rattle.archive_records.proofs.Contents.{InOrder-listing, written_text, content_is}
 use Rattle.archive_records.specs.declared.kind.FileKind.{FileKind}
-use Rattle.archive_records.specs.declared.kind.FileKind.TheVariants.{Archive, Operations as Operations_file}
+use Rattle.archive_records.specs.declared.kind.FileKind.TheVariants.{Archive, Operations as Operations_file, Summary as Summary_file}
 
 -- a refused slice is an admission's
 refused_tag : (r : List ℕ) (kind : RecordFaultKind) → RefusesSlice r kind → get_or r 0 0 ≡ 2
@@ -70,12 +70,14 @@ end_more n more = refl
 pub length-magic : (file : FileKind) → length (magic_of file) ≡ 8
 length-magic Archive = refl
 length-magic Operations_file = refl
+length-magic Summary_file = refl
 
 -- ---- what ends a file
 
 length-ending : (file : FileKind) (n : ℕ) → length (ending file n) ≤ 9
 length-ending Archive n = omega (arith, length-end_record n)
 length-ending Operations_file n = lit≤ tt
+length-ending Summary_file n = omega (arith, length-end_record n)
 
 nothing_taken : (file : FileKind) (low : List ℕ) → Takes file low [] → ⊥
 nothing_taken file low t = omega (arith, (holds file t.item (length t.item) (item-framed file t.item t.is)).one, ap length t.whole, length-append t.item t.more)
@@ -83,13 +85,16 @@ nothing_taken file low t = omega (arith, (holds file t.item (length t.item) (ite
 -- no record begins with it; in an operations file nothing stands behind it
 ending_stops : (file : FileKind) (low : List ℕ) (n : ℕ) (more : List ℕ) → (file ≡ Operations_file → more ≡ []) → Takes file low (ending file n ++ more) → ⊥
 ending_stops Archive low n more alone t = end-stops Archive low (end_record n ++ more) (end_more n more) t
+ending_stops Summary_file low n more alone t = end-stops Summary_file low (end_record n ++ more) (end_more n more) t
 ending_stops Operations_file low n more alone t = nothing_taken Operations_file low (subst (Takes Operations_file low) (alone refl) t)
 
-no_fails : (file : FileKind) (low : List ℕ) (n : ℕ) (more : List ℕ) (kind : RecordFaultKind) → (file ≡ Archive → n < 2 ^ 64) → (file ≡ Operations_file → more ≡ []) → IsUnended file (ending file n ++ more) → FailsNext file low n (ending file n ++ more) kind → ⊥
+no_fails : (file : FileKind) (low : List ℕ) (n : ℕ) (more : List ℕ) (kind : RecordFaultKind) → (file ≢ Operations_file → n < 2 ^ 64) → (file ≡ Operations_file → more ≡ []) → IsUnended file (ending file n ++ more) → FailsNext file low n (ending file n ++ more) kind → ⊥
 no_fails Operations_file low n more kind few alone unended f = unended (alone refl)
-no_fails Archive low n more kind few alone unended (inl e) = no_both 9 kind (sym (next-ok-grows Archive low n (end_record n) more 9 (next_end Archive refl low n (few refl))) ∙ e)
+no_fails Summary_file low n more kind few alone unended (inl e) = no_both 9 kind (sym (next-ok-grows Summary_file low n (end_record n) more 9 (next_end Summary_file refl low n (few (λ h. cc)))) ∙ e)
+no_fails Summary_file low n more kind few alone unended (inr f) = absurd f.2
+no_fails Archive low n more kind few alone unended (inl e) = no_both 9 kind (sym (next-ok-grows Archive low n (end_record n) more 9 (next_end Archive refl low n (few (λ h. cc)))) ∙ e)
 no_fails Archive low n more kind few alone unended (inr f) =
-    let nine = result_is f.0 9 (sym f.1 ∙ next-ok-grows Archive low n (end_record n) more 9 (next_end Archive refl low n (few refl))) in
+    let nine = result_is f.0 9 (sym f.1 ∙ next-ok-grows Archive low n (end_record n) more 9 (next_end Archive refl low n (few (λ h. cc)))) in
     let two = refused_tag (take f.0 (end_record n ++ more)) kind f.2 in
     let same : get_or (take f.0 (end_record n ++ more)) 0 0 ≡ get_or (end_record n ++ more) 0 0 = get_or-take f.0 (end_record n ++ more) 0 0 (omega arith) in
     omega (arith, is_three (end_record n ++ more) (end_more n more))
@@ -186,11 +191,11 @@ module _ (file : FileKind) where
         unique file records xs [] front.rest (ending file (length xs) ++ more) front.ordered ordered (behind_magic file t (concat records ++ front.rest) (concat xs ++ (ending file (length xs) ++ more)) front.whole whole) stop
         (ending_stops file (last_of [] xs) (length xs) more alone)
 
-    pub no_fault_behind : (records : List (List ℕ)) (front : IsGoodFront file t records) (fault : RecordFault) → (file ≡ Archive → length records ≡ length xs → length xs < 2 ^ 64) → (fault.kind ≡ Trailing → more ≡ []) → IsUnended file front.rest → IsFaultBehind file records front.rest fault → ⊥
+    pub no_fault_behind : (records : List (List ℕ)) (front : IsGoodFront file t records) (fault : RecordFault) → (file ≢ Operations_file → length records ≡ length xs → length xs < 2 ^ 64) → (fault.kind ≡ Trailing → more ≡ []) → IsUnended file front.rest → IsFaultBehind file records front.rest fault → ⊥
     no_fault_behind records front fault few all unended (inl f) =
         let same = same_front records front (behind_stops records front.rest fault (inl f)) in
         let here = subst (λ (r : List ℕ). FailsNext file (last_of [] xs) (length xs) r fault.kind) same.1 (subst (λ (x : List (List ℕ)). FailsNext file (last_of [] x) (length x) front.rest fault.kind) same.0 f.0) in
-        no_fails file (last_of [] xs) (length xs) more fault.kind (λ archive. few archive (ap length same.0)) alone (subst (IsUnended file) same.1 unended) here
+        no_fails file (last_of [] xs) (length xs) more fault.kind (λ counts. few counts (ap length same.0)) alone (subst (IsUnended file) same.1 unended) here
     no_fault_behind records front fault few all unended (inr f) =
         let same = same_front records front (behind_stops records front.rest fault (inr f)) in
         omega (arith, f.1.more, ap length same.1, length-append (ending file (length xs)) more, ap length (all f.0), length-ending file (length xs))

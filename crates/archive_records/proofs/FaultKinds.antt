@@ -2,7 +2,7 @@
 use Rattle.std.proofs.Common.{◌≡◌, ◌≢◌, ℕ, ◌+◌, ◌≤◌, Bool, true, false, cond, ltb, eqb, List, [], length, get_or, take, Option, Some, None, Result, Ok, Err, refl, sym, ap, ◌∙◌, subst, inl, inr, ◌⊎◌, lit≤}
 use Rattle.std.proofs.lemmas.Bool.{cases_Bool, false≢true}
 use Rattle.archive_records.specs.declared.kind.FileKind.{FileKind}
-use Rattle.archive_records.specs.declared.kind.FileKind.TheVariants.{Archive, Operations}
+use Rattle.archive_records.specs.declared.kind.FileKind.TheVariants.{Archive, Operations, Summary}
 use Rattle.archive_records.specs.declared.fault.RecordFaultKind.{RecordFaultKind}
 use Rattle.archive_records.specs.declared.fault.RecordFaultKind.TheVariants.{BadMagic, Truncated, BadTag, TooLarge, NotAscending, BadSlice, KeyMismatch, BadCount, Trailing, Device, OutOfMemory}
 use Rattle.archive_records.specs.declared.fault.RecordFault.{RecordFault}
@@ -148,6 +148,7 @@ empty_fails file low count kind (inr f) = absurd (no_both f.0 Truncated (sym f.1
 
 pub unended_is : (file : FileKind) (low : List ℕ) (count : ℕ) (bytes : List ℕ) (kind : RecordFaultKind) → (kind ≡ Truncated → file ≡ Operations → bytes ≢ []) → FailsNext file low count bytes kind → IsUnended file bytes
 unended_is Archive low count bytes kind some f = tt
+unended_is Summary low count bytes kind some f = tt
 unended_is Operations low count bytes kind some f = λ e. some (empty_fails Operations low count kind (subst (λ (x : List ℕ). FailsNext Operations low count x kind) e f)) refl e
 
 pub unended_behind : (file : FileKind) (low : List ℕ) (count : ℕ) (b : Buffer) (kind : RecordFaultKind) → b.at ≤ length b.bytes.items → (kind ≡ Truncated → b.at ≡ 0 → file ≡ Operations → ⊥) → FailsNext file low count (bytes_so_far b) (seen_as kind) → IsOfText kind → IsUnended file (bytes_so_far b)

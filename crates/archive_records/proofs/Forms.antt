@@ -1,5 +1,5 @@
 -- A record as the bytes of a retirement or of an admission.
-use Rattle.std.proofs.Common.{◌≡◌, ℕ, suc, ◌+◌, ◌<◌, ◌≤◌, eqb, false, List, [], ◌∷◌, ◌++◌, length, get_or, take, drop, Some, Ok, refl, sym, ap, ◌∙◌, subst, arith, inl, inr, length-append, length-drop}
+use Rattle.std.proofs.Common.{◌≡◌, ℕ, suc, ◌+◌, ◌<◌, ◌≤◌, eqb, false, List, [], ◌∷◌, ◌++◌, length, get_or, take, drop, Some, Ok, refl, sym, ap, ◌∙◌, subst, arith, inl, inr, ◌⊎◌, length-append, length-drop}
 use Rattle.std.proofs.lemmas.Bool.{cases_Bool, cases_lt, eqb-true, false≢true}
 use Rattle.std.proofs.lemmas.List.{take_all, take_at, drop_at, length-take, get_or-take, get_or-drop, get_or_past, take-append-drop, drop-drop}
 use Rattle.std.proofs.lemmas.Nat.{be_bytes_8, from_be_bytes-to_be_bytes_8}
@@ -14,12 +14,13 @@ use Rattle.archive_records.specs.declared.fault.RecordFaultKind.{RecordFaultKind
 use Rattle.archive_records.specs.declared.fault.RecordFaultKind.TheVariants.{BadMagic, Truncated, BadTag, TooLarge, NotAscending, BadSlice, KeyMismatch, BadCount, Trailing, Device, OutOfMemory}
 use Rattle.archive_records.specs.Layout.{head_length, slice_length, admission_body, body_length, framed}
 use Rattle.archive_records.specs.Kind.{IsItem, admission_length}
+use Rattle.archive_records.specs.Entry.{IsEntry}
 use Rattle.archive_records.specs.Fault.{is_end, RefusesSlice, Refuses}
 use Rattle.archive_records.proofs.Framed.{framed-whole}
-use Rattle.archive_records.proofs.Holds.{holds, done, body_one, body_two, whole-retirement}
+use Rattle.archive_records.proofs.Holds.{holds, done, body_one, body_two, whole-retirement, whole-admission}
 use Rattle.archive_records.proofs.SliceFacts.{short_slice, no_slice_fault}
 use Rattle.archive_records.specs.declared.kind.FileKind.{FileKind}
-use Rattle.archive_records.specs.declared.kind.FileKind.TheVariants.{Archive, Operations}
+use Rattle.archive_records.specs.declared.kind.FileKind.TheVariants.{Archive, Operations, Summary}
 
 abbrev pub IsBytes : List ℕ → Type 0
 IsBytes bytes = (i : ℕ) → get_or bytes i 0 < 256
@@ -140,12 +141,24 @@ long-retirement bytes t = (parts-retires bytes t).long
 pub long-admission : (bytes : List ℕ) → Admits bytes → 33 ≤ length bytes
 long-admission bytes a = omega (arith, (parts-of bytes a).long)
 
+-- the tag, the key and the digest make the bytes again
+pub tagged_is : (tag : ℕ) (bytes : List ℕ) (key : SliceKey) (digest : List ℕ) → length bytes ≡ 57 → get_or bytes 0 0 ≡ tag → key_bytes key ≡ take 24 (drop 1 bytes) → digest ≡ take 32 (drop 25 bytes) → tag ∷ (key_bytes key ++ digest) ≡ bytes
+tagged_is tag [] key digest long is k d = absurd (omega arith)
+tagged_is tag (b ∷ bs) key digest long is k d =
+    cons_both tag b (key_bytes key ++ digest) bs (sym is)
+    (ap (λ (t : List ℕ). t ++ digest) k ∙ ap (λ (t : List ℕ). take 24 bs ++ t) (d ∙ take_all 32 (drop 24 bs) (omega (arith, length-drop 24 bs))) ∙ take-append-drop 24 bs)
+
+-- an entry without a retirement's tag has an admission's
+pub other_tag : (bytes : List ℕ) → IsEntry bytes → (get_or bytes 0 0 ≡ 1 → ⊥) → get_or bytes 0 0 ≡ 2
+other_tag bytes is other = by is.tag
+  where
+    by : (get_or bytes 0 0 ≡ 1) ⊎ (get_or bytes 0 0 ≡ 2) → get_or bytes 0 0 ≡ 2
+    by (inl one) = absurd (other one)
+    by (inr two) = two
+
 -- the key and the digest make the retirement's record
 pub retired_is : (bytes : List ℕ) (key : SliceKey) (digest : List ℕ) → length bytes ≡ 57 → get_or bytes 0 0 ≡ 1 → key_bytes key ≡ take 24 (drop 1 bytes) → digest ≡ take 32 (drop 25 bytes) → retirement_record key digest ≡ bytes
-retired_is [] key digest long tag k d = absurd (omega arith)
-retired_is (b ∷ bs) key digest long tag k d =
-    cons_both 1 b (key_bytes key ++ digest) bs (sym tag)
-    (ap (λ (t : List ℕ). t ++ digest) k ∙ ap (λ (t : List ℕ). take 24 bs ++ t) (d ∙ take_all 32 (drop 24 bs) (omega (arith, length-drop 24 bs))) ∙ take-append-drop 24 bs)
+retired_is bytes key digest long tag k d = tagged_is 1 bytes key digest long tag k d
 
 -- the slice of an admission's record, and its record again
 pub admitted_valid : (bytes : List ℕ) → Admits bytes → IsValid (drop 33 bytes)
@@ -170,25 +183,60 @@ module _ (file : FileKind) (head : admission_length file ≡ 33) (behind : (byte
       let body : body_length file r ≡ 0 = body_one file r p.tag in
       framed-whole file r 57 (omega arith) (ap (head_length file) p.tag) (omega arith) (omega (arith, body)) (omega (arith, body)) ∙ ap (λ (n : ℕ). Ok n) (omega (arith, body))
 
+-- an entry is whole, and no end record
+by_tag-framed : (item : List ℕ) → (get_or item 0 0 ≡ 1) ⊎ (get_or item 0 0 ≡ 2) → length item ≡ 57 → framed Summary item ≡ Ok (length item)
+unfolding head_length
+by_tag-framed item (inl one) long =
+    let body : body_length Summary item ≡ 0 = body_one Summary item one in
+    framed-whole Summary item 57 (omega arith) (ap (head_length Summary) one) (omega arith) (omega (arith, body)) (omega (arith, body)) ∙ ap (λ (n : ℕ). Ok n) (omega (arith, body))
+by_tag-framed item (inr two) long =
+    let body : body_length Summary item ≡ 0 = body_two Summary item two in
+    framed-whole Summary item 57 (omega arith) (ap (head_length Summary) two) (omega arith) (omega (arith, body)) (omega (arith, body)) ∙ ap (λ (n : ℕ). Ok n) (omega (arith, body))
+
+pub entry-framed : (item : List ℕ) → IsEntry item → framed Summary item ≡ Ok (length item)
+entry-framed item is = by_tag-framed item is.tag is.long
+
+by_tag-no_end : (item : List ℕ) → (get_or item 0 0 ≡ 1) ⊎ (get_or item 0 0 ≡ 2) → is_end item ≡ false
+unfolding is_end
+by_tag-no_end item (inl one) = rw one refl
+by_tag-no_end item (inr two) = rw two refl
+
+entry-no_end : (item : List ℕ) → IsEntry item → is_end item ≡ false
+entry-no_end item is = by_tag-no_end item is.tag
+
+-- whole bytes of a summary that are no end record are an entry
+pub entry-of : (bytes : List ℕ) → framed Summary bytes ≡ Ok (length bytes) → is_end bytes ≡ false → IsEntry bytes
+entry-of bytes whole no_end =
+    elim (cases_Bool (eqb (get_or bytes 0 0) 1)) [
+      | inl one ↦ let tag = eqb-true _ _ one in record { tag = inl tag; long = whole-retirement Summary bytes whole tag }
+      | inr other ↦
+          let form = whole-admission Summary bytes whole no_end (λ tag. false≢true (sym other ∙ ap (λ (x : ℕ). eqb x 1) tag)) in
+          record { tag = inr form.0; long = omega (arith, form.1) }
+    ]
+
 -- an item is whole, is no end record, and is not refused for what it holds
 pub item-framed : (file : FileKind) (item : List ℕ) → IsItem file item → framed file item ≡ Ok (length item)
 item-framed Archive item is = record-framed Archive refl (λ bytes. refl) item is
 item-framed Operations item is = record-framed Operations refl (λ bytes. refl) item is
+item-framed Summary item is = entry-framed item is
 
 pub item-no_end : (file : FileKind) (item : List ℕ) → IsItem file item → is_end item ≡ false
 item-no_end Archive item is = record-item item is
 item-no_end Operations item is = record-item item is
+item-no_end Summary item is = entry-no_end item is
 
 pub item-refused : (file : FileKind) (item : List ℕ) (kind : RecordFaultKind) → IsItem file item → Refuses file item kind → ⊥
 item-refused Archive item kind is refused = record-slice item kind is refused
 item-refused Operations item kind is refused = record-slice item kind is refused
+item-refused Summary item kind is refused = refused
 
 -- what is refused is a slice
 pub refused_slice : (file : FileKind) (bytes : List ℕ) (kind : RecordFaultKind) → Refuses file bytes kind → RefusesSlice bytes kind
 refused_slice Archive bytes kind refused = refused
 refused_slice Operations bytes kind refused = refused
+refused_slice Summary bytes kind refused = absurd refused
 
--- whole operations are framed as in an archive
+-- whole records of operations are framed as in an archive
 same_head : (tag head : ℕ) → (tag ≡ 3 → ⊥) → head_length Operations tag ≡ Some head → head_length Archive tag ≡ Some head
 unfolding head_length
 same_head tag head other e =
@@ -197,13 +245,16 @@ same_head tag head other e =
       | inr below ↦ rw below (rw below at e)
     ]
 
-pub archive_framed : (file : FileKind) (bytes : List ℕ) → framed file bytes ≡ Ok (length bytes) → is_end bytes ≡ false → framed Archive bytes ≡ Ok (length bytes)
+operations_framed : (bytes : List ℕ) → framed Operations bytes ≡ Ok (length bytes) → is_end bytes ≡ false → framed Archive bytes ≡ Ok (length bytes)
 unfolding is_end body_length
-archive_framed Archive bytes whole no_end = whole
-archive_framed Operations bytes whole no_end =
+operations_framed bytes whole no_end =
     let h = holds Operations bytes (length bytes) whole in
     let tag : head_length Archive (get_or bytes 0 0) ≡ Some h.head = same_head (get_or bytes 0 0) h.head (λ three. false≢true (sym no_end ∙ ap (λ (t : ℕ). eqb t 3) three)) h.tag in
     framed-whole Archive bytes h.head h.one tag h.long h.small (omega (arith, h.is)) ∙ ap done (sym h.is)
+
+pub archive_framed : (file : FileKind) → (file ≡ Archive) ⊎ (file ≡ Operations) → (bytes : List ℕ) → framed file bytes ≡ Ok (length bytes) → is_end bytes ≡ false → framed Archive bytes ≡ Ok (length bytes)
+archive_framed file (inl is) bytes whole no_end = subst (λ (f : FileKind). framed f bytes ≡ Ok (length bytes)) is whole
+archive_framed file (inr is) bytes whole no_end = operations_framed bytes (subst (λ (f : FileKind). framed f bytes ≡ Ok (length bytes)) is whole) no_end
 
 -- whole bytes with a retirement's tag are a retirement's record
 pub retires : (bytes : List ℕ) (key : SliceKey) → framed Archive bytes ≡ Ok (length bytes) → get_or bytes 0 0 ≡ 1 → key_bytes key ≡ take 24 (drop 1 bytes) → IsKey key → Retires bytes

@@ -1,5 +1,5 @@
 -- What stands at the front of bytes, test by test.
-use Rattle.std.proofs.Common.{◌≡◌, ℕ, ◌+◌, ◌<◌, ◌≤◌, false, List, ◌++◌, length, get_or, take, drop, Option, Some, None, Ok, Err, refl, sym, ap, ◌∙◌, arith, inl, inr, length-append, length-drop, eq-eqb, eqb}
+use Rattle.std.proofs.Common.{◌≡◌, ◌⊎◌, ℕ, ◌+◌, ◌<◌, ◌≤◌, false, List, ◌++◌, length, get_or, take, drop, Option, Some, None, Ok, Err, refl, sym, ap, ◌∙◌, arith, inl, inr, length-append, length-drop, eq-eqb, eqb}
 use Rattle.std.proofs.lemmas.List.{get_or_append_left, drop-append-le, take-append-le}
 use Rattle.std.specs.Int.{w64, from_be_bytes}
 use Rattle.std.proofs.lemmas.Bool.{le-ltb, lt-ltb, eqb-true, cases_Bool}
@@ -9,7 +9,7 @@ use Rattle.archive_records.specs.Layout.{head_length, admission_body, body_lengt
 use Rattle.archive_records.specs.Reader.{seen_as}
 use Rattle.archive_records.specs.Kind.{admission_length}
 use Rattle.archive_records.specs.declared.kind.FileKind.{FileKind}
-use Rattle.archive_records.specs.declared.kind.FileKind.TheVariants.{Archive, Operations}
+use Rattle.archive_records.specs.declared.kind.FileKind.TheVariants.{Archive, Operations, Summary}
 
 same_tag : (bytes more : List ℕ) → 1 ≤ length bytes → get_or (bytes ++ more) 0 0 ≡ get_or bytes 0 0
 same_tag bytes more le = get_or_append_left bytes more 0 0 le
@@ -37,13 +37,14 @@ slice_kept bytes more le =
     ap (λ (t : List ℕ). from_be_bytes w64 (take 8 t)) (drop-append-le 25 bytes more (omega arith)) ∙ ap (from_be_bytes w64) (take-append-le 8 (drop 25 bytes) more (omega (arith, length-drop 25 bytes)))
 
 -- the number in an admission's head, where its slice stands behind it
-pub slice_body : (file : FileKind) (bytes : List ℕ) (n : ℕ) → n ≡ slice_length bytes → n ≡ admission_body file bytes
-slice_body Archive bytes n e = e
-slice_body Operations bytes n e = e
+pub slice_body : (file : FileKind) → (file ≡ Archive) ⊎ (file ≡ Operations) → (bytes : List ℕ) (n : ℕ) → n ≡ slice_length bytes → n ≡ admission_body file bytes
+slice_body file (inl is) bytes n e = rw is e
+slice_body file (inr is) bytes n e = rw is e
 
 admission_kept : (file : FileKind) (bytes more : List ℕ) → admission_length file ≤ length bytes → admission_body file (bytes ++ more) ≡ admission_body file bytes
 admission_kept Archive bytes more le = slice_kept bytes more le
 admission_kept Operations bytes more le = slice_kept bytes more le
+admission_kept Summary bytes more le = refl
 
 module _ (file : FileKind) where
   pub framed-empty : (bytes : List ℕ) → length bytes < 1 → framed file bytes ≡ Err Truncated

@@ -10,7 +10,7 @@ use Rattle.archive_records.specs.Kind.{may_follow}
 use Rattle.archive_records.specs.Fault.{is_end, tested, next, next_by}
 use Rattle.std.specs.Prelude.{MatchResult}
 use Rattle.archive_records.specs.declared.kind.FileKind.{FileKind}
-use Rattle.archive_records.specs.declared.kind.FileKind.TheVariants.{Archive, Operations}
+use Rattle.archive_records.specs.declared.kind.FileKind.TheVariants.{Archive, Operations, Summary}
 use Rattle.archive_records.specs.Kind.{admission_length, end_length}
 
 -- a test that passed
@@ -36,11 +36,13 @@ none_is_some x e = cc
 end_nine : (file : FileKind) (head : ℕ) → end_length file ≡ some head → head ≡ 9
 end_nine Archive head e = sym (some_is 9 head e)
 end_nine Operations head e = absurd (none_is_some head e)
+end_nine Summary head e = sym (some_is 9 head e)
 
 -- nor has an admission's head fewer
 admission_nine : (file : FileKind) → 9 ≤ admission_length file
 admission_nine Archive = lit≤ tt
 admission_nine Operations = lit≤ tt
+admission_nine Summary = lit≤ tt
 
 body_three : (file : FileKind) (bytes : List ℕ) → get_or bytes 0 0 ≡ 3 → body_length file bytes ≡ 0
 unfolding body_length

@@ -1,5 +1,5 @@
 -- From the bytes that were read to the whole input.
-use Rattle.std.proofs.Common.{◌≡◌, ◌≢◌, ℕ, ◌<◌, ◌^◌, true, List, [], ◌∷◌, ◌++◌, length, Option, Some, None, Result, Ok, Err, refl, sym, ap, ◌∙◌, subst, arith, inl, inr, ◌⊎◌, append_assoc, length-append}
+use Rattle.std.proofs.Common.{◌≡◌, ◌≢◌, ℕ, ◌<◌, ◌^◌, true, List, [], ◌∷◌, ◌++◌, length, Option, Some, None, Result, Ok, Err, refl, sym, ap, ◌∙◌, subst, arith, lit≤, inl, inr, ◌⊎◌, append_assoc, length-append}
 use Rattle.std.proofs.lemmas.List.{append-nil, take-append-le}
 use Rattle.std.specs.Prelude.{IfOk, IfErr, IfSome, OnOk, All, map}
 use Rattle.std.specs.List.{concat}
@@ -18,8 +18,9 @@ use Rattle.archive_records.specs.Kind.{magic_of}
 use Rattle.archive_records.specs.Text.{ending, text_of, InOrder, last_of, written, IsOperationsText}
 use Rattle.archive_records.specs.Fault.{is_end, IsMagicFault, IsFaultBehind, IsUnended, IsOperationsFault, IsFaultOf, IsOfText}
 use Rattle.archive_records.specs.Front.{IsGoodFront, IsFrontLengthOf, IsLongestLengthOf, front_length}
-use Rattle.archive_records.specs.Reading.{Blames, StandsBehind, IsRefused, IsOfMachine, ReadsWhole, ReadsFront}
+use Rattle.archive_records.specs.Reading.{Meaning, IsMeaning, IsTextOf, Blames, StandsBehind, IsRefused, IsOfMachine, ReadsWhole, ReadsFront}
 use Rattle.archive_records.specs.Reader.{FaultBlamesReader, seen_as, StopsInMagic, Stops, HasStopped, IsReadTo, AreRead}
+use Rattle.byte_device.proofs.Known.{Consumes-none}
 use Rattle.archive_records.proofs.Grown.{Fails-grows, IsTrailing-grows}
 use Rattle.archive_records.proofs.Longest.{Takes, fault-stops, end-stops, is_longest}
 use Rattle.archive_records.proofs.Puts.{bytes_same}
@@ -29,7 +30,7 @@ use Rattle.archive_records.proofs.FaultKinds.{as_itself}
 use Rattle.archive_records.proofs.Listed.{InOrder-operations, IsOperationsText-text, text_is, one_list}
 use Rattle.archive_records.proofs.Exact.{no_magic_fault, no_fault_behind, same_records, one_front}
 use Rattle.archive_records.specs.declared.kind.FileKind.{FileKind}
-use Rattle.archive_records.specs.declared.kind.FileKind.TheVariants.{Archive, Operations as Operations_file}
+use Rattle.archive_records.specs.declared.kind.FileKind.TheVariants.{Archive, Operations as Operations_file, Summary as Summary_file}
 
 of_text : (kind : RecordFaultKind) → IsOfText kind ⊎ ((kind ≡ Device) ⊎ (kind ≡ OutOfMemory))
 of_text Device = inr (inl refl)
@@ -83,6 +84,7 @@ IsReadTo-text a b o r end = all_taken a b (written o) (IsReadTo-taken a b o r) e
 
 unended_grows : (file : FileKind) (rest more : List ℕ) → IsUnended file rest → IsUnended file (rest ++ more)
 unended_grows Archive rest more u = tt
+unended_grows Summary_file rest more u = tt
 unended_grows Operations_file [] more u = absurd (u refl)
 unended_grows Operations_file (x ∷ rest) more u = λ e. cc
 
@@ -336,7 +338,20 @@ pub operations_no_fault : (t : List ℕ) (xs : List Operation) (fault : RecordFa
 operations_no_fault t xs fault p (inl m) = no_magic_fault Operations_file t (concat (map rec xs)) fault.kind p.whole m.0
 operations_no_fault t xs fault p (inr f) =
     let nil = append-nil (text_of Operations_file (map rec xs)) in
-    no_fault_behind Operations_file t (map rec xs) [] (InOrder-operations [] xs p.are) (text_is t xs p ∙ sym nil) (λ _. refl) f.0 f.1 fault (λ archive. absurd (apart archive)) (λ _. refl) f.2 f.3
+    no_fault_behind Operations_file t (map rec xs) [] (InOrder-operations [] xs p.are) (text_is t xs p ∙ sym nil) (λ _. refl) f.0 f.1 fault (λ counts. absurd (counts refl)) (λ _. refl) f.2 f.3
+
+-- want of memory before anything was read
+pub refused_first : {R X : Type 0} (file : FileKind) (meaning : X → Meaning file) (left : R → Option (List ℕ)) (failures : R → ℕ) (r : R) → ReadsWhole {T = X} file meaning left failures r r (Err (record { kind = OutOfMemory; offset = 0 }))
+refused_first file meaning left failures r = (
+  record {
+    blames = ((λ e. absurd (device_memory (sym e))), (λ _. refl), λ e. absurd cc);
+    faulty = λ known. absurd (known.1 refl);
+    device = λ e. absurd (device_memory (sym e));
+    memory = λ _. ([], Consumes-none (left r), inl (lit≤ tt, refl));
+  },
+  by_memory (left r),
+)
   where
-    apart : Operations_file ≡ Archive → ⊥
-    apart h = cc
+    by_memory : (a : Option (List ℕ)) → IfSome a (λ text. (m : Meaning file) → IsMeaning file m → IsTextOf file m text → IsOfMachine OutOfMemory)
+    by_memory None = tt
+    by_memory (Some text) = λ _ _ _. inr refl

@@ -13,6 +13,7 @@ pub mod FaultKinds
 pub mod Steps
 pub mod Listed
 pub mod Contents
+pub mod Summarised
 pub mod Exact
 pub mod Inputs
 pub mod Complete

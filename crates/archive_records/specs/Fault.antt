@@ -3,7 +3,7 @@ use Rattle.std.specs.Prelude.{◌≡◌, ◌≢◌, ℕ, ◌+◌, ◌<◌, ◌�
 use Rattle.archive_core.specs.Key.{key_bytes}
 use Rattle.archive_core.specs.Valid.{IsValid, IsSliceFault, key_of}
 use Rattle.archive_records.specs.declared.kind.FileKind.{FileKind}
-use Rattle.archive_records.specs.declared.kind.FileKind.TheVariants.{Archive, Operations}
+use Rattle.archive_records.specs.declared.kind.FileKind.TheVariants.{Archive, Operations, Summary}
 use Rattle.archive_records.specs.declared.fault.RecordFaultKind.{RecordFaultKind}
 use Rattle.archive_records.specs.declared.fault.RecordFaultKind.TheVariants.{BadMagic, Truncated, BadTag, TooLarge, NotAscending, BadSlice, KeyMismatch, BadCount, Trailing, Device, OutOfMemory}
 use Rattle.archive_records.specs.declared.fault.RecordFault.{RecordFault}
@@ -44,10 +44,11 @@ RefusesSlice bytes Trailing = ⊥
 RefusesSlice bytes Device = ⊥
 RefusesSlice bytes OutOfMemory = ⊥
 
--- why a whole item is refused for what it holds
+-- why a whole item is refused for what it holds; an entry is not
 abbrev pub Refuses : FileKind → List ℕ → RecordFaultKind → Type 0
 Refuses Archive bytes kind = RefusesSlice bytes kind
 Refuses Operations bytes kind = RefusesSlice bytes kind
+Refuses Summary bytes kind = ⊥
 
 -- the first test that fails in front of the rest, of those that know the last record and the number of records alone
 abbrev pub FailsNext : FileKind → List ℕ → ℕ → List ℕ → RecordFaultKind → Type 0
@@ -85,10 +86,11 @@ IsFaultBehind file records rest fault =
     (Fails file records rest fault.kind × (fault.offset ≡ front_length records))
     ⊎ ((fault.kind ≡ Trailing) × IsTrailing file (last_of [] records) (length records) rest × (fault.offset ≡ front_length records + 9))
 
--- The file does not end before the rest: operations do where nothing is left, an archive only behind its end record.
+-- The file does not end before the rest: operations do where nothing is left, the others only behind their end record.
 abbrev pub IsUnended : FileKind → List ℕ → Type 0
 IsUnended Archive rest = Unit {0}
 IsUnended Operations rest = rest ≢ []
+IsUnended Summary rest = Unit {0}
 
 -- The fault of a text: that of the magic, or else what stops behind a good front.
 abbrev pub IsFaultOf : FileKind → List ℕ → RecordFault → Type 0
@@ -99,6 +101,10 @@ IsFaultOf file text fault =
 -- the fault of what should be an archive's text
 abbrev pub IsFault : List ℕ → RecordFault → Type 0
 IsFault = IsFaultOf Archive
+
+-- the fault of what should be a summary's text
+abbrev pub IsSummaryFault : List ℕ → RecordFault → Type 0
+IsSummaryFault = IsFaultOf Summary
 
 -- the fault of what should be the text of operations
 abbrev pub IsOperationsFault : List ℕ → RecordFault → Type 0

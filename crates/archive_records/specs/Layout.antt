@@ -2,7 +2,7 @@
 use Rattle.std.specs.Prelude.{ℕ, ◌+◌, List, length, take, drop, slice_index, nat_lt, ◌==◌, if◌then◌else◌, Option, Some, None, Result, Ok, Err}
 use Rattle.std.specs.Int.{w64, from_be_bytes}
 use Rattle.archive_records.specs.declared.kind.FileKind.{FileKind}
-use Rattle.archive_records.specs.declared.kind.FileKind.TheVariants.{Archive, Operations}
+use Rattle.archive_records.specs.declared.kind.FileKind.TheVariants.{Archive, Operations, Summary}
 use Rattle.archive_records.specs.Kind.{admission_length, end_length}
 use Rattle.archive_records.specs.declared.fault.RecordFaultKind.{RecordFaultKind}
 use Rattle.archive_records.specs.declared.fault.RecordFaultKind.TheVariants.{Truncated, BadTag, TooLarge}
@@ -20,10 +20,11 @@ slice_length bytes = from_be_bytes w64 (take 8 (drop 25 bytes))
 unfoldable pub record_count : List ℕ → ℕ
 record_count bytes = from_be_bytes w64 (take 8 (drop 1 bytes))
 
--- how many bytes follow the head of an admission: those of its slice
+-- how many bytes follow the head of an admission: those of its slice; nothing follows an entry
 abbrev pub admission_body : FileKind → List ℕ → ℕ
 admission_body Archive bytes = slice_length bytes
 admission_body Operations bytes = slice_length bytes
+admission_body Summary bytes = 0
 
 -- how many bytes follow the head; an admission alone has such
 unfoldable pub body_length : FileKind → List ℕ → ℕ

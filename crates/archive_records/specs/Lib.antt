@@ -1,7 +1,9 @@
+pub mod Entry
 pub mod Kind
 pub mod Layout
 pub mod Text
 pub mod Fault
 pub mod Front
 pub mod Reading
+pub mod Writing
 pub mod Reader

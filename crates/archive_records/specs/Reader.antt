@@ -1,6 +1,7 @@
 -- Records that are read from a source one over the other: the words of the inner functions. No contract of a public one has them.
 use Rattle.std.specs.Prelude.{◌≡◌, ◌≢◌, ℕ, ◌+◌, ◌*◌, ◌^◌, ◌<◌, ◌≤◌, Bool, true, false, List, [], ◌++◌, length, take, drop, map, All, Option, Result, Ok, Err, MatchResult, ◌⊎◌}
-use Rattle.std.specs.List.{concat}
+use Rattle.std.specs.List.{concat, AllByRecursion}
+use Rattle.std.specs.List.Sorted.{IsStrictlySortedBy}
 use Rattle.std.specs.Ordering.{nat_cmp}
 use Rattle.std.specs.Cmp.Lexicographic.{slice_cmp}
 use Rattle.std.specs.FinSet as set
@@ -9,11 +10,12 @@ use Rattle.archive_core.specs.declared.operations.Operation.{Operation}
 use Rattle.archive_core.specs.Record.{IsOperation, rec}
 use Rattle.archive_core.specs.Content.{Operations}
 use Rattle.archive_records.specs.declared.kind.FileKind.{FileKind}
-use Rattle.archive_records.specs.declared.kind.FileKind.TheVariants.{Archive, Operations as Operations_file}
+use Rattle.archive_records.specs.declared.kind.FileKind.TheVariants.{Archive, Operations as Operations_file, Summary as Summary_file}
 use Rattle.archive_records.specs.declared.buffer.Buffer.{Buffer}
 use Rattle.archive_records.specs.declared.fault.RecordFaultKind.{RecordFaultKind}
 use Rattle.archive_records.specs.declared.fault.RecordFaultKind.TheVariants.{BadMagic, Truncated, BadTag, TooLarge, NotAscending, BadSlice, KeyMismatch, BadCount, Trailing, Device, OutOfMemory}
 use Rattle.archive_records.specs.declared.fault.RecordFault.{RecordFault}
+use Rattle.archive_records.specs.Entry.{IsEntry}
 use Rattle.archive_records.specs.Kind.{magic_of, IsItem, may_follow}
 use Rattle.archive_records.specs.Text.{end_record, ending, text_of, InOrder, last_of}
 use Rattle.archive_records.specs.Fault.{FailsNext, Fails, IsTrailing, IsMagicFault, IsUnended, IsOfText}
@@ -85,6 +87,7 @@ pub record Passes (a b : Option (List ℕ)) (before after : Position) : Type 0 w
 abbrev pub IsEnded : FileKind → Option (List ℕ) → Type 0
 IsEnded Archive left = Unit {0}
 IsEnded Operations_file left = IsAtEnd left
+IsEnded Summary_file left = Unit {0}
 
 -- What ends the file was read.
 pub record Finishes (a b : Option (List ℕ)) (before after : Position) : Type 0 where
@@ -140,6 +143,11 @@ pub record Stopped (file : FileKind) (a b : Option (List ℕ)) (records : List (
   pub few : length records < 2 ^ 63
   pub unended : IsOfText fault.kind → IsUnended file rest
   pub stops : Stops file records rest fault
+
+-- entries strictly ascending: what a summary keeps
+pub record AreListed (entries : List (List ℕ)) : Type 0 where
+  pub ascending : IsStrictlySortedBy (slice_cmp nat_cmp) entries
+  pub are : AllByRecursion IsEntry entries
 
 -- reading stopped, in the magic or behind some records
 abbrev pub HasStopped : FileKind → Option (List ℕ) → Option (List ℕ) → RecordFault → Type 0

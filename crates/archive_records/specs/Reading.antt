@@ -6,34 +6,40 @@ use Rattle.byte_device.specs.Devices.{FailedIn}
 use Rattle.archive_core.specs.declared.operations.Operation.{Operation}
 use Rattle.archive_core.specs.Record.{IsOperation}
 use Rattle.archive_core.specs.Content.{Operations, IsContent}
+use Rattle.archive_core.specs.Summary.{Entries}
+use Rattle.archive_records.specs.Entry.{AreEntries}
 use Rattle.archive_records.specs.declared.kind.FileKind.{FileKind}
-use Rattle.archive_records.specs.declared.kind.FileKind.TheVariants.{Archive, Operations as Operations_file}
+use Rattle.archive_records.specs.declared.kind.FileKind.TheVariants.{Archive, Operations as Operations_file, Summary as Summary_file}
 use Rattle.archive_records.specs.declared.fault.RecordFaultKind.{RecordFaultKind}
 use Rattle.archive_records.specs.declared.fault.RecordFaultKind.TheVariants.{Truncated, Trailing, Device, OutOfMemory}
 use Rattle.archive_records.specs.declared.fault.RecordFault.{RecordFault}
-use Rattle.archive_records.specs.Text.{written, IsOperationsText}
+use Rattle.archive_records.specs.Text.{written, summary_text, IsOperationsText}
 use Rattle.archive_records.specs.Fault.{IsFaultOf, IsOfText}
 use Rattle.archive_records.specs.Front.{IsFrontLengthOf, IsLongestLengthOf}
 
--- what the text of a file says: an archive's a content, an operations file's a list of operations
+-- what the text of a file says: an archive's a content, an operations file's a list of operations, a summary's its entries
 abbrev pub Meaning : FileKind → Type 0
 Meaning Archive = Operations
 Meaning Operations_file = List Operation
+Meaning Summary_file = Entries
 
 -- what such texts may say
 abbrev pub IsMeaning : (file : FileKind) → Meaning file → Type 0
 IsMeaning Archive o = IsContent o
 IsMeaning Operations_file operations = All IsOperation operations
+IsMeaning Summary_file s = AreEntries s
 
 -- in how many records
 abbrev pub records_of : (file : FileKind) → Meaning file → ℕ
 records_of Archive o = set.len o
 records_of Operations_file operations = length operations
+records_of Summary_file s = set.len s
 
 -- the text that says it
 abbrev pub IsTextOf : (file : FileKind) → Meaning file → List ℕ → Type 0
 IsTextOf Archive o text = text ≡ written o
 IsTextOf Operations_file operations text = IsOperationsText text operations
+IsTextOf Summary_file s text = text ≡ summary_text s
 
 -- What a fault says of the reader in the call, which stood so before it and so after it: that it failed, if this is `Device`, and else
 -- that it did not; and if this is `Truncated`, that it is at its end.

