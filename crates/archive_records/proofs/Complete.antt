@@ -14,14 +14,16 @@ use Rattle.archive_core.specs.Valid.{key_of}
 use Rattle.archive_core.specs.declared.operations.Operation.{Operation}
 use Rattle.archive_core.specs.Record.{IsRecord}
 use Rattle.archive_core.specs.Content.{Operations, IsContent}
+use Rattle.archive_core.specs.Summary.{Entries}
+use Rattle.archive_records.specs.Entry.{AreEntries}
 use Rattle.archive_core.specs.declared.keys.SliceKey.{SliceKey}
 use Rattle.archive_records.specs.declared.fault.RecordFaultKind.{RecordFaultKind}
 use Rattle.archive_records.specs.declared.fault.RecordFaultKind.TheVariants.{BadMagic, Truncated, BadSlice, KeyMismatch, Trailing}
 use Rattle.archive_records.specs.declared.fault.RecordFault.{RecordFault}
 use Rattle.archive_records.specs.Layout.{head_length, body_length, slice_length, framed}
 use Rattle.archive_records.specs.Kind.{magic_of, IsItem}
-use Rattle.archive_records.specs.Text.{ending, text_of, IsWritten, InOrder, last_of, IsOperationsText}
-use Rattle.archive_records.specs.Fault.{is_end, next, FailsNext, RefusesSlice, Refuses, IsTrailing, IsUnended, IsFault, IsOperationsFault, IsFaultOf}
+use Rattle.archive_records.specs.Text.{ending, text_of, IsWritten, InOrder, last_of, IsOperationsText, IsSummaryText}
+use Rattle.archive_records.specs.Fault.{is_end, next, FailsNext, RefusesSlice, Refuses, IsTrailing, IsUnended, IsFault, IsOperationsFault, IsSummaryFault, IsFaultOf}
 use Rattle.archive_records.specs.Front.{front_length}
 use Rattle.archive_records.proofs.Framed.{same_body, framed-whole}
 use Rattle.archive_records.proofs.Holds.{holds, Holds-nine, Holds-end, next-framed, next-above, next-counts, done, whole-retirement, whole-admission}
@@ -35,7 +37,7 @@ use Rattle.archive_records.proofs.Steps.{InOrder-push}
 use Rattle.archive_records.proofs.Ends.{is_three, ending_is}
 use Rattle.archive_records.proofs.Exact.{length-magic}
 use Rattle.archive_records.proofs.Listed.{operations_in, IsOperationsText-text}
-use Rattle.archive_records.proofs.Contents.{order, same_bytes, IsContent-records, written-records, text_written}
+use Rattle.archive_records.proofs.Contents.{order, same_bytes, IsContent-records, written-records, text_written, AreEntries-entries, text_of_summary, summary_text-entries}
 use Rattle.archive_records.specs.declared.kind.FileKind.{FileKind}
 use Rattle.archive_records.specs.declared.kind.FileKind.TheVariants.{Archive, Operations as Operations_file, Summary as Summary_file}
 
@@ -245,3 +247,10 @@ operations_known t (inr f) = inr f
 
 pub operations_or_fault : (t : List ℕ) → IsBytes t → ((operations : List Operation) × IsOperationsText t operations) ⊎ ((fault : RecordFault) × IsOperationsFault t fault)
 operations_or_fault t fits = operations_known t (text_or_fault Operations_file t fits)
+
+summary_known : (t : List ℕ) → Known Summary_file t → ((s : Entries) × AreEntries s × IsSummaryText s t) ⊎ ((fault : RecordFault) × IsSummaryFault t fault)
+summary_known t (inl k) = inl (set.from_list k.0, AreEntries-entries k.0 k.1, text_of_summary (set.from_list k.0) t (k.2 ∙ sym (summary_text-entries k.0 k.1)))
+summary_known t (inr f) = inr f
+
+pub summary_or_fault : (t : List ℕ) → IsBytes t → ((s : Entries) × AreEntries s × IsSummaryText s t) ⊎ ((fault : RecordFault) × IsSummaryFault t fault)
+summary_or_fault t fits = summary_known t (text_or_fault Summary_file t fits)

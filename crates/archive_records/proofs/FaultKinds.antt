@@ -1,15 +1,16 @@
 -- Which faults a record may have.
-use Rattle.std.proofs.Common.{◌≡◌, ◌≢◌, ℕ, ◌+◌, ◌≤◌, Bool, true, false, cond, ltb, eqb, List, [], length, get_or, take, Option, Some, None, Result, Ok, Err, refl, sym, ap, ◌∙◌, subst, inl, inr, ◌⊎◌, lit≤}
+use Rattle.std.proofs.Common.{◌≡◌, ◌≢◌, ℕ, ◌+◌, ◌≤◌, arith, ltb-true, Bool, true, false, cond, ltb, eqb, List, [], length, get_or, take, Option, Some, None, Result, Ok, Err, refl, sym, ap, ◌∙◌, subst, inl, inr, ◌⊎◌, lit≤}
 use Rattle.std.proofs.lemmas.Bool.{cases_Bool, false≢true}
 use Rattle.archive_records.specs.declared.kind.FileKind.{FileKind}
 use Rattle.archive_records.specs.declared.kind.FileKind.TheVariants.{Archive, Operations, Summary}
 use Rattle.archive_records.specs.declared.fault.RecordFaultKind.{RecordFaultKind}
 use Rattle.archive_records.specs.declared.fault.RecordFaultKind.TheVariants.{BadMagic, Truncated, BadTag, TooLarge, NotAscending, BadSlice, KeyMismatch, BadCount, Trailing, Device, OutOfMemory}
 use Rattle.archive_records.specs.declared.fault.RecordFault.{RecordFault}
+use Rattle.archive_core.specs.declared.faults.SliceFault.{SliceFault}
 use Rattle.archive_records.specs.Layout.{head_length, body_length, record_count, largest_slice, framed, framed_by, framed_behind}
 use Rattle.archive_records.specs.Kind.{allows, may_follow}
 use Rattle.archive_records.specs.Text.{last_of}
-use Rattle.archive_records.specs.Fault.{is_end, tested, next, next_by, FailsNext, IsMagicFault, IsUnended, IsFaultBehind, IsOperationsFault, IsOfText}
+use Rattle.archive_records.specs.Fault.{is_end, tested, next, next_by, FailsNext, IsMagicFault, IsUnended, IsFaultBehind, IsOperationsFault, IsSummaryFault, IsOfText}
 use Rattle.archive_records.specs.declared.buffer.Buffer.{Buffer}
 use Rattle.archive_records.specs.Reading.{Blames}
 use Rattle.archive_records.specs.Reader.{bytes_so_far, seen_as, StopsInMagic}
@@ -221,6 +222,140 @@ operations_faults text fault (inr f) = behind f.0 f.1.rest f.3
     behind : (records : List (List ℕ)) (rest : List ℕ) → IsFaultBehind Operations records rest fault → (fault.kind ≢ NotAscending) × (fault.kind ≢ BadCount) × (fault.kind ≢ Trailing)
     behind records rest (inl b) = operations_fail (last_of [] records) (length records) rest fault.kind b.0
     behind records rest (inr t) = absurd (no_end rest 9 (next-framed Operations (last_of [] records) (length records) rest 9 t.1.whole) (is_three rest t.1.end))
+
+-- ---- a summary
+
+body_of_summary : (bytes : List ℕ) → body_length Summary bytes ≡ 0
+unfolding body_length
+body_of_summary bytes =
+    elim (cases_Bool (eqb (get_or bytes 0 0) 2)) [
+      | inl two ↦ rw two refl
+      | inr other' ↦ rw other' refl
+    ]
+
+not_large_behind : (head : ℕ) (bytes : List ℕ) → framed_behind Summary head bytes ≡ failed TooLarge → ⊥
+unfolding framed_behind
+not_large_behind head bytes e =
+    elim (either (ltb (length bytes) head) Truncated TooLarge (cond (ltb largest_slice (body_length Summary bytes)) (failed TooLarge) (cond (ltb (length bytes) (head + body_length Summary bytes)) (failed Truncated) (Ok (head + body_length Summary bytes)))) e) [
+      | inl a ↦ apart a.1
+      | inr a ↦ elim (either (ltb largest_slice (body_length Summary bytes)) TooLarge TooLarge (cond (ltb (length bytes) (head + body_length Summary bytes)) (failed Truncated) (Ok (head + body_length Summary bytes))) a.1) [
+        | inl b ↦ absurd (omega (arith, ltb-true _ _ b.0, body_of_summary bytes))
+        | inr b ↦ elim (either (ltb (length bytes) (head + body_length Summary bytes)) Truncated TooLarge (Ok (head + body_length Summary bytes)) b.1) [
+          | inl d ↦ apart d.1
+          | inr d ↦ no_both (head + body_length Summary bytes) TooLarge d.1
+        ]
+      ]
+    ]
+  where
+    apart : Truncated ≡ TooLarge → ⊥
+    apart h = cc
+
+not_large_by : (o : Option ℕ) (bytes : List ℕ) → framed_by Summary o bytes ≡ failed TooLarge → ⊥
+not_large_by None bytes e = apart (kind_is BadTag TooLarge e)
+  where
+    apart : BadTag ≡ TooLarge → ⊥
+    apart h = cc
+not_large_by (Some head) bytes e = not_large_behind head bytes e
+
+not_large_framed : (bytes : List ℕ) → framed Summary bytes ≡ failed TooLarge → ⊥
+unfolding framed
+not_large_framed bytes e =
+    elim (either (ltb (length bytes) 1) Truncated TooLarge (framed_by Summary (head_length Summary (get_or bytes 0 0)) bytes) e) [
+      | inl a ↦ apart a.1
+      | inr a ↦ not_large_by (head_length Summary (get_or bytes 0 0)) bytes a.1
+    ]
+  where
+    apart : Truncated ≡ TooLarge → ⊥
+    apart h = cc
+
+not_large_next_by : (r : Result ℕ RecordFaultKind) (low : List ℕ) (count : ℕ) (rest : List ℕ) → framed Summary rest ≡ r → next_by Summary r low count rest ≡ failed TooLarge → ⊥
+not_large_next_by (Err j) low count rest f e = not_large_framed rest (f ∙ e)
+not_large_next_by (Ok n) low count rest f e =
+    elim (tested_kind Summary low count rest n TooLarge e) [
+      | inl a ↦ bad_count a.1
+      | inr a ↦ not_ascending a.1
+    ]
+  where
+    bad_count : TooLarge ≡ BadCount → ⊥
+    bad_count h = cc
+
+    not_ascending : TooLarge ≡ NotAscending → ⊥
+    not_ascending h = cc
+
+not_large : (low : List ℕ) (count : ℕ) (rest : List ℕ) → FailsNext Summary low count rest TooLarge → ⊥
+unfolding next
+not_large low count rest (inl e) = not_large_next_by (framed Summary rest) low count rest refl e
+not_large low count rest (inr f) = f.2
+
+-- the faults that a test before the slice finds
+abbrev IsBeforeSlice : RecordFaultKind → Type 0
+IsBeforeSlice kind = (kind ≡ Truncated) ⊎ (kind ≡ BadTag) ⊎ (kind ≡ TooLarge) ⊎ (kind ≡ BadCount) ⊎ (kind ≡ NotAscending)
+
+before_slice : (low : List ℕ) (count : ℕ) (rest : List ℕ) (kind : RecordFaultKind) → FailsNext Summary low count rest kind → IsBeforeSlice kind
+before_slice low count rest kind (inr f) = absurd f.2
+before_slice low count rest kind (inl e) =
+    elim (next_kind Summary low count rest kind e) [
+      | inl form ↦ by_form form
+      | inr whole ↦ elim whole.2 [
+        | inl end ↦ inr (inr (inr (inl end.1)))
+        | inr order ↦ inr (inr (inr (inr order.1)))
+      ]
+    ]
+  where
+    by_form : IsOfForm kind → IsBeforeSlice kind
+    by_form (inl a) = inl a
+    by_form (inr (inl a)) = inr (inl a)
+    by_form (inr (inr a)) = inr (inr (inl a))
+
+no_slice : (why : SliceFault) → IsBeforeSlice (BadSlice why) → ⊥
+no_slice why (inl e) = cc
+no_slice why (inr (inl e)) = cc
+no_slice why (inr (inr (inl e))) = cc
+no_slice why (inr (inr (inr (inl e)))) = cc
+no_slice why (inr (inr (inr (inr e)))) = cc
+
+no_key : IsBeforeSlice KeyMismatch → ⊥
+no_key (inl e) = cc
+no_key (inr (inl e)) = cc
+no_key (inr (inr (inl e))) = cc
+no_key (inr (inr (inr (inl e)))) = cc
+no_key (inr (inr (inr (inr e)))) = cc
+
+trailing_other : (kind : RecordFaultKind) → kind ≡ Trailing → (kind ≢ TooLarge) × ((why : SliceFault) → kind ≢ BadSlice why) × (kind ≢ KeyMismatch)
+trailing_other kind t = ((λ e. large (sym t ∙ e)), (λ why e. slice why (sym t ∙ e)), λ e. key (sym t ∙ e))
+  where
+    large : Trailing ≡ TooLarge → ⊥
+    large h = cc
+
+    slice : (why : SliceFault) → Trailing ≡ BadSlice why → ⊥
+    slice why h = cc
+
+    key : Trailing ≡ KeyMismatch → ⊥
+    key h = cc
+
+pub never_large : (text : List ℕ) (fault : RecordFault) → IsSummaryFault text fault → fault.kind ≢ TooLarge
+never_large text fault (inl m) e = subst (IsMagicFault Summary text) e m.0
+never_large text fault (inr f) e = behind f.3
+  where
+    behind : IsFaultBehind Summary f.0 f.1.rest fault → ⊥
+    behind (inl b) = not_large (last_of [] f.0) (length f.0) f.1.rest (subst (FailsNext Summary (last_of [] f.0) (length f.0) f.1.rest) e b.0)
+    behind (inr t) = (trailing_other fault.kind t.0).0 e
+
+pub never_slice : (text : List ℕ) (fault : RecordFault) (why : SliceFault) → IsSummaryFault text fault → fault.kind ≢ BadSlice why
+never_slice text fault why (inl m) e = subst (IsMagicFault Summary text) e m.0
+never_slice text fault why (inr f) e = behind f.3
+  where
+    behind : IsFaultBehind Summary f.0 f.1.rest fault → ⊥
+    behind (inl b) = no_slice why (subst IsBeforeSlice e (before_slice (last_of [] f.0) (length f.0) f.1.rest fault.kind b.0))
+    behind (inr t) = (trailing_other fault.kind t.0).1 why e
+
+pub never_key : (text : List ℕ) (fault : RecordFault) → IsSummaryFault text fault → fault.kind ≢ KeyMismatch
+never_key text fault (inl m) e = subst (IsMagicFault Summary text) e m.0
+never_key text fault (inr f) e = behind f.3
+  where
+    behind : IsFaultBehind Summary f.0 f.1.rest fault → ⊥
+    behind (inl b) = no_key (subst IsBeforeSlice e (before_slice (last_of [] f.0) (length f.0) f.1.rest fault.kind b.0))
+    behind (inr t) = (trailing_other fault.kind t.0).2 e
 
 -- want of memory says that the reader did not fail
 pub memory_blames : {R : Type 0} (left : R → Option (List ℕ)) (failures : R → ℕ) (old new : R) → failures new ≡ failures old → Blames left failures old new OutOfMemory

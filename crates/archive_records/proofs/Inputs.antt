@@ -1,5 +1,5 @@
 -- From the bytes that were read to the whole input.
-use Rattle.std.proofs.Common.{◌≡◌, ◌≢◌, ℕ, ◌<◌, ◌^◌, true, List, [], ◌∷◌, ◌++◌, length, Option, Some, None, Result, Ok, Err, refl, sym, ap, ◌∙◌, subst, arith, lit≤, inl, inr, ◌⊎◌, append_assoc, length-append}
+use Rattle.std.proofs.Common.{◌≡◌, ◌≢◌, ℕ, ◌<◌, ◌^◌, true, List, [], ◌∷◌, ◌++◌, length, Option, Some, None, Result, Ok, Err, refl, sym, ap, ◌∙◌, subst, arith, inl, inr, ◌⊎◌, append_assoc, length-append}
 use Rattle.std.proofs.lemmas.List.{append-nil, take-append-le}
 use Rattle.std.specs.Prelude.{IfOk, IfErr, IfSome, OnOk, All, map}
 use Rattle.std.specs.List.{concat}
@@ -11,24 +11,25 @@ use Rattle.join_core.proofs.Place.{len_listed}
 use Rattle.archive_core.specs.declared.operations.Operation.{Operation}
 use Rattle.archive_core.specs.Record.{IsOperation, rec}
 use Rattle.archive_core.specs.Content.{Operations, IsContent}
+use Rattle.archive_core.specs.Summary.{Entries}
+use Rattle.archive_records.specs.Entry.{AreEntries}
 use Rattle.archive_records.specs.declared.fault.RecordFaultKind.{RecordFaultKind}
 use Rattle.archive_records.specs.declared.fault.RecordFaultKind.TheVariants.{BadMagic, Truncated, BadTag, TooLarge, NotAscending, BadSlice, KeyMismatch, BadCount, Trailing, Device, OutOfMemory}
 use Rattle.archive_records.specs.declared.fault.RecordFault.{RecordFault}
 use Rattle.archive_records.specs.Kind.{magic_of}
-use Rattle.archive_records.specs.Text.{ending, text_of, InOrder, last_of, written, IsOperationsText}
-use Rattle.archive_records.specs.Fault.{is_end, IsMagicFault, IsFaultBehind, IsUnended, IsOperationsFault, IsFaultOf, IsOfText}
+use Rattle.archive_records.specs.Text.{ending, text_of, InOrder, last_of, written, summary_text, IsOperationsText}
+use Rattle.archive_records.specs.Fault.{is_end, IsMagicFault, IsFaultBehind, IsUnended, IsOperationsFault, IsSummaryFault, IsFaultOf, IsOfText}
 use Rattle.archive_records.specs.Front.{IsGoodFront, IsFrontLengthOf, IsLongestLengthOf, front_length}
-use Rattle.archive_records.specs.Reading.{Meaning, IsMeaning, IsTextOf, Blames, StandsBehind, IsRefused, IsOfMachine, ReadsWhole, ReadsFront}
+use Rattle.archive_records.specs.Reading.{Blames, StandsBehind, IsRefused, IsOfMachine, ReadsWhole, ReadsFront}
 use Rattle.archive_records.specs.Reader.{FaultBlamesReader, seen_as, StopsInMagic, Stops, HasStopped, IsReadTo, AreRead}
-use Rattle.byte_device.proofs.Known.{Consumes-none}
 use Rattle.archive_records.proofs.Grown.{Fails-grows, IsTrailing-grows}
 use Rattle.archive_records.proofs.Longest.{Takes, fault-stops, end-stops, is_longest}
-use Rattle.archive_records.proofs.Puts.{bytes_same}
+use Rattle.archive_records.proofs.Puts.{bytes_same, length_written}
 use Rattle.archive_records.proofs.Ends.{end-is_end}
-use Rattle.archive_records.proofs.Contents.{sorted-InOrder, IsContent-records, written-records, written_text, InOrder-listing}
+use Rattle.archive_records.proofs.Contents.{sorted-InOrder, sorted-entries, IsContent-records, written-records, written_text, InOrder-listing, InOrder-entries, AreEntries-entries, summary_text_is, summary_text-entries, content_is as set_is}
 use Rattle.archive_records.proofs.FaultKinds.{as_itself}
 use Rattle.archive_records.proofs.Listed.{InOrder-operations, IsOperationsText-text, text_is, one_list}
-use Rattle.archive_records.proofs.Exact.{no_magic_fault, no_fault_behind, same_records, one_front}
+use Rattle.archive_records.proofs.Exact.{no_magic_fault, no_fault, no_fault_behind, same_records, one_front}
 use Rattle.archive_records.specs.declared.kind.FileKind.{FileKind}
 use Rattle.archive_records.specs.declared.kind.FileKind.TheVariants.{Archive, Operations as Operations_file, Summary as Summary_file}
 
@@ -60,13 +61,13 @@ part_or_not OutOfMemory = inr (λ e. cc)
 
 -- ---- the text of an archive that was read
 
-pub IsReadTo-taken : (a b : Option (List ℕ)) (o : Operations) → IsReadTo a b o → Consumes a b (written o)
+pub IsReadTo-taken : (a b : Option (List ℕ)) (o : Operations) → IsReadTo Archive a b o → Consumes a b (written o)
 IsReadTo-taken a b o r = subst (Consumes a b) (sym (ap written r.content ∙ written-records r.records r.ordered)) r.taken
 
-pub IsReadTo-content : (a b : Option (List ℕ)) (o : Operations) → IsReadTo a b o → IsContent o
+pub IsReadTo-content : (a b : Option (List ℕ)) (o : Operations) → IsReadTo Archive a b o → IsContent o
 IsReadTo-content a b o r = subst IsContent (sym r.content) (IsContent-records r.records r.ordered)
 
-pub IsReadTo-few : (a b : Option (List ℕ)) (o : Operations) → IsReadTo a b o → set.len o < 2 ^ 63
+pub IsReadTo-few : (a b : Option (List ℕ)) (o : Operations) → IsReadTo Archive a b o → set.len o < 2 ^ 63
 IsReadTo-few a b o r =
     let few = r.few in
     let long : set.len o ≡ length r.records = ap set.len r.content ∙ len_listed nat_list_cmp_total bytes_same r.records (sorted-InOrder [] r.records r.ordered).1 in
@@ -77,7 +78,7 @@ all_taken None b text k end = tt
 all_taken (Some t) None text k end = absurd k
 all_taken (Some t) (Some ys) text k end = k ∙ ap (λ (y : List ℕ). text ++ y) end ∙ append-nil text
 
-pub IsReadTo-text : (a b : Option (List ℕ)) (o : Operations) → IsReadTo a b o → IsAtEnd b → IfSome a (λ t. t ≡ written o)
+pub IsReadTo-text : (a b : Option (List ℕ)) (o : Operations) → IsReadTo Archive a b o → IsAtEnd b → IfSome a (λ t. t ≡ written o)
 IsReadTo-text a b o r end = all_taken a b (written o) (IsReadTo-taken a b o r) end
 
 -- ---- a fault that was found
@@ -243,7 +244,7 @@ module _ (file : FileKind) where
 -- ---- an archive that is read
 
 -- the rest that is left behind the text of a content
-front_alone : (t : List ℕ) (b : Option (List ℕ)) (o p : Operations) (rest : List ℕ) → IsReadTo (Some t) b o → IsContent p → t ≡ written p ++ rest → (o ≡ p) × (b ≡ Some rest)
+front_alone : (t : List ℕ) (b : Option (List ℕ)) (o p : Operations) (rest : List ℕ) → IsReadTo Archive (Some t) b o → IsContent p → t ≡ written p ++ rest → (o ≡ p) × (b ≡ Some rest)
 front_alone t None o p rest h content is = absurd h.taken
 front_alone t (Some ys) o p rest h content is =
     let same = one_front t o p ys rest (IsReadTo-content (Some t) (Some ys) o h) content (IsReadTo-taken (Some t) (Some ys) o h) is in
@@ -253,7 +254,7 @@ front_machine : (t : List ℕ) (b : Option (List ℕ)) (fault : RecordFault) (p 
 front_machine t b fault p rest stopped ended all content is =
     machine_alone Archive t b (listing p) rest fault stopped ended (InOrder-listing p content) (is ∙ ap (λ (x : List ℕ). x ++ rest) (written_text p)) (λ h. absurd cc) all
 
-whole_alone : (a b : Option (List ℕ)) (o : Operations) → IsReadTo a b o → IfSome a (λ t. (p : Operations) → IsContent p → t ≡ written p → o ≡ p)
+whole_alone : (a b : Option (List ℕ)) (o : Operations) → IsReadTo Archive a b o → IfSome a (λ t. (p : Operations) → IsContent p → t ≡ written p → o ≡ p)
 whole_alone None b o h = tt
 whole_alone (Some t) b o h = λ p content is. (front_alone t b o p [] h content (is ∙ sym (append-nil (written p)))).0
 
@@ -262,7 +263,7 @@ whole_machine None b fault stopped ended = tt
 whole_machine (Some t) b fault stopped ended = λ p content is. front_machine t b fault p [] stopped ended (λ _. refl) content (is ∙ sym (append-nil (written p)))
 
 pub archive_whole : {R X : Type 0} (content : X → Operations) (left : R → Option (List ℕ)) (failures : R → ℕ) (old new : R) (r : Result X RecordFault)
-    → IfOk r (λ x. IsReadTo (left old) (left new) (content x)) → OnOk r (IsAtEnd (left new)) → IfErr r (λ fault. HasStopped Archive (left old) (left new) fault) → FaultBlamesReader left failures old new r
+    → IfOk r (λ x. IsReadTo Archive (left old) (left new) (content x)) → OnOk r (IsAtEnd (left new)) → IfErr r (λ fault. HasStopped Archive (left old) (left new) fault) → FaultBlamesReader left failures old new r
     → ReadsWhole Archive content left failures old new r
 archive_whole content left failures old new (Ok x) h end stopped blames = record {
   is = IsReadTo-content (left old) (left new) (content x) h;
@@ -274,7 +275,7 @@ archive_whole content left failures old new (Ok x) h end stopped blames = record
 }
 archive_whole content left failures old new (Err fault) h end stopped blames = (is_refused Archive left failures old new fault stopped blames, whole_machine (left old) (left new) fault stopped blames.2)
 
-front_of : (a b : Option (List ℕ)) (o : Operations) → IsReadTo a b o → IfSome a (λ input. (p : Operations) (text rest : List ℕ) → IsContent p → text ≡ written p → input ≡ text ++ rest → (o ≡ p) × (b ≡ Some rest))
+front_of : (a b : Option (List ℕ)) (o : Operations) → IsReadTo Archive a b o → IfSome a (λ input. (p : Operations) (text rest : List ℕ) → IsContent p → text ≡ written p → input ≡ text ++ rest → (o ≡ p) × (b ≡ Some rest))
 front_of None b o h = tt
 front_of (Some t) b o h = λ p text rest content is input. front_alone t b o p rest h content (input ∙ ap (λ (x : List ℕ). x ++ rest) is)
 
@@ -283,7 +284,7 @@ fronts_machine None b fault stopped ended other = tt
 fronts_machine (Some t) b fault stopped ended other = λ p text rest content is input. front_machine t b fault p rest stopped ended (λ trailing. absurd (other trailing)) content (input ∙ ap (λ (x : List ℕ). x ++ rest) is)
 
 pub archive_front : {R X : Type 0} (content : X → Operations) (left : R → Option (List ℕ)) (failures : R → ℕ) (old new : R) (r : Result X RecordFault)
-    → IfOk r (λ x. IsReadTo (left old) (left new) (content x)) → IfErr r (λ fault. HasStopped Archive (left old) (left new) fault) → IfErr r (λ fault. fault.kind ≢ Trailing) → FaultBlamesReader left failures old new r
+    → IfOk r (λ x. IsReadTo Archive (left old) (left new) (content x)) → IfErr r (λ fault. HasStopped Archive (left old) (left new) fault) → IfErr r (λ fault. fault.kind ≢ Trailing) → FaultBlamesReader left failures old new r
     → ReadsFront Archive content left failures old new r
 archive_front content left failures old new (Ok x) h stopped other blames = record {
   is = IsReadTo-content (left old) (left new) (content x) h;
@@ -340,18 +341,53 @@ operations_no_fault t xs fault p (inr f) =
     let nil = append-nil (text_of Operations_file (map rec xs)) in
     no_fault_behind Operations_file t (map rec xs) [] (InOrder-operations [] xs p.are) (text_is t xs p ∙ sym nil) (λ _. refl) f.0 f.1 fault (λ counts. absurd (counts refl)) (λ _. refl) f.2 f.3
 
--- want of memory before anything was read
-pub refused_first : {R X : Type 0} (file : FileKind) (meaning : X → Meaning file) (left : R → Option (List ℕ)) (failures : R → ℕ) (r : R) → ReadsWhole {T = X} file meaning left failures r r (Err (record { kind = OutOfMemory; offset = 0 }))
-refused_first file meaning left failures r = (
-  record {
-    blames = ((λ e. absurd (device_memory (sym e))), (λ _. refl), λ e. absurd cc);
-    faulty = λ known. absurd (known.1 refl);
-    device = λ e. absurd (device_memory (sym e));
-    memory = λ _. ([], Consumes-none (left r), inl (lit≤ tt, refl));
-  },
-  by_memory (left r),
-)
+-- ---- a summary that is read
+
+IsReadTo-summary : (a b : Option (List ℕ)) (s : Entries) → IsReadTo Summary_file a b s → Consumes a b (summary_text s)
+IsReadTo-summary a b s r = subst (Consumes a b) (sym (ap summary_text r.content ∙ summary_text-entries r.records r.ordered)) r.taken
+
+IsReadTo-entries : (a b : Option (List ℕ)) (s : Entries) → IsReadTo Summary_file a b s → AreEntries s
+IsReadTo-entries a b s r = subst AreEntries (sym r.content) (AreEntries-entries r.records r.ordered)
+
+IsReadTo-few_entries : (a b : Option (List ℕ)) (s : Entries) → IsReadTo Summary_file a b s → set.len s < 2 ^ 63
+IsReadTo-few_entries a b s r =
+    let few = r.few in
+    let long : set.len s ≡ length r.records = ap set.len r.content ∙ len_listed nat_list_cmp_total bytes_same r.records (sorted-entries [] r.records r.ordered).1 in
+    omega arith
+
+-- a text is that of one summary
+pub one_summary : (s t : Entries) → AreEntries s → AreEntries t → summary_text s ≡ summary_text t → s ≡ t
+one_summary s t p q e =
+    let nil = append-nil (text_of Summary_file (listing t)) in
+    let same = same_records Summary_file (summary_text t) (listing t) [] (InOrder-entries t q) (summary_text_is t ∙ sym nil) (λ h. absurd (no_operations h))
+    (listing s) [] (InOrder-entries s p) (λ h. absurd (no_operations h)) (sym e ∙ summary_text_is s ∙ sym (append-nil (text_of Summary_file (listing s)))) in
+    set_is s ∙ ap set.from_list same.0 ∙ sym (set_is t)
   where
-    by_memory : (a : Option (List ℕ)) → IfSome a (λ text. (m : Meaning file) → IsMeaning file m → IsTextOf file m text → IsOfMachine OutOfMemory)
-    by_memory None = tt
-    by_memory (Some text) = λ _ _ _. inr refl
+    no_operations : Summary_file ≡ Operations_file → ⊥
+    no_operations h = cc
+
+summary_alone : (a b : Option (List ℕ)) (s : Entries) → IsReadTo Summary_file a b s → IsAtEnd b → IfSome a (λ text. (t : Entries) → AreEntries t → text ≡ summary_text t → s ≡ t)
+summary_alone None b s h end = tt
+summary_alone (Some text) b s h end = λ t q is. one_summary s t (IsReadTo-entries (Some text) b s h) q (sym (all_taken (Some text) b (summary_text s) (IsReadTo-summary (Some text) b s h) end) ∙ is)
+
+summary_machine : (a b : Option (List ℕ)) (fault : RecordFault) → HasStopped Summary_file a b fault → (fault.kind ≡ Truncated → IsAtEnd b) → IfSome a (λ text. (t : Entries) → AreEntries t → text ≡ summary_text t → IsOfMachine fault.kind)
+summary_machine None b fault stopped ended = tt
+summary_machine (Some text) b fault stopped ended = λ t q is.
+    machine_alone Summary_file text b (listing t) [] fault stopped ended (InOrder-entries t q) (is ∙ summary_text_is t ∙ sym (append-nil (text_of Summary_file (listing t)))) (λ _. refl) (λ _. refl)
+
+pub summary_whole : {R X : Type 0} (content : X → Entries) (left : R → Option (List ℕ)) (failures : R → ℕ) (old new : R) (r : Result X RecordFault)
+    → IfOk r (λ x. IsReadTo Summary_file (left old) (left new) (content x)) → OnOk r (IsAtEnd (left new)) → IfErr r (λ fault. HasStopped Summary_file (left old) (left new) fault) → FaultBlamesReader left failures old new r
+    → ReadsWhole Summary_file content left failures old new r
+summary_whole content left failures old new (Ok x) h end stopped blames = record {
+  is = IsReadTo-entries (left old) (left new) (content x) h;
+  few = IsReadTo-few_entries (left old) (left new) (content x) h;
+  text = all_taken (left old) (left new) (summary_text (content x)) (IsReadTo-summary (left old) (left new) (content x) h) end;
+  alone = summary_alone (left old) (left new) (content x) h end;
+  at_end = end;
+  unfailed = blames;
+}
+summary_whole content left failures old new (Err fault) h end stopped blames = (is_refused Summary_file left failures old new fault stopped blames, summary_machine (left old) (left new) fault stopped blames.2)
+
+-- and it has no fault
+pub summary_no_fault : (s : Entries) (fault : RecordFault) → AreEntries s → set.len s < 2 ^ 64 → IsSummaryFault (summary_text s) fault → ⊥
+summary_no_fault s fault are few f = no_fault Summary_file (summary_text s) (listing s) (InOrder-entries s are) (summary_text_is s) fault (omega (arith, length_written s)) f

@@ -14,6 +14,7 @@ pub mod Steps
 pub mod Listed
 pub mod Contents
 pub mod Summarised
+pub mod Named
 pub mod Exact
 pub mod Inputs
 pub mod Complete

@@ -163,11 +163,11 @@ Makes-grows a b c o p before after m passes e = record {
   content = e ∙ from_list-push m.records after.last o m.content;
 }
 
-pub IsReadTo-all : (a b : Option (List ℕ)) (o : Operations) (reader : Position) → MakesAll a b o reader → IsReadTo a b o
+pub IsReadTo-all : (a b : Option (List ℕ)) (o : Operations) (reader : Position) → MakesAll a b o reader → IsReadTo Archive a b o
 IsReadTo-all a b o reader m = record { records = m.records; few = m.read.few; taken = m.read.taken; ordered = m.read.ordered; content = m.content }
 
 -- nothing stands behind the end record
-pub IsReadTo-end : (a b c : Option (List ℕ)) (o : Operations) (reader : Position) → MakesAll a b o reader → Consumes b c [] → IsReadTo a c o
+pub IsReadTo-end : (a b c : Option (List ℕ)) (o : Operations) (reader : Position) → MakesAll a b o reader → Consumes b c [] → IsReadTo Archive a c o
 IsReadTo-end a b c o reader m k = record {
   records = m.records;
   few = m.read.few;

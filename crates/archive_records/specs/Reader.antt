@@ -15,7 +15,8 @@ use Rattle.archive_records.specs.declared.buffer.Buffer.{Buffer}
 use Rattle.archive_records.specs.declared.fault.RecordFaultKind.{RecordFaultKind}
 use Rattle.archive_records.specs.declared.fault.RecordFaultKind.TheVariants.{BadMagic, Truncated, BadTag, TooLarge, NotAscending, BadSlice, KeyMismatch, BadCount, Trailing, Device, OutOfMemory}
 use Rattle.archive_records.specs.declared.fault.RecordFault.{RecordFault}
-use Rattle.archive_records.specs.Entry.{IsEntry}
+use Rattle.archive_records.specs.declared.entry.Entry.{Entry}
+use Rattle.archive_records.specs.Entry.{entry_bytes, IsEntry}
 use Rattle.archive_records.specs.Kind.{magic_of, IsItem, may_follow}
 use Rattle.archive_records.specs.Text.{end_record, ending, text_of, InOrder, last_of}
 use Rattle.archive_records.specs.Fault.{FailsNext, Fails, IsTrailing, IsMagicFault, IsUnended, IsOfText}
@@ -167,13 +168,17 @@ pub record MakesAll (a b : Option (List ℕ)) (o : Operations) (position : Posit
   pub read : HasReadAll Archive a b records position
   pub content : o ≡ set.from_list records
 
--- An archive's text was read, and its records make the content.
-pub record IsReadTo (a b : Option (List ℕ)) (o : Operations) : Type 0 where
+-- The text of such a file was read, and its records or entries make the set.
+pub record IsReadTo (file : FileKind) (a b : Option (List ℕ)) (o : Operations) : Type 0 where
   pub records : List (List ℕ)
   pub few : length records < 2 ^ 63
-  pub taken : Consumes a b (text_of Archive records)
-  pub ordered : InOrder Archive [] records
+  pub taken : Consumes a b (text_of file records)
+  pub ordered : InOrder file [] records
   pub content : o ≡ set.from_list records
+
+-- These entries of a summary's text were read, in their order.
+abbrev pub Names : Option (List ℕ) → Option (List ℕ) → List Entry → Position → Type 0
+Names a b entries position = HasRead Summary_file a b (map entry_bytes entries) position
 
 -- The records of these operations were read, in their order.
 pub record Lists (a b : Option (List ℕ)) (operations : List Operation) (position : Position) : Type 0 where

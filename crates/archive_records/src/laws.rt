@@ -3,12 +3,15 @@
 ghost use Rattle.std.specs.Prelude.{◌≡◌, ◌≢◌, ◌+◌, ◌<◌, ◌^◌, ◌++◌, ◌↔◌, ◌⊎◌, ℕ, List, [], slice_index};
 ghost use Rattle.std.specs.FinSet as set;
 ghost use Rattle.archive_core.specs.Content.{Operations, IsContent};
-ghost use Rattle.archive_records.specs.declared.fault.RecordFaultKind.TheVariants.{NotAscending, BadCount, Trailing};
+ghost use Rattle.archive_records.specs.declared.fault.RecordFaultKind.TheVariants.{TooLarge, NotAscending, BadSlice, KeyMismatch, BadCount, Trailing};
+ghost use Rattle.archive_core.specs.declared.faults.SliceFault.{SliceFault};
+ghost use Rattle.archive_core.specs.Summary.{Entries, summary};
+ghost use Rattle.archive_records.specs.Entry.{AreEntries};
 ghost use Rattle.archive_records.specs.declared.fault.RecordFault.{RecordFault};
 ghost use Rattle.archive_core.specs.declared.operations.Operation.{Operation};
 ghost use Rattle.archive_records.specs.declared.kind.FileKind.{FileKind};
-ghost use Rattle.archive_records.specs.Text.{IsWritten, written, IsOperationsText};
-ghost use Rattle.archive_records.specs.Fault.{IsFault, IsOperationsFault, IsFaultOf, IsMagicFault};
+ghost use Rattle.archive_records.specs.Text.{IsWritten, written, IsOperationsText, IsSummaryText, summary_text};
+ghost use Rattle.archive_records.specs.Fault.{IsFault, IsOperationsFault, IsSummaryFault, IsFaultOf, IsMagicFault};
 ghost use Rattle.archive_records.specs.Front.{IsLongestFront, front_length};
 
 /// A content has exactly one text: the one that `written` gives.
@@ -69,4 +72,41 @@ pub fn operations_have_no_fault()
 /// An operations file has no order, no number of records and nothing behind one.
 pub fn faults_of_operations()
     ensures { (text : List ℕ) (fault : RecordFault) → IsOperationsFault text fault → (fault.kind ≢ NotAscending) × (fault.kind ≢ BadCount) × (fault.kind ≢ Trailing) }
+{}
+
+/// A summary has exactly one text: the one that `summary_text` gives.
+pub fn summary_text_is_the_one()
+    ensures { (s : Entries) (text : List ℕ) → IsSummaryText s text ↔ (text ≡ summary_text s) }
+{}
+
+/// The entries of the operations of a content are those of a summary.
+pub fn content_has_summary()
+    ensures { (o : Operations) → IsContent o → AreEntries (summary o) }
+{}
+
+/// The text of a summary is that of one only.
+pub fn one_summary()
+    ensures { (s t : Entries) → AreEntries s → AreEntries t → summary_text s ≡ summary_text t → s ≡ t }
+{}
+
+/// Bytes are the text of a summary, or have a fault as such.
+pub fn summary_or_fault()
+    ensures { (text : List ℕ) → ((i : ℕ) → slice_index text i < 256) → ((s : Entries) × AreEntries s × IsSummaryText s text) ⊎ ((fault : RecordFault) × IsSummaryFault text fault) }
+{}
+
+/// They have one fault at most.
+pub fn one_fault_of_summary()
+    ensures { (text : List ℕ) (f g : RecordFault) → IsSummaryFault text f → IsSummaryFault text g → f ≡ g }
+{}
+
+/// The text of a summary has no fault. A number of entries of 2^64 or more would not fit the end record.
+pub fn summary_has_no_fault()
+    ensures { (s : Entries) (fault : RecordFault) → AreEntries s → set.len s < 2 ^ 64 → IsSummaryFault (summary_text s) fault → ⊥ }
+{}
+
+/// A summary has no slices, so no fault of one.
+pub fn faults_of_summaries()
+    ensures large { (text : List ℕ) (fault : RecordFault) → IsSummaryFault text fault → fault.kind ≢ TooLarge }
+    ensures slice { (text : List ℕ) (fault : RecordFault) (why : SliceFault) → IsSummaryFault text fault → fault.kind ≢ BadSlice why }
+    ensures key { (text : List ℕ) (fault : RecordFault) → IsSummaryFault text fault → fault.kind ≢ KeyMismatch }
 {}

@@ -108,7 +108,7 @@ fn read_text<A: Archive + Drop, R: Source>(
 
 /// Reads a whole input as the text of an archive. What is said is of the bytes that were taken.
 fn read_whole<A: Archive + Drop, R: Source>(heap: Heap, r: &mut R) -> Result<A, RecordFault>
-    ensures read { IfOk result (λ archive. IsReadTo (R.left r.old) (R.left r.new) (A.content archive)) }
+    ensures read { IfOk result (λ archive. IsReadTo Archive (R.left r.old) (R.left r.new) (A.content archive)) }
     ensures at_end { OnOk result (IsAtEnd (R.left r.new)) }
     ensures stopped { IfErr result (λ fault. HasStopped Archive (R.left r.old) (R.left r.new) fault) }
     ensures reader { FaultBlamesReader R.left R.failures r.old r.new result }
@@ -120,7 +120,7 @@ fn read_whole<A: Archive + Drop, R: Source>(heap: Heap, r: &mut R) -> Result<A, 
 
 /// Reads the text of an archive from the front of the input. What is said is of the bytes that were taken.
 fn read_first<A: Archive + Drop, R: Source>(heap: Heap, r: &mut R) -> Result<A, RecordFault>
-    ensures read { IfOk result (λ archive. IsReadTo (R.left r.old) (R.left r.new) (A.content archive)) }
+    ensures read { IfOk result (λ archive. IsReadTo Archive (R.left r.old) (R.left r.new) (A.content archive)) }
     ensures stopped { IfErr result (λ fault. HasStopped Archive (R.left r.old) (R.left r.new) fault) }
     ensures no_trailing { IfErr result (λ fault. fault.kind ≢ Trailing) }
     ensures reader { FaultBlamesReader R.left R.failures r.old r.new result }

@@ -10,10 +10,15 @@ ghost use Rattle.archive_core.specs.Content.{IsContent};
 ghost use Rattle.archive_core.specs.Summary.{entry, summary};
 ghost use Rattle.archive_records.specs.Entry.{entry_bytes, AreEntries};
 ghost use Rattle.archive_records.specs.declared.kind.FileKind.TheVariants.{Summary as SummaryFile};
+ghost use Rattle.std.specs.Io.KnownBytes.{IsAtEnd};
 ghost use Rattle.archive_records.specs.Reading.{ReadsWhole};
+ghost use Rattle.archive_records.specs.Reader.{FaultBlamesReader, HasReadAll, HasStopped, IsReadTo, Names};
 
-use crate::entry::Entry;
+use crate::entry::{Entry, entry_in};
 use crate::fault::RecordFault;
+use crate::kind::FileKind;
+use crate::reader::RecordReader;
+use crate::reading::shared;
 use archive_core::Archive;
 use byte_device::Source;
 use memory::{Heap, NoMemory};
@@ -100,6 +105,74 @@ impl Summary {
     }
 }
 
+/// Adds the entries up to the end record to the list.
+fn push_entries<R: Source>(
+    entries: &mut Vec<Entry, Heap>,
+    reader: &mut RecordReader,
+    r: &mut R,
+) -> Result<(), RecordFault>
+    requires { reader.old.file ≡ SummaryFile }
+    ensures all { OnOk result ((a : Option (List ℕ)) → Names a (R.left r.old) entries.old.items reader.old → HasReadAll SummaryFile a (R.left r.new) (map entry_bytes entries.new.items) reader.new) }
+    ensures stopped { IfErr result (λ fault. (a : Option (List ℕ)) → Names a (R.left r.old) entries.old.items reader.old → HasStopped SummaryFile a (R.left r.new) fault) }
+    ensures reader { FaultBlamesReader R.left R.failures r.old r.new result }
+{
+    'pushing: loop {
+        let offset = reader.offset();
+        match reader.advance(r) {
+            Ok(true) => return Ok(()),
+            Ok(false) => {}
+            Err(fault) => return Err(fault),
+        }
+        if let Err(_) = entries.push(entry_in(reader.last())) {
+            return Err(RecordFault::out_of_memory(offset));
+        }
+    }
+}
+
+/// Reads the entries behind the magic, and the end record.
+fn read_entries<R: Source>(
+    mut entries: Vec<Entry, Heap>,
+    mut reader: RecordReader,
+    r: &mut R,
+) -> Result<(Vec<Entry, Heap>, RecordReader), RecordFault>
+    requires { reader.file ≡ SummaryFile }
+    ensures all { IfOk result (λ read. (a : Option (List ℕ)) → Names a (R.left r.old) entries.items reader → HasReadAll SummaryFile a (R.left r.new) (map entry_bytes read.0.items) read.1) }
+    ensures stopped { IfErr result (λ fault. (a : Option (List ℕ)) → Names a (R.left r.old) entries.items reader → HasStopped SummaryFile a (R.left r.new) fault) }
+    ensures reader { FaultBlamesReader R.left R.failures r.old r.new result }
+{
+    push_entries(&mut entries, &mut reader, r)?;
+    Ok((entries, reader))
+}
+
+/// Reads the text of a summary from the front of the input, with the reader that did so. What is said is of the bytes
+/// that were taken.
+fn read_text<R: Source>(
+    heap: Heap,
+    r: &mut R,
+) -> Result<(Vec<Entry, Heap>, RecordReader), RecordFault>
+    ensures read { IfOk result (λ read. HasReadAll SummaryFile (R.left r.old) (R.left r.new) (map entry_bytes read.0.items) read.1) }
+    ensures stopped { IfErr result (λ fault. HasStopped SummaryFile (R.left r.old) (R.left r.new) fault) }
+    ensures reader { FaultBlamesReader R.left R.failures r.old r.new result }
+{
+    let Ok((own, buffers)) = shared(&heap) else {
+        return Err(RecordFault::out_of_memory(0));
+    };
+    let reader = RecordReader::begin(buffers, FileKind::Summary, r)?;
+    read_entries(Vec::new(own), reader, r)
+}
+
+/// Reads a whole input as the text of a summary. What is said is of the bytes that were taken.
+fn read_whole<R: Source>(heap: Heap, r: &mut R) -> Result<Summary, RecordFault>
+    ensures read { IfOk result (λ summary. IsReadTo SummaryFile (R.left r.old) (R.left r.new) summary) }
+    ensures at_end { OnOk result (IsAtEnd (R.left r.new)) }
+    ensures stopped { IfErr result (λ fault. HasStopped SummaryFile (R.left r.old) (R.left r.new) fault) }
+    ensures reader { FaultBlamesReader R.left R.failures r.old r.new result }
+{
+    let (entries, reader) = read_text(heap, r)?;
+    reader.finish(r)?;
+    Ok(Summary { entries })
+}
+
 /// Reads a summary: the whole input is the text of one, and this is it. The pieces in which the reader gives its bytes do not
 /// matter. A fault leaves no summary, and how much of a faulty input was read is not promised.
 ///
@@ -110,7 +183,5 @@ impl Summary {
 pub fn read_summary<R: Source>(heap: Heap, r: &mut R) -> Result<Summary, RecordFault>
     ensures { ReadsWhole SummaryFile (λ summary. summary) R.left R.failures r.old r.new result }
 {
-    let _heap = heap;
-    let _source = r;
-    Err(RecordFault::out_of_memory(0))
+    read_whole(heap, r)
 }
