@@ -2,18 +2,18 @@
 
 use archive_core::SliceFault;
 
-/// Why bytes are no text of an archive or of operations, or why they were not read to their end.
+/// Why bytes are no text of an archive, of operations or of a summary, or why they were not read to their end.
 #[derive(Clone, Copy, Debug, PartialEq, Eq)]
 pub enum RecordFaultKind {
-    /// One of the first eight bytes is not that of the file's magic, `MSYMARC1` or `MSYMOPS1`.
+    /// One of the first eight bytes is not that of the file's magic, `MSYMARC1`, `MSYMOPS1` or `MSYMSUM1`.
     BadMagic,
     /// The input ends inside the magic, inside a record, or where one must begin.
     Truncated,
-    /// The tag is none of a retirement, an admission or, in an archive, an end record.
+    /// The tag is none of a retirement, an admission or, in an archive or a summary, an end record.
     BadTag,
     /// An admission claims a slice of more than 4,294,967,295 bytes.
     TooLarge,
-    /// The record is not above the one before it, in byte order.
+    /// The record or entry is not above the one before it, in byte order.
     NotAscending,
     /// The bytes of an admission's slice are no slice.
     BadSlice(SliceFault),

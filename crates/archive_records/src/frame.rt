@@ -58,7 +58,9 @@ fn read_body<R: Source>(
     ensures within { buffer.new.at ≤ length buffer.new.bytes.items }
     ensures fills { Fills (R.left r.old) (R.left r.new) (bytes_so_far buffer.old) (bytes_so_far buffer.new) }
     ensures over { (last : List ℕ) → Over last buffer.old → Over last buffer.new }
-    ensures framed { MatchResult result (λ _. framed file (bytes_so_far buffer.new) ≡ Ok buffer.new.at) (λ kind. framed file (bytes_so_far buffer.new) ≡ Err (seen_as kind)) }
+    ensures framed { MatchResult result
+        (λ _. framed file (bytes_so_far buffer.new) ≡ Ok buffer.new.at)
+        (λ kind. framed file (bytes_so_far buffer.new) ≡ Err (seen_as kind)) }
     ensures reader { BlamesReader R.left R.failures r.old r.new result }
 {
     let body = body_length_of(file, &buffer.bytes[..buffer.at]);
@@ -79,7 +81,9 @@ pub fn read_record<R: Source>(
     ensures within { buffer.new.at ≤ length buffer.new.bytes.items }
     ensures taken { Consumes (R.left r.old) (R.left r.new) (bytes_so_far buffer.new) }
     ensures over { Over buffer.old.bytes.items buffer.new }
-    ensures framed { MatchResult result (λ _. framed file (bytes_so_far buffer.new) ≡ Ok buffer.new.at) (λ kind. framed file (bytes_so_far buffer.new) ≡ Err (seen_as kind)) }
+    ensures framed { MatchResult result
+        (λ _. framed file (bytes_so_far buffer.new) ≡ Ok buffer.new.at)
+        (λ kind. framed file (bytes_so_far buffer.new) ≡ Err (seen_as kind)) }
     ensures reader { BlamesReader R.left R.failures r.old r.new result }
 {
     buffer.at = 0;

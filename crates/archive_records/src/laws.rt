@@ -26,12 +26,14 @@ pub fn one_content()
 
 /// No text of an archive begins another one.
 pub fn no_text_begins_another()
-    ensures { (o p : Operations) (more : List ℕ) → IsContent o → IsContent p → written o ++ more ≡ written p → more ≡ [] }
+    ensures { (o p : Operations) (more : List ℕ) → IsContent o → IsContent p → written o ++ more ≡ written p
+        → more ≡ [] }
 {}
 
 /// Bytes are the text of a content, or have a fault.
 pub fn content_or_fault()
-    ensures { (text : List ℕ) → ((i : ℕ) → slice_index text i < 256) → ((o : Operations) × IsContent o × IsWritten o text) ⊎ ((fault : RecordFault) × IsFault text fault) }
+    ensures { (text : List ℕ) → ((i : ℕ) → slice_index text i < 256)
+        → ((o : Operations) × IsContent o × IsWritten o text) ⊎ ((fault : RecordFault) × IsFault text fault) }
 {}
 
 /// A text has one fault at most.
@@ -41,12 +43,18 @@ pub fn one_fault()
 
 /// The text of a content has no fault. A number of records of 2^64 or more would not fit the end record.
 pub fn text_has_no_fault()
-    ensures { (o : Operations) (fault : RecordFault) → IsContent o → set.len o < 2 ^ 64 → IsFault (written o) fault → ⊥ }
+    ensures { (o : Operations) (fault : RecordFault) → IsContent o → set.len o < 2 ^ 64 → IsFault (written o) fault
+        → ⊥ }
 {}
 
-/// Behind the magic a fault stands at the end of the longest good front, and bytes too many behind the end record there.
+/// Behind the magic a fault stands at the end of the longest good front, and bytes too many behind the end record
+/// there.
 pub fn longest_front()
-    ensures { (file : FileKind) (text : List ℕ) (fault : RecordFault) → IsFaultOf file text fault → IsMagicFault file text fault.kind ⊎ ((records : List (List ℕ)) × IsLongestFront file text records × ((fault.offset ≡ front_length records) ⊎ ((fault.kind ≡ Trailing) × (fault.offset ≡ front_length records + 9)))) }
+    ensures { (file : FileKind) (text : List ℕ) (fault : RecordFault) → IsFaultOf file text fault
+        → IsMagicFault file text fault.kind
+        ⊎ ((records : List (List ℕ)) × IsLongestFront file text records
+        × ((fault.offset ≡ front_length records)
+        ⊎ ((fault.kind ≡ Trailing) × (fault.offset ≡ front_length records + 9)))) }
 {}
 
 /// The text of operations is that of one list only.
@@ -56,7 +64,9 @@ pub fn one_list_of_operations()
 
 /// Bytes are the text of operations, or have a fault as such.
 pub fn operations_or_fault()
-    ensures { (text : List ℕ) → ((i : ℕ) → slice_index text i < 256) → ((operations : List Operation) × IsOperationsText text operations) ⊎ ((fault : RecordFault) × IsOperationsFault text fault) }
+    ensures { (text : List ℕ) → ((i : ℕ) → slice_index text i < 256)
+        → ((operations : List Operation) × IsOperationsText text operations)
+        ⊎ ((fault : RecordFault) × IsOperationsFault text fault) }
 {}
 
 /// They have one fault at most.
@@ -66,12 +76,14 @@ pub fn one_fault_of_operations()
 
 /// The text of operations has no fault, however many there are.
 pub fn operations_have_no_fault()
-    ensures { (text : List ℕ) (operations : List Operation) (fault : RecordFault) → IsOperationsText text operations → IsOperationsFault text fault → ⊥ }
+    ensures { (text : List ℕ) (operations : List Operation) (fault : RecordFault) → IsOperationsText text operations
+        → IsOperationsFault text fault → ⊥ }
 {}
 
 /// An operations file has no order, no number of records and nothing behind one.
 pub fn faults_of_operations()
-    ensures { (text : List ℕ) (fault : RecordFault) → IsOperationsFault text fault → (fault.kind ≢ NotAscending) × (fault.kind ≢ BadCount) × (fault.kind ≢ Trailing) }
+    ensures { (text : List ℕ) (fault : RecordFault) → IsOperationsFault text fault
+        → (fault.kind ≢ NotAscending) × (fault.kind ≢ BadCount) × (fault.kind ≢ Trailing) }
 {}
 
 /// A summary has exactly one text: the one that `summary_text` gives.
@@ -91,7 +103,8 @@ pub fn one_summary()
 
 /// Bytes are the text of a summary, or have a fault as such.
 pub fn summary_or_fault()
-    ensures { (text : List ℕ) → ((i : ℕ) → slice_index text i < 256) → ((s : Entries) × AreEntries s × IsSummaryText s text) ⊎ ((fault : RecordFault) × IsSummaryFault text fault) }
+    ensures { (text : List ℕ) → ((i : ℕ) → slice_index text i < 256)
+        → ((s : Entries) × AreEntries s × IsSummaryText s text) ⊎ ((fault : RecordFault) × IsSummaryFault text fault) }
 {}
 
 /// They have one fault at most.
@@ -101,12 +114,14 @@ pub fn one_fault_of_summary()
 
 /// The text of a summary has no fault. A number of entries of 2^64 or more would not fit the end record.
 pub fn summary_has_no_fault()
-    ensures { (s : Entries) (fault : RecordFault) → AreEntries s → set.len s < 2 ^ 64 → IsSummaryFault (summary_text s) fault → ⊥ }
+    ensures { (s : Entries) (fault : RecordFault) → AreEntries s → set.len s < 2 ^ 64
+        → IsSummaryFault (summary_text s) fault → ⊥ }
 {}
 
 /// A summary has no slices, so no fault of one.
 pub fn faults_of_summaries()
     ensures large { (text : List ℕ) (fault : RecordFault) → IsSummaryFault text fault → fault.kind ≢ TooLarge }
-    ensures slice { (text : List ℕ) (fault : RecordFault) (why : SliceFault) → IsSummaryFault text fault → fault.kind ≢ BadSlice why }
+    ensures slice { (text : List ℕ) (fault : RecordFault) (why : SliceFault) → IsSummaryFault text fault
+        → fault.kind ≢ BadSlice why }
     ensures key { (text : List ℕ) (fault : RecordFault) → IsSummaryFault text fault → fault.kind ≢ KeyMismatch }
 {}

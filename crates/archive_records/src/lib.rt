@@ -1,14 +1,19 @@
-//! The text of an archive: written, and read back exactly, over any device; and lists of operations, read.
+//! The texts of archives, summaries and deltas: written, and read back exactly, over any device; and lists of operations, read.
 //!
-//! A text is the magic `MSYMARC1`, the records of the archive's operations strictly ascending in byte order, and an end
-//! record with their number; all numbers are big-endian. A record is a tag, a key, and for a retirement (tag 1) the
-//! digest, for an admission (tag 2) the length of the slice in eight bytes and the slice. So a content has one text, and
-//! a text one content.
+//! A text is the magic `MSYMARC1`, the records of the archive's operations strictly ascending in byte order, and an
+//! end record with their number; all numbers are big-endian. A record is a tag, a key, and for a retirement (tag 1)
+//! the digest, for an admission (tag 2) the length of the slice in eight bytes and the slice. So a content has one
+//! text, and a text one content.
 //!
 //! An operations file is the magic `MSYMOPS1` and such records in any order, with repeats, up to the end of the input.
 //!
+//! A summary is the magic `MSYMSUM1`, an entry of 57 bytes for each operation, strictly ascending, and the end record. A
+//! delta is the text of the archive of those operations whose entries a summary does not have.
+//!
 //! - `head`: what stands at which place of a record;
-//! - `writing`: [`write_archive`];
+//! - `entry`: [`Entry`], what a summary says of one operation;
+//! - `summary`: [`Summary`] and [`read_summary`];
+//! - `writing`: [`write_archive`], [`write_summary`] and [`write_delta`];
 //! - `fault`: why a text is refused;
 //! - `kind`: what each kind of file begins with, how its records follow one another and how it ends;
 //! - `buffer`, `frame`, `next`, `reader`: one record after another, each read over the last and compared with it;

@@ -23,7 +23,10 @@ use byte_device::Source;
 #[tactic(auto, unfolding(crate::specs::Fault::tested, crate::specs::Fault::is_end))]
 fn test(file: FileKind, allowed: bool, count: u64, bytes: &[u8]) -> Result<bool, RecordFaultKind>
     requires { framed file bytes.now ≡ Ok (length bytes.now) }
-    ensures tested { (last : List ℕ) → allowed ≡ may_follow file last bytes.now → MatchResult result (λ _. tested file last count bytes.now (length bytes.now) ≡ Ok (length bytes.now)) (λ kind. tested file last count bytes.now (length bytes.now) ≡ Err (seen_as kind)) }
+    ensures tested { (last : List ℕ) → allowed ≡ may_follow file last bytes.now
+        → MatchResult result
+        (λ _. tested file last count bytes.now (length bytes.now) ≡ Ok (length bytes.now))
+        (λ kind. tested file last count bytes.now (length bytes.now) ≡ Err (seen_as kind)) }
     ensures end { IfOk result (λ end. end ≡ is_end bytes.now) }
     ensures end_is { IfOk result (λ end. end ≡ true → bytes.now ≡ end_record count) }
     ensures not_part { IfErr result (λ kind. (kind ≢ Truncated) × (kind ≢ Device)) }
@@ -53,7 +56,9 @@ fn read_in_order<R: Source>(
     requires { 0 < length chunk.old }
     ensures within { buffer.new.at ≤ length buffer.new.bytes.items }
     ensures taken { Consumes (R.left r.old) (R.left r.new) (bytes_so_far buffer.new) }
-    ensures next { MatchResult result (λ _. next file buffer.old.bytes.items count (bytes_so_far buffer.new) ≡ Ok (length (bytes_so_far buffer.new))) (λ kind. next file buffer.old.bytes.items count (bytes_so_far buffer.new) ≡ Err (seen_as kind)) }
+    ensures next { MatchResult result
+        (λ _. next file buffer.old.bytes.items count (bytes_so_far buffer.new) ≡ Ok (length (bytes_so_far buffer.new)))
+        (λ kind. next file buffer.old.bytes.items count (bytes_so_far buffer.new) ≡ Err (seen_as kind)) }
     ensures whole { OnOk result (buffer.new.bytes.items ≡ bytes_so_far buffer.new) }
     ensures end { IfOk result (λ end. end ≡ is_end (bytes_so_far buffer.new)) }
     ensures end_is { IfOk result (λ end. end ≡ true → bytes_so_far buffer.new ≡ end_record count) }
@@ -111,10 +116,13 @@ fn read_tested<R: Source>(
     requires { 0 < length chunk.old }
     ensures within { buffer.new.at ≤ length buffer.new.bytes.items }
     ensures taken { Consumes (R.left r.old) (R.left r.new) (bytes_so_far buffer.new) }
-    ensures next { OnOk result (next file buffer.old.bytes.items count (bytes_so_far buffer.new) ≡ Ok (length (bytes_so_far buffer.new))) }
-    ensures fails { IfErr result (λ kind. FailsNext file buffer.old.bytes.items count (bytes_so_far buffer.new) (seen_as kind)) }
+    ensures next { OnOk result
+        (next file buffer.old.bytes.items count (bytes_so_far buffer.new) ≡ Ok (length (bytes_so_far buffer.new))) }
+    ensures fails { IfErr result (λ kind.
+        FailsNext file buffer.old.bytes.items count (bytes_so_far buffer.new) (seen_as kind)) }
     ensures whole { OnOk result (buffer.new.bytes.items ≡ bytes_so_far buffer.new) }
-    ensures end { IfOk result (λ end. end ≡ true → (is_end (bytes_so_far buffer.new) ≡ true) × (bytes_so_far buffer.new ≡ end_record count)) }
+    ensures end { IfOk result (λ end. end ≡ true → (is_end (bytes_so_far buffer.new) ≡ true)
+        × (bytes_so_far buffer.new ≡ end_record count)) }
     ensures item { IfOk result (λ end. end ≡ false → IsItem file (bytes_so_far buffer.new)) }
     ensures reader { BlamesReader R.left R.failures r.old r.new result }
 {
@@ -149,8 +157,10 @@ pub fn read_next<R: Source>(
     ensures ends { IfOk result (λ end. end ≡ true → IsEnded file (R.left r.new)) }
     ensures whole { IfOk result (λ end. end ≡ false → buffer.new.bytes.items ≡ bytes_so_far buffer.new) }
     ensures item { IfOk result (λ end. end ≡ false → IsItem file (bytes_so_far buffer.new)) }
-    ensures follows { IfOk result (λ end. end ≡ false → may_follow file buffer.old.bytes.items (bytes_so_far buffer.new) ≡ true) }
-    ensures fails { IfErr result (λ kind. FailsNext file buffer.old.bytes.items count (bytes_so_far buffer.new) (seen_as kind)) }
+    ensures follows { IfOk result (λ end. end ≡ false
+        → may_follow file buffer.old.bytes.items (bytes_so_far buffer.new) ≡ true) }
+    ensures fails { IfErr result (λ kind.
+        FailsNext file buffer.old.bytes.items count (bytes_so_far buffer.new) (seen_as kind)) }
     ensures unended { IfErr result (λ kind. IsOfText kind → IsUnended file (bytes_so_far buffer.new)) }
     ensures reader { BlamesReader R.left R.failures r.old r.new result }
 {

@@ -10,7 +10,7 @@ ghost use Rattle.archive_records.specs.Reader.{FaultBlamesReader, HasStopped, Li
 use crate::fault::RecordFault;
 use crate::kind::FileKind;
 use crate::reader::RecordReader;
-use crate::reading::{operation_of, shared};
+use crate::reading::{operation_of, two_handles};
 use archive_core::Operation;
 use byte_device::Source;
 use memory::{Heap, NoMemory};
@@ -22,7 +22,8 @@ fn push_record(
     bytes: &[u8],
 ) -> Result<(), NoMemory>
     requires { IsRecord bytes.now }
-    ensures { OnOk result ((operation : Operation) × (operations.new.items ≡ operations.old.items ++ operation ∷ []) × IsOperation operation × (rec operation ≡ bytes.now)) }
+    ensures { OnOk result ((operation : Operation) × (operations.new.items ≡ operations.old.items ++ operation ∷ [])
+        × IsOperation operation × (rec operation ≡ bytes.now)) }
 {
     let operation = operation_of(heap.clone()?, bytes)?;
     operations.push(operation)?;
@@ -37,8 +38,10 @@ fn push_records<R: Source>(
     r: &mut R,
 ) -> Result<(), RecordFault>
     requires { reader.old.file ≡ Operations }
-    ensures all { OnOk result ((a : Option (List ℕ)) → Lists a (R.left r.old) operations.old.items reader.old → AreRead a (R.left r.new) operations.new.items) }
-    ensures stopped { IfErr result (λ fault. (a : Option (List ℕ)) → Lists a (R.left r.old) operations.old.items reader.old → HasStopped Operations a (R.left r.new) fault) }
+    ensures all { OnOk result ((a : Option (List ℕ)) → Lists a (R.left r.old) operations.old.items reader.old
+        → AreRead a (R.left r.new) operations.new.items) }
+    ensures stopped { IfErr result (λ fault. (a : Option (List ℕ))
+        → Lists a (R.left r.old) operations.old.items reader.old → HasStopped Operations a (R.left r.new) fault) }
     ensures reader { FaultBlamesReader R.left R.failures r.old r.new result }
 {
     'pushing: loop {
@@ -62,8 +65,10 @@ fn list_rest<R: Source>(
     r: &mut R,
 ) -> Result<Vec<Operation, Heap>, RecordFault>
     requires { reader.file ≡ Operations }
-    ensures all { IfOk result (λ read. (a : Option (List ℕ)) → Lists a (R.left r.old) operations.items reader → AreRead a (R.left r.new) read.items) }
-    ensures stopped { IfErr result (λ fault. (a : Option (List ℕ)) → Lists a (R.left r.old) operations.items reader → HasStopped Operations a (R.left r.new) fault) }
+    ensures all { IfOk result (λ read. (a : Option (List ℕ)) → Lists a (R.left r.old) operations.items reader
+        → AreRead a (R.left r.new) read.items) }
+    ensures stopped { IfErr result (λ fault. (a : Option (List ℕ)) → Lists a (R.left r.old) operations.items reader
+        → HasStopped Operations a (R.left r.new) fault) }
     ensures reader { FaultBlamesReader R.left R.failures r.old r.new result }
 {
     push_records(&mut operations, heap, &mut reader, r)?;
@@ -76,16 +81,16 @@ fn list_taken<R: Source>(heap: Heap, r: &mut R) -> Result<Vec<Operation, Heap>, 
     ensures stopped { IfErr result (λ fault. HasStopped Operations (R.left r.old) (R.left r.new) fault) }
     ensures reader { FaultBlamesReader R.left R.failures r.old r.new result }
 {
-    let Ok((own, buffers)) = shared(&heap) else {
+    let Ok((own, buffers)) = two_handles(&heap) else {
         return Err(RecordFault::out_of_memory(0));
     };
     let reader = RecordReader::begin(buffers, FileKind::Operations, r)?;
     list_rest(&heap, Vec::new(own), reader, r)
 }
 
-/// Reads an operations file: the magic `MSYMOPS1`, and retirements and admissions in any order and with repeats up to the
-/// end of the input. The list has them in that order. The pieces in which the reader gives its bytes do not matter. A
-/// fault leaves no list, and how much of a faulty input was read is not promised.
+/// Reads an operations file: the magic `MSYMOPS1`, and retirements and admissions in any order and with repeats up to
+/// the end of the input. The list has them in that order. The pieces in which the reader gives its bytes do not
+/// matter. A fault leaves no list, and how much of a faulty input was read is not promised.
 ///
 /// # Errors
 ///

@@ -102,7 +102,8 @@ impl RecordReader {
     ) -> Result<RecordReader, RecordFault>
         ensures read { IfOk result (λ reader. HasRead file (R.left r.old) (R.left r.new) [] reader) }
         ensures start { IfErr result (λ fault. fault.offset ≡ 0) }
-        ensures stops { IfErr result (λ fault. (bytes : List ℕ) × Consumes (R.left r.old) (R.left r.new) bytes × StopsInMagic file bytes fault.kind) }
+        ensures stops { IfErr result (λ fault. (bytes : List ℕ) × Consumes (R.left r.old) (R.left r.new) bytes
+            × StopsInMagic file bytes fault.kind) }
         ensures reader { FaultBlamesReader R.left R.failures r.old r.new result }
     {
         let Ok(mut chunk) = chunk_of(CHUNK, &heap) else {
@@ -164,7 +165,9 @@ impl RecordReader {
     /// Whether the input ends behind the end record.
     pub fn finish<R: Source>(&self, r: &mut R) -> Result<(), RecordFault>
         ensures at_end { OnOk result (IsAtEnd (R.left r.new) × Consumes (R.left r.old) (R.left r.new) []) }
-        ensures stopped { IfErr result (λ fault. (file : FileKind) (a : Option (List ℕ)) (records : List (List ℕ)) → end_length file ≡ Some 9 → HasReadAll file a (R.left r.old) records self.now → Stopped file a (R.left r.new) records fault) }
+        ensures stopped { IfErr result (λ fault. (file : FileKind) (a : Option (List ℕ)) (records : List (List ℕ))
+            → end_length file ≡ Some 9 → HasReadAll file a (R.left r.old) records self.now
+            → Stopped file a (R.left r.new) records fault) }
         ensures reader { FaultBlamesReader R.left R.failures r.old r.new result }
     {
         match is_at_end(r) {

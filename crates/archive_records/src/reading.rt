@@ -48,8 +48,10 @@ fn take_records<A: Archive, R: Source>(
     r: &mut R,
 ) -> Result<(), RecordFault>
     requires { reader.old.file ≡ Archive }
-    ensures all { OnOk result ((a : Option (List ℕ)) → Makes a (R.left r.old) (A.content archive.old) reader.old → MakesAll a (R.left r.new) (A.content archive.new) reader.new) }
-    ensures stopped { IfErr result (λ fault. (a : Option (List ℕ)) → Makes a (R.left r.old) (A.content archive.old) reader.old → HasStopped Archive a (R.left r.new) fault) }
+    ensures all { OnOk result ((a : Option (List ℕ)) → Makes a (R.left r.old) (A.content archive.old) reader.old
+        → MakesAll a (R.left r.new) (A.content archive.new) reader.new) }
+    ensures stopped { IfErr result (λ fault. (a : Option (List ℕ))
+        → Makes a (R.left r.old) (A.content archive.old) reader.old → HasStopped Archive a (R.left r.new) fault) }
     ensures no_trailing { IfErr result (λ fault. fault.kind ≢ Trailing) }
     ensures reader { FaultBlamesReader R.left R.failures r.old r.new result }
 {
@@ -74,8 +76,10 @@ fn read_rest<A: Archive + Drop, R: Source>(
     r: &mut R,
 ) -> Result<(A, RecordReader), RecordFault>
     requires { reader.file ≡ Archive }
-    ensures read { IfOk result (λ read. (a : Option (List ℕ)) → Makes a (R.left r.old) (A.content archive) reader → MakesAll a (R.left r.new) (A.content read.0) read.1) }
-    ensures stopped { IfErr result (λ fault. (a : Option (List ℕ)) → Makes a (R.left r.old) (A.content archive) reader → HasStopped Archive a (R.left r.new) fault) }
+    ensures read { IfOk result (λ read. (a : Option (List ℕ)) → Makes a (R.left r.old) (A.content archive) reader
+        → MakesAll a (R.left r.new) (A.content read.0) read.1) }
+    ensures stopped { IfErr result (λ fault. (a : Option (List ℕ)) → Makes a (R.left r.old) (A.content archive) reader
+        → HasStopped Archive a (R.left r.new) fault) }
     ensures no_trailing { IfErr result (λ fault. fault.kind ≢ Trailing) }
     ensures reader { FaultBlamesReader R.left R.failures r.old r.new result }
 {
@@ -83,8 +87,8 @@ fn read_rest<A: Archive + Drop, R: Source>(
     Ok((archive, reader))
 }
 
-/// The handle for what is handed out, and that for what is read.
-pub fn shared(heap: &Heap) -> Result<(Heap, Heap), NoMemory> {
+/// The heap's handle for what is handed out, and that for what is read.
+pub fn two_handles(heap: &Heap) -> Result<(Heap, Heap), NoMemory> {
     Ok((heap.clone()?, heap.clone()?))
 }
 
@@ -99,7 +103,7 @@ fn read_text<A: Archive + Drop, R: Source>(
     ensures no_trailing { IfErr result (λ fault. fault.kind ≢ Trailing) }
     ensures reader { FaultBlamesReader R.left R.failures r.old r.new result }
 {
-    let Ok((own, buffers)) = shared(&heap) else {
+    let Ok((own, buffers)) = two_handles(&heap) else {
         return Err(RecordFault::out_of_memory(0));
     };
     let reader = RecordReader::begin(buffers, FileKind::Archive, r)?;
@@ -129,25 +133,25 @@ fn read_first<A: Archive + Drop, R: Source>(heap: Heap, r: &mut R) -> Result<A, 
     Ok(archive)
 }
 
-/// Reads an archive: the whole input is the one text of its content. The pieces in which the reader gives its bytes do not
-/// matter. A fault leaves no archive, and how much of a faulty input was read is not promised.
+/// Reads an archive: the whole input is the one text of its content. The pieces in which the reader gives its bytes
+/// do not matter. A fault leaves no archive, and how much of a faulty input was read is not promised.
 ///
 /// # Errors
 ///
-/// Each kind of `RecordFaultKind`; within a record they are found in the order of its tests: BadTag, Truncated inside the
-/// head, TooLarge, Truncated inside the slice, NotAscending, BadSlice, KeyMismatch; for an end record Truncated, BadCount,
-/// Trailing. Truncated comes only where the reader told its end, Device where it failed, and everything else where it did
-/// not. The offset of Device is the length of the longest good front of what was read, that of OutOfMemory the length of a
-/// good front; both are 0 before the magic was read.
+/// Each kind of `RecordFaultKind`; within a record they are found in the order of its tests: BadTag, Truncated inside
+/// the head, TooLarge, Truncated inside the slice, NotAscending, BadSlice, KeyMismatch; for an end record Truncated,
+/// BadCount, Trailing. Truncated comes only where the reader told its end, Device where it failed, and everything
+/// else where it did not. The offset of Device is the length of the longest good front of what was read, that of
+/// OutOfMemory the length of a good front; both are 0 before the magic was read.
 pub fn read_archive<A: Archive + Drop, R: Source>(heap: Heap, r: &mut R) -> Result<A, RecordFault>
     ensures { ReadsWhole Archive A.content R.left R.failures r.old r.new result }
 {
     read_whole(heap, r)
 }
 
-/// Reads an archive from the front of the input: exactly the bytes of its text, and what stands behind them is left for
-/// who reads on. The pieces in which the reader gives its bytes do not matter. A fault leaves no archive, and how much of
-/// a faulty input was read is not promised.
+/// Reads an archive from the front of the input: exactly the bytes of its text, and what stands behind them is left
+/// for who reads on. The pieces in which the reader gives its bytes do not matter. A fault leaves no archive, and how
+/// much of a faulty input was read is not promised.
 ///
 /// # Errors
 ///

@@ -18,7 +18,7 @@ use crate::entry::{Entry, entry_in};
 use crate::fault::RecordFault;
 use crate::kind::FileKind;
 use crate::reader::RecordReader;
-use crate::reading::shared;
+use crate::reading::two_handles;
 use archive_core::Archive;
 use byte_device::Source;
 use memory::{Heap, NoMemory};
@@ -51,7 +51,8 @@ impl Model for Summary {
 
 // The entries of an archive's operations, in the order of their records.
 fn entries_of<A: Archive>(heap: Heap, archive: &A) -> Result<Vec<Entry, Heap>, NoMemory>
-    ensures entries { IfOk result (λ entries. map entry_bytes entries.items ≡ map entry (listing (A.content archive.now))) }
+    ensures entries { IfOk result (λ entries.
+        map entry_bytes entries.items ≡ map entry (listing (A.content archive.now))) }
     ensures content { IsContent (A.content archive.now) }
 {
     let mut entries = Vec::new(heap);
@@ -112,8 +113,10 @@ fn push_entries<R: Source>(
     r: &mut R,
 ) -> Result<(), RecordFault>
     requires { reader.old.file ≡ SummaryFile }
-    ensures all { OnOk result ((a : Option (List ℕ)) → Names a (R.left r.old) entries.old.items reader.old → HasReadAll SummaryFile a (R.left r.new) (map entry_bytes entries.new.items) reader.new) }
-    ensures stopped { IfErr result (λ fault. (a : Option (List ℕ)) → Names a (R.left r.old) entries.old.items reader.old → HasStopped SummaryFile a (R.left r.new) fault) }
+    ensures all { OnOk result ((a : Option (List ℕ)) → Names a (R.left r.old) entries.old.items reader.old
+        → HasReadAll SummaryFile a (R.left r.new) (map entry_bytes entries.new.items) reader.new) }
+    ensures stopped { IfErr result (λ fault. (a : Option (List ℕ)) → Names a (R.left r.old) entries.old.items reader.old
+        → HasStopped SummaryFile a (R.left r.new) fault) }
     ensures reader { FaultBlamesReader R.left R.failures r.old r.new result }
 {
     'pushing: loop {
@@ -136,8 +139,10 @@ fn read_entries<R: Source>(
     r: &mut R,
 ) -> Result<(Vec<Entry, Heap>, RecordReader), RecordFault>
     requires { reader.file ≡ SummaryFile }
-    ensures all { IfOk result (λ read. (a : Option (List ℕ)) → Names a (R.left r.old) entries.items reader → HasReadAll SummaryFile a (R.left r.new) (map entry_bytes read.0.items) read.1) }
-    ensures stopped { IfErr result (λ fault. (a : Option (List ℕ)) → Names a (R.left r.old) entries.items reader → HasStopped SummaryFile a (R.left r.new) fault) }
+    ensures all { IfOk result (λ read. (a : Option (List ℕ)) → Names a (R.left r.old) entries.items reader
+        → HasReadAll SummaryFile a (R.left r.new) (map entry_bytes read.0.items) read.1) }
+    ensures stopped { IfErr result (λ fault. (a : Option (List ℕ)) → Names a (R.left r.old) entries.items reader
+        → HasStopped SummaryFile a (R.left r.new) fault) }
     ensures reader { FaultBlamesReader R.left R.failures r.old r.new result }
 {
     push_entries(&mut entries, &mut reader, r)?;
@@ -150,11 +155,12 @@ fn read_text<R: Source>(
     heap: Heap,
     r: &mut R,
 ) -> Result<(Vec<Entry, Heap>, RecordReader), RecordFault>
-    ensures read { IfOk result (λ read. HasReadAll SummaryFile (R.left r.old) (R.left r.new) (map entry_bytes read.0.items) read.1) }
+    ensures read { IfOk result (λ read. HasReadAll SummaryFile (R.left r.old) (R.left r.new)
+        (map entry_bytes read.0.items) read.1) }
     ensures stopped { IfErr result (λ fault. HasStopped SummaryFile (R.left r.old) (R.left r.new) fault) }
     ensures reader { FaultBlamesReader R.left R.failures r.old r.new result }
 {
-    let Ok((own, buffers)) = shared(&heap) else {
+    let Ok((own, buffers)) = two_handles(&heap) else {
         return Err(RecordFault::out_of_memory(0));
     };
     let reader = RecordReader::begin(buffers, FileKind::Summary, r)?;
@@ -173,8 +179,8 @@ fn read_whole<R: Source>(heap: Heap, r: &mut R) -> Result<Summary, RecordFault>
     Ok(Summary { entries })
 }
 
-/// Reads a summary: the whole input is the text of one, and this is it. The pieces in which the reader gives its bytes do not
-/// matter. A fault leaves no summary, and how much of a faulty input was read is not promised.
+/// Reads a summary: the whole input is the text of one, and this is it. The pieces in which the reader gives its
+/// bytes do not matter. A fault leaves no summary, and how much of a faulty input was read is not promised.
 ///
 /// # Errors
 ///

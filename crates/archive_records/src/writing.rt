@@ -31,9 +31,11 @@ pub struct Sizes {
 /// Writes two parts of a text, one behind the other.
 fn put_both<W: Sink>(w: &mut W, done: u128, head: &[u8], body: &[u8]) -> Result<u128, WriteFault>
     requires { done + length (head.now ++ body.now) < 2 ^ 128 }
-    ensures ok { IfOk result (λ n. (n ≡ done + length (head.now ++ body.now)) × Appends (W.held w.old) (W.held w.new) (head.now ++ body.now)) }
+    ensures ok { IfOk result (λ n. (n ≡ done + length (head.now ++ body.now))
+        × Appends (W.held w.old) (W.held w.new) (head.now ++ body.now)) }
     ensures unfailed { OnOk result (W.failures w.new ≡ W.failures w.old) }
-    ensures err { IfErr result (λ e. (k : ℕ) × (e.written ≡ done + k) × WritesFirst (W.held w.old) (W.held w.new) (head.now ++ body.now) k) }
+    ensures err { IfErr result (λ e. (k : ℕ) × (e.written ≡ done + k)
+        × WritesFirst (W.held w.old) (W.held w.new) (head.now ++ body.now) k) }
     ensures failed { IfErr result (λ _. FailedIn (W.failures w.old) (W.failures w.new)) }
 {
     let done = put(w, done, head)?;
@@ -43,10 +45,12 @@ fn put_both<W: Sink>(w: &mut W, done: u128, head: &[u8], body: &[u8]) -> Result<
 /// Writes the record behind the first `done` bytes of a text, and says how many there are then.
 fn put_record<W: Sink>(w: &mut W, done: u128, item: &Record<'_>) -> Result<u128, WriteFault>
     requires { done + 2 ^ 33 < 2 ^ 128 }
-    ensures ok { IfOk result (λ n. (n ≡ done + length (lent item.now)) × Appends (W.held w.old) (W.held w.new) (lent item.now)) }
+    ensures ok { IfOk result (λ n. (n ≡ done + length (lent item.now))
+        × Appends (W.held w.old) (W.held w.new) (lent item.now)) }
     ensures short { IfOk result (λ n. n ≤ done + 2 ^ 33) }
     ensures unfailed { OnOk result (W.failures w.new ≡ W.failures w.old) }
-    ensures err { IfErr result (λ e. (k : ℕ) × (e.written ≡ done + k) × WritesFirst (W.held w.old) (W.held w.new) (lent item.now) k) }
+    ensures err { IfErr result (λ e. (k : ℕ) × (e.written ≡ done + k)
+        × WritesFirst (W.held w.old) (W.held w.new) (lent item.now) k) }
     ensures failed { IfErr result (λ _. FailedIn (W.failures w.old) (W.failures w.new)) }
 {
     match item {
@@ -58,10 +62,12 @@ fn put_record<W: Sink>(w: &mut W, done: u128, item: &Record<'_>) -> Result<u128,
 /// Writes the records in ascending order behind the first `done` bytes of a text.
 fn put_records<A: Archive, W: Sink>(archive: &A, w: &mut W, done: u128) -> Result<u128, WriteFault>
     requires { done ≤ 8 }
-    ensures ok { IfOk result (λ n. (n ≡ done + length (concat (listing (A.content archive.now)))) × Appends (W.held w.old) (W.held w.new) (concat (listing (A.content archive.now)))) }
+    ensures ok { IfOk result (λ n. (n ≡ done + length (concat (listing (A.content archive.now))))
+        × Appends (W.held w.old) (W.held w.new) (concat (listing (A.content archive.now)))) }
     ensures short { IfOk result (λ n. n ≤ 2 ^ 98) }
     ensures unfailed { OnOk result (W.failures w.new ≡ W.failures w.old) }
-    ensures err { IfErr result (λ e. (k : ℕ) × (e.written ≡ done + k) × WritesFirst (W.held w.old) (W.held w.new) (concat (listing (A.content archive.now))) k) }
+    ensures err { IfErr result (λ e. (k : ℕ) × (e.written ≡ done + k)
+        × WritesFirst (W.held w.old) (W.held w.new) (concat (listing (A.content archive.now))) k) }
     ensures failed { IfErr result (λ _. FailedIn (W.failures w.old) (W.failures w.new)) }
 {
     let mut done = done;
@@ -73,10 +79,12 @@ fn put_records<A: Archive, W: Sink>(archive: &A, w: &mut W, done: u128) -> Resul
 
 /// Writes the magic and the records.
 fn put_front<A: Archive, W: Sink>(archive: &A, w: &mut W) -> Result<u128, WriteFault>
-    ensures ok { IfOk result (λ n. (n ≡ length (magic ++ concat (listing (A.content archive.now)))) × Appends (W.held w.old) (W.held w.new) (magic ++ concat (listing (A.content archive.now)))) }
+    ensures ok { IfOk result (λ n. (n ≡ length (magic ++ concat (listing (A.content archive.now))))
+        × Appends (W.held w.old) (W.held w.new) (magic ++ concat (listing (A.content archive.now)))) }
     ensures short { IfOk result (λ n. n ≤ 2 ^ 98) }
     ensures unfailed { OnOk result (W.failures w.new ≡ W.failures w.old) }
-    ensures err { IfErr result (λ e. WritesFirst (W.held w.old) (W.held w.new) (magic ++ concat (listing (A.content archive.now))) e.written) }
+    ensures err { IfErr result (λ e.
+        WritesFirst (W.held w.old) (W.held w.new) (magic ++ concat (listing (A.content archive.now))) e.written) }
     ensures failed { IfErr result (λ _. FailedIn (W.failures w.old) (W.failures w.new)) }
 {
     let done = put(w, 0, &FileKind::Archive.magic())?;
@@ -86,10 +94,12 @@ fn put_front<A: Archive, W: Sink>(archive: &A, w: &mut W) -> Result<u128, WriteF
 /// Writes the end record behind the first `done` bytes of a text.
 fn put_end<W: Sink>(w: &mut W, done: u128, records: u64) -> Result<Sizes, WriteFault>
     requires { done ≤ 2 ^ 98 }
-    ensures ok { IfOk result (λ sizes. (sizes.bytes ≡ done + length (end_record records)) × Appends (W.held w.old) (W.held w.new) (end_record records)) }
+    ensures ok { IfOk result (λ sizes. (sizes.bytes ≡ done + length (end_record records))
+        × Appends (W.held w.old) (W.held w.new) (end_record records)) }
     ensures records { IfOk result (λ sizes. sizes.records ≡ records) }
     ensures unfailed { OnOk result (W.failures w.new ≡ W.failures w.old) }
-    ensures err { IfErr result (λ e. (k : ℕ) × (e.written ≡ done + k) × WritesFirst (W.held w.old) (W.held w.new) (end_record records) k) }
+    ensures err { IfErr result (λ e. (k : ℕ) × (e.written ≡ done + k)
+        × WritesFirst (W.held w.old) (W.held w.new) (end_record records) k) }
     ensures failed { IfErr result (λ _. FailedIn (W.failures w.old) (W.failures w.new)) }
 {
     let bytes = put(w, done, &end_bytes(records))?;
@@ -102,7 +112,8 @@ fn put_end<W: Sink>(w: &mut W, done: u128, records: u64) -> Result<Sizes, WriteF
 ///
 /// The writer failed; it has gained the first `written` bytes of the text, which are fewer than all.
 pub fn write_archive<A: Archive, W: Sink>(archive: &A, w: &mut W) -> Result<Sizes, WriteFault>
-    ensures { Writes W.held W.failures w.old w.new (set.len (A.content archive.now)) (written (A.content archive.now)) result }
+    ensures { Writes W.held W.failures w.old w.new
+        (set.len (A.content archive.now)) (written (A.content archive.now)) result }
 {
     let done = put_front(archive, w)?;
     put_end(w, done, archive.len())
@@ -111,10 +122,12 @@ pub fn write_archive<A: Archive, W: Sink>(archive: &A, w: &mut W) -> Result<Size
 /// Writes the entries in their order behind the first `done` bytes of a text.
 fn put_entries<W: Sink>(entries: &[Entry], w: &mut W, done: u128) -> Result<u128, WriteFault>
     requires { done ≤ 8 }
-    ensures ok { IfOk result (λ n. (n ≡ done + length (concat (map entry_bytes entries.now))) × Appends (W.held w.old) (W.held w.new) (concat (map entry_bytes entries.now))) }
+    ensures ok { IfOk result (λ n. (n ≡ done + length (concat (map entry_bytes entries.now)))
+        × Appends (W.held w.old) (W.held w.new) (concat (map entry_bytes entries.now))) }
     ensures short { IfOk result (λ n. n ≤ 2 ^ 98) }
     ensures unfailed { OnOk result (W.failures w.new ≡ W.failures w.old) }
-    ensures err { IfErr result (λ e. (k : ℕ) × (e.written ≡ done + k) × WritesFirst (W.held w.old) (W.held w.new) (concat (map entry_bytes entries.now)) k) }
+    ensures err { IfErr result (λ e. (k : ℕ) × (e.written ≡ done + k)
+        × WritesFirst (W.held w.old) (W.held w.new) (concat (map entry_bytes entries.now)) k) }
     ensures failed { IfErr result (λ _. FailedIn (W.failures w.old) (W.failures w.new)) }
 {
     let mut done = done;
@@ -126,10 +139,12 @@ fn put_entries<W: Sink>(entries: &[Entry], w: &mut W, done: u128) -> Result<u128
 
 /// Writes the magic and the entries.
 fn put_summary_front<W: Sink>(summary: &Summary, w: &mut W) -> Result<u128, WriteFault>
-    ensures ok { IfOk result (λ n. (n ≡ length (summary_magic ++ concat (listing summary.now))) × Appends (W.held w.old) (W.held w.new) (summary_magic ++ concat (listing summary.now))) }
+    ensures ok { IfOk result (λ n. (n ≡ length (summary_magic ++ concat (listing summary.now)))
+        × Appends (W.held w.old) (W.held w.new) (summary_magic ++ concat (listing summary.now))) }
     ensures short { IfOk result (λ n. n ≤ 2 ^ 98) }
     ensures unfailed { OnOk result (W.failures w.new ≡ W.failures w.old) }
-    ensures err { IfErr result (λ e. WritesFirst (W.held w.old) (W.held w.new) (summary_magic ++ concat (listing summary.now)) e.written) }
+    ensures err { IfErr result (λ e.
+        WritesFirst (W.held w.old) (W.held w.new) (summary_magic ++ concat (listing summary.now)) e.written) }
     ensures failed { IfErr result (λ _. FailedIn (W.failures w.old) (W.failures w.new)) }
 {
     let done = put(w, 0, &FileKind::Summary.magic())?;
@@ -148,8 +163,8 @@ pub fn write_summary<W: Sink>(summary: &Summary, w: &mut W) -> Result<Sizes, Wri
     put_end(w, done, summary.len())
 }
 
-/// Writes the record behind the first `done.bytes` bytes of a text, unless the summary names it, and says how many records
-/// and bytes there are then.
+/// Writes the record behind the first `done.bytes` bytes of a text, unless the summary names it, and says how many
+/// records and bytes there are then.
 fn put_missing_record<W: Sink>(
     w: &mut W,
     done: Sizes,
@@ -158,11 +173,13 @@ fn put_missing_record<W: Sink>(
 ) -> Result<Sizes, WriteFault>
     requires room { done.bytes + 2 ^ 33 < 2 ^ 128 }
     requires few { done.records + 1 < 2 ^ 64 }
-    ensures ok { IfOk result (λ n. (n.bytes ≡ done.bytes + length (concat (missing summary.now (lent item.now ∷ [])))) × Appends (W.held w.old) (W.held w.new) (concat (missing summary.now (lent item.now ∷ [])))) }
+    ensures ok { IfOk result (λ n. (n.bytes ≡ done.bytes + length (concat (missing summary.now (lent item.now ∷ []))))
+        × Appends (W.held w.old) (W.held w.new) (concat (missing summary.now (lent item.now ∷ [])))) }
     ensures records { IfOk result (λ n. n.records ≡ done.records + length (missing summary.now (lent item.now ∷ []))) }
     ensures short { IfOk result (λ n. n.bytes ≤ done.bytes + 2 ^ 33) }
     ensures unfailed { OnOk result (W.failures w.new ≡ W.failures w.old) }
-    ensures err { IfErr result (λ e. (k : ℕ) × (e.written ≡ done.bytes + k) × WritesFirst (W.held w.old) (W.held w.new) (concat (missing summary.now (lent item.now ∷ []))) k) }
+    ensures err { IfErr result (λ e. (k : ℕ) × (e.written ≡ done.bytes + k)
+        × WritesFirst (W.held w.old) (W.held w.new) (concat (missing summary.now (lent item.now ∷ []))) k) }
     ensures failed { IfErr result (λ _. FailedIn (W.failures w.old) (W.failures w.new)) }
 {
     if summary.has(&Entry::of(item)) {
@@ -175,8 +192,8 @@ fn put_missing_record<W: Sink>(
     })
 }
 
-/// Writes the records that the summary does not name in ascending order behind the first `done` bytes of a text, and says
-/// how many records and bytes there are then.
+/// Writes the records that the summary does not name in ascending order behind the first `done` bytes of a text, and
+/// says how many records and bytes there are then.
 fn put_missing<A: Archive, W: Sink>(
     archive: &A,
     summary: &Summary,
@@ -184,11 +201,14 @@ fn put_missing<A: Archive, W: Sink>(
     done: u128,
 ) -> Result<Sizes, WriteFault>
     requires { done ≤ 8 }
-    ensures ok { IfOk result (λ n. (n.bytes ≡ done + length (concat (missing summary.now (listing (A.content archive.now))))) × Appends (W.held w.old) (W.held w.new) (concat (missing summary.now (listing (A.content archive.now))))) }
+    ensures ok { IfOk result (λ n.
+        (n.bytes ≡ done + length (concat (missing summary.now (listing (A.content archive.now)))))
+        × Appends (W.held w.old) (W.held w.new) (concat (missing summary.now (listing (A.content archive.now))))) }
     ensures records { IfOk result (λ n. n.records ≡ length (missing summary.now (listing (A.content archive.now)))) }
     ensures short { IfOk result (λ n. n.bytes ≤ 2 ^ 98) }
     ensures unfailed { OnOk result (W.failures w.new ≡ W.failures w.old) }
-    ensures err { IfErr result (λ e. (k : ℕ) × (e.written ≡ done + k) × WritesFirst (W.held w.old) (W.held w.new) (concat (missing summary.now (listing (A.content archive.now)))) k) }
+    ensures err { IfErr result (λ e. (k : ℕ) × (e.written ≡ done + k)
+        × WritesFirst (W.held w.old) (W.held w.new) (concat (missing summary.now (listing (A.content archive.now)))) k) }
     ensures failed { IfErr result (λ _. FailedIn (W.failures w.old) (W.failures w.new)) }
 {
     let mut sizes = Sizes {
@@ -207,19 +227,23 @@ fn put_delta_front<A: Archive, W: Sink>(
     summary: &Summary,
     w: &mut W,
 ) -> Result<Sizes, WriteFault>
-    ensures ok { IfOk result (λ n. (n.bytes ≡ length (magic ++ concat (missing summary.now (listing (A.content archive.now))))) × Appends (W.held w.old) (W.held w.new) (magic ++ concat (missing summary.now (listing (A.content archive.now))))) }
+    ensures ok { IfOk result (λ n.
+        (n.bytes ≡ length (magic ++ concat (missing summary.now (listing (A.content archive.now)))))
+        × Appends (W.held w.old) (W.held w.new)
+        (magic ++ concat (missing summary.now (listing (A.content archive.now))))) }
     ensures records { IfOk result (λ n. n.records ≡ length (missing summary.now (listing (A.content archive.now)))) }
     ensures short { IfOk result (λ n. n.bytes ≤ 2 ^ 98) }
     ensures unfailed { OnOk result (W.failures w.new ≡ W.failures w.old) }
-    ensures err { IfErr result (λ e. WritesFirst (W.held w.old) (W.held w.new) (magic ++ concat (missing summary.now (listing (A.content archive.now)))) e.written) }
+    ensures err { IfErr result (λ e. WritesFirst (W.held w.old) (W.held w.new)
+        (magic ++ concat (missing summary.now (listing (A.content archive.now)))) e.written) }
     ensures failed { IfErr result (λ _. FailedIn (W.failures w.old) (W.failures w.new)) }
 {
     let done = put(w, 0, &FileKind::Archive.magic())?;
     put_missing(archive, summary, w, done)
 }
 
-/// Writes the text of the archive of those operations whose entries the summary does not have, and says how large it is.
-/// Each slice is hashed once, none is copied, and it takes no memory of its own.
+/// Writes the text of the archive of those operations whose entries the summary does not have, and says how large it
+/// is. Each slice is hashed once, none is copied, and it takes no memory of its own.
 ///
 /// # Errors
 ///
@@ -229,7 +253,9 @@ pub fn write_delta<A: Archive, W: Sink>(
     summary: &Summary,
     w: &mut W,
 ) -> Result<Sizes, WriteFault>
-    ensures { Writes W.held W.failures w.old w.new (set.len (delta (A.content archive.now) summary.now)) (written (delta (A.content archive.now) summary.now)) result }
+    ensures { Writes W.held W.failures w.old w.new
+        (set.len (delta (A.content archive.now) summary.now))
+        (written (delta (A.content archive.now) summary.now)) result }
 {
     let front = put_delta_front(archive, summary, w)?;
     put_end(w, front.bytes, front.records)
