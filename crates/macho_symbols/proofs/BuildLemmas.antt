@@ -1,38 +1,205 @@
 -- How the rows of a table come about.
-use Rattle.std.proofs.Common.{◌≡◌, ℕ, List, [], ◌∷◌, ◌++◌, map, sym, ap, ◌∙◌, Option, Some, None, subst, append_assoc}
+use Rattle.std.proofs.Common.{false, ◌≡◌, ◌≢◌, ℕ, ◌+◌, ◌-◌, ◌<◌, ◌≤◌, ◌⊎◌, inl, inr, List, [], ◌∷◌, ◌++◌, length, take, drop, sym, ap, ◌∙◌, arith, subst, Option, Some, None, Contains, slice_index_or, append_assoc, length-take, length-drop, length-append, slice_set}
 use Rattle.std.specs.List.{filter_map, cons_option}
-use Rattle.std.specs.List.Sorted.{IsPermutation, IsSortedByKey}
-use Rattle.std.specs.Option.{option_map, option_to_list}
-use Rattle.std.proofs.lemmas.List.{append-nil, map-append}
-use Rattle.std.proofs.lemmas.List.Sorted.{IsPermutation-map}
-use Rattle.macho_symbols.specs.Symbols.{Tuple, strings_of, candidate_in, candidates}
+use Rattle.std.specs.List.Sorted.{IsPermutation}
+use Rattle.std.specs.Option.{option_to_list}
+use Rattle.std.specs.declared.cmp.Ordering.TheVariants.{Less}
+use Rattle.std.proofs.lemmas.Bool.{cases_lt}
+use Rattle.std.proofs.lemmas.List.{append-nil, get_or_append_left, get_or-take, get_or-drop, get_or_default, get_or_push, drop-set-lt, drop-drop, take_more_set}
+use Rattle.std.proofs.lemmas.List.Elements.{Contains-append_left, Contains-append_right, Contains-append_cases, Contains-push, Contains-push_cases, Contains-get_or}
+use Rattle.std.proofs.lemmas.List.Sorted.{IsPermutation-sym, Contains-permutation}
+use Rattle.std.proofs.Math.Seq.{take-add}
+use Rattle.macho_symbols.specs.Nearest.{tuple_cmp}
 use Rattle.macho_symbols.specs.Views.{tuple_of}
-use Rattle.macho_symbols.specs.Rows.{row_cmp, AreRows}
+use Rattle.macho_symbols.specs.Overlaps.{IsFirstRow}
+use Rattle.macho_symbols.specs.Rows.{Precedes, IsBeside, AreSorted, AreFirsts}
 use Rattle.macho_symbols.specs.declared.candidate.Candidate.{Candidate}
 
 -- one entry more
-pub row_added : (image : List ℕ) (rows more : List Candidate) (o : Option Candidate) (e : List ℕ) (es : List (List ℕ))
-    → option_map (tuple_of (strings_of image)) o ≡ candidate_in image e → more ≡ rows ++ option_to_list o
-    → map (tuple_of (strings_of image)) more ++ filter_map (candidate_in image) es ≡ map (tuple_of (strings_of image)) rows ++ filter_map (candidate_in image) (e ∷ es)
-row_added image rows more None e es told new =
-    let cs = filter_map (candidate_in image) es in
-    ap (λ rs. map (tuple_of (strings_of image)) rs ++ cs) (new ∙ append-nil rows) ∙ ap (λ o. map (tuple_of (strings_of image)) rows ++ cons_option o cs) told
-row_added image rows more (Some row) e es told new =
-    let cs = filter_map (candidate_in image) es in
-    ap (λ rs. map (tuple_of (strings_of image)) rs ++ cs) new ∙ ap (λ ts. ts ++ cs) (map-append (tuple_of (strings_of image)) rows (row ∷ []))
-    ∙ append_assoc (map (tuple_of (strings_of image)) rows) (tuple_of (strings_of image) row ∷ []) cs
-    ∙ ap (λ o. map (tuple_of (strings_of image)) rows ++ cons_option o cs) told
+pub row_added : (pick : List ℕ → Option Candidate) (rows more : List Candidate) (o : Option Candidate) (e : List ℕ) (es : List (List ℕ))
+    → o ≡ pick e → more ≡ rows ++ option_to_list o → more ++ filter_map pick es ≡ rows ++ filter_map pick (e ∷ es)
+row_added pick rows more None e es told new =
+    ap (λ rs. rs ++ filter_map pick es) (new ∙ append-nil rows) ∙ ap (λ o. rows ++ cons_option o (filter_map pick es)) told
+row_added pick rows more (Some row) e es told new =
+    ap (λ rs. rs ++ filter_map pick es) new ∙ append_assoc rows (row ∷ []) (filter_map pick es) ∙ ap (λ o. rows ++ cons_option o (filter_map pick es)) told
 
 -- after the last entry
-pub rows_end : (image : List ℕ) (rows : List Candidate) (es : List (List ℕ)) (all : List Tuple) → es ≡ []
-    → map (tuple_of (strings_of image)) rows ++ filter_map (candidate_in image) es ≡ all → map (tuple_of (strings_of image)) rows ≡ all
-rows_end image rows es all h e =
-    sym (append-nil (map (tuple_of (strings_of image)) rows)) ∙ ap (λ rest. map (tuple_of (strings_of image)) rows ++ filter_map (candidate_in image) rest) (sym h) ∙ e
+pub rows_end : (pick : List ℕ → Option Candidate) (rows : List Candidate) (es : List (List ℕ)) (all : List Candidate) → es ≡ [] → rows ++ filter_map pick es ≡ all → rows ≡ all
+rows_end pick rows es all h e = sym (append-nil rows) ∙ ap (λ rest. rows ++ filter_map pick rest) (sym h) ∙ e
 
--- sorted rows are the rows of a table
-pub rows_of_sorted : (image : List ℕ) (rows sorted : List Candidate) → map (tuple_of (strings_of image)) rows ≡ candidates image → IsPermutation rows sorted
-    → IsSortedByKey (tuple_of (strings_of image)) row_cmp sorted → AreRows image sorted
-rows_of_sorted image rows sorted told permuted ordered = record {
-  members = subst (λ cs. IsPermutation cs (map (tuple_of (strings_of image)) sorted)) told (IsPermutation-map (tuple_of (strings_of image)) rows sorted permuted);
-  ordered = ordered;
+-- by section and value
+far : (a b c : Candidate) → Precedes a b → Precedes b c ⊎ IsBeside b c → Precedes a c
+far a b c (inl l) (inl (inl m)) = inl (omega (arith, l, m))
+far a b c (inl l) (inl (inr m)) = inl (omega (arith, l, m.0))
+far a b c (inl l) (inr m) = inl (omega (arith, l, m.0))
+far a b c (inr l) (inl (inl m)) = inl (omega (arith, l.0, m))
+far a b c (inr l) (inl (inr m)) = inr (l.0 ∙ m.0, omega (arith, l.1, m.1))
+far a b c (inr l) (inr m) = inr (l.0 ∙ m.0, omega (arith, l.1, m.1))
+
+beside_first : (a b c : Candidate) → IsBeside a b → Precedes b c → Precedes a c
+beside_first a b c s (inl l) = inl (omega (arith, s.0, l))
+beside_first a b c s (inr l) = inr (s.0 ∙ l.0, omega (arith, s.1, l.1))
+
+no_row : Candidate
+no_row = record { value = 0; strx = 0; sect = 0; external = false }
+
+-- the rows before a place come before those from there on
+abbrev pub IsCut : List Candidate → ℕ → Type 0
+IsCut rows place = (i j : ℕ) (d : Candidate) → i < place → place ≤ j → j < length rows → Precedes (slice_index_or rows i d) (slice_index_or rows j d)
+
+pub cut_next : (rows : List Candidate) (place end : ℕ) → AreSorted rows → IsCut rows place → place < end → end ≤ length rows
+    → ((k : ℕ) (d : Candidate) → place ≤ k → k < end → IsBeside (slice_index_or rows k d) (slice_index_or rows place d))
+    → ((d : Candidate) → end < length rows → IsBeside (slice_index_or rows end d) (slice_index_or rows place d) → ⊥)
+    → IsCut rows end
+cut_next rows place end sorted cut some within beside other i j d l m h = by_place (cases_lt i place)
+  where
+    onward : Precedes (slice_index_or rows place d) (slice_index_or rows end d)
+    onward = elim (sorted place end d some (omega (arith, m, h))) [ inl p ↦ p | inr b ↦ absurd (other d (omega (arith, m, h)) (sym b.0, sym b.1)) ]
+
+    from_end : (end < j) ⊎ (j ≤ end) → Precedes (slice_index_or rows end d) (slice_index_or rows j d) ⊎ IsBeside (slice_index_or rows end d) (slice_index_or rows j d)
+    from_end (inl k) = sorted end j d k h
+    from_end (inr k) =
+        let same : end ≡ j = omega (arith, m, k) in
+        inr (ap (λ n. (slice_index_or rows n d).sect) same, ap (λ n. (slice_index_or rows n d).value) same)
+
+    by_place : (i < place) ⊎ (place ≤ i) → Precedes (slice_index_or rows i d) (slice_index_or rows j d)
+    by_place (inl k) = cut i j d k (omega (arith, some, m)) h
+    by_place (inr k) =
+        beside_first (slice_index_or rows i d) (slice_index_or rows place d) (slice_index_or rows j d) (beside i d k l)
+        (far (slice_index_or rows place d) (slice_index_or rows end d) (slice_index_or rows j d) onward (from_end (cases_lt end j)))
+
+-- before the first
+pub firsts_start : (strings : List ℕ) (rows others : List Candidate) → AreFirsts strings (take 0 rows) (take 0 others)
+firsts_start strings rows others = record {
+  members = λ r h. absurd (omega (arith, h.1));
+  each = λ c h. absurd (omega (arith, h.1));
+  falling = λ i j d l h. absurd (omega (arith, h));
+}
+
+-- in a piece of a list
+in_piece : (rows : List Candidate) (place size : ℕ) (c : Candidate) → Contains (take size (drop place rows)) c
+    → (k : ℕ) × (place ≤ k) × (k < place + size) × (k < length rows) × (slice_index_or rows k c ≡ c)
+in_piece rows place size c h =
+    let short = length-take size (drop place rows) in
+    let rest = length-drop place rows in (
+      place + h.0,
+      omega arith,
+      omega (arith, h.1, short),
+      omega (arith, h.1, short, rest),
+      sym (get_or-drop place rows h.0 c) ∙ sym (get_or-take size (drop place rows) h.0 c (omega (arith, h.1, short))) ∙ h.2,
+    )
+
+-- one group more
+pub firsts_next : (strings : List ℕ) (rows firsts : List Candidate) (place size : ℕ) (row : Candidate) → IsCut rows place
+    → ((k : ℕ) (d : Candidate) → place ≤ k → k < place + size → IsBeside (slice_index_or rows k d) (slice_index_or rows place d))
+    → IsFirstRow strings (Contains (take size (drop place rows))) row → AreFirsts strings (take place rows) firsts
+    → AreFirsts strings (take (place + size) rows) (firsts ++ row ∷ [])
+firsts_next strings rows firsts place size row cut beside first are = record {
+  members = λ r h. subst (λ xs. Contains xs r) (sym parts) (elim (Contains-push_cases firsts row r h) [
+    | inl k ↦ Contains-append_left (take place rows) group r (are.members r k)
+    | inr e ↦ subst (Contains (take place rows ++ group)) e (Contains-append_right (take place rows) group row first.member)
+  ]);
+  each = λ c h. covered c (Contains-append_cases (take place rows) group c (subst (λ xs. Contains xs c) parts h));
+  falling = λ i j d l h. by_last i j d l h (cases_lt j (length firsts));
+}
+  where
+    group : List Candidate
+    group = take size (drop place rows)
+
+    parts : take (place + size) rows ≡ take place rows ++ group
+    parts = take-add place size rows
+
+    head : Candidate
+    head = slice_index_or rows place no_row
+
+    beside_head : (c : Candidate) → Contains group c → IsBeside c head
+    beside_head c h =
+        let w = in_piece rows place size c h in
+        let told = beside w.0 no_row w.1 w.2 in
+        let same = get_or_default rows w.0 no_row c w.3 ∙ w.4 in
+        subst (λ x. IsBeside x head) same told
+
+    covered : (c : Candidate) → Contains (take place rows) c ⊎ Contains group c
+        → (r : Candidate) × Contains (firsts ++ row ∷ []) r × IsBeside r c × (tuple_cmp (tuple_of strings c) (tuple_of strings r) ≢ Less)
+    covered c (inl h) = let w = are.each c h in (w.0, Contains-append_left firsts (row ∷ []) w.0 w.1, w.2, w.3)
+    covered c (inr h) =
+        let mine = beside_head row first.member in
+        let its = beside_head c h in
+        (row, Contains-push firsts row, (mine.0 ∙ sym its.0, mine.1 ∙ sym its.1), first.first c h)
+
+    -- an earlier one of the firsts stands before the place
+    before_row : (r : Candidate) → Contains firsts r → Precedes r row
+    before_row r h =
+        let w = are.members r h in
+        let g = in_piece rows place size row first.member in
+        let l : w.0 < place = omega (arith, w.1, length-take place rows) in
+        let in_rows : w.0 < length rows = omega (arith, w.1, length-take place rows) in
+        let left = get_or_default rows w.0 no_row r in_rows ∙ sym (get_or-take place rows w.0 r l) ∙ w.2 in
+        let right = get_or_default rows g.0 no_row row g.3 ∙ g.4 in
+        subst (λ x. Precedes x row) left (subst (Precedes (slice_index_or rows w.0 no_row)) right (cut w.0 g.0 no_row l g.1 g.3))
+
+    by_last : (i j : ℕ) (d : Candidate) → i < j → j < length (firsts ++ row ∷ []) → (j < length firsts) ⊎ (length firsts ≤ j)
+        → Precedes (slice_index_or (firsts ++ row ∷ []) i d) (slice_index_or (firsts ++ row ∷ []) j d)
+    by_last i j d l h (inl k) =
+        subst (λ x. Precedes x (slice_index_or (firsts ++ row ∷ []) j d)) (sym (get_or_append_left firsts (row ∷ []) d i (omega (arith, l, k))))
+        (subst (Precedes (slice_index_or firsts i d)) (sym (get_or_append_left firsts (row ∷ []) d j k)) (are.falling i j d l k))
+    by_last i j d l h (inr k) =
+        let at_end : length firsts ≡ j = omega (arith, h, k, length-append firsts (row ∷ [])) in
+        let earlier : i < length firsts = omega (arith, l, at_end) in
+        subst (λ x. Precedes x (slice_index_or (firsts ++ row ∷ []) j d)) (sym (get_or_append_left firsts (row ∷ []) d i earlier))
+        (subst (Precedes (slice_index_or firsts i d)) (sym (get_or_push firsts row d j at_end)) (before_row (slice_index_or firsts i d) (Contains-get_or firsts i d earlier)))
+
+-- what is left of the rows once those of a group are read and the first of them is written
+pub record Added (strings : List ℕ) (old items : List Candidate) (kept end : ℕ) (row : Candidate) : Type 0 where
+  pub rest : drop end (slice_set items kept row) ≡ drop end old
+  pub cut : IsCut old end
+  pub firsts : AreFirsts strings (take end old) (take (kept + 1) (slice_set items kept row))
+
+pub group_added : (strings : List ℕ) (old items rows : List Candidate) (kept place end : ℕ) (row : Candidate) → AreSorted old
+    → kept ≤ place → place ≤ length items → length items ≡ length old → drop place items ≡ drop place old → IsCut old place
+    → AreFirsts strings (take place old) (take kept items) → rows ≡ items → place < end → end ≤ length rows
+    → ((k : ℕ) (d : Candidate) → place ≤ k → k < end → IsBeside (slice_index_or rows k d) (slice_index_or rows place d))
+    → ((d : Candidate) → end < length rows → IsBeside (slice_index_or rows end d) (slice_index_or rows place d) → ⊥)
+    → IsFirstRow strings (Contains (take (end - place) (drop place rows))) row → Added strings old items kept end row
+group_added strings old items rows kept place end row sorted low high size rest cut are same some within beside other first = record {
+  rest = drop-set-lt end items kept row (omega arith) ∙ onward;
+  cut = cut_next old place end sorted cut some (omega (arith, within, long, size)) beside_old other_old;
+  firsts = subst (AreFirsts strings (take end old)) (sym (take_more_set items kept row (omega (arith, low, some, within, long))))
+      (subst (λ n. AreFirsts strings (take n old) (take kept items ++ row ∷ [])) up
+      (firsts_next strings old (take kept items) place (end - place) row cut (λ k d l h. beside_old k d l (omega (arith, h, up)))
+      (subst (λ xs. IsFirstRow strings (Contains (take (end - place) xs)) row) (ap (drop place) same ∙ rest) first) are));
+}
+  where
+    long : length rows ≡ length items
+    long = ap length same
+
+    up : place + (end - place) ≡ end
+    up = omega (arith, some)
+
+    onward : drop end items ≡ drop end old
+    onward = ap (λ n. drop n items) (sym up) ∙ sym (drop-drop (end - place) place items) ∙ ap (drop (end - place)) rest ∙ drop-drop (end - place) place old ∙ ap (λ n. drop n old) up
+
+    at_place : (k : ℕ) (d : Candidate) → place ≤ k → slice_index_or rows k d ≡ slice_index_or old k d
+    at_place k d l =
+        let far : place + (k - place) ≡ k = omega (arith, l) in
+        ap (λ xs. slice_index_or xs k d) same ∙ ap (λ n. slice_index_or items n d) (sym far) ∙ sym (get_or-drop place items (k - place) d)
+        ∙ ap (λ xs. slice_index_or xs (k - place) d) rest ∙ get_or-drop place old (k - place) d ∙ ap (λ n. slice_index_or old n d) far
+
+    beside_old : (k : ℕ) (d : Candidate) → place ≤ k → k < end → IsBeside (slice_index_or old k d) (slice_index_or old place d)
+    beside_old k d l h =
+        subst (λ x. IsBeside x (slice_index_or old place d)) (at_place k d l)
+        (subst (IsBeside (slice_index_or rows k d)) (at_place place d (omega arith)) (beside k d l h))
+
+    other_old : (d : Candidate) → end < length old → IsBeside (slice_index_or old end d) (slice_index_or old place d) → ⊥
+    other_old d l h =
+        other d (omega (arith, l, long, size))
+        (subst (λ x. IsBeside x (slice_index_or rows place d)) (sym (at_place end d (omega (arith, some))))
+        (subst (IsBeside (slice_index_or old end d)) (sym (at_place place d (omega arith))) h))
+
+-- the order in which the rows stood at first does not count
+pub firsts_of_sorted : (strings : List ℕ) (rows sorted firsts : List Candidate) → IsPermutation rows sorted → AreFirsts strings sorted firsts → AreFirsts strings rows firsts
+firsts_of_sorted strings rows sorted firsts permuted are = record {
+  members = λ r h. Contains-permutation sorted rows r (IsPermutation-sym rows sorted permuted) (are.members r h);
+  each = λ c h. are.each c (Contains-permutation rows sorted c permuted h);
+  falling = are.falling;
 }

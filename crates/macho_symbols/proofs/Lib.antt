@@ -1,6 +1,7 @@
 pub mod Numbers
 pub mod Names
 pub mod Pieces
+pub mod Overlaps
 pub mod EntryLemmas
 pub mod Namesakes
 pub mod ScanLemmas
@@ -9,7 +10,10 @@ pub mod Order
 pub mod CandidateFacts
 pub mod Members
 pub mod Orders
+pub mod RowMembers
 pub mod RowLemmas
 pub mod ExtentLemmas
 pub mod Stands
+pub mod Beginnings
+pub mod Folds
 pub mod BuildLemmas

@@ -8,13 +8,13 @@ use Rattle.macho_symbols.proofs.EntryLemmas.{length-entries, entry_at}
 
 module _ {X Y : Type 0} (f : X → Option Y) where
   -- some element gives c
-  abbrev Gives : List X → Y → Type 0
+  abbrev pub Gives : List X → Y → Type 0
   Gives xs c = (i : ℕ) × (x : X) × (slice_get xs i ≡ Some x) × (f x ≡ Some c)
 
   behind : (x : X) (xs : List X) (c : Y) → Gives xs c → Gives (x ∷ xs) c
   behind x xs c g = (suc g.0, g.1, g.2, g.3)
 
-  member_from : (xs : List X) (c : Y) → Contains (filter_map f xs) c → Gives xs c
+  pub member_from : (xs : List X) (c : Y) → Contains (filter_map f xs) c → Gives xs c
   member_from [] c h = absurd (omega (arith, h.1))
   member_from (x ∷ xs) c h = by_head (f x) refl h (member_from xs c)
     where
@@ -23,7 +23,7 @@ module _ {X Y : Type 0} (f : X → Option Y) where
       by_head (Some y) e (zero, l, same) rest = (0, x, refl, e ∙ ap Some same)
       by_head (Some y) e (suc k, l, same) rest = behind x xs c (rest (k, omega (arith, l), same))
 
-  member_to : (xs : List X) (i : ℕ) (x : X) (c : Y) → slice_get xs i ≡ Some x → f x ≡ Some c → Contains (filter_map f xs) c
+  pub member_to : (xs : List X) (i : ℕ) (x : X) (c : Y) → slice_get xs i ≡ Some x → f x ≡ Some c → Contains (filter_map f xs) c
   member_to [] i x c s e = absurd (cc s)
   member_to (y ∷ ys) zero x c s e = let same : y ≡ x = cc s in rw (ap f same ∙ e) (0, omega arith, refl)
   member_to (y ∷ ys) (suc i) x c s e = by_head (f y) (member_to ys i x c s e)

@@ -9,12 +9,12 @@ use Rattle.macho_symbols.specs.Symbols.{Tuple}
 use Rattle.macho_symbols.specs.Nearest.{tuple_cmp, IsNearest}
 use Rattle.macho_symbols.proofs.ScanLemmas.{tuples_total}
 
-both_equal : (o p : Ordering) → ordering_then o p ≡ Equal → (o ≡ Equal) × (p ≡ Equal)
+pub both_equal : (o p : Ordering) → ordering_then o p ≡ Equal → (o ≡ Equal) × (p ≡ Equal)
 both_equal Less p h = absurd (cc h)
 both_equal Equal p h = (refl, h)
 both_equal Greater p h = absurd (cc h)
 
-exact_flags : (b c : Bool) → bool_cmp b c ≡ Equal → b ≡ c
+pub exact_flags : (b c : Bool) → bool_cmp b c ≡ Equal → b ≡ c
 exact_flags false false h = refl
 exact_flags false true h = absurd (cc h)
 exact_flags true false h = absurd (cc h)

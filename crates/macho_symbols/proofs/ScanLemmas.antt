@@ -23,7 +23,7 @@ tuples_total =
     (then_total (back_total (on_total (λ c. c.external) bool_cmp_total))
     (then_total (on_total (λ c. c.name) (lists_total nat_cmp_total)) (on_total (λ c. c.sect) nat_cmp_total)))
 
-upto_itself : (c : Tuple) → UpTo c c
+pub upto_itself : (c : Tuple) → UpTo c c
 upto_itself c = ap is_gt (tied_itself tuples_total c)
 
 pub upto_from_less : (c d : Tuple) → is_lt (tuple_cmp c d) ≡ true → UpTo c d

@@ -6,5 +6,6 @@ pub mod Nearest
 pub mod Found
 pub mod Views
 pub mod Extents
+pub mod Overlaps
 pub mod Rows
 pub mod Table

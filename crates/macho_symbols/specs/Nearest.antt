@@ -1,5 +1,5 @@
 -- Which candidate an address belongs to.
-use Rattle.std.specs.Prelude.{ℕ, Bool, true, false, cond, Some, List, ◌≡◌, ◌≢◌, ◌&&◌, nat_le, Option, MatchOption, Contains}
+use Rattle.std.specs.Prelude.{ℕ, Bool, true, false, cond, Some, List, ◌≡◌, ◌≢◌, ◌&&◌, nat_le, take, Option, MatchOption, Contains}
 use Rattle.std.specs.Ordering.{ordering_then, nat_cmp, bool_cmp, is_lt, is_gt}
 use Rattle.std.specs.Option.{option_map_or}
 use Rattle.std.specs.declared.cmp.Ordering.{Ordering}
@@ -11,6 +11,15 @@ use Rattle.macho_symbols.specs.Symbols.{Tuple, candidates, is_in_section}
 abbrev pub tuple_cmp : Tuple → Tuple → Ordering
 tuple_cmp c d =
     ordering_then (nat_cmp d.value c.value) (ordering_then (bool_cmp d.external c.external) (ordering_then (slice_cmp nat_cmp c.name d.name) (nat_cmp c.sect d.sect)))
+
+-- the order of candidates by value, kind and so many first bytes of their names
+abbrev pub beginning_cmp : ℕ → Tuple → Tuple → Ordering
+beginning_cmp size c d =
+    ordering_then (nat_cmp d.value c.value) (ordering_then (bool_cmp d.external c.external) (slice_cmp nat_cmp (take size c.name) (take size d.name)))
+
+-- the order of candidates with no more of their names than so many first bytes
+abbrev pub cut_cmp : ℕ → Tuple → Tuple → Ordering
+cut_cmp size c d = ordering_then (beginning_cmp size c d) (nat_cmp c.sect d.sect)
 
 -- whether a candidate can stand for an address: not above it, and its section has it
 unfoldable pub can_stand_for : List ℕ → ℕ → Tuple → Bool

@@ -1,26 +1,45 @@
 -- The candidates of an image in the order of an address table.
-use Rattle.std.specs.Prelude.{ℕ, Bool, List, map, ◌≡◌, ◌≤◌, ◌<◌, ◌==◌, ◌&&◌, ◌||◌, nat_lt, cond, length, slice_index_or, Option, Some, None, MatchOption, Contains, ◌⊎◌}
-use Rattle.std.specs.Ordering.{ordering_then, nat_cmp, is_lt}
+use Rattle.std.specs.Prelude.{ℕ, Bool, List, ◌≡◌, ◌≢◌, ◌≤◌, ◌<◌, ◌==◌, ◌&&◌, ◌||◌, nat_lt, cond, length, slice_index_or, Option, Some, None, MatchOption, Contains, ◌⊎◌}
+use Rattle.std.specs.Ordering.{ordering_then, nat_cmp, bool_cmp, is_lt}
+use Rattle.std.specs.declared.cmp.Ordering.TheVariants.{Less}
 use Rattle.std.specs.declared.cmp.Ordering.{Ordering}
-use Rattle.std.specs.List.Sorted.{IsPermutation, IsSortedByKey}
 use Rattle.macho_symbols.specs.Symbols.{Tuple, strings_of, candidates}
 use Rattle.macho_symbols.specs.Nearest.{tuple_cmp, IsFirst, StandsFor}
-use Rattle.macho_symbols.specs.Views.{tuple_of}
+use Rattle.macho_symbols.specs.Views.{tuple_of, rows_of}
 use Rattle.macho_symbols.specs.declared.candidate.Candidate.{Candidate}
 
--- the order of the rows: by section, and as candidates in one section
-abbrev pub row_cmp : Tuple → Tuple → Ordering
-row_cmp c d = ordering_then (nat_cmp c.sect d.sect) (tuple_cmp c d)
+-- the order in which rows are sorted: by section, by falling value, external before local, by the place of the name
+abbrev pub row_cmp : Candidate → Candidate → Ordering
+row_cmp c d =
+    ordering_then (nat_cmp c.sect d.sect) (ordering_then (nat_cmp d.value c.value) (ordering_then (bool_cmp d.external c.external) (nat_cmp c.strx d.strx)))
 
--- the rows tell the candidates of an image, each once, in the order of the rows
-pub record AreRows (image : List ℕ) (rows : List Candidate) : Type 0 where
-  pub members : IsPermutation (candidates image) (map (tuple_of (strings_of image)) rows)
-  pub ordered : IsSortedByKey (tuple_of (strings_of image)) row_cmp rows
+-- a row of an earlier section, or of the same one and a greater value
+abbrev pub Precedes : Candidate → Candidate → Type 0
+Precedes r s = (r.sect < s.sect) ⊎ ((r.sect ≡ s.sect) × (s.value < r.value))
+
+-- a row of the same section and value
+abbrev pub IsBeside : Candidate → Candidate → Type 0
+IsBeside r s = (r.sect ≡ s.sect) × (r.value ≡ s.value)
 
 -- sections rise along the rows, and values fall in a section
+abbrev pub AreSorted : List Candidate → Type 0
+AreSorted rows = (i j : ℕ) (d : Candidate) → i < j → j < length rows
+    → let r = slice_index_or rows i d in let s = slice_index_or rows j d in Precedes r s ⊎ IsBeside r s
+
+-- and there is one row of each section and value
 abbrev pub AreFalling : List Candidate → Type 0
-AreFalling rows = (i j : ℕ) (d : Candidate) → i ≤ j → j < length rows
-    → let r = slice_index_or rows i d in let s = slice_index_or rows j d in (r.sect < s.sect) ⊎ ((r.sect ≡ s.sect) × (s.value ≤ r.value))
+AreFalling rows = (i j : ℕ) (d : Candidate) → i < j → j < length rows → Precedes (slice_index_or rows i d) (slice_index_or rows j d)
+
+-- of each section and value that there is among some rows, the first one in the order of candidates
+pub record AreFirsts (strings : List ℕ) (rows firsts : List Candidate) : Type 0 where
+  pub members : (r : Candidate) → Contains firsts r → Contains rows r
+  pub each : (c : Candidate) → Contains rows c
+      → (r : Candidate) × Contains firsts r × IsBeside r c × (tuple_cmp (tuple_of strings c) (tuple_of strings r) ≢ Less)
+  pub falling : AreFalling firsts
+
+-- the rows tell of each section and value that candidates of an image have the first candidate
+abbrev pub AreRows : List ℕ → List Candidate → Type 0
+AreRows image rows = AreFirsts (strings_of image) (rows_of image) rows
 
 -- whether a row stands before those that may answer an address in the section of a number
 abbrev pub is_before : ℕ → ℕ → Candidate → Bool

@@ -14,15 +14,18 @@
 //! - `candidate`: an entry that counts;
 //! - `found`: what is told of a symbol;
 //! - `scan`, `nearest`, `named`: the plain searches, by address and by name;
-//! - `extents`, `rows`, `table`: the table of addresses;
+//! - `ends`: which of the candidates whose names overlap may come first;
+//! - `extents`, `rows`, `group`, `table`: the table of addresses;
 //! - [`laws`]: what the definitions say of each other.
 #![tactic(auto)]
 
 mod candidate;
+mod ends;
 mod entries;
 mod extents;
 mod fault;
 mod found;
+mod group;
 pub mod laws;
 mod name;
 mod named;

@@ -73,6 +73,29 @@ impl<'a> Name<'a> {
         self.from.is_empty() || self.from[0] == 0
     }
 
+    /// Its first bytes, so many or all that it has.
+    fn beginning(&self, size: usize) -> Name<'a>
+        ensures { name_view result ≡ take size (name_view self.now) }
+    {
+        Name {
+            from: split_piece(self.from, size).0,
+        }
+    }
+
+    /// Whether it has fewer bytes than so many. It looks at no more than these.
+    pub(crate) fn is_shorter(&self, size: usize) -> bool
+        ensures { result ≡ nat_lt (length (name_view self.now)) size }
+    {
+        self.beginning(size).bytes().len() < size
+    }
+
+    /// Compares as many first bytes of two names in byte order.
+    pub(crate) fn compare_beginnings(&self, other: &Name<'_>, size: usize) -> Ordering
+        ensures { result ≡ slice_cmp nat_cmp (take size (name_view self.now)) (take size (name_view other.now)) }
+    {
+        self.beginning(size).compare(&other.beginning(size))
+    }
+
     /// All its bytes.
     pub(crate) fn bytes(&self) -> &'a [u8]
         ensures { result.now ≡ name_view self.now }

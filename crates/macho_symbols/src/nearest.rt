@@ -1,13 +1,15 @@
 //! The search by address.
 
-ghost use Rattle.std.specs.Prelude.{◌≡◌, ◌≤◌, length};
+ghost use Rattle.std.specs.Prelude.{◌≡◌, ◌≤◌, ◌<◌, true, length, Contains};
 ghost use Rattle.std.specs.Option.{option_map, option_map_or};
-ghost use Rattle.macho_symbols.specs.Symbols.{strings_of, candidate_in};
-ghost use Rattle.macho_symbols.specs.Nearest.{can_stand_for, better, IsNearest};
+ghost use Rattle.macho_symbols.specs.Symbols.{strings_of};
+ghost use Rattle.macho_symbols.specs.Nearest.{can_stand_for, IsNearest};
 ghost use Rattle.macho_symbols.specs.Found.{FindsNearest};
 ghost use Rattle.macho_symbols.specs.Views.{tuple_of, found_view};
+ghost use Rattle.macho_symbols.specs.Overlaps.{standing_in, standing, first_cut, ends_with, is_tied, IsFirstRow, IsFirstCutOrNone, IsFirstBelow, AreEndsOrNone};
 
 use crate::candidate::Candidate;
+use crate::ends::{Ends, window_size};
 use crate::found::Found;
 use crate::scan::Scan;
 use crate::symbols::Symbols;
@@ -21,61 +23,121 @@ impl<'a> Scan<'a> {
         candidate.value <= address && self.is_in_section(candidate.sect, address)
     }
 
-    /// The better of the best candidate so far and another one.
-    #[tactic(auto, unfolding(crate::specs::Nearest::better))]
-    fn better(
-        &self,
-        address: u64,
-        best: Option<Candidate>,
-        candidate: Candidate,
-    ) -> Option<Candidate>
-        ensures { option_map (tuple_of (strings_of self.now)) result
-            ≡ better self.now address (option_map (tuple_of (strings_of self.now)) best)
-            (tuple_of (strings_of self.now) candidate) }
+    /// The candidate that an entry is, if it is one and can stand for an address.
+    fn standing(&self, address: u64, entry: &[u8]) -> Option<Candidate>
+        requires { 16 ≤ length entry.now }
+        ensures { result ≡ standing_in self.now address entry.now }
     {
-        if !self.can_stand_for(&candidate, address) {
-            return best;
-        }
-        match best {
-            Some(kept) if !candidate.comes_before(&kept, self.symbols.strings()) => best,
-            _ => Some(candidate),
+        match self.candidate(entry) {
+            Some(candidate) if self.can_stand_for(&candidate, address) => Some(candidate),
+            _ => None,
         }
     }
 
-    /// The better of the best candidate so far and an entry, where this is one.
-    fn better_of_entry(
+    /// The first of the best candidate so far and an entry, where as many first bytes of their names are all
+    /// that is read.
+    fn best_with(
         &self,
         address: u64,
+        size: usize,
         best: Option<Candidate>,
         entry: &[u8],
     ) -> Option<Candidate>
         requires { 16 ≤ length entry.now }
-        ensures { option_map (tuple_of (strings_of self.now)) result
-            ≡ option_map_or (better self.now address (option_map (tuple_of (strings_of self.now)) best))
-            (candidate_in self.now entry.now) (option_map (tuple_of (strings_of self.now)) best) }
+        ensures { result ≡ option_map_or (first_cut (strings_of self.now) size best) (standing_in self.now address entry.now) best }
     {
-        match self.candidate(entry) {
-            Some(candidate) => self.better(address, best, candidate),
+        match self.standing(address, entry) {
+            Some(candidate) => candidate.or_begins_before(best, self.symbols.strings(), size),
             None => best,
         }
+    }
+
+    /// The first of those that can stand for an address where as many first bytes of their names are all that
+    /// is read.
+    fn first_beginning(&self, address: u64, size: usize) -> Option<Candidate>
+        ensures { IsFirstCutOrNone (strings_of self.now) size (Contains (standing self.now address)) result }
+    {
+        let mut best = None;
+        for entry in self.symbols.entries() {
+            best = self.best_with(address, size, best, entry);
+        }
+        best
+    }
+
+    /// The two ends of those so far that are tied with the best candidate in as many bytes from a place on, and
+    /// an entry.
+    fn ends_with(
+        &self,
+        address: u64,
+        best: &Candidate,
+        start: usize,
+        size: usize,
+        ends: Option<Ends>,
+        entry: &[u8],
+    ) -> Option<Ends>
+        requires { 16 ≤ length entry.now }
+        ensures { result ≡ option_map_or (ends_with (strings_of self.now) start size best.now ends) (standing_in self.now address entry.now) ends }
+    {
+        match self.standing(address, entry) {
+            Some(candidate) => Ends::with(
+                ends,
+                candidate,
+                self.symbols.strings(),
+                best,
+                start,
+                size,
+            ),
+            None => ends,
+        }
+    }
+
+    /// Of those that can stand for an address, whose names begin in as many bytes from a place on and that are
+    /// tied with the best candidate, the two ends.
+    fn ends_in(&self, address: u64, best: &Candidate, start: usize, size: usize) -> Option<Ends>
+        ensures { AreEndsOrNone (λ c. Contains (standing self.now address) c × (is_tied (strings_of self.now) start size best.now c ≡ true)) result }
+    {
+        let mut ends = None;
+        for entry in self.symbols.entries() {
+            ends = self.ends_with(address, best, start, size, ends, entry);
+        }
+        ends
+    }
+
+    /// The first of those that can stand for an address, where the best one was found by first bytes.
+    fn first_in_windows(&self, address: u64, best: Candidate, size: usize) -> Candidate
+        requires size { 0 < size }
+        requires best { IsFirstBelow (strings_of self.now) size 0 (Contains (standing self.now address)) best }
+        ensures { IsFirstRow (strings_of self.now) (Contains (standing self.now address)) result }
+    {
+        let strings = self.symbols.strings();
+        let mut best = best;
+        let mut start = 0;
+        while start < strings.len() {
+            best = best.or_ends_before(self.ends_in(address, &best, start, size), strings);
+            start = start.saturating_add(size);
+        }
+        best
     }
 
     /// The nearest candidate of an address.
     fn nearest_candidate(&self, address: u64) -> Option<Candidate>
         ensures { IsNearest self.now address (option_map (tuple_of (strings_of self.now)) result) }
     {
-        let mut best = None;
-        for entry in self.symbols.entries() {
-            best = self.better_of_entry(address, best, entry);
+        let strings = self.symbols.strings();
+        let size = window_size(strings, self.symbols.table.nsyms as usize);
+        let best = self.first_beginning(address, size)?;
+        if best.name(strings).is_shorter(size) {
+            return Some(best);
         }
-        best
+        Some(self.first_in_windows(address, best, size))
     }
 }
 
 impl<'a> Symbols<'a> {
     /// The symbol that an address belongs to: of those in whose section it lies and that are not above it,
     /// the one with the greatest address; of several such an external one, then the one with the least
-    /// name, then the one with the least section number. It looks at every entry.
+    /// name, then the one with the least section number. It looks at every entry, and again where so many
+    /// first bytes of names tie that these may overlap.
     pub fn nearest_plain(&self, address: u64) -> Option<Found<'a>>
         ensures { FindsNearest self.now address (option_map found_view result) }
     {

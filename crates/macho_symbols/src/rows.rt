@@ -1,13 +1,15 @@
 //! The candidates of an image in the order of an address table.
 
-ghost use Rattle.std.specs.Prelude.{◌≡◌, ◌+◌, ◌-◌, ◌*◌, ◌<◌, ◌^◌, ◌++◌, ℕ, List, IfOk, true, false, map};
+ghost use Rattle.std.specs.Prelude.{◌≡◌, ◌+◌, ◌-◌, ◌*◌, ◌<◌, ◌^◌, ◌++◌, ℕ, List, IfOk, true, false, length, ◌≤◌, Decides, slice_index_or};
 ghost use Rattle.std.specs.List.Sorted.{IsPartitionPoint};
 ghost use Rattle.std.specs.Option.{option_map, option_to_list};
-ghost use Rattle.macho_symbols.specs.Symbols.{strings_of, candidates};
-ghost use Rattle.macho_symbols.specs.Views.{tuple_of};
-ghost use Rattle.macho_symbols.specs.Rows.{row_cmp, is_before, AreFalling, AreRows, IsFirstNotAbove};
+ghost use Rattle.macho_symbols.specs.Symbols.{strings_of};
+ghost use Rattle.macho_symbols.specs.Views.{tuple_of, rows_of};
+ghost use Rattle.macho_symbols.specs.declared.candidate.Candidate.{Candidate};
+ghost use Rattle.macho_symbols.specs.Rows.{row_cmp, is_before, IsBeside, AreSorted, AreFirsts, AreFalling, AreRows, IsFirstNotAbove};
 
 use crate::candidate::Candidate;
+use crate::group::first_of;
 use crate::scan::Scan;
 use crate::symbols::Symbols;
 use memory::{Heap, NoMemory};
@@ -22,19 +24,21 @@ impl Candidate {
         u128::from(self.sect) * 0x1_0000_0000_0000_0000 + u128::from(u64::MAX - self.value)
     }
 
-    /// Compares two candidates by section, and in one section by the order of candidates. Names are read only
-    /// where all that counts more ties.
-    fn compare_by_section(&self, other: &Candidate, strings: &[u8]) -> Ordering
-        ensures { result ≡ row_cmp (tuple_of strings.now self.now) (tuple_of strings.now other.now) }
+    /// Compares two candidates by section, value, kind and the place of the name. No name is read.
+    fn compare_rows(&self, other: &Candidate) -> Ordering
+        ensures { result ≡ row_cmp self.now other.now }
     {
-        let heads = self
-            .rank()
+        self.rank()
             .cmp(&other.rank())
-            .then(other.external.cmp(&self.external));
-        if heads.is_ne() {
-            return heads;
-        }
-        self.compare_names(other, strings)
+            .then(other.external.cmp(&self.external))
+            .then(self.strx.cmp(&other.strx))
+    }
+
+    /// Whether it has the section and the value of another one.
+    fn is_beside(&self, other: &Candidate) -> bool
+        ensures { Decides result (IsBeside self.now other.now) }
+    {
+        self.sect == other.sect && self.value == other.value
     }
 
     /// Whether a row stands before those that may answer an address in the section of a number.
@@ -58,7 +62,7 @@ fn push_some(rows: &mut Vec<Candidate, Heap>, row: Option<Candidate>) -> Result<
 
 /// The candidates, in the order of the symbol table.
 fn collect_rows(heap: Heap, symbols: &Symbols<'_>) -> Result<Vec<Candidate, Heap>, NoMemory>
-    ensures { IfOk result (λ rows. map (tuple_of (strings_of symbols.now)) rows.items ≡ candidates symbols.now) }
+    ensures { IfOk result (λ rows. rows.items ≡ rows_of symbols.now) }
 {
     let scan = Scan::new(symbols);
     let mut rows = Vec::new(heap);
@@ -68,17 +72,52 @@ fn collect_rows(heap: Heap, symbols: &Symbols<'_>) -> Result<Vec<Candidate, Heap
     Ok(rows)
 }
 
-/// The candidates, in the order of a table.
+/// The place behind the row at a place and those beside it.
+fn group_end(rows: &[Candidate], place: usize) -> usize
+    requires { place < length rows.now }
+    ensures behind { place < result }
+    ensures within { result ≤ length rows.now }
+    ensures beside { (k : ℕ) (d : Candidate) → place ≤ k → k < result →
+        IsBeside (slice_index_or rows.now k d) (slice_index_or rows.now place d) }
+    ensures other { (d : Candidate) → result < length rows.now →
+        IsBeside (slice_index_or rows.now result d) (slice_index_or rows.now place d) → ⊥ }
+{
+    let head = rows[place];
+    for end in place + 1..rows.len() {
+        if !rows[end].is_beside(&head) {
+            return end;
+        }
+    }
+    rows.len()
+}
+
+/// Keeps of each section and value the first row in the order of candidates.
+fn keep_firsts(rows: &mut Vec<Candidate, Heap>, strings: &[u8])
+    requires { AreSorted rows.old.items }
+    ensures { AreFirsts strings.now rows.old.items rows.new.items }
+{
+    let mut kept = 0;
+    let mut place = 0;
+    while place < rows.len() {
+        let end = group_end(rows, place);
+        rows[kept] = first_of(&rows[place..end], strings);
+        kept += 1;
+        place = end;
+    }
+    rows.truncate(kept);
+}
+
+/// The rows of a table.
 pub(crate) fn sorted_rows(
     heap: Heap,
     symbols: &Symbols<'_>,
 ) -> Result<Vec<Candidate, Heap>, NoMemory>
     ensures { IfOk result (λ rows. AreRows symbols.now rows.items) }
 {
-    let strings = symbols.strings();
     let mut rows = collect_rows(heap, symbols)?;
+    rows.sort_unstable_by(|a, b| a.compare_rows(b));
+    keep_firsts(&mut rows, symbols.strings());
     rows.shrink_to_fit();
-    rows.sort_unstable_by(|a, b| a.compare_by_section(b, strings));
     Ok(rows)
 }
 

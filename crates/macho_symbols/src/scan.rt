@@ -6,7 +6,7 @@ ghost use Rattle.macho_image.specs.Sections.{section_of};
 ghost use Rattle.macho_image.specs.SectionViews.{section_view};
 ghost use Rattle.macho_symbols.specs.Symbols.{strings_of, is_in_section, name_in, is_candidate, candidate_in};
 ghost use Rattle.macho_symbols.specs.Found.{found_of};
-ghost use Rattle.macho_symbols.specs.Views.{name_view, tuple_of, found_view};
+ghost use Rattle.macho_symbols.specs.Views.{name_view, row_in, tuple_of, found_view};
 
 use crate::candidate::Candidate;
 use crate::found::Found;
@@ -87,10 +87,11 @@ impl<'a> Scan<'a> {
     }
 
     /// The candidate that an entry is, if it is one.
-    #[tactic(auto, unfolding(crate::specs::Views::tuple_of, crate::specs::Symbols::candidate_in, crate::specs::Symbols::tuple_in, crate::specs::Symbols::name_in))]
+    #[tactic(auto, unfolding(crate::specs::Views::row_in, crate::specs::Views::tuple_of, crate::specs::Symbols::candidate_in, crate::specs::Symbols::tuple_in, crate::specs::Symbols::name_in))]
     pub(crate) fn candidate(&self, entry: &[u8]) -> Option<Candidate>
         requires { 16 ≤ length entry.now }
-        ensures { option_map (tuple_of (strings_of self.now)) result ≡ candidate_in self.now entry.now }
+        ensures row { result ≡ row_in self.now entry.now }
+        ensures tuple { option_map (tuple_of (strings_of self.now)) result ≡ candidate_in self.now entry.now }
     {
         if !self.is_candidate(entry) {
             return None;

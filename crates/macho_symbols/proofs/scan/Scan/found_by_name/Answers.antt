@@ -12,7 +12,7 @@ returns-in_err-candidate c =
     let none : c.candidate.result ≡ None = search rules in
     let nothing : c.from_residual.result ≡ None = search rules in
     ap (λ found. option_to_list (option_map found_view found)) nothing
-    ∙ sym (not_named image c.args.name.now _ (sym c.candidate.ensures ∙ ap (option_map (tuple_of (strings_of image))) none))
+    ∙ sym (not_named image c.args.name.now _ (sym c.candidate.ensures.tuple ∙ ap (option_map (tuple_of (strings_of image))) none))
 
 pub returns-then-not-is : goal.returns-then-not-is
 unfolding tuple_of
@@ -21,7 +21,7 @@ returns-then-not-is c =
     let candidate = c.in_ok-candidate.candidate in
     let is : c.candidate.result ≡ Some candidate = search rules in
     let name = c.name.ensures ∙ ap (λ strings. name_of strings candidate.strx) (c.strings.ensures ∙ ap strings_of c.self.view_is) in
-    sym (named_other image c.args.name.now (tuple_of (strings_of image) candidate) _ (sym c.candidate.ensures ∙ ap (option_map (tuple_of (strings_of image))) is)
+    sym (named_other image c.args.name.now (tuple_of (strings_of image) candidate) _ (sym c.candidate.ensures.tuple ∙ ap (option_map (tuple_of (strings_of image))) is)
     (ap (λ own. pointwise nat_eq own c.args.name.now) (sym name) ∙ sym c.is.ensures ∙ c.if-not-is.true))
 
 pub returns : goal.returns
@@ -32,5 +32,5 @@ returns c =
     let is : c.candidate.result ≡ Some candidate = search rules in
     let name = c.name.ensures ∙ ap (λ strings. name_of strings candidate.strx) (c.strings.ensures ∙ ap strings_of c.self.view_is) in
     ap (λ found. found ∷ []) c.found.ensures
-    ∙ sym (named_one image c.args.name.now (tuple_of (strings_of image) candidate) _ (sym c.candidate.ensures ∙ ap (option_map (tuple_of (strings_of image))) is)
+    ∙ sym (named_one image c.args.name.now (tuple_of (strings_of image) candidate) _ (sym c.candidate.ensures.tuple ∙ ap (option_map (tuple_of (strings_of image))) is)
     (ap (λ own. pointwise nat_eq own c.args.name.now) (sym name) ∙ sym c.is.ensures ∙ c.if-not-is.false))

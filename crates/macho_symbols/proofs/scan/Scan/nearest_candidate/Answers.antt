@@ -1,37 +1,50 @@
-use Rattle.std.proofs.Common.{rules, ◌≡◌, ◌∙◌, sym, ap, subst, None}
-use Rattle.std.specs.List.{AllByRecursion, filter_map}
+use Rattle.std.proofs.Common.{rules, ◌≡◌, ◌∙◌, Contains, Some, None, nat_lt, length, true, false, ap, sym, subst}
 use Rattle.std.specs.Option.{option_map}
-use Rattle.macho_symbols.specs.Nlist.{IsEntry}
-use Rattle.macho_symbols.specs.Symbols.{entries_of, strings_of, candidate_in, candidates}
+use Rattle.macho_symbols.specs.Symbols.{strings_of, name_of}
 use Rattle.macho_symbols.specs.Nearest.{IsNearest}
 use Rattle.macho_symbols.specs.Views.{tuple_of}
-use Rattle.macho_symbols.proofs.ScanLemmas.{keep, nearest_kept, keep_entry, keep_end}
+use Rattle.macho_symbols.specs.Overlaps.{standing, IsFirstCutOrNone}
+use Rattle.macho_symbols.proofs.Beginnings.{long_from, short_from, below_start, short_row}
+use Rattle.macho_symbols.proofs.RowMembers.{nearest_row, no_nearest}
 use Rattle.macho_symbols.proofs.scan.Scan.nearest_candidate.Goals as goal
 
-pub loop-entry-init : goal.loop-entry-init
-unfolding candidates
-loop-entry-init c =
+pub returns-in_err-best : goal.returns-in_err-best
+returns-in_err-best c =
     let image = c.args.self.now in
-    let all = c.into_iter-entry-iterator.ensures.into_iter_gives ∙ c.entries-entry-items.ensures.all ∙ ap entries_of c.self.view_is in
-    record {
-      same = ap (λ es. keep image c.args.address None (filter_map (candidate_in image) es)) all;
-      each = subst (AllByRecursion IsEntry) (sym all) (subst (λ bytes. AllByRecursion IsEntry (entries_of bytes)) c.self.view_is c.entries-entry-items.ensures.each);
-    }
+    let none : c.first_beginning.result ≡ None = search rules in
+    let nothing : c.from_residual.result ≡ None = search rules in
+    subst (λ r. IsNearest image c.args.address (option_map (tuple_of (strings_of image)) r)) (sym nothing)
+    (no_nearest image c.args.address
+    (subst (IsFirstCutOrNone (strings_of image) c.window_size-size.result (Contains (standing image c.args.address))) none c.first_beginning.ensures))
 
-pub loop-entry-preserved : goal.loop-entry-preserved
-loop-entry-preserved c =
+pub returns-then-is_shorter : goal.returns-then-is_shorter
+unfolding tuple_of
+returns-then-is_shorter c =
     let image = c.args.self.now in
-    record {
-      same = ap (λ best. keep image c.args.address best (filter_map (candidate_in image) c.next.new.self)) c.better_of_entry-best.ensures
-          ∙ keep_entry image c.args.address (option_map (tuple_of (strings_of image)) c.loop-entry.best) c.in-Some.entry.now c.next.new.self
-          ∙ ap (λ es. keep image c.args.address (option_map (tuple_of (strings_of image)) c.loop-entry.best) (filter_map (candidate_in image) es)) (sym c.in-Some.ensures.steps)
-          ∙ c.loop-entry.invariant.same;
-      each = search rules;
-    }
+    let size = c.window_size-size.result in
+    let best = c.in_ok-best.best in
+    let is : c.first_beginning.result ≡ Some best = search rules in
+    let name = c.name.ensures ∙ ap (λ strings. name_of strings best.strx) (c.strings-strings.ensures ∙ ap strings_of c.self.view_is) in
+    let told : nat_lt (length (name_of (strings_of image) best.strx)) size ≡ true =
+    ap (λ bytes. nat_lt (length bytes) size) (sym name) ∙ sym c.is_shorter.ensures ∙ c.if-is_shorter.true in
+    nearest_row image c.args.address best
+    (short_row (strings_of image) size (Contains (standing image c.args.address)) best
+    (subst (IsFirstCutOrNone (strings_of image) size (Contains (standing image c.args.address))) is c.first_beginning.ensures)
+    (short_from (length (name_of (strings_of image) best.strx)) size told))
+
+pub first_in_windows-requires-clause-best : goal.first_in_windows-requires-clause-best
+unfolding tuple_of
+first_in_windows-requires-clause-best c =
+    let image = c.args.self.now in
+    let size = c.window_size-size.result in
+    let best = c.in_ok-best.best in
+    let is : c.first_beginning.result ≡ Some best = search rules in
+    let name = c.name.ensures ∙ ap (λ strings. name_of strings best.strx) (c.strings-strings.ensures ∙ ap strings_of c.self.view_is) in
+    let told : nat_lt (length (name_of (strings_of image) best.strx)) size ≡ false =
+    ap (λ bytes. nat_lt (length bytes) size) (sym name) ∙ sym c.is_shorter.ensures ∙ c.if-is_shorter.false in
+    below_start (strings_of image) size (Contains (standing image c.args.address)) best
+    (subst (IsFirstCutOrNone (strings_of image) size (Contains (standing image c.args.address))) is c.first_beginning.ensures)
+    (long_from (length (name_of (strings_of image) best.strx)) size told)
 
 pub returns : goal.returns
-returns c =
-    let image = c.args.self.now in
-    let best : keep image c.args.address None (candidates image) ≡ option_map (tuple_of (strings_of image)) c.loop-entry.best =
-    sym c.loop-entry.invariant.same ∙ keep_end image c.args.address _ c.loop-entry.entry-iterator c.in-None.ensures.steps.0 in
-    subst (IsNearest image c.args.address) best (nearest_kept image c.args.address)
+returns c = nearest_row c.args.self.now c.args.address c.first_in_windows.result c.first_in_windows.ensures

@@ -1,7 +1,6 @@
 use Rattle.std.proofs.Common.{rules, ◌≡◌, ◌∙◌, ap, sym, subst, length, arith}
 use Rattle.macho_symbols.specs.Extents.{AreExtents, is_within}
 use Rattle.macho_symbols.specs.Rows.{AreRows}
-use Rattle.macho_symbols.proofs.RowLemmas.{falling}
 use Rattle.macho_symbols.proofs.Stands.{none_outside, first_inside}
 use Rattle.macho_symbols.proofs.table.AddressTable.first_in.Goals as goal
 
@@ -14,7 +13,7 @@ returns-then-not-contains c =
 pub first_not_above-requires : goal.first_not_above-requires
 first_not_above-requires c =
     let rows : c.deref.result.now ≡ c.args.self.now.rows = search rules in
-    falling c.args.image.now c.deref.result.now (subst (AreRows c.args.image.now) (sym rows) c.requires.table.rows)
+    (subst (AreRows c.args.image.now) (sym rows) c.requires.table.rows).falling
 
 pub returns : goal.returns
 returns c =

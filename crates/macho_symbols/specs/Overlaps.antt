@@ -1,0 +1,93 @@
+-- The first of candidates whose names may overlap in the string table, found by the places where these begin.
+use Rattle.std.specs.Prelude.{ℕ, Bool, false, cond, List, ◌≡◌, ◌≢◌, ◌+◌, ◌<◌, ◌≤◌, ◌==◌, ◌&&◌, ◌||◌, nat_lt, nat_le, length, Option, Some, None, MatchOption}
+use Rattle.std.specs.Ordering.{is_lt, is_eq}
+use Rattle.std.specs.declared.cmp.Ordering.TheVariants.{Less}
+use Rattle.macho_symbols.specs.Nearest.{tuple_cmp, beginning_cmp, cut_cmp, can_stand_for}
+use Rattle.std.specs.List.{filter_map}
+use Rattle.std.specs.Option.{option_map_or}
+use Rattle.macho_symbols.specs.Symbols.{strings_of, entries_of}
+use Rattle.macho_symbols.specs.Views.{tuple_of, row_in}
+use Rattle.macho_symbols.specs.declared.candidate.Candidate.{Candidate}
+use Rattle.macho_symbols.specs.declared.ends.Ends.{Ends}
+
+-- the first of two
+abbrev pub first_row : List ℕ → Candidate → Candidate → Candidate
+first_row strings c d = cond (is_lt (tuple_cmp (tuple_of strings d) (tuple_of strings c))) d c
+
+-- an entry that is a candidate and can stand for an address
+abbrev pub standing_in : List ℕ → ℕ → List ℕ → Option Candidate
+standing_in image address entry =
+    option_map_or (λ c. cond (can_stand_for image address (tuple_of (strings_of image) c)) (Some c) None) (row_in image entry) None
+
+-- the candidates that can stand for an address, in the order of the symbol table
+unfoldable pub standing : List ℕ → ℕ → List Candidate
+standing image address = filter_map (standing_in image address) (entries_of image)
+
+-- the first of some in the order of candidates
+pub record IsFirstRow (strings : List ℕ) (among : Candidate → Type 0) (found : Candidate) : Type 0 where
+  pub member : among found
+  pub first : (other : Candidate) → among other → tuple_cmp (tuple_of strings other) (tuple_of strings found) ≢ Less
+
+-- the first of some where no more is read of names than so many first bytes
+pub record IsFirstCut (strings : List ℕ) (size : ℕ) (among : Candidate → Type 0) (found : Candidate) : Type 0 where
+  pub member : among found
+  pub first : (other : Candidate) → among other → is_lt (cut_cmp size (tuple_of strings other) (tuple_of strings found)) ≡ false
+
+-- or none where there is none
+abbrev pub IsFirstCutOrNone : List ℕ → ℕ → (Candidate → Type 0) → Option Candidate → Type 0
+IsFirstCutOrNone strings size among found = MatchOption found ((c : Candidate) → among c → ⊥) (IsFirstCut strings size among)
+
+-- the first so far and one more where no more is read of names than so many first bytes
+abbrev pub first_cut : List ℕ → ℕ → Option Candidate → Candidate → Option Candidate
+first_cut strings size None c = Some c
+first_cut strings size (Some b) c = Some (cond (is_lt (cut_cmp size (tuple_of strings c) (tuple_of strings b))) c b)
+
+-- one of some whose name has that many bytes, which no other name goes below in them, and the first of those whose names
+-- begin before a place
+pub record IsFirstBelow (strings : List ℕ) (size place : ℕ) (among : Candidate → Type 0) (found : Candidate) : Type 0 where
+  pub member : among found
+  pub long : size ≤ length (tuple_of strings found).name
+  pub beginning : (other : Candidate) → among other → beginning_cmp size (tuple_of strings other) (tuple_of strings found) ≢ Less
+  pub first : (other : Candidate) → among other → other.strx < place → tuple_cmp (tuple_of strings other) (tuple_of strings found) ≢ Less
+
+-- whether a name begins in so many bytes from a place on
+abbrev pub begins_in : ℕ → ℕ → Candidate → Bool
+begins_in start size c = nat_le start c.strx && nat_lt c.strx (start + size)
+
+-- whether a name begins in so many bytes from a place on, and nothing before the end of as many first bytes tells the
+-- candidate from another one
+abbrev pub is_tied : List ℕ → ℕ → ℕ → Candidate → Candidate → Bool
+is_tied strings start size best c = begins_in start size c && is_eq (beginning_cmp size (tuple_of strings c) (tuple_of strings best))
+
+-- whether the name of c begins before that of d; at the same place a lesser section decides
+abbrev pub stands_before : Candidate → Candidate → Bool
+stands_before c d = nat_lt c.strx d.strx || ((c.strx == d.strx) && nat_lt c.sect d.sect)
+
+-- whether the name of c begins behind that of d; at the same place a lesser section decides
+abbrev pub stands_behind : Candidate → Candidate → Bool
+stands_behind c d = nat_lt d.strx c.strx || ((c.strx == d.strx) && nat_lt c.sect d.sect)
+
+-- the two ends of those so far and one more
+abbrev pub widened : Option Ends → Candidate → Ends
+widened None c = record { first = c; last = c }
+widened (Some e) c = record { first = cond (stands_before c e.first) c e.first; last = cond (stands_behind c e.last) c e.last }
+
+-- the two ends of those so far that a candidate is tied with, and one more
+abbrev pub ends_with : List ℕ → ℕ → ℕ → Candidate → Option Ends → Candidate → Option Ends
+ends_with strings start size best ends c = cond (is_tied strings start size best c) (Some (widened ends c)) ends
+
+-- the first of a candidate and two ends
+abbrev pub first_of_ends : List ℕ → Candidate → Option Ends → Candidate
+first_of_ends strings best None = best
+first_of_ends strings best (Some e) = first_row strings (first_row strings best e.first) e.last
+
+-- of some, the one whose name begins before those of all others, and the one whose name begins behind them
+pub record AreEnds (among : Candidate → Type 0) (ends : Ends) : Type 0 where
+  pub first_member : among ends.first
+  pub last_member : among ends.last
+  pub first : (c : Candidate) → among c → stands_before c ends.first ≡ false
+  pub last : (c : Candidate) → among c → stands_behind c ends.last ≡ false
+
+-- the two ends of some, or none where there is none
+abbrev pub AreEndsOrNone : (Candidate → Type 0) → Option Ends → Type 0
+AreEndsOrNone among ends = MatchOption ends ((c : Candidate) → among c → ⊥) (AreEnds among)
