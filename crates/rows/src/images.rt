@@ -122,7 +122,7 @@ fn tell_section(number: u32, section: Section, told: &mut String) -> Result<(), 
 
 /// Tells the key and the digest of a slice.
 pub fn tell_slice(heap: Heap, bytes: &[u8], told: &mut String) -> Result<(), CallFault> {
-    let checked = Slice::check(bytes);
+    let checked = Slice::check(bytes).map(|slice| slice.key());
     let slice = Slice::admit(heap, bytes)?;
     let key = Text(slice.key());
     let digest = Text(slice.digest());
