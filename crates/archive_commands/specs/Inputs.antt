@@ -9,8 +9,8 @@ use Rattle.archive_records.specs.Fault.{IsFaultOf}
 use Rattle.archive_records.specs.Front.{IsLongestLengthOf}
 use Rattle.archive_records.specs.declared.fault.RecordFault.{RecordFault}
 use Rattle.archive_records.specs.declared.fault.RecordFaultKind.TheVariants.{Device, OutOfMemory as RecordOutOfMemory}
-use Rattle.archive_records.specs.declared.kind.FileKind.{FileKind}
-use Rattle.archive_records.specs.declared.kind.FileKind.TheVariants.{Archive as ArchiveFile, Operations as OperationsFile}
+use Rattle.archive_records.specs.declared.kind.TextKind.{TextKind}
+use Rattle.archive_records.specs.declared.kind.TextKind.TheVariants.{Archive as ArchiveFile, Operations as OperationsFile}
 use Rattle.archive_exchange.specs.File.{IsAcceptedFile, IsTakeFault}
 use Rattle.archive_exchange.specs.declared.fault.TakeFault.{TakeFault}
 use Rattle.archive_exchange.specs.declared.fault.TakeFault.TheVariants.{OutOfMemory as TakeOutOfMemory}
@@ -83,7 +83,7 @@ FailedBehind IsOffsetOf input offset =
 
 -- why the text of such a file is not read: it was not opened, it has this fault, or the reader failed; the offset is then
 -- the length of the longest good front of what came
-abbrev pub IsTextRefused : {S : Type 0} → FileKind → Reader S → Why → Type 0
+abbrev pub IsTextRefused : {S : Type 0} → TextKind → Reader S → Why → Type 0
 IsTextRefused kind input why =
     MatchResult input.old
     (λ source. (fault : RecordFault) × (why ≡ Record fault) × (fault.kind ≢ RecordOutOfMemory)

@@ -38,8 +38,8 @@ use Rattle.archive_records.proofs.Ends.{is_three, ending_is}
 use Rattle.archive_records.proofs.Exact.{length-magic}
 use Rattle.archive_records.proofs.Listed.{operations_in, IsOperationsText-text}
 use Rattle.archive_records.proofs.Contents.{order, same_bytes, IsContent-records, written-records, text_written, AreEntries-entries, text_of_summary, summary_text-entries}
-use Rattle.archive_records.specs.declared.kind.FileKind.{FileKind}
-use Rattle.archive_records.specs.declared.kind.FileKind.TheVariants.{Archive, Operations as Operations_file, Summary as Summary_file}
+use Rattle.archive_records.specs.declared.kind.TextKind.{TextKind}
+use Rattle.archive_records.specs.declared.kind.TextKind.TheVariants.{Archive, Operations as Operations_file, Summary as Summary_file}
 
 -- two byte strings are the same, or not
 same_or_not : (a b : List ℕ) → (a ≡ b) ⊎ (a ≢ b)
@@ -95,18 +95,18 @@ record_or_refused bytes whole no_end fits =
         ]
 
 -- and so of each kind of file
-item_or_refused : (file : FileKind) (bytes : List ℕ) → framed file bytes ≡ Ok (length bytes) → is_end bytes ≡ false → IsBytes bytes → IsItem file bytes ⊎ ((kind : RecordFaultKind) × Refuses file bytes kind)
+item_or_refused : (file : TextKind) (bytes : List ℕ) → framed file bytes ≡ Ok (length bytes) → is_end bytes ≡ false → IsBytes bytes → IsItem file bytes ⊎ ((kind : RecordFaultKind) × Refuses file bytes kind)
 item_or_refused Archive bytes whole no_end fits = record_or_refused bytes whole no_end fits
 item_or_refused Summary_file bytes whole no_end fits = inl (entry-of bytes whole no_end)
 item_or_refused Operations_file bytes whole no_end fits = record_or_refused bytes (archive_framed Operations_file (inr refl) bytes whole no_end) no_end fits
 
-ended_or_not : (file : FileKind) (rest : List ℕ) (count : ℕ) → IsUnended file rest ⊎ (rest ≡ ending file count)
+ended_or_not : (file : TextKind) (rest : List ℕ) (count : ℕ) → IsUnended file rest ⊎ (rest ≡ ending file count)
 ended_or_not Archive rest count = inl tt
 ended_or_not Summary_file rest count = inl tt
 ended_or_not Operations_file [] count = inr refl
 ended_or_not Operations_file (x ∷ rest) count = inl (λ e. cc)
 
-module _ (file : FileKind) where
+module _ (file : TextKind) where
   -- a whole record in front of bytes is whole alone
   framed-cut : (rest : List ℕ) (n : ℕ) → framed file rest ≡ Ok n → framed file (take n rest) ≡ Ok (length (take n rest))
   framed-cut rest n e =

@@ -19,8 +19,8 @@ use Rattle.archive_records.proofs.Grown.{kind_is, no_both, next-ok-grows}
 use Rattle.archive_records.proofs.Longest.{Takes, fault-stops, end-stops, unique, behind_magic, is_longest}
 use Rattle.archive_records.proofs.Ends.{is_three, length-end_record, next_end}
 use Rattle.archive_records.proofs.Contents.{InOrder-listing, written_text, content_is}
-use Rattle.archive_records.specs.declared.kind.FileKind.{FileKind}
-use Rattle.archive_records.specs.declared.kind.FileKind.TheVariants.{Archive, Operations as Operations_file, Summary as Summary_file}
+use Rattle.archive_records.specs.declared.kind.TextKind.{TextKind}
+use Rattle.archive_records.specs.declared.kind.TextKind.TheVariants.{Archive, Operations as Operations_file, Summary as Summary_file}
 
 -- a refused slice is an admission's
 refused_tag : (r : List ℕ) (kind : RecordFaultKind) → RefusesSlice r kind → get_or r 0 0 ≡ 2
@@ -67,28 +67,28 @@ end_more : (n : ℕ) (more : List ℕ) → is_end (end_record n ++ more) ≡ tru
 unfolding is_end end_record
 end_more n more = refl
 
-pub length-magic : (file : FileKind) → length (magic_of file) ≡ 8
+pub length-magic : (file : TextKind) → length (magic_of file) ≡ 8
 length-magic Archive = refl
 length-magic Operations_file = refl
 length-magic Summary_file = refl
 
 -- ---- what ends a file
 
-length-ending : (file : FileKind) (n : ℕ) → length (ending file n) ≤ 9
+length-ending : (file : TextKind) (n : ℕ) → length (ending file n) ≤ 9
 length-ending Archive n = omega (arith, length-end_record n)
 length-ending Operations_file n = lit≤ tt
 length-ending Summary_file n = omega (arith, length-end_record n)
 
-nothing_taken : (file : FileKind) (low : List ℕ) → Takes file low [] → ⊥
+nothing_taken : (file : TextKind) (low : List ℕ) → Takes file low [] → ⊥
 nothing_taken file low t = omega (arith, (holds file t.item (length t.item) (item-framed file t.item t.is)).one, ap length t.whole, length-append t.item t.more)
 
 -- no record begins with it; in an operations file nothing stands behind it
-ending_stops : (file : FileKind) (low : List ℕ) (n : ℕ) (more : List ℕ) → (file ≡ Operations_file → more ≡ []) → Takes file low (ending file n ++ more) → ⊥
+ending_stops : (file : TextKind) (low : List ℕ) (n : ℕ) (more : List ℕ) → (file ≡ Operations_file → more ≡ []) → Takes file low (ending file n ++ more) → ⊥
 ending_stops Archive low n more alone t = end-stops Archive low (end_record n ++ more) (end_more n more) t
 ending_stops Summary_file low n more alone t = end-stops Summary_file low (end_record n ++ more) (end_more n more) t
 ending_stops Operations_file low n more alone t = nothing_taken Operations_file low (subst (Takes Operations_file low) (alone refl) t)
 
-no_fails : (file : FileKind) (low : List ℕ) (n : ℕ) (more : List ℕ) (kind : RecordFaultKind) → (file ≢ Operations_file → n < 2 ^ 64) → (file ≡ Operations_file → more ≡ []) → IsUnended file (ending file n ++ more) → FailsNext file low n (ending file n ++ more) kind → ⊥
+no_fails : (file : TextKind) (low : List ℕ) (n : ℕ) (more : List ℕ) (kind : RecordFaultKind) → (file ≢ Operations_file → n < 2 ^ 64) → (file ≡ Operations_file → more ≡ []) → IsUnended file (ending file n ++ more) → FailsNext file low n (ending file n ++ more) kind → ⊥
 no_fails Operations_file low n more kind few alone unended f = unended (alone refl)
 no_fails Summary_file low n more kind few alone unended (inl e) = no_both 9 kind (sym (next-ok-grows Summary_file low n (end_record n) more 9 (next_end Summary_file refl low n (few (λ h. cc)))) ∙ e)
 no_fails Summary_file low n more kind few alone unended (inr f) = absurd f.2
@@ -99,7 +99,7 @@ no_fails Archive low n more kind few alone unended (inr f) =
     let same : get_or (take f.0 (end_record n ++ more)) 0 0 ≡ get_or (end_record n ++ more) 0 0 = get_or-take f.0 (end_record n ++ more) 0 0 (omega arith) in
     omega (arith, is_three (end_record n ++ more) (end_more n more))
 
-module _ (file : FileKind) where
+module _ (file : TextKind) where
   -- ---- the magic
 
   pub no_magic_fault : (t rest : List ℕ) (kind : RecordFaultKind) → t ≡ magic_of file ++ rest → IsMagicFault file t kind → ⊥

@@ -19,8 +19,8 @@ use Rattle.archive_records.specs.Fault.{is_end, RefusesSlice, Refuses}
 use Rattle.archive_records.proofs.Framed.{framed-whole}
 use Rattle.archive_records.proofs.Holds.{holds, done, body_one, body_two, whole-retirement, whole-admission}
 use Rattle.archive_records.proofs.SliceFacts.{short_slice, no_slice_fault}
-use Rattle.archive_records.specs.declared.kind.FileKind.{FileKind}
-use Rattle.archive_records.specs.declared.kind.FileKind.TheVariants.{Archive, Operations, Summary}
+use Rattle.archive_records.specs.declared.kind.TextKind.{TextKind}
+use Rattle.archive_records.specs.declared.kind.TextKind.TheVariants.{Archive, Operations, Summary}
 
 abbrev pub IsBytes : List ℕ → Type 0
 IsBytes bytes = (i : ℕ) → get_or bytes i 0 < 256
@@ -168,7 +168,7 @@ pub admitted_is : (bytes slice : List ℕ) → Admits bytes → slice ≡ drop 3
 admitted_is bytes slice a e = ap admission_record (e ∙ (parts-of bytes a).slice_is) ∙ sym a.is
 
 -- a record is whole where its slice stands behind an admission's head
-module _ (file : FileKind) (head : admission_length file ≡ 33) (behind : (bytes : List ℕ) → admission_body file bytes ≡ slice_length bytes) where
+module _ (file : TextKind) (head : admission_length file ≡ 33) (behind : (bytes : List ℕ) → admission_body file bytes ≡ slice_length bytes) where
   record-framed : (r : List ℕ) → IsRecord r → framed file r ≡ Ok (length r)
   unfolding head_length
   record-framed r (inl a) =
@@ -215,23 +215,23 @@ entry-of bytes whole no_end =
     ]
 
 -- an item is whole, is no end record, and is not refused for what it holds
-pub item-framed : (file : FileKind) (item : List ℕ) → IsItem file item → framed file item ≡ Ok (length item)
+pub item-framed : (file : TextKind) (item : List ℕ) → IsItem file item → framed file item ≡ Ok (length item)
 item-framed Archive item is = record-framed Archive refl (λ bytes. refl) item is
 item-framed Operations item is = record-framed Operations refl (λ bytes. refl) item is
 item-framed Summary item is = entry-framed item is
 
-pub item-no_end : (file : FileKind) (item : List ℕ) → IsItem file item → is_end item ≡ false
+pub item-no_end : (file : TextKind) (item : List ℕ) → IsItem file item → is_end item ≡ false
 item-no_end Archive item is = record-item item is
 item-no_end Operations item is = record-item item is
 item-no_end Summary item is = entry-no_end item is
 
-pub item-refused : (file : FileKind) (item : List ℕ) (kind : RecordFaultKind) → IsItem file item → Refuses file item kind → ⊥
+pub item-refused : (file : TextKind) (item : List ℕ) (kind : RecordFaultKind) → IsItem file item → Refuses file item kind → ⊥
 item-refused Archive item kind is refused = record-slice item kind is refused
 item-refused Operations item kind is refused = record-slice item kind is refused
 item-refused Summary item kind is refused = refused
 
 -- what is refused is a slice
-pub refused_slice : (file : FileKind) (bytes : List ℕ) (kind : RecordFaultKind) → Refuses file bytes kind → RefusesSlice bytes kind
+pub refused_slice : (file : TextKind) (bytes : List ℕ) (kind : RecordFaultKind) → Refuses file bytes kind → RefusesSlice bytes kind
 refused_slice Archive bytes kind refused = refused
 refused_slice Operations bytes kind refused = refused
 refused_slice Summary bytes kind refused = absurd refused
@@ -252,9 +252,9 @@ operations_framed bytes whole no_end =
     let tag : head_length Archive (get_or bytes 0 0) ≡ Some h.head = same_head (get_or bytes 0 0) h.head (λ three. false≢true (sym no_end ∙ ap (λ (t : ℕ). eqb t 3) three)) h.tag in
     framed-whole Archive bytes h.head h.one tag h.long h.small (omega (arith, h.is)) ∙ ap done (sym h.is)
 
-pub archive_framed : (file : FileKind) → (file ≡ Archive) ⊎ (file ≡ Operations) → (bytes : List ℕ) → framed file bytes ≡ Ok (length bytes) → is_end bytes ≡ false → framed Archive bytes ≡ Ok (length bytes)
-archive_framed file (inl is) bytes whole no_end = subst (λ (f : FileKind). framed f bytes ≡ Ok (length bytes)) is whole
-archive_framed file (inr is) bytes whole no_end = operations_framed bytes (subst (λ (f : FileKind). framed f bytes ≡ Ok (length bytes)) is whole) no_end
+pub archive_framed : (file : TextKind) → (file ≡ Archive) ⊎ (file ≡ Operations) → (bytes : List ℕ) → framed file bytes ≡ Ok (length bytes) → is_end bytes ≡ false → framed Archive bytes ≡ Ok (length bytes)
+archive_framed file (inl is) bytes whole no_end = subst (λ (f : TextKind). framed f bytes ≡ Ok (length bytes)) is whole
+archive_framed file (inr is) bytes whole no_end = operations_framed bytes (subst (λ (f : TextKind). framed f bytes ≡ Ok (length bytes)) is whole) no_end
 
 -- whole bytes with a retirement's tag are a retirement's record
 pub retires : (bytes : List ℕ) (key : SliceKey) → framed Archive bytes ≡ Ok (length bytes) → get_or bytes 0 0 ≡ 1 → key_bytes key ≡ take 24 (drop 1 bytes) → IsKey key → Retires bytes

@@ -30,8 +30,8 @@ use Rattle.archive_records.proofs.Contents.{sorted-InOrder, sorted-entries, IsCo
 use Rattle.archive_records.proofs.FaultKinds.{as_itself}
 use Rattle.archive_records.proofs.Listed.{InOrder-operations, IsOperationsText-text, text_is, one_list}
 use Rattle.archive_records.proofs.Exact.{no_magic_fault, no_fault, no_fault_behind, same_records, one_front}
-use Rattle.archive_records.specs.declared.kind.FileKind.{FileKind}
-use Rattle.archive_records.specs.declared.kind.FileKind.TheVariants.{Archive, Operations as Operations_file, Summary as Summary_file}
+use Rattle.archive_records.specs.declared.kind.TextKind.{TextKind}
+use Rattle.archive_records.specs.declared.kind.TextKind.TheVariants.{Archive, Operations as Operations_file, Summary as Summary_file}
 
 of_text : (kind : RecordFaultKind) → IsOfText kind ⊎ ((kind ≡ Device) ⊎ (kind ≡ OutOfMemory))
 of_text Device = inr (inl refl)
@@ -83,13 +83,13 @@ IsReadTo-text a b o r end = all_taken a b (written o) (IsReadTo-taken a b o r) e
 
 -- ---- a fault that was found
 
-unended_grows : (file : FileKind) (rest more : List ℕ) → IsUnended file rest → IsUnended file (rest ++ more)
+unended_grows : (file : TextKind) (rest more : List ℕ) → IsUnended file rest → IsUnended file (rest ++ more)
 unended_grows Archive rest more u = tt
 unended_grows Summary_file rest more u = tt
 unended_grows Operations_file [] more u = absurd (u refl)
 unended_grows Operations_file (x ∷ rest) more u = λ e. cc
 
-IsMagicFault-grows : (file : FileKind) (bytes more : List ℕ) (kind : RecordFaultKind) → kind ≢ Truncated → IsMagicFault file bytes kind → IsMagicFault file (bytes ++ more) kind
+IsMagicFault-grows : (file : TextKind) (bytes more : List ℕ) (kind : RecordFaultKind) → kind ≢ Truncated → IsMagicFault file bytes kind → IsMagicFault file (bytes ++ more) kind
 IsMagicFault-grows file bytes more BadMagic p b = (b.0, b.1, omega (arith, length-append bytes more, b.2), λ e. b.3 (sym (take-append-le b.0 bytes more b.2) ∙ e))
 IsMagicFault-grows file bytes more Truncated p b = absurd (p refl)
 IsMagicFault-grows file bytes more BadTag p b = b
@@ -111,7 +111,7 @@ trailing_device h = cc
 trailing_memory : Trailing ≡ OutOfMemory → ⊥
 trailing_memory h = cc
 
-module _ (file : FileKind) where
+module _ (file : TextKind) where
   behind_grows : (records : List (List ℕ)) (rest more : List ℕ) (fault : RecordFault) → fault.kind ≢ Truncated → IsFaultBehind file records rest fault → IsFaultBehind file records (rest ++ more) fault
   behind_grows records rest more fault p (inl f) = inl (Fails-grows file (last_of [] records) (length records) rest more fault.kind p f.0, f.1)
   behind_grows records rest more fault p (inr f) = inr (f.0, IsTrailing-grows file (last_of [] records) (length records) rest more f.1, f.2)

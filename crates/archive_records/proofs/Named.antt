@@ -8,7 +8,7 @@ use Rattle.std.specs.Io.KnownBytes.{Consumes}
 use Rattle.byte_device.proofs.Known.{Consumes-then}
 use Rattle.archive_records.specs.declared.entry.Entry.{Entry}
 use Rattle.archive_records.specs.declared.fault.RecordFault.{RecordFault}
-use Rattle.archive_records.specs.declared.kind.FileKind.TheVariants.{Summary}
+use Rattle.archive_records.specs.declared.kind.TextKind.TheVariants.{Summary}
 use Rattle.archive_records.specs.Entry.{entry_bytes, IsEntry}
 use Rattle.archive_records.specs.Text.{text_of, InOrder}
 use Rattle.archive_records.specs.Reader.{Position, Passes, HasRead, HasReadAll, HasStopped, Names, AreListed, IsReadTo}

@@ -22,8 +22,8 @@ use Rattle.archive_records.proofs.Forms.{item-no_end}
 use Rattle.archive_records.proofs.Grown.{next-ok-grows}
 use Rattle.archive_records.proofs.Ends.{end-is_end, length-end_record, next_end, counted, counted_unended}
 use Rattle.archive_records.proofs.Longest.{is_end-grows}
-use Rattle.archive_records.specs.declared.kind.FileKind.{FileKind}
-use Rattle.archive_records.specs.declared.kind.FileKind.TheVariants.{Archive}
+use Rattle.archive_records.specs.declared.kind.TextKind.{TextKind}
+use Rattle.archive_records.specs.declared.kind.TextKind.TheVariants.{Archive}
 
 pub last_of-push : (low : List ℕ) (xs : List (List ℕ)) (x : List ℕ) → last_of low (xs ++ x ∷ []) ≡ x
 last_of-push low [] x = refl
@@ -36,7 +36,7 @@ taken_more a b c x y z p q = subst (Consumes a c) (append_assoc x y z) (Consumes
 pub from_list-push : (records : List (List ℕ)) (x : List ℕ) (o : Operations) → o ≡ set.from_list records → with_record o x ≡ set.from_list (records ++ x ∷ [])
 from_list-push records x o e = ap (λ (s : Operations). set.insert s x) e ∙ sym (from_list_push nat_list_cmp_total bytes_same records x)
 
-module _ (file : FileKind) where
+module _ (file : TextKind) where
   pub InOrder-push : (low : List ℕ) (xs : List (List ℕ)) (x : List ℕ) → InOrder file low xs → IsItem file x → may_follow file (last_of low xs) x ≡ true → InOrder file low (xs ++ x ∷ [])
   InOrder-push low [] x a r b = (r, b, tt)
   InOrder-push low (y ∷ ys) x a r b = (a.0, a.1, InOrder-push y ys x a.2 r b)
@@ -52,7 +52,7 @@ module _ (file : FileKind) where
       record {
         file_is = p.file_is ∙ h.file_is;
         taken = subst (λ (t : List ℕ). Consumes a c (magic_of file ++ t)) (sym (concat-push records bytes)) (taken_more a b c (magic_of file) (concat records) bytes h.taken p.taken);
-        ordered = InOrder-push [] records bytes h.ordered (subst (λ (f : FileKind). IsItem f bytes) h.file_is p.item) follows;
+        ordered = InOrder-push [] records bytes h.ordered (subst (λ (f : TextKind). IsItem f bytes) h.file_is p.item) follows;
         last_is = sym (last_of-push [] records bytes);
         count_is = omega (arith, p.count_is, h.count_is, length-append records (bytes ∷ []));
         offset_is = omega (arith, p.offset_is, h.offset_is, ap length (concat-push records bytes), length-append (concat records) bytes);
@@ -61,12 +61,12 @@ module _ (file : FileKind) where
   -- what ends the file was read
   pub HasReadAll-grows : (a b c : Option (List ℕ)) (records : List (List ℕ)) (before after : Position) → HasRead file a b records before → Finishes b c before after → HasReadAll file a c records after
   HasReadAll-grows a b c records before after h e =
-      let whole : ending before.file before.count ≡ ending file (length records) = ap (λ (f : FileKind). ending f before.count) h.file_is ∙ ap (ending file) h.count_is in
+      let whole : ending before.file before.count ≡ ending file (length records) = ap (λ (f : TextKind). ending f before.count) h.file_is ∙ ap (ending file) h.count_is in
       record {
         taken = subst (λ (t : List ℕ). Consumes a c (magic_of file ++ (concat records ++ t))) whole (taken_more a b c (magic_of file) (concat records) (ending before.file before.count) h.taken e.taken);
         ordered = h.ordered;
         few = omega (arith, h.count_is, e.few);
-        ended = subst (λ (f : FileKind). IsEnded f c) h.file_is e.ended;
+        ended = subst (λ (f : TextKind). IsEnded f c) h.file_is e.ended;
         offset_is = e.offset_is ∙ h.offset_is;
       }
 
@@ -88,7 +88,7 @@ module _ (file : FileKind) where
     taken = taken_more a b c (magic_of file) (concat records) s.rest h.taken s.taken;
     ordered = h.ordered;
     few = omega (arith, h.count_is, s.few);
-    unended = λ known. subst (λ (f : FileKind). IsUnended f s.rest) h.file_is (s.unended known);
+    unended = λ known. subst (λ (f : TextKind). IsUnended f s.rest) h.file_is (s.unended known);
     stops = inl (s.offset_is ∙ h.offset_is, λ known. rw (← h.file_is, ← h.last_is, ← h.count_is) (s.fails known));
   }
 
@@ -114,7 +114,7 @@ step-never_trailing a b before fault s trailing = never_trailing before.file bef
 
 -- ---- behind an end record
 
-module _ (file : FileKind) (counts : end_length file ≡ Some 9) where
+module _ (file : TextKind) (counts : end_length file ≡ Some 9) where
   taken_all : (a b : Option (List ℕ)) (records : List (List ℕ)) → Consumes a b (text_of file records) → Consumes a b (magic_of file ++ (concat records ++ end_record (length records)))
   taken_all a b records k = subst (λ (t : List ℕ). Consumes a b (magic_of file ++ (concat records ++ t))) (counted file counts (length records)) k
 

@@ -2,8 +2,8 @@
 use Rattle.std.specs.Prelude.{◌≡◌, ◌≢◌, ℕ, ◌+◌, ◌<◌, ◌≤◌, Bool, true, List, [], length, take, drop, slice_index, ◌==◌, if◌then◌else◌, Result, Ok, Err, ◌⊎◌}
 use Rattle.archive_core.specs.Key.{key_bytes}
 use Rattle.archive_core.specs.Valid.{IsValid, IsSliceFault, key_of}
-use Rattle.archive_records.specs.declared.kind.FileKind.{FileKind}
-use Rattle.archive_records.specs.declared.kind.FileKind.TheVariants.{Archive, Operations, Summary}
+use Rattle.archive_records.specs.declared.kind.TextKind.{TextKind}
+use Rattle.archive_records.specs.declared.kind.TextKind.TheVariants.{Archive, Operations, Summary}
 use Rattle.archive_records.specs.declared.fault.RecordFaultKind.{RecordFaultKind}
 use Rattle.archive_records.specs.declared.fault.RecordFaultKind.TheVariants.{BadMagic, Truncated, BadTag, TooLarge, NotAscending, BadSlice, KeyMismatch, BadCount, Trailing, Device, OutOfMemory}
 use Rattle.archive_records.specs.declared.fault.RecordFault.{RecordFault}
@@ -17,17 +17,17 @@ unfoldable pub is_end : List ℕ → Bool
 is_end bytes = slice_index bytes 0 == 3
 
 -- the tests of a whole record of n bytes, behind this last record, or of an end record, behind so many records
-unfoldable pub tested : FileKind → List ℕ → ℕ → List ℕ → ℕ → Result ℕ RecordFaultKind
+unfoldable pub tested : TextKind → List ℕ → ℕ → List ℕ → ℕ → Result ℕ RecordFaultKind
 tested file last count rest n =
     if is_end rest then (if record_count rest == count then Ok n else Err BadCount)
     else if may_follow file last (take n rest) then Ok n else Err NotAscending
 
-abbrev pub next_by : FileKind → Result ℕ RecordFaultKind → List ℕ → ℕ → List ℕ → Result ℕ RecordFaultKind
+abbrev pub next_by : TextKind → Result ℕ RecordFaultKind → List ℕ → ℕ → List ℕ → Result ℕ RecordFaultKind
 next_by file (Err kind) last count rest = Err kind
 next_by file (Ok n) last count rest = tested file last count rest n
 
 -- the length of the record or end record in front of the rest, or else the first test that fails before its slice is looked at
-unfoldable pub next : FileKind → List ℕ → ℕ → List ℕ → Result ℕ RecordFaultKind
+unfoldable pub next : TextKind → List ℕ → ℕ → List ℕ → Result ℕ RecordFaultKind
 next file last count rest = next_by file (framed file rest) last count rest
 
 -- why the slice of a whole admission is refused: it is none, or has another key than the record
@@ -45,29 +45,29 @@ RefusesSlice bytes Device = ⊥
 RefusesSlice bytes OutOfMemory = ⊥
 
 -- why a whole item is refused for what it holds; an entry is not
-abbrev pub Refuses : FileKind → List ℕ → RecordFaultKind → Type 0
+abbrev pub Refuses : TextKind → List ℕ → RecordFaultKind → Type 0
 Refuses Archive bytes kind = RefusesSlice bytes kind
 Refuses Operations bytes kind = RefusesSlice bytes kind
 Refuses Summary bytes kind = ⊥
 
 -- the first test that fails in front of the rest, of those that know the last record and the number of records alone
-abbrev pub FailsNext : FileKind → List ℕ → ℕ → List ℕ → RecordFaultKind → Type 0
+abbrev pub FailsNext : TextKind → List ℕ → ℕ → List ℕ → RecordFaultKind → Type 0
 FailsNext file last count rest kind =
     (next file last count rest ≡ Err kind)
     ⊎ ((n : ℕ) × (next file last count rest ≡ Ok n) × Refuses file (take n rest) kind)
 
 -- The first test that fails in front of the rest, behind these records. A test that looks at all of them would come last.
-abbrev pub Fails : FileKind → List (List ℕ) → List ℕ → RecordFaultKind → Type 0
+abbrev pub Fails : TextKind → List (List ℕ) → List ℕ → RecordFaultKind → Type 0
 Fails file records rest kind = FailsNext file (last_of [] records) (length records) rest kind
 
 -- the end record of so many records, and bytes behind it
-pub record IsTrailing (file : FileKind) (last : List ℕ) (count : ℕ) (rest : List ℕ) : Type 0 where
+pub record IsTrailing (file : TextKind) (last : List ℕ) (count : ℕ) (rest : List ℕ) : Type 0 where
   pub whole : next file last count rest ≡ Ok 9
   pub end : is_end rest ≡ true
   pub more : 9 < length rest
 
 -- one of the first bytes that are there is not the magic's, or the text ends inside the magic
-abbrev pub IsMagicFault : FileKind → List ℕ → RecordFaultKind → Type 0
+abbrev pub IsMagicFault : TextKind → List ℕ → RecordFaultKind → Type 0
 IsMagicFault file text BadMagic = (n : ℕ) × (n ≤ 8) × (n ≤ length text) × (take n text ≢ take n (magic_of file))
 IsMagicFault file text Truncated = (length text < 8) × (text ≡ take (length text) (magic_of file))
 IsMagicFault file text BadTag = ⊥
@@ -81,19 +81,19 @@ IsMagicFault file text Device = ⊥
 IsMagicFault file text OutOfMemory = ⊥
 
 -- what is wrong behind a good front, and where
-abbrev pub IsFaultBehind : FileKind → List (List ℕ) → List ℕ → RecordFault → Type 0
+abbrev pub IsFaultBehind : TextKind → List (List ℕ) → List ℕ → RecordFault → Type 0
 IsFaultBehind file records rest fault =
     (Fails file records rest fault.kind × (fault.offset ≡ front_length records))
     ⊎ ((fault.kind ≡ Trailing) × IsTrailing file (last_of [] records) (length records) rest × (fault.offset ≡ front_length records + 9))
 
 -- The file does not end before the rest: operations do where nothing is left, the others only behind their end record.
-abbrev pub IsUnended : FileKind → List ℕ → Type 0
+abbrev pub IsUnended : TextKind → List ℕ → Type 0
 IsUnended Archive rest = Unit {0}
 IsUnended Operations rest = rest ≢ []
 IsUnended Summary rest = Unit {0}
 
 -- The fault of a text: that of the magic, or else what stops behind a good front.
-abbrev pub IsFaultOf : FileKind → List ℕ → RecordFault → Type 0
+abbrev pub IsFaultOf : TextKind → List ℕ → RecordFault → Type 0
 IsFaultOf file text fault =
     (IsMagicFault file text fault.kind × (fault.offset ≡ 0))
     ⊎ ((records : List (List ℕ)) × (front : IsGoodFront file text records) × IsUnended file front.rest × IsFaultBehind file records front.rest fault)

@@ -9,8 +9,8 @@ use Rattle.std.specs.Io.KnownBytes.{Consumes, IsAtEnd}
 use Rattle.archive_core.specs.declared.operations.Operation.{Operation}
 use Rattle.archive_core.specs.Record.{IsOperation, rec}
 use Rattle.archive_core.specs.Content.{Operations}
-use Rattle.archive_records.specs.declared.kind.FileKind.{FileKind}
-use Rattle.archive_records.specs.declared.kind.FileKind.TheVariants.{Archive, Operations as Operations_file, Summary as Summary_file}
+use Rattle.archive_records.specs.declared.kind.TextKind.{TextKind}
+use Rattle.archive_records.specs.declared.kind.TextKind.TheVariants.{Archive, Operations as Operations_file, Summary as Summary_file}
 use Rattle.archive_records.specs.declared.buffer.Buffer.{Buffer}
 use Rattle.archive_records.specs.declared.fault.RecordFaultKind.{RecordFaultKind}
 use Rattle.archive_records.specs.declared.fault.RecordFaultKind.TheVariants.{BadMagic, Truncated, BadTag, TooLarge, NotAscending, BadSlice, KeyMismatch, BadCount, Trailing, Device, OutOfMemory}
@@ -55,7 +55,7 @@ abbrev pub FaultBlamesReader : {R T : Type 0} → (R → Option (List ℕ)) → 
 FaultBlamesReader left failures old new result = MatchResult result (λ _. failures new ≡ failures old) (λ fault. Blames left failures old new fault.kind)
 
 -- why the magic was not read, and the bytes that came instead
-abbrev pub StopsInMagic : FileKind → List ℕ → RecordFaultKind → Type 0
+abbrev pub StopsInMagic : TextKind → List ℕ → RecordFaultKind → Type 0
 StopsInMagic file bytes kind =
     IsMagicFault file bytes kind
     ⊎ ((kind ≡ Device) × (length bytes < 8))
@@ -63,7 +63,7 @@ StopsInMagic file bytes kind =
 
 -- Where a reader of records stands: in which kind of file, behind which last record, how many records and how many bytes.
 pub record Position : Type 0 where
-  pub file : FileKind
+  pub file : TextKind
   pub last : List ℕ
   pub count : ℕ
   pub offset : ℕ
@@ -85,7 +85,7 @@ pub record Passes (a b : Option (List ℕ)) (before after : Position) : Type 0 w
   pub few : after.count < 2 ^ 63
 
 -- a file without an end record ends with the input
-abbrev pub IsEnded : FileKind → Option (List ℕ) → Type 0
+abbrev pub IsEnded : TextKind → Option (List ℕ) → Type 0
 IsEnded Archive left = Unit {0}
 IsEnded Operations_file left = IsAtEnd left
 IsEnded Summary_file left = Unit {0}
@@ -113,7 +113,7 @@ Advances left failures old new before after (Ok false) = Passes (left old) (left
 Advances left failures old new before after (Err fault) = StopsAt (left old) (left new) before fault × Blames left failures old new fault.kind
 
 -- The magic and these records were read, and nothing behind them.
-pub record HasRead (file : FileKind) (a b : Option (List ℕ)) (records : List (List ℕ)) (position : Position) : Type 0 where
+pub record HasRead (file : TextKind) (a b : Option (List ℕ)) (records : List (List ℕ)) (position : Position) : Type 0 where
   pub file_is : position.file ≡ file
   pub taken : Consumes a b (magic_of file ++ concat records)
   pub ordered : InOrder file [] records
@@ -122,7 +122,7 @@ pub record HasRead (file : FileKind) (a b : Option (List ℕ)) (records : List (
   pub offset_is : position.offset ≡ front_length records
 
 -- The magic, these records and what ends the file behind them were read, and nothing behind it.
-pub record HasReadAll (file : FileKind) (a b : Option (List ℕ)) (records : List (List ℕ)) (position : Position) : Type 0 where
+pub record HasReadAll (file : TextKind) (a b : Option (List ℕ)) (records : List (List ℕ)) (position : Position) : Type 0 where
   pub taken : Consumes a b (text_of file records)
   pub ordered : InOrder file [] records
   pub few : length records < 2 ^ 63
@@ -130,14 +130,14 @@ pub record HasReadAll (file : FileKind) (a b : Option (List ℕ)) (records : Lis
   pub offset_is : position.offset ≡ front_length records
 
 -- what came behind the records, and why reading stopped there
-abbrev pub Stops : FileKind → List (List ℕ) → List ℕ → RecordFault → Type 0
+abbrev pub Stops : TextKind → List (List ℕ) → List ℕ → RecordFault → Type 0
 Stops file records rest fault =
     ((fault.offset ≡ front_length records) × (fault.kind ≢ OutOfMemory → Fails file records rest (seen_as fault.kind)))
     ⊎ ((fault.kind ≡ Trailing) × IsTrailing file (last_of [] records) (length records) rest × (fault.offset ≡ front_length records + 9))
     ⊎ ((fault.kind ≡ Device) × (rest ≡ end_record (length records)) × (fault.offset ≡ front_length records))
 
 -- The magic, these records and what came behind them were read, where reading stopped.
-pub record Stopped (file : FileKind) (a b : Option (List ℕ)) (records : List (List ℕ)) (fault : RecordFault) : Type 0 where
+pub record Stopped (file : TextKind) (a b : Option (List ℕ)) (records : List (List ℕ)) (fault : RecordFault) : Type 0 where
   pub rest : List ℕ
   pub taken : Consumes a b (magic_of file ++ (concat records ++ rest))
   pub ordered : InOrder file [] records
@@ -151,7 +151,7 @@ pub record AreListed (entries : List (List ℕ)) : Type 0 where
   pub are : AllByRecursion IsEntry entries
 
 -- reading stopped, in the magic or behind some records
-abbrev pub HasStopped : FileKind → Option (List ℕ) → Option (List ℕ) → RecordFault → Type 0
+abbrev pub HasStopped : TextKind → Option (List ℕ) → Option (List ℕ) → RecordFault → Type 0
 HasStopped file a b fault =
     ((bytes : List ℕ) × Consumes a b bytes × StopsInMagic file bytes fault.kind × (fault.offset ≡ 0))
     ⊎ ((records : List (List ℕ)) × Stopped file a b records fault)
@@ -169,7 +169,7 @@ pub record MakesAll (a b : Option (List ℕ)) (o : Operations) (position : Posit
   pub content : o ≡ set.from_list records
 
 -- The text of such a file was read, and its records or entries make the set.
-pub record IsReadTo (file : FileKind) (a b : Option (List ℕ)) (o : Operations) : Type 0 where
+pub record IsReadTo (file : TextKind) (a b : Option (List ℕ)) (o : Operations) : Type 0 where
   pub records : List (List ℕ)
   pub few : length records < 2 ^ 63
   pub taken : Consumes a b (text_of file records)

@@ -8,8 +8,8 @@ use Rattle.archive_core.specs.Record.{IsOperation}
 use Rattle.archive_core.specs.Content.{Operations, IsContent}
 use Rattle.archive_core.specs.Summary.{Entries}
 use Rattle.archive_records.specs.Entry.{AreEntries}
-use Rattle.archive_records.specs.declared.kind.FileKind.{FileKind}
-use Rattle.archive_records.specs.declared.kind.FileKind.TheVariants.{Archive, Operations as Operations_file, Summary as Summary_file}
+use Rattle.archive_records.specs.declared.kind.TextKind.{TextKind}
+use Rattle.archive_records.specs.declared.kind.TextKind.TheVariants.{Archive, Operations as Operations_file, Summary as Summary_file}
 use Rattle.archive_records.specs.declared.fault.RecordFaultKind.{RecordFaultKind}
 use Rattle.archive_records.specs.declared.fault.RecordFaultKind.TheVariants.{Truncated, Trailing, Device, OutOfMemory}
 use Rattle.archive_records.specs.declared.fault.RecordFault.{RecordFault}
@@ -18,25 +18,25 @@ use Rattle.archive_records.specs.Fault.{IsFaultOf, IsOfText}
 use Rattle.archive_records.specs.Front.{IsFrontLengthOf, IsLongestLengthOf}
 
 -- what the text of a file says: an archive's a content, an operations file's a list of operations, a summary's its entries
-abbrev pub Meaning : FileKind → Type 0
+abbrev pub Meaning : TextKind → Type 0
 Meaning Archive = Operations
 Meaning Operations_file = List Operation
 Meaning Summary_file = Entries
 
 -- what such texts may say
-abbrev pub IsMeaning : (file : FileKind) → Meaning file → Type 0
+abbrev pub IsMeaning : (file : TextKind) → Meaning file → Type 0
 IsMeaning Archive o = IsContent o
 IsMeaning Operations_file operations = All IsOperation operations
 IsMeaning Summary_file s = AreEntries s
 
 -- in how many records
-abbrev pub records_of : (file : FileKind) → Meaning file → ℕ
+abbrev pub records_of : (file : TextKind) → Meaning file → ℕ
 records_of Archive o = set.len o
 records_of Operations_file operations = length operations
 records_of Summary_file s = set.len s
 
 -- the text that says it
-abbrev pub IsTextOf : (file : FileKind) → Meaning file → List ℕ → Type 0
+abbrev pub IsTextOf : (file : TextKind) → Meaning file → List ℕ → Type 0
 IsTextOf Archive o text = text ≡ written o
 IsTextOf Operations_file operations text = IsOperationsText text operations
 IsTextOf Summary_file s text = text ≡ summary_text s
@@ -53,7 +53,7 @@ StandsBehind IsOffsetOf a b offset = (bytes : List ℕ) × Consumes a b bytes ×
 
 -- Why an input is refused: its text has this fault, its reader failed behind the longest good front of what came, or memory was
 -- wanted behind a good front.
-pub record IsRefused {R : Type 0} (file : FileKind) (left : R → Option (List ℕ)) (failures : R → ℕ) (old new : R) (fault : RecordFault) : Type 0 where
+pub record IsRefused {R : Type 0} (file : TextKind) (left : R → Option (List ℕ)) (failures : R → ℕ) (old new : R) (fault : RecordFault) : Type 0 where
   pub blames : Blames left failures old new fault.kind
   pub faulty : IsOfText fault.kind → IfSome (left old) (λ text. IsFaultOf file text fault)
   pub device : fault.kind ≡ Device → StandsBehind (IsLongestLengthOf file) (left old) (left new) fault.offset
@@ -64,7 +64,7 @@ abbrev pub IsOfMachine : RecordFaultKind → Type 0
 IsOfMachine kind = (kind ≡ Device) ⊎ (kind ≡ OutOfMemory)
 
 -- The whole input is the text of this meaning, and of no other.
-pub record IsReadWhole {R : Type 0} (file : FileKind) (meaning : Meaning file) (left : R → Option (List ℕ)) (failures : R → ℕ) (old new : R) : Type 0 where
+pub record IsReadWhole {R : Type 0} (file : TextKind) (meaning : Meaning file) (left : R → Option (List ℕ)) (failures : R → ℕ) (old new : R) : Type 0 where
   pub is : IsMeaning file meaning
   pub few : records_of file meaning < 2 ^ 63
   pub text : IfSome (left old) (IsTextOf file meaning)
@@ -73,14 +73,14 @@ pub record IsReadWhole {R : Type 0} (file : FileKind) (meaning : Meaning file) (
   pub unfailed : failures new ≡ failures old
 
 -- What came of reading a whole input, where this is the meaning of what is given. Texts of such files are refused by the machine alone.
-abbrev pub ReadsWhole : {R T : Type 0} → (file : FileKind) → (T → Meaning file) → (R → Option (List ℕ)) → (R → ℕ) → R → R → Result T RecordFault → Type 0
+abbrev pub ReadsWhole : {R T : Type 0} → (file : TextKind) → (T → Meaning file) → (R → Option (List ℕ)) → (R → ℕ) → R → R → Result T RecordFault → Type 0
 ReadsWhole file meaning left failures old new (Ok value) = IsReadWhole file (meaning value) left failures old new
 ReadsWhole file meaning left failures old new (Err fault) =
     IsRefused file left failures old new fault
     × IfSome (left old) (λ text. (m : Meaning file) → IsMeaning file m → IsTextOf file m text → IsOfMachine fault.kind)
 
 -- The text of this meaning was taken from the front of the input, and the input begins with that of no other.
-pub record IsReadFront {R : Type 0} (file : FileKind) (meaning : Meaning file) (left : R → Option (List ℕ)) (failures : R → ℕ) (old new : R) : Type 0 where
+pub record IsReadFront {R : Type 0} (file : TextKind) (meaning : Meaning file) (left : R → Option (List ℕ)) (failures : R → ℕ) (old new : R) : Type 0 where
   pub is : IsMeaning file meaning
   pub few : records_of file meaning < 2 ^ 63
   pub taken : (text : List ℕ) × IsTextOf file meaning text × Consumes (left old) (left new) text
@@ -89,7 +89,7 @@ pub record IsReadFront {R : Type 0} (file : FileKind) (meaning : Meaning file) (
 
 -- What came of reading the front of an input. No byte behind it is at fault, and inputs that begin with such a text are refused by
 -- the machine alone.
-abbrev pub ReadsFront : {R T : Type 0} → (file : FileKind) → (T → Meaning file) → (R → Option (List ℕ)) → (R → ℕ) → R → R → Result T RecordFault → Type 0
+abbrev pub ReadsFront : {R T : Type 0} → (file : TextKind) → (T → Meaning file) → (R → Option (List ℕ)) → (R → ℕ) → R → R → Result T RecordFault → Type 0
 ReadsFront file meaning left failures old new (Ok value) = IsReadFront file (meaning value) left failures old new
 ReadsFront file meaning left failures old new (Err fault) =
     IsRefused file left failures old new fault

@@ -11,8 +11,8 @@ use Rattle.archive_core.specs.declared.operations.Operation.{Operation}
 use Rattle.archive_core.specs.Record.{IsOperation, rec}
 use Rattle.archive_core.specs.Content.{Operations}
 use Rattle.archive_core.specs.Summary.{Entries, entry}
-use Rattle.archive_records.specs.declared.kind.FileKind.{FileKind}
-use Rattle.archive_records.specs.declared.kind.FileKind.TheVariants.{Archive, Operations as Operations_file, Summary as Summary_file}
+use Rattle.archive_records.specs.declared.kind.TextKind.{TextKind}
+use Rattle.archive_records.specs.declared.kind.TextKind.TheVariants.{Archive, Operations as Operations_file, Summary as Summary_file}
 use Rattle.archive_records.specs.Kind.{magic, operations_magic, summary_magic, magic_of, IsItem, may_follow}
 
 -- the end record of so many records
@@ -20,13 +20,13 @@ unfoldable pub end_record : ℕ → List ℕ
 end_record count = 3 ∷ to_be_bytes w64 count
 
 -- what stands behind so many records: an end record, or nothing
-abbrev pub ending : FileKind → ℕ → List ℕ
+abbrev pub ending : TextKind → ℕ → List ℕ
 ending Archive count = end_record count
 ending Operations_file count = []
 ending Summary_file count = end_record count
 
 -- the text of these records
-abbrev pub text_of : FileKind → List (List ℕ) → List ℕ
+abbrev pub text_of : TextKind → List (List ℕ) → List ℕ
 text_of file records = magic_of file ++ (concat records ++ ending file (length records))
 
 -- the text of a content: its records strictly ascending in byte order, between the magic and the end record
@@ -61,7 +61,7 @@ pub record IsOperationsText (text : List ℕ) (operations : List Operation) : Ty
   pub whole : text ≡ operations_magic ++ concat (map rec operations)
 
 -- items of the file, each of which may follow the one before it, and the first of which may follow low
-abbrev pub InOrder : FileKind → List ℕ → List (List ℕ) → Type 0
+abbrev pub InOrder : TextKind → List ℕ → List (List ℕ) → Type 0
 InOrder file low [] = Unit {0}
 InOrder file low (x ∷ xs) = IsItem file x × (may_follow file low x ≡ true) × InOrder file x xs
 

@@ -9,7 +9,7 @@ ghost use Rattle.archive_records.specs.Kind.{admission_length, end_length};
 ghost use Rattle.archive_records.specs.Layout.{head_length, admission_body, body_length, record_count};
 ghost use Rattle.archive_records.specs.Text.{end_record};
 
-use crate::kind::FileKind;
+use crate::kind::TextKind;
 use archive_core::{ArchKey, Digest, Slice, SliceKey};
 use byteorder::{BigEndian, ByteOrder};
 use uuid::Uuid;
@@ -29,30 +29,30 @@ pub const ADMISSION_HEAD_LEN: usize = 33;
 pub const END_LEN: usize = 9;
 
 // How long an admission's head is.
-fn admission_length_of(file: FileKind) -> usize
+fn admission_length_of(file: TextKind) -> usize
     ensures value { result ≡ admission_length file }
     ensures long { (8 < result) × (result < 58) }
 {
     match file {
-        FileKind::Archive | FileKind::Operations => ADMISSION_HEAD_LEN,
-        FileKind::Summary => ENTRY_LEN,
+        TextKind::Archive | TextKind::Operations => ADMISSION_HEAD_LEN,
+        TextKind::Summary => ENTRY_LEN,
     }
 }
 
 // How long an end record is, where there is one.
-fn end_length_of(file: FileKind) -> Option<usize>
+fn end_length_of(file: TextKind) -> Option<usize>
     ensures value { result ≡ end_length file }
     ensures long { IfSome result (λ head. (8 < head) × (head < 58)) }
 {
     match file {
-        FileKind::Archive | FileKind::Summary => Some(END_LEN),
-        FileKind::Operations => None,
+        TextKind::Archive | TextKind::Summary => Some(END_LEN),
+        TextKind::Operations => None,
     }
 }
 
 /// How long the head is, by its tag.
 #[tactic(auto, unfolding(crate::specs::Layout::head_length))]
-pub fn head_length_of(file: FileKind, bytes: &[u8]) -> Option<usize>
+pub fn head_length_of(file: TextKind, bytes: &[u8]) -> Option<usize>
     requires { 0 < length bytes.now }
     ensures value { result ≡ head_length file (slice_index bytes.now 0) }
     ensures long { IfSome result (λ head. (8 < head) × (head < 58)) }
@@ -74,19 +74,19 @@ fn length_at(bytes: &[u8], at: usize) -> u64
 }
 
 // How many bytes follow an admission's head.
-fn admission_body_of(file: FileKind, head: &[u8]) -> u64
+fn admission_body_of(file: TextKind, head: &[u8]) -> u64
     requires { admission_length file ≤ length head.now }
     ensures { result ≡ admission_body file head.now }
 {
     match file {
-        FileKind::Summary => 0,
-        FileKind::Archive | FileKind::Operations => length_at(head, 25),
+        TextKind::Summary => 0,
+        TextKind::Archive | TextKind::Operations => length_at(head, 25),
     }
 }
 
 /// How many bytes follow the head.
 #[tactic(auto, unfolding(crate::specs::Layout::body_length))]
-pub fn body_length_of(file: FileKind, head: &[u8]) -> u64
+pub fn body_length_of(file: TextKind, head: &[u8]) -> u64
     requires one { 0 < length head.now }
     requires whole { slice_index head.now 0 ≡ 2 → admission_length file ≤ length head.now }
     ensures { result ≡ body_length file head.now }

@@ -1,14 +1,14 @@
 //! The kinds of files that records or entries stand in.
 
 ghost use Rattle.std.specs.Prelude.{◌≡◌, ◌↔◌, IsTrue};
-ghost use Rattle.archive_records.specs.declared.kind.FileKind.TheVariants.{Operations};
+ghost use Rattle.archive_records.specs.declared.kind.TextKind.TheVariants.{Operations};
 ghost use Rattle.archive_records.specs.Kind.{magic_of, allows};
 
 use std::cmp::Ordering;
 
 /// What a file of records is.
 #[derive(Clone, Copy, Debug, PartialEq, Eq)]
-pub enum FileKind {
+pub enum TextKind {
     /// The text of an archive: its records ascend, and an end record stands behind them.
     Archive,
     /// Operations in any order, with repeats, up to the end of the input.
@@ -17,15 +17,15 @@ pub enum FileKind {
     Summary,
 }
 
-impl FileKind {
+impl TextKind {
     /// What the file begins with.
     pub fn magic(self) -> [u8; 8]
         ensures { result ≡ magic_of self }
     {
         match self {
-            FileKind::Archive => *b"MSYMARC1",
-            FileKind::Operations => *b"MSYMOPS1",
-            FileKind::Summary => *b"MSYMSUM1",
+            TextKind::Archive => *b"MSYMARC1",
+            TextKind::Operations => *b"MSYMOPS1",
+            TextKind::Summary => *b"MSYMSUM1",
         }
     }
 
@@ -35,8 +35,8 @@ impl FileKind {
         ensures { result ≡ allows self order }
     {
         match self {
-            FileKind::Archive | FileKind::Summary => order == Ordering::Less,
-            FileKind::Operations => true,
+            TextKind::Archive | TextKind::Summary => order == Ordering::Less,
+            TextKind::Operations => true,
         }
     }
 
@@ -45,8 +45,8 @@ impl FileKind {
         ensures { IsTrue result ↔ (self ≡ Operations) }
     {
         match self {
-            FileKind::Archive | FileKind::Summary => false,
-            FileKind::Operations => true,
+            TextKind::Archive | TextKind::Summary => false,
+            TextKind::Operations => true,
         }
     }
 }

@@ -9,7 +9,7 @@ ghost use Rattle.archive_core.specs.Summary.{Entries, summary};
 ghost use Rattle.archive_records.specs.Entry.{AreEntries};
 ghost use Rattle.archive_records.specs.declared.fault.RecordFault.{RecordFault};
 ghost use Rattle.archive_core.specs.declared.operations.Operation.{Operation};
-ghost use Rattle.archive_records.specs.declared.kind.FileKind.{FileKind};
+ghost use Rattle.archive_records.specs.declared.kind.TextKind.{TextKind};
 ghost use Rattle.archive_records.specs.Text.{IsWritten, written, IsOperationsText, IsSummaryText, summary_text};
 ghost use Rattle.archive_records.specs.Fault.{IsFault, IsOperationsFault, IsSummaryFault, IsFaultOf, IsMagicFault};
 ghost use Rattle.archive_records.specs.Front.{IsLongestFront, front_length};
@@ -50,7 +50,7 @@ pub fn text_has_no_fault()
 /// Behind the magic a fault stands at the end of the longest good front, and bytes too many behind the end record
 /// there.
 pub fn longest_front()
-    ensures { (file : FileKind) (text : List ℕ) (fault : RecordFault) → IsFaultOf file text fault
+    ensures { (file : TextKind) (text : List ℕ) (fault : RecordFault) → IsFaultOf file text fault
         → IsMagicFault file text fault.kind
         ⊎ ((records : List (List ℕ)) × IsLongestFront file text records
         × ((fault.offset ≡ front_length records)

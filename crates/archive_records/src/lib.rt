@@ -1,4 +1,5 @@
-//! The texts of archives, summaries and deltas: written, and read back exactly, over any device; and lists of operations, read.
+//! The texts of archives, summaries and deltas: written, and read back exactly, over any device; and lists of
+//! operations, read.
 //!
 //! A text is the magic `MSYMARC1`, the records of the archive's operations strictly ascending in byte order, and an
 //! end record with their number; all numbers are big-endian. A record is a tag, a key, and for a retirement (tag 1)
@@ -7,8 +8,8 @@
 //!
 //! An operations file is the magic `MSYMOPS1` and such records in any order, with repeats, up to the end of the input.
 //!
-//! A summary is the magic `MSYMSUM1`, an entry of 57 bytes for each operation, strictly ascending, and the end record. A
-//! delta is the text of the archive of those operations whose entries a summary does not have.
+//! A summary is the magic `MSYMSUM1`, an entry of 57 bytes for each operation, strictly ascending, and the end record.
+//! A delta is the text of the archive of those operations whose entries a summary does not have.
 //!
 //! - `head`: what stands at which place of a record;
 //! - `entry`: [`Entry`], what a summary says of one operation;

@@ -4,7 +4,7 @@ ghost use Rattle.std.specs.Prelude.{◌≡◌, ◌≢◌, ◌<◌, ◌≤◌, �
 ghost use Rattle.std.specs.Io.KnownBytes.{Consumes};
 ghost use Rattle.archive_core.specs.Record.{IsRecord};
 ghost use Rattle.archive_records.specs.declared.fault.RecordFaultKind.TheVariants.{Truncated, Device};
-ghost use Rattle.archive_records.specs.declared.kind.FileKind.TheVariants.{Archive, Operations};
+ghost use Rattle.archive_records.specs.declared.kind.TextKind.TheVariants.{Archive, Operations};
 ghost use Rattle.archive_records.specs.Kind.{IsItem, may_follow};
 ghost use Rattle.archive_records.specs.Layout.{framed};
 ghost use Rattle.archive_records.specs.Text.{end_record, ending};
@@ -15,13 +15,13 @@ use crate::buffer::Buffer;
 use crate::fault::RecordFaultKind;
 use crate::frame::read_record;
 use crate::head::{ADMISSION_HEAD_LEN, END, RETIREMENT, has_key, key_in, record_count_of};
-use crate::kind::FileKind;
+use crate::kind::TextKind;
 use archive_core::Slice;
 use byte_device::Source;
 
 /// What the tests of a whole record or end record say: whether it is the end record.
 #[tactic(auto, unfolding(crate::specs::Fault::tested, crate::specs::Fault::is_end))]
-fn test(file: FileKind, allowed: bool, count: u64, bytes: &[u8]) -> Result<bool, RecordFaultKind>
+fn test(file: TextKind, allowed: bool, count: u64, bytes: &[u8]) -> Result<bool, RecordFaultKind>
     requires { framed file bytes.now ≡ Ok (length bytes.now) }
     ensures tested { (last : List ℕ) → allowed ≡ may_follow file last bytes.now
         → MatchResult result
@@ -47,7 +47,7 @@ fn test(file: FileKind, allowed: bool, count: u64, bytes: &[u8]) -> Result<bool,
 /// Reads the next record or the end record over the last record, and says whether it is the end record. The slice of an
 /// admission is not looked at.
 fn read_in_order<R: Source>(
-    file: FileKind,
+    file: TextKind,
     r: &mut R,
     chunk: &mut [u8],
     buffer: &mut Buffer,
@@ -93,21 +93,21 @@ fn test_slice(bytes: &[u8]) -> Result<(), RecordFaultKind>
 }
 
 /// Whether what a whole item holds is as it must be.
-fn test_item(file: FileKind, bytes: &[u8]) -> Result<(), RecordFaultKind>
+fn test_item(file: TextKind, bytes: &[u8]) -> Result<(), RecordFaultKind>
     requires whole { framed file bytes.now ≡ Ok (length bytes.now) }
     requires item { is_end bytes.now ≡ false }
     ensures known { OnOk result (IsItem file bytes.now) }
     ensures refused { IfErr result (λ kind. Refuses file bytes.now kind) }
 {
     match file {
-        FileKind::Summary => Ok(()),
-        FileKind::Archive | FileKind::Operations => test_slice(bytes),
+        TextKind::Summary => Ok(()),
+        TextKind::Archive | TextKind::Operations => test_slice(bytes),
     }
 }
 
 /// Reads the next record or the end record over the last record, and says whether it is the end record.
 fn read_tested<R: Source>(
-    file: FileKind,
+    file: TextKind,
     r: &mut R,
     chunk: &mut [u8],
     buffer: &mut Buffer,
@@ -137,7 +137,7 @@ fn read_tested<R: Source>(
 }
 
 /// Whether the file ends where this stopped the next record, of which so many bytes came.
-fn ends_file(file: FileKind, kind: RecordFaultKind, at: usize) -> bool
+fn ends_file(file: TextKind, kind: RecordFaultKind, at: usize) -> bool
     ensures { IsTrue result ↔ ((kind ≡ Truncated) × (at ≡ 0) × (file ≡ Operations)) }
 {
     kind == RecordFaultKind::Truncated && at == 0 && file.is_open()
@@ -145,7 +145,7 @@ fn ends_file(file: FileKind, kind: RecordFaultKind, at: usize) -> bool
 
 /// Reads the next record over the last record, or what ends the file, and says whether the file ends.
 pub fn read_next<R: Source>(
-    file: FileKind,
+    file: TextKind,
     r: &mut R,
     chunk: &mut [u8],
     buffer: &mut Buffer,

@@ -3,12 +3,12 @@
 ghost use Rattle.std.specs.Prelude.{◌≡◌, ◌+◌, ◌∷◌, ◌++◌, ℕ, List, Option, [], OnOk, IfOk, IfErr};
 ghost use Rattle.archive_core.specs.declared.operations.Operation.{Operation};
 ghost use Rattle.archive_core.specs.Record.{rec, IsRecord, IsOperation};
-ghost use Rattle.archive_records.specs.declared.kind.FileKind.TheVariants.{Operations};
+ghost use Rattle.archive_records.specs.declared.kind.TextKind.TheVariants.{Operations};
 ghost use Rattle.archive_records.specs.Reading.{ReadsWhole};
 ghost use Rattle.archive_records.specs.Reader.{FaultBlamesReader, HasStopped, Lists, AreRead};
 
 use crate::fault::RecordFault;
-use crate::kind::FileKind;
+use crate::kind::TextKind;
 use crate::reader::RecordReader;
 use crate::reading::{operation_of, two_handles};
 use archive_core::Operation;
@@ -84,7 +84,7 @@ fn list_taken<R: Source>(heap: Heap, r: &mut R) -> Result<Vec<Operation, Heap>, 
     let Ok((own, buffers)) = two_handles(&heap) else {
         return Err(RecordFault::out_of_memory(0));
     };
-    let reader = RecordReader::begin(buffers, FileKind::Operations, r)?;
+    let reader = RecordReader::begin(buffers, TextKind::Operations, r)?;
     list_rest(&heap, Vec::new(own), reader, r)
 }
 

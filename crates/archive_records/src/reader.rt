@@ -2,13 +2,13 @@
 
 ghost use Rattle.std.specs.Prelude.{◌≡◌, ◌<◌, ◌≤◌, ℕ, List, Option, Some, [], length, take, OnOk, IfOk, IfErr, IsTrue, ◌↔◌};
 ghost use Rattle.std.specs.Io.KnownBytes.{Consumes, IsAtEnd};
-ghost use Rattle.archive_records.specs.declared.kind.FileKind.{FileKind};
+ghost use Rattle.archive_records.specs.declared.kind.TextKind.{TextKind};
 ghost use Rattle.archive_records.specs.Kind.{magic_of, end_length};
 ghost use Rattle.archive_records.specs.Reader.{Position, Bounds, Advances, BlamesReader, FaultBlamesReader, bytes_so_far, StopsInMagic, HasRead, HasReadAll, Stopped};
 
 use crate::buffer::{Buffer, fill};
 use crate::fault::{RecordFault, RecordFaultKind};
-use crate::kind::FileKind;
+use crate::kind::TextKind;
 use crate::next::read_next;
 use byte_device::{Failed, Source, is_at_end};
 use memory::{Heap, NoMemory};
@@ -24,7 +24,7 @@ const CHUNK: usize = 65536;
 /// What was read so far: contracts see where the reader stands.
 #[derive(Drop)]
 pub struct RecordReader {
-    file: FileKind,
+    file: TextKind,
     /// The last record.
     buffer: Buffer,
     /// Where the next piece of a record is pulled to.
@@ -52,7 +52,7 @@ fn chunk_of(size: usize, heap: &Heap) -> Result<Vec<u8, Heap>, NoMemory>
 }
 
 /// Whether these bytes are as the magic begins.
-fn begins_magic(file: FileKind, bytes: &[u8]) -> bool
+fn begins_magic(file: TextKind, bytes: &[u8]) -> bool
     requires { length bytes.now ≤ 8 }
     ensures { IsTrue result ↔ (bytes.now ≡ take (length bytes.now) (magic_of file)) }
 {
@@ -61,7 +61,7 @@ fn begins_magic(file: FileKind, bytes: &[u8]) -> bool
 
 /// Reads the magic into the empty buffer.
 fn read_magic<R: Source>(
-    file: FileKind,
+    file: TextKind,
     r: &mut R,
     chunk: &mut [u8],
     buffer: &mut Buffer,
@@ -97,7 +97,7 @@ impl RecordReader {
     /// Reads the magic.
     pub fn begin<R: Source>(
         heap: Heap,
-        file: FileKind,
+        file: TextKind,
         r: &mut R,
     ) -> Result<RecordReader, RecordFault>
         ensures read { IfOk result (λ reader. HasRead file (R.left r.old) (R.left r.new) [] reader) }
@@ -165,7 +165,7 @@ impl RecordReader {
     /// Whether the input ends behind the end record.
     pub fn finish<R: Source>(&self, r: &mut R) -> Result<(), RecordFault>
         ensures at_end { OnOk result (IsAtEnd (R.left r.new) × Consumes (R.left r.old) (R.left r.new) []) }
-        ensures stopped { IfErr result (λ fault. (file : FileKind) (a : Option (List ℕ)) (records : List (List ℕ))
+        ensures stopped { IfErr result (λ fault. (file : TextKind) (a : Option (List ℕ)) (records : List (List ℕ))
             → end_length file ≡ Some 9 → HasReadAll file a (R.left r.old) records self.now
             → Stopped file a (R.left r.new) records fault) }
         ensures reader { FaultBlamesReader R.left R.failures r.old r.new result }

@@ -5,13 +5,13 @@ ghost use Rattle.std.specs.Io.KnownBytes.{IsAtEnd};
 ghost use Rattle.archive_core.specs.Record.{rec, IsRecord, IsOperation};
 ghost use Rattle.archive_core.specs.Content.{with_record};
 ghost use Rattle.archive_records.specs.declared.fault.RecordFaultKind.TheVariants.{Trailing};
-ghost use Rattle.archive_records.specs.declared.kind.FileKind.TheVariants.{Archive};
+ghost use Rattle.archive_records.specs.declared.kind.TextKind.TheVariants.{Archive};
 ghost use Rattle.archive_records.specs.Reading.{ReadsWhole, ReadsFront};
 ghost use Rattle.archive_records.specs.Reader.{FaultBlamesReader, HasStopped, Makes, MakesAll, IsReadTo};
 
 use crate::fault::RecordFault;
 use crate::head::{ADMISSION_HEAD_LEN, RETIREMENT, digest_in, key_in};
-use crate::kind::FileKind;
+use crate::kind::TextKind;
 use crate::reader::RecordReader;
 use archive_core::{Archive, Operation, Slice};
 use byte_device::Source;
@@ -106,7 +106,7 @@ fn read_text<A: Archive + Drop, R: Source>(
     let Ok((own, buffers)) = two_handles(&heap) else {
         return Err(RecordFault::out_of_memory(0));
     };
-    let reader = RecordReader::begin(buffers, FileKind::Archive, r)?;
+    let reader = RecordReader::begin(buffers, TextKind::Archive, r)?;
     read_rest(&heap, A::empty(own), reader, r)
 }
 

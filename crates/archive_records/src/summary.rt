@@ -9,14 +9,14 @@ ghost use Rattle.join_core.specs.Listing.{listing};
 ghost use Rattle.archive_core.specs.Content.{IsContent};
 ghost use Rattle.archive_core.specs.Summary.{entry, summary};
 ghost use Rattle.archive_records.specs.Entry.{entry_bytes, AreEntries};
-ghost use Rattle.archive_records.specs.declared.kind.FileKind.TheVariants.{Summary as SummaryFile};
+ghost use Rattle.archive_records.specs.declared.kind.TextKind.TheVariants.{Summary as SummaryFile};
 ghost use Rattle.std.specs.Io.KnownBytes.{IsAtEnd};
 ghost use Rattle.archive_records.specs.Reading.{ReadsWhole};
 ghost use Rattle.archive_records.specs.Reader.{FaultBlamesReader, HasReadAll, HasStopped, IsReadTo, Names};
 
 use crate::entry::{Entry, entry_in};
 use crate::fault::RecordFault;
-use crate::kind::FileKind;
+use crate::kind::TextKind;
 use crate::reader::RecordReader;
 use crate::reading::two_handles;
 use archive_core::Archive;
@@ -163,7 +163,7 @@ fn read_text<R: Source>(
     let Ok((own, buffers)) = two_handles(&heap) else {
         return Err(RecordFault::out_of_memory(0));
     };
-    let reader = RecordReader::begin(buffers, FileKind::Summary, r)?;
+    let reader = RecordReader::begin(buffers, TextKind::Summary, r)?;
     read_entries(Vec::new(own), reader, r)
 }
 

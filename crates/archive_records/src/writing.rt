@@ -16,7 +16,7 @@ ghost use Rattle.archive_records.specs.Writing.{Writes};
 
 use crate::entry::Entry;
 use crate::head::{admission_head, end_bytes, retirement_bytes};
-use crate::kind::FileKind;
+use crate::kind::TextKind;
 use crate::summary::Summary;
 use archive_core::{Archive, Record};
 use byte_device::{Sink, WriteFault, put};
@@ -87,7 +87,7 @@ fn put_front<A: Archive, W: Sink>(archive: &A, w: &mut W) -> Result<u128, WriteF
         WritesFirst (W.held w.old) (W.held w.new) (magic ++ concat (listing (A.content archive.now))) e.written) }
     ensures failed { IfErr result (λ _. FailedIn (W.failures w.old) (W.failures w.new)) }
 {
-    let done = put(w, 0, &FileKind::Archive.magic())?;
+    let done = put(w, 0, &TextKind::Archive.magic())?;
     put_records(archive, w, done)
 }
 
@@ -147,7 +147,7 @@ fn put_summary_front<W: Sink>(summary: &Summary, w: &mut W) -> Result<u128, Writ
         WritesFirst (W.held w.old) (W.held w.new) (summary_magic ++ concat (listing summary.now)) e.written) }
     ensures failed { IfErr result (λ _. FailedIn (W.failures w.old) (W.failures w.new)) }
 {
-    let done = put(w, 0, &FileKind::Summary.magic())?;
+    let done = put(w, 0, &TextKind::Summary.magic())?;
     put_entries(summary.entries(), w, done)
 }
 
@@ -238,7 +238,7 @@ fn put_delta_front<A: Archive, W: Sink>(
         (magic ++ concat (missing summary.now (listing (A.content archive.now)))) e.written) }
     ensures failed { IfErr result (λ _. FailedIn (W.failures w.old) (W.failures w.new)) }
 {
-    let done = put(w, 0, &FileKind::Archive.magic())?;
+    let done = put(w, 0, &TextKind::Archive.magic())?;
     put_missing(archive, summary, w, done)
 }
 

@@ -1,4 +1,4 @@
-use Rattle.archive_records.specs.declared.kind.FileKind.TheVariants.{Archive}
+use Rattle.archive_records.specs.declared.kind.TextKind.TheVariants.{Archive}
 use Rattle.archive_records.proofs.Exact.{one_fault as exact}
 use Rattle.archive_records.proofs.laws.one_fault.Goals as goal
 

@@ -1,7 +1,7 @@
 use Rattle.std.proofs.Common.{arith}
 use Rattle.join_core.specs.Listing.{listing}
 use Rattle.archive_records.specs.Text.{written}
-use Rattle.archive_records.specs.declared.kind.FileKind.TheVariants.{Archive}
+use Rattle.archive_records.specs.declared.kind.TextKind.TheVariants.{Archive}
 use Rattle.archive_records.proofs.Puts.{length_written}
 use Rattle.archive_records.proofs.Contents.{InOrder-listing, written_text}
 use Rattle.archive_records.proofs.Exact.{no_fault}

@@ -1,6 +1,6 @@
 use Rattle.std.proofs.Common.{◌∙◌, arith, map, inr}
 use Rattle.archive_core.specs.Record.{rec}
-use Rattle.archive_records.specs.declared.kind.FileKind.TheVariants.{Operations}
+use Rattle.archive_records.specs.declared.kind.TextKind.TheVariants.{Operations}
 use Rattle.archive_records.proofs.Steps.{HasReadAll-grows, Stopped-fails, Stopped-unkept}
 use Rattle.archive_records.proofs.Listed.{Lists-grows, AreRead-all}
 use Rattle.archive_records.proofs.operations.push_records.Goals as goal

@@ -1,5 +1,5 @@
 use Rattle.std.proofs.Common.{◌≡◌, ◌-◌, ◌^◌, List, ℕ, Option}
-use Rattle.archive_records.specs.declared.kind.FileKind.TheVariants.{Operations}
+use Rattle.archive_records.specs.declared.kind.TextKind.TheVariants.{Operations}
 use Rattle.archive_records.specs.Reader.{Lists}
 use Rattle.archive_records.proofs.operations.push_records.Given as goal
 

@@ -1,6 +1,6 @@
 use Rattle.std.proofs.Common.{refl, inr}
 use Rattle.std.proofs.lemmas.Result.{err_from_is_err_and}
-use Rattle.archive_records.specs.declared.kind.FileKind.TheVariants.{Archive}
+use Rattle.archive_records.specs.declared.kind.TextKind.TheVariants.{Archive}
 use Rattle.archive_records.proofs.Steps.{IsReadTo-end}
 use Rattle.archive_records.proofs.reading.read_whole.Goals as goal
 

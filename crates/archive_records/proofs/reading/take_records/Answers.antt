@@ -1,5 +1,5 @@
 use Rattle.std.proofs.Common.{◌∙◌, arith, inr}
-use Rattle.archive_records.specs.declared.kind.FileKind.TheVariants.{Archive}
+use Rattle.archive_records.specs.declared.kind.TextKind.TheVariants.{Archive}
 use Rattle.archive_records.proofs.Steps.{HasReadAll-grows, Stopped-fails, Stopped-unkept, Makes-grows, step-never_trailing}
 use Rattle.archive_records.proofs.reading.take_records.Goals as goal
 

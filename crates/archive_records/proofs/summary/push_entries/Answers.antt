@@ -1,6 +1,6 @@
 use Rattle.std.proofs.Common.{◌∙◌, arith, map, inr}
 use Rattle.archive_records.specs.Entry.{entry_bytes}
-use Rattle.archive_records.specs.declared.kind.FileKind.TheVariants.{Summary}
+use Rattle.archive_records.specs.declared.kind.TextKind.TheVariants.{Summary}
 use Rattle.archive_records.proofs.Steps.{HasReadAll-grows, Stopped-fails, Stopped-unkept}
 use Rattle.archive_records.proofs.Named.{Names-grows}
 use Rattle.archive_records.proofs.summary.push_entries.Goals as goal

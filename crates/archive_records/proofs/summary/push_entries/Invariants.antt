@@ -1,5 +1,5 @@
 use Rattle.std.proofs.Common.{◌≡◌, ◌-◌, ◌^◌, List, ℕ, Option}
-use Rattle.archive_records.specs.declared.kind.FileKind.TheVariants.{Summary}
+use Rattle.archive_records.specs.declared.kind.TextKind.TheVariants.{Summary}
 use Rattle.archive_records.specs.Reader.{Names}
 use Rattle.archive_records.proofs.summary.push_entries.Given as goal
 

@@ -1,6 +1,6 @@
 use Rattle.std.proofs.Common.{refl, inr}
 use Rattle.std.proofs.lemmas.Result.{err_from_is_err_and}
-use Rattle.archive_records.specs.declared.kind.FileKind.TheVariants.{Summary}
+use Rattle.archive_records.specs.declared.kind.TextKind.TheVariants.{Summary}
 use Rattle.archive_records.proofs.Named.{IsReadTo-named, AreListed-ordered}
 use Rattle.archive_records.proofs.summary.read_whole.Goals as goal
 
