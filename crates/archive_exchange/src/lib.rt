@@ -8,16 +8,23 @@
 //! - `checking`: whether a file is accepted;
 //! - `taken`: what becomes of a slice;
 //! - `taking`: a file's slices taken into an archive;
+//! - `event`: what happens at a site, and what is answered;
 //! - [`laws`]: what holds of files, and of what their taking makes.
 #![tactic(auto)]
 
 mod checking;
+mod event;
 mod fault;
 pub mod laws;
 mod taken;
 mod taking;
 
+<<<<<<< HEAD
 pub use checking::{AcceptedFile, check_file};
+=======
+pub use checking::check_file;
+pub use event::{Event, EventFault, Outcome};
+>>>>>>> 1da7001 (archive_exchange: an event at a site, its faults and its outcomes)
 pub use fault::TakeFault;
 pub use taken::Taken;
 pub use taking::take_file;
