@@ -22,3 +22,4 @@ mod words;
 pub use line_faults::LineFault;
 pub use plans::Plan;
 pub use reads::plan;
+pub use words::Word;

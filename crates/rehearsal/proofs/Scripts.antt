@@ -1,0 +1,48 @@
+-- The places of the lines that count.
+use Rattle.std.proofs.Common.{◌≡◌, ◌∙◌, sym, ap, subst, refl, arith, cond, ℕ, ◌+◌, ◌<◌, ◌≤◌, ◌^◌, suc, Bool, true, false, List, [], ◌∷◌, get_or, length, map, filter, ◌==◌}
+use Rattle.std.proofs.Common.{Option, Some, None, Result, Ok, Err, Bor, All}
+use Rattle.std.specs.List.{AllByRecursion, count_by, enumerate_from}
+use Rattle.std.proofs.lemmas.Bool.{cond_both}
+use Rattle.std.proofs.lemmas.List.Elements.{All-from_recursion}
+use Rattle.std.proofs.lemmas.List.Splits.{length-slice_split}
+use Rattle.std.proofs.lemmas.List.Sums.{count_by-le-length}
+use Rattle.rehearsal.specs.Events.{Act, line_sites}
+use Rattle.rehearsal.specs.Lines.{Line, counting, counts, ends_open, line_count, lines, seen}
+use Rattle.rehearsal.specs.Script.{Tells, Wrong, events_of, script_in, script_of, sites_then}
+use Rattle.rehearsal.specs.declared.script.ScriptError.{ScriptError}
+use Rattle.rehearsal.specs.declared.script.ScriptError.TheVariants.{Faulty, OutOfMemory}
+use Rattle.rehearsal.specs.declared.script.ScriptFault.TheVariants.{NoSites}
+
+below : (test : ℕ × Line → Bool) (n : ℕ) (xs : List Line) (m : ℕ) → n + length xs ≤ m → AllByRecursion (λ l. l.0 < m) (filter test (enumerate_from n xs))
+below test n [] m h = tt
+below test n (x ∷ xs) m h =
+    let rest = below test (n + 1) xs m (omega arith) in
+    cond_both (test (n, x)) _ _ (AllByRecursion (λ l. l.0 < m)) (λ _. (omega arith, rest)) (λ _. rest)
+
+few_lines : (bytes : List ℕ) → length (lines bytes) ≤ length bytes + 1
+few_lines bytes = omega (arith, length-slice_split (λ b. b == 10) bytes, count_by-le-length (λ b. b == 10) bytes)
+
+unseen : (m : ℕ) (found : List (ℕ × Bor (List ℕ))) → AllByRecursion (λ l. l.0 < m) (seen found) → AllByRecursion (λ l. l.0 < m) found
+unseen m [] h = tt
+unseen m (x ∷ found) h = (h.0, unseen m found h.1)
+
+-- the lines that were found stand at places that have a number
+pub places : (bytes : List ℕ) (found : List (ℕ × Bor (List ℕ))) → length bytes < 2 ^ 63 → seen found ≡ counting bytes → All (λ l. l.0 < 2 ^ 63 + 1) found
+places bytes found h is =
+    let m = 2 ^ 63 + 1 in
+    let all = below (λ l. counts l.1) 0 (lines bytes) m (omega (arith, few_lines bytes, h)) in
+    All-from_recursion (λ l. l.0 < m) found (unseen m found (subst (AllByRecursion (λ l. l.0 < m)) (sym is) all))
+
+pub first_place : (found : List (ℕ × Bor (List ℕ))) (first : ℕ × Bor (List ℕ)) (further : List (ℕ × Bor (List ℕ)))
+    → found ≡ first ∷ further → All (λ l. l.0 < 2 ^ 63 + 1) found → first.0 + 1 < 2 ^ 64
+first_place found first further parted all =
+    let each = subst (All (λ l. l.0 < 2 ^ 63 + 1)) parted all in
+    let one : first.0 < 2 ^ 63 + 1 = each 0 first (omega arith) in
+    omega (arith, one)
+
+pub further_places : (found : List (ℕ × Bor (List ℕ))) (first : ℕ × Bor (List ℕ)) (further : List (ℕ × Bor (List ℕ)))
+    → found ≡ first ∷ further → All (λ l. l.0 < 2 ^ 63 + 1) found → All (λ l. l.0 + 1 < 2 ^ 64) further
+further_places found first further parted all k d h =
+    let each = subst (All (λ l. l.0 < 2 ^ 63 + 1)) parted all in
+    let one : (get_or further k d).0 < 2 ^ 63 + 1 = each (suc k) d (omega arith) in
+    omega (arith, one)

@@ -1,0 +1,12 @@
+use Rattle.std.proofs.Common.{◌≡◌, ◌≤◌, ◌+◌, drop, length, vec_len}
+use Rattle.rehearsal.specs.Lines.{seen}
+use Rattle.rehearsal.specs.Script.{acts, events_of}
+use Rattle.rehearsal.proofs.Sequels.{behind}
+use Rattle.rehearsal.proofs.reading.read_events.Given as goal
+
+abbrev pub invariant-lines : goal.invariant-lines
+invariant-lines l = record {
+  sequel : behind (acts l.events.items) (events_of l.line-index (drop l.line-index (seen l.lines))) ≡ events_of 0 (seen l.lines);
+  number : length l.events.items ≡ l.line-index;
+  few : l.line-index ≤ 10000;
+}

@@ -1,0 +1,72 @@
+-- Which bytes are a script, and what is wrong with the others.
+use Rattle.std.specs.Prelude.{◌≡◌, ◌+◌, ℕ, ◌≤◌, List, [], ◌∷◌, length, nat_lt, if◌then◌else◌, map, ⊤}
+use Rattle.std.specs.Prelude.{Option, Some, None, Result, Ok, Err}
+use Rattle.archive_exchange.specs.declared.event.Event.{Event}
+use Rattle.rehearsal.specs.Events.{Act, act_of, line_act, line_sites}
+use Rattle.rehearsal.specs.Lines.{Line, counting, line_count}
+
+use Rattle.rehearsal.specs.declared.script.ScriptError.{ScriptError}
+use Rattle.rehearsal.specs.declared.script.ScriptError.TheVariants.{Faulty, OutOfMemory}
+use Rattle.rehearsal.specs.declared.script.ScriptFault.{ScriptFault}
+use Rattle.rehearsal.specs.declared.script.ScriptFault.TheVariants.{NoSites, BadEvent, TooManyEvents}
+
+-- the most events of a script
+abbrev pub most_events : ℕ
+most_events = 10000
+
+-- what is wrong with a line, and its number, counted from 1
+abbrev pub Wrong : Type 0
+Wrong = ScriptFault × ℕ
+
+-- what is wrong with the line behind so many others
+abbrev pub wrong : {T : Type 0} → ScriptFault → ℕ → Result T Wrong
+wrong fault before = Err (fault, before + 1)
+
+-- an event, and those behind it
+abbrev pub onto : Act → Result (List Act) Wrong → Result (List Act) Wrong
+onto act (Ok acts) = Ok (act ∷ acts)
+onto act (Err e) = Err e
+
+-- a line behind so many others and so many events, and what the lines behind it say
+abbrev pub event_then : ℕ → ℕ → Option Act → Result (List Act) Wrong → Result (List Act) Wrong
+event_then before events None behind = wrong BadEvent before
+event_then before events (Some act) behind = if nat_lt events most_events then onto act behind else wrong TooManyEvents before
+
+-- the events of lines that count, behind so many events: each line is one, or the first that is none is wrong
+abbrev pub events_of : ℕ → List (ℕ × Line) → Result (List Act) Wrong
+events_of events [] = Ok []
+events_of events (line ∷ behind) = event_then line.0 events (line_act line.1) (events_of (events + 1) behind)
+
+-- a script: so many sites, and these events
+abbrev pub sites_then : ℕ → Option ℕ → Result (List Act) Wrong → Result (ℕ × List Act) Wrong
+sites_then before None behind = wrong NoSites before
+sites_then before (Some sites) (Ok acts) = Ok (sites, acts)
+sites_then before (Some sites) (Err e) = Err e
+
+-- the first line that counts says how many sites there are, and each further one is an event. Where none counts the line
+-- behind all lines is wrong
+abbrev pub script_in : ℕ → List (ℕ × Line) → Result (ℕ × List Act) Wrong
+script_in lines [] = wrong NoSites lines
+script_in lines (first ∷ further) = sites_then first.0 (line_sites first.1) (events_of 0 further)
+
+-- what the bytes say: a script, or what is wrong with the first faulty line
+abbrev pub script_of : List ℕ → Result (ℕ × List Act) Wrong
+script_of bytes = script_in (line_count bytes) (counting bytes)
+
+-- the events that were read are these
+abbrev pub acts : List Event → List Act
+acts events = map act_of events
+
+-- the error tells what is wrong, want of memory aside
+abbrev pub Tells : {T : Type 0} → Result T Wrong → ScriptError → Type 0
+Tells read (Faulty fault line) = read ≡ Err (fault, line)
+Tells read OutOfMemory = ⊤
+
+-- the first line that counts says how many sites, each further one is the next of these events, and they are few enough
+pub record IsScript (bytes : List ℕ) (sites : ℕ) (events : List Act) : Type 0 where
+  pub first : ℕ × Line
+  pub further : List (ℕ × Line)
+  pub lines : counting bytes ≡ first ∷ further
+  pub asked : line_sites first.1 ≡ Some sites
+  pub meant : map (λ l. line_act l.1) further ≡ map Some events
+  pub few : length events ≤ most_events
