@@ -1,12 +1,12 @@
 -- Lines with too many fields, or another word.
-use Rattle.std.proofs.Common.{◌≡◌, ◌∙◌, sym, ap, refl, arith, ℕ, ◌+◌, ◌<◌, ◌==◌, Bool, true, false, List, [], ◌∷◌, codes, length}
+use Rattle.std.proofs.Common.{◌≡◌, ◌∙◌, sym, ap, refl, arith, ℕ, ◌<◌, ◌==◌, true, false, List, [], ◌∷◌, codes, length}
 use Rattle.std.proofs.Common.{Option, Some, None, is_some, option_map, Bor}
 use Rattle.std.specs.Str.{bytes_eq}
 use Rattle.std.proofs.lemmas.Bool.{cond-false}
 use Rattle.std.proofs.lemmas.List.Splits.{length-slice_split}
 use Rattle.uuid.specs.Text.{parsed}
 use Rattle.command_line.specs.Words.{arch_of, digest_of}
-use Rattle.rehearsal.specs.Events.{Act, act_at, fields_sites, retire_act, within_sites}
+use Rattle.rehearsal.specs.Events.{act_at, fields_sites, retire_act, within_sites}
 use Rattle.rehearsal.specs.Lines.{Field, fields_behind, parts}
 use Rattle.rehearsal.specs.Numbers.{number_of}
 

@@ -5,7 +5,7 @@ use Rattle.std.proofs.lemmas.Bool.{cond-true, lt-ltb, ltb-true}
 use Rattle.rehearsal.specs.Events.{Act, line_act, line_sites}
 use Rattle.rehearsal.specs.Lines.{Line, counting, line_count}
 use Rattle.rehearsal.specs.Script.{IsScript, Wrong, event_then, events_of, most_events, onto, script_in, script_of, sites_then, wrong}
-use Rattle.rehearsal.specs.declared.script.ScriptFault.TheVariants.{BadEvent, NoSites, TooManyEvents}
+use Rattle.rehearsal.specs.declared.script.ScriptFault.TheVariants.{TooManyEvents}
 
 -- an event, and those behind it, make these
 record IsOnto (n : ℕ) (o : Option Act) (r : Result (List Act) Wrong) (acts : List Act) : Type 0 where

@@ -1,6 +1,6 @@
 -- Decimal numbers, and what `parse` reads.
-use Rattle.std.proofs.Common.{◌≡◌, ◌≢◌, ◌∙◌, ◌<◌, ◌^◌, ◌&&◌, ◌||◌, ◌==◌, ℕ, Bool, true, false, not, refl, sym, ap, arith, List, [], ◌∷◌, length, get_or, nat_lt}
-use Rattle.std.proofs.Common.{Option, Some, None, Result, Ok, Err, cond, eq-eqb, true≢false, zero, suc, inl, inr, lit<}
+use Rattle.std.proofs.Common.{◌≡◌, ◌≢◌, ◌∙◌, ◌<◌, ◌^◌, ◌&&◌, ◌||◌, ◌==◌, ℕ, Bool, true, false, not, refl, sym, ap, arith, List, length, get_or, nat_lt}
+use Rattle.std.proofs.Common.{Some, None, Result, Ok, Err, eq-eqb, true≢false, zero, suc, inl, inr, lit<}
 use Rattle.std.specs.Result.{OkIff, result_ok}
 use Rattle.std.specs.Fmt.{decimal}
 use Rattle.std.specs.Str.{all_ascii_digits}
@@ -36,14 +36,14 @@ read_by : {E : Type 0} (text : List ℕ) (r : Result ℕ E)
 read_by text (Ok x) h alone =
     let v = digits_value 10 text in
     let decimal = three (all_ascii_digits text) (nat_lt 0 (length text)) (length text == 1) (get_or text 0 0 == 48)
-        h.0.0 (lt-ltb 0 (length text) h.0.1) (λ e. eq-eqb (length text) 1 (alone (eqb-true (get_or text 0 0) 48 e))) in
+    h.0.0 (lt-ltb 0 (length text) h.0.1) (λ e. eq-eqb (length text) 1 (alone (eqb-true (get_or text 0 0) 48 e))) in
     let fits = and_from (is_decimal text) (nat_lt v (2 ^ 32)) decimal (lt-ltb v (2 ^ 32) h.0.2) in
     ap Some h.1 ∙ sym (cond-true (is_decimal text && nat_lt v (2 ^ 32)) (Some v) None fits)
 read_by text (Err e) h alone =
     let v = digits_value 10 text in
     let none = false_from_ne_true (is_decimal text && nat_lt v (2 ^ 32)) (λ t.
-        let k = parts_of (all_ascii_digits text) (nat_lt 0 (length text)) (length text == 1 || not (get_or text 0 0 == 48)) (nat_lt v (2 ^ 32)) t in
-        h (k.0, ltb-true 0 (length text) k.1, ltb-true v (2 ^ 32) k.2)) in
+    let k = parts_of (all_ascii_digits text) (nat_lt 0 (length text)) (length text == 1 || not (get_or text 0 0 == 48)) (nat_lt v (2 ^ 32)) t in
+    h (k.0, ltb-true 0 (length text) k.1, ltb-true v (2 ^ 32) k.2)) in
     sym (cond-false (is_decimal text && nat_lt v (2 ^ 32)) (Some v) None none)
 
 -- what `parse` reads of a text with no plus and no leading zero

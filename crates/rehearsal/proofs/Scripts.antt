@@ -1,17 +1,12 @@
 -- The places of the lines that count.
-use Rattle.std.proofs.Common.{◌≡◌, ◌∙◌, sym, ap, subst, refl, arith, cond, ℕ, ◌+◌, ◌<◌, ◌≤◌, ◌^◌, suc, Bool, true, false, List, [], ◌∷◌, get_or, length, map, filter, ◌==◌}
-use Rattle.std.proofs.Common.{Option, Some, None, Result, Ok, Err, Bor, All}
-use Rattle.std.specs.List.{AllByRecursion, count_by, enumerate_from}
+use Rattle.std.proofs.Common.{◌≡◌, sym, subst, arith, ℕ, ◌+◌, ◌<◌, ◌≤◌, ◌^◌, suc, Bool, List, [], ◌∷◌, get_or, length, filter, ◌==◌}
+use Rattle.std.proofs.Common.{Bor, All}
+use Rattle.std.specs.List.{AllByRecursion, enumerate_from}
 use Rattle.std.proofs.lemmas.Bool.{cond_both}
 use Rattle.std.proofs.lemmas.List.Elements.{All-from_recursion}
 use Rattle.std.proofs.lemmas.List.Splits.{length-slice_split}
 use Rattle.std.proofs.lemmas.List.Sums.{count_by-le-length}
-use Rattle.rehearsal.specs.Events.{Act, line_sites}
-use Rattle.rehearsal.specs.Lines.{Line, counting, counts, ends_open, line_count, lines, seen}
-use Rattle.rehearsal.specs.Script.{Tells, Wrong, events_of, script_in, script_of, sites_then}
-use Rattle.rehearsal.specs.declared.script.ScriptError.{ScriptError}
-use Rattle.rehearsal.specs.declared.script.ScriptError.TheVariants.{Faulty, OutOfMemory}
-use Rattle.rehearsal.specs.declared.script.ScriptFault.TheVariants.{NoSites}
+use Rattle.rehearsal.specs.Lines.{Line, counting, counts, lines, seen}
 
 below : (test : ℕ × Line → Bool) (n : ℕ) (xs : List Line) (m : ℕ) → n + length xs ≤ m → AllByRecursion (λ l. l.0 < m) (filter test (enumerate_from n xs))
 below test n [] m h = tt

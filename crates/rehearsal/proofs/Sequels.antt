@@ -1,14 +1,12 @@
 -- What the lines say behind those that were read.
-use Rattle.std.proofs.Common.{◌≡◌, ◌∙◌, sym, ap, refl, arith, cond, ℕ, ◌+◌, ◌<◌, ◌≤◌, Bool, true, false, List, [], ◌∷◌, ◌++◌, append_assoc, append-nil, length, get_or, drop, map, nat_lt}
-use Rattle.std.proofs.Common.{Option, Some, None, Result, Ok, Err, Bor}
-use Rattle.std.specs.Prelude.{option_map}
+use Rattle.std.proofs.Common.{◌≡◌, ◌∙◌, sym, ap, refl, arith, ℕ, ◌+◌, ◌<◌, ◌≤◌, List, [], ◌∷◌, ◌++◌, append_assoc, length, get_or, drop, nat_lt}
+use Rattle.std.proofs.Common.{Some, None, Result, Ok, Err, Bor}
 use Rattle.std.proofs.lemmas.Bool.{cond-false, cond-true, lt-ltb, false_from_ne_true, ltb-true}
-use Rattle.std.proofs.lemmas.List.{at_drop_all, at_drop_more, get_or-map, length-map}
+use Rattle.std.proofs.lemmas.List.{at_drop_more, get_or-map, length-map}
 use Rattle.archive_exchange.specs.declared.event.Event.{Event}
 use Rattle.rehearsal.specs.Events.{Act, act_of, line_act}
 use Rattle.rehearsal.specs.Lines.{Line, seen}
-use Rattle.rehearsal.specs.Script.{Tells, Wrong, acts, event_then, events_of, most_events, onto, wrong}
-use Rattle.rehearsal.specs.declared.script.ScriptError.TheVariants.{Faulty}
+use Rattle.rehearsal.specs.Script.{Wrong, acts, event_then, events_of, most_events, onto, wrong}
 use Rattle.rehearsal.specs.declared.script.ScriptFault.TheVariants.{BadEvent, TooManyEvents}
 
 -- these events, and those that are read behind them
@@ -34,7 +32,7 @@ at_line : (lines : List (ℕ × Bor (List ℕ))) (i n : ℕ) (d : ℕ × Bor (Li
 at_line lines i n d l =
     at_drop_more (events_of n) (seen lines) i (view d) (omega (arith, length-map lines view, l))
     ∙ ap (λ (y : ℕ × Line). event_then y.0 n (line_act y.1) (events_of (n + 1) (drop (i + 1) (seen lines))))
-        (get_or-map view lines i d (view d) l)
+    (get_or-map view lines i d (view d) l)
 
 acts-push : (front : List Event) (event : Event) → acts (front ++ event ∷ []) ≡ acts front ++ act_of event ∷ []
 acts-push [] event = refl
@@ -48,9 +46,9 @@ one_more lines i d event front l means few =
     let x = get_or lines i d in
     let r = events_of (i + 1) (drop (i + 1) (seen lines)) in
     let first : events_of i (drop i (seen lines)) ≡ onto (act_of event) r =
-        at_line lines i i d l
-        ∙ ap (λ o. event_then x.0 i o r) (sym means)
-        ∙ cond-true (nat_lt i most_events) (onto (act_of event) r) (wrong TooManyEvents x.0) (lt-ltb i 10000 few) in
+    at_line lines i i d l
+    ∙ ap (λ o. event_then x.0 i o r) (sym means)
+    ∙ cond-true (nat_lt i most_events) (onto (act_of event) r) (wrong TooManyEvents x.0) (lt-ltb i 10000 few) in
     ap (λ front. behind front r) (acts-push front event) ∙ sym (behind-onto (acts front) (act_of event) r) ∙ ap (behind (acts front)) (sym first)
 
 -- a line that is none
@@ -73,7 +71,7 @@ too_many lines i d act front all l means many so_far =
     let r = events_of (i + 1) (drop (i + 1) (seen lines)) in
     let none = false_from_ne_true (nat_lt i most_events) (λ t. let k = ltb-true i 10000 t in omega (arith, k, many)) in
     sym so_far ∙ ap (behind front) (
-      at_line lines i i d l
-      ∙ ap (λ o. event_then x.0 i o r) (sym means)
-      ∙ cond-false (nat_lt i most_events) (onto act r) (wrong TooManyEvents x.0) none
+    at_line lines i i d l
+    ∙ ap (λ o. event_then x.0 i o r) (sym means)
+    ∙ cond-false (nat_lt i most_events) (onto act r) (wrong TooManyEvents x.0) none
     )

@@ -4,7 +4,6 @@ use Rattle.std.specs.Prelude.{Option, Some, None, Result, Ok, Err}
 use Rattle.archive_exchange.specs.declared.event.Event.{Event}
 use Rattle.rehearsal.specs.Events.{Act, act_of, line_act, line_sites}
 use Rattle.rehearsal.specs.Lines.{Line, counting, line_count}
-
 use Rattle.rehearsal.specs.declared.script.ScriptError.{ScriptError}
 use Rattle.rehearsal.specs.declared.script.ScriptError.TheVariants.{Faulty, OutOfMemory}
 use Rattle.rehearsal.specs.declared.script.ScriptFault.{ScriptFault}

@@ -1,4 +1,4 @@
-use Rattle.std.proofs.Common.{◌≡◌, ◌∙◌, ◌+◌, ap, arith, drop, length, option_map, subst, sym}
+use Rattle.std.proofs.Common.{◌∙◌, ◌+◌, ap, arith, drop, length, option_map, subst, sym}
 use Rattle.std.proofs.lemmas.List.{length_push}
 use Rattle.rehearsal.specs.Events.{act_of}
 use Rattle.rehearsal.specs.Lines.{seen}

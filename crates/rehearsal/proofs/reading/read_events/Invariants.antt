@@ -1,4 +1,4 @@
-use Rattle.std.proofs.Common.{◌≡◌, ◌≤◌, ◌+◌, drop, length, vec_len}
+use Rattle.std.proofs.Common.{◌≡◌, ◌≤◌, drop, length}
 use Rattle.rehearsal.specs.Lines.{seen}
 use Rattle.rehearsal.specs.Script.{acts, events_of}
 use Rattle.rehearsal.proofs.Sequels.{behind}
