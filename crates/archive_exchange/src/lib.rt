@@ -19,12 +19,8 @@ pub mod laws;
 mod taken;
 mod taking;
 
-<<<<<<< HEAD
 pub use checking::{AcceptedFile, check_file};
-=======
-pub use checking::check_file;
 pub use event::{Event, EventFault, Outcome};
->>>>>>> 1da7001 (archive_exchange: an event at a site, its faults and its outcomes)
 pub use fault::TakeFault;
 pub use taken::Taken;
 pub use taking::take_file;
