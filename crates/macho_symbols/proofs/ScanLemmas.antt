@@ -10,7 +10,12 @@ use Rattle.std.proofs.lemmas.Cmp.{upto, tied_itself, nat_cmp_total, on_total, th
 use Rattle.std.proofs.lemmas.List.Elements.{All-from_recursion}
 use Rattle.std.proofs.lemmas.Bool.Decides.{nat_tests}
 use Rattle.macho_symbols.specs.Symbols.{Tuple, candidate_in, candidates, is_in_section}
-use Rattle.macho_symbols.specs.Nearest.{tuple_cmp, can_stand_for, better, UpTo, StandsFor, IsNearest}
+use Rattle.macho_symbols.specs.Nearest.{tuple_cmp, can_stand_for, UpTo, StandsFor, IsNearest}
+
+-- the better of the best so far, which can stand for the address, and one more
+unfoldable pub better : List ℕ → ℕ → Option Tuple → Tuple → Option Tuple
+better image address best c =
+    cond (can_stand_for image address c && option_map_or (λ b. is_lt (tuple_cmp c b)) best true) (Some c) best
 
 -- the best of them and what was kept
 unfoldable pub keep : List ℕ → ℕ → Option Tuple → List Tuple → Option Tuple
@@ -140,23 +145,6 @@ module _ (image : List ℕ) (address : ℕ) where
               none_some : None ≡ Some c → ⊥
               none_some e = cc
           member (inr h) = (contains_from (candidates image) c h.0, h.1)
-
--- after the last entry
-pub keep_end : (image : List ℕ) (address : ℕ) (best : Option Tuple) (es : List (List ℕ)) → es ≡ [] → keep image address best (filter_map (candidate_in image) es) ≡ best
-unfolding keep
-keep_end image address best es h = rw h refl
-
--- one entry more
-pub keep_entry : (image : List ℕ) (address : ℕ) (best : Option Tuple) (e : List ℕ) (es : List (List ℕ))
-    → keep image address (option_map_or (better image address best) (candidate_in image e) best) (filter_map (candidate_in image) es)
-    ≡ keep image address best (filter_map (candidate_in image) (e ∷ es))
-unfolding keep
-keep_entry image address best e es = by_entry (candidate_in image e)
-  where
-    by_entry : (o : Option Tuple) → keep image address (option_map_or (better image address best) o best) (filter_map (candidate_in image) es)
-        ≡ keep image address best (cons_option o (filter_map (candidate_in image) es))
-    by_entry None = refl
-    by_entry (Some c) = refl
 
 -- a candidate that can stand for an address is not above it
 pub stands_below : (image : List ℕ) (address : ℕ) (c : Tuple) → StandsFor image address c → c.value ≤ address

@@ -1,7 +1,6 @@
 -- Which candidate an address belongs to.
-use Rattle.std.specs.Prelude.{ℕ, Bool, true, false, cond, Some, List, ◌≡◌, ◌≢◌, ◌&&◌, nat_le, take, Option, MatchOption, Contains}
-use Rattle.std.specs.Ordering.{ordering_then, nat_cmp, bool_cmp, is_lt, is_gt}
-use Rattle.std.specs.Option.{option_map_or}
+use Rattle.std.specs.Prelude.{ℕ, Bool, true, false, List, ◌≡◌, ◌≢◌, ◌&&◌, nat_le, take, Option, MatchOption, Contains}
+use Rattle.std.specs.Ordering.{ordering_then, nat_cmp, bool_cmp, is_gt}
 use Rattle.std.specs.declared.cmp.Ordering.{Ordering}
 use Rattle.std.specs.declared.cmp.Ordering.TheVariants.{Less}
 use Rattle.std.specs.Cmp.Lexicographic.{slice_cmp}
@@ -38,11 +37,6 @@ StandsFor image address c = Contains (candidates image) c × (can_stand_for imag
 abbrev pub IsNearest : List ℕ → ℕ → Option Tuple → Type 0
 IsNearest image address found =
     MatchOption found ((c : Tuple) → StandsFor image address c → ⊥) (IsFirst (StandsFor image address))
-
--- the better of the best so far, which can stand for the address, and one more
-unfoldable pub better : List ℕ → ℕ → Option Tuple → Tuple → Option Tuple
-better image address best c =
-    cond (can_stand_for image address c && option_map_or (λ b. is_lt (tuple_cmp c b)) best true) (Some c) best
 
 -- c does not come after d
 abbrev pub UpTo : Tuple → Tuple → Type 0

@@ -40,7 +40,8 @@ impl Candidate {
 
     /// Compares the values and the kinds.
     fn compare_heads(&self, other: &Candidate) -> Ordering
-        ensures { result ≡ ordering_then (nat_cmp other.now.value self.now.value) (bool_cmp other.now.external self.now.external) }
+        ensures { result ≡ ordering_then (nat_cmp other.now.value self.now.value)
+            (bool_cmp other.now.external self.now.external) }
     {
         other
             .value
@@ -50,7 +51,8 @@ impl Candidate {
 
     /// Compares as many first bytes of the names of two candidates. A name that both have is not read.
     fn compare_name_beginnings(&self, other: &Candidate, strings: &[u8], size: usize) -> Ordering
-        ensures { result ≡ slice_cmp nat_cmp (take size (name_of strings.now self.now.strx)) (take size (name_of strings.now other.now.strx)) }
+        ensures { result ≡ slice_cmp nat_cmp (take size (name_of strings.now self.now.strx))
+            (take size (name_of strings.now other.now.strx)) }
     {
         if self.strx == other.strx {
             return Ordering::Equal;

@@ -6,12 +6,12 @@ ghost use Rattle.macho_symbols.specs.Overlaps.{begins_in, is_tied, stands_before
 
 use crate::candidate::Candidate;
 
-/// How many first bytes of names are compared before those that share them are told apart by their places, at
-/// least.
+/// How many bytes a window of the string table has, at least.
 const LEAST_WINDOW: usize = 4096;
 
-/// How many first bytes of so many names in a string table are compared first. So many names take no more time
-/// than the string table's length times the square root of their number, which is how many windows there are.
+/// How many bytes the windows have in which so many names are searched, and how many first bytes of each name
+/// are compared before. There are no more windows than the square root of the number of names, so that all this
+/// reads no more than some times the string table's length times that root.
 pub(crate) fn window_size(strings: &[u8], names: usize) -> usize
     ensures { 0 < result }
 {

@@ -36,7 +36,8 @@ fn ends_in(
     ends
 }
 
-/// The first row, where the best one was found by first bytes.
+/// The first row, where the best one was found by first bytes: window after window of the string table, and of
+/// each only two are compared with it whole.
 fn first_in_windows(rows: &[Candidate], strings: &[u8], best: Candidate, size: usize) -> Candidate
     requires size { 0 < size }
     requires best { IsFirstBelow strings.now size 0 (Contains rows.now) best }

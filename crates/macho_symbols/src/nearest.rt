@@ -44,7 +44,8 @@ impl<'a> Scan<'a> {
         entry: &[u8],
     ) -> Option<Candidate>
         requires { 16 ≤ length entry.now }
-        ensures { result ≡ option_map_or (first_cut (strings_of self.now) size best) (standing_in self.now address entry.now) best }
+        ensures { result
+            ≡ option_map_or (first_cut (strings_of self.now) size best) (standing_in self.now address entry.now) best }
     {
         match self.standing(address, entry) {
             Some(candidate) => candidate.or_begins_before(best, self.symbols.strings(), size),
@@ -76,7 +77,9 @@ impl<'a> Scan<'a> {
         entry: &[u8],
     ) -> Option<Ends>
         requires { 16 ≤ length entry.now }
-        ensures { result ≡ option_map_or (ends_with (strings_of self.now) start size best.now ends) (standing_in self.now address entry.now) ends }
+        ensures { result
+            ≡ option_map_or (ends_with (strings_of self.now) start size best.now ends)
+            (standing_in self.now address entry.now) ends }
     {
         match self.standing(address, entry) {
             Some(candidate) => Ends::with(
@@ -94,7 +97,8 @@ impl<'a> Scan<'a> {
     /// Of those that can stand for an address, whose names begin in as many bytes from a place on and that are
     /// tied with the best candidate, the two ends.
     fn ends_in(&self, address: u64, best: &Candidate, start: usize, size: usize) -> Option<Ends>
-        ensures { AreEndsOrNone (λ c. Contains (standing self.now address) c × (is_tied (strings_of self.now) start size best.now c ≡ true)) result }
+        ensures { AreEndsOrNone (λ c. Contains (standing self.now address) c ×
+            (is_tied (strings_of self.now) start size best.now c ≡ true)) result }
     {
         let mut ends = None;
         for entry in self.symbols.entries() {
@@ -103,7 +107,8 @@ impl<'a> Scan<'a> {
         ends
     }
 
-    /// The first of those that can stand for an address, where the best one was found by first bytes.
+    /// The first of those that can stand for an address, where the best one was found by first bytes: window
+    /// after window of the string table, and of each only two are compared with it whole.
     fn first_in_windows(&self, address: u64, best: Candidate, size: usize) -> Candidate
         requires size { 0 < size }
         requires best { IsFirstBelow (strings_of self.now) size 0 (Contains (standing self.now address)) best }

@@ -18,7 +18,7 @@ use macho_image::Symtab;
 use memory::{Heap, NoMemory};
 use std::marker::Model;
 
-/// The candidates of an image by section and value, so that an address finds its own by halving. It
+/// The first candidate of an image of each section and value, so that an address finds its own by halving. It
 /// borrows nothing: names are places in the string table. A contract sees its rows, its sections and the
 /// LC_SYMTAB.
 #[derive(Drop)]
@@ -57,8 +57,8 @@ fn first_of_two(
 impl AddressTable {
     ghost use Rattle.macho_symbols.specs.Table.{IsTableOf};
 
-    /// The table of an image. It has 16 bytes for each candidate, and 24 for each section. `NoMemory` where a
-    /// growth was refused.
+    /// The table of an image. It has 16 bytes for each section and value that candidates have, and 24 for each
+    /// section; while it is built, 16 for each candidate. `NoMemory` where a growth was refused.
     pub fn build(heap: Heap, symbols: &Symbols<'_>) -> Result<AddressTable, NoMemory>
         ensures { IfOk result (λ table. IsTableOf table symbols.now) }
     {
