@@ -1,5 +1,6 @@
 -- The lines of a script, and their fields.
-use Rattle.std.specs.Prelude.{ℕ, Bool, false, not, ◌+◌, ◌-◌, ◌==◌, ◌&&◌, nat_lt, if◌then◌else◌, List, [], ◌∷◌, filter, length, map, slice_index}
+use Rattle.std.specs.Prelude.{ℕ, Bool, false, not, ◌+◌, ◌-◌, ◌==◌, ◌&&◌, nat_lt, if◌then◌else◌}
+use Rattle.std.specs.Prelude.{List, [], ◌∷◌, filter, length, map, slice_index}
 use Rattle.std.specs.Prelude.{Option, Some, None}
 use Rattle.std.specs.List.{count_by, enumerate_from, slice_split}
 use Rattle.std.specs.Str.{is_utf8}
@@ -23,8 +24,8 @@ space = 32
 abbrev pub hash : ℕ
 hash = 35
 
--- the lines: a newline ends each but the last. So an empty line follows a newline that is the last byte; it is passed over
--- as every empty line is
+-- the lines: a newline ends each but the last. So an empty line follows a newline that is the last byte; it is passed
+-- over as every empty line is
 abbrev pub lines : List ℕ → List Line
 lines bytes = slice_split (λ b. b == newline) bytes
 

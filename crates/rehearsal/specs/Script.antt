@@ -29,7 +29,8 @@ onto act (Err e) = Err e
 -- a line behind so many others and so many events, and what the lines behind it say
 abbrev pub event_then : ℕ → ℕ → Option Act → Result (List Act) Wrong → Result (List Act) Wrong
 event_then before events None behind = wrong BadEvent before
-event_then before events (Some act) behind = if nat_lt events most_events then onto act behind else wrong TooManyEvents before
+event_then before events (Some act) behind =
+    if nat_lt events most_events then onto act behind else wrong TooManyEvents before
 
 -- the events of lines that count, behind so many events: each line is one, or the first that is none is wrong
 abbrev pub events_of : ℕ → List (ℕ × Line) → Result (List Act) Wrong
@@ -42,8 +43,8 @@ sites_then before None behind = wrong NoSites before
 sites_then before (Some sites) (Ok acts) = Ok (sites, acts)
 sites_then before (Some sites) (Err e) = Err e
 
--- the first line that counts says how many sites there are, and each further one is an event. Where none counts the line
--- behind all lines is wrong
+-- the first line that counts says how many sites there are, and each further one is an event. Where none counts the
+-- line behind all lines is wrong
 abbrev pub script_in : ℕ → List (ℕ × Line) → Result (ℕ × List Act) Wrong
 script_in lines [] = wrong NoSites lines
 script_in lines (first ∷ further) = sites_then first.0 (line_sites first.1) (events_of 0 further)
