@@ -6,3 +6,4 @@ pub mod Fronts
 pub mod Resumed
 pub mod RowPlaces
 pub mod FaultLaws
+pub mod Texts

@@ -1,3 +1,4 @@
 pub mod File
+pub mod Keeping
 pub mod Take
 pub mod Accepted

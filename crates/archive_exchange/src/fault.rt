@@ -1,6 +1,7 @@
 //! Why no slice of a file is taken.
 
 use archive_core::SliceFault;
+use archive_records::RecordFault;
 use fat_slices::FatFault;
 use std::alloc::{AllocError, AllocFailed};
 
@@ -53,5 +54,45 @@ impl<T: Drop> From<AllocFailed<T>> for TakeFault {
 
     fn from(_refused: AllocFailed<T>) -> TakeFault {
         TakeFault::OutOfMemory
+    }
+}
+
+/// Why a message is not joined.
+#[derive(Clone, Copy, Debug, PartialEq, Eq)]
+pub enum DeliverFault {
+    /// It is no archive's text: what `read_archive` says of it.
+    Refused(RecordFault),
+    /// A growth was refused.
+    OutOfMemory,
+}
+
+impl From<AllocError> for DeliverFault {
+    ghost use Rattle.std.specs.Prelude.{◌≡◌};
+    ghost use Rattle.archive_exchange.specs.declared.fault.DeliverFault.TheVariants.{OutOfMemory};
+
+    ghost from_gives = { λ _ fault. fault ≡ OutOfMemory };
+
+    fn from(_refused: AllocError) -> DeliverFault {
+        DeliverFault::OutOfMemory
+    }
+}
+
+/// Why a message is not replied to.
+#[derive(Clone, Copy, Debug, PartialEq, Eq)]
+pub enum ReplyFault {
+    /// It is no summary's text: what `read_summary` says of it.
+    NotASummary(RecordFault),
+    /// A growth was refused.
+    OutOfMemory,
+}
+
+impl From<AllocError> for ReplyFault {
+    ghost use Rattle.std.specs.Prelude.{◌≡◌};
+    ghost use Rattle.archive_exchange.specs.declared.fault.ReplyFault.TheVariants.{OutOfMemory};
+
+    ghost from_gives = { λ _ fault. fault ≡ OutOfMemory };
+
+    fn from(_refused: AllocError) -> ReplyFault {
+        ReplyFault::OutOfMemory
     }
 }

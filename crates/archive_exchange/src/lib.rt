@@ -8,6 +8,7 @@
 //! - `checking`: whether a file is accepted;
 //! - `taken`: what becomes of a slice;
 //! - `taking`: a file's slices taken into an archive;
+//! - `site`: a site, which holds an archive and has saved one;
 //! - `event`: what happens at a site, and what is answered;
 //! - [`laws`]: what holds of files, and of what their taking makes.
 #![tactic(auto)]
@@ -16,11 +17,13 @@ mod checking;
 mod event;
 mod fault;
 pub mod laws;
+mod site;
 mod taken;
 mod taking;
 
 pub use checking::{AcceptedFile, check_file};
 pub use event::{Event, EventFault, Outcome};
-pub use fault::TakeFault;
+pub use fault::{DeliverFault, ReplyFault, TakeFault};
+pub use site::Site;
 pub use taken::Taken;
 pub use taking::take_file;

@@ -1,0 +1,59 @@
+-- What follows where a text was read, and where a join stopped half way.
+use Rattle.std.proofs.Common.{◌≡◌, ◌≢◌, ℕ, ◌<◌, List, refl, sym, ap, ◌∙◌, subst, arith, ◌⊎◌, inl, inr}
+use Rattle.std.specs.declared.option.Option.TheVariants.{Some}
+use Rattle.std.specs.declared.result.Result.{Result}
+use Rattle.std.specs.declared.result.Result.TheVariants.{Ok, Err}
+use Rattle.std.specs.Prelude.{OnErr}
+use Rattle.join_core.specs.Bound.{IsTowards}
+use Rattle.byte_device.specs.Devices.{FailedIn}
+use Rattle.archive_core.specs.Content.{Operations, IsContent, IsBelow}
+use Rattle.archive_core.specs.Summary.{Entries}
+use Rattle.archive_records.specs.Entry.{AreEntries}
+use Rattle.archive_records.specs.Text.{written, summary_text}
+use Rattle.archive_records.specs.Fault.{IsFault, IsSummaryFault, IsOfText}
+use Rattle.archive_records.specs.Reading.{IsOfMachine}
+use Rattle.archive_records.specs.declared.fault.RecordFault.{RecordFault}
+use Rattle.archive_records.specs.declared.fault.RecordFaultKind.TheVariants.{Device, OutOfMemory}
+use Rattle.archive_exchange.specs.Keeping.{Keeping, Says, IsArchiveText, Names, IsSummaryText, HasJoined, HasJoinedInPart}
+
+never : FailedIn 0 0 → ⊥
+never f = elim f [ inl lt ↦ omega arith | inr le ↦ omega arith ]
+
+-- why bytes in memory are refused
+pub refused_text : (rest text : List ℕ) (fault : RecordFault) → Some rest ≡ Some text → (fault.kind ≡ Device → FailedIn 0 0) → fault.kind ≢ OutOfMemory
+    → (IsOfText fault.kind → IsFault rest fault) → ((m : Operations) → IsContent m → rest ≡ written m → IsOfMachine fault.kind)
+    → IsFault text fault × IsOfText fault.kind × (IsArchiveText text → ⊥)
+refused_text rest text fault is device memory faulty machine =
+    let same : rest ≡ text = cc in
+    let of_text : IsOfText fault.kind = (λ e. never (device e), memory) in
+    let P : List ℕ → Type 0 = λ t. IsFault t fault in
+    (subst P same (faulty of_text), of_text, λ says. elim (machine says.0 says.1.content (same ∙ says.1.is)) [
+      | inl e ↦ never (device e)
+      | inr e ↦ memory e
+    ])
+
+pub refused_summary : (rest text : List ℕ) (fault : RecordFault) → Some rest ≡ Some text → (fault.kind ≡ Device → FailedIn 0 0) → fault.kind ≢ OutOfMemory
+    → (IsOfText fault.kind → IsSummaryFault rest fault) → ((s : Entries) → AreEntries s → rest ≡ summary_text s → IsOfMachine fault.kind)
+    → IsSummaryFault text fault × IsOfText fault.kind × (IsSummaryText text → ⊥)
+refused_summary rest text fault is device memory faulty machine =
+    let same : rest ≡ text = cc in
+    let of_text : IsOfText fault.kind = (λ e. never (device e), memory) in
+    let P : List ℕ → Type 0 = λ t. IsSummaryFault t fault in
+    (subst P same (faulty of_text), of_text, λ names. elim (machine names.0 names.1.entries (same ∙ names.1.is)) [
+      | inl e ↦ never (device e)
+      | inr e ↦ memory e
+    ])
+
+-- the one summary of a text
+pub alone_by : (rest text : List ℕ) (s : Entries) → Some rest ≡ Some text → ((other : Entries) → AreEntries other → rest ≡ summary_text other → s ≡ other) → (other : Entries) → Names text other → s ≡ other
+alone_by rest text s is all other names = let same : rest ≡ text = cc in all other names.entries (same ∙ names.is)
+
+pub on_err : {T E : Type 0} (P : Type 0) (r : Result T E) → P → OnErr r P
+on_err P (Ok x) p = tt
+on_err P (Err e) p = p
+
+pub towards_by : (text : List ℕ) (old : Keeping) (held : Operations) (saved : List ℕ) (new o : Operations) → record { held = held; saved = saved } ≡ old → Says text o → IsTowards IsContent IsBelow held o new
+    → (record { held = new; saved = saved } ≡ old) ⊎ HasJoinedInPart text old (record { held = new; saved = saved })
+towards_by text old held saved new o e says towards =
+    let P : Keeping → Type 0 = λ k. IsTowards IsContent IsBelow k.held o new in
+    inr (record { message = o; says = says; held = subst P e towards; saved = ap (λ (k : Keeping). k.saved) e })

@@ -1,0 +1,18 @@
+use Rattle.std.proofs.Common.{ap, sym, ◌∙◌}
+use Rattle.archive_core.specs.Content.{joined}
+use Rattle.archive_exchange.specs.Keeping.{Keeping}
+use Rattle.archive_exchange.proofs.Texts.{on_err, towards_by}
+use Rattle.archive_exchange.proofs.site.Site.deliver.Goals as goal
+
+pub returns-in_err-take_all-clause-stopped : goal.returns-in_err-take_all-clause-stopped
+returns-in_err-take_all-clause-stopped g c = on_err _ c.from_residual-in_err-take_all.result
+    (towards_by c.args.message.now c.args.self.now (g.A.Join.content c.self.inside.archive) c.self.inside.saved.items (g.A.Join.content c.take_all.new.archive) (g.A.Join.content c.in_ok-other.other)
+      c.self.view_is c.in_ok-other.ensures.says c.in_err-take_all.ensures.refused)
+
+pub returns-clause-joined : goal.returns-clause-joined
+returns-clause-joined g c = record {
+  message = g.A.Join.content c.in_ok-other.other;
+  says = c.in_ok-other.ensures.says;
+  held = c.in_ok-take_all.ensures.joined ∙ ap (λ (k : Keeping). joined k.held (g.A.Join.content c.in_ok-other.other)) c.self.view_is;
+  saved = ap (λ (k : Keeping). k.saved) c.self.view_is;
+}

@@ -1,0 +1,242 @@
+//! A site: an archive, and the bytes that it saved.
+ghost use Rattle.std.specs.Prelude.{◌≡◌, ◌≢◌, ◌⊎◌, IfOk, IfErr, OnOk, OnErr, MatchResult};
+ghost use Rattle.std.specs.FinSet as set;
+ghost use Rattle.join_core.specs.Bound.{IsTowards};
+ghost use Rattle.archive_core.specs.Content.{IsContent, IsBelow, with_record, changes, joined};
+ghost use Rattle.archive_core.specs.Record.{retirement_record, IsRecord};
+ghost use Rattle.archive_core.specs.Summary.{Entries, summary, delta};
+ghost use Rattle.archive_records.specs.Text.{written, summary_text};
+ghost use Rattle.archive_exchange.specs.File.{IsAcceptedFile, IsTakeFault, admissible, parts};
+ghost use Rattle.archive_exchange.specs.Take.{admitted, taken_rows, IsTakenInPart};
+ghost use Rattle.archive_exchange.specs.Keeping.{Says, IsArchiveText, IsDeliverFault, HasJoined, HasJoinedInPart, Names, RepliesTo, IsReplyFault};
+
+use crate::{DeliverFault, ReplyFault, TakeFault, Taken, check_file, take_file};
+use archive_core::{Archive, Digest, Operation, SliceKey, take_all};
+use archive_records::{
+    RecordFaultKind, Summary, read_archive, read_summary, write_archive, write_delta, write_summary,
+};
+use byte_device::{Bytes, Grown};
+use memory::{Heap, NoMemory};
+use std::marker::Model;
+
+/// Tells that what an archive holds is a content.
+fn known<A: Archive>(archive: &A)
+    ensures { IsContent (A.content archive.now) }
+{
+    let _number = archive.len();
+}
+
+/// The text of an archive.
+fn archive_text<A: Archive>(heap: Heap, archive: &A) -> Result<Vec<u8, Heap>, NoMemory>
+    ensures { IfOk result (λ text. Says text.items (A.content archive.now)) }
+{
+    known(archive);
+    let mut text = Grown::new(heap);
+    match write_archive(archive, &mut text) {
+        Ok(_) => Ok(text.into_bytes()),
+        Err(_) => Err(NoMemory),
+    }
+}
+
+/// The archive of a text.
+fn archive_in<A: Archive + Drop>(heap: Heap, text: &[u8]) -> Result<A, DeliverFault>
+    ensures says { IfOk result (λ archive. Says text.now (A.content archive)) }
+    ensures refused { IfErr result (IsDeliverFault text.now) }
+{
+    let mut input = Bytes::new(text);
+    match read_archive(heap, &mut input) {
+        Ok(archive) => Ok(archive),
+        Err(fault) => match fault.kind {
+            RecordFaultKind::OutOfMemory => Err(DeliverFault::OutOfMemory),
+            _ => Err(DeliverFault::Refused(fault)),
+        },
+    }
+}
+
+/// The text of the summary of an archive.
+fn text_of_summary<A: Archive>(heap: Heap, archive: &A) -> Result<Vec<u8, Heap>, NoMemory>
+    ensures { IfOk result (λ text. text.items ≡ summary_text (summary (A.content archive.now))) }
+{
+    let summary = Summary::of(heap.clone()?, archive)?;
+    let mut text = Grown::new(heap);
+    match write_summary(&summary, &mut text) {
+        Ok(_) => Ok(text.into_bytes()),
+        Err(_) => Err(NoMemory),
+    }
+}
+
+/// The summary of a text.
+fn summary_in(heap: Heap, text: &[u8]) -> Result<Summary, ReplyFault>
+    ensures names { IfOk result (Names text.now) }
+    ensures alone { IfOk result (λ summary. (other : Entries) → Names text.now other → summary ≡ other) }
+    ensures refused { IfErr result (IsReplyFault text.now) }
+{
+    let mut input = Bytes::new(text);
+    match read_summary(heap, &mut input) {
+        Ok(summary) => Ok(summary),
+        Err(fault) => match fault.kind {
+            RecordFaultKind::OutOfMemory => Err(ReplyFault::OutOfMemory),
+            _ => Err(ReplyFault::NotASummary(fault)),
+        },
+    }
+}
+
+/// The text of what an archive holds beyond a summary.
+fn text_of_delta<A: Archive>(
+    heap: Heap,
+    archive: &A,
+    summary: &Summary,
+) -> Result<Vec<u8, Heap>, NoMemory>
+    ensures { IfOk result (λ text. text.items ≡ written (delta (A.content archive.now) summary.now)) }
+{
+    let mut text = Grown::new(heap);
+    match write_delta(archive, summary, &mut text) {
+        Ok(_) => Ok(text.into_bytes()),
+        Err(_) => Err(NoMemory),
+    }
+}
+
+/// A site: an archive, and the bytes that it saved, which are the text of an archive.
+#[derive(Drop)]
+pub struct Site<A: Archive> {
+    archive: A,
+    saved: Vec<u8, Heap>,
+}
+
+impl<A: Archive> Model for Site<A> {
+    ghost use Rattle.archive_exchange.specs.Keeping.{Keeping, keeping_code, IsArchiveText};
+
+    ghost Value = { Keeping };
+
+    ghost coded = { keeping_code };
+
+    ghost view = { λ site. record { held = A.content site.archive; saved = site.saved.items } };
+
+    ghost invariant = { λ site. IsArchiveText site.saved.items };
+}
+
+impl<A: Archive + Drop> Site<A> {
+    /// An empty site, which has saved the empty archive.
+    pub fn new(heap: Heap) -> Result<Site<A>, NoMemory>
+        ensures { IfOk result (λ site. site ≡ record { held = set.empty; saved = written set.empty }) }
+    {
+        let archive = A::empty(heap.clone()?);
+        let saved = archive_text(heap, &archive)?;
+        Ok(Site { archive, saved })
+    }
+
+    /// The archive that the site holds.
+    pub fn archive(&self) -> &A
+        ensures { A.content result.now ≡ self.now.held }
+    {
+        &self.archive
+    }
+
+    /// Takes the slices of a file, all or none, and gives a row a slice, in the order of the file.
+    ///
+    /// # Errors
+    ///
+    /// Those of `check_file`, which leave the site as it was, and `OutOfMemory`, after which some first ones of the
+    /// file's slices may have been taken; the call may then be made again.
+    pub fn take_file(&mut self, file: &[u8]) -> Result<Vec<Taken, Heap>, TakeFault>
+        ensures accepted { OnOk result (IsAcceptedFile file.now) }
+        ensures held { OnOk result (self.new.held ≡ admitted self.old.held (admissible file.now)) }
+        ensures rows { IfOk result (λ rows. rows.items ≡ taken_rows self.old.held (parts file.now)) }
+        ensures refused { IfErr result (IsTakeFault file.now) }
+        ensures kept { IfErr result (λ fault. fault ≢ TakeFault.OutOfMemory → self.new ≡ self.old) }
+        ensures stopped { OnErr result (IsTakenInPart file.now self.old.held self.new.held) }
+        ensures saved { self.new.saved ≡ self.old.saved }
+    {
+        check_file(file)?;
+        let copy = file.to_vec(self.saved.allocator().clone()?)?;
+        take_file(&mut self.archive, copy)
+    }
+
+    /// Takes the retirement of the slices under a key that have a digest, and answers whether it is new. Want of memory
+    /// leaves the site as it was.
+    pub fn retire(&mut self, key: SliceKey, digest: Digest) -> Result<bool, NoMemory>
+        ensures held { OnOk result (self.new.held ≡ with_record self.old.held (retirement_record key digest.0)) }
+        ensures new { IfOk result (λ new. new ≡ changes self.old.held (retirement_record key digest.0)) }
+        ensures recorded { OnOk result (IsRecord (retirement_record key digest.0)) }
+        ensures saved { self.new.saved ≡ self.old.saved }
+        ensures refused { OnErr result (self.new ≡ self.old) }
+    {
+        let new = self.archive.take(Operation::Retire(key, digest))?;
+        known(&self.archive);
+        Ok(new)
+    }
+
+    /// The text of the archive.
+    pub fn full(&self) -> Result<Vec<u8, Heap>, NoMemory>
+        ensures { IfOk result (λ text. Says text.items self.now.held) }
+    {
+        archive_text(self.saved.allocator().clone()?, &self.archive)
+    }
+
+    /// Saves, and gives the text of the summary of what it saved. Want of memory may leave it saved.
+    pub fn ask(&mut self) -> Result<Vec<u8, Heap>, NoMemory>
+        ensures text { IfOk result (λ text. text.items ≡ summary_text (summary self.old.held)) }
+        ensures held { self.new.held ≡ self.old.held }
+        ensures saved { OnOk result (self.new.saved ≡ written self.old.held) }
+        ensures stopped { OnErr result ((self.new ≡ self.old) ⊎ (self.new.saved ≡ written self.old.held)) }
+    {
+        self.save()?;
+        text_of_summary(self.saved.allocator().clone()?, &self.archive)
+    }
+
+    /// The text of what the site holds beyond the summary that a message is.
+    ///
+    /// # Errors
+    ///
+    /// `NotASummary` where the message is no summary's text, and `OutOfMemory`.
+    pub fn reply(&self, message: &[u8]) -> Result<Vec<u8, Heap>, ReplyFault>
+        ensures replies { IfOk result (λ text. RepliesTo message.now self.now.held text.items) }
+        ensures refused { IfErr result (IsReplyFault message.now) }
+    {
+        let summary = summary_in(self.saved.allocator().clone()?, message)?;
+        let text = text_of_delta(self.saved.allocator().clone()?, &self.archive, &summary)?;
+        Ok(text)
+    }
+
+    /// Joins the archive whose text a message is.
+    ///
+    /// # Errors
+    ///
+    /// `Refused` where the message is no archive's text, which leaves the site as it was, and `OutOfMemory`, after which
+    /// some of the message's operations may have been taken in; the call may then be made again.
+    pub fn deliver(&mut self, message: &[u8]) -> Result<(), DeliverFault>
+        ensures joined { OnOk result (HasJoined message.now self.old self.new) }
+        ensures refused { IfErr result (IsDeliverFault message.now) }
+        ensures kept { IfErr result (λ fault. fault ≢ DeliverFault.OutOfMemory → self.new ≡ self.old) }
+        ensures stopped { OnErr result ((self.new ≡ self.old) ⊎ HasJoinedInPart message.now self.old self.new) }
+    {
+        let other: A = archive_in(self.saved.allocator().clone()?, message)?;
+        take_all(&mut self.archive, &other)?;
+        Ok(())
+    }
+
+    /// Saves the archive: the saved bytes become its text. Want of memory leaves the site as it was.
+    pub fn save(&mut self) -> Result<(), NoMemory>
+        ensures held { self.new.held ≡ self.old.held }
+        ensures saved { OnOk result (self.new.saved ≡ written self.old.held) }
+        ensures refused { OnErr result (self.new ≡ self.old) }
+    {
+        self.saved = archive_text(self.saved.allocator().clone()?, &self.archive)?;
+        Ok(())
+    }
+
+    /// Stops, and begins again: the archive becomes what the saved bytes say. Want of memory leaves the site as it was.
+    pub fn stop(&mut self) -> Result<(), NoMemory>
+        ensures held { OnOk result (Says self.old.saved self.new.held) }
+        ensures saved { self.new.saved ≡ self.old.saved }
+        ensures refused { OnErr result (self.new ≡ self.old) }
+    {
+        let heap = self.saved.allocator().clone()?;
+        // The saved bytes are an archive's text, which is refused for want of memory alone.
+        let Ok(archive) = archive_in(heap, &self.saved) else {
+            return Err(NoMemory);
+        };
+        self.archive = archive;
+        Ok(())
+    }
+}
