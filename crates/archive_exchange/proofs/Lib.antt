@@ -7,3 +7,11 @@ pub mod Resumed
 pub mod RowPlaces
 pub mod FaultLaws
 pub mod Texts
+pub mod Scenes
+pub mod Gained
+pub mod Magics
+pub mod Followed
+pub mod Runs
+pub mod Meanings
+pub mod Empty
+pub mod Recorded

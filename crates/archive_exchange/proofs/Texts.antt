@@ -26,11 +26,14 @@ pub refused_text : (rest text : List ℕ) (fault : RecordFault) → Some rest �
 refused_text rest text fault is device memory faulty machine =
     let same : rest ≡ text = cc in
     let of_text : IsOfText fault.kind = (λ e. never (device e), memory) in
-    let P : List ℕ → Type 0 = λ t. IsFault t fault in
-    (subst P same (faulty of_text), of_text, λ says. elim (machine says.0 says.1.content (same ∙ says.1.is)) [
-      | inl e ↦ never (device e)
-      | inr e ↦ memory e
-    ])
+    let P : List ℕ → Type 0 = λ t. IsFault t fault in (
+      subst P same (faulty of_text),
+      of_text,
+      λ says. elim (machine says.0 says.1.content (same ∙ says.1.is)) [
+        | inl e ↦ never (device e)
+        | inr e ↦ memory e
+      ],
+    )
 
 pub refused_summary : (rest text : List ℕ) (fault : RecordFault) → Some rest ≡ Some text → (fault.kind ≡ Device → FailedIn 0 0) → fault.kind ≢ OutOfMemory
     → (IsOfText fault.kind → IsSummaryFault rest fault) → ((s : Entries) → AreEntries s → rest ≡ summary_text s → IsOfMachine fault.kind)
@@ -38,11 +41,14 @@ pub refused_summary : (rest text : List ℕ) (fault : RecordFault) → Some rest
 refused_summary rest text fault is device memory faulty machine =
     let same : rest ≡ text = cc in
     let of_text : IsOfText fault.kind = (λ e. never (device e), memory) in
-    let P : List ℕ → Type 0 = λ t. IsSummaryFault t fault in
-    (subst P same (faulty of_text), of_text, λ names. elim (machine names.0 names.1.entries (same ∙ names.1.is)) [
-      | inl e ↦ never (device e)
-      | inr e ↦ memory e
-    ])
+    let P : List ℕ → Type 0 = λ t. IsSummaryFault t fault in (
+      subst P same (faulty of_text),
+      of_text,
+      λ names. elim (machine names.0 names.1.entries (same ∙ names.1.is)) [
+        | inl e ↦ never (device e)
+        | inr e ↦ memory e
+      ],
+    )
 
 -- the one summary of a text
 pub alone_by : (rest text : List ℕ) (s : Entries) → Some rest ≡ Some text → ((other : Entries) → AreEntries other → rest ≡ summary_text other → s ≡ other) → (other : Entries) → Names text other → s ≡ other

@@ -7,6 +7,8 @@ ghost use Rattle.archive_core.specs.Content.{Operations, IsMade, IsContent, IsBe
 ghost use Rattle.archive_core.specs.Valid.{IsValid};
 ghost use Rattle.archive_exchange.specs.File.{IsAcceptedFile, IsTakeFault, is_admissible, admissible, parts};
 ghost use Rattle.archive_exchange.specs.Take.{admitted, taken_of, taken_rows, IsTakenInPart};
+ghost use Rattle.archive_exchange.specs.Seen.{Seen, AreSeen};
+ghost use Rattle.archive_exchange.specs.declared.event.Event.{Event};
 ghost use Rattle.archive_exchange.specs.declared.fault.TakeFault.{TakeFault};
 ghost use Rattle.archive_exchange.specs.declared.fault.TakeFault.TheVariants.{OutOfMemory};
 ghost use Rattle.archive_exchange.specs.declared.taken.Taken.TheVariants.{Skipped};
@@ -64,3 +66,14 @@ pub fn taking_resumed()
         → IsTakenInPart file o mid
         → admitted mid (admissible file) ≡ admitted o (admissible file) }
 {}
+
+/// Each list of events is one list to the definitions of `exchange_model`.
+pub fn one_meaning()
+    ensures some { (events : List Event) → (seen : List Seen) × AreSeen events seen }
+    ensures one { (events : List Event) (seen other : List Seen)
+        → AreSeen events seen
+        → AreSeen events other
+        → seen ≡ other }
+{
+    one_take_fault();
+}

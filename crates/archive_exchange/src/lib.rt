@@ -9,21 +9,29 @@
 //! - `taken`: what becomes of a slice;
 //! - `taking`: a file's slices taken into an archive;
 //! - `site`: a site, which holds an archive and has saved one;
-//! - `event`: what happens at a site, and what is answered;
+//! - `message`, `event`: what a site sends, what happens at a site, and what is answered;
+//! - `happening`: what an event does among sites;
+//! - `world`, `running`: what a list of events leaves, and [`run`];
 //! - [`laws`]: what holds of files, and of what their taking makes.
 #![tactic(auto)]
 
 mod checking;
 mod event;
 mod fault;
+mod happening;
 pub mod laws;
+mod message;
+mod running;
 mod site;
 mod taken;
 mod taking;
+mod world;
 
 pub use checking::{AcceptedFile, check_file};
 pub use event::{Event, EventFault, Outcome};
 pub use fault::{DeliverFault, ReplyFault, TakeFault};
+pub use running::run;
 pub use site::Site;
 pub use taken::Taken;
 pub use taking::take_file;
+pub use world::World;

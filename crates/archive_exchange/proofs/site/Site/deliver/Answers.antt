@@ -7,7 +7,7 @@ use Rattle.archive_exchange.proofs.site.Site.deliver.Goals as goal
 pub returns-in_err-take_all-clause-stopped : goal.returns-in_err-take_all-clause-stopped
 returns-in_err-take_all-clause-stopped g c = on_err _ c.from_residual-in_err-take_all.result
     (towards_by c.args.message.now c.args.self.now (g.A.Join.content c.self.inside.archive) c.self.inside.saved.items (g.A.Join.content c.take_all.new.archive) (g.A.Join.content c.in_ok-other.other)
-      c.self.view_is c.in_ok-other.ensures.says c.in_err-take_all.ensures.refused)
+    c.self.view_is c.in_ok-other.ensures.says c.in_err-take_all.ensures.refused)
 
 pub returns-clause-joined : goal.returns-clause-joined
 returns-clause-joined g c = record {

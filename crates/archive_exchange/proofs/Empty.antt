@@ -1,0 +1,53 @@
+-- Sites that are empty.
+use Rattle.std.proofs.Common.{◌≡◌, ℕ, zero, suc, ◌+◌, List, [], ◌∷◌, ◌++◌, length, length-append, slice_get, refl, sym, ap, ◌∙◌, subst}
+use Rattle.std.specs.declared.option.Option.TheVariants.{None, Some}
+use Rattle.std.specs.FinSet as set
+use Rattle.std.specs.FinSet.{contains-empty}
+use Rattle.std.specs.Ordering.{nat_cmp}
+use Rattle.std.specs.Cmp.Lexicographic.{slice_cmp}
+use mathlib.Core.Bool.{true≢false}
+use Rattle.archive_core.specs.Content.{IsContent}
+use Rattle.archive_records.specs.Text.{written}
+use Rattle.exchange_model.specs.World.{World, Message, start}
+use Rattle.archive_exchange.specs.Keeping.{Keeping}
+use Rattle.archive_exchange.specs.Rehearsal.{IsSound, IsSite, Shows}
+
+empty_content : IsContent set.empty
+empty_content = record { itself = refl; records = λ r h. absurd (true≢false (sym h ∙ contains-empty (slice_cmp nat_cmp) r)) }
+
+no_message : (m : ℕ) (x : Message) → slice_get [] m ≡ Some x → IsSound x
+no_message m x h = cc
+
+pub none_shown : Shows [] [] start
+none_shown = record {
+  each = λ i site h. cc;
+  sent = refl;
+  held = λ i. empty_content;
+  saved = λ i. empty_content;
+  sound = no_message;
+}
+
+-- one empty site more
+pub shown_more : (sites : List Keeping) (site : Keeping) → Shows sites [] start → site ≡ record { held = set.empty; saved = written set.empty } → Shows (sites ++ site ∷ []) [] start
+shown_more sites site sh is = record {
+  each = λ i s h. each sites i s (λ j t k. sh.each j t k) h;
+  sent = refl;
+  held = sh.held;
+  saved = sh.saved;
+  sound = sh.sound;
+}
+  where
+    fresh : (i : ℕ) → IsSite start i site
+    fresh i = record { held = ap (λ (k : Keeping). k.held) is; saved = ap (λ (k : Keeping). k.saved) is }
+
+    -- at the start all sites are alike, so that the number does not matter
+    each : (row : List Keeping) (i : ℕ) (s : Keeping) → ((j : ℕ) (t : Keeping) → slice_get row j ≡ Some t → IsSite start j t) → slice_get (row ++ site ∷ []) i ≡ Some s → IsSite start i s
+    each [] zero s all h = let P : Keeping → Type 0 = λ t. IsSite start zero t in let e : site ≡ s = cc in subst P e (fresh zero)
+    each [] (suc i) s all h = cc
+    each (y ∷ row) zero s all h = all zero s h
+    each (y ∷ row) (suc i) s all h =
+        let r : IsSite start i s = each row i s (λ j t k. record { held = (all (suc j) t k).held; saved = (all (suc j) t k).saved }) h in
+        record { held = r.held; saved = r.saved }
+
+pub one_longer : (xs ys : List Keeping) (x : Keeping) (n : ℕ) → ys ≡ xs ++ x ∷ [] → length xs ≡ n → length ys ≡ n + 1
+one_longer xs ys x n e h = ap length e ∙ length-append xs (x ∷ []) ∙ ap (λ k. k + 1) h

@@ -1,0 +1,283 @@
+-- What happens at a site is what the definitions say of its event.
+use Rattle.std.proofs.Common.{◌≡◌, ◌≢◌, ℕ, zero, suc, ◌<◌, ◌≤◌, Bool, true, false, ◌||◌, List, [], ◌∷◌, ◌++◌, map, length, slice_get, refl, sym, ap, ◌∙◌, subst, if◌then◌else◌, nat_lt, get_or, ◌⊎◌, inl, inr}
+use Rattle.std.specs.Prelude.{slice_set, filter, cond}
+use Rattle.std.specs.List.{All, AllByRecursion, list_any}
+use Rattle.std.specs.declared.option.Option.{Option}
+use Rattle.std.specs.declared.option.Option.TheVariants.{None, Some}
+use Rattle.std.specs.declared.result.Result.TheVariants.{Ok, Err}
+use Rattle.std.proofs.lemmas.Bool.{lt-ltb, le-ltb}
+use Rattle.std.proofs.lemmas.Option.{slice_get_within, slice_get_read}
+use Rattle.std.proofs.lemmas.List.{length-map}
+use Rattle.archive_core.specs.Content.{Operations, IsContent, with_record, with_records, changes, joined}
+use Rattle.archive_core.specs.Summary.{summary, delta}
+use Rattle.archive_core.specs.Record.{IsRecord}
+use Rattle.archive_core.proofs.Summaries.{delta_content}
+use Rattle.archive_records.specs.declared.fault.RecordFault.{RecordFault}
+use Rattle.archive_records.specs.Text.{written, summary_text}
+use Rattle.archive_records.specs.Fault.{IsFault, IsSummaryFault}
+use Rattle.archive_records.proofs.Summarised.{AreEntries-summary}
+use Rattle.archive_records.proofs.Exact.{one_content}
+use Rattle.exchange_model.specs.World as model
+use Rattle.exchange_model.specs.World.{World, Event, File, Fault, Message, Content, Summary, site_of, records, fault_at_site, fault_of, effect, answer, unless, refused_or, happens, outcome, with_saved}
+use Rattle.archive_exchange.specs.File.{IsAcceptedFile, IsTakeFault, admissible, parts}
+use Rattle.archive_exchange.specs.Take.{admitted}
+use Rattle.archive_exchange.specs.Keeping.{Keeping, Says, HasJoined, IsArchiveText, IsDeliverFault, IsReplyFault, RepliesTo}
+use Rattle.archive_exchange.specs.Seen.{IsFile, IsRecorded, Tells, fault_told, other_magic, part_record}
+use Rattle.archive_exchange.specs.Rehearsal.{message_text, IsSound, Shows, Follows, Happens}
+use Rattle.archive_exchange.specs.declared.fault.TakeFault.{TakeFault}
+use Rattle.archive_exchange.specs.declared.fault.TakeFault.TheVariants.{OutOfMemory}
+use Rattle.archive_exchange.specs.declared.fault.DeliverFault.{DeliverFault}
+use Rattle.archive_exchange.specs.declared.fault.DeliverFault.TheVariants as deliver
+use Rattle.archive_exchange.specs.declared.fault.ReplyFault.TheVariants as reply
+use Rattle.archive_exchange.specs.declared.event.EventFault.TheVariants as fault
+use Rattle.archive_exchange.specs.declared.event.Outcome.{Outcome}
+use Rattle.archive_exchange.specs.declared.event.Outcome.TheVariants as told
+use Rattle.archive_exchange.proofs.Scenes.{set_same, shows_held, shows_saved, shows_sent, message_at, no_message_at, IsMessage}
+use Rattle.archive_exchange.proofs.Gained.{content_gain, content_joined, recorded_take, recorded_retire, content_seen}
+use Rattle.archive_exchange.proofs.Magics.{texts_differ, not_an_archive, not_a_summary}
+
+-- an event of a site that is there is refused for what is at the site alone
+here : (e : Event TakeFault) (sites : List Keeping) (old : Keeping) (w : World) → slice_get sites (site_of e) ≡ Some old → fault_of (length sites) w e ≡ fault_at_site w.messages e
+here e sites old w at =
+    ap (λ b. if b then fault_at_site w.messages e else Some model.NoSite) (lt-ltb (site_of e) (length sites) (slice_get_within sites (site_of e) old at))
+
+record Allowed (e : Event TakeFault) (old new : Keeping) (texts later : List (List ℕ)) (a : Outcome) (sites : List Keeping) (w : World) : Type 0 where
+  none : fault_at_site w.messages e ≡ None
+  shows : Shows (slice_set sites (site_of e) new) later (effect w e)
+  tells : Tells a (answer w e)
+
+follow_by : (e : Event TakeFault) (old new : Keeping) (texts later : List (List ℕ)) (a : Outcome)
+    → ((sites : List Keeping) (w : World) → slice_get sites (site_of e) ≡ Some old → Shows sites texts w → Allowed e old new texts later a sites w)
+    → Follows e old new texts later a
+follow_by e old new texts later a all = record {
+  shows = λ sites w at sh.
+      let p : Allowed e old new texts later a sites w = all sites w at sh in
+      let P : World → Type 0 = λ v. Shows (slice_set sites (site_of e) new) later v in
+      subst P (sym (ap (λ f. unless f w (effect w e)) (here e sites old w at ∙ p.none))) p.shows;
+  tells = λ sites w at sh.
+      let p : Allowed e old new texts later a sites w = all sites w at sh in
+      let P : model.Outcome TakeFault → Type 0 = λ v. Tells a v in
+      subst P (sym (ap (λ f. refused_or f (answer w e)) (here e sites old w at ∙ p.none))) p.tells;
+}
+
+record Barred (e : Event TakeFault) (a : Outcome) (w : World) : Type 0 where
+  why : Fault TakeFault
+  told : a ≡ told.Refused (fault_told why)
+  is : fault_at_site w.messages e ≡ Some why
+
+refuse_by : (e : Event TakeFault) (old : Keeping) (texts : List (List ℕ)) (a : Outcome)
+    → ((sites : List Keeping) (w : World) → slice_get sites (site_of e) ≡ Some old → Shows sites texts w → Barred e a w)
+    → Follows e old old texts texts a
+refuse_by e old texts a all = record {
+  shows = λ sites w at sh.
+      let P : World → Type 0 = λ v. Shows (slice_set sites (site_of e) old) texts v in
+      let Q : List Keeping → Type 0 = λ s. Shows s texts w in
+      subst P (sym (ap (λ g. unless g w (effect w e)) (here e sites old w at ∙ (all sites w at sh).is))) (subst Q (sym (set_same sites (site_of e) old at)) sh);
+  tells = λ sites w at sh.
+      let p : Barred e a w = all sites w at sh in
+      let P : Outcome → Type 0 = λ b. Tells b (outcome (length sites) w e) in
+      subst P (sym p.told) (p.why, refl, ap (λ g. refused_or g (answer w e)) (here e sites old w at ∙ p.is));
+}
+
+-- the number of the messages is that of their texts
+sent_number : (sites : List Keeping) (texts : List (List ℕ)) (w : World) → Shows sites texts w → length texts ≡ length w.messages
+sent_number sites texts w sh = ap length sh.sent ∙ length-map w.messages message_text
+
+unchanged : (sites : List Keeping) (i : ℕ) (old : Keeping) (texts : List (List ℕ)) (w : World) → slice_get sites i ≡ Some old → Shows sites texts w → Shows (slice_set sites i old) texts w
+unchanged sites i old texts w at sh = let Q : List Keeping → Type 0 = λ s. Shows s texts w in subst Q (sym (set_same sites i old at)) sh
+
+pub took : (i : ℕ) (file : List ℕ) (is : File TakeFault) (texts : List (List ℕ)) (old new : Keeping) (a : Outcome)
+    → ((f : TakeFault) → IsAcceptedFile file → IsTakeFault file f → f ≡ OutOfMemory)
+    → IsFile file is → IsAcceptedFile file → new.held ≡ admitted old.held (admissible file) → new.saved ≡ old.saved
+    → ((answer : model.Outcome TakeFault) → answer ≡ model.Took (model.rows old.held (map part_record (parts file))) → Tells a answer)
+    → Follows (model.Take i is) old new texts texts a
+took i file (Err f) texts old new a none is accepted held saved tell = absurd (is.1 (none f accepted is.0))
+took i file (Ok given) texts old new a none is accepted held saved tell =
+    let P : List (Option (List ℕ)) → Type 0 = λ g. Follows (model.Take i (Ok g)) old new texts texts a in
+    subst P (sym is.1) (follow_by (model.Take i (Ok (map part_record (parts file)))) old new texts texts a (λ sites w at sh.
+    record {
+      none = refl;
+      shows = shows_held sites texts w i old new (with_records (w.held i) (records (map part_record (parts file)))) at sh
+          (held ∙ sym (content_seen old.held (parts file)) ∙ ap (λ o. with_records o (records (map part_record (parts file)))) (sh.each i old at).held)
+          saved (content_gain (w.held i) (records (map part_record (parts file))) (sh.held i) (recorded_take i file accepted));
+      tells = tell _ (ap (λ o. model.Took (model.rows o (map part_record (parts file)))) (sym (sh.each i old at).held));
+    }))
+
+-- the fault of a file that is refused
+pub not_taken : (i : ℕ) (file : List ℕ) (is : File TakeFault) (texts : List (List ℕ)) (old : Keeping) (f : TakeFault)
+    → ((g : TakeFault) → IsAcceptedFile file → IsTakeFault file g → g ≡ OutOfMemory)
+    → ((g h : TakeFault) → IsTakeFault file g → IsTakeFault file h → g ≡ h)
+    → IsFile file is → IsTakeFault file f → f ≢ OutOfMemory → Follows (model.Take i is) old old texts texts (told.Refused (fault.File f))
+not_taken i file (Err g) texts old f none one is refused other =
+    refuse_by (model.Take i (Err g)) old texts (told.Refused (fault.File f)) (λ sites w at sh.
+    record { why = model.FileRefused g; told = ap (λ h. told.Refused (fault.File h)) (one f g refused is.0); is = refl })
+not_taken i file (Ok given) texts old f none one is refused other = absurd (other (none f is.0 refused))
+
+pub retired : (i : ℕ) (r : List ℕ) (texts : List (List ℕ)) (old new : Keeping) (b : Bool)
+    → IsRecord r → new.held ≡ with_record old.held r → new.saved ≡ old.saved → b ≡ changes old.held r
+    → Follows (model.Retire i r) old new texts texts (told.Retired b)
+retired i r texts old new b is held saved answer = follow_by (model.Retire i r) old new texts texts (told.Retired b) (λ sites w at sh.
+    record {
+      none = refl;
+      shows = shows_held sites texts w i old new (with_record (w.held i) r) at sh (held ∙ ap (λ o. with_record o r) (sh.each i old at).held) saved (content_gain (w.held i) (r ∷ []) (sh.held i) (recorded_retire i r is));
+      tells = ap (λ (c : Bool). model.Retired c) (sym (answer ∙ ap (λ o. changes o r) (sh.each i old at).held));
+    })
+
+pub sent_full : (i : ℕ) (old : Keeping) (texts later : List (List ℕ)) → later ≡ texts ++ written old.held ∷ [] → Follows (model.Full i) old old texts later (told.Sent (length texts))
+sent_full i old texts later is = follow_by (model.Full i) old old texts later (told.Sent (length texts)) (λ sites w at sh.
+    let P : List (List ℕ) → Type 0 = λ t. Shows (slice_set sites i old) t (model.with_sent w (Content (w.held i))) in
+    record {
+      none = refl;
+      shows = subst P (ap (λ o. texts ++ written o ∷ []) (sym (sh.each i old at).held) ∙ sym is)
+          (shows_sent (slice_set sites i old) texts w (Content (w.held i)) (unchanged sites i old texts w at sh) (sh.held i));
+      tells = ap (λ (n : ℕ). model.Sent n) (sym (sent_number sites texts w sh));
+    })
+
+pub asked : (i : ℕ) (old new : Keeping) (texts later : List (List ℕ)) → new.held ≡ old.held → new.saved ≡ written old.held → later ≡ texts ++ summary_text (summary old.held) ∷ []
+    → Follows (model.Ask i) old new texts later (told.Sent (length texts))
+asked i old new texts later held saved is = follow_by (model.Ask i) old new texts later (told.Sent (length texts)) (λ sites w at sh.
+    let P : List (List ℕ) → Type 0 = λ t. Shows (slice_set sites i new) t (model.with_sent (with_saved w i) (Summary (summary (w.held i)))) in
+    record {
+      none = refl;
+      shows = subst P (ap (λ o. texts ++ summary_text (summary o) ∷ []) (sym (sh.each i old at).held) ∙ sym is)
+          (shows_sent (slice_set sites i new) texts (with_saved w i) (Summary (summary (w.held i))) (shows_saved sites texts w i old new at sh held saved) (AreEntries-summary (w.held i) (sh.held i)));
+      tells = ap (λ (n : ℕ). model.Sent n) (sym (sent_number sites texts w sh));
+    })
+
+-- a reply to a message that is there
+replied_to : (i m : ℕ) (old : Keeping) (texts later : List (List ℕ)) (text reply : List ℕ) (sites : List Keeping) (w : World)
+    → slice_get sites i ≡ Some old → Shows sites texts w → RepliesTo text old.held reply → later ≡ texts ++ reply ∷ []
+    → (x : Message) → slice_get w.messages m ≡ Some x → text ≡ message_text x → IsSound x
+    → Allowed (model.Reply i m) old old texts later (told.Sent (length texts)) sites w
+replied_to i m old texts later text reply sites w at sh replies is (Content o) there same sound = absurd (texts_differ o replies.named (sym same ∙ replies.names.is))
+replied_to i m old texts later text reply sites w at sh replies is (Summary s) there same sound =
+    let named : replies.named ≡ s = replies.alone s (record { entries = sound; is = same }) in
+    let P : List (List ℕ) → Type 0 = λ t. Shows (slice_set sites i old) t (model.with_sent w (Content (delta (w.held i) (model.entries_of (model.message_or (slice_get w.messages m)))))) in
+    let Q : Option Message → Type 0 = λ x. Shows (slice_set sites i old) (texts ++ written (delta (w.held i) (model.entries_of (model.message_or x))) ∷ []) (model.with_sent w (Content (delta (w.held i) (model.entries_of (model.message_or x))))) in
+    record {
+      none = ap (λ x. model.reply_fault {F = TakeFault} x) there;
+      shows = subst P
+          (ap (λ x. texts ++ written (delta (w.held i) (model.entries_of (model.message_or x))) ∷ []) there
+          ∙ ap (λ o. texts ++ written (delta o s) ∷ []) (sym (sh.each i old at).held)
+          ∙ ap (λ t. texts ++ written (delta old.held t) ∷ []) (sym named)
+          ∙ ap (λ t. texts ++ t ∷ []) (sym replies.is) ∙ sym is)
+          (subst Q (sym there) (shows_sent (slice_set sites i old) texts w (Content (delta (w.held i) s)) (unchanged sites i old texts w at sh) (delta_content (w.held i) s (sh.held i))));
+      tells = ap (λ (n : ℕ). model.Sent n) (sym (sent_number sites texts w sh));
+    }
+
+pub replied : (i m : ℕ) (old : Keeping) (texts later : List (List ℕ)) (text reply : List ℕ) → slice_get texts m ≡ Some text → RepliesTo text old.held reply → later ≡ texts ++ reply ∷ []
+    → Follows (model.Reply i m) old old texts later (told.Sent (length texts))
+replied i m old texts later text reply got replies is = follow_by (model.Reply i m) old old texts later (told.Sent (length texts)) (λ sites w at sh.
+    let x : IsMessage w m text = message_at sites texts w m text sh got in
+    replied_to i m old texts later text reply sites w at sh replies is x.message x.is x.text_is x.sound)
+
+not_replied_to : (w : World) (i m : ℕ) (text : List ℕ) (f : RecordFault) → IsReplyFault text (reply.NotASummary f)
+    → (x : Message) → slice_get w.messages m ≡ Some x → text ≡ message_text x → IsSound x
+    → Barred (model.Reply i m) (told.Refused (fault.NotASummary f)) w
+not_replied_to w i m text f refused (Content o) there same sound =
+    let P : List ℕ → Type 0 = λ t. IsSummaryFault t f in
+    record {
+      why = model.NotASummary;
+      told = ap (λ g. told.Refused (fault.NotASummary g)) (not_a_summary o f (subst P same refused.0));
+      is = ap (λ x. model.reply_fault {F = TakeFault} x) there;
+    }
+not_replied_to w i m text f refused (Summary s) there same sound = absurd (refused.2 (s, record { entries = sound; is = same }))
+
+pub not_replied : (i m : ℕ) (old : Keeping) (texts : List (List ℕ)) (text : List ℕ) (f : RecordFault) → slice_get texts m ≡ Some text → IsReplyFault text (reply.NotASummary f)
+    → Follows (model.Reply i m) old old texts texts (told.Refused (fault.NotASummary f))
+not_replied i m old texts text f got refused = refuse_by (model.Reply i m) old texts (told.Refused (fault.NotASummary f)) (λ sites w at sh.
+    let x : IsMessage w m text = message_at sites texts w m text sh got in
+    not_replied_to w i m text f refused x.message x.is x.text_is x.sound)
+
+-- no such message
+pub no_reply : (i m : ℕ) (old : Keeping) (texts : List (List ℕ)) → slice_get texts m ≡ None → Follows (model.Reply i m) old old texts texts (told.Refused fault.NoMessage)
+no_reply i m old texts none = refuse_by (model.Reply i m) old texts (told.Refused fault.NoMessage) (λ sites w at sh.
+    record { why = model.NoMessage; told = refl; is = ap (λ x. model.reply_fault {F = TakeFault} x) (no_message_at sites texts w m sh none) })
+
+pub no_delivery : (i m : ℕ) (old : Keeping) (texts : List (List ℕ)) → slice_get texts m ≡ None → Follows (model.Deliver i m) old old texts texts (told.Refused fault.NoMessage)
+no_delivery i m old texts none = refuse_by (model.Deliver i m) old texts (told.Refused fault.NoMessage) (λ sites w at sh.
+    record { why = model.NoMessage; told = refl; is = ap (λ x. model.deliver_fault {F = TakeFault} x) (no_message_at sites texts w m sh none) })
+
+-- a delivery of a message that is there
+delivered_at : (i m : ℕ) (old new : Keeping) (texts : List (List ℕ)) (text : List ℕ) (sites : List Keeping) (w : World)
+    → slice_get sites i ≡ Some old → Shows sites texts w → HasJoined text old new
+    → (x : Message) → slice_get w.messages m ≡ Some x → text ≡ message_text x → IsSound x
+    → Allowed (model.Deliver i m) old new texts texts told.Delivered sites w
+delivered_at i m old new texts text sites w at sh joins (Summary s) there same sound = absurd (texts_differ joins.message s (sym joins.says.is ∙ same))
+delivered_at i m old new texts text sites w at sh joins (Content o) there same sound =
+    let is : joins.message ≡ o = one_content joins.message o joins.says.content sound (sym joins.says.is ∙ same) in
+    let Q : Option Message → Type 0 = λ x. Shows (slice_set sites i new) texts (model.with_held w i (joined (w.held i) (model.operations_of (model.message_or x)))) in
+    record {
+      none = ap (λ x. model.deliver_fault {F = TakeFault} x) there;
+      shows = subst Q (sym there) (shows_held sites texts w i old new (joined (w.held i) o) at sh
+          (joins.held ∙ ap (λ p. joined old.held p) is ∙ ap (λ p. joined p o) (sh.each i old at).held) joins.saved (content_joined (w.held i) o (sh.held i) sound));
+      tells = refl;
+    }
+
+pub delivered : (i m : ℕ) (old new : Keeping) (texts : List (List ℕ)) (text : List ℕ) → slice_get texts m ≡ Some text → HasJoined text old new → Follows (model.Deliver i m) old new texts texts told.Delivered
+delivered i m old new texts text got joins = follow_by (model.Deliver i m) old new texts texts told.Delivered (λ sites w at sh.
+    let x : IsMessage w m text = message_at sites texts w m text sh got in
+    delivered_at i m old new texts text sites w at sh joins x.message x.is x.text_is x.sound)
+
+not_delivered_at : (w : World) (i m : ℕ) (text : List ℕ) (f : RecordFault) → IsDeliverFault text (deliver.Refused f)
+    → (x : Message) → slice_get w.messages m ≡ Some x → text ≡ message_text x → IsSound x
+    → Barred (model.Deliver i m) (told.Refused (fault.Refused f)) w
+not_delivered_at w i m text f refused (Summary s) there same sound =
+    let P : List ℕ → Type 0 = λ t. IsFault t f in
+    record {
+      why = model.NotAContent;
+      told = ap (λ g. told.Refused (fault.Refused g)) (not_an_archive s f (subst P same refused.0));
+      is = ap (λ x. model.deliver_fault {F = TakeFault} x) there;
+    }
+not_delivered_at w i m text f refused (Content o) there same sound = absurd (refused.2 (o, record { content = sound; is = same }))
+
+pub not_delivered : (i m : ℕ) (old : Keeping) (texts : List (List ℕ)) (text : List ℕ) (f : RecordFault) → slice_get texts m ≡ Some text → IsDeliverFault text (deliver.Refused f)
+    → Follows (model.Deliver i m) old old texts texts (told.Refused (fault.Refused f))
+not_delivered i m old texts text f got refused = refuse_by (model.Deliver i m) old texts (told.Refused (fault.Refused f)) (λ sites w at sh.
+    let x : IsMessage w m text = message_at sites texts w m text sh got in
+    not_delivered_at w i m text f refused x.message x.is x.text_is x.sound)
+
+pub saves : (i : ℕ) (old new : Keeping) (texts : List (List ℕ)) → new.held ≡ old.held → new.saved ≡ written old.held → Follows (model.Save i) old new texts texts told.Saved
+saves i old new texts held saved = follow_by (model.Save i) old new texts texts told.Saved (λ sites w at sh.
+    record { none = refl; shows = shows_saved sites texts w i old new at sh held saved; tells = refl })
+
+pub stops : (i : ℕ) (old new : Keeping) (texts : List (List ℕ)) → Says old.saved new.held → new.saved ≡ old.saved → Follows (model.Stop i) old new texts texts told.Stopped
+stops i old new texts says saved = follow_by (model.Stop i) old new texts texts told.Stopped (λ sites w at sh.
+    record {
+      none = refl;
+      shows = shows_held sites texts w i old new (w.saved i) at sh (one_content new.held (w.saved i) says.content (sh.saved i) (sym says.is ∙ (sh.each i old at).saved)) saved (sh.saved i);
+      tells = refl;
+    })
+
+-- among sites
+pub happens_at : (e : Event TakeFault) (old new : Keeping) (texts later : List (List ℕ)) (a : Outcome) (sites others : List Keeping)
+    → Follows e old new texts later a → slice_get sites (site_of e) ≡ Some old → others ≡ slice_set sites (site_of e) new → Happens e sites others texts later a
+happens_at e old new texts later a sites others follows at is =
+    let P : List Keeping → Type 0 = λ s. Happens e sites s texts later a in
+    subst P (sym is) (record {
+      shows = λ w sh. follows.shows sites w at sh;
+      tells = λ w sh. follows.tells sites w at sh;
+    })
+
+pub happens_nowhere : (e : Event TakeFault) (texts : List (List ℕ)) (sites : List Keeping) → length sites ≤ site_of e → Happens e sites sites texts texts (told.Refused fault.NoSite)
+happens_nowhere e texts sites out = record {
+  shows = λ w sh. let P : World → Type 0 = λ v. Shows sites texts v in subst P (sym (ap (λ g. unless g w (effect w e)) (no_site w))) sh;
+  tells = λ w sh. (model.NoSite, refl, ap (λ g. refused_or g (answer w e)) (no_site w));
+}
+  where
+    no_site : (w : World) → fault_of (length sites) w e ≡ Some model.NoSite
+    no_site w = ap (λ b. if b then fault_at_site w.messages e else Some model.NoSite) (le-ltb (site_of e) (length sites) out)
+
+-- the same, told by an equal outcome
+pub follows_as : (e : Event TakeFault) (old new : Keeping) (texts later : List (List ℕ)) (a b : Outcome) → b ≡ a → Follows e old new texts later a → Follows e old new texts later b
+follows_as e old new texts later a b is follows = let P : Outcome → Type 0 = λ x. Follows e old new texts later x in subst P (sym is) follows
+
+-- the same, where the site stays as it was
+pub kept_as : (e : Event TakeFault) (old new : Keeping) (texts later : List (List ℕ)) (a : Outcome) → new ≡ old → Follows e old old texts later a → Follows e old new texts later a
+kept_as e old new texts later a is follows = let P : Keeping → Type 0 = λ k. Follows e old k texts later a in subst P (sym is) follows
+
+pub deliver_ne : (d : DeliverFault) (f : RecordFault) → d ≡ deliver.Refused f → d ≢ deliver.OutOfMemory
+deliver_ne d f e q = cc
+
+pub sent_at : (texts : List (List ℕ)) (m : ℕ) (x text : List ℕ) → m < length texts → x ≡ get_or texts m x → text ≡ x → slice_get texts m ≡ Some text
+sent_at texts m x text lt is e = slice_get_read texts (length texts) m x refl lt is ∙ ap (λ (t : List ℕ). Some t) (sym e)

@@ -1,0 +1,44 @@
+-- An archive's text is no summary's, and is refused where one has to stand; and the other way.
+use Rattle.std.proofs.Common.{◌≡◌, ◌≢◌, ℕ, ◌<◌, ◌≤◌, ◌+◌, List, ◌++◌, length, take, refl, sym, ap, ◌∙◌, arith, length-append, inl, inr}
+use Rattle.std.specs.Prelude.{slice_index}
+use Rattle.std.specs.List.{concat}
+use Rattle.std.specs.FinSet as set
+use Rattle.join_core.specs.Listing.{listing}
+use Rattle.archive_core.specs.Content.{Operations}
+use Rattle.archive_core.specs.Summary.{Entries}
+use Rattle.archive_records.specs.declared.fault.RecordFault.{RecordFault}
+use Rattle.archive_records.specs.declared.kind.FileKind.TheVariants.{Archive, Summary}
+use Rattle.archive_records.specs.Kind.{magic, summary_magic}
+use Rattle.archive_records.specs.Text.{written, summary_text, end_record}
+use Rattle.archive_records.specs.Fault.{IsFault, IsSummaryFault}
+use Rattle.archive_records.proofs.Exact.{one_fault}
+use Rattle.archive_exchange.specs.Seen.{other_magic}
+
+apart : (a b : ℕ) → a ≡ b → a ≡ 65 → b ≡ 83 → ⊥
+apart a b e p q = omega arith
+
+pub texts_differ : (o : Operations) (s : Entries) → written o ≡ summary_text s → ⊥
+unfolding written summary_text
+texts_differ o s e = apart 65 83 (ap (λ (t : List ℕ). slice_index t 4) e) refl refl
+
+long : (s : Entries) → 5 ≤ length (summary_text s)
+unfolding summary_text
+long s = omega (arith, length-append summary_magic (concat (listing s) ++ end_record (set.len s)))
+
+other : (s : Entries) → take 5 (summary_text s) ≢ take 5 magic
+unfolding summary_text
+other s e = apart 65 83 (sym (ap (λ (t : List ℕ). slice_index t 4) e)) refl refl
+
+pub not_an_archive : (s : Entries) (fault : RecordFault) → IsFault (summary_text s) fault → fault ≡ other_magic
+not_an_archive s fault is = one_fault Archive (summary_text s) fault other_magic is (inl ((5, omega arith, long s, other s), refl))
+
+long_archive : (o : Operations) → 5 ≤ length (written o)
+unfolding written
+long_archive o = omega (arith, length-append magic (concat (listing o) ++ end_record (set.len o)))
+
+other_archive : (o : Operations) → take 5 (written o) ≢ take 5 summary_magic
+unfolding written
+other_archive o e = apart 65 83 (ap (λ (t : List ℕ). slice_index t 4) e) refl refl
+
+pub not_a_summary : (o : Operations) (fault : RecordFault) → IsSummaryFault (written o) fault → fault ≡ other_magic
+not_a_summary o fault is = one_fault Summary (written o) fault other_magic is (inl ((5, omega arith, long_archive o, other_archive o), refl))

@@ -1,0 +1,138 @@
+-- What a change at one site is to a world that sites show.
+use Rattle.std.proofs.Common.{◌≡◌, ◌≢◌, ℕ, zero, suc, ◌<◌, Bool, true, false, List, [], ◌∷◌, ◌++◌, map, length, slice_get, refl, sym, ap, ◌∙◌, subst, if◌then◌else◌, ◌==◌, nat_lt, eq-eqb, ◌⊎◌, inl, inr}
+use Rattle.std.specs.Prelude.{slice_set}
+use mathlib.Core.Bool.{true≢false}
+use Rattle.std.specs.declared.option.Option.{Option}
+use Rattle.std.specs.declared.option.Option.TheVariants.{None, Some}
+use Rattle.std.specs.Option.{option_map}
+use Rattle.std.proofs.lemmas.Bool.{eqb-true}
+use Rattle.std.proofs.lemmas.Option.{slice_get-map}
+use Rattle.std.proofs.lemmas.List.{map-append}
+use Rattle.archive_core.specs.Content.{Operations, IsContent}
+use Rattle.archive_records.specs.Text.{written}
+use Rattle.exchange_model.specs.World.{World, Message, Content, Summary, updated, with_held, with_saved, with_sent}
+use Rattle.archive_exchange.specs.Keeping.{Keeping}
+use Rattle.archive_exchange.specs.Rehearsal.{message_text, IsSound, IsSite, Shows}
+
+-- a list with one element set
+other : {X : Type 0} (xs : List X) (i j : ℕ) (x y : X) → j ≢ i → slice_get (slice_set xs i x) j ≡ Some y → slice_get xs j ≡ Some y
+other [] zero j x y ne h = h
+other [] (suc i) j x y ne h = h
+other (z ∷ xs) zero zero x y ne h = absurd (ne refl)
+other (z ∷ xs) zero (suc j) x y ne h = h
+other (z ∷ xs) (suc i) zero x y ne h = h
+other (z ∷ xs) (suc i) (suc j) x y ne h = other xs i j x y (λ e. ne (ap suc e)) h
+
+same : {X : Type 0} (xs : List X) (i : ℕ) (x y : X) → slice_get (slice_set xs i x) i ≡ Some y → x ≡ y
+same [] zero x y h = cc
+same [] (suc i) x y h = cc
+same (z ∷ xs) zero x y h = cc
+same (z ∷ xs) (suc i) x y h = same xs i x y h
+
+pub set_same : {X : Type 0} (xs : List X) (i : ℕ) (x : X) → slice_get xs i ≡ Some x → slice_set xs i x ≡ xs
+set_same [] zero x h = refl
+set_same [] (suc i) x h = refl
+set_same (z ∷ xs) zero x h = let e : z ≡ x = cc in ap (λ y. y ∷ xs) (sym e)
+set_same (z ∷ xs) (suc i) x h = ap (λ ys. z ∷ ys) (set_same xs i x h)
+
+-- sites with one of them updated
+updated_same : (f : ℕ → Operations) (i : ℕ) (o : Operations) → updated f i o i ≡ o
+updated_same f i o = ap (λ b. if b then o else f i) (eq-eqb i i refl)
+
+differ : (i j : ℕ) → j ≢ i → (j == i) ≡ false
+differ i j ne = elim (j == i) as (λ b. (j == i) ≡ b → b ≡ false) [
+  | true ↦ λ e. absurd (ne (eqb-true j i e))
+  | false ↦ λ e. refl
+] refl
+
+updated_other : (f : ℕ → Operations) (i : ℕ) (o : Operations) (j : ℕ) → j ≢ i → updated f i o j ≡ f j
+updated_other f i o j ne = ap (λ b. if b then o else f j) (differ i j ne)
+
+updated_each : (f : ℕ → Operations) (i : ℕ) (o : Operations) → IsContent o → ((j : ℕ) → IsContent (f j)) → (j : ℕ) → IsContent (updated f i o j)
+updated_each f i o is all j = elim (j == i) as (λ b. IsContent (if b then o else f j)) [ true ↦ is | false ↦ all j ]
+
+-- a world that is another at one site is shown by the sites with that one set
+record IsElsewhere (w v : World) (j : ℕ) : Type 0 where
+  held : v.held j ≡ w.held j
+  saved : v.saved j ≡ w.saved j
+
+each_by : (sites : List Keeping) (w v : World) (i : ℕ) (new : Keeping)
+    → ((j : ℕ) (site : Keeping) → slice_get sites j ≡ Some site → IsSite w j site) → IsSite v i new → ((j : ℕ) → j ≢ i → IsElsewhere w v j)
+    → (j : ℕ) (site : Keeping) → slice_get (slice_set sites i new) j ≡ Some site → IsSite v j site
+each_by sites w v i new each here elsewhere j site h = elim (j == i) as (λ b. (j == i) ≡ b → IsSite v j site) [
+  | true ↦ λ e.
+      let at : j ≡ i = eqb-true j i e in
+      let P : ℕ → Type 0 = λ k. slice_get (slice_set sites i new) k ≡ Some site in
+      let Q : Keeping → Type 0 = λ s. IsSite v i s in
+      let R : ℕ → Type 0 = λ k. IsSite v k site in
+      subst R (sym at) (subst Q (same sites i new site (subst P at h)) here)
+  | false ↦ λ e.
+      let ne : j ≢ i = λ q. true≢false (sym (eq-eqb j i q) ∙ e) in
+      let is : IsSite w j site = each j site (other sites i j new site ne h) in
+      record { held = is.held ∙ sym (elsewhere j ne).held; saved = is.saved ∙ ap written (sym (elsewhere j ne).saved) }
+] refl
+
+pub shows_held : (sites : List Keeping) (texts : List (List ℕ)) (w : World) (i : ℕ) (old new : Keeping) (o : Operations)
+    → slice_get sites i ≡ Some old → Shows sites texts w → new.held ≡ o → new.saved ≡ old.saved → IsContent o → Shows (slice_set sites i new) texts (with_held w i o)
+shows_held sites texts w i old new o at sh held saved is = record {
+  each = each_by sites w (with_held w i o) i new sh.each
+      (record { held = held ∙ sym (updated_same w.held i o); saved = saved ∙ (sh.each i old at).saved })
+      (λ j ne. record { held = updated_other w.held i o j ne; saved = refl });
+  sent = sh.sent;
+  held = updated_each w.held i o is sh.held;
+  saved = sh.saved;
+  sound = sh.sound;
+}
+
+pub shows_saved : (sites : List Keeping) (texts : List (List ℕ)) (w : World) (i : ℕ) (old new : Keeping)
+    → slice_get sites i ≡ Some old → Shows sites texts w → new.held ≡ old.held → new.saved ≡ written old.held → Shows (slice_set sites i new) texts (with_saved w i)
+shows_saved sites texts w i old new at sh held saved = record {
+  each = each_by sites w (with_saved w i) i new sh.each
+      (record {
+        held = held ∙ (sh.each i old at).held;
+        saved = saved ∙ ap written ((sh.each i old at).held ∙ sym (updated_same w.saved i (w.held i)));
+      })
+      (λ j ne. record { held = refl; saved = updated_other w.saved i (w.held i) j ne });
+  sent = sh.sent;
+  held = sh.held;
+  saved = updated_each w.saved i (w.held i) (sh.held i) sh.saved;
+  sound = sh.sound;
+}
+
+sound_more : (ms : List Message) (m : Message) → ((k : ℕ) (x : Message) → slice_get ms k ≡ Some x → IsSound x) → IsSound m
+    → (k : ℕ) (x : Message) → slice_get (ms ++ m ∷ []) k ≡ Some x → IsSound x
+sound_more [] m all is zero x h = let P : Message → Type 0 = λ y. IsSound y in let e : m ≡ x = cc in subst P e is
+sound_more [] m all is (suc k) x h = cc
+sound_more (y ∷ ms) m all is zero x h = all zero x h
+sound_more (y ∷ ms) m all is (suc k) x h = sound_more ms m (λ j. all (suc j)) is k x h
+
+pub shows_sent : (sites : List Keeping) (texts : List (List ℕ)) (w : World) (m : Message) → Shows sites texts w → IsSound m → Shows sites (texts ++ message_text m ∷ []) (with_sent w m)
+shows_sent sites texts w m sh is = record {
+  each = λ i site h. record { held = (sh.each i site h).held; saved = (sh.each i site h).saved };
+  sent = ap (λ t. t ++ message_text m ∷ []) sh.sent ∙ sym (map-append message_text w.messages (m ∷ []));
+  held = sh.held;
+  saved = sh.saved;
+  sound = sound_more w.messages m sh.sound is;
+}
+
+-- the message of a text that was sent
+pub record IsMessage (w : World) (m : ℕ) (text : List ℕ) : Type 0 where
+  pub message : Message
+  pub is : slice_get w.messages m ≡ Some message
+  pub text_is : text ≡ message_text message
+  pub sound : IsSound message
+
+pub message_at : (sites : List Keeping) (texts : List (List ℕ)) (w : World) (m : ℕ) (text : List ℕ) → Shows sites texts w → slice_get texts m ≡ Some text → IsMessage w m text
+message_at sites texts w m text sh h = by (slice_get w.messages m) refl (sym h ∙ ap (λ l. slice_get l m) sh.sent ∙ slice_get-map message_text w.messages m)
+  where
+    by : (o : Option Message) → slice_get w.messages m ≡ o → Some text ≡ option_map message_text o → IsMessage w m text
+    by None e t = cc
+    by (Some x) e t = record { message = x; is = e; text_is = cc; sound = sh.sound m x e }
+
+-- where a text is not there, no message is
+pub no_message_at : (sites : List Keeping) (texts : List (List ℕ)) (w : World) (m : ℕ) → Shows sites texts w → slice_get texts m ≡ None → slice_get w.messages m ≡ None
+no_message_at sites texts w m sh h = by (slice_get w.messages m) refl (sym h ∙ ap (λ l. slice_get l m) sh.sent ∙ slice_get-map message_text w.messages m)
+  where
+    by : (o : Option Message) → slice_get w.messages m ≡ o → None ≡ option_map message_text o → slice_get w.messages m ≡ None
+    by None e t = e
+    by (Some x) e t = cc

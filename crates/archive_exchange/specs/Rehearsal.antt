@@ -1,0 +1,56 @@
+-- The sites and the messages of a rehearsal beside a world of exchange_model, and what an event makes of them.
+use Rattle.std.specs.Prelude.{◌≡◌, ℕ, List, Some, map, length, slice_get, slice_set, refl}
+use Rattle.std.specs.Ordering.{nat_cmp}
+use Rattle.std.specs.Coded.{Coded, code_by, coded×, coded_list, coded_ℕ}
+use Rattle.archive_core.specs.Content.{IsContent}
+use Rattle.archive_records.specs.Entry.{AreEntries}
+use Rattle.archive_records.specs.Text.{written, summary_text}
+use Rattle.exchange_model.specs.World.{World, Message, Content, Summary, Event, site_of, happens, outcome}
+use Rattle.archive_exchange.specs.Keeping.{Keeping, keeping_code}
+use Rattle.archive_exchange.specs.Seen.{Tells}
+use Rattle.archive_exchange.specs.declared.fault.TakeFault.{TakeFault}
+use Rattle.archive_exchange.specs.declared.event.Outcome.{Outcome}
+
+-- what the sites keep, in the order of their numbers, and the texts that were sent, in their order
+pub record Scene : Type 0 where
+  pub sites : List Keeping
+  pub messages : List (List ℕ)
+
+-- a scene is stored as the pair of its parts
+abbrev pub scene_code : Coded Scene
+scene_code =
+    code_by (List Keeping × List (List ℕ)) (coded× (coded_list keeping_code) (coded_list (coded_list coded_ℕ))) (λ s. (s.sites, s.messages)) (λ p. record { sites = p.0; messages = p.1 }) (λ _. refl)
+
+-- the text of a message: of a content or of a summary
+abbrev pub message_text : Message → List ℕ
+message_text (Content o) = written o
+message_text (Summary s) = summary_text s
+
+-- what is sent is a content, or the summary of one
+abbrev pub IsSound : Message → Type 0
+IsSound (Content o) = IsContent o
+IsSound (Summary s) = AreEntries s
+
+-- a site keeps what the world has at this number: what it saved is the text of what is saved there
+pub record IsSite (w : World) (i : ℕ) (site : Keeping) : Type 0 where
+  pub held : site.held ≡ w.held i
+  pub saved : site.saved ≡ written (w.saved i)
+
+-- the sites and the texts of the messages are those of the world, in which all is a content or a summary
+pub record Shows (sites : List Keeping) (texts : List (List ℕ)) (w : World) : Type 0 where
+  pub each : (i : ℕ) (site : Keeping) → slice_get sites i ≡ Some site → IsSite w i site
+  pub sent : texts ≡ map message_text w.messages
+  pub held : (i : ℕ) → IsContent (w.held i)
+  pub saved : (i : ℕ) → IsContent (w.saved i)
+  pub sound : (m : ℕ) (message : Message) → slice_get w.messages m ≡ Some message → IsSound message
+
+-- The event happens at a site: in each world that sites show, of which this one stands at the event's number, it leaves the
+-- sites as they are with this one, and is answered so.
+pub record Follows (e : Event TakeFault) (old new : Keeping) (texts later : List (List ℕ)) (answer : Outcome) : Type 0 where
+  pub shows : (sites : List Keeping) (w : World) → slice_get sites (site_of e) ≡ Some old → Shows sites texts w → Shows (slice_set sites (site_of e) new) later (happens (length sites) w e)
+  pub tells : (sites : List Keeping) (w : World) → slice_get sites (site_of e) ≡ Some old → Shows sites texts w → Tells answer (outcome (length sites) w e)
+
+-- The event happens among sites: it leaves them so in each world that they show, and is answered so.
+pub record Happens (e : Event TakeFault) (sites others : List Keeping) (texts later : List (List ℕ)) (answer : Outcome) : Type 0 where
+  pub shows : (w : World) → Shows sites texts w → Shows others later (happens (length sites) w e)
+  pub tells : (w : World) → Shows sites texts w → Tells answer (outcome (length sites) w e)

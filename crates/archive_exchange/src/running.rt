@@ -1,0 +1,121 @@
+//! Any list of events, on any number of sites.
+ghost use Rattle.std.specs.Prelude.{◌≡◌, ◌≤◌, ℕ, [], List, Some, suc, min, max, length, slice_get, IfOk};
+ghost use Rattle.std.specs.List.{AllZip};
+ghost use Rattle.archive_core.specs.Content.{IsBelow, made};
+ghost use Rattle.exchange_model.specs.World.{start, state, outcomes};
+ghost use Rattle.exchange_model.specs.Reached.{reached};
+ghost use Rattle.exchange_model.specs.Issued.{AreIssued, IsDigestTelling, IsExchange, IsQuiet};
+ghost use Rattle.archive_exchange.specs.Keeping.{Keeping};
+ghost use Rattle.archive_exchange.specs.Seen.{Seen, OfEvents, Tells};
+ghost use Rattle.archive_exchange.specs.Rehearsal.{Shows};
+ghost use Rattle.archive_exchange.specs.Alike.{AreAlike, HasRun};
+
+use crate::happening::happen;
+use crate::{Event, Outcome, Site, TakeFault, World};
+use archive_core::Archive;
+use exchange_model::laws::{
+    answered_agree, delta_lifts, issued_and_kept, reached_is_held, same_reached,
+};
+use memory::{Heap, NoMemory};
+
+/// Empty sites.
+fn empty_sites<A: Archive + Drop>(heap: &Heap, sites: u32) -> Result<Vec<Site<A>, Heap>, NoMemory>
+    ensures number { IfOk result (λ row. length row.items ≡ sites) }
+    ensures empty { IfOk result (λ row. Shows row.items [] start) }
+{
+    let mut row = Vec::new(heap.clone()?);
+    'sites: for _ in 0..sites {
+        row.push(Site::new(heap.clone()?)?)?;
+    }
+    Ok(row)
+}
+
+/// Carries the events out, one after another.
+fn rehearse<A: Archive + Drop>(
+    heap: Heap,
+    sites: u32,
+    events: &[Event],
+) -> Result<(World<A>, Vec<Outcome, Heap>), NoMemory>
+    ensures number { IfOk result (λ done. length done.0.sites ≡ sites) }
+    ensures has_run { IfOk result (λ done. OfEvents events.now (λ seen.
+        HasRun sites seen (length seen) done.0.sites done.0.messages done.1.items)) }
+{
+    let mut row = empty_sites(&heap, sites)?;
+    let mut messages = Vec::new(heap.clone()?);
+    let mut outcomes = Vec::new(heap);
+    'events: for event in events {
+        let outcome = happen(&mut row, &mut messages, event)?;
+        outcomes.push(outcome)?;
+    }
+    Ok((World::new(row, messages), outcomes))
+}
+
+/// Carries out a list of events on so many sites, which begin empty, and gives the world that they leave and an outcome
+/// an event. Any events, in any order: a refused one changes nothing.
+///
+/// Each clause speaks of what the events are to the definitions of `exchange_model`, as `laws::one_meaning` says of each
+/// list. Want of memory at any event refuses the run.
+pub fn run<A: Archive + Drop>(
+    heap: Heap,
+    sites: u32,
+    events: &[Event],
+) -> Result<(World<A>, Vec<Outcome, Heap>), NoMemory>
+    ensures number { IfOk result (λ done. length done.0.sites ≡ sites) }
+
+    // The world is the state after all events, its messages byte for byte, and the outcomes are those of the events.
+    ensures state { IfOk result (λ done. OfEvents events.now (λ seen.
+        Shows done.0.sites done.0.messages (state sites seen (length seen)))) }
+    ensures outcomes { IfOk result (λ done. OfEvents events.now (λ seen.
+        AllZip Tells done.1.items (outcomes sites seen (length seen)))) }
+
+    // A site holds the content that the operations make which reach it.
+    ensures reached { IfOk result (λ done. OfEvents events.now (λ seen. (i : ℕ) (site : Keeping)
+        → slice_get done.0.sites i ≡ Some site
+        → site.held ≡ made (reached sites seen i))) }
+
+    // The headline: sites that the same operations reached, here or in any other run, hold the same content, write the same
+    // bytes and answer every lookup alike.
+    ensures same_operations_same_bytes { IfOk result (λ done. OfEvents events.now (λ seen.
+        (i : ℕ) (site : Keeping) (others : ℕ) (later : List Seen) (j : ℕ)
+        → slice_get done.0.sites i ≡ Some site
+        → made (reached sites seen i) ≡ made (reached others later j)
+        → AreAlike site.held ((state others later (length later)).held j))) }
+
+    // Nothing is held or saved that was not issued.
+    ensures held_was_issued { IfOk result (λ _. OfEvents events.now (λ seen. (n i : ℕ)
+        → AreIssued sites seen ((state sites seen n).held i))) }
+    ensures saved_was_issued { IfOk result (λ _. OfEvents events.now (λ seen. (n i : ℕ)
+        → AreIssued sites seen ((state sites seen n).saved i))) }
+
+    // What a site has saved only grows, and is below what it holds then and later.
+    ensures saved_grows { IfOk result (λ _. OfEvents events.now (λ seen. (n m i : ℕ)
+        → n ≤ m
+        → IsBelow ((state sites seen n).saved i) ((state sites seen m).saved i))) }
+    ensures saved_is_held { IfOk result (λ _. OfEvents events.now (λ seen. (n m i : ℕ)
+        → n ≤ m
+        → IsBelow ((state sites seen n).saved i) ((state sites seen m).held i))) }
+
+    // Where no two different issued slices share a SHA-256: a site that takes a delta made in reply to any summary that it
+    // sent is above what the replier held then.
+    ensures lifted { IfOk result (λ _. OfEvents events.now (λ seen. (i x a r k : ℕ)
+        → IsDigestTelling sites seen
+        → IsExchange sites seen i x a r k
+        → IsBelow ((state sites seen r).held x) ((state sites seen (suc k)).held i))) }
+
+    // And two sites that answer each other's summaries, and are quiet meanwhile, end alike.
+    ensures agreed { IfOk result (λ _. OfEvents events.now (λ seen. (i j a r d b s e : ℕ)
+        → IsDigestTelling sites seen
+        → IsExchange sites seen i j a r d
+        → IsExchange sites seen j i b s e
+        → IsQuiet seen i (min a b) (max d e) d
+        → IsQuiet seen j (min a b) (max d e) e
+        → AreAlike ((state sites seen (suc (max d e))).held i) ((state sites seen (suc (max d e))).held j))) }
+{
+    reached_is_held::<TakeFault>();
+    same_reached::<TakeFault>();
+    issued_and_kept::<TakeFault>();
+    delta_lifts::<TakeFault>();
+    answered_agree::<TakeFault>();
+    let done = rehearse(heap, sites, events)?;
+    Ok(done)
+}

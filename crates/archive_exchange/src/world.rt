@@ -1,0 +1,69 @@
+//! What a rehearsal leaves.
+ghost use Rattle.std.specs.Prelude.{◌≡◌, ◌<◌, ◌^◌, Some, length, slice_get};
+
+use crate::Site;
+use crate::message::Message;
+use archive_core::Archive;
+use memory::Heap;
+use std::marker::Model;
+
+/// The sites of a rehearsal and the messages that they sent. Both are counted from 0.
+#[derive(Drop)]
+pub struct World<A: Archive> {
+    sites: Vec<Site<A>, Heap>,
+    messages: Vec<Message, Heap>,
+}
+
+impl<A: Archive> Model for World<A> {
+    ghost use Rattle.std.specs.Prelude.{◌<◌, ◌^◌, length};
+    ghost use Rattle.archive_exchange.specs.Rehearsal.{Scene, scene_code};
+
+    ghost Value = { Scene };
+
+    ghost coded = { scene_code };
+
+    ghost view = { λ world. record { sites = world.sites.items; messages = world.messages.items } };
+
+    ghost invariant = { λ world. length world.sites.items < 2 ^ 32 };
+}
+
+impl<A: Archive> World<A> {
+    /// The world of these sites and messages.
+    pub(crate) fn new(sites: Vec<Site<A>, Heap>, messages: Vec<Message, Heap>) -> World<A>
+        requires { length sites.items < 2 ^ 32 }
+        ensures sites { result.sites ≡ sites.items }
+        ensures messages { result.messages ≡ messages.items }
+    {
+        World { sites, messages }
+    }
+
+    /// The number of the sites.
+    pub fn sites(&self) -> u32
+        ensures { result ≡ length self.now.sites }
+    {
+        self.sites.len() as u32
+    }
+
+    /// The site of a number.
+    pub fn site(&self, number: u32) -> &Site<A>
+        requires { number < length self.now.sites }
+        ensures { slice_get self.now.sites number ≡ Some result.now }
+    {
+        &self.sites[number as usize]
+    }
+
+    /// The number of the messages.
+    pub fn messages(&self) -> u64
+        ensures { result ≡ length self.now.messages }
+    {
+        self.messages.len() as u64
+    }
+
+    /// The text of the message of a number.
+    pub fn message(&self, number: u64) -> &[u8]
+        requires { number < length self.now.messages }
+        ensures { slice_get self.now.messages number ≡ Some result.now }
+    {
+        self.messages[number as usize].text()
+    }
+}
