@@ -16,9 +16,9 @@ use Rattle.archive_core.specs.declared.lookup.Answer.{Answer}
 use Rattle.archive_core.specs.declared.lookup.Answer.TheVariants.{Unknown, NoSymbol, Symbol, Conflict}
 use Rattle.archive_core.specs.declared.lookup.Where.{Where}
 use Rattle.archive_records.specs.Text.{written}
-use Rattle.report_text.specs.Answers.{address_text, escaped, found_text, own_text, own_line, answer_lines}
+use Rattle.archive_words.specs.Words.{address_text, digest_text}
+use Rattle.report_text.specs.Answers.{escaped, found_text, own_text, own_line, answer_lines}
 use Rattle.report_text.specs.Report.{line}
-use Rattle.report_text.specs.Rows.{digest_text}
 use Rattle.archive_commands.specs.declared.faults.CannotOpen.{CannotOpen}
 use Rattle.archive_commands.specs.declared.faults.Status.{Status}
 use Rattle.archive_commands.specs.declared.faults.Status.TheVariants.{Done, Partial}

@@ -14,7 +14,7 @@ use Rattle.command_line.specs.Lines.{KeepsInputs, Line, admit, admit_of, all_spe
 use Rattle.command_line.specs.Lines.{find, find_of, is_path_among, kept, line_in, merge, merge_of, new}
 use Rattle.command_line.specs.Lines.{optional_at, plan_view, retire, retire_of, spelled_at}
 use Rattle.command_line.specs.Lines.{symbolicate, symbolicate_of}
-use Rattle.command_line.specs.Words.{address_of, arch_of, digest_of}
+use Rattle.archive_words.specs.Words.{address_of, arch_of, digest_of}
 use Rattle.command_line.specs.declared.line_faults.LineFault.{LineFault}
 use Rattle.command_line.specs.declared.plans.Plan.{Plan}
 

@@ -1,6 +1,5 @@
 pub mod CommandLemmas
 pub mod Filled
-pub mod FormLemmas
 pub mod KeptInputs
 pub mod OnWords
 pub mod Simple

@@ -8,7 +8,7 @@ use Rattle.clap.proofs.OnLiterals.{clap_on_literals}
 use Rattle.command_line.specs.Commands.{symarch_command}
 use Rattle.command_line.specs.Lines.{admit, are_taken, error_kinds, find, is_in_order, line_of, merge, new}
 use Rattle.command_line.specs.Lines.{named_command, retire, symbolicate}
-use Rattle.command_line.specs.Words.{address_of, arch_key, arch_of, digest_of}
+use Rattle.archive_words.specs.Words.{address_of, arch_key, arch_of, digest_of}
 
 -- the program's name, which is the first word of each line
 abbrev symarch : List Text → List Text

@@ -25,7 +25,7 @@ use Rattle.command_line.specs.Lines.{line_of, merge, merge_line, merge_of, named
 use Rattle.command_line.specs.Lines.{retire, retire_line, retire_of}
 use Rattle.command_line.specs.Lines.{spares_inputs, spelled_at, spelled_if_there, symbolicate, symbolicate_line}
 use Rattle.command_line.specs.Lines.{symbolicate_of, words_at}
-use Rattle.command_line.specs.Words.{address_of, arch_of, digest_of}
+use Rattle.archive_words.specs.Words.{address_of, arch_of, digest_of}
 use Rattle.command_line.proofs.Filled.{are_filled, found_passes, is_filled, lets_name, lets_stop, level}
 use Rattle.command_line.proofs.Filled.{want_values}
 

@@ -9,7 +9,7 @@ use Rattle.uuid.specs.Text.{parsed}
 use Rattle.archive_core.specs.declared.keys.ArchKey.{ArchKey}
 use Rattle.archive_core.specs.declared.keys.Digest.{Digest}
 use Rattle.command_line.specs.Commands.{symarch_command}
-use Rattle.command_line.specs.Words.{address_of, arch_of, digest_of}
+use Rattle.archive_words.specs.Words.{address_of, arch_of, digest_of}
 use Rattle.command_line.specs.declared.plans.Plan.{Plan}
 use Rattle.command_line.specs.declared.plans.Plan.TheVariants as plan
 

@@ -3,7 +3,6 @@
 //! - `plans`: what a command line asks for, a case a command;
 //! - `line_faults`: why a line gives no plan;
 //! - `commands`: the commands, as `clap` builds them;
-//! - `words`: the forms of words;
 //! - `values`: the values that `clap` puts at the names of a command;
 //! - `updates`: the plans of the commands that write an archive;
 //! - `queries`: the plans of the commands that ask one;
@@ -17,7 +16,6 @@ mod queries;
 mod reads;
 mod updates;
 mod values;
-mod words;
 
 pub use line_faults::LineFault;
 pub use plans::Plan;

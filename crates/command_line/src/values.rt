@@ -7,7 +7,7 @@ ghost use Rattle.command_line.specs.Lines.{all_spelled, all_spelled_at, is_path_
 ghost use Rattle.command_line.specs.Told.{IsRefusalUnlessMemory};
 
 use crate::line_faults::{LineFault, refused};
-use crate::words::Word;
+use archive_words::Word;
 use clap::ArgMatches;
 use std::alloc::{AllocError, Global};
 

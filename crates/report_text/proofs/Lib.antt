@@ -1,3 +1,3 @@
-pub mod HexText
+pub mod Escapes
 pub mod Grouped
 pub mod Counted

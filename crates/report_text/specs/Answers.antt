@@ -8,12 +8,8 @@ use Rattle.archive_core.specs.declared.lookup.Own.TheVariants.{NoSymbol, Symbol}
 use Rattle.archive_core.specs.declared.lookup.Answer.{Answer}
 use Rattle.archive_core.specs.declared.lookup.Answer.TheVariants.{Unknown, NoSymbol as AnswerNoSymbol, Symbol as AnswerSymbol, Conflict}
 use Rattle.archive_core.specs.declared.keys.Digest.{Digest}
-use Rattle.report_text.specs.Rows.{hex_digits, digest_text}
+use Rattle.archive_words.specs.Words.{address_text, digest_text, hex_digits}
 use Rattle.report_text.specs.Report.{line}
-
--- an address
-unfoldable pub address_text : ℕ → List ℕ
-address_text address = codes "0x" ++ hex_digits 16 address
 
 -- a byte that is no printed character of ASCII, and the backslash
 abbrev pub is_escaped : ℕ → Bool

@@ -7,7 +7,7 @@ use Rattle.archive_core.specs.declared.keys.ArchKey.{ArchKey}
 use Rattle.archive_core.specs.declared.find.FindRow.{FindRow}
 use Rattle.archive_core.specs.declared.find.FindState.{FindState}
 use Rattle.archive_core.specs.declared.find.FindState.TheVariants.{Retired, Image, Dsym}
-use Rattle.report_text.specs.Rows.{arch_text, digest_text}
+use Rattle.archive_words.specs.Words.{arch_text, digest_text}
 use Rattle.report_text.specs.Report.{line}
 
 -- what a row tells of a slice

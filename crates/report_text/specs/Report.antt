@@ -5,7 +5,8 @@ use Rattle.std.specs.Fmt.{decimal}
 use Rattle.archive_core.specs.declared.keys.SliceKey.{SliceKey}
 use Rattle.archive_core.specs.declared.keys.Digest.{Digest}
 use Rattle.archive_records.specs.declared.writing.Sizes.{Sizes}
-use Rattle.report_text.specs.Rows.{admit_row_text, key_text, digest_text, sizes_text}
+use Rattle.archive_words.specs.Words.{digest_text}
+use Rattle.report_text.specs.Rows.{admit_row_text, key_text, sizes_text}
 use Rattle.report_text.specs.declared.rows.AdmitRow.{AdmitRow}
 
 -- a text and a newline byte

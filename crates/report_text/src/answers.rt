@@ -5,13 +5,10 @@ ghost use Rattle.report_text.specs.Answers.{own_line, answer_lines};
 
 use crate::Text;
 use archive_core::{Answer, Digest, Own};
+use archive_words::{Address, Spelled};
 use macho_symbols::Found;
 use memory::{Heap, NoMemory};
 use std::fmt;
-
-/// An address as it is printed: `0x` and sixteen hex digits.
-#[derive(Clone, Copy, Debug, PartialEq, Eq)]
-pub struct Address(pub u64);
 
 /// A name of a symbol, a segment or a section as it is printed: each byte that is no printed
 /// character of ASCII, and the backslash, as `\x` and two hex digits.
@@ -22,20 +19,7 @@ pub struct Escaped<'a>(pub &'a [u8]);
 #[derive(Clone, Copy)]
 struct EscapedByte(u8);
 
-#[tactic(auto, using(crate::proofs::HexText::padded_hex16), unfolding(crate::specs::Answers::address_text))]
-impl fmt::Display for Address {
-    ghost use Rattle.std.specs.Prelude.{Some};
-    ghost use Rattle.report_text.specs.Answers.{address_text};
-
-    ghost output = { λ address. Some (address_text address.0) };
-
-    fn fmt<W: fmt::Write>(&self, f: &mut fmt::Formatter<W>) -> fmt::Result {
-        let address = self.0;
-        write!(f, "0x{address:016x}")
-    }
-}
-
-#[tactic(auto, using(crate::proofs::HexText::padded_hex2), unfolding(crate::specs::Answers::escaped_byte))]
+#[tactic(auto, using(crate::proofs::Escapes::two_digits), unfolding(crate::specs::Answers::escaped_byte))]
 impl fmt::Display for EscapedByte {
     ghost use Rattle.std.specs.Prelude.{Some};
     ghost use Rattle.report_text.specs.Answers.{escaped_byte};
@@ -107,7 +91,7 @@ fn push_owns(text: &mut String<Heap>, owns: &[(Digest, Own<'_>)]) -> Result<(), 
     ensures { OnOk result (string_bytes text.new ≡ string_bytes text.old ++ flat_map own_line owns.now) }
 {
     'owns: for (digest, own) in owns {
-        let digest = Text(*digest);
+        let digest = Spelled(*digest);
         let own = Text(*own);
         writeln!(text, "  {digest} {own}")?;
     }

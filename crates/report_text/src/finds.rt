@@ -7,6 +7,7 @@ ghost use Rattle.report_text.specs.Finds.{conflict_line, find_row_text, find_lin
 
 use crate::Text;
 use archive_core::{ArchKey, FindRow, FindState};
+use archive_words::Spelled;
 use memory::{Heap, NoMemory};
 use std::fmt;
 
@@ -34,9 +35,9 @@ impl fmt::Display for Text<FindRow> {
     ghost output = { λ text. Some (find_row_text text.0) };
 
     fn fmt<W: fmt::Write>(&self, f: &mut fmt::Formatter<W>) -> fmt::Result {
-        let arch = Text(self.0.arch);
+        let arch = Spelled(self.0.arch);
         let state = Text(self.0.state);
-        let digest = Text(self.0.digest);
+        let digest = Spelled(self.0.digest);
         write!(f, "{arch} {state} {digest}")
     }
 }
@@ -92,7 +93,7 @@ fn push_conflict(text: &mut String<Heap>, arch: ArchKey, count: usize) -> Result
     ensures { OnOk result (string_bytes text.new ≡ string_bytes text.old ++ conflict_line arch count) }
 {
     if count >= 2 {
-        let arch = Text(arch);
+        let arch = Spelled(arch);
         writeln!(text, "{arch} conflict {count}")?;
     }
     Ok(())

@@ -1,7 +1,7 @@
 //! What is printed: the lines of reports, and the texts of faults.
 //!
 //! - `texts`: the printed texts of faults;
-//! - `rows`: keys, digests and the rows of reports;
+//! - `rows`: keys and the rows of reports;
 //! - `report`: reports, made whole in memory;
 //! - `finds`: the lines of `find`;
 //! - `answers`: the lines of `symbolicate`;
@@ -15,7 +15,7 @@ mod report;
 mod rows;
 mod texts;
 
-pub use answers::{Address, Escaped, push_answer};
+pub use answers::{Escaped, push_answer};
 pub use finds::find_lines;
 pub use report::{admit_lines, apply_line, retire_line, with_sizes};
 pub use rows::AdmitRow;

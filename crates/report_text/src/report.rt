@@ -5,6 +5,7 @@ ghost use Rattle.report_text.specs.Report.{admit_lines, retire_line, apply_line,
 use crate::{AdmitRow, Text};
 use archive_core::{Digest, SliceKey};
 use archive_records::Sizes;
+use archive_words::Spelled;
 use memory::{Heap, NoMemory};
 
 /// The lines of `admit`: one a slice, in the order of the rows.
@@ -30,7 +31,7 @@ pub fn retire_line(
     let mut text = String::new(heap);
     let word = if changed { "retired" } else { "known" };
     let key = Text(key);
-    let digest = Text(digest);
+    let digest = Spelled(digest);
     writeln!(text, "{word} {key} {digest}")?;
     Ok(text)
 }

@@ -4,6 +4,7 @@ use crate::desk::TriedArchive;
 use crate::faults::CallFault;
 use archive_core::{Archive, Operation};
 use archive_records::{RecordFault, read_archive, read_front, read_ops};
+use archive_words::Spelled;
 use byte_device::{Pieces, Source};
 use join_core::Join;
 use memory::{Heap, NoMemory};
@@ -83,12 +84,12 @@ fn tell_operation(operation: &Operation, told: &mut String) -> Result<(), NoMemo
     match operation {
         Operation::Admit(slice) => {
             let key = Text(slice.key());
-            let digest = Text(slice.digest());
+            let digest = Spelled(slice.digest());
             write!(told, "admit {key} {digest}")
         }
         Operation::Retire(key, digest) => {
             let key = Text(*key);
-            let digest = Text(*digest);
+            let digest = Spelled(*digest);
             write!(told, "retire {key} {digest}")
         }
     }

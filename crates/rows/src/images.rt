@@ -2,11 +2,12 @@
 
 use crate::faults::CallFault;
 use archive_core::{ArchKey, Digest, Slice, SliceKey};
+use archive_words::{Address, Spelled};
 use fat_slices::{Universal, kind};
 use macho_image::{Image, Section};
 use macho_symbols::{AddressTable, Found, Symbols};
 use memory::{Heap, NoMemory};
-use report_text::{Address, Escaped, Text};
+use report_text::{Escaped, Text};
 use sha2::{Digest as _, Sha256};
 
 /// Tells the kind of a file.
@@ -22,7 +23,7 @@ pub fn tell_fat(file: &[u8], told: &mut String) -> Result<(), CallFault> {
     for place in 0..universal.len() {
         let slice = universal.slice(place);
         let len = slice.len();
-        let digest = Text(Digest(Sha256::digest(slice)));
+        let digest = Spelled(Digest(Sha256::digest(slice)));
         writeln!(told, "slice {place}: {len} bytes {digest}")?;
     }
     if universal.is_empty() != (universal.len() == 0) {
@@ -125,7 +126,7 @@ pub fn tell_slice(heap: Heap, bytes: &[u8], told: &mut String) -> Result<(), Cal
     let checked = Slice::check(bytes).map(|slice| slice.key());
     let slice = Slice::admit(heap, bytes)?;
     let key = Text(slice.key());
-    let digest = Text(slice.digest());
+    let digest = Spelled(slice.digest());
     writeln!(told, "{key} {digest}")?;
     if checked != Ok(slice.key()) || slice.bytes() != bytes {
         writeln!(told, "WRONG: the check says otherwise")?;

@@ -3,9 +3,9 @@
 use crate::ends::{End, Left, refused_status};
 use archive_commands::Failure;
 use archive_core::Digest;
+use archive_words::Spelled;
 use command_line::LineFault;
 use memory::NoMemory;
-use report_text::Text;
 use sha2::{Digest as _, Sha256};
 
 // How many lines of a report are told at most, before their digest stands for them.
@@ -22,7 +22,7 @@ pub fn tell_left(left: &Left, told: &mut String) -> Result<(), NoMemory> {
 
 fn tell_out(out: &[u8], told: &mut String) -> Result<(), NoMemory> {
     let len = out.len();
-    let digest = Text(Digest(Sha256::digest(out)));
+    let digest = Spelled(Digest(Sha256::digest(out)));
     writeln!(told, "  OUT {len} bytes {digest}")
 }
 
@@ -51,7 +51,7 @@ fn tell_report(report: &[u8], told: &mut String) -> Result<(), NoMemory> {
 fn tell_lines(text: &str, told: &mut String) -> Result<(), NoMemory> {
     let lines = text.lines().count();
     if lines > MOST_LINES {
-        let digest = Text(Digest(Sha256::digest(text.as_bytes())));
+        let digest = Spelled(Digest(Sha256::digest(text.as_bytes())));
         return writeln!(told, "  {lines} lines {digest}");
     }
     for line in text.lines() {

@@ -1,6 +1,0 @@
-use Rattle.std.proofs.Common.{rules}
-use Rattle.report_text.proofs.HexText.{is_text}
-use Rattle.report_text.proofs.rows.digits_of.Goals as goal
-
-pub returns-clause-utf8 : goal.returns-clause-utf8
-returns-clause-utf8 c = is_text c.args.bytes.now c.encode_to_slice.new.output (search rules)
