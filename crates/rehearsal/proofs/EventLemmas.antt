@@ -5,7 +5,7 @@ use Rattle.std.specs.Str.{bytes_eq}
 use Rattle.std.proofs.lemmas.Bool.{cond-false}
 use Rattle.std.proofs.lemmas.List.Splits.{length-slice_split}
 use Rattle.uuid.specs.Text.{parsed}
-use Rattle.command_line.specs.Words.{arch_of, digest_of}
+use Rattle.archive_words.specs.Words.{arch_of, digest_of}
 use Rattle.rehearsal.specs.Events.{act_at, fields_sites, retire_act, within_sites}
 use Rattle.rehearsal.specs.Lines.{Field, fields_behind, parts}
 use Rattle.rehearsal.specs.Numbers.{number_of}

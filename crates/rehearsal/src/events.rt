@@ -3,7 +3,7 @@
 ghost use Rattle.std.specs.Prelude.{◌≡◌, ◌∷◌, IfOk, option_map};
 ghost use Rattle.archive_core.specs.declared.keys.SliceKey.{SliceKey};
 ghost use Rattle.uuid.specs.Text.{parsed};
-ghost use Rattle.command_line.specs.Words.{arch_of, digest_of};
+ghost use Rattle.archive_words.specs.Words.{arch_of, digest_of};
 ghost use Rattle.rehearsal.specs.Events.{act_at, act_of, fields_act, fields_sites, file_of, line_act, line_sites};
 ghost use Rattle.rehearsal.specs.Events.{message_act, plain_act, retire_act, take_act, word_act};
 ghost use Rattle.rehearsal.specs.Lines.{parts};
@@ -13,7 +13,7 @@ use crate::lines::cut_field;
 use crate::numbers::read_number;
 use archive_core::{ArchKey, Digest, SliceKey};
 use archive_exchange::Event;
-use command_line::Word;
+use archive_words::Word;
 use hex::FromHexError;
 use memory::{Heap, NoMemory};
 use std::alloc::AllocError;
