@@ -11,6 +11,13 @@ pub with_one_more : (old added new : Command) (a b : App) → app_of old ≡ a �
 with_one_more old added new a b old_is added_is new_is =
     new_is ∙ ap₂ with_subcommand old_is (ap (λ x. x.top) added_is)
 
+-- a command with no global argument to which another such command was added has none
+pub with_no_global : (old added new : Command)
+    → (out-Command new).has_globals ≡ ((out-Command old).has_globals || (out-Command added).has_globals)
+    → (out-Command old).has_globals ≡ false → (out-Command added).has_globals ≡ false
+    → (out-Command new).has_globals ≡ false
+with_no_global old added new is none also = is ∙ ap₂ (λ x y. x || y) none also
+
 -- a command to which an argument was added
 pub with_next : (old new : Command) (a : App) (rule : Rule) → app_of old ≡ a → app_of new ≡ with_rule (app_of old) rule
     → app_of new ≡ with_rule a rule

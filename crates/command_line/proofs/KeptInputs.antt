@@ -10,9 +10,9 @@ use Rattle.clap.specs.Words.{Row, Text, all_of, first_of}
 use Rattle.uuid.specs.Text.{parsed}
 use Rattle.archive_core.specs.declared.keys.ArchKey.{ArchKey}
 use Rattle.archive_core.specs.declared.keys.Digest.{Digest}
-use Rattle.command_line.specs.Lines.{KeepsInputs, Line, admit, admit_of, all_spelled_at, apply, apply_of}
+use Rattle.command_line.specs.Lines.{KeepsInputs, Line, admit, admit_of, all_spelled_at, apply, apply_of, delta, delta_of}
 use Rattle.command_line.specs.Lines.{find, find_of, is_path_among, kept, line_in, merge, merge_of, new}
-use Rattle.command_line.specs.Lines.{optional_at, plan_view, retire, retire_of, spelled_at}
+use Rattle.command_line.specs.Lines.{optional_at, plan_view, retire, retire_of, spelled_at, summary, summary_of}
 use Rattle.command_line.specs.Lines.{symbolicate, symbolicate_of}
 use Rattle.archive_words.specs.Words.{address_of, arch_of, digest_of}
 use Rattle.command_line.specs.declared.line_faults.LineFault.{LineFault}
@@ -91,6 +91,19 @@ symbolicate_of-KeepsInputs (Some a) (Some u) None b xs l is = cc
 symbolicate_of-KeepsInputs (Some a) None k b xs l is = cc
 symbolicate_of-KeepsInputs None u k b xs l is = cc
 
+summary_of-KeepsInputs : (archive out : Option Text) (l : Line) → Some l ≡ summary_of archive out → KeepsInputs l
+summary_of-KeepsInputs (Some a) (Some o) l is = kept-KeepsInputs o (a ∷ []) (summary a o) l (λ apart. apart) is
+summary_of-KeepsInputs (Some a) None l is = cc
+summary_of-KeepsInputs None o l is = cc
+
+delta_of-KeepsInputs : (archive named out : Option Text) (l : Line)
+    → Some l ≡ delta_of archive named out → KeepsInputs l
+delta_of-KeepsInputs (Some a) (Some s) (Some o) l is =
+    kept-KeepsInputs o (a ∷ s ∷ []) (delta a s o) l (λ apart. apart) is
+delta_of-KeepsInputs (Some a) (Some s) None l is = cc
+delta_of-KeepsInputs (Some a) None o l is = cc
+delta_of-KeepsInputs None s o l is = cc
+
 -- ---- all of them
 
 chosen : (b : Bool) (x y : Option Line) (l : Line) → (Some l ≡ x → KeepsInputs l)
@@ -116,7 +129,11 @@ line_in-KeepsInputs (name, rows) l =
     (first_of (codes "ARCHIVE") rows) (spelled_at parsed (codes "UUID") rows)
     (spelled_at arch_of (codes "ARCH") rows) (optional_at address_of (codes "HEX") rows)
     (all_spelled_at address_of (codes "ADDRESS") rows) l)
-    (λ is. cc)))))))
+    (chosen (bytes_eq name (codes "summary")) _ _ l (summary_of-KeepsInputs (first_of (codes "ARCHIVE") rows)
+    (first_of (codes "OUT") rows) l)
+    (chosen (bytes_eq name (codes "delta")) _ _ l (delta_of-KeepsInputs (first_of (codes "ARCHIVE") rows)
+    (first_of (codes "SUMMARY") rows) (first_of (codes "OUT") rows) l)
+    (λ is. cc)))))))))
 
 -- so does a plan
 pub planned-KeepsInputs : (named : Text × List Row) (result : Result Plan LineFault)

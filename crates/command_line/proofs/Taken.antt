@@ -18,13 +18,13 @@ use Rattle.clap.proofs.SimpleLemmas.{is_nil}
 use Rattle.clap.proofs.WalkLemmas.{both}
 use Rattle.command_line.specs.Commands.{symarch_command}
 use Rattle.command_line.specs.Lines.{Line, admit, admit_line, admit_of, all_spelled, all_spelled_at, apply, apply_line}
-use Rattle.command_line.specs.Lines.{apply_of, are_taken}
+use Rattle.command_line.specs.Lines.{apply_of, are_taken, delta, delta_line, delta_of}
 use Rattle.command_line.specs.Lines.{find_line, find_of, has_form, have_forms, inputs_at, is_in_order, is_path_among}
 use Rattle.command_line.specs.Lines.{kept, line_in}
 use Rattle.command_line.specs.Lines.{line_of, merge, merge_line, merge_of, named_command, new, new_line, optional_at}
 use Rattle.command_line.specs.Lines.{retire, retire_line, retire_of}
 use Rattle.command_line.specs.Lines.{spares_inputs, spelled_at, spelled_if_there, symbolicate, symbolicate_line}
-use Rattle.command_line.specs.Lines.{symbolicate_of, words_at}
+use Rattle.command_line.specs.Lines.{summary, summary_line, summary_of, symbolicate_of, words_at}
 use Rattle.archive_words.specs.Words.{address_of, arch_of, digest_of}
 use Rattle.command_line.proofs.Filled.{are_filled, found_passes, is_filled, lets_name, lets_stop, level}
 use Rattle.command_line.proofs.Filled.{want_values}
@@ -175,6 +175,8 @@ record Apart (out : Text) (rows : List Row) : Type 0 where
   input : is_path_among out (words_at (codes "IN") rows) ≡ false
   files : is_path_among out (words_at (codes "FILE") rows) ≡ false
   ops : is_path_among out (words_at (codes "OPS") rows) ≡ false
+  archive : is_path_among out (words_at (codes "ARCHIVE") rows) ≡ false
+  named : is_path_among out (words_at (codes "SUMMARY") rows) ≡ false
 
 out_apart : (rows : List Row) (out : Stands (codes "OUT") rows) → spares_inputs rows ≡ true → Apart out.word rows
 out_apart rows out spares =
@@ -183,7 +185,9 @@ out_apart rows out spares =
     let none = is_false (is_path_among out.word (inputs_at rows)) (both _ _ each).0 in
     let front = none_in_front (words_at (codes "IN") rows) _ (λ p. bytes_eq p out.word) none in
     let back = none_in_front (words_at (codes "FILE") rows) _ (λ p. bytes_eq p out.word) front.1 in
-    record { input = front.0; files = back.0; ops = back.1 }
+    let rest = none_in_front (words_at (codes "OPS") rows) _ (λ p. bytes_eq p out.word) back.1 in
+    let last = none_in_front (words_at (codes "ARCHIVE") rows) _ (λ p. bytes_eq p out.word) rest.1 in
+    record { input = front.0; files = back.0; ops = rest.0; archive = last.0; named = last.1 }
 
 -- the word at a name whose words a path is none of
 first_apart : (out id : Text) (rows : List Row) (there : Stands id rows) → is_path_among out (words_at id rows) ≡ false
@@ -293,6 +297,37 @@ apply_some rules rows asks o =
     subst IsSome (sym (three apply_of input.first out.first ops.first))
     (kept_some _ (apply input.word out.word ops.word) none)
 
+-- ARCHIVE and OUT are asked for, and what else
+asks_archive : Bool → List Rule → Bool
+asks_archive more rules = requires (codes "ARCHIVE") rules && (requires (codes "OUT") rules && more)
+
+summary_some : (rules : List Rule) (rows : List Row) → asks_archive true rules ≡ true → InOrder rules rows
+    → IsSome (summary_line rows)
+unfolding asks_archive
+summary_some rules rows asks o =
+    let parts = both (requires (codes "ARCHIVE") rules) _ asks in
+    let archive = there (codes "ARCHIVE") rules rows o parts.0 in
+    let out = there (codes "OUT") rules rows o (both (requires (codes "OUT") rules) _ parts.1).0 in
+    let none : is_path_among out.word (archive.word ∷ []) ≡ false =
+    or_false _ _ (first_apart out.word (codes "ARCHIVE") rows archive (out_apart rows out o.spares).archive) refl in
+    subst IsSome (sym (ap₂ summary_of archive.first out.first)) (kept_some _ (summary archive.word out.word) none)
+
+delta_some : (rules : List Rule) (rows : List Row)
+    → asks_archive (requires (codes "SUMMARY") rules) rules ≡ true → InOrder rules rows → IsSome (delta_line rows)
+unfolding asks_archive
+delta_some rules rows asks o =
+    let parts = both (requires (codes "ARCHIVE") rules) _ asks in
+    let rest = both (requires (codes "OUT") rules) _ parts.1 in
+    let archive = there (codes "ARCHIVE") rules rows o parts.0 in
+    let out = there (codes "OUT") rules rows o rest.0 in
+    let named = there (codes "SUMMARY") rules rows o rest.1 in
+    let apart = out_apart rows out o.spares in
+    let none : is_path_among out.word (archive.word ∷ named.word ∷ []) ≡ false =
+    or_false _ _ (first_apart out.word (codes "ARCHIVE") rows archive apart.archive)
+    (or_false _ _ (first_apart out.word (codes "SUMMARY") rows named apart.named) refl) in
+    subst IsSome (sym (three delta_of archive.first named.first out.first))
+    (kept_some _ (delta archive.word named.word out.word) none)
+
 -- an archive and a UUID are asked for, and what else
 asks_uuid : Text → Bool → List Rule → Bool
 asks_uuid archive more rules = requires archive rules && (requires (codes "UUID") rules && more)
@@ -363,6 +398,8 @@ asks name rules =
     else if bytes_eq name (codes "find") then asks_uuid (codes "ARCHIVE") true rules
     else if bytes_eq name (codes "symbolicate")
     then asks_uuid (codes "ARCHIVE") (requires (codes "ARCH") rules && requires (codes "ADDRESS") rules) rules
+    else if bytes_eq name (codes "summary") then asks_archive true rules
+    else if bytes_eq name (codes "delta") then asks_archive (requires (codes "SUMMARY") rules) rules
     else false
 
 chosen : (b p q : Bool) (x y : Option Line) → (p ≡ true → IsSome x) → (q ≡ true → IsSome y)
@@ -381,7 +418,9 @@ line_some name rules rows o =
     (chosen (bytes_eq name (codes "apply")) _ _ _ _ (λ is. apply_some rules rows is o)
     (chosen (bytes_eq name (codes "find")) _ _ _ _ (λ is. find_some rules rows is o)
     (chosen (bytes_eq name (codes "symbolicate")) _ _ _ _ (λ is. symbolicate_some rules rows is o)
-    (λ is. absurd (true≢false (sym is)))))))))
+    (chosen (bytes_eq name (codes "summary")) _ _ _ _ (λ is. summary_some rules rows is o)
+    (chosen (bytes_eq name (codes "delta")) _ _ _ _ (λ is. delta_some rules rows is o)
+    (λ is. absurd (true≢false (sym is)))))))))))
 
 -- ---- commands that are built
 
@@ -473,7 +512,7 @@ taken_some a words sound taken tests =
 -- ---- the program's command
 
 symarch_sound : IsSound (built symarch_command)
-unfolding symarch_command is_sound asks asks_new asks_with asks_uuid
+unfolding symarch_command is_sound asks asks_new asks_with asks_uuid asks_archive
 symarch_sound = record { needs_command = refl; has_help = refl; values = refl; commands = refl }
 
 -- a line that is taken, in which each value has its form and OUT's path is no input's, asks for something

@@ -65,8 +65,18 @@ symbolicate_command = with_rules (new_app (codes "symbolicate"))
     (one_value (codes "ARCHIVE") ∷ one_value (codes "UUID") ∷ one_value (codes "ARCH")
     ∷ one_option (codes "HEX") (codes "load") ∷ several_values (codes "ADDRESS") ∷ [])
 
+-- `summary ARCHIVE OUT`
+abbrev pub summary_command : App
+summary_command = with_rules (new_app (codes "summary"))
+    (one_value (codes "ARCHIVE") ∷ one_value (codes "OUT") ∷ [])
+
+-- `delta ARCHIVE SUMMARY OUT`
+abbrev pub delta_command : App
+delta_command = with_rules (new_app (codes "delta"))
+    (one_value (codes "ARCHIVE") ∷ one_value (codes "SUMMARY") ∷ one_value (codes "OUT") ∷ [])
+
 -- the program's own
 unfoldable pub symarch_command : App
 symarch_command = needing_command
     (with_commands (new_app (codes "symarch")) (new_command ∷ admit_command ∷ retire_command
-    ∷ merge_command ∷ apply_command ∷ find_command ∷ symbolicate_command ∷ []))
+    ∷ merge_command ∷ apply_command ∷ find_command ∷ symbolicate_command ∷ summary_command ∷ delta_command ∷ []))

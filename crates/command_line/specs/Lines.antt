@@ -22,6 +22,8 @@ pub data Line : Type 0 where
   apply : (input out ops : Text) → Line
   find : (archive : Text) (uuid : List ℕ) → Line
   symbolicate : (archive : Text) (uuid : List ℕ) (arch : ArchKey) (load : Option ℕ) (addresses : List ℕ) → Line
+  summary : (archive out : Text) → Line
+  delta : (archive summary out : Text) → Line
 
 -- ---- the words, by `clap`'s own definitions
 
@@ -131,6 +133,23 @@ symbolicate_line rows = symbolicate_of (first_of (codes "ARCHIVE") rows)
     (spelled_at parsed (codes "UUID") rows) (spelled_at arch_of (codes "ARCH") rows)
     (optional_at address_of (codes "HEX") rows) (all_spelled_at address_of (codes "ADDRESS") rows)
 
+-- `summary ARCHIVE OUT`: nothing where a value is missing, or OUT is ARCHIVE
+abbrev pub summary_of : Option Text → Option Text → Option Line
+summary_of (Some archive) (Some out) = kept out (archive ∷ []) (summary archive out)
+summary_of _ _ = None
+
+abbrev pub summary_line : List Row → Option Line
+summary_line rows = summary_of (first_of (codes "ARCHIVE") rows) (first_of (codes "OUT") rows)
+
+-- `delta ARCHIVE SUMMARY OUT`: nothing where a value is missing, or OUT is an input
+abbrev pub delta_of : Option Text → Option Text → Option Text → Option Line
+delta_of (Some archive) (Some named) (Some out) = kept out (archive ∷ named ∷ []) (delta archive named out)
+delta_of _ _ _ = None
+
+abbrev pub delta_line : List Row → Option Line
+delta_line rows = delta_of (first_of (codes "ARCHIVE") rows) (first_of (codes "SUMMARY") rows)
+    (first_of (codes "OUT") rows)
+
 -- by the command's name and what stands at its names
 abbrev pub line_in : Text × List Row → Option Line
 line_in p =
@@ -141,6 +160,8 @@ line_in p =
     else if bytes_eq p.0 (codes "apply") then apply_line p.1
     else if bytes_eq p.0 (codes "find") then find_line p.1
     else if bytes_eq p.0 (codes "symbolicate") then symbolicate_line p.1
+    else if bytes_eq p.0 (codes "summary") then summary_line p.1
+    else if bytes_eq p.0 (codes "delta") then delta_line p.1
     else None
 
 -- what the words ask for, where each value is there and has its form, and OUT is no input
@@ -165,7 +186,9 @@ have_forms rows = has_form parsed (codes "UUID") rows && (has_form arch_of (code
 
 -- the paths of the inputs
 abbrev pub inputs_at : List Row → List Text
-inputs_at rows = words_at (codes "IN") rows ++ (words_at (codes "FILE") rows ++ words_at (codes "OPS") rows)
+inputs_at rows =
+    words_at (codes "IN") rows ++ (words_at (codes "FILE") rows ++ (words_at (codes "OPS") rows
+    ++ (words_at (codes "ARCHIVE") rows ++ words_at (codes "SUMMARY") rows)))
 
 -- OUT's path is no input's, as text
 abbrev pub spares_inputs : List Row → Bool
@@ -192,6 +215,8 @@ plan_view (plan.Apply input out ops) =
 plan_view (plan.Find archive uuid) = find (string_bytes archive) uuid
 plan_view (plan.Symbolicate archive uuid arch load addresses) =
     symbolicate (string_bytes archive) uuid arch load addresses.items
+plan_view (plan.Summary archive out) = summary (string_bytes archive) (string_bytes out)
+plan_view (plan.Delta archive named out) = delta (string_bytes archive) (string_bytes named) (string_bytes out)
 
 -- OUT is no input, as text
 abbrev pub KeepsInputs : Line → Type 0
@@ -202,3 +227,5 @@ KeepsInputs (merge input out files) = ¬ Contains (input ∷ files) out
 KeepsInputs (apply input out ops) = ¬ Contains (input ∷ ops ∷ []) out
 KeepsInputs (find archive uuid) = ⊤
 KeepsInputs (symbolicate archive uuid arch load addresses) = ⊤
+KeepsInputs (summary archive out) = ¬ Contains (archive ∷ []) out
+KeepsInputs (delta archive named out) = ¬ Contains (archive ∷ named ∷ []) out

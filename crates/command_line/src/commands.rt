@@ -6,7 +6,7 @@ ghost use Rattle.clap.specs.declared.builder.command.Command.TheViews.{out-Comma
 ghost use Rattle.command_line.specs.Commands.{admit_command, apply_command, find_command};
 ghost use Rattle.command_line.specs.Commands.{merge_command, new_command, one_option, one_value};
 ghost use Rattle.command_line.specs.Commands.{retire_command, several_values, symarch_command};
-ghost use Rattle.command_line.specs.Commands.{symbolicate_command};
+ghost use Rattle.command_line.specs.Commands.{delta_command, summary_command, symbolicate_command};
 
 use clap::{Arg, ArgAction, Command};
 use std::alloc::{AllocError, Global};
@@ -148,6 +148,27 @@ fn symbolicate_command<'a>(alloc: Global) -> Result<Command<'a>, AllocError>
     with_several_values(alloc, command, "ADDRESS", "The addresses to look up")
 }
 
+/// `summary ARCHIVE OUT`
+fn summary_command<'a>(alloc: Global) -> Result<Command<'a>, AllocError>
+    ensures app { IfOk result (λ c. app_of c ≡ summary_command) }
+    ensures local { IfOk result (λ c. (out-Command c).has_globals ≡ false) }
+{
+    let command = bare_command(alloc, "summary", "Writes what an archive has, without its slices");
+    let command = with_one_value(alloc, command, "ARCHIVE", "The archive to read")?;
+    with_one_value(alloc, command, "OUT", "The summary to write")
+}
+
+/// `delta ARCHIVE SUMMARY OUT`
+fn delta_command<'a>(alloc: Global) -> Result<Command<'a>, AllocError>
+    ensures app { IfOk result (λ c. app_of c ≡ delta_command) }
+    ensures local { IfOk result (λ c. (out-Command c).has_globals ≡ false) }
+{
+    let command = bare_command(alloc, "delta", "Writes what a summary lacks of an archive");
+    let command = with_one_value(alloc, command, "ARCHIVE", "The archive to read")?;
+    let command = with_one_value(alloc, command, "SUMMARY", "The summary to compare with")?;
+    with_one_value(alloc, command, "OUT", "The archive to write")
+}
+
 /// The program's command with its subcommands, one of which has to be named.
 #[tactic(auto, unfolding(crate::specs::Commands::symarch_command))]
 pub fn symarch_command<'a>(alloc: Global) -> Result<Command<'a>, AllocError>
@@ -162,5 +183,7 @@ pub fn symarch_command<'a>(alloc: Global) -> Result<Command<'a>, AllocError>
     let command = command.subcommand(apply_command(alloc)?)?;
     let command = command.subcommand(find_command(alloc)?)?;
     let command = command.subcommand(symbolicate_command(alloc)?)?;
+    let command = command.subcommand(summary_command(alloc)?)?;
+    let command = command.subcommand(delta_command(alloc)?)?;
     Ok(command.subcommand_required(true))
 }

@@ -4,7 +4,7 @@
 //! - `line_faults`: why a line gives no plan;
 //! - `commands`: the commands, as `clap` builds them;
 //! - `values`: the values that `clap` puts at the names of a command;
-//! - `updates`: the plans of the commands that write an archive;
+//! - `updates`: the plans of the commands that write OUT;
 //! - `queries`: the plans of the commands that ask one;
 //! - `reads`: a line, read.
 #![tactic(auto)]
@@ -20,4 +20,3 @@ mod values;
 pub use line_faults::LineFault;
 pub use plans::Plan;
 pub use reads::plan;
-pub use words::Word;

@@ -51,4 +51,15 @@ pub enum Plan {
         load: Option<u64>,
         addresses: Vec<u64>,
     },
+    /// `summary ARCHIVE OUT`: to write the summary of an archive.
+    Summary {
+        archive: String,
+        out: String,
+    },
+    /// `delta ARCHIVE SUMMARY OUT`: to write what an archive has that a summary does not name.
+    Delta {
+        archive: String,
+        summary: String,
+        out: String,
+    },
 }

@@ -11,7 +11,9 @@ use crate::commands::symarch_command;
 use crate::line_faults::{LineFault, parse_fault, refused};
 use crate::plans::Plan;
 use crate::queries::{plan_find, plan_symbolicate};
-use crate::updates::{plan_admit, plan_apply, plan_merge, plan_new, plan_retire};
+use crate::updates::{
+    plan_admit, plan_apply, plan_delta, plan_merge, plan_new, plan_retire, plan_summary,
+};
 use clap::ArgMatches;
 use clap::error::ErrorKind;
 use std::alloc::Global;
@@ -39,6 +41,10 @@ fn plan_in(alloc: Global, name: &str, matches: &ArgMatches) -> Result<Plan, Line
         plan_find(alloc, matches)
     } else if name == "symbolicate" {
         plan_symbolicate(alloc, matches)
+    } else if name == "summary" {
+        plan_summary(alloc, matches)
+    } else if name == "delta" {
+        plan_delta(alloc, matches)
     } else {
         Err(refused(format!(in alloc; "error: no such command: {name}\n")))
     }

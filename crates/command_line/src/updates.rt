@@ -1,10 +1,9 @@
-//! The plans of the commands that write an archive. One function a command says which value stands at
-//! which name.
+//! The plans of the commands that write OUT. One function a command says which value stands at which name.
 
 ghost use Rattle.std.specs.Prelude.{◌≡◌, ◌⊎◌, ◌∷◌, IfErr, IfOk, IsSome, OnOk, Some, false, map, true};
 ghost use Rattle.clap.specs.Words.{found_of, rows_of};
-ghost use Rattle.command_line.specs.Lines.{admit_line, apply_line, is_path_among, merge_line};
-ghost use Rattle.command_line.specs.Lines.{new_line, plan_view, retire_line};
+ghost use Rattle.command_line.specs.Lines.{admit_line, apply_line, delta_line, is_path_among, merge_line};
+ghost use Rattle.command_line.specs.Lines.{new_line, plan_view, retire_line, summary_line};
 ghost use Rattle.command_line.specs.Told.{IsRefusalUnlessMemory};
 
 use crate::line_faults::{LineFault, refused};
@@ -13,7 +12,7 @@ use crate::values::{copies, is_among, one_value, several_values, spelled_value};
 use clap::ArgMatches;
 use std::alloc::Global;
 
-/// Refuses a line that would write over IN or one of these other inputs.
+/// Refuses a line that would write over its first input or one of these others.
 fn check_out(alloc: Global, out: &str, input: &str, others: &[&str]) -> Result<(), LineFault>
     ensures ok { OnOk result
         (is_path_among out.now (input.now ∷ map (λ p. p.now) others.now) ≡ false) }
@@ -124,5 +123,41 @@ pub fn plan_apply(alloc: Global, matches: &ArgMatches) -> Result<Plan, LineFault
         input: String::from_str(alloc, input)?,
         out: String::from_str(alloc, out)?,
         ops: String::from_str(alloc, ops)?,
+    })
+}
+
+/// `summary ARCHIVE OUT`, where OUT is not ARCHIVE.
+pub fn plan_summary(alloc: Global, matches: &ArgMatches) -> Result<Plan, LineFault>
+    ensures ok { IfOk result (λ p. Some (plan_view p)
+        ≡ summary_line (rows_of (found_of matches.now))) }
+    ensures err { IsSome (summary_line (rows_of (found_of matches.now)))
+        → IfErr result (λ e. e ≡ LineFault.OutOfMemory) }
+    ensures refusal { IfErr result IsRefusalUnlessMemory }
+{
+    let archive = one_value(alloc, matches, "ARCHIVE")?;
+    let out = one_value(alloc, matches, "OUT")?;
+    check_out(alloc, out, archive, &[])?;
+    Ok(Plan::Summary {
+        archive: String::from_str(alloc, archive)?,
+        out: String::from_str(alloc, out)?,
+    })
+}
+
+/// `delta ARCHIVE SUMMARY OUT`, where OUT is no input.
+pub fn plan_delta(alloc: Global, matches: &ArgMatches) -> Result<Plan, LineFault>
+    ensures ok { IfOk result (λ p. Some (plan_view p)
+        ≡ delta_line (rows_of (found_of matches.now))) }
+    ensures err { IsSome (delta_line (rows_of (found_of matches.now)))
+        → IfErr result (λ e. e ≡ LineFault.OutOfMemory) }
+    ensures refusal { IfErr result IsRefusalUnlessMemory }
+{
+    let archive = one_value(alloc, matches, "ARCHIVE")?;
+    let summary = one_value(alloc, matches, "SUMMARY")?;
+    let out = one_value(alloc, matches, "OUT")?;
+    check_out(alloc, out, archive, &[summary])?;
+    Ok(Plan::Delta {
+        archive: String::from_str(alloc, archive)?,
+        summary: String::from_str(alloc, summary)?,
+        out: String::from_str(alloc, out)?,
     })
 }
