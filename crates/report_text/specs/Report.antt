@@ -25,6 +25,10 @@ retire_line changed key digest = line ((if changed then codes "retired" else cod
 abbrev pub apply_line : ℕ → ℕ → List ℕ
 apply_line new known = line (codes "applied: " ++ decimal new ++ codes " new, " ++ decimal known ++ codes " known")
 
+-- how many entries of a summary were written, and how many bytes
+abbrev pub summary_line : Sizes → List ℕ
+summary_line sizes = line (codes "summary: " ++ decimal sizes.records ++ codes " entries, " ++ decimal sizes.bytes ++ codes " bytes")
+
 -- the last line of every command that writes an archive
 abbrev pub archive_line : Sizes → List ℕ
 archive_line sizes = line (sizes_text sizes)

@@ -17,6 +17,6 @@ mod texts;
 
 pub use answers::{Escaped, push_answer};
 pub use finds::find_lines;
-pub use report::{admit_lines, apply_line, retire_line, with_sizes};
+pub use report::{admit_lines, apply_line, retire_line, summary_line, with_sizes};
 pub use rows::AdmitRow;
 pub use texts::Text;

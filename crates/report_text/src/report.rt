@@ -1,6 +1,6 @@
 //! Reports, made whole in memory before their first byte is printed.
 ghost use Rattle.std.specs.Prelude.{◌≡◌, ◌++◌, IfOk, string_bytes};
-ghost use Rattle.report_text.specs.Report.{admit_lines, retire_line, apply_line, archive_line};
+ghost use Rattle.report_text.specs.Report.{admit_lines, retire_line, apply_line, archive_line, summary_line};
 
 use crate::{AdmitRow, Text};
 use archive_core::{Digest, SliceKey};
@@ -42,6 +42,17 @@ pub fn apply_line(heap: Heap, new: u64, known: u64) -> Result<String<Heap>, NoMe
 {
     let mut text = String::new(heap);
     writeln!(text, "applied: {new} new, {known} known")?;
+    Ok(text)
+}
+
+/// The line of `summary`: how many entries and bytes were written.
+pub fn summary_line(heap: Heap, sizes: Sizes) -> Result<String<Heap>, NoMemory>
+    ensures { IfOk result (λ text. string_bytes text ≡ summary_line sizes) }
+{
+    let mut text = String::new(heap);
+    let entries = sizes.records;
+    let bytes = sizes.bytes;
+    writeln!(text, "summary: {entries} entries, {bytes} bytes")?;
     Ok(text)
 }
 
