@@ -16,7 +16,7 @@ use Rattle.archive_commands.specs.Apply.{apply}
 use Rattle.archive_commands.specs.Inputs.{Reader, reader, IsDeviceFault, IsGiven, IsOpsRefused}
 use Rattle.archive_commands.proofs.Archives.{IsRefusedByDeviceAlone}
 
-it_is_device : (kind : RecordFaultKind) → (kind ≢ Device → ⊥) → kind ≡ Device
+pub it_is_device : (kind : RecordFaultKind) → (kind ≢ Device → ⊥) → kind ≡ Device
 it_is_device Device other = refl
 it_is_device kind other = absurd (other (λ (e : kind ≡ Device). cc))
 

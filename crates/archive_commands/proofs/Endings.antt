@@ -1,5 +1,5 @@
 -- How a command ends, from what its parts did.
-use Rattle.std.proofs.Common.{◌≡◌, ℕ, ap, ◌∙◌, List, [], Result, Ok, Err, inl, inr}
+use Rattle.std.proofs.Common.{◌≡◌, ℕ, ap, ◌∙◌, refl, List, [], Result, Ok, Err, inl, inr}
 use Rattle.archive_core.specs.Content.{Operations, IsContent}
 use Rattle.archive_records.specs.Text.{written}
 use Rattle.report_text.specs.Report.{admit_lines}
@@ -10,22 +10,31 @@ use Rattle.archive_commands.specs.declared.faults.Status.{Status}
 use Rattle.archive_commands.specs.declared.faults.Why.{Why}
 use Rattle.report_text.specs.declared.rows.AdmitRow.{AdmitRow}
 use Rattle.archive_commands.specs.Admit.{HasTaken, MakesAdmitted}
-use Rattle.archive_commands.specs.Ends.{Ends, EndsReport}
+use Rattle.archive_commands.specs.Ends.{Ends, EndsReport, MakesArchive}
 use Rattle.archive_commands.specs.Inputs.{Reader, Holds, Unfailed, IsRefusal, IsRefusedArchive, IsRefusedInOrder}
 use Rattle.archive_commands.specs.Outputs.{Writer, Takes, Publishes, Reports, report_of}
 
-module _ (Makes : Operations → List ℕ → Type 0) (Refuses : Place → Why → Type 0) (NoneFailed : Type 0) (out report : Writer) where
+module _ (Makes : List ℕ → List ℕ → Type 0) (Refuses : Place → Why → Type 0) (NoneFailed : Type 0) (out report : Writer) where
   abbrev EndsSo : Result Status CommandFault → Type 0
   EndsSo result = Ends (record { Makes = Makes; Refuses = Refuses; Unfailed = NoneFailed }) out report result
 
-  -- the inputs are accepted, and what they make is published
-  pub published : (result : Result Status CommandFault) (content : Operations) (lines : List ℕ)
-      → NoneFailed → Makes content lines → Publishes out report (written content) (report_of content lines) result → EndsSo result
-  published (Ok status) content lines u makes p = (u, record { content = content; lines = lines; makes = makes; published = p })
-  published (Err (Input place why)) content lines u makes p = absurd p
-  published (Err (Output n)) content lines u makes p = (u, record { content = content; lines = lines; makes = makes; published = p })
-  published (Err (Report n)) content lines u makes p = (u, record { content = content; lines = lines; makes = makes; published = p })
-  published (Err OutOfMemory) content lines u makes p = (u, inr (record { content = content; lines = lines; makes = makes; published = p }))
+  -- the inputs are accepted, and what they make is written and told
+  pub given_out : (result : Result Status CommandFault) (text told : List ℕ)
+      → NoneFailed → Makes text told → Publishes out report text told result → EndsSo result
+  given_out (Ok status) text told u makes p = (u, record { text = text; told = told; makes = makes; published = p })
+  given_out (Err (Input place why)) text told u makes p = absurd p
+  given_out (Err (Output n)) text told u makes p = (u, record { text = text; told = told; makes = makes; published = p })
+  given_out (Err (Report n)) text told u makes p = (u, record { text = text; told = told; makes = makes; published = p })
+  given_out (Err OutOfMemory) text told u makes p = (u, inr (record { text = text; told = told; makes = makes; published = p }))
+
+-- the inputs are accepted, and the archive that they make is published
+pub published : (Makes : Operations → List ℕ → Type 0) (Refuses : Place → Why → Type 0) (NoneFailed : Type 0) (out report : Writer)
+    (result : Result Status CommandFault) (content : Operations) (lines : List ℕ)
+    → NoneFailed → Makes content lines → Publishes out report (written content) (report_of content lines) result
+    → Ends (record { Makes = MakesArchive Makes; Refuses = Refuses; Unfailed = NoneFailed }) out report result
+published Makes Refuses NoneFailed out report result content lines u makes p =
+    given_out (MakesArchive Makes) Refuses NoneFailed out report result (written content) (report_of content lines) u
+    (record { content = content; lines = lines; makes = makes; text_is = refl; told_is = refl }) p
 
 module _ (Makes : Status → List ℕ → Type 0) (Refuses : Place → Why → Type 0) (NoneFailed : Type 0) (report : Writer) where
   abbrev EndsReportSo : Result Status CommandFault → Type 0
@@ -41,7 +50,7 @@ module _ (Makes : Status → List ℕ → Type 0) (Refuses : Place → Why → T
   reported (Err OutOfMemory) status text u makes p = (u, p)
 
 -- a command whose first input is an archive, and that reads others behind it
-module _ {R : Type 0} (Makes : Operations → List ℕ → Type 0) (input : Reader R) (Untouched OthersUnfailed : Type 0) (IsRefusedBehind : Place → Why → Type 0) (out report : Writer) where
+module _ {R : Type 0} (Makes : List ℕ → List ℕ → Type 0) (input : Reader R) (Untouched OthersUnfailed : Type 0) (IsRefusedBehind : Place → Why → Type 0) (out report : Writer) where
   abbrev EndsInOrder : Result Status CommandFault → Type 0
   EndsInOrder result = Ends (record { Makes = Makes; Refuses = IsRefusedInOrder input Untouched IsRefusedBehind; Unfailed = Unfailed input × OthersUnfailed }) out report result
 

@@ -10,5 +10,6 @@ pub mod Archives
 pub mod Counts
 pub mod OperationLists
 pub mod AcceptedOperations
+pub mod AcceptedSummary
 pub mod Answered
 pub mod Viewed

@@ -9,7 +9,7 @@ use Rattle.archive_exchange.specs.declared.taken.Taken.{Taken}
 use Rattle.report_text.specs.Report.{admit_lines}
 use Rattle.archive_commands.specs.declared.faults.Place.TheVariants.{File}
 use Rattle.report_text.specs.declared.rows.AdmitRow.{AdmitRow}
-use Rattle.archive_commands.specs.Ends.{Command}
+use Rattle.archive_commands.specs.Ends.{Command, MakesArchive}
 use Rattle.archive_commands.specs.Inputs.{Reader, Holds, Unfailed, EachUnfailed, EachUntouched, IsAccepted, IsFileRefused, IsFirstRefused, IsRefusedInOrder}
 
 -- the images of files: those of their parts that are one, in their order
@@ -52,7 +52,7 @@ pub record MakesAdmitted {R S : Type 0} (input : Reader R) (files : List (Reader
 -- `admit`, over these inputs
 abbrev pub admit : {R S : Type 0} → Reader R → List (Reader S) → Command
 admit input files = record {
-  Makes = MakesAdmitted input files;
+  Makes = MakesArchive (MakesAdmitted input files);
   Refuses = IsRefusedInOrder input (EachUntouched files) (IsFirstRefused File IsAccepted IsFileRefused files);
   Unfailed = Unfailed input × EachUnfailed files;
 }

@@ -5,7 +5,7 @@ use Rattle.archive_core.specs.Record.{rec}
 use Rattle.archive_core.specs.declared.operations.Operation.{Operation}
 use Rattle.archive_records.specs.Text.{IsOperationsText, written}
 use Rattle.report_text.specs.Report.{apply_line}
-use Rattle.archive_commands.specs.Ends.{Command}
+use Rattle.archive_commands.specs.Ends.{Command, MakesArchive}
 use Rattle.archive_commands.specs.Inputs.{Reader, Gives, Holds, Unfailed, IsUntouched, IsRefusedOps, IsRefusedInOrder}
 
 -- how many of the operations are new: each changes what those before it left
@@ -29,7 +29,7 @@ pub record MakesApplied {R S : Type 0} (input : Reader R) (ops : Reader S) (cont
 -- `apply`, over these inputs
 abbrev pub apply : {R S : Type 0} → Reader R → Reader S → Command
 apply input ops = record {
-  Makes = MakesApplied input ops;
+  Makes = MakesArchive (MakesApplied input ops);
   Refuses = IsRefusedInOrder input (IsUntouched ops) (IsRefusedOps ops);
   Unfailed = Unfailed input × Unfailed ops;
 }

@@ -1,5 +1,5 @@
 -- How a command ends.
-use Rattle.std.specs.Prelude.{ℕ, List, [], Result, Ok, Err, ◌⊎◌}
+use Rattle.std.specs.Prelude.{◌≡◌, ℕ, List, [], Result, Ok, Err, ◌⊎◌}
 use Rattle.archive_core.specs.Content.{Operations}
 use Rattle.archive_records.specs.Text.{written}
 use Rattle.archive_commands.specs.declared.faults.CommandFault.{CommandFault}
@@ -9,20 +9,28 @@ use Rattle.archive_commands.specs.declared.faults.Status.{Status}
 use Rattle.archive_commands.specs.declared.faults.Why.{Why}
 use Rattle.archive_commands.specs.Outputs.{Writer, Takes, Publishes, Reports, report_of}
 
--- A command that writes an archive, with its inputs: the content and the lines that accepted inputs make, which input
--- is refused, and why, and that no reader fails.
+-- A command that writes OUT, with its inputs: the text of OUT and that of the report that accepted inputs make, which
+-- input is refused, and why, and that no reader fails.
 pub record Command : Type 1 where
-  pub Makes : Operations → List ℕ → Type 0
+  pub Makes : List ℕ → List ℕ → Type 0
   pub Refuses : Place → Why → Type 0
   pub Unfailed : Type 0
 
--- The inputs are accepted, and what they make is published.
-pub record Carries (Makes : Operations → List ℕ → Type 0) (out report : Writer)
-    (result : Result Status CommandFault) : Type 0 where
+-- These are the text of the content that inputs make, and the report of their lines with the sizes.
+pub record MakesArchive (Makes : Operations → List ℕ → Type 0) (text told : List ℕ) : Type 0 where
   pub content : Operations
   pub lines : List ℕ
   pub makes : Makes content lines
-  pub published : Publishes out report (written content) (report_of content lines) result
+  pub text_is : text ≡ written content
+  pub told_is : told ≡ report_of content lines
+
+-- The inputs are accepted, and what they make is published.
+pub record Carries (Makes : List ℕ → List ℕ → Type 0) (out report : Writer)
+    (result : Result Status CommandFault) : Type 0 where
+  pub text : List ℕ
+  pub told : List ℕ
+  pub makes : Makes text told
+  pub published : Publishes out report text told result
 
 -- How a command ends. An input is refused, and nothing is written; or the inputs are accepted, and what they make is
 -- published, wholly or up to where a writer failed. Where memory is wanting, OUT has nothing or the whole text, and the

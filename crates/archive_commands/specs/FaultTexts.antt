@@ -3,7 +3,7 @@ use Rattle.std.specs.Prelude.{List, ℕ, ◌++◌, codes}
 use Rattle.std.specs.Fmt.{decimal}
 use Rattle.report_text.specs.Texts.{record_fault_text, take_fault_text}
 use Rattle.archive_commands.specs.declared.faults.Place.{Place}
-use Rattle.archive_commands.specs.declared.faults.Place.TheVariants.{Archive, File, Ops}
+use Rattle.archive_commands.specs.declared.faults.Place.TheVariants.{Archive, File, Ops, Summary}
 use Rattle.archive_commands.specs.declared.faults.Why.{Why}
 use Rattle.archive_commands.specs.declared.faults.Why.TheVariants.{CannotOpen, Device, Record, Take}
 use Rattle.archive_commands.specs.declared.faults.CommandFault.{CommandFault}
@@ -14,6 +14,7 @@ unfoldable pub place_text : Place → List ℕ
 place_text (Archive number) = codes "archive " ++ decimal number
 place_text (File number) = codes "file " ++ decimal number
 place_text Ops = codes "ops"
+place_text Summary = codes "summary"
 
 -- what is wrong with an input
 unfoldable pub why_text : Why → List ℕ

@@ -10,7 +10,7 @@ use Rattle.archive_records.specs.Front.{IsLongestLengthOf}
 use Rattle.archive_records.specs.declared.fault.RecordFault.{RecordFault}
 use Rattle.archive_records.specs.declared.fault.RecordFaultKind.TheVariants.{Device, OutOfMemory as RecordOutOfMemory}
 use Rattle.archive_records.specs.declared.kind.TextKind.{TextKind}
-use Rattle.archive_records.specs.declared.kind.TextKind.TheVariants.{Archive as ArchiveFile, Operations as OperationsFile}
+use Rattle.archive_records.specs.declared.kind.TextKind.TheVariants.{Archive as ArchiveFile, Operations as OperationsFile, Summary as SummaryFile}
 use Rattle.archive_exchange.specs.File.{IsAcceptedFile, IsTakeFault}
 use Rattle.archive_exchange.specs.declared.fault.TakeFault.{TakeFault}
 use Rattle.archive_exchange.specs.declared.fault.TakeFault.TheVariants.{OutOfMemory as TakeOutOfMemory}
@@ -18,7 +18,7 @@ use Rattle.archive_commands.specs.declared.faults.CannotOpen.{CannotOpen}
 use Rattle.archive_commands.specs.declared.faults.CommandFault.{CommandFault}
 use Rattle.archive_commands.specs.declared.faults.CommandFault.TheVariants.{Input, Output, Report, OutOfMemory}
 use Rattle.archive_commands.specs.declared.faults.Place.{Place}
-use Rattle.archive_commands.specs.declared.faults.Place.TheVariants.{Archive, File, Ops}
+use Rattle.archive_commands.specs.declared.faults.Place.TheVariants.{Archive, File, Ops, Summary}
 use Rattle.archive_commands.specs.declared.faults.Why.{Why}
 use Rattle.archive_commands.specs.declared.faults.Why.TheVariants.{Device as CannotRead, Record, Take, CannotOpen as NotOpened}
 
@@ -99,6 +99,10 @@ IsArchiveRefused input why = IsTextRefused ArchiveFile input why
 abbrev pub IsOpsRefused : {S : Type 0} → Reader S → Why → Type 0
 IsOpsRefused input why = IsTextRefused OperationsFile input why
 
+-- why nothing is compared with a summary
+abbrev pub IsSummaryRefused : {S : Type 0} → Reader S → Why → Type 0
+IsSummaryRefused input why = IsTextRefused SummaryFile input why
+
 -- why a file is not taken: it was not opened, the reader failed, or its bytes have this fault
 abbrev pub IsFileRefused : {S : Type 0} → Reader S → Why → Type 0
 IsFileRefused input why =
@@ -132,6 +136,10 @@ IsRefusedBytes place bytes at why =
 -- the operations file is refused
 abbrev pub IsRefusedOps : {S : Type 0} → Reader S → Place → Why → Type 0
 IsRefusedOps input at why = (at ≡ Ops) × IsOpsRefused input why
+
+-- the summary is refused
+abbrev pub IsRefusedSummary : {S : Type 0} → Reader S → Place → Why → Type 0
+IsRefusedSummary input at why = (at ≡ Summary) × IsSummaryRefused input why
 
 -- One of these inputs, which have such places in the words, is refused: those before it are accepted, with no reader
 -- of theirs failing, and those behind it are untouched.

@@ -8,3 +8,5 @@ pub mod Merge
 pub mod Apply
 pub mod Find
 pub mod Symbolicate
+pub mod Summary
+pub mod Delta

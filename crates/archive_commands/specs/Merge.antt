@@ -6,7 +6,7 @@ use Rattle.archive_core.specs.Content.{Operations, IsContent, joined}
 use Rattle.archive_records.specs.Text.{written}
 use Rattle.archive_commands.specs.declared.faults.Place.{Place}
 use Rattle.archive_commands.specs.declared.faults.Place.TheVariants.{Archive}
-use Rattle.archive_commands.specs.Ends.{Command}
+use Rattle.archive_commands.specs.Ends.{Command, MakesArchive}
 use Rattle.archive_commands.specs.Inputs.{Reader, Holds, Unfailed, EachUnfailed, EachUntouched, IsArchive, IsArchiveRefused, IsFirstRefused, IsRefusedInOrder}
 
 -- a content with others, one joined after another
@@ -43,7 +43,7 @@ pub record MakesMerged {R S : Type 0} (input : Reader R) (files : List (Reader S
 -- `merge`, over these inputs
 abbrev pub merge : {R S : Type 0} → Reader R → List (Reader S) → Command
 merge input files = record {
-  Makes = MakesMerged input files;
+  Makes = MakesArchive (MakesMerged input files);
   Refuses = IsRefusedInOrder input (EachUntouched files) (IsFirstRefused file_place IsArchive IsArchiveRefused files);
   Unfailed = Unfailed input × EachUnfailed files;
 }

@@ -5,9 +5,10 @@ use Rattle.std.specs.Io.KnownBytes.{Appends}
 use Rattle.byte_device.specs.Devices.{FailedIn}
 use Rattle.byte_device.specs.Writes.{WritesFirst}
 use Rattle.archive_core.specs.Content.{Operations}
-use Rattle.archive_records.specs.Text.{written}
+use Rattle.archive_core.specs.Summary.{Entries}
+use Rattle.archive_records.specs.Text.{summary_text, written}
 use Rattle.archive_records.specs.declared.writing.Sizes.{Sizes}
-use Rattle.report_text.specs.Report.{archive_line}
+use Rattle.report_text.specs.Report.{archive_line, summary_line}
 use Rattle.archive_commands.specs.declared.faults.CommandFault.{CommandFault}
 use Rattle.archive_commands.specs.declared.faults.CommandFault.TheVariants.{Input, Output, Report, OutOfMemory}
 use Rattle.archive_commands.specs.declared.faults.Status.{Status}
@@ -60,3 +61,11 @@ sizes_of o = record { records = set.len o; bytes = length (written o) }
 -- the report of a command that writes an archive: its own lines, and the sizes of what it wrote
 abbrev pub report_of : Operations → List ℕ → List ℕ
 report_of o lines = lines ++ archive_line (sizes_of o)
+
+-- the number of entries of a summary, and the length of its text
+abbrev pub summary_sizes_of : Entries → Sizes
+summary_sizes_of s = record { records = set.len s; bytes = length (summary_text s) }
+
+-- the report of a command that writes a summary
+abbrev pub summary_report_of : Entries → List ℕ
+summary_report_of s = summary_line (summary_sizes_of s)

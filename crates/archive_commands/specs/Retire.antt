@@ -6,7 +6,7 @@ use Rattle.archive_core.specs.declared.keys.SliceKey.{SliceKey}
 use Rattle.archive_core.specs.declared.keys.Digest.{Digest}
 use Rattle.archive_records.specs.Text.{written}
 use Rattle.report_text.specs.Report.{retire_line}
-use Rattle.archive_commands.specs.Ends.{Command}
+use Rattle.archive_commands.specs.Ends.{Command, MakesArchive}
 use Rattle.archive_commands.specs.Inputs.{Reader, Holds, Unfailed, IsRefusedArchive}
 
 -- IN is the text of a content; this is the content with the retirement, and this is the line that tells whether that
@@ -22,7 +22,7 @@ pub record MakesRetired {R : Type 0} (input : Reader R) (key : SliceKey) (digest
 -- `retire`, over this input
 abbrev pub retire : {R : Type 0} → Reader R → SliceKey → Digest → Command
 retire input key digest = record {
-  Makes = MakesRetired input key digest;
+  Makes = MakesArchive (MakesRetired input key digest);
   Refuses = IsRefusedArchive 0 input;
   Unfailed = Unfailed input;
 }

@@ -33,6 +33,8 @@ pub enum Place {
     File(u64),
     /// The operations file that is applied.
     Ops,
+    /// The summary that an archive is compared with.
+    Summary,
 }
 
 /// What is wrong with an input.
@@ -42,7 +44,7 @@ pub enum Why {
     CannotOpen,
     /// Reading a file of slices failed.
     Device,
-    /// It is no text of an archive or of operations, or reading it failed.
+    /// It is no text of an archive, of operations or of a summary, or reading it failed.
     Record(RecordFault),
     /// Its slices are not taken.
     Take(TakeFault),
@@ -99,6 +101,7 @@ impl fmt::Display for Place {
             Place::Archive(number) => write!(f, "archive {number}"),
             Place::File(number) => write!(f, "file {number}"),
             Place::Ops => f.write_str("ops"),
+            Place::Summary => f.write_str("summary"),
         }
     }
 }

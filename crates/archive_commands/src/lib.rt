@@ -6,16 +6,18 @@
 //! - `faults`: how a command ends, and why one is refused;
 //! - `failures`: the line that the program says where it fails;
 //! - `sources`: the inputs;
-//! - `publish`: the end of each command that writes an archive;
-//! - `new`, `admit`, `retire`, `merge`, `apply`, `find`, `symbolicate`: a command each;
-//! - [`admit_laws`], [`merge_laws`], [`apply_laws`], [`symbolicate_laws`]: what the definitions of the commands say in
-//!   the words of their user.
+//! - `publish`: the end of each command;
+//! - `new`, `admit`, `retire`, `merge`, `apply`, `find`, `symbolicate`, `summary`, `delta`: a command each;
+//! - [`admit_laws`], [`merge_laws`], [`apply_laws`], [`symbolicate_laws`], [`exchange_laws`]: what the definitions of the
+//!   commands say in the words of their user.
 #![tactic(auto)]
 
 mod admit;
 pub mod admit_laws;
 mod apply;
 pub mod apply_laws;
+mod delta;
+pub mod exchange_laws;
 mod failures;
 mod faults;
 mod find;
@@ -25,15 +27,18 @@ mod new;
 mod publish;
 mod retire;
 mod sources;
+mod summary;
 mod symbolicate;
 pub mod symbolicate_laws;
 
 pub use admit::run_admit;
 pub use apply::run_apply;
+pub use delta::run_delta;
 pub use failures::Failure;
 pub use faults::{CannotCreate, CannotOpen, CommandFault, Place, Status, Why};
 pub use find::run_find;
 pub use merge::run_merge;
 pub use new::run_new;
 pub use retire::run_retire;
+pub use summary::run_summary;
 pub use symbolicate::run_symbolicate;

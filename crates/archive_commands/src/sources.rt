@@ -2,13 +2,15 @@
 ghost use Rattle.std.specs.Prelude.{◌≡◌, ◌≢◌, OnOk, IfOk, IfErr};
 ghost use Rattle.archive_core.specs.Content.{IsContent};
 ghost use Rattle.archive_records.specs.declared.fault.RecordFaultKind.TheVariants.{OutOfMemory as RecordOutOfMemory};
-ghost use Rattle.archive_records.specs.Text.{IsOperationsText, written};
+ghost use Rattle.archive_records.specs.Entry.{AreEntries};
+ghost use Rattle.archive_records.specs.Text.{IsOperationsText, summary_text, written};
 ghost use Rattle.archive_commands.specs.declared.faults.Why.TheVariants.{Record};
-ghost use Rattle.archive_commands.specs.Inputs.{Gives, Holds, IsRefusal, IsRefusedArchive, IsRefusedFile, IsRefusedOps, Unfailed, reader};
+ghost use Rattle.archive_commands.specs.Inputs.{Gives, Holds, IsRefusal, IsRefusedArchive, IsRefusedFile, IsRefusedOps};
+ghost use Rattle.archive_commands.specs.Inputs.{IsRefusedSummary, Unfailed, reader};
 
 use crate::faults::{CannotOpen, CommandFault, Place, Why};
 use archive_core::{Archive, Operation};
-use archive_records::{RecordFault, RecordFaultKind, read_archive, read_ops};
+use archive_records::{RecordFault, RecordFaultKind, Summary, read_archive, read_ops, read_summary};
 use byte_device::{ReadFault, Source, read_to_end};
 use memory::Heap;
 
@@ -92,6 +94,30 @@ pub(crate) fn read_operations<S: Source>(
     };
     match read_ops(heap, source) {
         Ok(operations) => Ok(operations),
+        Err(fault) => Err(refusal(at, fault)),
+    }
+}
+
+/// Reads the summary that an archive is compared with.
+pub(crate) fn read_named<S: Source>(
+    heap: Heap,
+    summary: &mut Result<S, CannotOpen>,
+) -> Result<Summary, CommandFault>
+    ensures entries { IfOk result (λ entries. AreEntries entries) }
+    ensures text { IfOk result
+        (λ entries. Holds (reader S.left S.failures summary.old summary.new) (summary_text entries)) }
+    ensures unfailed { OnOk result (Unfailed (reader S.left S.failures summary.old summary.new)) }
+    ensures refused { IfErr result
+        (IsRefusal (IsRefusedSummary (reader S.left S.failures summary.old summary.new))
+        (Unfailed (reader S.left S.failures summary.old summary.new))) }
+{
+    let at = Place::Summary;
+    let source = match summary {
+        Ok(source) => source,
+        Err(CannotOpen) => return Err(CommandFault::Input(at, Why::CannotOpen)),
+    };
+    match read_summary(heap, source) {
+        Ok(entries) => Ok(entries),
         Err(fault) => Err(refusal(at, fault)),
     }
 }
