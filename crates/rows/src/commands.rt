@@ -3,8 +3,8 @@
 use crate::desk::{Desk, TriedArchive};
 use crate::ends::{End, Left};
 use archive_commands::{
-    CommandFault, Status, run_admit, run_apply, run_find, run_merge, run_new, run_retire,
-    run_symbolicate,
+    CommandFault, Status, run_admit, run_apply, run_delta, run_find, run_merge, run_new,
+    run_retire, run_summary, run_symbolicate,
 };
 use archive_core::SliceKey;
 use byte_device::Short;
@@ -100,6 +100,30 @@ impl<'a> Desk<'a> {
                 let input = &mut self.open(input);
                 run_retire::<TriedArchive, _, _, _>(heap, input, key, *digest, out, report)
             }
+            _ => self.export(plan, heap, out, report),
+        }
+    }
+
+    // A plan that writes the empty archive, a summary or a delta.
+    fn export(
+        self,
+        plan: &Plan,
+        heap: Heap,
+        out: &mut Short,
+        report: &mut Short,
+    ) -> Result<Status, CommandFault> {
+        match plan {
+            Plan::Summary { archive, .. } => {
+                let archive = &mut self.open(archive);
+                run_summary::<TriedArchive, _, _, _>(heap, archive, out, report)
+            }
+            Plan::Delta {
+                archive, summary, ..
+            } => {
+                let archive = &mut self.open(archive);
+                let summary = &mut self.open(summary);
+                run_delta::<TriedArchive, _, _, _, _>(heap, archive, summary, out, report)
+            }
             _ => run_new::<TriedArchive, _, _>(heap, out, report),
         }
     }
@@ -112,7 +136,9 @@ pub fn out_of(plan: &Plan) -> Option<&str> {
         | Plan::Admit { out, .. }
         | Plan::Retire { out, .. }
         | Plan::Merge { out, .. }
-        | Plan::Apply { out, .. } => Some(out),
+        | Plan::Apply { out, .. }
+        | Plan::Summary { out, .. }
+        | Plan::Delta { out, .. } => Some(out),
         Plan::Find { .. } | Plan::Symbolicate { .. } => None,
     }
 }

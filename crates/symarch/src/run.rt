@@ -1,8 +1,8 @@
 //! The program over the words, the files and the standard streams that it is started with.
 
 use archive_commands::{
-    CannotCreate, CommandFault, Failure, Status, run_admit, run_apply, run_find, run_merge,
-    run_new, run_retire, run_symbolicate,
+    CannotCreate, CommandFault, Failure, Status, run_admit, run_apply, run_delta, run_find,
+    run_merge, run_new, run_retire, run_summary, run_symbolicate,
 };
 use archive_core::{Digest, PlainArchive, SliceKey};
 use archive_files::{OutFile, open_all, open_all_buffered, open_buffered};
@@ -117,6 +117,12 @@ fn execute<R: Files + Print + AllocGlobal>(rt: &R, plan: &Plan) -> Result<Status
             };
             symbolicate(rt, heap, archive, &key, *load, addresses)
         }
+        Plan::Summary { archive, out } => summary(rt, heap, archive, out),
+        Plan::Delta {
+            archive,
+            summary,
+            out,
+        } => delta(rt, heap, archive, summary, out),
     }
 }
 
@@ -250,6 +256,43 @@ fn symbolicate<R: Files + Print + AllocGlobal>(
         &mut report,
     )?;
     Ok(status)
+}
+
+/// `summary ARCHIVE OUT`
+fn summary<R: Files + Print + AllocGlobal>(
+    rt: &R,
+    heap: Heap,
+    archive: &str,
+    out: &str,
+) -> Result<Status, Failure> {
+    let mut report = Writing::new(io::writer(rt));
+    let mut archive = open_buffered(rt.alloc(), rt, archive)?;
+    let mut out = OutFile::new(rt, out);
+    let result =
+        run_summary::<PlainArchive, _, _, _>(heap, &mut archive, &mut out, &mut report);
+    ended(result, &out)
+}
+
+/// `delta ARCHIVE SUMMARY OUT`
+fn delta<R: Files + Print + AllocGlobal>(
+    rt: &R,
+    heap: Heap,
+    archive: &str,
+    summary: &str,
+    out: &str,
+) -> Result<Status, Failure> {
+    let mut report = Writing::new(io::writer(rt));
+    let mut archive = open_buffered(rt.alloc(), rt, archive)?;
+    let mut summary = open_buffered(rt.alloc(), rt, summary)?;
+    let mut out = OutFile::new(rt, out);
+    let result = run_delta::<PlainArchive, _, _, _, _>(
+        heap,
+        &mut archive,
+        &mut summary,
+        &mut out,
+        &mut report,
+    );
+    ended(result, &out)
 }
 
 /// How a command ended that wrote to OUT: a file that was not created is told as such.
