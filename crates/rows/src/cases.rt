@@ -5,6 +5,7 @@
 //!
 //! - an empty line, and one that begins with `#`, say nothing;
 //! - `file NAME PART..` keeps bytes under a name, and tells their number; `parts` has the forms of PART;
+//! - `line NAME TEXT` puts a line of text behind a file, and tells the number of its bytes;
 //! - `same NAME PART..` tells whether a file has these bytes, or where the two differ first;
 //! - `hold pieces N`: inputs give at most N bytes at a time; `hold growths N`: N growths are granted;
 //! - `hold out N`, `hold report N`: OUT, or the report, fails when it took N bytes;
@@ -35,7 +36,9 @@
 //! - `take ARCHIVE OPS`: the operations of a file, taken into an archive in turn: `admit UUID ARCH SHA256 new` or
 //!   `retire ..`, where the word at the end is `new` if that changed the archive, `held` if it was there before, or
 //!   else `covered`; then `2 records`;
-//! - `join ARCHIVE OTHER`: an archive before and after it is joined with another: `2 records, all of the other: no`.
+//! - `join ARCHIVE OTHER`: an archive before and after it is joined with another: `2 records, all of the other: no`;
+//! - `rehearse NAME`: the script of a rehearsal, a line an event, as `0 took 1 0 0`, `1 sent 0 74` or `2 refused NoSite`,
+//!   and a line a site: `site 0 RECORDS BYTES SHA256`, of its archive's text.
 //!
 //! A case that is not swept is carried out again with inputs in pieces of 1 and of 7 bytes. A report of more than 40
 //! lines is told as their number and the SHA-256 of all: `5000 lines SHA256`. What contradicts itself is told in a line
@@ -100,6 +103,7 @@ impl<'t> Bench<'t> {
         let (verb, words) = line.split_once(' ').unwrap_or((line, ""));
         match verb {
             "file" => self.keep(words, told),
+            "line" => self.keep_line(words, told),
             "same" => self.compare(words, told),
             "hold" => self.hold(words),
             "each" => self.sweep(words),
@@ -113,6 +117,18 @@ impl<'t> Bench<'t> {
     fn keep(&mut self, words: &str, told: &mut String) -> Result<(), CaseFault> {
         let (name, parts) = words.split_once(' ').ok_or(CaseFault::BadLine)?;
         let bytes = bytes_of(self.alloc, &self.store, parts)?;
+        let len = bytes.len();
+        writeln!(told, "  {len} bytes")?;
+        self.store.keep(self.alloc, name, bytes)
+    }
+
+    // Puts a line of text behind a file, which may be new.
+    fn keep_line(&mut self, words: &str, told: &mut String) -> Result<(), CaseFault> {
+        let (name, text) = words.split_once(' ').unwrap_or((words, ""));
+        let mut bytes = Vec::new(self.alloc);
+        bytes.extend_from_slice(self.store.bytes(name).unwrap_or(&[]))?;
+        bytes.extend_from_slice(text.as_bytes())?;
+        bytes.push(b'\n')?;
         let len = bytes.len();
         writeln!(told, "  {len} bytes")?;
         self.store.keep(self.alloc, name, bytes)
