@@ -7,7 +7,6 @@
 //! it covers, and is kept.
 //!
 //! - `keys`: under what a slice is kept;
-//! - [`machine`]: the architectures that have a name;
 //! - `faults`: why bytes are no slice, or are not admitted;
 //! - `slices`: the bytes of a valid image;
 //! - `operations`: admissions and retirements, with their records;
@@ -27,7 +26,6 @@ mod keys;
 pub mod laws;
 mod live;
 mod lookup;
-pub mod machine;
 mod operations;
 mod plain;
 mod slices;
