@@ -7,7 +7,7 @@ use Rattle.join_core.specs.Listing.{listing}
 use Rattle.archive_core.specs.Content.{Operations}
 use Rattle.archive_core.specs.Summary.{Entries}
 use Rattle.archive_records.specs.declared.fault.RecordFault.{RecordFault}
-use Rattle.archive_records.specs.declared.kind.FileKind.TheVariants.{Archive, Summary}
+use Rattle.archive_records.specs.declared.kind.TextKind.TheVariants.{Archive, Summary}
 use Rattle.archive_records.specs.Kind.{magic, summary_magic}
 use Rattle.archive_records.specs.Text.{written, summary_text, end_record}
 use Rattle.archive_records.specs.Fault.{IsFault, IsSummaryFault}
