@@ -1,6 +1,6 @@
 -- Candidates told apart by the first bytes of their names, and by where these begin.
-use Rattle.std.proofs.Common.{◌≡◌, ◌≢◌, ◌+◌, ◌<◌, ◌≤◌, ◌==◌, ◌&&◌, ◌||◌, ◌⊎◌, inl, inr, ℕ, zero, suc, Bool, true, false, cond, nat_lt, nat_le, List, [], ◌∷◌, length, take, Option, Some, None, refl, sym, ap, ◌∙◌, arith, length-take, subst, Contains, slice_index_or}
-use Rattle.std.specs.List.{before_first}
+use Rattle.std.proofs.Common.{◌≡◌, ◌≢◌, ◌+◌, ◌<◌, ◌≤◌, ◌==◌, ◌&&◌, ◌||◌, ◌⊎◌, inl, inr, ℕ, zero, suc, Bool, true, false, not, cond, nat_lt, nat_le, List, [], ◌∷◌, length, take, Option, Some, None, refl, sym, ap, ◌∙◌, arith, length-take, subst, Contains, slice_index_or}
+use Rattle.std.specs.List.{before_first, list_any}
 use Rattle.std.specs.Ordering.{ordering_then, nat_cmp, bool_cmp, is_lt, is_gt, is_eq, MatchOrdering}
 use Rattle.std.specs.declared.cmp.Ordering.{Ordering}
 use Rattle.std.specs.declared.cmp.Ordering.TheVariants.{Less, Equal, Greater}
@@ -11,11 +11,12 @@ use Rattle.std.proofs.lemmas.Bool.{cases_lt}
 use Rattle.std.proofs.lemmas.Bool.Decides.{nat_tests}
 use Rattle.std.proofs.lemmas.List.{take_all, drop_all, get_or_default}
 use Rattle.std.proofs.lemmas.List.Elements.{Contains-get_or}
+use Rattle.std.proofs.lemmas.List.Folds.{list_any_at}
 use Rattle.std.proofs.lemmas.Map.Lookups.{exact_unsigned, exact_bytes}
 use Rattle.macho_symbols.specs.Symbols.{Tuple, name_of}
 use Rattle.macho_symbols.specs.Nearest.{tuple_cmp, beginning_cmp, cut_cmp, UpTo}
 use Rattle.macho_symbols.specs.Views.{tuple_of}
-use Rattle.macho_symbols.specs.Overlaps.{first_row, IsFirstRow, IsFirstCut, IsFirstBelow, begins_in, is_tied, stands_before, stands_behind, AreEndsOrNone, first_of_ends}
+use Rattle.macho_symbols.specs.Overlaps.{first_row, IsFirstRow, IsFirstCut, IsFirstBelow, begins_in, is_tied, ties_elsewhere, stands_before, stands_behind, AreEndsOrNone, first_of_ends}
 use Rattle.macho_symbols.specs.declared.candidate.Candidate.{Candidate}
 use Rattle.macho_symbols.specs.declared.ends.Ends.{Ends}
 use Rattle.macho_symbols.proofs.ScanLemmas.{tuples_total, upto_itself, upto_from_less, upto_back, not_less}
@@ -118,16 +119,10 @@ not_greater m n h = by_rank (nat_cmp m n) (ranked m n (nat_cmp m n) refl)
 less_upto : (c d : Tuple) → tuple_cmp c d ≡ Less → UpTo c d
 less_upto c d h = ap is_gt h
 
--- a name that ends in its first bytes is the least where no other one begins below it
-pub short_first : (size : ℕ) (c d : Tuple) → length d.name < size → is_lt (cut_cmp size c d) ≡ false → tuple_cmp c d ≢ Less
-short_first size c d short h less = by_cases (beginning_cmp size c d) refl h
+-- first bytes decide where those that they tell not apart have one name
+same_first : (size : ℕ) (c d : Tuple) → (beginning_cmp size c d ≡ Equal → c.name ≡ d.name) → is_lt (cut_cmp size c d) ≡ false → tuple_cmp c d ≢ Less
+same_first size c d same h less = by_cases (beginning_cmp size c d) refl h
   where
-    same_name : take size c.name ≡ take size d.name → c.name ≡ d.name
-    same_name e =
-        let all : take size d.name ≡ d.name = take_all size d.name (omega arith) in
-        let few : length c.name ≤ size = omega (arith, short, ap length e, ap length all, length-take size c.name) in
-        sym (take_all size c.name few) ∙ e ∙ all
-
     by_cases : (o : Ordering) → beginning_cmp size c d ≡ o → is_lt (ordering_then o (nat_cmp c.sect d.sect)) ≡ false → ⊥
     by_cases Less e k = cc k
     by_cases Greater e k = differ (sym (beginning_decides size c d Greater (λ i. cc i) e) ∙ less)
@@ -136,11 +131,21 @@ short_first size c d short h less = by_cases (beginning_cmp size c d) refl h
         differ i = cc
     by_cases Equal e k =
         let a = alike_from size c d e in
-        let sects : nat_cmp c.sect d.sect ≡ Less = sym (same_names c d a.value a.external (same_name a.name)) ∙ less in
+        let sects : nat_cmp c.sect d.sect ≡ Less = sym (same_names c d a.value a.external (same e)) ∙ less in
         differ (sym k ∙ ap is_lt sects)
       where
         differ : false ≡ true → ⊥
         differ i = cc
+
+-- a name that ends in its first bytes is the least where no other one begins below it
+pub short_first : (size : ℕ) (c d : Tuple) → length d.name < size → is_lt (cut_cmp size c d) ≡ false → tuple_cmp c d ≢ Less
+short_first size c d short h = same_first size c d (λ e. same_name (alike_from size c d e).name) h
+  where
+    same_name : take size c.name ≡ take size d.name → c.name ≡ d.name
+    same_name e =
+        let all : take size d.name ≡ d.name = take_all size d.name (omega arith) in
+        let few : length c.name ≤ size = omega (arith, short, ap length e, ap length all, length-take size c.name) in
+        sym (take_all size c.name few) ∙ e ∙ all
 
 not_less_cut : (o p : Ordering) → is_lt (ordering_then o p) ≡ false → o ≢ Less
 not_less_cut Less p h e = cc h
@@ -321,6 +326,31 @@ short_row strings size among best is short = record {
   member = is.member;
   first = λ c a. short_first size (tuple_of strings c) (tuple_of strings best) short (is.first c a);
 }
+
+-- or where no other name ties
+pub no_other_row : (strings : List ℕ) (size : ℕ) (rows : List Candidate) (best : Candidate) → IsFirstCut strings size (Contains rows) best
+    → list_any (ties_elsewhere strings size best) rows ≡ false → IsFirstRow strings (Contains rows) best
+unfolding tuple_of
+no_other_row strings size rows best is none = record {
+  member = is.member;
+  first = λ c h. same_first size (tuple_of strings c) (tuple_of strings best) (λ e. ap (name_of strings) (same_place c h e)) (is.first c h);
+}
+  where
+    true_false : true ≡ false → ⊥
+    true_false i = cc
+
+    place_from : (m n : ℕ) → (m == n) ≡ true → m ≡ n
+    place_from m n h = grind (arith, nat_tests)
+
+    same_place : (c : Candidate) → Contains rows c → beginning_cmp size (tuple_of strings c) (tuple_of strings best) ≡ Equal → c.strx ≡ best.strx
+    same_place c h e = by_place (c.strx == best.strx) refl
+      where
+        by_place : (t : Bool) → (c.strx == best.strx) ≡ t → c.strx ≡ best.strx
+        by_place true p = place_from c.strx best.strx p
+        by_place false p =
+            let told : ties_elsewhere strings size best c ≡ true =
+            ap (λ t. not t && is_eq (beginning_cmp size (tuple_of strings c) (tuple_of strings best))) p ∙ ap is_eq e in
+            absurd (true_false (sym (list_any_at (ties_elsewhere strings size best) rows h.0 c h.1 (ap (ties_elsewhere strings size best) h.2 ∙ told)) ∙ none))
 
 module _ (strings : List ℕ) (size start : ℕ) (among : Candidate → Type 0) (best : Candidate) (some : 0 < size) (is : IsFirstBelow strings size start among best) where
   -- what does not tie with the best comes behind it

@@ -1,6 +1,6 @@
 -- One scan with a kept best finds the first in the order.
 use Rattle.std.proofs.Common.{◌≡◌, ◌≢◌, ℕ, suc, ◌≤◌, Bool, true, false, cond, ◌&&◌, List, [], ◌∷◌, Option, Some, None, MatchOption, ◌⊎◌, inl, inr, refl, sym, ap, ◌∙◌, arith, subst, Contains, nat_le}
-use Rattle.std.specs.List.{AllByRecursion, filter_map, cons_option}
+use Rattle.std.specs.List.{AllByRecursion}
 use Rattle.std.specs.Option.{option_map_or}
 use Rattle.std.specs.Ordering.{is_lt, is_gt, ordering_reverse}
 use Rattle.std.specs.declared.cmp.Ordering.{Ordering}
@@ -9,7 +9,7 @@ use Rattle.std.specs.Cmp.{IsTotalOrder, bool_cmp_total}
 use Rattle.std.proofs.lemmas.Cmp.{upto, tied_itself, nat_cmp_total, on_total, then_total, back_total, lists_total}
 use Rattle.std.proofs.lemmas.List.Elements.{All-from_recursion}
 use Rattle.std.proofs.lemmas.Bool.Decides.{nat_tests}
-use Rattle.macho_symbols.specs.Symbols.{Tuple, candidate_in, candidates, is_in_section}
+use Rattle.macho_symbols.specs.Symbols.{Tuple, candidates, is_in_section}
 use Rattle.macho_symbols.specs.Nearest.{tuple_cmp, can_stand_for, UpTo, StandsFor, IsNearest}
 
 -- the better of the best so far, which can stand for the address, and one more

@@ -1,5 +1,5 @@
 -- The first of candidates whose names may overlap in the string table, found by the places where these begin.
-use Rattle.std.specs.Prelude.{ℕ, Bool, false, cond, List, ◌≡◌, ◌≢◌, ◌+◌, ◌<◌, ◌≤◌, ◌==◌, ◌&&◌, ◌||◌, nat_lt, nat_le, length, Option, Some, None, MatchOption}
+use Rattle.std.specs.Prelude.{ℕ, Bool, false, not, cond, List, ◌≡◌, ◌≢◌, ◌+◌, ◌<◌, ◌≤◌, ◌==◌, ◌&&◌, ◌||◌, nat_lt, nat_le, length, Option, Some, None, MatchOption}
 use Rattle.std.specs.Ordering.{is_lt, is_eq}
 use Rattle.std.specs.declared.cmp.Ordering.TheVariants.{Less}
 use Rattle.macho_symbols.specs.Nearest.{tuple_cmp, beginning_cmp, cut_cmp, can_stand_for}
@@ -58,6 +58,11 @@ begins_in start size c = nat_le start c.strx && nat_lt c.strx (start + size)
 -- candidate from another one
 abbrev pub is_tied : List ℕ → ℕ → ℕ → Candidate → Candidate → Bool
 is_tied strings start size best c = begins_in start size c && is_eq (beginning_cmp size (tuple_of strings c) (tuple_of strings best))
+
+-- whether a name begins elsewhere than that of another candidate, and nothing before the end of so many first bytes tells
+-- the two apart
+abbrev pub ties_elsewhere : List ℕ → ℕ → Candidate → Candidate → Bool
+ties_elsewhere strings size best c = not (c.strx == best.strx) && is_eq (beginning_cmp size (tuple_of strings c) (tuple_of strings best))
 
 -- whether the name of c begins before that of d; at the same place a lesser section decides
 abbrev pub stands_before : Candidate → Candidate → Bool

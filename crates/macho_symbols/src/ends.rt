@@ -2,7 +2,7 @@
 //! by place can have the least name: the names between them repeat what stands at the first.
 
 ghost use Rattle.std.specs.Prelude.{◌≡◌, ◌<◌};
-ghost use Rattle.macho_symbols.specs.Overlaps.{begins_in, is_tied, stands_before, stands_behind, widened, ends_with, first_of_ends};
+ghost use Rattle.macho_symbols.specs.Overlaps.{begins_in, is_tied, ties_elsewhere, stands_before, stands_behind, widened, ends_with, first_of_ends};
 
 use crate::candidate::Candidate;
 
@@ -40,6 +40,14 @@ impl Candidate {
         ensures { result ≡ is_tied strings.now start size best.now self.now }
     {
         self.begins_in(start, size) && self.compare_beginnings(best, strings, size).is_eq()
+    }
+
+    /// Whether its name begins elsewhere than that of another candidate, and so many first bytes tell the two not
+    /// apart.
+    pub(crate) fn ties_elsewhere(&self, best: &Candidate, strings: &[u8], size: usize) -> bool
+        ensures { result ≡ ties_elsewhere strings.now size best.now self.now }
+    {
+        self.strx != best.strx && self.compare_beginnings(best, strings, size).is_eq()
     }
 
     /// Whether its name begins before that of another one, or at its place and it has the lesser section.

@@ -1,12 +1,13 @@
 //! The search by address.
 
-ghost use Rattle.std.specs.Prelude.{◌≡◌, ◌≤◌, ◌<◌, true, length, Contains};
+ghost use Rattle.std.specs.Prelude.{◌≡◌, ◌≤◌, ◌<◌, true, false, length, Contains};
+ghost use Rattle.std.specs.List.{list_any};
 ghost use Rattle.std.specs.Option.{option_map, option_map_or};
 ghost use Rattle.macho_symbols.specs.Symbols.{strings_of};
 ghost use Rattle.macho_symbols.specs.Nearest.{can_stand_for, IsNearest};
 ghost use Rattle.macho_symbols.specs.Found.{FindsNearest};
 ghost use Rattle.macho_symbols.specs.Views.{tuple_of, found_view};
-ghost use Rattle.macho_symbols.specs.Overlaps.{standing_in, standing, first_cut, ends_with, is_tied, IsFirstRow, IsFirstCutOrNone, IsFirstBelow, AreEndsOrNone};
+ghost use Rattle.macho_symbols.specs.Overlaps.{standing_in, standing, first_cut, ends_with, is_tied, ties_elsewhere, IsFirstRow, IsFirstCutOrNone, IsFirstBelow, AreEndsOrNone};
 
 use crate::candidate::Candidate;
 use crate::ends::{Ends, window_size};
@@ -63,6 +64,32 @@ impl<'a> Scan<'a> {
             best = self.best_with(address, size, best, entry);
         }
         best
+    }
+
+    /// Whether an entry can stand for an address, its name begins elsewhere than that of the best candidate, and
+    /// so many first bytes tell the two not apart.
+    fn ties_elsewhere(&self, address: u64, best: &Candidate, size: usize, entry: &[u8]) -> bool
+        requires { 16 ≤ length entry.now }
+        ensures { result
+            ≡ option_map_or (ties_elsewhere (strings_of self.now) size best.now) (standing_in self.now address entry.now) false }
+    {
+        match self.standing(address, entry) {
+            Some(candidate) => candidate.ties_elsewhere(best, self.symbols.strings(), size),
+            None => false,
+        }
+    }
+
+    /// Whether the name of one that can stand for an address begins elsewhere than that of the best candidate, and
+    /// so many first bytes tell the two not apart.
+    fn any_ties_elsewhere(&self, address: u64, best: &Candidate, size: usize) -> bool
+        ensures { result ≡ list_any (ties_elsewhere (strings_of self.now) size best.now) (standing self.now address) }
+    {
+        for entry in self.symbols.entries() {
+            if self.ties_elsewhere(address, best, size, entry) {
+                return true;
+            }
+        }
+        false
     }
 
     /// The two ends of those so far that are tied with the best candidate in as many bytes from a place on, and
@@ -132,6 +159,9 @@ impl<'a> Scan<'a> {
         let size = window_size(strings, self.symbols.table.nsyms as usize);
         let best = self.first_beginning(address, size)?;
         if best.name(strings).is_shorter(size) {
+            return Some(best);
+        }
+        if !self.any_ties_elsewhere(address, &best, size) {
             return Some(best);
         }
         Some(self.first_in_windows(address, best, size))

@@ -4,7 +4,7 @@ use Rattle.macho_symbols.specs.Symbols.{strings_of, name_of}
 use Rattle.macho_symbols.specs.Nearest.{IsNearest}
 use Rattle.macho_symbols.specs.Views.{tuple_of}
 use Rattle.macho_symbols.specs.Overlaps.{standing, IsFirstCutOrNone}
-use Rattle.macho_symbols.proofs.Beginnings.{long_from, short_from, below_start, short_row}
+use Rattle.macho_symbols.proofs.Beginnings.{long_from, short_from, below_start, short_row, no_other_row}
 use Rattle.macho_symbols.proofs.RowMembers.{nearest_row, no_nearest}
 use Rattle.macho_symbols.proofs.scan.Scan.nearest_candidate.Goals as goal
 
@@ -31,6 +31,17 @@ returns-then-is_shorter c =
     (short_row (strings_of image) size (Contains (standing image c.args.address)) best
     (subst (IsFirstCutOrNone (strings_of image) size (Contains (standing image c.args.address))) is c.first_beginning.ensures)
     (short_from (length (name_of (strings_of image) best.strx)) size told))
+
+pub returns-then-not-any_ties_elsewhere : goal.returns-then-not-any_ties_elsewhere
+returns-then-not-any_ties_elsewhere c =
+    let image = c.args.self.now in
+    let size = c.window_size-size.result in
+    let best = c.in_ok-best.best in
+    let is : c.first_beginning.result ≡ Some best = search rules in
+    nearest_row image c.args.address best
+    (no_other_row (strings_of image) size (standing image c.args.address) best
+    (subst (IsFirstCutOrNone (strings_of image) size (Contains (standing image c.args.address))) is c.first_beginning.ensures)
+    (sym c.any_ties_elsewhere.ensures ∙ c.if-not-any_ties_elsewhere.true))
 
 pub first_in_windows-requires-clause-best : goal.first_in_windows-requires-clause-best
 unfolding tuple_of
