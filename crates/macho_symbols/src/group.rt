@@ -1,8 +1,9 @@
 //! The first of some rows, in an address table that is built.
 
 ghost use Rattle.std.specs.Prelude.{◌≡◌, ◌<◌, true, length, Contains};
+ghost use Rattle.std.specs.List.{list_any};
 ghost use Rattle.macho_symbols.specs.Views.{tuple_of};
-ghost use Rattle.macho_symbols.specs.Overlaps.{IsFirstRow, IsFirstCutOrNone, IsFirstBelow, AreEndsOrNone, is_tied};
+ghost use Rattle.macho_symbols.specs.Overlaps.{IsFirstRow, IsFirstCutOrNone, IsFirstBelow, AreEndsOrNone, is_tied, ties_elsewhere};
 
 use crate::candidate::Candidate;
 use crate::ends::{Ends, window_size};
@@ -16,6 +17,14 @@ fn first_beginning(rows: &[Candidate], strings: &[u8], size: usize) -> Option<Ca
         best = row.or_begins_before(best, strings, size);
     }
     best
+}
+
+/// Whether a row's name begins elsewhere than that of the best one, and so many first bytes tell the two not apart.
+fn any_ties_elsewhere(rows: &[Candidate], strings: &[u8], best: &Candidate, size: usize) -> bool
+    ensures { result ≡ list_any (ties_elsewhere strings.now size best.now) rows.now }
+{
+    rows.iter()
+        .any(|row| row.ties_elsewhere(best, strings, size))
 }
 
 /// Of the rows whose names begin in as many bytes from a place on, and that are tied with the best one, the two
@@ -61,11 +70,14 @@ pub(crate) fn first_of(rows: &[Candidate], strings: &[u8]) -> Candidate
         return rows[0];
     }
     let size = window_size(strings, rows.len());
-    match first_beginning(rows, strings, size) {
-        Some(best) if !best.name(strings).is_shorter(size) => first_in_windows(
-            rows, strings, best, size,
-        ),
-        Some(best) => best,
-        None => rows[0],
+    let Some(best) = first_beginning(rows, strings, size) else {
+        return rows[0];
+    };
+    if !any_ties_elsewhere(rows, strings, &best, size) {
+        return best;
     }
+    if best.name(strings).is_shorter(size) {
+        return best;
+    }
+    first_in_windows(rows, strings, best, size)
 }
