@@ -10,7 +10,9 @@ ghost use Rattle.archive_commands.specs.Inputs.{IsRefusedSummary, Unfailed, read
 
 use crate::faults::{CannotOpen, CommandFault, Place, Why};
 use archive_core::{Archive, Operation};
-use archive_records::{RecordFault, RecordFaultKind, Summary, read_archive, read_ops, read_summary};
+use archive_records::{
+    RecordFault, RecordFaultKind, Summary, read_archive, read_ops, read_summary,
+};
 use byte_device::{ReadFault, Source, read_to_end};
 use memory::Heap;
 

@@ -153,7 +153,11 @@ fn summary_command<'a>(alloc: Global) -> Result<Command<'a>, AllocError>
     ensures app { IfOk result (λ c. app_of c ≡ summary_command) }
     ensures local { IfOk result (λ c. (out-Command c).has_globals ≡ false) }
 {
-    let command = bare_command(alloc, "summary", "Writes what an archive has, without its slices");
+    let command = bare_command(
+        alloc,
+        "summary",
+        "Writes what an archive has, without its slices",
+    );
     let command = with_one_value(alloc, command, "ARCHIVE", "The archive to read")?;
     with_one_value(alloc, command, "OUT", "The summary to write")
 }

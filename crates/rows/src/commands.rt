@@ -118,7 +118,9 @@ impl<'a> Desk<'a> {
                 run_summary::<TriedArchive, _, _, _>(heap, archive, out, report)
             }
             Plan::Delta {
-                archive, summary, ..
+                archive,
+                summary,
+                ..
             } => {
                 let archive = &mut self.open(archive);
                 let summary = &mut self.open(summary);

@@ -37,11 +37,7 @@ fn tell_outcomes(
 }
 
 // Tells an outcome; of a message that was sent, how long it is.
-fn tell_outcome(
-    world: &TriedWorld,
-    outcome: &Outcome,
-    told: &mut String,
-) -> Result<(), NoMemory> {
+fn tell_outcome(world: &TriedWorld, outcome: &Outcome, told: &mut String) -> Result<(), NoMemory> {
     match outcome {
         Outcome::Took(rows) => tell_rows(rows, told),
         Outcome::Retired(true) => writeln!(told, "retired"),
@@ -63,9 +59,18 @@ fn tell_message(world: &TriedWorld, message: u64, told: &mut String) -> Result<(
 }
 
 fn tell_rows(rows: &[Taken], told: &mut String) -> Result<(), NoMemory> {
-    let added = rows.iter().filter(|row| matches!(row, Taken::Added(..))).count();
-    let known = rows.iter().filter(|row| matches!(row, Taken::Known(..))).count();
-    let skipped = rows.iter().filter(|row| matches!(row, Taken::Skipped)).count();
+    let added = rows
+        .iter()
+        .filter(|row| matches!(row, Taken::Added(..)))
+        .count();
+    let known = rows
+        .iter()
+        .filter(|row| matches!(row, Taken::Known(..)))
+        .count();
+    let skipped = rows
+        .iter()
+        .filter(|row| matches!(row, Taken::Skipped))
+        .count();
     writeln!(told, "took {added} {known} {skipped}")
 }
 

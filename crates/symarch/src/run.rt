@@ -268,8 +268,7 @@ fn summary<R: Files + Print + AllocGlobal>(
     let mut report = Writing::new(io::writer(rt));
     let mut archive = open_buffered(rt.alloc(), rt, archive)?;
     let mut out = OutFile::new(rt, out);
-    let result =
-        run_summary::<PlainArchive, _, _, _>(heap, &mut archive, &mut out, &mut report);
+    let result = run_summary::<PlainArchive, _, _, _>(heap, &mut archive, &mut out, &mut report);
     ended(result, &out)
 }
 
