@@ -126,7 +126,9 @@ impl<'t> Bench<'t> {
     fn keep_line(&mut self, words: &str, told: &mut String) -> Result<(), CaseFault> {
         let (name, text) = words.split_once(' ').unwrap_or((words, ""));
         let mut bytes = Vec::new(self.alloc);
-        bytes.extend_from_slice(self.store.bytes(name).unwrap_or(&[]))?;
+        if let Some(before) = self.store.bytes(name) {
+            bytes.extend_from_slice(before)?;
+        }
         bytes.extend_from_slice(text.as_bytes())?;
         bytes.push(b'\n')?;
         let len = bytes.len();
