@@ -3,7 +3,8 @@ use Rattle.std.proofs.Common.{◌≡◌, ℕ, zero, suc, ◌+◌, ◌<◌, ◌�
 use Rattle.std.proofs.lemmas.Bool.{cases_lt, both_ways}
 use Rattle.fat_slices.specs.Kind.{kind_of, is_fat}
 use Rattle.fat_slices.specs.Layout.{nfat_arch, table_end, arch_at}
-use Rattle.fat_slices.specs.Fault.{IsOutside, IsTooLarge, Applies, number, entry, IsFatFault, IsUniversal, HasTable, IsFirst, HasNone}
+use Rattle.fat_slices.specs.Fault.{IsOutside, IsTooLarge, Applies, number, entry, IsFatFault, IsUniversal}
+use Rattle.fat_slices.specs.Inner.{HasTable, IsFirst, HasNone}
 use Rattle.fat_slices.specs.declared.fault.FatFault.{FatFault}
 use Rattle.fat_slices.specs.declared.fault.FatFault.TheVariants.{NotUniversal, HeaderTruncated, TooManyArches, TableTruncated, SliceOutside, TooLarge}
 

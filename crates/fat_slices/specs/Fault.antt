@@ -1,5 +1,5 @@
 -- Why bytes are no universal file: the places of mach-o/fat.h that one has to get right.
-use Rattle.std.specs.Prelude.{ℕ, false, true, List, length, ◌≡◌, ◌+◌, ◌<◌, ◌≤◌, ◌⊎◌}
+use Rattle.std.specs.Prelude.{ℕ, false, List, length, ◌≡◌, ◌+◌, ◌<◌, ◌⊎◌}
 use Rattle.fat_slices.specs.Kind.{kind_of, is_fat}
 use Rattle.fat_slices.specs.Layout.{nfat_arch, table_end, arch_at}
 use Rattle.fat_slices.specs.declared.fault.FatFault.{FatFault}
@@ -52,20 +52,3 @@ pub record IsFatFault (file : List ℕ) (fault : FatFault) : Type 0 where
 -- the bytes are a universal file: no fault applies
 pub record IsUniversal (file : List ℕ) : Type 0 where
   pub none : (fault : FatFault) → Applies file fault → ⊥
-
--- the bytes have a fat_header, and a table of at most 32 entries directly behind it
-pub record HasTable (file : List ℕ) : Type 0 where
-  pub kind : is_fat (kind_of file) ≡ true
-  pub header : 8 ≤ length file
-  pub few : nfat_arch file ≤ 32
-  pub table : table_end file ≤ length file
-
--- it is the least number below `count` that has a property
-pub record IsFirst (P : ℕ → Type 0) (count : ℕ) (i : ℕ) : Type 0 where
-  pub below : i < count
-  pub holds : P i
-  pub first : (j : ℕ) → j < i → P j → ⊥
-
--- no number below `count` has a property
-abbrev pub HasNone : (ℕ → Type 0) → ℕ → Type 0
-HasNone P count = (j : ℕ) → j < count → P j → ⊥

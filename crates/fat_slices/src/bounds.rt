@@ -2,7 +2,8 @@
 
 ghost use Rattle.std.specs.Prelude.{◌≡◌, MatchOption};
 ghost use Rattle.fat_slices.specs.Layout.{nfat_arch};
-ghost use Rattle.fat_slices.specs.Fault.{HasTable, HasNone, IsFirst, IsOutside, IsTooLarge};
+ghost use Rattle.fat_slices.specs.Inner.{HasTable, HasNone, IsFirst};
+ghost use Rattle.fat_slices.specs.Fault.{IsOutside, IsTooLarge};
 
 use crate::fat_arch::arch_at;
 use crate::fat_header::nfat_arch;

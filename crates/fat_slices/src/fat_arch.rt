@@ -3,7 +3,7 @@
 ghost use Rattle.std.specs.Prelude.{◌≡◌, ◌+◌, ◌*◌, ◌≤◌, ◌<◌, length};
 ghost use Rattle.fat_slices.specs.Layout.{nfat_arch, fat_arch, fat_arch_64, arch_size, arch_at};
 ghost use Rattle.fat_slices.specs.Slices.{slice_part};
-ghost use Rattle.fat_slices.specs.Fault.{HasTable};
+ghost use Rattle.fat_slices.specs.Inner.{HasTable};
 
 use crate::fat_header::FAT_HEADER_LEN;
 use crate::file_kind::{FileKind, kind};

@@ -2,7 +2,8 @@
 
 ghost use Rattle.std.specs.Prelude.{◌≡◌, ◌≤◌, IfOk, IfErr, length};
 ghost use Rattle.fat_slices.specs.Layout.{nfat_arch};
-ghost use Rattle.fat_slices.specs.Fault.{HasTable, IsFatFault};
+ghost use Rattle.fat_slices.specs.Inner.{HasTable};
+ghost use Rattle.fat_slices.specs.Fault.{IsFatFault};
 
 use crate::fat_arch::arch_place;
 use crate::fault::FatFault;

@@ -5,7 +5,8 @@ use Rattle.std.specs.Option.{option_or, is_some}
 use Rattle.std.proofs.lemmas.List.{take-append-drop}
 use Rattle.std.proofs.lemmas.Bool.{cases_lt}
 use Rattle.macho_image.specs.Layout.{u32_at, ncmds, command_bytes}
-use Rattle.macho_image.specs.Commands.{IsCommand, HasNoCommand, is_uuid}
+use Rattle.macho_image.specs.Commands.{IsCommand, is_uuid}
+use Rattle.macho_image.specs.Inner.{HasNoCommand}
 use Rattle.macho_image.specs.Contents.{uuid_among, symtab_among}
 use Rattle.macho_image.specs.Fault.{header_fault, command_fault, IsFirstFault, AreCommands, IsImageFault, IsImage}
 use Rattle.macho_image.specs.declared.fault.ImageFault.{ImageFault}

@@ -6,7 +6,8 @@ use Rattle.std.proofs.Math.Seq.{take-append_seam}
 use Rattle.byteorder.specs.Endian.{little_number}
 use Rattle.byteorder.specs.Numbers.{little_from-append}
 use Rattle.macho_image.specs.Layout.{u32_at}
-use Rattle.macho_image.specs.Commands.{IsCommand, IsFront, HasNoCommand}
+use Rattle.macho_image.specs.Commands.{IsCommand, IsFront}
+use Rattle.macho_image.specs.Inner.{HasNoCommand}
 
 -- a number is that of the bytes in front, whatever follows them
 pub u32_at-append : (xs ys : List ℕ) (place : ℕ) → place + 4 ≤ length xs → u32_at (xs ++ ys) place ≡ u32_at xs place

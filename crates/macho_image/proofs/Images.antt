@@ -6,10 +6,10 @@ use Rattle.std.proofs.lemmas.List.{take-append-drop}
 use Rattle.std.proofs.Math.Seq.{take-append_seam, drop-append_seam}
 use Rattle.std.proofs.lemmas.Bool.Decides.{nat_tests}
 use Rattle.macho_image.specs.Layout.{u32_at, ncmds, command_bytes}
-use Rattle.macho_image.specs.Commands.{IsCommand, IsFront, first_commands, commands, is_uuid, HasNoCommand}
+use Rattle.macho_image.specs.Commands.{IsCommand, IsFront, first_commands, commands, is_uuid}
+use Rattle.macho_image.specs.Inner.{HasNoCommand, AreContents}
 use Rattle.macho_image.specs.Fault.{header_fault, IsFirstFault, AreCommands, IsImageFault}
 use Rattle.macho_image.specs.Contents.{uuid_bytes, uuid_among, symtab_among, IsRead}
-use Rattle.macho_image.specs.Inner.{AreContents}
 use Rattle.macho_image.specs.declared.fault.ImageFault.{ImageFault}
 use Rattle.macho_image.specs.declared.fault.ImageFault.TheVariants.{NoUuid}
 use Rattle.macho_image.specs.declared.symtab_command.Symtab.{Symtab}

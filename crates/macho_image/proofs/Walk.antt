@@ -4,10 +4,10 @@ use Rattle.std.specs.List.{concat, AllByRecursion, list_any, find}
 use Rattle.std.specs.Option.{option_map, option_or, is_some}
 use Rattle.std.proofs.lemmas.List.{append-nil}
 use Rattle.std.proofs.lemmas.List.Folds.{concat-append, find-append}
-use Rattle.macho_image.specs.Commands.{IsCommand, IsFront, HasNoCommand, HasRoom, is_uuid, is_symtab}
+use Rattle.macho_image.specs.Commands.{IsCommand, IsFront, HasRoom, is_uuid, is_symtab}
+use Rattle.macho_image.specs.Inner.{HasNoCommand, AreContents}
 use Rattle.macho_image.specs.Fault.{command_fault, IsFaultAt, NoneBelow, IsFirstFault}
 use Rattle.macho_image.specs.Contents.{uuid_bytes, symtab_fields, uuid_among, symtab_among}
-use Rattle.macho_image.specs.Inner.{AreContents}
 use Rattle.macho_image.specs.declared.fault.ImageFault.{ImageFault}
 use Rattle.macho_image.specs.declared.fault.ImageFault.TheVariants.{BadCommand}
 use Rattle.macho_image.specs.declared.symtab_command.Symtab.{Symtab}

@@ -1,5 +1,5 @@
 -- Load commands: how the bytes behind the header fall into them (mach-o/loader.h).
-use Rattle.std.specs.Prelude.{ℕ, suc, zero, Bool, true, ◌+◌, ◌*◌, List, [], ◌∷◌, ◌++◌, length, take, drop, ◌≡◌, ◌≢◌, ◌≤◌, ◌==◌, ◌&&◌, nat_le, if◌then◌else◌}
+use Rattle.std.specs.Prelude.{ℕ, suc, zero, Bool, true, ◌+◌, ◌*◌, List, [], ◌∷◌, ◌++◌, length, take, drop, ◌≡◌, ◌≤◌, ◌==◌, ◌&&◌, nat_le, if◌then◌else◌}
 use Rattle.std.specs.List.{concat, AllByRecursion}
 use Rattle.macho_image.specs.Layout.{u32_at, command_bytes, ncmds}
 
@@ -18,10 +18,6 @@ pub record IsFront (bytes : List ℕ) (count : ℕ) (commands : List (List ℕ))
 -- so many commands begin the bytes
 abbrev pub HasFront : List ℕ → ℕ → Type 0
 HasFront bytes count = (commands : List (List ℕ)) × IsFront bytes count commands
-
--- no command begins the bytes
-abbrev pub HasNoCommand : List ℕ → Type 0
-HasNoCommand bytes = (command rest : List ℕ) → IsCommand command → bytes ≢ command ++ rest
 
 -- load_command.cmd is LC_SEGMENT_64 (0x19)
 abbrev pub is_segment : List ℕ → Bool

@@ -1,10 +1,14 @@
--- What the walk over the load commands found: the word of an inner function. No contract of a public one has it.
-use Rattle.std.specs.Prelude.{◌≡◌, ℕ, List, Option}
+-- What a walk over load commands finds: the words of inner functions. No contract of a public one has them.
+use Rattle.std.specs.Prelude.{◌≡◌, ◌≢◌, ◌++◌, ℕ, List, Option}
 use Rattle.std.specs.List.{AllByRecursion}
-use Rattle.macho_image.specs.Commands.{HasRoom}
+use Rattle.macho_image.specs.Commands.{IsCommand, HasRoom}
 use Rattle.macho_image.specs.Fault.{AreCommands}
 use Rattle.macho_image.specs.Contents.{uuid_among, symtab_among}
 use Rattle.macho_image.specs.declared.symtab_command.Symtab.{Symtab}
+
+-- no command begins the bytes
+abbrev pub HasNoCommand : List ℕ → Type 0
+HasNoCommand bytes = (command rest : List ℕ) → IsCommand command → bytes ≢ command ++ rest
 
 -- nothing is wrong with so many commands of the bytes, and they say this UUID and this symbol table
 pub record AreContents (area : List ℕ) (count : ℕ) (uuid : Option (List ℕ)) (symtab : Option Symtab) : Type 0 where

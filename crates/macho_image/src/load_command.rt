@@ -2,7 +2,8 @@
 
 ghost use Rattle.std.specs.Prelude.{◌≡◌, ◌+◌, ◌<◌, ◌≤◌, ◌^◌, ◌++◌, length, MatchOption};
 ghost use Rattle.macho_image.specs.Layout.{u32_at};
-ghost use Rattle.macho_image.specs.Commands.{IsCommand, HasNoCommand, HasRoom};
+ghost use Rattle.macho_image.specs.Commands.{IsCommand, HasRoom};
+ghost use Rattle.macho_image.specs.Inner.{HasNoCommand};
 ghost use Rattle.macho_image.specs.Kinds.{load_command};
 
 use crate::loader::{LC_SEGMENT_64, LC_SYMTAB, LC_UUID, LOAD_COMMAND_LEN};

@@ -14,12 +14,12 @@ use Rattle.std.proofs.lemmas.List.Elements.{Contains-get_or}
 use Rattle.std.proofs.lemmas.List.Folds.{list_any_at}
 use Rattle.std.proofs.lemmas.Map.Lookups.{exact_unsigned, exact_bytes}
 use Rattle.macho_symbols.specs.Symbols.{Tuple, name_of}
-use Rattle.macho_symbols.specs.Nearest.{tuple_cmp, beginning_cmp, cut_cmp, UpTo}
+use Rattle.macho_symbols.specs.Nearest.{tuple_cmp}
+use Rattle.macho_symbols.specs.Overlaps.{beginning_cmp, cut_cmp, first_row, IsFirstRow, IsFirstCut, IsFirstBelow, begins_in, is_tied, ties_elsewhere, stands_before, stands_behind, AreEndsOrNone, first_of_ends}
+use Rattle.macho_symbols.proofs.ScanLemmas.{UpTo, tuples_total, upto_itself, upto_from_less, upto_back, not_less}
 use Rattle.macho_symbols.specs.Views.{tuple_of}
-use Rattle.macho_symbols.specs.Overlaps.{first_row, IsFirstRow, IsFirstCut, IsFirstBelow, begins_in, is_tied, ties_elsewhere, stands_before, stands_behind, AreEndsOrNone, first_of_ends}
 use Rattle.macho_symbols.specs.declared.candidate.Candidate.{Candidate}
 use Rattle.macho_symbols.specs.declared.ends.Ends.{Ends}
-use Rattle.macho_symbols.proofs.ScanLemmas.{tuples_total, upto_itself, upto_from_less, upto_back, not_less}
 use Rattle.macho_symbols.proofs.Order.{both_equal, exact_flags}
 use Rattle.macho_symbols.proofs.Orders.{upto_from_not_less}
 use Rattle.macho_symbols.proofs.Overlaps.{names_total, name_behind, three_names}

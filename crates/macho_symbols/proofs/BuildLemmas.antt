@@ -12,7 +12,8 @@ use Rattle.std.proofs.Math.Seq.{take-add}
 use Rattle.macho_symbols.specs.Nearest.{tuple_cmp}
 use Rattle.macho_symbols.specs.Views.{tuple_of}
 use Rattle.macho_symbols.specs.Overlaps.{IsFirstRow}
-use Rattle.macho_symbols.specs.Rows.{Precedes, IsBeside, AreSorted, AreFirsts}
+use Rattle.macho_symbols.specs.Rows.{Precedes, IsBeside, AreFirsts}
+use Rattle.macho_symbols.specs.Halving.{AreSorted}
 use Rattle.macho_symbols.specs.declared.candidate.Candidate.{Candidate}
 
 -- one entry more

@@ -6,7 +6,8 @@ use Rattle.std.proofs.lemmas.Option.{none-some, slice_get-map, slice_get-get_or,
 use Rattle.std.proofs.lemmas.List.{length-map, length-take, append-nil}
 use Rattle.macho_image.specs.Sections.{SectionRecord, IsSectionOf, section_at, sections, section_of, is_inside}
 use Rattle.macho_symbols.specs.Symbols.{is_in_section}
-use Rattle.macho_symbols.specs.Extents.{is_within, extent_of, AreExtents}
+use Rattle.macho_symbols.specs.Halving.{is_within}
+use Rattle.macho_symbols.specs.Extents.{extent_of, AreExtents}
 use Rattle.macho_symbols.specs.declared.extents.Extent.{Extent}
 
 get-take : {X : Type 0} (n : ℕ) (xs : List X) (i : ℕ) → i < n → slice_get (take n xs) i ≡ slice_get xs i

@@ -9,9 +9,8 @@ use Rattle.std.specs.Cmp.{IsTotalOrder}
 use Rattle.std.proofs.lemmas.Cmp.{upto, tied_itself}
 use Rattle.std.proofs.lemmas.Bool.Decides.{nat_tests}
 use Rattle.std.proofs.lemmas.List.{at_drop_more, at_drop_all}
-use Rattle.macho_symbols.specs.Nearest.{cut_cmp}
+use Rattle.macho_symbols.specs.Overlaps.{cut_cmp, first_cut, IsFirstCut, IsFirstCutOrNone, is_tied, stands_before, stands_behind, widened, ends_with, AreEnds, AreEndsOrNone}
 use Rattle.macho_symbols.specs.Views.{tuple_of}
-use Rattle.macho_symbols.specs.Overlaps.{first_cut, IsFirstCut, IsFirstCutOrNone, is_tied, stands_before, stands_behind, widened, ends_with, AreEnds, AreEndsOrNone}
 use Rattle.macho_symbols.specs.declared.candidate.Candidate.{Candidate}
 use Rattle.macho_symbols.specs.declared.ends.Ends.{Ends}
 use Rattle.macho_symbols.proofs.Beginnings.{cuts_total}

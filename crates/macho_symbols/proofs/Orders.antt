@@ -5,9 +5,9 @@ use Rattle.std.specs.declared.cmp.Ordering.{Ordering}
 use Rattle.std.specs.declared.cmp.Ordering.TheVariants.{Less, Equal, Greater}
 use Rattle.std.proofs.lemmas.Cmp.{upto, ranked}
 use Rattle.macho_symbols.specs.Symbols.{Tuple}
-use Rattle.macho_symbols.specs.Nearest.{tuple_cmp, IsFirst, UpTo}
-use Rattle.macho_symbols.specs.Rows.{IsFirstOrNone, first_of_two}
-use Rattle.macho_symbols.proofs.ScanLemmas.{tuples_total, not_less, upto_back, upto_from_less}
+use Rattle.macho_symbols.specs.Nearest.{tuple_cmp, IsFirst}
+use Rattle.macho_symbols.proofs.ScanLemmas.{UpTo, tuples_total, not_less, upto_back, upto_from_less}
+use Rattle.macho_symbols.specs.Halving.{IsFirstOrNone, first_of_two}
 
 -- an order of several parts, told by its first two, where these differ
 pub heads_decide : (value kind name heads : Ordering) → heads ≡ ordering_then value kind → is_ne heads ≡ true → heads ≡ ordering_then value (ordering_then kind name)

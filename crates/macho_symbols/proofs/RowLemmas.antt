@@ -15,7 +15,8 @@ use Rattle.std.proofs.lemmas.Bool.Decides.{nat_tests}
 use Rattle.macho_symbols.specs.Symbols.{Tuple, strings_of, candidates}
 use Rattle.macho_symbols.specs.Nearest.{tuple_cmp, IsFirst}
 use Rattle.macho_symbols.specs.Views.{tuple_of}
-use Rattle.macho_symbols.specs.Rows.{row_cmp, is_before, Precedes, IsBeside, AreSorted, AreRows, AreFalling}
+use Rattle.macho_symbols.specs.Halving.{row_cmp, is_before, AreSorted}
+use Rattle.macho_symbols.specs.Rows.{Precedes, IsBeside, AreRows, AreFalling}
 use Rattle.macho_symbols.specs.declared.candidate.Candidate.{Candidate}
 use Rattle.macho_symbols.proofs.RowMembers.{row_to, row_from}
 

@@ -10,7 +10,7 @@ use Rattle.std.proofs.lemmas.Cmp.{upto, tied_itself, nat_cmp_total, on_total, th
 use Rattle.std.proofs.lemmas.List.Elements.{All-from_recursion}
 use Rattle.std.proofs.lemmas.Bool.Decides.{nat_tests}
 use Rattle.macho_symbols.specs.Symbols.{Tuple, candidates, is_in_section}
-use Rattle.macho_symbols.specs.Nearest.{tuple_cmp, can_stand_for, UpTo, StandsFor, IsNearest}
+use Rattle.macho_symbols.specs.Nearest.{tuple_cmp, can_stand_for, StandsFor, IsNearest}
 
 -- the better of the best so far, which can stand for the address, and one more
 unfoldable pub better : List ℕ → ℕ → Option Tuple → Tuple → Option Tuple
@@ -27,6 +27,10 @@ tuples_total =
     then_total (back_total (on_total (λ c. c.value) nat_cmp_total))
     (then_total (back_total (on_total (λ c. c.external) bool_cmp_total))
     (then_total (on_total (λ c. c.name) (lists_total nat_cmp_total)) (on_total (λ c. c.sect) nat_cmp_total)))
+
+-- c does not come after d
+abbrev pub UpTo : Tuple → Tuple → Type 0
+UpTo c d = is_gt (tuple_cmp c d) ≡ false
 
 pub upto_itself : (c : Tuple) → UpTo c c
 upto_itself c = ap is_gt (tied_itself tuples_total c)

@@ -10,8 +10,8 @@ use Rattle.std.proofs.lemmas.Bool.Decides.{nat_tests}
 use Rattle.macho_image.specs.Sections.{is_inside}
 use Rattle.macho_symbols.specs.Symbols.{Tuple, is_in_section, table_of, entries, is_candidate, tuple_in, candidate_in, candidates}
 use Rattle.macho_symbols.specs.Nearest.{can_stand_for, StandsFor, IsNearest}
-use Rattle.macho_symbols.specs.Extents.{is_within, AreExtents}
-use Rattle.macho_symbols.specs.Rows.{IsFirstOrNone, IsFirstNotAbove, IsFirstIn, first_of_two}
+use Rattle.macho_symbols.specs.Halving.{is_within, IsFirstOrNone, IsFirstNotAbove, IsFirstIn, first_of_two}
+use Rattle.macho_symbols.specs.Extents.{AreExtents}
 use Rattle.macho_symbols.specs.declared.extents.Extent.{Extent}
 use Rattle.macho_symbols.proofs.ExtentLemmas.{within_extent, section_past}
 use Rattle.macho_symbols.proofs.Orders.{first_of_same, first_of_both}

@@ -1,12 +1,8 @@
 -- Where the sections of an image lie, by number.
-use Rattle.std.specs.Prelude.{ℕ, Bool, List, map, ◌≡◌, ◌+◌, ◌&&◌, nat_lt, nat_le, take}
+use Rattle.std.specs.Prelude.{ℕ, List, map, ◌≡◌, take}
 use Rattle.std.specs.List.{AllByRecursion}
 use Rattle.macho_image.specs.Sections.{SectionRecord, IsSectionOf, sections}
 use Rattle.macho_symbols.specs.declared.extents.Extent.{Extent}
-
--- whether an address lies in an extent, whose end may pass 2 ^ 64
-abbrev pub is_within : ℕ → Extent → Bool
-is_within address extent = nat_le extent.addr address && nat_lt address (extent.addr + extent.size)
 
 -- the extent of a section: its addresses, and its place in the image
 abbrev pub extent_of : SectionRecord → Extent

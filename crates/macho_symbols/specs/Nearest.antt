@@ -1,6 +1,6 @@
 -- Which candidate an address belongs to.
-use Rattle.std.specs.Prelude.{ℕ, Bool, true, false, List, ◌≡◌, ◌≢◌, ◌&&◌, nat_le, take, Option, MatchOption, Contains}
-use Rattle.std.specs.Ordering.{ordering_then, nat_cmp, bool_cmp, is_gt}
+use Rattle.std.specs.Prelude.{ℕ, Bool, true, List, ◌≡◌, ◌≢◌, ◌&&◌, nat_le, Option, MatchOption, Contains}
+use Rattle.std.specs.Ordering.{ordering_then, nat_cmp, bool_cmp}
 use Rattle.std.specs.declared.cmp.Ordering.{Ordering}
 use Rattle.std.specs.declared.cmp.Ordering.TheVariants.{Less}
 use Rattle.std.specs.Cmp.Lexicographic.{slice_cmp}
@@ -10,15 +10,6 @@ use Rattle.macho_symbols.specs.Symbols.{Tuple, candidates, is_in_section}
 abbrev pub tuple_cmp : Tuple → Tuple → Ordering
 tuple_cmp c d =
     ordering_then (nat_cmp d.value c.value) (ordering_then (bool_cmp d.external c.external) (ordering_then (slice_cmp nat_cmp c.name d.name) (nat_cmp c.sect d.sect)))
-
--- the order of candidates by value, kind and so many first bytes of their names
-abbrev pub beginning_cmp : ℕ → Tuple → Tuple → Ordering
-beginning_cmp size c d =
-    ordering_then (nat_cmp d.value c.value) (ordering_then (bool_cmp d.external c.external) (slice_cmp nat_cmp (take size c.name) (take size d.name)))
-
--- the order of candidates with no more of their names than so many first bytes
-abbrev pub cut_cmp : ℕ → Tuple → Tuple → Ordering
-cut_cmp size c d = ordering_then (beginning_cmp size c d) (nat_cmp c.sect d.sect)
 
 -- whether a candidate can stand for an address: not above it, and its section has it
 unfoldable pub can_stand_for : List ℕ → ℕ → Tuple → Bool
@@ -37,7 +28,3 @@ StandsFor image address c = Contains (candidates image) c × (can_stand_for imag
 abbrev pub IsNearest : List ℕ → ℕ → Option Tuple → Type 0
 IsNearest image address found =
     MatchOption found ((c : Tuple) → StandsFor image address c → ⊥) (IsFirst (StandsFor image address))
-
--- c does not come after d
-abbrev pub UpTo : Tuple → Tuple → Type 0
-UpTo c d = is_gt (tuple_cmp c d) ≡ false

@@ -1,14 +1,26 @@
--- The first of candidates whose names may overlap in the string table, found by the places where these begin.
-use Rattle.std.specs.Prelude.{ℕ, Bool, false, not, cond, List, ◌≡◌, ◌≢◌, ◌+◌, ◌<◌, ◌≤◌, ◌==◌, ◌&&◌, ◌||◌, nat_lt, nat_le, length, Option, Some, None, MatchOption}
-use Rattle.std.specs.Ordering.{is_lt, is_eq}
+-- The first of candidates whose names may overlap in the string table, found by the places where these begin: the words of
+-- inner functions. No contract of a public one has them.
+use Rattle.std.specs.Prelude.{ℕ, Bool, false, not, cond, List, ◌≡◌, ◌≢◌, ◌+◌, ◌<◌, ◌≤◌, ◌==◌, ◌&&◌, ◌||◌, nat_lt, nat_le, length, take, Option, Some, None, MatchOption}
+use Rattle.std.specs.Ordering.{ordering_then, nat_cmp, bool_cmp, is_lt, is_eq}
+use Rattle.std.specs.declared.cmp.Ordering.{Ordering}
 use Rattle.std.specs.declared.cmp.Ordering.TheVariants.{Less}
-use Rattle.macho_symbols.specs.Nearest.{tuple_cmp, beginning_cmp, cut_cmp, can_stand_for}
+use Rattle.std.specs.Cmp.Lexicographic.{slice_cmp}
+use Rattle.macho_symbols.specs.Nearest.{tuple_cmp, can_stand_for}
 use Rattle.std.specs.List.{filter_map}
 use Rattle.std.specs.Option.{option_map_or}
-use Rattle.macho_symbols.specs.Symbols.{strings_of, entries_of}
+use Rattle.macho_symbols.specs.Symbols.{Tuple, strings_of, entries_of}
 use Rattle.macho_symbols.specs.Views.{tuple_of, row_in}
 use Rattle.macho_symbols.specs.declared.candidate.Candidate.{Candidate}
 use Rattle.macho_symbols.specs.declared.ends.Ends.{Ends}
+
+-- the order of candidates by value, kind and so many first bytes of their names
+abbrev pub beginning_cmp : ℕ → Tuple → Tuple → Ordering
+beginning_cmp size c d =
+    ordering_then (nat_cmp d.value c.value) (ordering_then (bool_cmp d.external c.external) (slice_cmp nat_cmp (take size c.name) (take size d.name)))
+
+-- the order of candidates with no more of their names than so many first bytes
+abbrev pub cut_cmp : ℕ → Tuple → Tuple → Ordering
+cut_cmp size c d = ordering_then (beginning_cmp size c d) (nat_cmp c.sect d.sect)
 
 -- the first of two
 abbrev pub first_row : List ℕ → Candidate → Candidate → Candidate

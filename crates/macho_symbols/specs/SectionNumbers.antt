@@ -1,4 +1,4 @@
--- The sections of an image by the numbers of n_sect.
+-- The sections of an image by the numbers of n_sect: the word of inner functions. No contract of a public one has it.
 use Rattle.std.specs.Prelude.{ℕ, List, ◌≡◌, ◌<◌, Option, None, slice_index_or}
 use Rattle.std.specs.Option.{option_map}
 use Rattle.macho_image.specs.Sections.{section_of}

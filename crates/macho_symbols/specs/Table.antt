@@ -13,7 +13,7 @@ pub record TableParts : Type 0 where
   pub extents : List Extent
   pub symtab : Symtab
 
--- the table tells the first candidates, the sections and the LC_SYMTAB of an image
+-- the table tells the first candidates, the extents of the sections and the LC_SYMTAB of an image
 pub record IsTableOf (table : TableParts) (image : List ℕ) : Type 0 where
   pub rows : AreRows image table.rows
   pub extents : AreExtents image table.extents

@@ -4,9 +4,9 @@ ghost use Rattle.std.specs.Prelude.{◌≡◌, take};
 ghost use Rattle.std.specs.Ordering.{ordering_then, nat_cmp, bool_cmp, is_lt};
 ghost use Rattle.std.specs.Cmp.Lexicographic.{slice_cmp};
 ghost use Rattle.macho_symbols.specs.Symbols.{name_of};
-ghost use Rattle.macho_symbols.specs.Nearest.{tuple_cmp, beginning_cmp, cut_cmp};
+ghost use Rattle.macho_symbols.specs.Nearest.{tuple_cmp};
+ghost use Rattle.macho_symbols.specs.Overlaps.{beginning_cmp, cut_cmp, first_row, first_cut};
 ghost use Rattle.macho_symbols.specs.Views.{name_view, tuple_of};
-ghost use Rattle.macho_symbols.specs.Overlaps.{first_row, first_cut};
 
 use crate::name::Name;
 use std::cmp::Ordering;

@@ -4,7 +4,8 @@ ghost use Rattle.std.specs.Prelude.{◌≡◌, ◌+◌, ◌≤◌, IfOk, [], len
 ghost use Rattle.std.specs.Option.{option_map_or};
 ghost use Rattle.macho_image.specs.Sections.{section_at, section_of};
 ghost use Rattle.macho_image.specs.SectionViews.{section_view};
-ghost use Rattle.macho_symbols.specs.Extents.{is_within, extent_of, AreExtents};
+ghost use Rattle.macho_symbols.specs.Halving.{is_within};
+ghost use Rattle.macho_symbols.specs.Extents.{extent_of, AreExtents};
 
 use crate::nlist::{MAX_SECT, NO_SECT};
 use macho_image::{Image, Section};

@@ -6,7 +6,8 @@ ghost use Rattle.std.specs.Option.{option_map, option_to_list};
 ghost use Rattle.macho_symbols.specs.Symbols.{strings_of};
 ghost use Rattle.macho_symbols.specs.Views.{tuple_of, rows_of};
 ghost use Rattle.macho_symbols.specs.declared.candidate.Candidate.{Candidate};
-ghost use Rattle.macho_symbols.specs.Rows.{row_cmp, is_before, IsBeside, AreSorted, AreFirsts, AreFalling, AreRows, IsFirstNotAbove};
+ghost use Rattle.macho_symbols.specs.Halving.{row_cmp, is_before, AreSorted, IsFirstNotAbove};
+ghost use Rattle.macho_symbols.specs.Rows.{IsBeside, AreFirsts, AreFalling, AreRows};
 
 use crate::candidate::Candidate;
 use crate::group::first_of;

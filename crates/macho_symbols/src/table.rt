@@ -6,7 +6,7 @@ ghost use Rattle.macho_symbols.specs.Symbols.{strings_of};
 ghost use Rattle.macho_symbols.specs.Nearest.{IsNearest};
 ghost use Rattle.macho_symbols.specs.Found.{found_of, FindsNearest};
 ghost use Rattle.macho_symbols.specs.Views.{tuple_of, found_view};
-ghost use Rattle.macho_symbols.specs.Rows.{IsFirstIn, first_of_two};
+ghost use Rattle.macho_symbols.specs.Halving.{IsFirstIn, first_of_two};
 
 use crate::candidate::Candidate;
 use crate::extents::{Extent, collect_extents, section_names};

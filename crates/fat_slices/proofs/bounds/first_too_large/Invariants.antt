@@ -1,4 +1,5 @@
-use Rattle.fat_slices.specs.Fault.{IsTooLarge, HasNone}
+use Rattle.fat_slices.specs.Fault.{IsTooLarge}
+use Rattle.fat_slices.specs.Inner.{HasNone}
 use Rattle.fat_slices.proofs.bounds.first_too_large.Given as goal
 
 abbrev pub invariant-loop-place : goal.invariant-loop-place

@@ -5,7 +5,8 @@ use Rattle.std.proofs.lemmas.Fn.{always_returns_same}
 use Rattle.std.proofs.lemmas.List.MinMax.{ranks_by}
 use Rattle.macho_symbols.specs.Symbols.{strings_of}
 use Rattle.macho_symbols.specs.Views.{rows_of}
-use Rattle.macho_symbols.specs.Rows.{row_cmp, AreFirsts}
+use Rattle.macho_symbols.specs.Halving.{row_cmp}
+use Rattle.macho_symbols.specs.Rows.{AreFirsts}
 use Rattle.macho_symbols.proofs.RowLemmas.{rows_total, rows_sorted}
 use Rattle.macho_symbols.proofs.BuildLemmas.{firsts_of_sorted}
 use Rattle.macho_symbols.proofs.rows.sorted_rows.Goals as goal

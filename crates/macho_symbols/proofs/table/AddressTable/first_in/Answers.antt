@@ -1,5 +1,6 @@
 use Rattle.std.proofs.Common.{rules, ◌≡◌, ◌∙◌, ap, sym, subst, length, arith}
-use Rattle.macho_symbols.specs.Extents.{AreExtents, is_within}
+use Rattle.macho_symbols.specs.Extents.{AreExtents}
+use Rattle.macho_symbols.specs.Halving.{is_within}
 use Rattle.macho_symbols.specs.Rows.{AreRows}
 use Rattle.macho_symbols.proofs.Stands.{none_outside, first_inside}
 use Rattle.macho_symbols.proofs.table.AddressTable.first_in.Goals as goal

@@ -1,6 +1,6 @@
 use Rattle.std.proofs.Common.{◌≡◌, ap, arith, length, sym, subst}
 use Rattle.std.specs.Option.{option_map}
-use Rattle.macho_symbols.specs.Rows.{IsFirstOrNone, first_of_two}
+use Rattle.macho_symbols.specs.Halving.{IsFirstOrNone, first_of_two}
 use Rattle.macho_symbols.specs.Views.{tuple_of}
 use Rattle.macho_symbols.proofs.Stands.{none_at_start, one_section_more, all_sections, numbers_fit}
 use Rattle.macho_symbols.proofs.table.AddressTable.nearest_candidate.Goals as goal

@@ -2,7 +2,7 @@ use Rattle.std.proofs.Common.{◌≤◌}
 use Rattle.std.specs.Option.{option_map}
 use Rattle.macho_symbols.specs.Symbols.{strings_of}
 use Rattle.macho_symbols.specs.Nearest.{StandsFor}
-use Rattle.macho_symbols.specs.Rows.{IsFirstOrNone}
+use Rattle.macho_symbols.specs.Halving.{IsFirstOrNone}
 use Rattle.macho_symbols.specs.Views.{tuple_of}
 use Rattle.macho_symbols.proofs.table.AddressTable.nearest_candidate.Given as goal
 
