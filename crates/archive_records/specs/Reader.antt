@@ -23,6 +23,12 @@ use Rattle.archive_records.specs.Fault.{FailsNext, Fails, IsTrailing, IsMagicFau
 use Rattle.archive_records.specs.Front.{front_length}
 use Rattle.archive_records.specs.Reading.{Blames}
 
+-- The buffer grew by the bytes that were taken from the source.
+pub record Fills (left_old left_new : Option (List ℕ)) (old new : List ℕ) : Type 0 where
+  pub more : List ℕ
+  pub grows : new ≡ old ++ more
+  pub taken : Consumes left_old left_new more
+
 -- the bytes of the next record that came
 abbrev pub bytes_so_far : Buffer → List ℕ
 bytes_so_far b = take b.at b.bytes.items

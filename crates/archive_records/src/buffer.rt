@@ -3,9 +3,8 @@
 ghost use Rattle.std.specs.Prelude.{◌≡◌, ◌+◌, ◌^◌, ◌<◌, ◌≤◌, ◌++◌, OnOk, OnErr, IfErr, ℕ, List, length, take, drop, vec_capacity};
 ghost use Rattle.std.specs.Ordering.{nat_cmp, ordering_then};
 ghost use Rattle.std.specs.Cmp.Lexicographic.{slice_cmp};
-ghost use Rattle.byte_device.specs.Taking.{Fills};
 ghost use Rattle.archive_records.specs.declared.fault.RecordFaultKind.TheVariants.{Truncated};
-ghost use Rattle.archive_records.specs.Reader.{BlamesReader, bytes_so_far, seen_as, Over};
+ghost use Rattle.archive_records.specs.Reader.{BlamesReader, Fills, bytes_so_far, seen_as, Over};
 
 use crate::fault::RecordFaultKind;
 use byte_device::{Failed, Source};

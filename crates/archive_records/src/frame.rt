@@ -2,9 +2,8 @@
 
 ghost use Rattle.std.specs.Prelude.{◌≡◌, ◌<◌, ◌≤◌, ℕ, List, length, Some, Ok, Err, IfOk, IfErr, MatchResult, slice_index};
 ghost use Rattle.std.specs.Io.KnownBytes.{Consumes};
-ghost use Rattle.byte_device.specs.Taking.{Fills};
 ghost use Rattle.archive_records.specs.Layout.{head_length, framed};
-ghost use Rattle.archive_records.specs.Reader.{BlamesReader, bytes_so_far, seen_as, Over};
+ghost use Rattle.archive_records.specs.Reader.{BlamesReader, Fills, bytes_so_far, seen_as, Over};
 
 use crate::buffer::{Buffer, fill};
 use crate::fault::RecordFaultKind;

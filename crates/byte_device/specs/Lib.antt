@@ -1,4 +1,3 @@
 pub mod Devices
 pub mod Limits
-pub mod Taking
 pub mod Writes

@@ -1,6 +1,5 @@
 use Rattle.std.proofs.Common.{◌-◌, ◌≡◌, ◌≤◌, ℕ, List, length}
-use Rattle.byte_device.specs.Taking.{Fills}
-use Rattle.archive_records.specs.Reader.{bytes_so_far, Over}
+use Rattle.archive_records.specs.Reader.{Fills, bytes_so_far, Over}
 use Rattle.archive_records.proofs.buffer.fill.Given as goal
 
 abbrev pub invariant-filling : goal.invariant-filling
