@@ -2,6 +2,7 @@ pub mod Numbers
 pub mod Names
 pub mod Pieces
 pub mod Overlaps
+pub mod Nuls
 pub mod EntryLemmas
 pub mod Namesakes
 pub mod ScanLemmas

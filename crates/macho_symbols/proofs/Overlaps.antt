@@ -148,7 +148,7 @@ module _ (xs : List ℕ) (size d e : ℕ) (some : 0 < d) (more : 0 < e) (near : 
       by_first Equal f = absurd (longer (exact_bytes ys xs f))
       by_first Greater f = inl (reversed ys xs f)
 
-before_drop : (k : ℕ) (xs : List ℕ) → k ≤ length (before xs) → before (drop k xs) ≡ drop k (before xs)
+pub before_drop : (k : ℕ) (xs : List ℕ) → k ≤ length (before xs) → before (drop k xs) ≡ drop k (before xs)
 before_drop zero xs h = refl
 before_drop (suc k) [] h = refl
 before_drop (suc k) (b ∷ bs) h = by_nul (b == 0) refl (before_drop k bs)

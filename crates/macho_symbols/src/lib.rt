@@ -15,7 +15,7 @@
 //! - `found`: what is told of a symbol;
 //! - `scan`, `nearest`, `named`: the plain searches, by address and by name;
 //! - `ends`: which of the candidates whose names overlap may come first;
-//! - `extents`, `rows`, `group`, `table`: the table of addresses;
+//! - `extents`, `rows`, `group`, `nul_places`, `table`: the table of addresses;
 //! - [`laws`]: what the definitions say of each other.
 #![tactic(auto)]
 
@@ -31,6 +31,7 @@ mod name;
 mod named;
 mod nearest;
 mod nlist;
+mod nul_places;
 mod rows;
 mod scan;
 mod section_numbers;

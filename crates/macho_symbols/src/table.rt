@@ -12,6 +12,7 @@ use crate::candidate::Candidate;
 use crate::extents::{Extent, collect_extents, section_names};
 use crate::found::Found;
 use crate::name::strings_in;
+use crate::nul_places::{collect_nul_places, name_from};
 use crate::rows::{first_not_above, sorted_rows};
 use crate::symbols::Symbols;
 use macho_image::Symtab;
@@ -19,12 +20,13 @@ use memory::{Heap, NoMemory};
 use std::marker::Model;
 
 /// The first candidate of an image of each section and value, so that an address finds its own by halving. It
-/// borrows nothing: names are places in the string table. A contract sees its rows, its sections and the
-/// LC_SYMTAB.
+/// borrows nothing: names are places in the string table. A contract sees its rows, its sections, where the
+/// string table has NULs and the LC_SYMTAB.
 #[derive(Drop)]
 pub struct AddressTable {
     rows: Vec<Candidate, Heap>,
     extents: Vec<Extent, Heap>,
+    nul_places: Vec<usize, Heap>,
     symtab: Symtab,
 }
 
@@ -33,7 +35,12 @@ impl Model for AddressTable {
 
     ghost Value = { TableParts };
 
-    ghost view = { λ t. record { rows = t.rows.items; extents = t.extents.items; symtab = t.symtab } };
+    ghost view = { λ t. record {
+      rows = t.rows.items;
+      extents = t.extents.items;
+      nul_places = t.nul_places.items;
+      symtab = t.symtab;
+    } };
 }
 
 /// The first of two candidates, either of which may be none.
@@ -57,16 +64,19 @@ fn first_of_two(
 impl AddressTable {
     ghost use Rattle.macho_symbols.specs.Table.{IsTableOf};
 
-    /// The table of an image. It has 16 bytes for each section and value that candidates have, and 24 for each
-    /// section; while it is built, 16 for each candidate. `NoMemory` where a growth was refused.
+    /// The table of an image. It has 16 bytes for each section and value that candidates have, 24 for each
+    /// section, and 8 for each 4096 of the string table; while it is built, 16 for each candidate. `NoMemory`
+    /// where a growth was refused.
     pub fn build(heap: Heap, symbols: &Symbols<'_>) -> Result<AddressTable, NoMemory>
         ensures { IfOk result (λ table. IsTableOf table symbols.now) }
     {
         let extents = collect_extents(heap.clone()?, &symbols.image)?;
+        let nul_places = collect_nul_places(heap.clone()?, symbols.strings())?;
         let rows = sorted_rows(heap, symbols)?;
         Ok(AddressTable {
             rows,
             extents,
+            nul_places,
             symtab: symbols.table,
         })
     }
@@ -115,7 +125,7 @@ impl AddressTable {
     {
         let (segment, section) = section_names(&self.extents, candidate.sect, image);
         Found {
-            name: candidate.name(self.strings(image)).bytes(),
+            name: name_from(self.strings(image), &self.nul_places, candidate.strx),
             address: candidate.value,
             offset: address - candidate.value,
             sect: candidate.sect,

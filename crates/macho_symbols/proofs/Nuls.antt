@@ -1,0 +1,71 @@
+-- The first NUL at or behind a place of a string table, and the name that it ends.
+use Rattle.std.proofs.Common.{◌≡◌, ◌+◌, ◌-◌, ◌*◌, ◌<◌, ◌≤◌, ◌⊎◌, inl, inr, ℕ, zero, suc, List, [], ◌∷◌, ◌++◌, length, take, drop, slice_index, refl, sym, ap, ◌∙◌, arith, length-append, length-take, length-drop}
+use Rattle.std.proofs.lemmas.Bool.{cases_lt}
+use Rattle.std.proofs.lemmas.List.{drop-drop, take_all}
+use Rattle.macho_symbols.specs.NulPlaces.{nul_from}
+use Rattle.macho_symbols.proofs.Pieces.{before}
+use Rattle.macho_symbols.proofs.Overlaps.{before_drop, before_take}
+
+-- it is the same from all places between another one and it
+pub same_nul : (strings : List ℕ) (earlier place : ℕ) → earlier ≤ place → place ≤ nul_from strings earlier → nul_from strings place ≡ nul_from strings earlier
+same_nul strings earlier place h l =
+    let k = place - earlier in
+    let behind : drop k (drop earlier strings) ≡ drop place strings = drop-drop k earlier strings ∙ ap (λ n. drop n strings) (omega (arith, h)) in
+    let rest : before (drop place strings) ≡ drop k (before (drop earlier strings)) =
+    ap before (sym behind) ∙ before_drop k (drop earlier strings) (omega (arith, h, l)) in
+    omega (arith, h, l, ap length rest, length-drop k (before (drop earlier strings)))
+
+-- where the first bytes from a place have one, it is there
+pub nul_within : (strings : List ℕ) (place size : ℕ) → length (before (take size (drop place strings))) < size
+    → place + length (before (take size (drop place strings))) ≡ nul_from strings place
+nul_within strings place size h =
+    omega (arith, h, ap length (before_take size (drop place strings)), length-take size (before (drop place strings)))
+
+-- and where they have none, it is the one behind them
+pub nul_behind : (strings : List ℕ) (place size : ℕ) → size ≤ length (before (take size (drop place strings)))
+    → nul_from strings (place + size) ≡ nul_from strings place
+nul_behind strings place size h =
+    same_nul strings place (place + size) (omega arith) (omega (arith, h, ap length (before_take size (drop place strings)), length-take size (before (drop place strings))))
+
+-- the places of the blocks before a place, and that of the first NUL at or behind an earlier one
+pub record NulPlacesTo (strings places : List ℕ) (place known : ℕ) : Type 0 where
+  pub at : place ≡ 4096 * length places
+  pub each : (block : ℕ) → block < length places → slice_index places block ≡ nul_from strings (4096 * block)
+  pub last : (earlier : ℕ) × (earlier ≤ place) × (known ≡ nul_from strings earlier)
+
+index_kept : (xs : List ℕ) (y i : ℕ) → i < length xs → slice_index (xs ++ y ∷ []) i ≡ slice_index xs i
+index_kept [] y i h = absurd (omega (arith, h))
+index_kept (x ∷ xs) y zero h = refl
+index_kept (x ∷ xs) y (suc i) h = index_kept xs y i (omega (arith, h))
+
+index_pushed : (xs : List ℕ) (y i : ℕ) → i ≡ length xs → slice_index (xs ++ y ∷ []) i ≡ y
+index_pushed [] y zero h = refl
+index_pushed [] y (suc i) h = absurd (omega (arith, h))
+index_pushed (x ∷ xs) y zero h = absurd (omega (arith, h))
+index_pushed (x ∷ xs) y (suc i) h = index_pushed xs y i (omega (arith, h))
+
+pub nul_places_none : (strings : List ℕ) (known : ℕ) → known ≡ length (before strings) → NulPlacesTo strings [] 0 known
+nul_places_none strings known h =
+    record { at = omega arith; each = λ block l. absurd (omega (arith, l)); last = (0, omega arith, omega (arith, h)) }
+
+pub nul_places_pushed : (strings places : List ℕ) (place known next : ℕ) → NulPlacesTo strings places place known → next ≡ nul_from strings place
+    → NulPlacesTo strings (places ++ next ∷ []) (place + 4096) next
+nul_places_pushed strings places place known next p h =
+    record {
+      at = omega (arith, p.at, length-append places (next ∷ []));
+      each = λ block l. by_block block (cases_lt block (length places)) l;
+      last = (place, omega arith, h);
+    }
+  where
+    by_block : (block : ℕ) → (block < length places) ⊎ (length places ≤ block) → block < length (places ++ next ∷ [])
+        → slice_index (places ++ next ∷ []) block ≡ nul_from strings (4096 * block)
+    by_block block (inl b) l = index_kept places next block b ∙ p.each block b
+    by_block block (inr b) l =
+        let here : block ≡ length places = omega (arith, b, l, length-append places (next ∷ [])) in
+        index_pushed places next block here ∙ h ∙ ap (nul_from strings) (omega (arith, here, p.at))
+
+-- all that there is from a place on tells the same
+pub nul_in_all : (strings : List ℕ) (place size : ℕ) → size ≡ length (drop place strings)
+    → place + length (before (take size (drop place strings))) ≡ nul_from strings place
+nul_in_all strings place size h =
+    ap (λ rest. place + length (before rest)) (take_all size (drop place strings) (omega (arith, h)))
