@@ -10,10 +10,11 @@ use Rattle.std.specs.FinSet as set
 use Rattle.std.specs.FinSet.{from_list, contains, contains-empty, contains-insert, IsAntisymmetric, nat_cmp-IsAntisymmetric, slice_cmp-IsAntisymmetric}
 use Rattle.join_core.specs.Listing.{IsPlaceFor}
 use Rattle.join_core.proofs.Place.{from_list_insert}
-use Rattle.archive_core.specs.Record.{rec, IsRecord}
+use Rattle.archive_core.specs.Record.{rec, IsRecord, IsOperation}
 use Rattle.archive_core.specs.Content.{IsContent}
 use Rattle.archive_core.specs.Held.{IsHeld}
 use Rattle.archive_core.specs.declared.operations.Operation.{Operation}
+use Rattle.archive_core.proofs.Records.{record_of_operation}
 
 -- byte strings that the byte order ties are one
 pub bytes_same : IsAntisymmetric (slice_cmp nat_cmp)
@@ -28,9 +29,14 @@ each_member P (k ∷ ks) all r h =
       | false ↦ λ _ rest. each_member P ks all.1 r rest
     ] refl (sym (contains-insert nat_list_cmp_total (from_list ks) k r) ∙ h)
 
+-- operations have records
+records_along : (operations : List Operation) → AllByRecursion IsOperation operations → AllByRecursion IsRecord (map rec operations)
+records_along [] are = tt
+records_along (x ∷ xs) are = (record_of_operation x are.0, records_along xs are.1)
+
 -- what is held makes a content
 pub content_of_held : (operations : List Operation) → IsHeld operations → IsContent (from_list (map rec operations))
-content_of_held operations held = record { itself = refl; records = each_member IsRecord (map rec operations) held.records }
+content_of_held operations held = record { itself = refl; records = each_member IsRecord (map rec operations) (records_along operations held.are) }
 
 -- an operation that goes in brings its record to that place
 map_insert : (xs : List Operation) (i : ℕ) (x : Operation) → map rec (insert_at xs i x) ≡ insert_at (map rec xs) i (rec x)
@@ -40,23 +46,23 @@ map_insert (y ∷ xs) zero x = refl
 map_insert (y ∷ xs) (suc i) x = ap (λ l. rec y ∷ l) (map_insert xs i x)
 
 -- a list keeps a fact of each element where one goes in that has it
-along_insert : (P : List ℕ → Type 0) (xs : List (List ℕ)) (i : ℕ) (x : List ℕ) → P x → AllByRecursion P xs → AllByRecursion P (insert_at xs i x)
+along_insert : (P : Operation → Type 0) (xs : List Operation) (i : ℕ) (x : Operation) → P x → AllByRecursion P xs → AllByRecursion P (insert_at xs i x)
 along_insert P [] zero x p h = (p, tt)
 along_insert P [] (suc i) x p h = (p, tt)
 along_insert P (y ∷ xs) zero x p h = (p, h)
 along_insert P (y ∷ xs) (suc i) x p h = (h.0, along_insert P xs i x p h.1)
 
 -- an operation may go in at the place of its record
-pub held_insert : (operations : List Operation) (i : ℕ) (operation : Operation) → IsHeld operations → IsRecord (rec operation) → IsPlaceFor (slice_cmp nat_cmp) (map rec operations) (rec operation) i → IsHeld (insert_at operations i operation)
+pub held_insert : (operations : List Operation) (i : ℕ) (operation : Operation) → IsHeld operations → IsOperation operation → IsPlaceFor (slice_cmp nat_cmp) (map rec operations) (rec operation) i → IsHeld (insert_at operations i operation)
 held_insert operations i operation held one place = record {
   ascending = rw (map_insert operations i operation) place.ascending;
-  records = rw (map_insert operations i operation) (along_insert IsRecord (map rec operations) i (rec operation) one held.records);
+  are = along_insert IsOperation operations i operation one held.are;
 }
 
 -- no operations are held in order
 pub held_none : IsHeld []
 unfolding IsStrictlySortedBy
-held_none = record { ascending = tt; records = tt }
+held_none = record { ascending = tt; are = tt }
 
 -- and the content gains its record
 pub records_insert : (operations : List Operation) (i : ℕ) (operation : Operation) → from_list {R = slice_cmp nat_cmp} (map rec (insert_at operations i operation)) ≡ set.insert (from_list (map rec operations)) (rec operation)

@@ -30,12 +30,18 @@ joined o p m a b e = rw e (record {
   least = λ w _ f g. union_least nat_list_cmp_total o p w f g;
 })
 
+-- what is below a content is one
+content_below : (o m : Operations) → IsContent m → IsBelow o m → IsContent o
+content_below o m is below = record { itself = refl; records = λ r in_o. is.records r (is_subset-contains nat_list_cmp_total o m below r in_o) }
+
 -- under the laws of an archive, the least above both is what the union makes
-pub least_is_joined : (content : Operations → Type 0) (below : Operations → Operations → Type 0) → ((o : Operations) → content o ↔ IsContent o) → ((o p : Operations) → below o p ↔ IsBelow o p) → (o p m : Operations) → content o → content p → IsLeastAbove content below o p m → m ≡ joined_of o p
-least_is_joined content below content_is below_is o p m a b l =
+pub least_is_joined : (content : Operations → Type 0) (below : Operations → Operations → Type 0) → ((o : Operations) → content o ↔ IsContent o) → ((o p : Operations) → below o p ↔ IsBelow o p) → (o p m : Operations) → IsLeastAbove content below o p m → m ≡ joined_of o p
+least_is_joined content below content_is below_is o p m l =
     let both = union o p in
-    let is : IsContent both = content_within o p both ((content_is o).0 a) ((content_is p).0 b) (subset_reflexive nat_list_cmp_total both) in
-    union_is_least nat_list_cmp_total bytes_same o p m ((below_is o m).0 l.left) ((below_is p m).0 l.right)
+    let left = (below_is o m).0 l.left in
+    let right = (below_is p m).0 l.right in
+    let is : IsContent both = content_below both m ((content_is m).0 l.content) (union_least nat_list_cmp_total o p m left right) in
+    union_is_least nat_list_cmp_total bytes_same o p m left right
     ((below_is m both).0 (l.least both ((content_is both).1 is) ((below_is o both).1 (union_left nat_list_cmp_total o p)) ((below_is p both).1 (union_right nat_list_cmp_total o p))))
 
 -- and where an archive's join stops, in the words of contents

@@ -152,7 +152,7 @@ ascending_live o key dsym (Admit first ∷ xs) up = at (is_live_kind o key dsym 
     at false rest = rest
 ascending_live o key dsym (Retire other digest ∷ xs) up = ascending_live o key dsym xs up.1
 
-module _ (o : Operations) (key : SliceKey) (operations : List Operation) (held : IsHeld operations) (known : AllByRecursion IsOperation operations) (content_is : from_list (map rec operations) ≡ o) (is_key : IsKey key) where
+module _ (o : Operations) (key : SliceKey) (operations : List Operation) (held : IsHeld operations) (content_is : from_list (map rec operations) ≡ o) (is_key : IsKey key) where
   content : IsContent o
   content = subst IsContent content_is (content_of_held operations held)
 
@@ -163,7 +163,7 @@ module _ (o : Operations) (key : SliceKey) (operations : List Operation) (held :
 
   of_live : (dsym : Bool) (slice : List ℕ) → IsLive o key slice → is_kind dsym slice ≡ true → Contains (live_among o key dsym operations) slice
   of_live dsym slice live kind =
-      let there = operation_there operations (Admit slice) known (live_is_valid o key slice content is_key live) (ap (λ s. contains s (admission_record slice)) content_is ∙ live.admitted) in
+      let there = operation_there operations (Admit slice) held.are (live_is_valid o key slice content is_key live) (ap (λ s. contains s (admission_record slice)) content_is ∙ live.admitted) in
       to_live o key dsym operations slice there (test_of_live o key dsym slice live kind)
 
   ascending : (dsym : Bool) → IsStrictlySortedBy (on admission_record (slice_cmp nat_cmp)) (live_among o key dsym operations)

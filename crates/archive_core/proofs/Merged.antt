@@ -6,15 +6,14 @@ use Rattle.std.specs.List.Sorted.{IsSorted, IsSortedBy, IsPermutation}
 use Rattle.std.specs.FinSet.{from_list, contains, union}
 use Rattle.std.proofs.lemmas.List.{map-append, get_or-map}
 use Rattle.std.proofs.Math.ListN.{length-map}
-use Rattle.std.proofs.lemmas.List.Sorted.{IsPermutation-map}
-use Rattle.join_core.proofs.Subset.{subset_reflexive}
-use Rattle.join_core.proofs.Merge.{merged_is, along_members}
-use Rattle.archive_core.specs.Record.{rec, IsRecord}
+use Rattle.std.proofs.lemmas.List.Elements.{All-filter, All-append, All-from_recursion, recursion_from_All}
+use Rattle.std.proofs.lemmas.List.Sorted.{IsPermutation-map, All-permutation}
+use Rattle.join_core.proofs.Merge.{merged_is}
+use Rattle.archive_core.specs.Record.{rec, IsOperation}
 use Rattle.archive_core.specs.Content.{Operations}
 use Rattle.archive_core.specs.Held.{IsHeld}
 use Rattle.archive_core.specs.declared.operations.Operation.{Operation}
-use Rattle.archive_core.proofs.Held.{bytes_same, content_of_held}
-use Rattle.archive_core.proofs.Joined.{content_within}
+use Rattle.archive_core.proofs.Held.{bytes_same}
 
 -- the operations that are sorted by their records have sorted records
 sorted_records : (operations : List Operation) → IsSortedBy (λ x y. is_lt (slice_cmp nat_cmp (rec x) (rec y))) operations → IsSorted (slice_cmp nat_cmp) (map rec operations)
@@ -46,11 +45,12 @@ holds_both mine theirs merged held_mine held_theirs permuted sorted =
     let records : map rec (mine ++ missing) ≡ map rec mine ++ filter (λ r. not (contains o r)) (map rec theirs) = map-append rec mine missing ∙ ap (λ l. map rec mine ++ l) (missing_records o theirs) in
     let together : IsPermutation (map rec mine ++ filter (λ r. not (contains o r)) (map rec theirs)) (map rec merged) = subst (λ l. IsPermutation l (map rec merged)) records (IsPermutation-map rec (mine ++ missing) merged permuted) in
     let both = merged_is nat_list_cmp_total bytes_same (map rec mine) (map rec theirs) (map rec merged) held_mine.ascending held_theirs.ascending together (sorted_records merged sorted) in
-    let within = content_within o p (union o p) (content_of_held mine held_mine) (content_of_held theirs held_theirs) (subset_reflexive nat_list_cmp_total (union o p)) in
+    let kept = All-filter (λ operation. not (contains o (rec operation))) IsOperation theirs (All-from_recursion IsOperation theirs held_theirs.are) in
+    let all = All-append IsOperation mine missing (All-from_recursion IsOperation mine held_mine.are) kept in
     record {
       held = record {
         ascending = both.ascending;
-        records = along_members nat_list_cmp_total IsRecord (map rec merged) (λ r h. within.records r (ap (λ s. contains s r) (sym both.members) ∙ h));
+        are = recursion_from_All IsOperation merged (All-permutation IsOperation (mine ++ missing) merged permuted all);
       };
       members = both.members;
     }

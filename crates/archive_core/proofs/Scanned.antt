@@ -35,16 +35,6 @@ use Rattle.archive_core.proofs.Held.{bytes_same}
 pub find_total : IsTotalOrder find_cmp
 find_total = then_total (on_total (λ operation. (key_in operation).arch) (then_total (on_total (λ arch. arch.cputype) nat_cmp_total) (on_total (λ arch. arch.subtype) nat_cmp_total))) (on_texts rec)
 
--- what is known of the first operations, and of one more
-pub operations_more : (operations : List Operation) (i : ℕ) (a : Operation) → i < length operations → a ≡ slice_index_or operations i a
-    → AllByRecursion IsOperation (take i operations) → IsOperation a → AllByRecursion IsOperation (take (i + 1) operations)
-operations_more operations i a lt is known one = subst (λ (n : ℕ). AllByRecursion IsOperation (take n operations)) (sym (add-one i)) (more operations i lt is known)
-  where
-    more : (xs : List Operation) (j : ℕ) → j < length xs → a ≡ slice_index_or xs j a → AllByRecursion IsOperation (take j xs) → AllByRecursion IsOperation (take (suc j) xs)
-    more [] j lt is known = absurd (omega (arith, lt))
-    more (x ∷ xs) zero lt is known = (subst IsOperation is one, tt)
-    more (x ∷ xs) (suc j) lt is known = (known.0, more xs j (omega (arith, lt)) is known.1)
-
 -- the first ones that pass a test, and one more
 module _ (test : Operation → Bool) (operations : List Operation) (i : ℕ) (a : Operation) (lt : i < length operations) (is : a ≡ slice_index_or operations i a) where
   front : take (i + 1) operations ≡ take i operations ++ a ∷ []
@@ -247,9 +237,9 @@ test_of_told o uuid (Admit slice) h = (h.1.admitted, (λ i. (bytes_eq-Decides (k
 test_of_told o uuid (Retire key digest) h = (h.1, (bytes_eq-Decides key.uuid uuid).1 h.0)
 
 -- the told operations of a plain archive, sorted, are those that a search tells
-pub finds_sorted : (o : Operations) (uuid : List ℕ) (operations told : List Operation) → IsHeld operations → AllByRecursion IsOperation operations → from_list (map rec operations) ≡ o
+pub finds_sorted : (o : Operations) (uuid : List ℕ) (operations told : List Operation) → IsHeld operations → from_list (map rec operations) ≡ o
     → IsPermutation (filter (is_told o uuid) operations) told → IsSorted find_cmp told → IsFinds o uuid (map row_of told)
-finds_sorted o uuid operations told held known is permuted sorted =
+finds_sorted o uuid operations told held is permuted sorted =
     let found = filter (is_told o uuid) operations in
     let by_record = IsStrictlySortedBy-filter (on rec (slice_cmp nat_cmp)) (is_told o uuid) operations (ascending_by (slice_cmp nat_cmp) rec operations held.ascending) in
     let apart = distinct_finer (eq_by_cmp (on rec (slice_cmp nat_cmp))) (eq_by_cmp find_cmp) untied_records found (IsDistinct-from_sorted (on rec (slice_cmp nat_cmp)) found by_record) in
@@ -263,14 +253,14 @@ finds_sorted o uuid operations told held known is permuted sorted =
     to : (a : Operation) → Contains told a → IsOperation a × IsTold o uuid a
     to a h =
         let kept = in_filter (is_told o uuid) operations a (Contains-permutation told (filter (is_told o uuid) operations) a (IsPermutation-sym (filter (is_told o uuid) operations) told permuted) h) in (
-          All-contains IsOperation operations a (All-from_recursion IsOperation operations known) kept.0,
+          All-contains IsOperation operations a (All-from_recursion IsOperation operations held.are) kept.0,
           told_by_test o uuid a (ap (λ s. contains s (rec a)) (sym is) ∙ record_there operations a kept.0) kept.1,
         )
 
     back : (a : Operation) → IsOperation a × IsTold o uuid a → Contains told a
     back a h =
         let tested = test_of_told o uuid a h.1 in
-        let there = operation_there operations a known h.0 (ap (λ s. contains s (rec a)) is ∙ tested.0) in
+        let there = operation_there operations a held.are h.0 (ap (λ s. contains s (rec a)) is ∙ tested.0) in
         Contains-permutation (filter (is_told o uuid) operations) told a permuted (to_filter (is_told o uuid) operations a there tested.1)
 
 -- a content and a UUID have one list of rows

@@ -4,10 +4,10 @@ use Rattle.std.specs.List.{AllByRecursion}
 use Rattle.std.specs.List.Sorted.{IsStrictlySortedBy}
 use Rattle.std.specs.Ordering.{nat_cmp}
 use Rattle.std.specs.Cmp.Lexicographic.{slice_cmp}
-use Rattle.archive_core.specs.Record.{rec, IsRecord}
+use Rattle.archive_core.specs.Record.{rec, IsOperation}
 use Rattle.archive_core.specs.declared.operations.Operation.{Operation}
 
 -- operations strictly ascending by their records
 pub record IsHeld (operations : List Operation) : Type 0 where
   pub ascending : IsStrictlySortedBy (slice_cmp nat_cmp) (map rec operations)
-  pub records : AllByRecursion IsRecord (map rec operations)
+  pub are : AllByRecursion IsOperation operations

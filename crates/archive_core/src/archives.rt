@@ -86,6 +86,5 @@ pub fn take_all<A: Archive>(archive: &mut A, other: &A) -> Result<(), NoMemory>
     ensures refused { OnErr result
         (IsTowards IsContent IsBelow (A.content archive.old) (A.content other.now) (A.content archive.new)) }
 {
-    let _known = archive.covers(other);
     archive.join(other)
 }

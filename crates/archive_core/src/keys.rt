@@ -53,7 +53,7 @@ pub(crate) fn compare_keys(a: &SliceKey, b: &SliceKey) -> Ordering
 }
 
 // The bytes of a UUID, which are sixteen.
-pub(crate) fn uuid_bytes(uuid: &Uuid) -> &[u8]
+fn uuid_bytes(uuid: &Uuid) -> &[u8]
     ensures bytes { result.now ≡ uuid.now }
     ensures sixteen { length result.now ≡ 16 }
 {

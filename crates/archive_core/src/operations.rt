@@ -1,13 +1,11 @@
 //! What an archive takes, and the order of records.
-ghost use Rattle.std.specs.Prelude.{◌≡◌, length, IfOk};
+ghost use Rattle.std.specs.Prelude.{◌≡◌, IfOk};
 ghost use Rattle.std.specs.Ordering.{nat_cmp};
 ghost use Rattle.std.specs.Cmp.Lexicographic.{slice_cmp};
-ghost use Rattle.archive_core.specs.Record.{rec, lent, admission, IsOperation};
-ghost use Rattle.archive_core.specs.Key.{IsKey};
+ghost use Rattle.archive_core.specs.Record.{rec, lent, admission};
 ghost use Rattle.archive_core.specs.Find.{key_in};
-ghost use Rattle.archive_core.specs.Valid.{IsValid};
 
-use crate::keys::{compare_keys, uuid_bytes};
+use crate::keys::compare_keys;
 use crate::{Digest, Slice, SliceKey};
 use memory::{Heap, NoMemory};
 use std::cmp::Ordering;
@@ -72,59 +70,13 @@ impl Operation {
 
     // The key that it is under.
     pub(crate) fn key(&self) -> SliceKey
-        ensures key { result ≡ key_in self.now }
-        ensures known { IsOperation self.now }
+        ensures { result ≡ key_in self.now }
     {
-        self.known();
         match self {
             Operation::Admit(slice) => slice.key(),
             Operation::Retire(key, _) => *key,
         }
     }
-
-    // Tells what the types of its parts hold.
-    pub(crate) fn known(&self)
-        ensures { IsOperation self.now }
-    {
-        match self {
-            Operation::Admit(slice) => known_slice(slice),
-            Operation::Retire(key, digest) => {
-                known_key(key);
-                known_digest(digest);
-            }
-        }
-    }
-}
-
-// Tells that a slice is valid.
-fn known_slice(slice: &Slice)
-    ensures { IsValid slice.now }
-{
-    let _bytes = slice.bytes();
-}
-
-// Tells the widths of a key's parts.
-pub(crate) fn known_key(key: &SliceKey)
-    ensures { IsKey key.now }
-{
-    let _uuid = uuid_bytes(&key.uuid);
-    let _cputype = key.arch.cputype;
-    let _subtype = key.arch.subtype;
-}
-
-// Tells the length of a digest.
-fn known_digest(digest: &Digest)
-    ensures { length digest.now.0 ≡ 32 }
-{
-    let _bytes = digest_bytes(&digest.0);
-}
-
-// The bytes of a digest, which are thirty-two.
-fn digest_bytes(digest: &[u8; 32]) -> &[u8]
-    ensures bytes { result.now ≡ digest.now }
-    ensures long { length result.now ≡ 32 }
-{
-    digest
 }
 
 // Compares two admissions by what their records hold behind the tag: key, length, bytes.

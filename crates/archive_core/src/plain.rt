@@ -1,19 +1,19 @@
 //! An archive as a sorted list of operations.
-ghost use Rattle.std.specs.Prelude.{◌≡◌, ◌≤◌, length, map, filter, not, if◌then◌else◌, Some, None, IfOk, OnOk, OnErr};
+ghost use Rattle.std.specs.Prelude.{◌≡◌, ◌≤◌, length, map, filter, not, if◌then◌else◌, Some, None, IfOk, OnErr};
 ghost use Rattle.std.specs.FinSet as set;
 ghost use Rattle.std.specs.Ordering.{nat_cmp};
 ghost use Rattle.std.specs.Cmp.Lexicographic.{slice_cmp};
-ghost use Rattle.std.specs.List.{list_all, AllByRecursion, AllZip};
+ghost use Rattle.std.specs.List.{list_all, AllZip};
 ghost use Rattle.std.specs.List.Sorted.{IsStrictlySortedBy, IsSearchInRange};
 ghost use Rattle.join_core.specs.Listing.{IsFound};
 ghost use Rattle.sha2.specs.Sha256.{sha256};
+ghost use Rattle.archive_core.specs.Key.{IsKey};
 ghost use Rattle.archive_core.specs.Valid.{key_of};
-ghost use Rattle.archive_core.specs.Record.{rec, retirement_record, IsOperation};
+ghost use Rattle.archive_core.specs.Record.{rec, retirement_record};
 ghost use Rattle.archive_core.specs.Scan.{is_told, live_in, live_among, IsFew};
 ghost use Rattle.archive_core.specs.Lookup.{IsOwnRow, IsToldBy, own_row, answer_view};
 
 use crate::live::{Few, Hashed, is_key, is_kind, told_alone};
-use crate::operations::known_key;
 use crate::told::{Told, rows_of};
 use crate::{
     Answer, Archive, Contents, Digest, FindRow, FindState, Operation, Own, Record, Slice, SliceKey,
@@ -84,8 +84,7 @@ impl PlainArchive {
 
     // The operation with its row, where a search for the UUID tells it.
     fn told<'a>(&self, operation: &'a Operation, uuid: &Uuid) -> Option<Told<'a>>
-        ensures told { result ≡ if is_told self.now uuid.now operation.now then Some operation.now else None }
-        ensures known { IsOperation operation.now }
+        ensures { result ≡ if is_told self.now uuid.now operation.now then Some operation.now else None }
     {
         let key = operation.key();
         if key.uuid != *uuid {
@@ -111,8 +110,7 @@ impl PlainArchive {
         operations: &'a [Operation],
         uuid: &Uuid,
     ) -> Result<Vec<Told<'a>, Heap>, NoMemory>
-        ensures told { IfOk result (λ told. told.items ≡ filter (is_told self.now uuid.now) operations.now) }
-        ensures known { OnOk result (AllByRecursion IsOperation operations.now) }
+        ensures { IfOk result (λ told. told.items ≡ filter (is_told self.now uuid.now) operations.now) }
     {
         let mut told = Vec::new(self.operations.allocator().clone()?);
         'operations: for operation in operations {
@@ -139,10 +137,8 @@ impl PlainArchive {
     // slice of another key or kind is not hashed.
     #[tactic(auto, unfolding(crate::specs::Scan::is_live_kind))]
     fn live<'a>(&self, operation: &'a Operation, key: &SliceKey, dsym: bool) -> Option<Hashed<'a>>
-        ensures live { result ≡ live_in self.now key.now dsym operation.now }
-        ensures known { IsOperation operation.now }
+        ensures { result ≡ live_in self.now key.now dsym operation.now }
     {
-        operation.known();
         let Operation::Admit(slice) = operation else {
             return None;
         };
@@ -153,13 +149,13 @@ impl PlainArchive {
     }
 
     // The live slices of a key, companions or not, as far as one of them is asked alone.
-    fn few<'a>(&self, operations: &'a [Operation], key: &SliceKey, dsym: bool) -> Few<'a>
-        ensures few { IsFew result (live_among self.now key.now dsym operations.now) }
-        ensures known { AllByRecursion IsOperation operations.now }
+    fn few<'a>(&self, operations: &'a [Operation], key: SliceKey, dsym: bool) -> Few<'a>
+        ensures few { IsFew result (live_among self.now key dsym operations.now) }
+        ensures key { IsKey key }
     {
         let mut few = Few::Nothing;
         'operations: for operation in operations {
-            if let Some(slice) = self.live(operation, key, dsym) {
+            if let Some(slice) = self.live(operation, &key, dsym) {
                 few = few.and(slice);
             }
         }
@@ -254,8 +250,7 @@ impl Join for PlainArchive {
     }
 
     fn covers(&self, other: &Self) -> bool {
-        let _known = &self.operations;
-        self.holds_each(&other.operations)
+        other.operations.len() <= self.operations.len() && self.holds_each(&other.operations)
     }
 }
 
@@ -271,7 +266,6 @@ impl Archive for PlainArchive {
     }
 
     fn take(&mut self, operation: Operation) -> Result<bool, NoMemory> {
-        operation.known();
         match search_from_end(&self.operations, &operation) {
             Ok(_) => Ok(false),
             Err(place) => {
@@ -292,10 +286,9 @@ impl Archive for PlainArchive {
     }
 
     fn lookup(&self, key: &SliceKey, place: Where) -> Result<Answer<'_>, NoMemory> {
-        known_key(key);
-        match self.few(&self.operations, key, true) {
+        match self.few(&self.operations, *key, true) {
             Few::Nothing => {
-                let images = self.few(&self.operations, key, false);
+                let images = self.few(&self.operations, *key, false);
                 self.told_by(&self.operations, key, false, images, place)
             }
             companions => self.told_by(&self.operations, key, true, companions, place),

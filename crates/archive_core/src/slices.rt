@@ -218,7 +218,8 @@ impl Slice {
 
     /// The SHA-256 of the bytes, computed anew by each call.
     pub fn digest(&self) -> Digest
-        ensures { result.0 ≡ sha256 self.now }
+        ensures digest { result.0 ≡ sha256 self.now }
+        ensures valid { IsValid self.now }
     {
         self.lend().digest()
     }

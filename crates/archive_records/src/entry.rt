@@ -26,10 +26,7 @@ impl Entry {
         ensures { entry_bytes result ≡ entry (lent item.now) }
     {
         match item {
-            Record::Admit(slice) => {
-                let _valid = slice.bytes();
-                Entry::Admission(slice.key(), slice.digest())
-            }
+            Record::Admit(slice) => Entry::Admission(slice.key(), slice.digest()),
             Record::Retire(key, digest) => Entry::Retirement(*key, *digest),
         }
     }

@@ -1,11 +1,15 @@
 -- The order by inclusion, and the union as its least bound.
-use Rattle.std.proofs.Common.{◌≡◌, Bool, true, false, ◌||◌, ◌&&◌, ℕ, ◌+◌, ◌<◌, List, [], ◌∷◌, length, get_or, take, drop, refl, sym, ap, ◌∙◌}
+use Rattle.std.proofs.Common.{◌≡◌, Bool, true, false, ◌||◌, ◌&&◌, ℕ, ◌+◌, ◌<◌, ◌≤◌, List, [], ◌∷◌, length, get_or, take, drop, refl, sym, ap, ◌∙◌}
 use Rattle.std.specs.declared.cmp.Ordering.{Ordering}
 use Rattle.std.specs.Cmp.{IsTotalOrder, both_ways, Equal-is, tied_itself}
 use Rattle.std.specs.FinSet.{FinSet, contains, is_subset, union, insert, IsAntisymmetric, contains-union, contains-is_subset, is_subset-contains, same_set, contains-insert, contains-empty, empty, from_list, contains-from_list, contains_tied, from_list_push}
 use Rattle.std.specs.Ordering.{eq_by_cmp, is_eq}
 use mathlib.Core.Bool.{true≢false}
 use Rattle.std.specs.List.{list_any, list_all}
+use Rattle.std.specs.List.Sorted.{IsStrictlySortedBy}
+use Rattle.std.proofs.lemmas.Cmp.{eq_by_cmp_equiv}
+use Rattle.std.proofs.lemmas.Map.Keys.{IsDistinct-from_sorted}
+use Rattle.std.proofs.lemmas.Map.Made.{length-le_from_is_member}
 use Rattle.std.proofs.lemmas.List.{take-append-drop, take_more}
 use Rattle.std.proofs.lemmas.List.Folds.{list_any-append}
 
@@ -100,6 +104,12 @@ module _ {K : Type 0} {R : K → K → Ordering} (o : IsTotalOrder R) where
       let one : contains s x ≡ true = is_subset-contains o (from_list (x ∷ xs)) s h x (contains-insert o (from_list xs) x x ∙ ap (λ r. is_eq r || contains (from_list {R = R} xs) x) (tied_itself o x)) in
       let rest : is_subset (from_list {R = R} xs) s ≡ true = contains-is_subset o (from_list xs) s (λ q k. is_subset-contains o (from_list (x ∷ xs)) s h q (contains-insert o (from_list xs) x q ∙ or_right _ _ k)) in
       ap (λ b. b && list_all (contains s) xs) one ∙ subset_from_list_back xs s rest
+
+  -- a set that is below another has no more members: keys that ascend are no more than those of a list above them
+  pub subset_length : (xs ys : List K) → IsStrictlySortedBy R xs → is_subset (from_list {R = R} xs) (from_list ys) ≡ true → length xs ≤ length ys
+  subset_length xs ys up below =
+      length-le_from_is_member (eq_by_cmp_equiv o) xs ys (IsDistinct-from_sorted R xs up)
+      (λ q h. sym (contains-from_list o ys q) ∙ is_subset-contains o (from_list xs) (from_list ys) below q (contains-from_list o xs q ∙ h))
 
   module _ (same : IsAntisymmetric R) where
     -- the union with the first keys, with one key more

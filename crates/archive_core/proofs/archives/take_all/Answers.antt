@@ -7,7 +7,7 @@ returns-clause-joined g c =
     let join = g.A.Join in
     let law = g.met.A.Archive in
     on_ok_weaker c.join.result
-    (least_is_joined join.is_content join.below law.is_content_is law.below_is (join.content c.args.archive.now) (join.content c.args.other.now) (join.content c.join.new.self) c.covers-known.ensures.this_is_content c.covers-known.ensures.other_is_content)
+    (least_is_joined join.is_content join.below law.is_content_is law.below_is (join.content c.args.archive.now) (join.content c.args.other.now) (join.content c.join.new.self))
     c.join.ensures.joined
 
 pub returns-clause-refused : goal.returns-clause-refused

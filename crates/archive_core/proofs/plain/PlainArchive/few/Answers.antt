@@ -1,13 +1,12 @@
 use Rattle.std.proofs.Common.{refl, sym, subst, take, ◌+◌}
 use Rattle.archive_core.specs.Scan.{live_among, IsFew}
-use Rattle.archive_core.proofs.Scanned.{operations_more}
 use Rattle.archive_core.proofs.Lookups.{one_more, none_more}
 use Rattle.archive_core.proofs.plain.PlainArchive.few.Goals.{in-Some, in_default}
 use Rattle.archive_core.proofs.plain.PlainArchive.few.Goals as goal
 
 pub operations-init : goal.operations-init
 unfolding live_among
-operations-init c = record { few = refl; known = tt }
+operations-init c = refl
 
 pub operations-preserved : goal.operations-preserved
 operations-preserved c =
@@ -15,14 +14,13 @@ operations-preserved c =
     let operations = c.args.operations.now in
     let i = c.operations.operation-index in
     let a = c.operation-item.result in
-    let before = live_among o c.args.key.now c.args.dsym (take i operations) in
-    let after = live_among o c.args.key.now c.args.dsym (take (i + 1) operations) in
-    let known = operations_more operations i a c.operations-test.true c.operation-item.is c.operations.invariant.known c.live.ensures.known in
+    let before = live_among o c.args.key c.args.dsym (take i operations) in
+    let after = live_among o c.args.key c.args.dsym (take (i + 1) operations) in
     elim c.match-live.branch [
       | in-Some w ↦
-          let grown = one_more o c.args.key.now c.args.dsym operations i a c.operations-test.true c.operation-item.is c.live.result w.in-Some.slice c.live.ensures.live w.in-Some.is in
-          record { few = subst (λ f. IsFew f after) (sym w.few-is) (subst (IsFew w.and-few.result) (sym grown) (w.and-few.ensures before c.operations.invariant.few)); known = known }
+          let grown = one_more o c.args.key c.args.dsym operations i a c.operations-test.true c.operation-item.is c.live.result w.in-Some.slice c.live.ensures w.in-Some.is in
+          subst (λ f. IsFew f after) (sym w.few-is) (subst (IsFew w.and-few.result) (sym grown) (w.and-few.ensures before c.operations.invariant))
       | in_default w ↦
-          let same = none_more o c.args.key.now c.args.dsym operations i a c.operations-test.true c.operation-item.is c.live.result c.live.ensures.live w.in_default.is in
-          record { few = subst (λ f. IsFew f after) (sym w.few-is) (subst (IsFew c.operations.few) (sym same) c.operations.invariant.few); known = known }
+          let same = none_more o c.args.key c.args.dsym operations i a c.operations-test.true c.operation-item.is c.live.result c.live.ensures w.in_default.is in
+          subst (λ f. IsFew f after) (sym w.few-is) (subst (IsFew c.operations.few) (sym same) c.operations.invariant)
     ]

@@ -1,12 +1,11 @@
 use Rattle.std.proofs.Common.{ap, ◌∙◌}
-use Rattle.archive_core.proofs.Scanned.{operations_more, passed_more, failed_more}
+use Rattle.archive_core.proofs.Scanned.{passed_more, failed_more}
 use Rattle.archive_core.proofs.plain.PlainArchive.gather.Goals.{in-Some+in_ok-push, in_default}
 use Rattle.archive_core.proofs.plain.PlainArchive.gather.Goals as goal
 
 pub operations-preserved : goal.operations-preserved
 operations-preserved c =
-    let known = operations_more c.args.operations.now c.operations.operation-index c.operation-item.result c.operations-test.true c.operation-item.is c.operations.invariant.known c.told.ensures.known in
     elim c.match-told.branch [
-      | in-Some+in_ok-push w ↦ record { told = passed_more _ c.args.operations.now c.operations.operation-index c.operation-item.result c.operations-test.true c.operation-item.is _ _ w.in-Some.found c.told.result c.operations.invariant.told c.told.ensures.told w.in-Some.is (ap (λ v. v.items) w.told-is ∙ w.in_ok-push.ensures.items); known = known }
-      | in_default w ↦ record { told = failed_more _ c.args.operations.now c.operations.operation-index c.operation-item.result c.operations-test.true c.operation-item.is _ _ c.told.result c.operations.invariant.told c.told.ensures.told w.in_default.is (ap (λ v. v.items) w.told-is); known = known }
+      | in-Some+in_ok-push w ↦ passed_more _ c.args.operations.now c.operations.operation-index c.operation-item.result c.operations-test.true c.operation-item.is _ _ w.in-Some.found c.told.result c.operations.invariant c.told.ensures w.in-Some.is (ap (λ v. v.items) w.told-is ∙ w.in_ok-push.ensures.items)
+      | in_default w ↦ failed_more _ c.args.operations.now c.operations.operation-index c.operation-item.result c.operations-test.true c.operation-item.is _ _ c.told.result c.operations.invariant c.told.ensures w.in_default.is (ap (λ v. v.items) w.told-is)
     ]

@@ -11,9 +11,8 @@ returns-in-Nothing-clause-answer c =
     let key = c.args.key.now in
     let operations = c.self.inside.operations.items in
     let slices = live_among o key false operations in
-    let known = rw c.deref.ensures.value at c.few.ensures.known in
     let none = rw c.deref.ensures.value at c.in-Nothing.ensures.few in
-    let answering = images_answer o key operations c.self.invariant known c.self.view_is c.known_key.ensures none in
+    let answering = images_answer o key operations c.self.invariant c.self.view_is c.few.ensures.key none in
     IfOk-weaker c.told_by.result (λ answer. IsToldBy c.args.place slices (answer_view answer)) (λ answer. IsAnswer o key c.args.place (answer_view answer))
     (λ answer told. record { slices = slices; answering = answering; told = told })
     (rw c.deref-in-Nothing-2.ensures.value at c.told_by.ensures.told)
@@ -24,9 +23,8 @@ returns-in-Nothing-clause-memory c =
     let key = c.args.key.now in
     let operations = c.self.inside.operations.items in
     let slices = live_among o key false operations in
-    let known = rw c.deref.ensures.value at c.few.ensures.known in
     let none = rw c.deref.ensures.value at c.in-Nothing.ensures.few in
-    let answering = images_answer o key operations c.self.invariant known c.self.view_is c.known_key.ensures none in
+    let answering = images_answer o key operations c.self.invariant c.self.view_is c.few.ensures.key none in
     on_err_weaker c.told_by.result
     (λ (several : 2 ≤ length slices). record { slices = slices; answering = answering; several = several })
     (rw c.deref-in-Nothing-2.ensures.value at c.told_by.ensures.memory)
@@ -37,9 +35,8 @@ returns-in_default c =
     let key = c.args.key.now in
     let operations = c.self.inside.operations.items in
     let slices = live_among o key true operations in
-    let known = rw c.deref.ensures.value at c.few.ensures.known in
     let some = some_of_few c.few.result slices (rw c.deref.ensures.value at c.few.ensures.few) c.in_default.not-Nothing in
-    let answering = companions_answer o key operations c.self.invariant known c.self.view_is c.known_key.ensures some in
+    let answering = companions_answer o key operations c.self.invariant c.self.view_is c.few.ensures.key some in
     record {
       answer =
           IfOk-weaker c.told_by-in_default.result (λ answer. IsToldBy c.args.place slices (answer_view answer)) (λ answer. IsAnswer o key c.args.place (answer_view answer))

@@ -1,10 +1,9 @@
-use Rattle.std.proofs.Common.{sym, ◌∙◌, ap, map}
+use Rattle.std.proofs.Common.{sym, ◌∙◌, ap, map, rules}
 use Rattle.std.specs.Ordering.{nat_cmp}
 use Rattle.std.specs.Cmp.Lexicographic.{slice_cmp, nat_list_cmp_total}
 use Rattle.std.specs.FinSet as set
 use Rattle.join_core.proofs.Place.{insert_present}
 use Rattle.archive_core.specs.Record.{rec}
-use Rattle.archive_core.proofs.Records.{record_of_operation}
 use Rattle.archive_core.proofs.Held.{bytes_same, held_insert, records_insert}
 use Rattle.archive_core.proofs.Taken.{present_changes, absent_changes}
 use Rattle.archive_core.proofs.plain.PlainArchiveArchive.take.Goals as goal
@@ -12,7 +11,7 @@ use Rattle.archive_core.proofs.plain.PlainArchiveArchive.take.Goals as goal
 pub invariant_of-self-in-Err : goal.invariant_of-self-in-Err
 invariant_of-self-in-Err c =
     rw c.in_ok-insert-in-Err.ensures.items
-    (held_insert c.self.inside.operations.items c.in-Err.place c.args.operation c.self.invariant (record_of_operation c.args.operation c.known.ensures) (rw (← c.deref.ensures.value) c.in-Err.ensures.found.absent))
+    (held_insert c.self.inside.operations.items c.in-Err.place c.args.operation c.self.invariant (search rules) (rw (← c.deref.ensures.value) c.in-Err.ensures.found.absent))
 
 pub returns-in-Ok-clause-taken : goal.returns-in-Ok-clause-taken
 returns-in-Ok-clause-taken c = sym (insert_present nat_list_cmp_total bytes_same c.args.self.now (rec c.args.operation) (rw (← c.self.view_is, ← c.deref.ensures.value) c.in-Ok.ensures.found.present))
