@@ -4,7 +4,6 @@ ghost use Rattle.sha2.specs.Sha256.{sha256};
 ghost use Rattle.macho_symbols.specs.Fault.{HasSymbols};
 ghost use Rattle.archive_core.specs.Valid.{IsValid, IsSliceFault, IsAdmitFault, IsCheckedOf, key_of};
 
-use crate::laws::one_slice_fault;
 use crate::{AdmitFault, ArchKey, Digest, SliceFault, SliceKey};
 use macho_image::{Image, Symtab};
 use macho_symbols::Symbols;
@@ -173,15 +172,6 @@ impl Slice {
         ensures { result ≡ bytes.items }
     {
         Slice { bytes, facts }
-    }
-
-    /// The slice of bytes that [`Slice::check`] has accepted, of which nothing was kept. They are read again and copied.
-    pub fn of_valid(heap: Heap, bytes: &[u8]) -> Result<Slice, NoMemory>
-        requires { IsValid bytes.now }
-        ensures { IfOk result (λ slice. slice ≡ bytes.now) }
-    {
-        one_slice_fault();
-        Slice::check(bytes).unwrap().admit(heap)
     }
 
     /// The slice, borrowed.

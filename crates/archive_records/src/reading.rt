@@ -13,6 +13,7 @@ use crate::fault::RecordFault;
 use crate::head::{ADMISSION_HEAD_LEN, RETIREMENT, digest_in, key_in};
 use crate::kind::TextKind;
 use crate::reader::RecordReader;
+use archive_core::laws::one_slice_fault;
 use archive_core::{Archive, Operation, Slice};
 use byte_device::Source;
 use memory::{Heap, NoMemory};
@@ -26,8 +27,9 @@ pub fn operation_of(heap: Heap, bytes: &[u8]) -> Result<Operation, NoMemory>
     if bytes[0] == RETIREMENT {
         return Ok(Operation::Retire(key_in(bytes), digest_in(bytes)));
     }
-    let slice = Slice::of_valid(heap, &bytes[ADMISSION_HEAD_LEN..])?;
-    Ok(Operation::Admit(slice))
+    one_slice_fault();
+    let slice = Slice::check(&bytes[ADMISSION_HEAD_LEN..]).unwrap();
+    Ok(Operation::Admit(slice.admit(heap)?))
 }
 
 /// Takes the operation of a record.
