@@ -7,6 +7,7 @@ ghost use Rattle.std.specs.Io.KnownBytes.{Appends};
 ghost use Rattle.join_core.specs.Listing.{listing};
 ghost use Rattle.byte_device.specs.Devices.{FailedIn};
 ghost use Rattle.byte_device.specs.Writes.{WritesFirst};
+ghost use Rattle.archive_core.specs.Content.{IsContent};
 ghost use Rattle.archive_core.specs.Record.{lent};
 ghost use Rattle.archive_core.specs.Summary.{delta};
 ghost use Rattle.archive_records.specs.Entry.{entry_bytes};
@@ -112,8 +113,9 @@ fn put_end<W: Sink>(w: &mut W, done: u128, records: u64) -> Result<Sizes, WriteF
 ///
 /// The writer failed; it has gained the first `written` bytes of the text, which are fewer than all.
 pub fn write_archive<A: Archive, W: Sink>(archive: &A, w: &mut W) -> Result<Sizes, WriteFault>
-    ensures { Writes W.held W.failures w.old w.new
+    ensures writes { Writes W.held W.failures w.old w.new
         (set.len (A.content archive.now)) (written (A.content archive.now)) result }
+    ensures content { OnOk result (IsContent (A.content archive.now)) }
 {
     let done = put_front(archive, w)?;
     put_end(w, done, archive.len())

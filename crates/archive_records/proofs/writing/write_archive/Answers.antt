@@ -5,13 +5,13 @@ use Rattle.archive_records.specs.Writing.{Writes}
 use Rattle.archive_records.proofs.Puts.{ends_text, stops_in_front, written_parts}
 use Rattle.archive_records.proofs.writing.write_archive.Goals as goal
 
-pub returns-in_err-done : goal.returns-in_err-done
-returns-in_err-done g c =
+pub returns-in_err-done-clause-writes : goal.returns-in_err-done-clause-writes
+returns-in_err-done-clause-writes g c =
     let p = err_from_is_err_and c.from_residual.result c.from_residual.ensures.1 in
     rw (p.1, p.2) (stops_in_front _ _ _ _ _ _ (written_parts (g.A.Join.content c.args.archive.now) _ refl) c.in_err-done.ensures.err, c.in_err-done.ensures.failed)
 
-pub returns : goal.returns
-returns g c =
+pub returns-clause-writes : goal.returns-clause-writes
+returns-clause-writes g c =
     let done = c.in_ok-done.ensures.ok in
     let end = c.put_end.ensures in
     let o = g.A.Join.content c.args.archive.now in
