@@ -1,8 +1,7 @@
 //! A site: an archive, and the bytes that it saved.
-ghost use Rattle.std.specs.Prelude.{◌≡◌, ◌≢◌, ◌⊎◌, IfOk, IfErr, OnOk, OnErr, MatchResult};
+ghost use Rattle.std.specs.Prelude.{◌≡◌, ◌≢◌, ◌⊎◌, IfOk, IfErr, OnOk, OnErr};
 ghost use Rattle.std.specs.FinSet as set;
-ghost use Rattle.join_core.specs.Bound.{IsTowards};
-ghost use Rattle.archive_core.specs.Content.{IsContent, IsBelow, with_record, changes, joined};
+ghost use Rattle.archive_core.specs.Content.{with_record, changes, joined};
 ghost use Rattle.archive_core.specs.Record.{retirement_record, IsRecord};
 ghost use Rattle.archive_core.specs.Summary.{Entries, summary, delta};
 ghost use Rattle.archive_records.specs.Text.{written, summary_text};
@@ -19,18 +18,10 @@ use byte_device::{Bytes, Grown};
 use memory::{Heap, NoMemory};
 use std::marker::Model;
 
-/// Tells that what an archive holds is a content.
-fn known<A: Archive>(archive: &A)
-    ensures { IsContent (A.content archive.now) }
-{
-    let _number = archive.len();
-}
-
 /// The text of an archive.
 fn archive_text<A: Archive>(heap: Heap, archive: &A) -> Result<Vec<u8, Heap>, NoMemory>
     ensures { IfOk result (λ text. Says text.items (A.content archive.now)) }
 {
-    known(archive);
     let mut text = Grown::new(heap);
     match write_archive(archive, &mut text) {
         Ok(_) => Ok(text.into_bytes()),
@@ -161,9 +152,7 @@ impl<A: Archive + Drop> Site<A> {
         ensures saved { self.new.saved ≡ self.old.saved }
         ensures refused { OnErr result (self.new ≡ self.old) }
     {
-        let new = self.archive.take(Operation::Retire(key, digest))?;
-        known(&self.archive);
-        Ok(new)
+        self.archive.take(Operation::Retire(key, digest))
     }
 
     /// The text of the archive.
