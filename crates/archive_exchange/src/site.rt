@@ -9,7 +9,8 @@ ghost use Rattle.archive_exchange.specs.File.{IsAcceptedFile, IsTakeFault, admis
 ghost use Rattle.archive_exchange.specs.Take.{admitted, taken_rows, IsTakenInPart};
 ghost use Rattle.archive_exchange.specs.Keeping.{Says, IsArchiveText, IsDeliverFault, HasJoined, HasJoinedInPart, Names, RepliesTo, IsReplyFault};
 
-use crate::{DeliverFault, ReplyFault, TakeFault, Taken, check_file, take_file};
+use crate::taking::take_accepted;
+use crate::{DeliverFault, ReplyFault, TakeFault, Taken, check_file};
 use archive_core::{Archive, Digest, Operation, SliceKey, take_all};
 use archive_records::{
     RecordFaultKind, Summary, read_archive, read_summary, write_archive, write_delta, write_summary,
@@ -138,9 +139,10 @@ impl<A: Archive + Drop> Site<A> {
         ensures stopped { OnErr result (IsTakenInPart file.now self.old.held self.new.held) }
         ensures saved { self.new.saved ≡ self.old.saved }
     {
-        check_file(file)?;
-        let copy = file.to_vec(self.saved.allocator().clone()?)?;
-        take_file(&mut self.archive, copy)
+        let accepted = check_file(file)?;
+        let heap = self.saved.allocator().clone()?;
+        let rows = take_accepted(&mut self.archive, heap, &accepted)?;
+        Ok(rows)
     }
 
     /// Takes the retirement of the slices under a key that have a digest, and answers whether it is new. Want of memory

@@ -1,14 +1,15 @@
 //! The slices of a file taken into an archive.
 ghost use Rattle.std.specs.Prelude.{◌≡◌, ◌≢◌, [], ◌∷◌, true, IfOk, IfErr, OnOk, OnErr, filter, if◌then◌else◌};
-ghost use Rattle.archive_core.specs.Valid.{IsValid, IsCheckedOf};
+ghost use Rattle.archive_core.specs.Valid.{IsValid};
 ghost use Rattle.fat_slices.specs.Kind.{kind_of, is_fat};
+ghost use Rattle.archive_exchange.specs.Accepted.{IsAcceptedAs, file_of};
 ghost use Rattle.archive_exchange.specs.File.{IsAcceptedFile, IsTakeFault, is_admissible, admissible, parts};
 ghost use Rattle.archive_exchange.specs.Take.{admitted, taken_of, taken_rows, IsTakenInPart};
 
 use crate::checking::{AcceptedFile, check_file};
 use crate::{TakeFault, Taken};
 use archive_core::laws::one_slice_fault;
-use archive_core::{Archive, Digest, Operation, Slice, SliceFacts, SliceKey};
+use archive_core::{Archive, Digest, Operation, Slice, SliceKey};
 use fat_slices::{FileKind, Universal};
 use memory::{Heap, NoMemory};
 
@@ -51,21 +52,19 @@ fn take_part<A: Archive>(archive: &mut A, heap: Heap, part: &[u8]) -> Result<Tak
     }
 }
 
-/// Takes an accepted file that is its only part, whose bytes are taken over, by what its check found out.
+/// Takes the slice that a thin file is, which is its only part.
 fn take_thin<A: Archive>(
     archive: &mut A,
     heap: Heap,
-    facts: SliceFacts,
-    file: Vec<u8, Heap>,
+    slice: Slice,
 ) -> Result<Vec<Taken, Heap>, NoMemory>
-    requires thin { kind_of file.items ≡ FileKind.Thin }
-    requires checked { IsCheckedOf file.items facts }
-    ensures content { OnOk result (A.content archive.new ≡ admitted (A.content archive.old) (admissible file.items)) }
-    ensures rows { IfOk result (λ rows. rows.items ≡ taken_rows (A.content archive.old) (parts file.items)) }
-    ensures stopped { OnErr result (IsTakenInPart file.items (A.content archive.old) (A.content archive.new)) }
+    requires { kind_of slice ≡ FileKind.Thin }
+    ensures content { OnOk result (A.content archive.new ≡ admitted (A.content archive.old) (admissible slice)) }
+    ensures rows { IfOk result (λ rows. rows.items ≡ taken_rows (A.content archive.old) (parts slice)) }
+    ensures stopped { OnErr result (IsTakenInPart slice (A.content archive.old) (A.content archive.new)) }
 {
     let mut rows = Vec::new(heap);
-    let row = take_slice(archive, Slice::of_checked(file, facts))?;
+    let row = take_slice(archive, slice)?;
     rows.push(row)?;
     Ok(rows)
 }
@@ -89,6 +88,28 @@ fn take_universal<A: Archive>(
         rows.push(row)?;
     }
     Ok(rows)
+}
+
+/// Takes the slices of an accepted file, in their order, each copied at its turn, and gives a row a slice. After want
+/// of memory some first ones of the slices may have been taken.
+pub(crate) fn take_accepted<A: Archive>(
+    archive: &mut A,
+    heap: Heap,
+    accepted: &AcceptedFile<'_>,
+) -> Result<Vec<Taken, Heap>, NoMemory>
+    requires accepted { IsAcceptedFile (file_of accepted.now) }
+    requires found { IsAcceptedAs (file_of accepted.now) accepted.now }
+    ensures content { OnOk result
+        (A.content archive.new ≡ admitted (A.content archive.old) (admissible (file_of accepted.now))) }
+    ensures rows { IfOk result (λ rows.
+        rows.items ≡ taken_rows (A.content archive.old) (parts (file_of accepted.now))) }
+    ensures stopped { OnErr result
+        (IsTakenInPart (file_of accepted.now) (A.content archive.old) (A.content archive.new)) }
+{
+    match accepted {
+        AcceptedFile::Thin(slice) => take_thin(archive, heap.clone()?, slice.admit(heap)?),
+        AcceptedFile::Universal(universal) => take_universal(archive, heap, universal),
+    }
 }
 
 /// Takes the slices of a file, all or none, and gives a row a slice, in the order of the file.
@@ -118,7 +139,10 @@ pub fn take_file<A: Archive>(
     let accepted = check_file(&file)?;
     let heap = file.allocator().clone()?;
     let rows = match accepted {
-        AcceptedFile::Thin(slice) => take_thin(archive, heap, slice.facts(), file)?,
+        AcceptedFile::Thin(slice) => {
+            let facts = slice.facts();
+            take_thin(archive, heap, Slice::of_checked(file, facts))?
+        }
         AcceptedFile::Universal(universal) => take_universal(archive, heap, &universal)?,
     };
     Ok(rows)
