@@ -7,7 +7,7 @@ use Rattle.std.specs.List.{AllByRecursion, flat_map, list_all}
 use Rattle.std.specs.Fmt.{decimal}
 use Rattle.macho_symbols.specs.Found.{FoundRecord}
 use Rattle.archive_core.specs.Content.{Operations, IsContent}
-use Rattle.archive_core.specs.Lookup.{OwnRow, AnswerRecord, Untold, Told, Disputed, IsAnswer, own_view, own_row, answer_view}
+use Rattle.archive_core.specs.Lookup.{OwnRow, AnswerRecord, Unanswered, Alone, Disputed, IsAnswer, own_view, own_row, answer_view}
 use Rattle.archive_core.specs.declared.keys.Digest.{Digest}
 use Rattle.archive_core.specs.declared.keys.SliceKey.{SliceKey}
 use Rattle.archive_core.specs.declared.lookup.Own.{Own}
@@ -38,15 +38,15 @@ abbrev seen_row : OwnRow → List ℕ
 seen_row row = line (codes "  " ++ digest_text (record { 0 = row.digest }) ++ codes " " ++ seen_own row.own)
 
 abbrev seen_lines : ℕ → AnswerRecord → List ℕ
-seen_lines address Untold = line (address_text address ++ codes " ?")
-seen_lines address (Told None) = line (address_text address ++ codes " -")
-seen_lines address (Told (Some found)) = line (address_text address ++ codes " " ++ seen_found found)
+seen_lines address Unanswered = line (address_text address ++ codes " ?")
+seen_lines address (Alone None) = line (address_text address ++ codes " -")
+seen_lines address (Alone (Some found)) = line (address_text address ++ codes " " ++ seen_found found)
 seen_lines address (Disputed rows) = line (address_text address ++ codes " !" ++ decimal (length rows)) ++ flat_map seen_row rows
 
 abbrev seen_symbol : AnswerRecord → Bool
-seen_symbol Untold = false
-seen_symbol (Told None) = false
-seen_symbol (Told (Some found)) = true
+seen_symbol Unanswered = false
+seen_symbol (Alone None) = false
+seen_symbol (Alone (Some found)) = true
 seen_symbol (Disputed rows) = false
 
 own_seen : (own : Own) → own_text own ≡ seen_own (own_view own)

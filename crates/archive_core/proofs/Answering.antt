@@ -66,16 +66,16 @@ chosen dsym arch (Admit slice ∷ xs) = cond (is_arch (key_of slice).arch arch &
 chosen dsym arch (Retire key digest ∷ xs) = chosen dsym arch xs
 
 -- a row of a live slice has its kind
-kind_told : (dsym : Bool) (arch : ArchKey) (slice : List ℕ) → rows_of_kind dsym arch (row_of (Admit slice)) ≡ (is_arch (key_of slice).arch arch && kind dsym slice)
+kind_found : (dsym : Bool) (arch : ArchKey) (slice : List ℕ) → rows_of_kind dsym arch (row_of (Admit slice)) ≡ (is_arch (key_of slice).arch arch && kind dsym slice)
 unfolding kind rows_of_kind
-kind_told true arch slice = ap (λ b. is_arch (key_of slice).arch arch && b) (elim (is_dsym_image slice) as (λ b. is_dsym (cond b Dsym Image) ≡ b) [ true ↦ refl | false ↦ refl ])
-kind_told false arch slice = ap (λ b. is_arch (key_of slice).arch arch && b) (elim (is_dsym_image slice) as (λ b. is_image (cond b Dsym Image) ≡ not b) [ true ↦ refl | false ↦ refl ])
+kind_found true arch slice = ap (λ b. is_arch (key_of slice).arch arch && b) (elim (is_dsym_image slice) as (λ b. is_dsym (cond b Dsym Image) ≡ b) [ true ↦ refl | false ↦ refl ])
+kind_found false arch slice = ap (λ b. is_arch (key_of slice).arch arch && b) (elim (is_dsym_image slice) as (λ b. is_image (cond b Dsym Image) ≡ not b) [ true ↦ refl | false ↦ refl ])
 
 -- a row of a retirement has none
-no_kind_told : (dsym : Bool) (arch : ArchKey) (key : SliceKey) (digest : Digest) → rows_of_kind dsym arch (row_of (Retire key digest)) ≡ false
+no_kind_found : (dsym : Bool) (arch : ArchKey) (key : SliceKey) (digest : Digest) → rows_of_kind dsym arch (row_of (Retire key digest)) ≡ false
 unfolding rows_of_kind
-no_kind_told true arch key digest = and_false (is_arch key.arch arch)
-no_kind_told false arch key digest = and_false (is_arch key.arch arch)
+no_kind_found true arch key digest = and_false (is_arch key.arch arch)
+no_kind_found false arch key digest = and_false (is_arch key.arch arch)
 
 -- as many are chosen as there are rows of the kind
 length_chosen : (dsym : Bool) (arch : ArchKey) (xs : List Operation) → length (chosen dsym arch xs) ≡ length (filter (rows_of_kind dsym arch) (map row_of xs))
@@ -83,7 +83,7 @@ unfolding chosen
 length_chosen dsym arch [] = refl
 length_chosen dsym arch (Admit slice ∷ xs) =
     grown (is_arch (key_of slice).arch arch && kind dsym slice) (length_chosen dsym arch xs)
-    ∙ ap (λ b. length (cond b (row_of (Admit slice) ∷ filter (rows_of_kind dsym arch) (map row_of xs)) (filter (rows_of_kind dsym arch) (map row_of xs)))) (sym (kind_told dsym arch slice))
+    ∙ ap (λ b. length (cond b (row_of (Admit slice) ∷ filter (rows_of_kind dsym arch) (map row_of xs)) (filter (rows_of_kind dsym arch) (map row_of xs)))) (sym (kind_found dsym arch slice))
   where
     grown : (b : Bool) → length (chosen dsym arch xs) ≡ length (filter (rows_of_kind dsym arch) (map row_of xs))
         → length (cond b (slice ∷ chosen dsym arch xs) (chosen dsym arch xs)) ≡ length (cond b (row_of (Admit slice) ∷ filter (rows_of_kind dsym arch) (map row_of xs)) (filter (rows_of_kind dsym arch) (map row_of xs)))
@@ -91,7 +91,7 @@ length_chosen dsym arch (Admit slice ∷ xs) =
     grown false e = e
 length_chosen dsym arch (Retire key digest ∷ xs) =
     length_chosen dsym arch xs
-    ∙ ap (λ b. length (cond b (row_of (Retire key digest) ∷ filter (rows_of_kind dsym arch) (map row_of xs)) (filter (rows_of_kind dsym arch) (map row_of xs)))) (sym (no_kind_told dsym arch key digest))
+    ∙ ap (λ b. length (cond b (row_of (Retire key digest) ∷ filter (rows_of_kind dsym arch) (map row_of xs)) (filter (rows_of_kind dsym arch) (map row_of xs)))) (sym (no_kind_found dsym arch key digest))
 
 -- as many as are counted
 count_chosen : (dsym : Bool) (arch : ArchKey) (xs : List Operation) → length (chosen dsym arch xs) ≡ count_by (rows_of_kind dsym arch) (map row_of xs)

@@ -8,11 +8,11 @@ use Rattle.std.specs.List.{AllByRecursion, insert as insert_at}
 use Rattle.std.specs.List.Sorted.{IsStrictlySortedBy}
 use Rattle.std.specs.FinSet as set
 use Rattle.std.specs.FinSet.{from_list, contains, contains-empty, contains-insert, IsAntisymmetric, nat_cmp-IsAntisymmetric, slice_cmp-IsAntisymmetric}
-use Rattle.join_core.specs.Listing.{IsPlaceFor}
+use Rattle.join_core.specs.InnerSearch.{IsPlaceFor}
 use Rattle.join_core.proofs.Place.{from_list_insert}
 use Rattle.archive_core.specs.Record.{rec, IsRecord, IsOperation}
 use Rattle.archive_core.specs.Content.{IsContent}
-use Rattle.archive_core.specs.Held.{IsHeld}
+use Rattle.archive_core.specs.InnerHeld.{IsHeld}
 use Rattle.archive_core.specs.declared.operations.Operation.{Operation}
 use Rattle.archive_core.proofs.Records.{record_of_operation}
 

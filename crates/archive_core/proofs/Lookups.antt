@@ -16,17 +16,17 @@ use Rattle.sha2.specs.Sha256.{sha256}
 use Rattle.macho_image.specs.Contents.{is_dsym_image}
 use Rattle.archive_core.specs.Key.{IsKey}
 use Rattle.archive_core.specs.Valid.{key_of}
-use Rattle.archive_core.specs.Record.{rec, admission_record, retirement_record, IsOperation}
+use Rattle.archive_core.specs.Record.{rec, admission_record, retirement_record}
 use Rattle.archive_core.specs.Content.{Operations, IsContent, IsLive, IsAnswering}
 use Rattle.archive_core.specs.Find.{AreAnswering}
-use Rattle.archive_core.specs.Held.{IsHeld}
-use Rattle.archive_core.specs.Scan.{is_key, is_kind, is_live_kind, live_in, live_among, IsFew}
+use Rattle.archive_core.specs.InnerHeld.{IsHeld}
+use Rattle.archive_core.specs.InnerScan.{is_key, is_kind, is_live_kind, live_in, live_among, IsTally}
 use Rattle.archive_core.specs.Lookup.{IsOwnRow, own_row}
 use Rattle.archive_core.specs.declared.keys.Digest.{Digest}
 use Rattle.archive_core.specs.declared.keys.SliceKey.{SliceKey}
 use Rattle.archive_core.specs.declared.lookup.Where.{Where}
-use Rattle.archive_core.specs.declared.live.Few.{Few}
-use Rattle.archive_core.specs.declared.live.Few.TheVariants.{Nothing, One, Several}
+use Rattle.archive_core.specs.declared.live.Tally.{Tally}
+use Rattle.archive_core.specs.declared.live.Tally.TheVariants.{Nothing, One, Several}
 use Rattle.archive_core.specs.declared.lookup.Own.{Own}
 use Rattle.archive_core.specs.declared.operations.Operation.{Operation}
 use Rattle.archive_core.specs.declared.operations.Operation.TheVariants.{Admit, Retire}
@@ -213,7 +213,7 @@ rows_more place slices old new slice row all one is =
     subst (AllZip (IsOwnRow place) (slices ++ slice ∷ [])) (sym (ap (map own_row) is ∙ map-append own_row old (row ∷ []))) (zip_more (IsOwnRow place) slices (map own_row old) slice (own_row row) all one)
 
 -- where not nothing is kept of slices, there are some
-pub some_of_few : (few : Few) (slices : List (List ℕ)) → IsFew few slices → (few ≡ Nothing → ⊥) → slices ≡ [] → ⊥
-some_of_few Nothing slices h some none = some refl
-some_of_few (One slice) slices h some none = let apart : slice ∷ [] ≡ [] = sym h ∙ none in cc
-some_of_few Several slices h some none = let empty : length slices ≡ 0 = ap length none in omega arith
+pub some_of_tally : (tally : Tally) (slices : List (List ℕ)) → IsTally tally slices → (tally ≡ Nothing → ⊥) → slices ≡ [] → ⊥
+some_of_tally Nothing slices h some none = some refl
+some_of_tally (One slice) slices h some none = let apart : slice ∷ [] ≡ [] = sym h ∙ none in cc
+some_of_tally Several slices h some none = let empty : length slices ≡ 0 = ap length none in omega arith

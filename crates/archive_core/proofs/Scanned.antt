@@ -22,9 +22,9 @@ use Rattle.sha2.specs.Sha256.{sha256}
 use Rattle.archive_core.specs.Valid.{key_of}
 use Rattle.archive_core.specs.Record.{rec, retirement_record, IsOperation}
 use Rattle.archive_core.specs.Content.{Operations}
-use Rattle.archive_core.specs.Find.{key_in, arch_cmp, find_cmp, IsTold, row_of, IsFinds}
-use Rattle.archive_core.specs.Scan.{is_told}
-use Rattle.archive_core.specs.Held.{IsHeld}
+use Rattle.archive_core.specs.Find.{key_in, arch_cmp, find_cmp, IsFinding, row_of, IsFinds}
+use Rattle.archive_core.specs.InnerScan.{is_finding}
+use Rattle.archive_core.specs.InnerHeld.{IsHeld}
 use Rattle.archive_core.specs.declared.find.FindRow.{FindRow}
 use Rattle.archive_core.specs.declared.operations.Operation.{Operation}
 use Rattle.archive_core.specs.declared.operations.Operation.TheVariants.{Admit, Retire}
@@ -221,8 +221,8 @@ operation_there operations a known is_a h = among operations known (sym (contain
         at false e rest more = in_rest x xs a (more rest)
 
 -- the test of a told operation decides whether a search tells it, where its record is in the content
-told_by_test : (o : Operations) (uuid : List ℕ) (a : Operation) → contains o (rec a) ≡ true → is_told o uuid a ≡ true → IsTold o uuid a
-told_by_test o uuid (Admit slice) there h =
+finding_by_test : (o : Operations) (uuid : List ℕ) (a : Operation) → contains o (rec a) ≡ true → is_finding o uuid a ≡ true → IsFinding o uuid a
+finding_by_test o uuid (Admit slice) there h =
     let parts = split (bytes_eq (key_of slice).uuid uuid) (contains o (retirement_record (key_of slice) (sha256 slice))) h in
     ((bytes_eq-Decides (key_of slice).uuid uuid).0 parts.0, record { admitted = there; under = refl; kept = parts.1 })
   where
@@ -230,18 +230,18 @@ told_by_test o uuid (Admit slice) there h =
     split true true g = absurd (true≢false (sym g))
     split true false g = (refl, refl)
     split false q g = absurd (true≢false (sym g))
-told_by_test o uuid (Retire key digest) there h = ((bytes_eq-Decides key.uuid uuid).0 h, there)
+finding_by_test o uuid (Retire key digest) there h = ((bytes_eq-Decides key.uuid uuid).0 h, there)
 
-test_of_told : (o : Operations) (uuid : List ℕ) (a : Operation) → IsTold o uuid a → (contains o (rec a) ≡ true) × (is_told o uuid a ≡ true)
-test_of_told o uuid (Admit slice) h = (h.1.admitted, (λ i. (bytes_eq-Decides (key_of slice).uuid uuid).1 h.0 i && not (h.1.kept i)))
-test_of_told o uuid (Retire key digest) h = (h.1, (bytes_eq-Decides key.uuid uuid).1 h.0)
+test_of_finding : (o : Operations) (uuid : List ℕ) (a : Operation) → IsFinding o uuid a → (contains o (rec a) ≡ true) × (is_finding o uuid a ≡ true)
+test_of_finding o uuid (Admit slice) h = (h.1.admitted, (λ i. (bytes_eq-Decides (key_of slice).uuid uuid).1 h.0 i && not (h.1.kept i)))
+test_of_finding o uuid (Retire key digest) h = (h.1, (bytes_eq-Decides key.uuid uuid).1 h.0)
 
 -- the told operations of a plain archive, sorted, are those that a search tells
 pub finds_sorted : (o : Operations) (uuid : List ℕ) (operations told : List Operation) → IsHeld operations → from_list (map rec operations) ≡ o
-    → IsPermutation (filter (is_told o uuid) operations) told → IsSorted find_cmp told → IsFinds o uuid (map row_of told)
+    → IsPermutation (filter (is_finding o uuid) operations) told → IsSorted find_cmp told → IsFinds o uuid (map row_of told)
 finds_sorted o uuid operations told held is permuted sorted =
-    let found = filter (is_told o uuid) operations in
-    let by_record = IsStrictlySortedBy-filter (on rec (slice_cmp nat_cmp)) (is_told o uuid) operations (ascending_by (slice_cmp nat_cmp) rec operations held.ascending) in
+    let found = filter (is_finding o uuid) operations in
+    let by_record = IsStrictlySortedBy-filter (on rec (slice_cmp nat_cmp)) (is_finding o uuid) operations (ascending_by (slice_cmp nat_cmp) rec operations held.ascending) in
     let apart = distinct_finer (eq_by_cmp (on rec (slice_cmp nat_cmp))) (eq_by_cmp find_cmp) untied_records found (IsDistinct-from_sorted (on rec (slice_cmp nat_cmp)) found by_record) in
     record {
       operations = told;
@@ -250,18 +250,18 @@ finds_sorted o uuid operations told held is permuted sorted =
       rows_are = refl;
     }
   where
-    to : (a : Operation) → Contains told a → IsOperation a × IsTold o uuid a
+    to : (a : Operation) → Contains told a → IsOperation a × IsFinding o uuid a
     to a h =
-        let kept = in_filter (is_told o uuid) operations a (Contains-permutation told (filter (is_told o uuid) operations) a (IsPermutation-sym (filter (is_told o uuid) operations) told permuted) h) in (
+        let kept = in_filter (is_finding o uuid) operations a (Contains-permutation told (filter (is_finding o uuid) operations) a (IsPermutation-sym (filter (is_finding o uuid) operations) told permuted) h) in (
           All-contains IsOperation operations a (All-from_recursion IsOperation operations held.are) kept.0,
-          told_by_test o uuid a (ap (λ s. contains s (rec a)) (sym is) ∙ record_there operations a kept.0) kept.1,
+          finding_by_test o uuid a (ap (λ s. contains s (rec a)) (sym is) ∙ record_there operations a kept.0) kept.1,
         )
 
-    back : (a : Operation) → IsOperation a × IsTold o uuid a → Contains told a
+    back : (a : Operation) → IsOperation a × IsFinding o uuid a → Contains told a
     back a h =
-        let tested = test_of_told o uuid a h.1 in
+        let tested = test_of_finding o uuid a h.1 in
         let there = operation_there operations a held.are h.0 (ap (λ s. contains s (rec a)) is ∙ tested.0) in
-        Contains-permutation (filter (is_told o uuid) operations) told a permuted (to_filter (is_told o uuid) operations a there tested.1)
+        Contains-permutation (filter (is_finding o uuid) operations) told a permuted (to_filter (is_finding o uuid) operations a there tested.1)
 
 -- a content and a UUID have one list of rows
 pub one_list_of_rows : (o : Operations) (uuid : List ℕ) (rows others : List FindRow) → IsFinds o uuid rows → IsFinds o uuid others → rows ≡ others

@@ -32,9 +32,9 @@ abbrev pub find_cmp : Operation → Operation → Ordering
 find_cmp = then_cmp (on (λ operation. (key_in operation).arch) arch_cmp) (on rec (slice_cmp nat_cmp))
 
 -- a retirement of the content under the UUID, or the admission of a slice that is live there
-abbrev pub IsTold : Operations → List ℕ → Operation → Type 0
-IsTold o uuid (Admit slice) = ((key_of slice).uuid ≡ uuid) × IsLive o (key_of slice) slice
-IsTold o uuid (Retire key digest) = (key.uuid ≡ uuid) × (set.contains o (retirement_record key digest.0) ≡ true)
+abbrev pub IsFinding : Operations → List ℕ → Operation → Type 0
+IsFinding o uuid (Admit slice) = ((key_of slice).uuid ≡ uuid) × IsLive o (key_of slice) slice
+IsFinding o uuid (Retire key digest) = (key.uuid ≡ uuid) × (set.contains o (retirement_record key digest.0) ≡ true)
 
 -- a live slice is a companion by its filetype MH_DSYM, or else an image
 abbrev pub state_of : List ℕ → FindState
@@ -49,7 +49,7 @@ row_of (Retire key digest) = record { arch = key.arch; digest = digest; state = 
 pub record IsFinds (o : Operations) (uuid : List ℕ) (rows : List FindRow) : Type 0 where
   pub operations : List Operation
   pub ascending : IsStrictlySortedBy find_cmp operations
-  pub exactly : (a : Operation) → Contains operations a ↔ (IsOperation a × IsTold o uuid a)
+  pub exactly : (a : Operation) → Contains operations a ↔ (IsOperation a × IsFinding o uuid a)
   pub rows_are : rows ≡ map row_of operations
 
 -- the state of a live companion

@@ -41,21 +41,21 @@ pub record IsOwnRow (place : Where) (slice : List ℕ) (row : OwnRow) : Type 0 w
 
 -- an answer, without where its names lie: nothing answers, one slice tells a symbol or none, or several tell each its own
 pub data AnswerRecord : Type 0 where
-  Untold : AnswerRecord
-  Told : Option FoundRecord → AnswerRecord
+  Unanswered : AnswerRecord
+  Alone : Option FoundRecord → AnswerRecord
   Disputed : List OwnRow → AnswerRecord
 
 -- what slices that answer tell together
-abbrev pub IsToldBy : Where → List (List ℕ) → AnswerRecord → Type 0
-IsToldBy place slices Untold = slices ≡ []
-IsToldBy place slices (Told own) = (slice : List ℕ) × (slices ≡ slice ∷ []) × IsOwn slice place own
-IsToldBy place slices (Disputed rows) = (2 ≤ length slices) × AllZip (IsOwnRow place) slices rows
+abbrev pub IsAnswerOf : Where → List (List ℕ) → AnswerRecord → Type 0
+IsAnswerOf place slices Unanswered = slices ≡ []
+IsAnswerOf place slices (Alone own) = (slice : List ℕ) × (slices ≡ slice ∷ []) × IsOwn slice place own
+IsAnswerOf place slices (Disputed rows) = (2 ≤ length slices) × AllZip (IsOwnRow place) slices rows
 
 -- the answer of a content under a key: what its answering slices tell, in ascending order of their records
 pub record IsAnswer (o : Operations) (key : SliceKey) (place : Where) (answer : AnswerRecord) : Type 0 where
   pub slices : List (List ℕ)
   pub answering : AreAnswering o key slices
-  pub told : IsToldBy place slices answer
+  pub answer_is : IsAnswerOf place slices answer
 
 -- two or more slices answer under a key
 pub record IsConflict (o : Operations) (key : SliceKey) : Type 0 where
@@ -74,7 +74,7 @@ own_row row = record { digest = row.0.0; own = own_view row.1 }
 
 -- what an archive tells, without where the names lie
 abbrev pub answer_view : Answer → AnswerRecord
-answer_view Unknown = Untold
-answer_view NoSymbol = Told None
-answer_view (Symbol found) = Told (Some (found_view found))
+answer_view Unknown = Unanswered
+answer_view NoSymbol = Alone None
+answer_view (Symbol found) = Alone (Some (found_view found))
 answer_view (Conflict rows) = Disputed (map own_row rows.items)

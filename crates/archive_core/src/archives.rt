@@ -69,10 +69,10 @@ pub trait Archive: Join<Content = Contents> {
         ensures len { result ≡ set.len (Self.content self.now) }
         ensures content { IsContent (Self.content self.now) };
 
-    /// The operation at a place, from 0 on, among all in ascending order of their records.
-    fn record_at(&self, place: u64) -> Record<'_>
-        requires { place < set.len (Self.content self.now) }
-        ensures { lent result ≡ slice_index_or (listing (Self.content self.now)) place [] };
+    /// The operation at an index, from 0 on, among all in ascending order of their records.
+    fn record_at(&self, index: u64) -> Record<'_>
+        requires { index < set.len (Self.content self.now) }
+        ensures { lent result ≡ slice_index_or (listing (Self.content self.now)) index [] };
 
     ghost is_content_is: { (o : Operations) → Self.Join.is_content o ↔ IsContent o };
 

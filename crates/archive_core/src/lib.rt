@@ -13,7 +13,7 @@
 //! - `find`: what a search for a UUID tells;
 //! - `lookup`: what is asked of a key, and what is answered;
 //! - `archives`: the trait [`Archive`];
-//! - `told`: an operation beside its row;
+//! - `finding`: an operation beside the row that a search tells of it;
 //! - `live`: slices that answer under a key, and what they tell;
 //! - `plain`: an archive as a sorted list;
 //! - [`laws`]: what holds of records, contents, joins, summaries, rows and answers.
@@ -22,6 +22,7 @@
 mod archives;
 mod faults;
 mod find;
+mod finding;
 mod keys;
 pub mod laws;
 mod live;
@@ -29,7 +30,6 @@ mod lookup;
 mod operations;
 mod plain;
 mod slices;
-mod told;
 
 pub use archives::{Archive, Contents, take_all};
 pub use faults::{AdmitFault, SliceFault};

@@ -2,8 +2,8 @@
 ghost use Rattle.std.specs.Prelude.{◌≡◌, ◌∷◌, [], ◌++◌, ℕ, List};
 ghost use Rattle.sha2.specs.Sha256.{sha256};
 ghost use Rattle.macho_symbols.specs.Found.{FindsNearest};
-ghost use Rattle.archive_core.specs.Lookup.{IsOwn, IsOwnRow, Told, file_address, unslid, own_view, own_row, answer_view};
-ghost use Rattle.archive_core.specs.Scan.{IsFew, is_key, is_kind};
+ghost use Rattle.archive_core.specs.Lookup.{IsOwn, IsOwnRow, Alone, file_address, unslid, own_view, own_row, answer_view};
+ghost use Rattle.archive_core.specs.InnerScan.{IsTally, is_key, is_kind};
 
 use crate::{Answer, Digest, Own, Slice, SliceKey, Where};
 use std::marker::Model;
@@ -28,7 +28,7 @@ impl<'a> Model for Hashed<'a> {
 
 // What is kept of slices as they are counted: at most one of them is asked alone.
 #[derive(Drop)]
-pub(crate) enum Few<'a> {
+pub(crate) enum Tally<'a> {
     Nothing,
     One(Hashed<'a>),
     Several,
@@ -67,14 +67,14 @@ impl<'a> Hashed<'a> {
     }
 }
 
-impl<'a> Few<'a> {
+impl<'a> Tally<'a> {
     // The same with one slice more.
-    pub(crate) fn and(self, slice: Hashed<'a>) -> Few<'a>
-        ensures { (slices : List (List ℕ)) → IsFew self.entry slices → IsFew result (slices ++ slice.entry ∷ []) }
+    pub(crate) fn and(self, slice: Hashed<'a>) -> Tally<'a>
+        ensures { (slices : List (List ℕ)) → IsTally self.entry slices → IsTally result (slices ++ slice.entry ∷ []) }
     {
         match self {
-            Few::Nothing => Few::One(slice),
-            Few::One(_) | Few::Several => Few::Several,
+            Tally::Nothing => Tally::One(slice),
+            Tally::One(_) | Tally::Several => Tally::Several,
         }
     }
 }
@@ -135,8 +135,8 @@ fn unslid(base: u64, load: u64, address: u64) -> Option<u64>
 }
 
 // What the only slice that answers tells.
-pub(crate) fn told_alone(own: Own<'_>) -> Answer<'_>
-    ensures { answer_view result ≡ Told (own_view own.entry) }
+pub(crate) fn answer_of_one(own: Own<'_>) -> Answer<'_>
+    ensures { answer_view result ≡ Alone (own_view own.entry) }
 {
     match own {
         Own::NoSymbol => Answer::NoSymbol,

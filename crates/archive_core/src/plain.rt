@@ -5,16 +5,16 @@ ghost use Rattle.std.specs.Ordering.{nat_cmp};
 ghost use Rattle.std.specs.Cmp.Lexicographic.{slice_cmp};
 ghost use Rattle.std.specs.List.{list_all, AllZip};
 ghost use Rattle.std.specs.List.Sorted.{IsStrictlySortedBy, IsSearchInRange};
-ghost use Rattle.join_core.specs.Listing.{IsFound};
+ghost use Rattle.join_core.specs.InnerSearch.{IsFound};
 ghost use Rattle.sha2.specs.Sha256.{sha256};
 ghost use Rattle.archive_core.specs.Key.{IsKey};
 ghost use Rattle.archive_core.specs.Valid.{key_of};
 ghost use Rattle.archive_core.specs.Record.{rec, retirement_record};
-ghost use Rattle.archive_core.specs.Scan.{is_told, live_in, live_among, IsFew};
-ghost use Rattle.archive_core.specs.Lookup.{IsOwnRow, IsToldBy, own_row, answer_view};
+ghost use Rattle.archive_core.specs.InnerScan.{is_finding, live_in, live_among, IsTally};
+ghost use Rattle.archive_core.specs.Lookup.{IsOwnRow, IsAnswerOf, own_row, answer_view};
 
-use crate::live::{Few, Hashed, is_key, is_kind, told_alone};
-use crate::told::{Told, rows_of};
+use crate::finding::{Finding, rows_of};
+use crate::live::{Hashed, Tally, answer_of_one, is_key, is_kind};
 use crate::{
     Answer, Archive, Contents, Digest, FindRow, FindState, Operation, Own, Record, Slice, SliceKey,
     Where,
@@ -40,7 +40,7 @@ impl Model for PlainArchive {
     ghost use Rattle.std.specs.FinSet as set;
     ghost use Rattle.std.specs.Coded.{coded_list, coded_ℕ};
     ghost use Rattle.archive_core.specs.Record.{rec};
-    ghost use Rattle.archive_core.specs.Held.{IsHeld};
+    ghost use Rattle.archive_core.specs.InnerHeld.{IsHeld};
 
     ghost Value = { set.FinSet (slice_cmp nat_cmp) };
 
@@ -83,22 +83,22 @@ impl PlainArchive {
     }
 
     // The operation with its row, where a search for the UUID tells it.
-    fn told<'a>(&self, operation: &'a Operation, uuid: &Uuid) -> Option<Told<'a>>
-        ensures { result ≡ if is_told self.now uuid.now operation.now then Some operation.now else None }
+    fn finding<'a>(&self, operation: &'a Operation, uuid: &Uuid) -> Option<Finding<'a>>
+        ensures { result ≡ if is_finding self.now uuid.now operation.now then Some operation.now else None }
     {
         let key = operation.key();
         if key.uuid != *uuid {
             return None;
         }
-        let told = Told::of(operation);
-        match told.row().state {
-            FindState::Retired => Some(told),
+        let finding = Finding::of(operation);
+        match finding.row().state {
+            FindState::Retired => Some(finding),
             FindState::Image | FindState::Dsym => {
-                let retirement = Operation::Retire(key, told.row().digest);
+                let retirement = Operation::Retire(key, finding.row().digest);
                 if self.holds(&retirement) {
                     None
                 } else {
-                    Some(told)
+                    Some(finding)
                 }
             }
         }
@@ -109,16 +109,16 @@ impl PlainArchive {
         &self,
         operations: &'a [Operation],
         uuid: &Uuid,
-    ) -> Result<Vec<Told<'a>, Heap>, NoMemory>
-        ensures { IfOk result (λ told. told.items ≡ filter (is_told self.now uuid.now) operations.now) }
+    ) -> Result<Vec<Finding<'a>, Heap>, NoMemory>
+        ensures { IfOk result (λ findings. findings.items ≡ filter (is_finding self.now uuid.now) operations.now) }
     {
-        let mut told = Vec::new(self.operations.allocator().clone()?);
+        let mut findings = Vec::new(self.operations.allocator().clone()?);
         'operations: for operation in operations {
-            if let Some(found) = self.told(operation, uuid) {
-                told.push(found)?;
+            if let Some(finding) = self.finding(operation, uuid) {
+                findings.push(finding)?;
             }
         }
-        Ok(told)
+        Ok(findings)
     }
 
     // The slice with its digest, unless a retirement covers it.
@@ -135,7 +135,7 @@ impl PlainArchive {
 
     // The slice that an operation admits, where it is live under the key, and a companion or not. A
     // slice of another key or kind is not hashed.
-    #[tactic(auto, unfolding(crate::specs::Scan::is_live_kind))]
+    #[tactic(auto, unfolding(crate::specs::InnerScan::is_live_kind))]
     fn live<'a>(&self, operation: &'a Operation, key: &SliceKey, dsym: bool) -> Option<Hashed<'a>>
         ensures { result ≡ live_in self.now key.now dsym operation.now }
     {
@@ -149,17 +149,17 @@ impl PlainArchive {
     }
 
     // The live slices of a key, companions or not, as far as one of them is asked alone.
-    fn few<'a>(&self, operations: &'a [Operation], key: SliceKey, dsym: bool) -> Few<'a>
-        ensures few { IsFew result (live_among self.now key dsym operations.now) }
+    fn tally<'a>(&self, operations: &'a [Operation], key: SliceKey, dsym: bool) -> Tally<'a>
+        ensures tally { IsTally result (live_among self.now key dsym operations.now) }
         ensures key { IsKey key }
     {
-        let mut few = Few::Nothing;
+        let mut tally = Tally::Nothing;
         'operations: for operation in operations {
             if let Some(slice) = self.live(operation, &key, dsym) {
-                few = few.and(slice);
+                tally = tally.and(slice);
             }
         }
-        few
+        tally
     }
 
     // What each of the live slices of a key, companions or not, tells of a place.
@@ -183,23 +183,23 @@ impl PlainArchive {
     }
 
     // What the live slices of a key, companions or not, tell together, where so much is kept of them.
-    fn told_by<'a>(
+    fn answer_of<'a>(
         &self,
         operations: &'a [Operation],
         key: &SliceKey,
         dsym: bool,
-        few: Few<'a>,
+        tally: Tally<'a>,
         place: Where,
     ) -> Result<Answer<'a>, NoMemory>
-        requires { IsFew few (live_among self.now key.now dsym operations.now) }
-        ensures told { IfOk result (λ answer.
-            IsToldBy place (live_among self.now key.now dsym operations.now) (answer_view answer)) }
+        requires { IsTally tally (live_among self.now key.now dsym operations.now) }
+        ensures answer { IfOk result (λ answer.
+            IsAnswerOf place (live_among self.now key.now dsym operations.now) (answer_view answer)) }
         ensures memory { OnErr result (2 ≤ length (live_among self.now key.now dsym operations.now)) }
     {
-        match few {
-            Few::Nothing => Ok(Answer::Unknown),
-            Few::One(slice) => Ok(told_alone(slice.own(place))),
-            Few::Several => Ok(Answer::Conflict(self.own_rows(operations, key, dsym, place)?)),
+        match tally {
+            Tally::Nothing => Ok(Answer::Unknown),
+            Tally::One(slice) => Ok(answer_of_one(slice.own(place))),
+            Tally::Several => Ok(Answer::Conflict(self.own_rows(operations, key, dsym, place)?)),
         }
     }
 
@@ -268,8 +268,8 @@ impl Archive for PlainArchive {
     fn take(&mut self, operation: Operation) -> Result<bool, NoMemory> {
         match search_from_end(&self.operations, &operation) {
             Ok(_) => Ok(false),
-            Err(place) => {
-                self.operations.insert(place, operation)?;
+            Err(index) => {
+                self.operations.insert(index, operation)?;
                 Ok(true)
             }
         }
@@ -280,18 +280,18 @@ impl Archive for PlainArchive {
     }
 
     fn find(&self, uuid: &Uuid) -> Result<Vec<FindRow, Heap>, NoMemory> {
-        let mut told = self.gather(&self.operations, uuid)?;
-        told.sort_unstable_by(|a, b| a.compare(b));
-        rows_of(self.operations.allocator().clone()?, &told)
+        let mut findings = self.gather(&self.operations, uuid)?;
+        findings.sort_unstable_by(|a, b| a.compare(b));
+        rows_of(self.operations.allocator().clone()?, &findings)
     }
 
     fn lookup(&self, key: &SliceKey, place: Where) -> Result<Answer<'_>, NoMemory> {
-        match self.few(&self.operations, *key, true) {
-            Few::Nothing => {
-                let images = self.few(&self.operations, *key, false);
-                self.told_by(&self.operations, key, false, images, place)
+        match self.tally(&self.operations, *key, true) {
+            Tally::Nothing => {
+                let images = self.tally(&self.operations, *key, false);
+                self.answer_of(&self.operations, key, false, images, place)
             }
-            companions => self.told_by(&self.operations, key, true, companions, place),
+            companions => self.answer_of(&self.operations, key, true, companions, place),
         }
     }
 
@@ -299,7 +299,7 @@ impl Archive for PlainArchive {
         self.operations.len() as u64
     }
 
-    fn record_at(&self, place: u64) -> Record<'_> {
-        self.operations[place as usize].lend()
+    fn record_at(&self, index: u64) -> Record<'_> {
+        self.operations[index as usize].lend()
     }
 }

@@ -1,6 +1,6 @@
 -- Sites that are empty.
 use Rattle.std.proofs.Common.{◌≡◌, ℕ, zero, suc, ◌+◌, List, [], ◌∷◌, ◌++◌, length, length-append, slice_get, refl, sym, ap, ◌∙◌, subst}
-use Rattle.std.specs.declared.option.Option.TheVariants.{None, Some}
+use Rattle.std.specs.declared.option.Option.TheVariants.{Some}
 use Rattle.std.specs.FinSet as set
 use Rattle.std.specs.FinSet.{contains-empty}
 use Rattle.std.specs.Ordering.{nat_cmp}
@@ -8,7 +8,7 @@ use Rattle.std.specs.Cmp.Lexicographic.{slice_cmp}
 use mathlib.Core.Bool.{true≢false}
 use Rattle.archive_core.specs.Content.{IsContent}
 use Rattle.archive_records.specs.Text.{written}
-use Rattle.exchange_model.specs.World.{World, Message, start}
+use Rattle.exchange_model.specs.World.{Message, start}
 use Rattle.archive_exchange.specs.Keeping.{Keeping}
 use Rattle.archive_exchange.specs.Rehearsal.{IsSound, IsSite, Shows}
 

@@ -1,14 +1,13 @@
 -- What happens at a site is what the definitions say of its event.
-use Rattle.std.proofs.Common.{◌≡◌, ◌≢◌, ℕ, zero, suc, ◌<◌, ◌≤◌, Bool, true, false, ◌||◌, List, [], ◌∷◌, ◌++◌, map, length, slice_get, refl, sym, ap, ◌∙◌, subst, if◌then◌else◌, nat_lt, get_or, ◌⊎◌, inl, inr}
-use Rattle.std.specs.Prelude.{slice_set, filter, cond}
-use Rattle.std.specs.List.{All, AllByRecursion, list_any}
+use Rattle.std.proofs.Common.{◌≡◌, ◌≢◌, ℕ, ◌<◌, ◌≤◌, Bool, List, [], ◌∷◌, ◌++◌, map, length, slice_get, refl, sym, ap, ◌∙◌, subst, if◌then◌else◌, get_or}
+use Rattle.std.specs.Prelude.{slice_set}
 use Rattle.std.specs.declared.option.Option.{Option}
 use Rattle.std.specs.declared.option.Option.TheVariants.{None, Some}
 use Rattle.std.specs.declared.result.Result.TheVariants.{Ok, Err}
 use Rattle.std.proofs.lemmas.Bool.{lt-ltb, le-ltb}
 use Rattle.std.proofs.lemmas.Option.{slice_get_within, slice_get_read}
 use Rattle.std.proofs.lemmas.List.{length-map}
-use Rattle.archive_core.specs.Content.{Operations, IsContent, with_record, with_records, changes, joined}
+use Rattle.archive_core.specs.Content.{with_record, with_records, changes, joined}
 use Rattle.archive_core.specs.Summary.{summary, delta}
 use Rattle.archive_core.specs.Record.{IsRecord}
 use Rattle.archive_core.proofs.Summaries.{delta_content}
@@ -21,9 +20,10 @@ use Rattle.exchange_model.specs.World as model
 use Rattle.exchange_model.specs.World.{World, Event, File, Fault, Message, Content, Summary, site_of, records, fault_at_site, fault_of, effect, answer, unless, refused_or, happens, outcome, with_saved}
 use Rattle.archive_exchange.specs.File.{IsAcceptedFile, IsTakeFault, admissible, parts}
 use Rattle.archive_exchange.specs.Take.{admitted}
-use Rattle.archive_exchange.specs.Keeping.{Keeping, Says, HasJoined, IsArchiveText, IsDeliverFault, IsReplyFault, RepliesTo}
-use Rattle.archive_exchange.specs.Seen.{IsFile, IsRecorded, Tells, fault_told, other_magic, part_record}
-use Rattle.archive_exchange.specs.Rehearsal.{message_text, IsSound, Shows, Follows, Happens}
+use Rattle.archive_exchange.specs.Keeping.{Keeping, Says, HasJoined, IsDeliverFault, IsReplyFault, RepliesTo}
+use Rattle.archive_exchange.specs.Seen.{IsFile, Tells, fault_told, part_record}
+use Rattle.archive_exchange.specs.Rehearsal.{message_text, IsSound, Shows}
+use Rattle.archive_exchange.specs.InnerEvents.{Follows, Happens}
 use Rattle.archive_exchange.specs.declared.fault.TakeFault.{TakeFault}
 use Rattle.archive_exchange.specs.declared.fault.TakeFault.TheVariants.{OutOfMemory}
 use Rattle.archive_exchange.specs.declared.fault.DeliverFault.{DeliverFault}

@@ -1,11 +1,11 @@
 -- Each list of events is one list to the definitions of sites.
 use Rattle.std.proofs.Common.{◌≡◌, ◌≢◌, ℕ, List, [], ◌∷◌, map, refl, sym, ap, ◌∙◌, ◌⊎◌, inl, inr}
-use Rattle.std.specs.List.{AllZip}
 use Rattle.std.specs.declared.result.Result.TheVariants.{Ok, Err}
 use Rattle.archive_core.specs.Record.{retirement_record}
 use Rattle.exchange_model.specs.World as model
 use Rattle.archive_exchange.specs.File.{IsAcceptedFile, IsTakeFault, parts}
-use Rattle.archive_exchange.specs.Seen.{Seen, SeenFile, IsFile, IsSeen, AreSeen, part_record}
+use Rattle.archive_exchange.specs.Seen.{Seen, IsFile, IsSeen, AreSeen, part_record}
+use Rattle.archive_exchange.specs.InnerEvents.{SeenFile}
 use Rattle.archive_exchange.specs.declared.fault.TakeFault.{TakeFault}
 use Rattle.archive_exchange.specs.declared.fault.TakeFault.TheVariants.{OutOfMemory}
 use Rattle.archive_exchange.specs.declared.event.Event.{Event}

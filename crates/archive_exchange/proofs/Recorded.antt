@@ -1,6 +1,5 @@
 -- What events issue are records of operations.
 use Rattle.std.proofs.Common.{◌≡◌, ℕ, true, List, refl, sym, ap, ◌∙◌, subst}
-use Rattle.std.specs.declared.option.Option.TheVariants.{Some}
 use Rattle.std.specs.declared.result.Result.{Result}
 use Rattle.std.specs.declared.result.Result.TheVariants.{Ok, Err}
 use Rattle.std.specs.Prelude.{OnOk}
@@ -13,7 +12,8 @@ use Rattle.archive_core.specs.Record.{IsRecord, retirement_record}
 use Rattle.archive_core.specs.declared.keys.SliceKey.{SliceKey}
 use Rattle.archive_core.specs.declared.keys.Digest.{Digest}
 use Rattle.exchange_model.specs.World as model
-use Rattle.archive_exchange.specs.Seen.{Seen, SeenFile, IsFile, IsSeen, IsRecorded}
+use Rattle.archive_exchange.specs.Seen.{Seen, IsFile, IsSeen}
+use Rattle.archive_exchange.specs.InnerEvents.{SeenFile, IsRecorded}
 use Rattle.archive_exchange.specs.declared.event.Event.{Event}
 use Rattle.archive_exchange.specs.declared.event.Event.TheVariants.{Take, Retire, Full, Ask, Reply, Deliver, Save, Stop}
 use Rattle.archive_exchange.proofs.Gained.{recorded_take, recorded_retire}

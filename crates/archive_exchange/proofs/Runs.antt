@@ -1,24 +1,24 @@
 -- A run of events, one after another.
-use Rattle.std.proofs.Common.{◌≡◌, ℕ, zero, suc, ◌+◌, ◌<◌, ◌≤◌, Bool, true, false, ◌&&◌, List, [], ◌∷◌, ◌++◌, map, length, slice_get, refl, sym, ap, ◌∙◌, subst, nat_lt, add-one, arith, ◌⊎◌, inl, inr, ◌↔◌}
+use Rattle.std.proofs.Common.{◌≡◌, ℕ, zero, suc, ◌+◌, ◌<◌, ◌≤◌, true, List, [], ◌∷◌, ◌++◌, length, slice_get, refl, sym, ap, ◌∙◌, subst, nat_lt, add-one, arith, inl, inr}
 use mathlib.Core.Bool.{true≢false}
 use Rattle.std.specs.List.{AllZip}
 use Rattle.std.specs.FinSet as set
 use Rattle.std.specs.declared.option.Option.{Option}
-use Rattle.std.specs.declared.option.Option.TheVariants.{None, Some}
+use Rattle.std.specs.declared.option.Option.TheVariants.{Some}
 use Rattle.std.specs.declared.result.Result.TheVariants.{Ok, Err}
 use Rattle.std.proofs.lemmas.Bool.{ltb-true, cases_lt}
 use Rattle.std.proofs.lemmas.Option.{slice_get_past}
 use Rattle.archive_core.specs.Content.{Operations}
 use Rattle.archive_core.specs.Record.{IsRecord}
-use Rattle.archive_records.specs.Text.{written}
 use Rattle.exchange_model.specs.World.{World, Event, Take, Retire, Full, Ask, Reply, Deliver, Save, Stop, Outcome, site_of, happens, outcome, start, stepped, state, outcome_of, outcomes}
 use Rattle.exchange_model.specs.Reached.{is_accepted, senders}
-use Rattle.exchange_model.specs.Issued.{issues, IsIssued, AreRecords}
+use Rattle.exchange_model.specs.Issued.{issues, AreRecords}
 use Rattle.exchange_model.proofs.Between.{and_left}
 use Rattle.archive_exchange.specs.Keeping.{Keeping}
-use Rattle.archive_exchange.specs.Seen.{IsSeen, AreSeen, IsRecorded, Tells}
-use Rattle.archive_exchange.specs.Rehearsal.{Shows, IsSite, Happens}
-use Rattle.archive_exchange.specs.Alike.{AreAlike, HasRun}
+use Rattle.archive_exchange.specs.Seen.{IsSeen, AreSeen, Tells}
+use Rattle.archive_exchange.specs.InnerEvents.{IsRecorded, Happens, HasRun}
+use Rattle.archive_exchange.specs.Rehearsal.{Shows}
+use Rattle.archive_exchange.specs.Alike.{AreAlike}
 use Rattle.archive_exchange.specs.declared.event.Event as code
 use Rattle.archive_exchange.specs.declared.event.Outcome as answered
 use Rattle.archive_exchange.specs.declared.fault.TakeFault.{TakeFault}

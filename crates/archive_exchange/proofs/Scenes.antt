@@ -1,5 +1,5 @@
 -- What a change at one site is to a world that sites show.
-use Rattle.std.proofs.Common.{◌≡◌, ◌≢◌, ℕ, zero, suc, ◌<◌, Bool, true, false, List, [], ◌∷◌, ◌++◌, map, length, slice_get, refl, sym, ap, ◌∙◌, subst, if◌then◌else◌, ◌==◌, nat_lt, eq-eqb, ◌⊎◌, inl, inr}
+use Rattle.std.proofs.Common.{◌≡◌, ◌≢◌, ℕ, zero, suc, true, false, List, [], ◌∷◌, ◌++◌, slice_get, refl, sym, ap, ◌∙◌, subst, if◌then◌else◌, ◌==◌, eq-eqb}
 use Rattle.std.specs.Prelude.{slice_set}
 use mathlib.Core.Bool.{true≢false}
 use Rattle.std.specs.declared.option.Option.{Option}
@@ -10,7 +10,7 @@ use Rattle.std.proofs.lemmas.Option.{slice_get-map}
 use Rattle.std.proofs.lemmas.List.{map-append}
 use Rattle.archive_core.specs.Content.{Operations, IsContent}
 use Rattle.archive_records.specs.Text.{written}
-use Rattle.exchange_model.specs.World.{World, Message, Content, Summary, updated, with_held, with_saved, with_sent}
+use Rattle.exchange_model.specs.World.{World, Message, updated, with_held, with_saved, with_sent}
 use Rattle.archive_exchange.specs.Keeping.{Keeping}
 use Rattle.archive_exchange.specs.Rehearsal.{message_text, IsSound, IsSite, Shows}
 

@@ -1,5 +1,5 @@
 -- What follows where a text was read, and where a join stopped half way.
-use Rattle.std.proofs.Common.{◌≡◌, ◌≢◌, ℕ, ◌<◌, List, refl, sym, ap, ◌∙◌, subst, arith, ◌⊎◌, inl, inr}
+use Rattle.std.proofs.Common.{◌≡◌, ◌≢◌, ℕ, List, ap, ◌∙◌, subst, arith, ◌⊎◌, inl, inr}
 use Rattle.std.specs.declared.option.Option.TheVariants.{Some}
 use Rattle.std.specs.declared.result.Result.{Result}
 use Rattle.std.specs.declared.result.Result.TheVariants.{Ok, Err}
@@ -14,7 +14,7 @@ use Rattle.archive_records.specs.Fault.{IsFault, IsSummaryFault, IsOfText}
 use Rattle.archive_records.specs.Reading.{IsOfMachine}
 use Rattle.archive_records.specs.declared.fault.RecordFault.{RecordFault}
 use Rattle.archive_records.specs.declared.fault.RecordFaultKind.TheVariants.{Device, OutOfMemory}
-use Rattle.archive_exchange.specs.Keeping.{Keeping, Says, IsArchiveText, Names, IsSummaryText, HasJoined, HasJoinedInPart}
+use Rattle.archive_exchange.specs.Keeping.{Keeping, Says, IsArchiveText, Names, IsSummaryText, HasJoinedInPart}
 
 never : FailedIn 0 0 → ⊥
 never f = elim f [ inl lt ↦ omega arith | inr le ↦ omega arith ]

@@ -1,5 +1,5 @@
 -- What a site keeps, and what the text of an archive says.
-use Rattle.std.specs.Prelude.{◌≡◌, ◌≢◌, ℕ, List, refl}
+use Rattle.std.specs.Prelude.{◌≡◌, ℕ, List, refl}
 use Rattle.std.specs.Ordering.{nat_cmp}
 use Rattle.std.specs.Cmp.Lexicographic.{slice_cmp}
 use Rattle.std.specs.FinSet as set

@@ -6,3 +6,4 @@ pub mod Rehearsal
 pub mod Seen
 pub mod Take
 pub mod Accepted
+pub mod InnerEvents

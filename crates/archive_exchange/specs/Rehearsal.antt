@@ -1,15 +1,11 @@
 -- The sites and the messages of a rehearsal beside a world of exchange_model, and what an event makes of them.
-use Rattle.std.specs.Prelude.{◌≡◌, ℕ, List, Some, map, length, slice_get, slice_set, refl}
-use Rattle.std.specs.Ordering.{nat_cmp}
+use Rattle.std.specs.Prelude.{◌≡◌, ℕ, List, Some, map, slice_get, refl}
 use Rattle.std.specs.Coded.{Coded, code_by, coded×, coded_list, coded_ℕ}
 use Rattle.archive_core.specs.Content.{IsContent}
 use Rattle.archive_records.specs.Entry.{AreEntries}
 use Rattle.archive_records.specs.Text.{written, summary_text}
-use Rattle.exchange_model.specs.World.{World, Message, Content, Summary, Event, site_of, happens, outcome}
+use Rattle.exchange_model.specs.World.{World, Message, Content, Summary}
 use Rattle.archive_exchange.specs.Keeping.{Keeping, keeping_code}
-use Rattle.archive_exchange.specs.Seen.{Tells}
-use Rattle.archive_exchange.specs.declared.fault.TakeFault.{TakeFault}
-use Rattle.archive_exchange.specs.declared.event.Outcome.{Outcome}
 
 -- what the sites keep, in the order of their numbers, and the texts that were sent, in their order
 pub record Scene : Type 0 where
@@ -43,14 +39,3 @@ pub record Shows (sites : List Keeping) (texts : List (List ℕ)) (w : World) : 
   pub held : (i : ℕ) → IsContent (w.held i)
   pub saved : (i : ℕ) → IsContent (w.saved i)
   pub sound : (m : ℕ) (message : Message) → slice_get w.messages m ≡ Some message → IsSound message
-
--- The event happens at a site: in each world that sites show, of which this one stands at the event's number, it leaves the
--- sites as they are with this one, and is answered so.
-pub record Follows (e : Event TakeFault) (old new : Keeping) (texts later : List (List ℕ)) (answer : Outcome) : Type 0 where
-  pub shows : (sites : List Keeping) (w : World) → slice_get sites (site_of e) ≡ Some old → Shows sites texts w → Shows (slice_set sites (site_of e) new) later (happens (length sites) w e)
-  pub tells : (sites : List Keeping) (w : World) → slice_get sites (site_of e) ≡ Some old → Shows sites texts w → Tells answer (outcome (length sites) w e)
-
--- The event happens among sites: it leaves them so in each world that they show, and is answered so.
-pub record Happens (e : Event TakeFault) (sites others : List Keeping) (texts later : List (List ℕ)) (answer : Outcome) : Type 0 where
-  pub shows : (w : World) → Shows sites texts w → Shows others later (happens (length sites) w e)
-  pub tells : (w : World) → Shows sites texts w → Tells answer (outcome (length sites) w e)

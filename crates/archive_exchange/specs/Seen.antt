@@ -1,17 +1,15 @@
 -- What the events of a rehearsal and their outcomes are to the definitions of sites (exchange_model).
-use Rattle.std.specs.Prelude.{◌≡◌, ◌≢◌, ℕ, true, List, drop, map, if◌then◌else◌}
-use Rattle.std.specs.FinSet as set
+use Rattle.std.specs.Prelude.{◌≡◌, ◌≢◌, ℕ, List, drop, map, if◌then◌else◌}
 use Rattle.std.specs.declared.option.Option.{Option}
 use Rattle.std.specs.declared.option.Option.TheVariants.{None, Some}
 use Rattle.std.specs.declared.result.Result.TheVariants.{Ok, Err}
 use Rattle.std.specs.List.{AllZip}
 use Rattle.sha2.specs.Sha256.{sha256}
 use Rattle.archive_core.specs.Valid.{key_of}
-use Rattle.archive_core.specs.Record.{IsRecord, admission_record, retirement_record}
+use Rattle.archive_core.specs.Record.{admission_record, retirement_record}
 use Rattle.archive_records.specs.declared.fault.RecordFault.{RecordFault}
 use Rattle.archive_records.specs.declared.fault.RecordFaultKind.TheVariants.{BadMagic}
 use Rattle.exchange_model.specs.World as model
-use Rattle.exchange_model.specs.Issued.{issues}
 use Rattle.archive_exchange.specs.File.{IsAcceptedFile, IsTakeFault, is_admissible, parts}
 use Rattle.archive_exchange.specs.declared.fault.TakeFault.{TakeFault}
 use Rattle.archive_exchange.specs.declared.fault.TakeFault.TheVariants.{OutOfMemory}
@@ -24,12 +22,9 @@ use Rattle.archive_exchange.specs.declared.event.EventFault.TheVariants.{NoSite,
 use Rattle.archive_exchange.specs.declared.event.Outcome.{Outcome}
 use Rattle.archive_exchange.specs.declared.event.Outcome.TheVariants.{Took, Retired, Sent, Delivered, Saved, Stopped, Refused}
 
--- an event and a file as the definitions of sites see them, where a file is refused by a TakeFault
+-- an event as the definitions of sites see it, where a file is refused by a TakeFault
 abbrev pub Seen : Type 0
 Seen = model.Event TakeFault
-
-abbrev pub SeenFile : Type 0
-SeenFile = model.File TakeFault
 
 -- the record of a part's admission, or none where the part is skipped
 abbrev pub part_record : List ℕ → Option (List ℕ)
@@ -86,7 +81,3 @@ Tells Delivered answer = answer ≡ model.Delivered
 Tells Saved answer = answer ≡ model.Saved
 Tells Stopped answer = answer ≡ model.Stopped
 Tells (Refused fault) answer = (why : model.Fault TakeFault) × (fault ≡ fault_told why) × (answer ≡ model.Refused why)
-
--- what an event issues are records of operations
-abbrev pub IsRecorded : model.Event TakeFault → Type 0
-IsRecorded seen = (r : List ℕ) → set.contains (issues (Some seen)) r ≡ true → IsRecord r

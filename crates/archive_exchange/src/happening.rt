@@ -2,8 +2,8 @@
 ghost use Rattle.std.specs.Prelude.{◌≡◌, ◌<◌, ◌++◌, ◌∷◌, [], ℕ, List, length, IfOk, OnOk};
 ghost use Rattle.archive_core.specs.Record.{retirement_record};
 ghost use Rattle.exchange_model.specs.World as model;
-ghost use Rattle.archive_exchange.specs.Seen.{Seen, SeenFile, IsFile, IsSeen, IsRecorded};
-ghost use Rattle.archive_exchange.specs.Rehearsal.{Follows, Happens};
+ghost use Rattle.archive_exchange.specs.Seen.{Seen, IsFile, IsSeen};
+ghost use Rattle.archive_exchange.specs.InnerEvents.{SeenFile, IsRecorded, Follows, Happens};
 
 use crate::laws::one_take_fault;
 use crate::message::Message;

@@ -8,7 +8,8 @@ ghost use Rattle.exchange_model.specs.Issued.{AreIssued, IsDigestTelling, IsExch
 ghost use Rattle.archive_exchange.specs.Keeping.{Keeping};
 ghost use Rattle.archive_exchange.specs.Seen.{Seen, OfEvents, Tells};
 ghost use Rattle.archive_exchange.specs.Rehearsal.{Shows};
-ghost use Rattle.archive_exchange.specs.Alike.{AreAlike, HasRun};
+ghost use Rattle.archive_exchange.specs.Alike.{AreAlike};
+ghost use Rattle.archive_exchange.specs.InnerEvents.{HasRun};
 
 use crate::happening::happen;
 use crate::{Event, Outcome, Site, TakeFault, World};

@@ -12,7 +12,8 @@ use Rattle.std.proofs.lemmas.List.{map-append, take_more, get_or-map}
 use Rattle.std.proofs.lemmas.List.Kept.{IsStrictlySortedBy-dedup}
 use Rattle.std.proofs.lemmas.List.Sorted.{IsPermutation-map, list_any-IsPermutation}
 use Rattle.std.specs.Prelude.{Result, Ok, Err, is_ok}
-use Rattle.join_core.specs.Listing.{listing, IsFound}
+use Rattle.join_core.specs.Listing.{listing}
+use Rattle.join_core.specs.InnerSearch.{IsFound}
 use Rattle.archive_core.specs.Record.{IsRecord}
 use Rattle.archive_core.specs.Content.{Operations, IsContent}
 use Rattle.archive_core.specs.Summary.{Entries, entry, summary}

@@ -7,7 +7,7 @@ use Rattle.macho_symbols.specs.Nearest.{IsNearest}
 use Rattle.macho_symbols.specs.Found.{FoundRecord, found_of, FindsNearest}
 use Rattle.archive_core.specs.Record.{admission_record}
 use Rattle.archive_core.specs.Content.{Operations}
-use Rattle.archive_core.specs.Lookup.{file_address, IsOwn, OwnRow, IsOwnRow, AnswerRecord, Untold, Told, Disputed, IsToldBy, IsAnswer}
+use Rattle.archive_core.specs.Lookup.{file_address, IsOwn, OwnRow, IsOwnRow, AnswerRecord, Unanswered, Alone, Disputed, IsAnswerOf, IsAnswer}
 use Rattle.archive_core.specs.declared.keys.SliceKey.{SliceKey}
 use Rattle.archive_core.specs.declared.lookup.Where.{Where}
 use Rattle.archive_core.proofs.Scanned.{one_with_members}
@@ -44,24 +44,24 @@ module _ (one : (image : List ℕ) (address : ℕ) (found other : Option Tuple) 
   one_rows place (s ∷ slices) (x ∷ xs) [] a b = absurd b
   one_rows place (s ∷ slices) (x ∷ xs) (y ∷ ys) a b = λ i. one_row place s x y a.0 b.0 i ∷ one_rows place slices xs ys a.1 b.1 i
 
-  one_told : (place : Where) (slices : List (List ℕ)) (answer other : AnswerRecord) → IsToldBy place slices answer → IsToldBy place slices other → answer ≡ other
-  one_told place slices Untold Untold a b = refl
-  one_told place slices Untold (Told own) a b = absurd (none_one slices b.0 a b.1)
-  one_told place slices Untold (Disputed rows) a b = absurd (none_several slices a b.0)
-  one_told place slices (Told own) Untold a b = absurd (none_one slices a.0 b a.1)
-  one_told place slices (Told own) (Told more) a b =
+  one_answer_of : (place : Where) (slices : List (List ℕ)) (answer other : AnswerRecord) → IsAnswerOf place slices answer → IsAnswerOf place slices other → answer ≡ other
+  one_answer_of place slices Unanswered Unanswered a b = refl
+  one_answer_of place slices Unanswered (Alone own) a b = absurd (none_one slices b.0 a b.1)
+  one_answer_of place slices Unanswered (Disputed rows) a b = absurd (none_several slices a b.0)
+  one_answer_of place slices (Alone own) Unanswered a b = absurd (none_one slices a.0 b a.1)
+  one_answer_of place slices (Alone own) (Alone more) a b =
       let same : a.0 ≡ b.0 = let e : a.0 ∷ [] ≡ b.0 ∷ [] = sym a.1 ∙ b.1 in cc in
-      ap Told (one_own a.0 (file_address a.0 place) own more a.2 (subst (λ s. IsOwn s place more) (sym same) b.2))
-  one_told place slices (Told own) (Disputed rows) a b = absurd (one_several slices a.0 a.1 b.0)
-  one_told place slices (Disputed rows) Untold a b = absurd (none_several slices b a.0)
-  one_told place slices (Disputed rows) (Told own) a b = absurd (one_several slices b.0 b.1 a.0)
-  one_told place slices (Disputed rows) (Disputed others) a b = ap Disputed (one_rows place slices rows others a.1 b.1)
+      ap Alone (one_own a.0 (file_address a.0 place) own more a.2 (subst (λ s. IsOwn s place more) (sym same) b.2))
+  one_answer_of place slices (Alone own) (Disputed rows) a b = absurd (one_several slices a.0 a.1 b.0)
+  one_answer_of place slices (Disputed rows) Unanswered a b = absurd (none_several slices b a.0)
+  one_answer_of place slices (Disputed rows) (Alone own) a b = absurd (one_several slices b.0 b.1 a.0)
+  one_answer_of place slices (Disputed rows) (Disputed others) a b = ap Disputed (one_rows place slices rows others a.1 b.1)
 
   one_answer : (o : Operations) (key : SliceKey) (place : Where) (answer other : AnswerRecord) → IsAnswer o key place answer → IsAnswer o key place other → answer ≡ other
   one_answer o key place answer other a b =
       let same = one_with_members (on_texts admission_record) a.slices b.slices a.answering.ascending b.answering.ascending
       (λ s h. (b.answering.exactly s).1 ((a.answering.exactly s).0 h)) (λ s h. (a.answering.exactly s).1 ((b.answering.exactly s).0 h)) in
-      one_told place a.slices answer other a.told (subst (λ slices. IsToldBy place slices other) (sym same) b.told)
+      one_answer_of place a.slices answer other a.answer_is (subst (λ slices. IsAnswerOf place slices other) (sym same) b.answer_is)
 
 pub returns : goal.returns
 returns c = one_answer c.one_nearest.ensures.one

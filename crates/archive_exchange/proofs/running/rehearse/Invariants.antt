@@ -1,6 +1,6 @@
 use Rattle.std.proofs.Common.{◌≡◌, length}
 use Rattle.archive_exchange.specs.Seen.{OfEvents}
-use Rattle.archive_exchange.specs.Alike.{HasRun}
+use Rattle.archive_exchange.specs.InnerEvents.{HasRun}
 use Rattle.archive_exchange.proofs.running.rehearse.Given as goal
 
 abbrev pub invariant-events : goal.invariant-events

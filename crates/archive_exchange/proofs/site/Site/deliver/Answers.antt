@@ -1,4 +1,4 @@
-use Rattle.std.proofs.Common.{ap, sym, ◌∙◌}
+use Rattle.std.proofs.Common.{ap, ◌∙◌}
 use Rattle.archive_core.specs.Content.{joined}
 use Rattle.archive_exchange.specs.Keeping.{Keeping}
 use Rattle.archive_exchange.proofs.Texts.{on_err, towards_by}

@@ -1,4 +1,4 @@
--- What a plain archive tells as it goes through its operations.
+-- What a plain archive finds as it goes through its operations: the words of inner functions. No contract of a public one has them.
 use Rattle.std.specs.Prelude.{◌≡◌, ◌≤◌, ℕ, Bool, List, [], ◌∷◌, Option, Some, None, length, filter_map, ◌&&◌, not, if◌then◌else◌}
 use Rattle.std.specs.Str.{bytes_eq}
 use Rattle.std.specs.FinSet as set
@@ -11,13 +11,13 @@ use Rattle.archive_core.specs.Find.{is_arch}
 use Rattle.archive_core.specs.declared.keys.SliceKey.{SliceKey}
 use Rattle.archive_core.specs.declared.operations.Operation.{Operation}
 use Rattle.archive_core.specs.declared.operations.Operation.TheVariants.{Admit, Retire}
-use Rattle.archive_core.specs.declared.live.Few.{Few}
-use Rattle.archive_core.specs.declared.live.Few.TheVariants.{Nothing, One, Several}
+use Rattle.archive_core.specs.declared.live.Tally.{Tally}
+use Rattle.archive_core.specs.declared.live.Tally.TheVariants.{Nothing, One, Several}
 
--- an operation of the content is told under its UUID, unless it admits a slice that is retired
-abbrev pub is_told : Operations → List ℕ → Operation → Bool
-is_told o uuid (Admit slice) = bytes_eq (key_of slice).uuid uuid && not (set.contains o (retirement_record (key_of slice) (sha256 slice)))
-is_told o uuid (Retire key digest) = bytes_eq key.uuid uuid
+-- a search finds an operation of the content under its UUID, unless it admits a slice that is retired
+abbrev pub is_finding : Operations → List ℕ → Operation → Bool
+is_finding o uuid (Admit slice) = bytes_eq (key_of slice).uuid uuid && not (set.contains o (retirement_record (key_of slice) (sha256 slice)))
+is_finding o uuid (Retire key digest) = bytes_eq key.uuid uuid
 
 -- two keys are one
 abbrev pub is_key : SliceKey → SliceKey → Bool
@@ -41,7 +41,7 @@ unfoldable pub live_among : Operations → SliceKey → Bool → List Operation 
 live_among o key dsym operations = filter_map (live_in o key dsym) operations
 
 -- what is kept of slices: that there is none, the one, or that there are several
-abbrev pub IsFew : Few → List (List ℕ) → Type 0
-IsFew Nothing slices = slices ≡ []
-IsFew (One slice) slices = slices ≡ slice ∷ []
-IsFew Several slices = 2 ≤ length slices
+abbrev pub IsTally : Tally → List (List ℕ) → Type 0
+IsTally Nothing slices = slices ≡ []
+IsTally (One slice) slices = slices ≡ slice ∷ []
+IsTally Several slices = 2 ≤ length slices

@@ -10,26 +10,26 @@ use std::marker::Model;
 // An operation that a search tells, beside its row, so that a slice is hashed once. A contract sees
 // it as the operation.
 #[derive(Drop)]
-pub(crate) struct Told<'a> {
+pub(crate) struct Finding<'a> {
     operation: &'a Operation,
     row: FindRow,
 }
 
-impl<'a> Model for Told<'a> {
+impl<'a> Model for Finding<'a> {
     ghost use Rattle.std.specs.Prelude.{◌≡◌};
     ghost use Rattle.archive_core.specs.Find.{row_of};
     ghost use Rattle.archive_core.specs.declared.operations.Operation.{Operation};
 
     ghost Value = { Operation };
 
-    ghost view = { λ told. told.operation.now };
+    ghost view = { λ finding. finding.operation.now };
 
-    ghost invariant = { λ told. told.row ≡ row_of told.operation.now };
+    ghost invariant = { λ finding. finding.row ≡ row_of finding.operation.now };
 }
 
-impl<'a> Told<'a> {
+impl<'a> Finding<'a> {
     // The operation with its row.
-    pub(crate) fn of(operation: &'a Operation) -> Told<'a>
+    pub(crate) fn of(operation: &'a Operation) -> Finding<'a>
         ensures { result ≡ operation.now }
     {
         let (digest, state) = match operation {
@@ -41,7 +41,7 @@ impl<'a> Told<'a> {
             digest,
             state,
         };
-        Told { operation, row }
+        Finding { operation, row }
     }
 
     // The row.
@@ -52,7 +52,7 @@ impl<'a> Told<'a> {
     }
 
     // Compares by architecture, then by record.
-    pub(crate) fn compare(&self, other: &Told<'_>) -> Ordering
+    pub(crate) fn compare(&self, other: &Finding<'_>) -> Ordering
         ensures { result ≡ find_cmp self.now other.now }
     {
         let first = self.row.arch;
@@ -66,10 +66,10 @@ impl<'a> Told<'a> {
 }
 
 // The rows, in the order of their operations.
-pub(crate) fn rows_of(heap: Heap, told: &[Told<'_>]) -> Result<Vec<FindRow, Heap>, NoMemory>
-    ensures { IfOk result (λ rows. rows.items ≡ map row_of told.now) }
+pub(crate) fn rows_of(heap: Heap, findings: &[Finding<'_>]) -> Result<Vec<FindRow, Heap>, NoMemory>
+    ensures { IfOk result (λ rows. rows.items ≡ map row_of findings.now) }
 {
-    told.iter().map(|told| told.row()).collect(heap)
+    findings.iter().map(|finding| finding.row()).collect(heap)
 }
 
 // What a live slice is.
