@@ -150,10 +150,10 @@ content_is o = (listed nat_list_cmp_total bytes_same o).same
 pub same_bytes : (x y : List ℕ) → eq_by_cmp order x y ≡ true → x ≡ y
 same_bytes x y e = bytes_same x y ((Equal-is (order x y)).0 e)
 
-contained : (xs : List (List ℕ)) (q : List ℕ) → Contains xs q → list_any (eq_by_cmp order q) xs ≡ true
+pub contained : (xs : List (List ℕ)) (q : List ℕ) → Contains xs q → list_any (eq_by_cmp order q) xs ≡ true
 contained xs q h = list_any-from_Contains (eq_by_cmp_equiv nat_list_cmp_total) q xs h
 
-containing : (xs : List (List ℕ)) (q : List ℕ) → list_any (eq_by_cmp order q) xs ≡ true → Contains xs q
+pub containing : (xs : List (List ℕ)) (q : List ℕ) → list_any (eq_by_cmp order q) xs ≡ true → Contains xs q
 containing xs q h = Contains-from_any same_bytes q xs h
 
 -- two tests that pass at the same time are one
@@ -163,13 +163,13 @@ iff_same false true f g = g refl
 iff_same false false f g = refl
 
 -- an ascending list with the members of a set is its listing
-listing_is : (o : Operations) (records : List (List ℕ)) → IsStrictlySortedBy order records → ((r : List ℕ) → Contains records r ↔ (set.contains o r ≡ true)) → listing o ≡ records
+pub listing_is : (o : Operations) (records : List (List ℕ)) → IsStrictlySortedBy order records → ((r : List ℕ) → Contains records r ↔ (set.contains o r ≡ true)) → listing o ≡ records
 listing_is o records ascending members =
     let same : o ≡ set.from_list records = same_set nat_list_cmp_total bytes_same o (set.from_list records) (λ q.
     iff_same (set.contains o q) (list_any (eq_by_cmp order q) records) (λ h. contained records q ((members q).1 h)) (λ h. (members q).0 (containing records q h)) ∙ sym (contains-from_list nat_list_cmp_total records q)) in
     one_listing nat_list_cmp_total bytes_same o records (record { ascending = ascending; same = same })
 
-members_listed : (o : Operations) (q : List ℕ) → Contains (listing o) q ↔ (set.contains o q ≡ true)
+pub members_listed : (o : Operations) (q : List ℕ) → Contains (listing o) q ↔ (set.contains o q ≡ true)
 members_listed o q = (λ h. sym (any_listing nat_list_cmp_total o q) ∙ contained (listing o) q h, λ h. containing (listing o) q (any_listing nat_list_cmp_total o q ∙ h))
 
 pub one_text : (o : Operations) (text : List ℕ) → IsWritten o text → text ≡ written o

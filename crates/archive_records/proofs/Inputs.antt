@@ -116,12 +116,12 @@ module _ (file : TextKind) where
   behind_grows records rest more fault p (inl f) = inl (Fails-grows file (last_of [] records) (length records) rest more fault.kind p f.0, f.1)
   behind_grows records rest more fault p (inr f) = inr (f.0, IsTrailing-grows file (last_of [] records) (length records) rest more f.1, f.2)
 
-  magic_stop : (bytes : List ℕ) (kind : RecordFaultKind) → IsOfText kind → StopsInMagic file bytes kind → IsMagicFault file bytes kind
+  pub magic_stop : (bytes : List ℕ) (kind : RecordFaultKind) → IsOfText kind → StopsInMagic file bytes kind → IsMagicFault file bytes kind
   magic_stop bytes kind known (inl m) = m
   magic_stop bytes kind known (inr (inl d)) = absurd (known.0 d.0)
   magic_stop bytes kind known (inr (inr d)) = absurd (known.1 d.0)
 
-  record_stop : (records : List (List ℕ)) (rest : List ℕ) (fault : RecordFault) → IsOfText fault.kind → Stops file records rest fault → IsFaultBehind file records rest fault
+  pub record_stop : (records : List (List ℕ)) (rest : List ℕ) (fault : RecordFault) → IsOfText fault.kind → Stops file records rest fault → IsFaultBehind file records rest fault
   record_stop records rest fault known (inl f) = inl (rw (as_itself fault.kind known) at (f.1 known.1), f.0)
   record_stop records rest fault known (inr (inl t)) = inr t
   record_stop records rest fault known (inr (inr d)) = absurd (known.0 d.0)
@@ -132,14 +132,14 @@ module _ (file : TextKind) where
       (IsMagicFault file t fault.kind × (fault.offset ≡ 0))
       ⊎ ((records : List (List ℕ)) × (front : IsGoodFront file t records) × (length records < 2 ^ 63) × IsUnended file front.rest × IsFaultBehind file records front.rest fault)
 
-  grown_magic : (t bytes more : List ℕ) (kind : RecordFaultKind) → t ≡ bytes ++ more → (kind ≡ Truncated → more ≡ []) → IsMagicFault file bytes kind → IsMagicFault file t kind
+  pub grown_magic : (t bytes more : List ℕ) (kind : RecordFaultKind) → t ≡ bytes ++ more → (kind ≡ Truncated → more ≡ []) → IsMagicFault file bytes kind → IsMagicFault file t kind
   grown_magic t bytes more kind e end m =
       elim (part_or_not kind) [
         | inl p ↦ subst (λ (b : List ℕ). IsMagicFault file b kind) (sym (e ∙ ap (λ (y : List ℕ). bytes ++ y) (end p) ∙ append-nil bytes)) m
         | inr p ↦ subst (λ (b : List ℕ). IsMagicFault file b kind) (sym e) (IsMagicFault-grows file bytes more kind p m)
       ]
 
-  grown_behind : (records : List (List ℕ)) (rest more : List ℕ) (fault : RecordFault) → (fault.kind ≡ Truncated → more ≡ []) → IsFaultBehind file records rest fault → IsFaultBehind file records (rest ++ more) fault
+  pub grown_behind : (records : List (List ℕ)) (rest more : List ℕ) (fault : RecordFault) → (fault.kind ≡ Truncated → more ≡ []) → IsFaultBehind file records rest fault → IsFaultBehind file records (rest ++ more) fault
   grown_behind records rest more fault end f =
       elim (part_or_not fault.kind) [
         | inl p ↦ subst (λ (b : List ℕ). IsFaultBehind file records b fault) (sym (ap (λ (y : List ℕ). rest ++ y) (end p) ∙ append-nil rest)) f

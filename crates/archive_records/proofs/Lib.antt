@@ -18,3 +18,10 @@ pub mod Named
 pub mod Exact
 pub mod Inputs
 pub mod Complete
+pub mod Ascending
+pub mod Unions
+pub mod Turns
+pub mod Starts
+pub mod Fronts
+pub mod Places
+pub mod Merges

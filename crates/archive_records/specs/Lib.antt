@@ -7,3 +7,5 @@ pub mod Front
 pub mod Reading
 pub mod Writing
 pub mod Reader
+pub mod Merging
+pub mod Turns

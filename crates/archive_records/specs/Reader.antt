@@ -100,6 +100,8 @@ IsEnded Summary_file left = Unit {0}
 pub record Finishes (a b : Option (List ℕ)) (before after : Position) : Type 0 where
   pub taken : Consumes a b (ending before.file before.count)
   pub ended : IsEnded before.file b
+  pub file_is : after.file ≡ before.file
+  pub count_is : after.count ≡ before.count
   pub offset_is : after.offset ≡ before.offset
   pub few : before.count < 2 ^ 63
 

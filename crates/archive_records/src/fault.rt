@@ -38,6 +38,25 @@ pub struct RecordFault {
     pub offset: u128,
 }
 
+/// What stopped a merge.
+#[derive(Clone, Copy, Debug, PartialEq, Eq)]
+pub enum MergeCause {
+    /// The left input is refused: the fault is the one that reading it alone gives.
+    Left(RecordFault),
+    /// The right input is.
+    Right(RecordFault),
+    /// The writer failed.
+    Write,
+}
+
+/// What stopped a merge, and where.
+#[derive(Clone, Copy, Debug, PartialEq, Eq)]
+pub struct MergeFault {
+    pub cause: MergeCause,
+    /// How many bytes the writer took.
+    pub written: u128,
+}
+
 impl RecordFault {
     ghost use Rattle.std.specs.Prelude.{◌≡◌};
     ghost use Rattle.archive_records.specs.declared.fault.RecordFaultKind.TheVariants.{OutOfMemory};

@@ -1,6 +1,6 @@
 //! What the definitions say of each other. Each law is a function with an empty body, and its contract the law.
 
-ghost use Rattle.std.specs.Prelude.{◌≡◌, ◌≢◌, ◌+◌, ◌<◌, ◌^◌, ◌++◌, ◌↔◌, ◌⊎◌, ℕ, List, [], slice_index};
+ghost use Rattle.std.specs.Prelude.{◌≡◌, ◌≢◌, ◌+◌, ◌<◌, ◌^◌, ◌++◌, ◌↔◌, ◌⊎◌, ℕ, List, [], length, take, slice_index};
 ghost use Rattle.std.specs.FinSet as set;
 ghost use Rattle.archive_core.specs.Content.{Operations, IsContent};
 ghost use Rattle.archive_records.specs.declared.fault.RecordFaultKind.TheVariants.{TooLarge, NotAscending, BadSlice, KeyMismatch, BadCount, Trailing};
@@ -13,6 +13,7 @@ ghost use Rattle.archive_records.specs.declared.kind.TextKind.{TextKind};
 ghost use Rattle.archive_records.specs.Text.{IsWritten, written, IsOperationsText, IsSummaryText, summary_text};
 ghost use Rattle.archive_records.specs.Fault.{IsFault, IsOperationsFault, IsSummaryFault, IsFaultOf, IsMagicFault};
 ghost use Rattle.archive_records.specs.Front.{IsLongestFront, front_length};
+ghost use Rattle.archive_records.specs.Merging.{AreGoodRecords, IsArchiveText, IsWrittenBefore, LeftStops, RightStops};
 
 /// A content has exactly one text: the one that `written` gives.
 pub fn written_is_the_one_text()
@@ -124,4 +125,22 @@ pub fn faults_of_summaries()
     ensures slice { (text : List ℕ) (fault : RecordFault) (why : SliceFault) → IsSummaryFault text fault
         → fault.kind ≢ BadSlice why }
     ensures key { (text : List ℕ) (fault : RecordFault) → IsSummaryFault text fault → fault.kind ≢ KeyMismatch }
+{}
+
+/// A text has one longest good front, and so one list of good records.
+pub fn one_list_of_good_records()
+    ensures { (text : List ℕ) (a b : List (List ℕ)) → AreGoodRecords text a → AreGoodRecords text b → a ≡ b }
+{}
+
+/// Of two sides one at most stops their merge, behind one text.
+pub fn one_side_stops()
+    ensures side { (left right : List ℕ) (lefts rights : List (List ℕ)) → LeftStops left right lefts rights
+        → RightStops left right lefts rights → ⊥ }
+    ensures place { (left right : List ℕ) (o : Operations) (low a b : List ℕ) → IsWrittenBefore left right o low a
+        → IsWrittenBefore left right o low b → a ≡ b }
+{}
+
+/// What a merge writes that is stopped is no archive's text: no beginning of such a text is one but the whole.
+pub fn beginning_is_no_text()
+    ensures { (o : Operations) (n : ℕ) → IsContent o → n < length (written o) → IsArchiveText (take n (written o)) → ⊥ }
 {}

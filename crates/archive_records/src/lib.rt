@@ -20,6 +20,7 @@
 //! - `buffer`, `frame`, `next`, `reader`: one record after another, each read over the last and compared with it;
 //! - `reading`: [`read_archive`] and [`read_front`];
 //! - `operations`: [`read_ops`];
+//! - `side`, `merging`, `streams`: [`merge_streams`], in the memory of one record of each side;
 //! - [`laws`]: what holds of texts and their faults.
 #![tactic(auto)]
 
@@ -30,16 +31,20 @@ mod frame;
 mod head;
 mod kind;
 pub mod laws;
+mod merging;
 mod next;
 mod operations;
 mod reader;
 mod reading;
+mod side;
+mod streams;
 mod summary;
 mod writing;
 
 pub use entry::Entry;
-pub use fault::{RecordFault, RecordFaultKind};
+pub use fault::{MergeCause, MergeFault, RecordFault, RecordFaultKind};
 pub use operations::read_ops;
 pub use reading::{read_archive, read_front};
+pub use streams::merge_streams;
 pub use summary::{Summary, read_summary};
 pub use writing::{Sizes, write_archive, write_delta, write_summary};

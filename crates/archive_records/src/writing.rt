@@ -93,8 +93,8 @@ fn put_front<A: Archive, W: Sink>(archive: &A, w: &mut W) -> Result<u128, WriteF
 }
 
 /// Writes the end record behind the first `done` bytes of a text.
-fn put_end<W: Sink>(w: &mut W, done: u128, records: u64) -> Result<Sizes, WriteFault>
-    requires { done ≤ 2 ^ 98 }
+pub fn put_end<W: Sink>(w: &mut W, done: u128, records: u64) -> Result<Sizes, WriteFault>
+    requires { done + 9 < 2 ^ 128 }
     ensures ok { IfOk result (λ sizes. (sizes.bytes ≡ done + length (end_record records))
         × Appends (W.held w.old) (W.held w.new) (end_record records)) }
     ensures records { IfOk result (λ sizes. sizes.records ≡ records) }

@@ -9,7 +9,7 @@ pub returns-in-Ok-true : goal.returns-in-Ok-true
 returns-in-Ok-true g c =
     let end = c.in-Ok-true.field-0-test in
     let taken = subst (Consumes (g.R.Source.left c.args.r.now) (g.R.Source.left c.read_next.new.r)) (c.in-Ok-true.ensures.end end) c.read_next.ensures.taken in
-    rw (← c.self.view_is) (record { taken = taken; ended = c.in-Ok-true.ensures.ends end; offset_is = refl; few = c.self.invariant.few }, c.in-Ok-true.ensures.reader)
+    rw (← c.self.view_is) (record { taken = taken; ended = c.in-Ok-true.ensures.ends end; file_is = refl; count_is = refl; offset_is = refl; few = c.self.invariant.few }, c.in-Ok-true.ensures.reader)
 
 pub returns-else-self-eq-MOST : goal.returns-else-self-eq-MOST
 returns-else-self-eq-MOST g c =

@@ -1,0 +1,134 @@
+-- Ascending records, and what is above what.
+use Rattle.std.proofs.Common.{◌≡◌, ℕ, true, false, List, [], ◌∷◌, ◌++◌, refl, sym, ap, ◌∙◌, subst, arith, inl, inr, ◌⊎◌}
+use Rattle.std.proofs.lemmas.Bool.{false≢true, cases_Bool}
+use Rattle.std.proofs.lemmas.Cmp.{nat_list_cmp_total}
+use Rattle.std.proofs.lemmas.List.Elements.{Contains-append_cases, Contains-append_right, Contains-push_cases}
+use Rattle.std.specs.declared.cmp.Ordering.{Ordering}
+use Rattle.std.specs.declared.cmp.Ordering.TheVariants.{Less, Equal, Greater}
+use Rattle.std.specs.Ordering.{nat_cmp, is_lt, ordering_reverse}
+use Rattle.std.specs.Cmp.Lexicographic.{slice_cmp}
+use Rattle.std.specs.List.{Contains}
+use Rattle.archive_records.specs.declared.kind.TextKind.TheVariants.{Archive}
+use Rattle.archive_records.specs.Kind.{allows, may_follow, IsItem}
+use Rattle.archive_records.specs.Text.{InOrder, last_of}
+
+-- ---- the order
+
+below_is : (x y : List ℕ) → may_follow Archive x y ≡ is_lt (slice_cmp nat_cmp x y)
+unfolding may_follow allows
+below_is x y = refl
+
+less : (o : Ordering) → is_lt o ≡ true → o ≡ Less
+less Less e = refl
+less Equal e = absurd (false≢true e)
+less Greater e = absurd (false≢true e)
+
+not_back : (o : Ordering) → o ≡ Less → is_lt (ordering_reverse o) ≡ false
+not_back o e = ap (λ (p : Ordering). is_lt (ordering_reverse p)) e
+
+pub below-less : (x y : List ℕ) → slice_cmp nat_cmp x y ≡ Less → may_follow Archive x y ≡ true
+below-less x y e = below_is x y ∙ ap is_lt e
+
+pub below-greater : (x y : List ℕ) → slice_cmp nat_cmp x y ≡ Greater → may_follow Archive y x ≡ true
+below-greater x y e = below_is y x ∙ ap is_lt (nat_list_cmp_total.antisymm y x ∙ ap ordering_reverse e)
+
+less_of : (x y : List ℕ) → may_follow Archive x y ≡ true → slice_cmp nat_cmp x y ≡ Less
+less_of x y p = less (slice_cmp nat_cmp x y) (sym (below_is x y) ∙ p)
+
+pub below-trans : (x y z : List ℕ) → may_follow Archive x y ≡ true → may_follow Archive y z ≡ true → may_follow Archive x z ≡ true
+below-trans x y z p q = below-less x z (nat_list_cmp_total.trans x y z (less_of x y p) (less_of y z q))
+
+pub below-back : (x y : List ℕ) → may_follow Archive x y ≡ true → may_follow Archive y x ≡ false
+below-back x y p = below_is y x ∙ ap is_lt (nat_list_cmp_total.antisymm y x) ∙ not_back (slice_cmp nat_cmp x y) (less_of x y p)
+
+self : (o : Ordering) → o ≡ ordering_reverse o → is_lt o ≡ false
+self Less e = absurd cc
+self Equal e = refl
+self Greater e = refl
+
+pub below-self : (x : List ℕ) → may_follow Archive x x ≡ false
+below-self x = below_is x x ∙ self (slice_cmp nat_cmp x x) (nat_list_cmp_total.antisymm x x)
+
+-- ---- lists
+
+pub here : (x : List ℕ) (xs : List (List ℕ)) → Contains (x ∷ xs) x
+here x xs = (0, omega arith, refl)
+
+pub later : (x z : List ℕ) (xs : List (List ℕ)) → Contains xs z → Contains (x ∷ xs) z
+later x z xs c = Contains-append_right (x ∷ []) xs z c
+
+pub cons_cases : (x z : List ℕ) (xs : List (List ℕ)) → Contains (x ∷ xs) z → (x ≡ z) ⊎ Contains xs z
+cons_cases x z xs c =
+    elim (Contains-append_cases (x ∷ []) xs z c) [
+      | inl a ↦ elim (Contains-push_cases [] x z a) [ inl n ↦ absurd (omega (arith, n.1)) | inr e ↦ inl e ]
+      | inr b ↦ inr b
+    ]
+
+pub all_above : (low z : List ℕ) (xs : List (List ℕ)) → InOrder Archive low xs → Contains xs z → may_follow Archive low z ≡ true
+all_above low z [] a c = absurd (omega (arith, c.1))
+all_above low z (x ∷ xs) a c = elim (cons_cases x z xs c) [
+  | inl e ↦ subst (λ (t : List ℕ). may_follow Archive low t ≡ true) e a.1
+  | inr d ↦ below-trans low x z a.1 (all_above x z xs a.2 d)
+]
+
+pub last_above : (low : List ℕ) (xs : List (List ℕ)) → InOrder Archive low xs → (low ≡ last_of low xs) ⊎ (may_follow Archive low (last_of low xs) ≡ true)
+last_above low [] a = inl refl
+last_above low (x ∷ xs) a = elim (last_above x xs a.2) [
+  | inl e ↦ inr (subst (λ (t : List ℕ). may_follow Archive low t ≡ true) e a.1)
+  | inr b ↦ inr (below-trans low x (last_of x xs) a.1 b)
+]
+
+pub up_to_last : (low z : List ℕ) (xs : List (List ℕ)) → InOrder Archive low xs → Contains xs z → may_follow Archive (last_of low xs) z ≡ false
+up_to_last low z [] a c = absurd (omega (arith, c.1))
+up_to_last low z (x ∷ xs) a c = elim (cons_cases x z xs c) [
+  | inl e ↦ elim (last_above x xs a.2) [
+    | inl s ↦ subst (λ (t : List ℕ). may_follow Archive t z ≡ false) s (subst (λ (t : List ℕ). may_follow Archive x t ≡ false) e (below-self x))
+    | inr b ↦ subst (λ (t : List ℕ). may_follow Archive (last_of x xs) t ≡ false) e (below-back x (last_of x xs) b)
+  ]
+  | inr d ↦ up_to_last x z xs a.2 d
+]
+
+pub InOrder-behind : (low : List ℕ) (xs ys : List (List ℕ)) → InOrder Archive low (xs ++ ys) → InOrder Archive (last_of low xs) ys
+InOrder-behind low [] ys a = a
+InOrder-behind low (x ∷ xs) ys a = InOrder-behind x xs ys a.2
+
+pub last_of-append : (low : List ℕ) (xs ys : List (List ℕ)) → last_of low (xs ++ ys) ≡ last_of (last_of low xs) ys
+last_of-append low [] ys = refl
+last_of-append low (x ∷ xs) ys = last_of-append x xs ys
+
+pub last_is_record : (low : List ℕ) (xs : List (List ℕ)) (x : List ℕ) → InOrder Archive low (xs ++ x ∷ []) → IsItem Archive x
+last_is_record low [] x a = a.0
+last_is_record low (y ∷ ys) x a = last_is_record y ys x a.2
+
+same_cons : (x y : List ℕ) (xs ys : List (List ℕ)) → x ≡ y → xs ≡ ys → x ∷ xs ≡ y ∷ ys
+same_cons x y xs ys p q = cc
+
+not_self : (x z : List ℕ) (xs : List (List ℕ)) → InOrder Archive x xs → Contains xs z → x ≡ z → ⊥
+not_self x z xs a c e = false≢true (sym (below-self x) ∙ subst (λ (t : List ℕ). may_follow Archive x t ≡ true) (sym e) (all_above x z xs a c))
+
+-- the members of an ascending list that are not above low begin it
+pub prefix : (lo low : List ℕ) (us os : List (List ℕ)) → InOrder Archive lo us → InOrder Archive lo os → ((z : List ℕ) → Contains os z → Contains us z) → ((z : List ℕ) → Contains os z → may_follow Archive low z ≡ false)
+    → ((z : List ℕ) → Contains us z → may_follow Archive low z ≡ false → Contains os z) → (more : List (List ℕ)) × (us ≡ os ++ more)
+prefix lo low us [] a b sub within back = (us, refl)
+prefix lo low [] (o ∷ os) a b sub within back = absurd (omega (arith, (sub o (here o os)).1))
+prefix lo low (u ∷ us) (o ∷ os) a b sub within back =
+    let under : may_follow Archive low u ≡ false = elim (cons_cases u o us (sub o (here o os))) [
+      | inl e ↦ subst (λ (t : List ℕ). may_follow Archive low t ≡ false) (sym e) (within o (here o os))
+      | inr c ↦ elim (cases_Bool (may_follow Archive low u)) [
+        | inl t ↦ absurd (false≢true (sym (within o (here o os)) ∙ below-trans low u o t (all_above u o us a.2 c)))
+        | inr f ↦ f
+      ]
+    ] in
+    let same : u ≡ o = elim (cons_cases o u os (back u (here u us) under)) [
+      | inl e ↦ sym e
+      | inr c ↦ elim (cons_cases u o us (sub o (here o os))) [
+        | inl e ↦ e
+        | inr d ↦ absurd (false≢true (sym (below-back u o (all_above u o us a.2 d)) ∙ all_above o u os b.2 c))
+      ]
+    ] in
+    let b' : InOrder Archive u os = subst (λ (t : List ℕ). InOrder Archive t os) (sym same) b.2 in
+    let n = prefix u low us os a.2 b'
+    (λ z c. elim (cons_cases u z us (sub z (later o z os c))) [ inl e ↦ absurd (not_self u z os b' c e) | inr d ↦ d ])
+    (λ z c. within z (later o z os c))
+    (λ z c f. elim (cons_cases o z os (back z (later u z us c) f)) [ inl e ↦ absurd (not_self u z us a.2 c (same ∙ e)) | inr d ↦ d ]) in
+    (n.0, same_cons u o us (os ++ n.0) same n.1)

@@ -1,0 +1,182 @@
+-- From the bytes that a merge took to whole inputs.
+use Rattle.std.proofs.Common.{◌≡◌, ℕ, List, [], length, Option, Some, None, Result, Ok, Err, refl, sym, ap, ◌∙◌, subst, inl, inr, ◌⊎◌}
+use Rattle.std.specs.Prelude.{IfSome}
+use Rattle.std.specs.FinSet as set
+use Rattle.std.specs.Io.KnownBytes.{Consumes, IsAtEnd, Appends}
+use Rattle.join_core.specs.Listing.{listing}
+use Rattle.byte_device.specs.Writes.{WritesFirst}
+use Rattle.archive_core.specs.Content.{Operations, IsContent, joined}
+use Rattle.archive_records.specs.declared.fault.RecordFaultKind.TheVariants.{Truncated, Device}
+use Rattle.archive_records.specs.declared.fault.RecordFault.{RecordFault}
+use Rattle.archive_records.specs.declared.fault.MergeCause.{MergeCause}
+use Rattle.archive_records.specs.declared.fault.MergeCause.TheVariants.{Left, Right, Write}
+use Rattle.archive_records.specs.declared.fault.MergeFault.{MergeFault}
+use Rattle.archive_records.specs.declared.kind.TextKind.TheVariants.{Archive}
+use Rattle.archive_records.specs.declared.writing.Sizes.{Sizes}
+use Rattle.archive_records.specs.Kind.{magic}
+use Rattle.archive_records.specs.Text.{text_of, last_of, written}
+use Rattle.archive_records.specs.Fault.{IsOfText}
+use Rattle.archive_records.specs.Reading.{Blames, IsOfMachine, IsReadWhole}
+use Rattle.archive_records.specs.Reader.{HasReadAll, HasStopped, IsReadTo, Position}
+use Rattle.archive_records.specs.Merging.{IsArchiveText, AreGoodRecords, LeftStops, RightStops, of_both, IsWrittenBefore, Stream, IsRefusedAlone, StopsBy, Merges}
+use Rattle.archive_records.specs.Turns.{StopsBeforeRecords, LeftStopped, RightStopped, WriteStopped, Leaves, BlamesBy, BlamesDevices, ByCause}
+use Rattle.archive_records.proofs.Puts.{length_written}
+use Rattle.archive_records.proofs.Contents.{written_text}
+use Rattle.archive_records.proofs.Inputs.{archive_whole}
+use Rattle.archive_records.proofs.Fronts.{taken_of}
+use Rattle.archive_records.proofs.Places.{joins_listing, begun_nothing, no_magic, left_begun, left_place, left_first, right_begun, right_place, right_first, write_begun}
+
+-- ---- one input
+
+abbrev itself : Operations → Operations
+itself o = o
+
+read_to : (a b : Option (List ℕ)) (records : List (List ℕ)) (position : Position) → HasReadAll Archive a b records position → IsReadTo Archive a b (set.from_list records)
+read_to a b records position h = record { records = records; few = h.few; taken = h.taken; ordered = h.ordered; content = refl }
+
+read_whole : {R : Type 0} (input : Stream R) (records : List (List ℕ)) (position : Position) → HasReadAll Archive (input.bytes input.old) (input.bytes input.new) records position → IsAtEnd (input.bytes input.new) → input.failures input.new ≡ input.failures input.old
+    → IsReadWhole Archive (set.from_list records) input.bytes input.failures input.old input.new
+read_whole input records position h end unfailed = archive_whole itself input.bytes input.failures input.old input.new (Ok (set.from_list records)) (read_to (input.bytes input.old) (input.bytes input.new) records position h) end tt unfailed
+
+refused_alone : {R : Type 0} (input : Stream R) (fault : RecordFault) → HasStopped Archive (input.bytes input.old) (input.bytes input.new) fault → Blames input.bytes input.failures input.old input.new fault.kind → IsRefusedAlone input fault
+refused_alone input fault stopped blames = archive_whole itself input.bytes input.failures input.old input.new (Err fault) tt tt stopped blames
+
+before_records : (a b : Option (List ℕ)) (fault : RecordFault) → StopsBeforeRecords a b fault → HasStopped Archive a b fault
+before_records a b fault s = inl (s.bytes, s.taken, s.stops, s.start)
+
+-- an archive's text is refused by the machine alone
+no_text : (a : Option (List ℕ)) (t : List ℕ) (fault : RecordFault) → a ≡ Some t → IfSome a (λ text. (o : Operations) → IsContent o → text ≡ written o → IsOfMachine fault.kind) → IsOfText fault.kind → IsArchiveText t → ⊥
+no_text a t fault e alone known x =
+    let m : (o : Operations) → IsContent o → t ≡ written o → IsOfMachine fault.kind = rw e at alone in
+    elim (m x.0 x.1 x.2) [ inl d ↦ known.0 d | inr d ↦ known.1 d ]
+
+-- ---- both
+
+abbrev ForBoth : Option (List ℕ) → Option (List ℕ) → (List ℕ → List ℕ → List (List ℕ) → List (List ℕ) → Type 0) → Type 0
+ForBoth a1 a2 P = IfSome a1 (λ t. IfSome a2 (λ u. (lefts rights : List (List ℕ)) → AreGoodRecords t lefts → AreGoodRecords u rights → P t u lefts rights))
+
+abbrev Place : Option (List ℕ) → Option (List ℕ) → List ℕ → List ℕ → List (List ℕ) → List (List ℕ) → List ℕ → ℕ → Type 0
+Place w0 w1 t u xs ys low n = (bytes : List ℕ) × IsWrittenBefore t u (of_both xs ys) low bytes × Appends w0 w1 bytes × (n ≡ length bytes)
+
+abbrev NoText : Option (List ℕ) → RecordFault → Type 0
+NoText a fault = IfSome a (λ text. (o : Operations) → IsContent o → text ≡ written o → IsOfMachine fault.kind)
+
+module _ (b1 b2 w0 w1 : Option (List ℕ)) (n : ℕ) where
+  -- ---- the left side stopped
+
+  abbrev LeftCase : Option (List ℕ) → Option (List ℕ) → RecordFault → Type 0
+  LeftCase a1 a2 fault = ((n ≡ 0) × Appends w0 w1 [] × StopsBeforeRecords a1 b1 fault) ⊎ LeftStopped a1 b1 a2 b2 w0 w1 fault n
+
+  left_stops : (a1 a2 : Option (List ℕ)) (fault : RecordFault) → (fault.kind ≡ Truncated → IsAtEnd b1) → NoText a1 fault → LeftCase a1 a2 fault → IsOfText fault.kind → ForBoth a1 a2 LeftStops
+  left_stops None a2 fault ended alone s known = tt
+  left_stops (Some t) None fault ended alone s known = tt
+  left_stops (Some t) (Some u) fault ended alone (inl s) known = λ xs ys gx gy. record { faulty = no_text (Some t) t fault refl alone known; first = inl (no_magic t b1 fault known ended s.2) }
+  left_stops (Some t) (Some u) fault ended alone (inr s) known = λ xs ys gx gy. left_first t u b1 b2 w0 w1 xs ys gx gy fault n s known ended (no_text (Some t) t fault refl alone known)
+
+  left_at : (a1 a2 : Option (List ℕ)) (fault : RecordFault) → (fault.kind ≡ Truncated → IsAtEnd b1) → LeftCase a1 a2 fault → IsOfText fault.kind → ForBoth a1 a2 (λ t u xs ys. Place w0 w1 t u xs ys (last_of [] xs) n)
+  left_at None a2 fault ended s known = tt
+  left_at (Some t) None fault ended s known = tt
+  left_at (Some t) (Some u) fault ended (inl s) known = λ xs ys gx gy. ([], inl (inl (no_magic t b1 fault known ended s.2), refl), s.1, s.0)
+  left_at (Some t) (Some u) fault ended (inr s) known = λ xs ys gx gy. left_place t u b1 b2 w0 w1 xs ys gx gy fault n s known ended
+
+  left_begins : (a1 a2 : Option (List ℕ)) (fault : RecordFault) → LeftCase a1 a2 fault → ForBoth a1 a2 (λ t u xs ys. WritesFirst w0 w1 (written (of_both xs ys)) n)
+  left_begins None a2 fault s = tt
+  left_begins (Some t) None fault s = tt
+  left_begins (Some t) (Some u) fault (inl s) = λ xs ys gx gy. begun_nothing w0 w1 (of_both xs ys) n s.0 s.1
+  left_begins (Some t) (Some u) fault (inr s) = λ xs ys gx gy. left_begun t u b1 b2 w0 w1 xs ys gx gy fault n s
+
+  left_stopped : (a1 a2 : Option (List ℕ)) (fault : RecordFault) → LeftCase a1 a2 fault → HasStopped Archive a1 b1 fault
+  left_stopped a1 a2 fault (inl s) = before_records a1 b1 fault s.2
+  left_stopped a1 a2 fault (inr s) = inr (s.lefts, s.left)
+
+  -- ---- the right side did
+
+  abbrev RightCase : Option (List ℕ) → Option (List ℕ) → RecordFault → Type 0
+  RightCase a1 a2 fault = ((n ≡ 0) × Appends w0 w1 [] × Consumes a1 b1 magic × StopsBeforeRecords a2 b2 fault) ⊎ RightStopped a1 b1 a2 b2 w0 w1 fault n
+
+  right_stops : (a1 a2 : Option (List ℕ)) (fault : RecordFault) → (fault.kind ≡ Truncated → IsAtEnd b2) → NoText a2 fault → RightCase a1 a2 fault → IsOfText fault.kind → ForBoth a1 a2 RightStops
+  right_stops None a2 fault ended alone s known = tt
+  right_stops (Some t) None fault ended alone s known = tt
+  right_stops (Some t) (Some u) fault ended alone (inl s) known = λ xs ys gx gy.
+      let k = taken_of t magic b1 s.2 in
+      record { faulty = no_text (Some u) u fault refl alone known; magic_left = (k.0, k.1); first = inl (no_magic u b2 fault known ended s.3) }
+  right_stops (Some t) (Some u) fault ended alone (inr s) known = λ xs ys gx gy. right_first t u b1 b2 w0 w1 xs ys gx gy fault n s known ended (no_text (Some u) u fault refl alone known)
+
+  right_at : (a1 a2 : Option (List ℕ)) (fault : RecordFault) → (fault.kind ≡ Truncated → IsAtEnd b2) → RightCase a1 a2 fault → IsOfText fault.kind → ForBoth a1 a2 (λ t u xs ys. Place w0 w1 t u xs ys (last_of [] ys) n)
+  right_at None a2 fault ended s known = tt
+  right_at (Some t) None fault ended s known = tt
+  right_at (Some t) (Some u) fault ended (inl s) known = λ xs ys gx gy. ([], inl (inr (no_magic u b2 fault known ended s.3), refl), s.1, s.0)
+  right_at (Some t) (Some u) fault ended (inr s) known = λ xs ys gx gy. right_place t u b1 b2 w0 w1 xs ys gx gy fault n s known ended
+
+  right_begins : (a1 a2 : Option (List ℕ)) (fault : RecordFault) → RightCase a1 a2 fault → ForBoth a1 a2 (λ t u xs ys. WritesFirst w0 w1 (written (of_both xs ys)) n)
+  right_begins None a2 fault s = tt
+  right_begins (Some t) None fault s = tt
+  right_begins (Some t) (Some u) fault (inl s) = λ xs ys gx gy. begun_nothing w0 w1 (of_both xs ys) n s.0 s.1
+  right_begins (Some t) (Some u) fault (inr s) = λ xs ys gx gy. right_begun t u b1 b2 w0 w1 xs ys gx gy fault n s
+
+  right_stopped : (a1 a2 : Option (List ℕ)) (fault : RecordFault) → RightCase a1 a2 fault → HasStopped Archive a2 b2 fault
+  right_stopped a1 a2 fault (inl s) = before_records a2 b2 fault s.3
+  right_stopped a1 a2 fault (inr s) = inr (s.rights, s.right)
+
+  -- ---- the writer did
+
+  write_begins : (a1 a2 : Option (List ℕ)) → WriteStopped a1 b1 a2 b2 w0 w1 n → ForBoth a1 a2 (λ t u xs ys. WritesFirst w0 w1 (written (of_both xs ys)) n)
+  write_begins None a2 s = tt
+  write_begins (Some t) None s = tt
+  write_begins (Some t) (Some u) s = λ xs ys gx gy. write_begun t u b1 b2 w0 w1 xs ys gx gy (record { kind = Device; offset = 0 }) n s
+
+module _ {R S W : Type 0} (left : Stream R) (right : Stream S) (out : Stream W) where
+  abbrev Stopping : MergeCause → ℕ → Type 0
+  Stopping cause n = ByCause cause
+      (LeftCase (left.bytes left.new) (right.bytes right.new) (out.bytes out.old) (out.bytes out.new) n (left.bytes left.old) (right.bytes right.old))
+      (RightCase (left.bytes left.new) (right.bytes right.new) (out.bytes out.old) (out.bytes out.new) n (left.bytes left.old) (right.bytes right.old))
+      (WriteStopped (left.bytes left.old) (left.bytes left.new) (right.bytes right.old) (right.bytes right.new) (out.bytes out.old) (out.bytes out.new) n)
+
+  stops_by : (cause : MergeCause) (n : ℕ) → Stopping cause n → BlamesBy left right (out.failures out.old) (out.failures out.new) cause
+      → StopsBy left right out cause n × ForBoth (left.bytes left.old) (right.bytes right.old) (λ t u xs ys. WritesFirst (out.bytes out.old) (out.bytes out.new) (written (of_both xs ys)) n)
+  stops_by (Left fault) n s blames =
+      let refused = refused_alone left fault (left_stopped _ _ _ _ n _ _ fault s) blames.0 in (
+        record {
+          refused = refused;
+          right_unfailed = blames.1;
+          out_unfailed = blames.2;
+          stops = left_stops _ _ _ _ n _ _ fault blames.0.2 refused.1 s;
+          place = left_at _ _ _ _ n _ _ fault blames.0.2 s;
+        },
+        left_begins _ _ _ _ n _ _ fault s,
+      )
+  stops_by (Right fault) n s blames =
+      let refused = refused_alone right fault (right_stopped _ _ _ _ n _ _ fault s) blames.1 in (
+        record {
+          refused = refused;
+          left_unfailed = blames.0;
+          out_unfailed = blames.2;
+          stops = right_stops _ _ _ _ n _ _ fault blames.1.2 refused.1 s;
+          place = right_at _ _ _ _ n _ _ fault blames.1.2 s;
+        },
+        right_begins _ _ _ _ n _ _ fault s,
+      )
+  stops_by Write n s blames = (
+    record { failed = blames.2; left_unfailed = blames.0; right_unfailed = blames.1 },
+    write_begins _ _ _ _ n _ _ s,
+  )
+
+  pub merges : (r : Result Sizes MergeFault) → Leaves (left.bytes left.old) (left.bytes left.new) (right.bytes right.old) (right.bytes right.new) (out.bytes out.old) (out.bytes out.new) r → BlamesDevices left right (out.failures out.old) (out.failures out.new) r → Merges left right out r
+  merges (Ok sizes) m unfailed =
+      let o : Operations = set.from_list m.lefts in
+      let p : Operations = set.from_list m.rights in
+      let whole : listing (joined o p) ≡ m.out = joins_listing m.lefts m.rights m.out m.joins in
+      let text : text_of Archive m.out ≡ written (joined o p) = sym (written_text (joined o p) ∙ ap (text_of Archive) whole) in
+      record {
+        o = o;
+        p = p;
+        left_is = read_whole left m.lefts m.left.reader m.left_read.0 m.left_read.1 unfailed.0;
+        right_is = read_whole right m.rights m.right.reader m.right_read.0 m.right_read.1 unfailed.1;
+        written_is = record {
+          written = subst (Appends (out.bytes out.old) (out.bytes out.new)) text m.gained;
+          records_are = m.records ∙ ap length (sym whole) ∙ length_written (joined o p);
+          bytes_are = m.bytes ∙ ap length text;
+          unfailed = unfailed.2;
+        };
+      }
+  merges (Err e) s blames = stops_by e.cause e.written s blames

@@ -1,0 +1,309 @@
+-- Where a merge of two known inputs stops, and what was written then.
+use Rattle.std.proofs.Common.{◌≡◌, ℕ, ◌+◌, ◌<◌, Bool, true, false, cond, not, ◌||◌, ◌↔◌, List, [], ◌∷◌, ◌++◌, length, take, Option, Some, refl, sym, ap, ◌∙◌, subst, arith, inl, inr, ◌⊎◌, append_assoc, length-append}
+use Rattle.std.proofs.lemmas.List.{append-nil, take_at, take-append-le}
+use Rattle.std.proofs.lemmas.List.Folds.{concat-append}
+use Rattle.std.proofs.lemmas.List.Elements.{Contains-append_left, Contains-append_cases, filter-append}
+use Rattle.std.proofs.lemmas.Bool.{false≢true}
+use Rattle.std.specs.List.{concat, Contains}
+use Rattle.std.specs.FinSet as set
+use Rattle.std.specs.FinSet.{contains-from_list, contains-union}
+use Rattle.std.specs.Cmp.Lexicographic.{nat_list_cmp_total}
+use Rattle.std.specs.Io.KnownBytes.{IsAtEnd, Appends}
+use Rattle.join_core.specs.Listing.{listing}
+use Rattle.byte_device.specs.Writes.{WritesFirst}
+use Rattle.archive_core.specs.Content.{Operations, IsContent}
+use Rattle.archive_core.proofs.Joined.{joined as is_joined}
+use Rattle.archive_records.specs.declared.fault.RecordFaultKind.TheVariants.{Truncated}
+use Rattle.archive_records.specs.declared.fault.RecordFault.{RecordFault}
+use Rattle.archive_records.specs.declared.kind.TextKind.TheVariants.{Archive}
+use Rattle.archive_records.specs.Kind.{magic, may_follow}
+use Rattle.archive_records.specs.Text.{end_record, text_of, InOrder, last_of, written}
+use Rattle.archive_records.specs.Fault.{IsOfText}
+use Rattle.archive_records.specs.Front.{IsLongestFront}
+use Rattle.archive_records.specs.Merging.{HasMagic, IsArchiveText, AreGoodRecords, LeftStops, RightStops, of_both, up_to, IsWrittenBefore}
+use Rattle.archive_records.specs.Turns.{Joins, StopsBeforeRecords, LeftStopped, RightStopped, WriteStopped}
+use Rattle.archive_records.proofs.Contents.{order, contained, containing, listing_is, members_listed, sorted-InOrder, InOrder-listing, IsContent-records, written_text}
+use Rattle.archive_records.proofs.Exact.{no_magic_fault}
+use Rattle.archive_records.proofs.Inputs.{magic_stop, grown_magic}
+use Rattle.archive_records.proofs.Ascending.{below-back, below-self, all_above, up_to_last, InOrder-behind, prefix, here, later}
+use Rattle.archive_records.proofs.Ends.{length-end_record}
+use Rattle.archive_records.proofs.Fronts.{taken_of, front_of, front_is, stopped_goes, stopped_magic, GoesOn, goes_on, has_magic}
+
+-- ---- the content that the records of both make
+
+or_cases : (a b : Bool) → (a || b) ≡ true → (a ≡ true) ⊎ (b ≡ true)
+or_cases true b e = inl refl
+or_cases false b e = inr e
+
+or_left : (a b : Bool) → a ≡ true → (a || b) ≡ true
+or_left a b e = ap (λ (x : Bool). x || b) e
+
+or_right : (a b : Bool) → b ≡ true → (a || b) ≡ true
+or_right true b e = refl
+or_right false b e = e
+
+member_of : (xs : List (List ℕ)) (r : List ℕ) → Contains xs r ↔ (set.contains {R = order} (set.from_list xs) r ≡ true)
+member_of xs r = (λ c. contains-from_list nat_list_cmp_total xs r ∙ contained xs r c, λ e. containing xs r (sym (contains-from_list nat_list_cmp_total xs r) ∙ e))
+
+module _ (xs ys : List (List ℕ)) where
+  member_left : (r : List ℕ) → Contains xs r → set.contains (of_both xs ys) r ≡ true
+  member_left r c = contains-union nat_list_cmp_total (set.from_list xs) (set.from_list ys) r ∙ or_left _ _ ((member_of xs r).0 c)
+
+  member_right : (r : List ℕ) → Contains ys r → set.contains (of_both xs ys) r ≡ true
+  member_right r c = contains-union nat_list_cmp_total (set.from_list xs) (set.from_list ys) r ∙ or_right _ _ ((member_of ys r).0 c)
+
+  member_from : (r : List ℕ) → set.contains (of_both xs ys) r ≡ true → Contains xs r ⊎ Contains ys r
+  member_from r e = elim (or_cases _ _ (sym (contains-union nat_list_cmp_total (set.from_list xs) (set.from_list ys) r) ∙ e)) [
+    | inl a ↦ inl ((member_of xs r).1 a)
+    | inr b ↦ inr ((member_of ys r).1 b)
+  ]
+
+  pub content_of_both : InOrder Archive [] xs → InOrder Archive [] ys → IsContent (of_both xs ys)
+  content_of_both a b = (is_joined (set.from_list xs) (set.from_list ys) (of_both xs ys) (IsContent-records xs a) (IsContent-records ys b) refl).content
+
+  -- its records are the join of both
+  pub listing_joins : InOrder Archive [] xs → InOrder Archive [] ys → Joins (listing (of_both xs ys)) xs ys
+  listing_joins a b = record {
+    ordered = InOrder-listing (of_both xs ys) (content_of_both a b);
+    from = λ r c. member_from r ((members_listed (of_both xs ys) r).0 c);
+    left = λ r c. (members_listed (of_both xs ys) r).1 (member_left r c);
+    right = λ r c. (members_listed (of_both xs ys) r).1 (member_right r c);
+  }
+
+  pub joins_listing : (out : List (List ℕ)) → Joins out xs ys → listing (of_both xs ys) ≡ out
+  joins_listing out j = listing_is (of_both xs ys) out (sorted-InOrder [] out j.ordered).1 (λ r. (
+    λ c. elim (j.from r c) [ inl l ↦ member_left r l | inr m ↦ member_right r m ],
+    λ e. elim (member_from r e) [ inl l ↦ j.left r l | inr m ↦ j.right r m ],
+  ))
+
+-- ---- what was written begins it
+
+-- both fronts go on above what was written
+module _ (out lefts rights m1 m2 us : List (List ℕ)) (j : Joins out lefts rights) (a1 : InOrder Archive (last_of [] out) m1) (a2 : InOrder Archive (last_of [] out) m2) (u : Joins us (lefts ++ m1) (rights ++ m2)) where
+  back_in : (z : List ℕ) → Contains us z → may_follow Archive (last_of [] out) z ≡ false → Contains out z
+  back_in z c f = elim (u.from z c) [
+    | inl l ↦ elim (Contains-append_cases lefts m1 z l) [ inl d ↦ j.left z d | inr m ↦ absurd (false≢true (sym f ∙ all_above (last_of [] out) z m1 a1 m)) ]
+    | inr r ↦ elim (Contains-append_cases rights m2 z r) [ inl d ↦ j.right z d | inr m ↦ absurd (false≢true (sym f ∙ all_above (last_of [] out) z m2 a2 m)) ]
+  ]
+
+  begins_union : (more : List (List ℕ)) × (us ≡ out ++ more)
+  begins_union =
+      prefix [] (last_of [] out) us out u.ordered j.ordered
+      (λ z c. elim (j.from z c) [ inl l ↦ u.left z (Contains-append_left lefts m1 z l) | inr r ↦ u.right z (Contains-append_left rights m2 z r) ])
+      (λ z c. up_to_last [] z out j.ordered c)
+      back_in
+
+at_fronts : (us xs ys xs' ys' : List (List ℕ)) → xs ≡ xs' → ys ≡ ys' → Joins us xs ys → Joins us xs' ys'
+at_fronts us xs ys xs' ys' p q j = subst (λ (t : List (List ℕ)). Joins us t ys') p (subst (λ (t : List (List ℕ)). Joins us xs t) q j)
+
+-- the records of the content begin with those that were written
+pub begins : (out lefts rights m1 m2 xs ys : List (List ℕ)) → Joins out lefts rights → InOrder Archive [] xs → InOrder Archive [] ys → xs ≡ lefts ++ m1 → ys ≡ rights ++ m2 → InOrder Archive (last_of [] out) m1 → InOrder Archive (last_of [] out) m2
+    → (more : List (List ℕ)) × (listing (of_both xs ys) ≡ out ++ more)
+begins out lefts rights m1 m2 xs ys j a b e f a1 a2 =
+    begins_union out lefts rights m1 m2 (listing (of_both xs ys)) j a1 a2 (at_fronts (listing (of_both xs ys)) xs ys (lefts ++ m1) (rights ++ m2) e f (listing_joins xs ys a b))
+
+-- those up to low
+up_to-all : (low : List ℕ) (xs : List (List ℕ)) → ((z : List ℕ) → Contains xs z → may_follow Archive low z ≡ false) → up_to low xs ≡ xs
+up_to-all low [] h = refl
+up_to-all low (x ∷ xs) h = ap (λ b. cond (not b) (x ∷ up_to low xs) (up_to low xs)) (h x (here x xs)) ∙ ap (λ (t : List (List ℕ)). x ∷ t) (up_to-all low xs (λ z c. h z (later x z xs c)))
+
+up_to-none : (low : List ℕ) (xs : List (List ℕ)) → ((z : List ℕ) → Contains xs z → may_follow Archive low z ≡ true) → up_to low xs ≡ []
+up_to-none low [] h = refl
+up_to-none low (x ∷ xs) h = ap (λ b. cond (not b) (x ∷ up_to low xs) (up_to low xs)) (h x (here x xs)) ∙ up_to-none low xs (λ z c. h z (later x z xs c))
+
+up_to_is : (out more us : List (List ℕ)) → us ≡ out ++ more → InOrder Archive [] us → InOrder Archive [] out → up_to (last_of [] out) us ≡ out
+up_to_is out more us e a b =
+    let low : List ℕ = last_of [] out in
+    let above : InOrder Archive low more = InOrder-behind [] out more (subst (InOrder Archive []) e a) in
+    ap (up_to low) e ∙ filter-append (λ r. not (may_follow Archive low r)) out more
+    ∙ ap (λ (t : List (List ℕ)). t ++ up_to low more) (up_to-all low out (λ z c. up_to_last [] z out b c))
+    ∙ ap (λ (t : List (List ℕ)). out ++ t) (up_to-none low more (λ z c. all_above low z more above c)) ∙ append-nil out
+
+-- ---- beginnings of its text
+
+text_parts : (o : Operations) (out more : List (List ℕ)) → listing o ≡ out ++ more → written o ≡ (magic ++ concat out) ++ (concat more ++ end_record (length (listing o)))
+text_parts o out more e =
+    written_text o ∙ ap (λ (t : List ℕ). magic ++ (t ++ end_record (length (listing o)))) (ap concat e ∙ concat-append out more) ∙ ap (λ (t : List ℕ). magic ++ t) (append_assoc (concat out) (concat more) (end_record (length (listing o)))) ∙ sym (append_assoc magic (concat out) (concat more ++ end_record (length (listing o))))
+
+pub begun_whole : (w0 w1 : Option (List ℕ)) (o : Operations) (out more : List (List ℕ)) (n : ℕ) → listing o ≡ out ++ more → n ≡ 8 + length (concat out) → Appends w0 w1 (magic ++ concat out) → WritesFirst w0 w1 (written o) n
+begun_whole w0 w1 o out more n e is p =
+    let t = text_parts o out more e in
+    let end : List ℕ = end_record (length (listing o)) in
+    let rest : List ℕ = concat more ++ end in
+    let l : length (magic ++ concat out) ≡ 8 + length (concat out) = length-append magic (concat out) in
+    record {
+      within = omega (arith, ap length t, length-append (magic ++ concat out) rest, length-append (concat more) end, length-end_record (length (listing o)));
+      gained = subst (Appends w0 w1) (sym (ap (take n) t ∙ take_at (magic ++ concat out) rest n (l ∙ sym is))) p;
+    }
+
+pub begun_part : (w0 w1 : Option (List ℕ)) (o : Operations) (out more : List (List ℕ)) (n : ℕ) → listing o ≡ out ++ more → n < 8 + length (concat out) → Appends w0 w1 (take n (text_of Archive out)) → WritesFirst w0 w1 (written o) n
+begun_part w0 w1 o out more n e lt p =
+    let t = text_parts o out more e in
+    let rest : List ℕ = concat more ++ end_record (length (listing o)) in
+    let l : length (magic ++ concat out) ≡ 8 + length (concat out) = length-append magic (concat out) in
+    let a : take n (text_of Archive out) ≡ take n (magic ++ concat out) = ap (take n) (sym (append_assoc magic (concat out) (end_record (length out)))) ∙ take-append-le n (magic ++ concat out) (end_record (length out)) (omega arith) in
+    let b : take n (written o) ≡ take n (magic ++ concat out) = ap (take n) t ∙ take-append-le n (magic ++ concat out) rest (omega arith) in
+    record {
+      within = omega (arith, ap length t, length-append (magic ++ concat out) rest);
+      gained = subst (Appends w0 w1) (a ∙ sym b) p;
+    }
+
+pub begun_nothing : (w0 w1 : Option (List ℕ)) (o : Operations) (n : ℕ) → n ≡ 0 → Appends w0 w1 [] → WritesFirst w0 w1 (written o) n
+begun_nothing w0 w1 o n e p = record {
+  within = omega (arith, ap length (written_text o), length-append magic (concat (listing o) ++ end_record (length (listing o))));
+  gained = rw e p;
+}
+
+-- ---- a text without the magic
+
+pub no_magic : (t : List ℕ) (b : Option (List ℕ)) (fault : RecordFault) → IsOfText fault.kind → (fault.kind ≡ Truncated → IsAtEnd b) → StopsBeforeRecords (Some t) b fault → HasMagic t → ⊥
+no_magic t b fault known ended s m =
+    let k = taken_of t s.bytes b s.taken in
+    no_magic_fault Archive t m.0 fault.kind m.1 (grown_magic Archive t s.bytes k.0 fault.kind k.1 (λ p. k.2 (ended p)) (magic_stop Archive s.bytes fault.kind known s.stops))
+
+-- ---- both texts are known
+
+-- What was written is the text of its first records. The side that stopped ends with the last of these.
+record IsPlace (t u : List ℕ) (w0 w1 : Option (List ℕ)) (xs ys : List (List ℕ)) (n : ℕ) (low : List ℕ) : Type 0 where
+  out : List (List ℕ)
+  more : List (List ℕ)
+  is : listing (of_both xs ys) ≡ out ++ more
+  magic_left : HasMagic t
+  magic_right : HasMagic u
+  low_is : low ≡ last_of [] out
+  ordered : InOrder Archive [] out
+  content : IsContent (of_both xs ys)
+  count : n ≡ 8 + length (concat out)
+  gained : Appends w0 w1 (magic ++ concat out)
+
+place_written : (t u : List ℕ) (w0 w1 : Option (List ℕ)) (xs ys : List (List ℕ)) (n : ℕ) (low : List ℕ) → IsPlace t u w0 w1 xs ys n low → (bytes : List ℕ) × IsWrittenBefore t u (of_both xs ys) low bytes × Appends w0 w1 bytes × (n ≡ length bytes)
+place_written t u w0 w1 xs ys n low p =
+    let whole : up_to low (listing (of_both xs ys)) ≡ p.out = ap (λ (x : List ℕ). up_to x (listing (of_both xs ys))) p.low_is ∙ up_to_is p.out p.more (listing (of_both xs ys)) p.is (InOrder-listing (of_both xs ys) p.content) p.ordered in (
+      magic ++ concat p.out,
+      inr (p.magic_left, p.magic_right, ap (λ (x : List (List ℕ)). magic ++ concat x) (sym whole)),
+      p.gained,
+      omega (arith, p.count, length-append magic (concat p.out)),
+    )
+
+module _ (t u : List ℕ) (b1 b2 w0 w1 : Option (List ℕ)) (xs ys : List (List ℕ)) (gx : AreGoodRecords t xs) (gy : AreGoodRecords u ys) (fault : RecordFault) (n : ℕ) where
+  -- ---- the left side stopped
+
+  module _ (s : LeftStopped (Some t) b1 (Some u) b2 w0 w1 fault n) where
+    lx : IsLongestFront Archive t xs
+    lx = front_of t xs (stopped_magic t b1 s.lefts fault s.left) gx
+
+    ly : IsLongestFront Archive u ys
+    ly = front_of u ys (has_magic u (last_of [] s.out) b2 s.rights s.other s.right) gy
+
+    gy' : GoesOn u (last_of [] s.out) s.rights ys s.other.ahead
+    gy' = goes_on u (last_of [] s.out) b2 s.rights ys s.other s.right ly
+
+    left_more : (more : List (List ℕ)) × (listing (of_both xs ys) ≡ s.out ++ more)
+    left_more =
+        let f = stopped_goes t b1 s.lefts xs fault s.left lx in
+        begins s.out s.lefts s.rights f.0 gy'.more xs ys s.joins lx.front.ordered ly.front.ordered f.1 gy'.is (subst (λ (x : List ℕ). InOrder Archive x f.0) s.last f.2) gy'.ordered
+
+    pub left_begun : WritesFirst w0 w1 (written (of_both xs ys)) n
+    left_begun = begun_whole w0 w1 (of_both xs ys) s.out left_more.0 n left_more.1 s.written_is s.gained
+
+    module _ (known : IsOfText fault.kind) (ended : fault.kind ≡ Truncated → IsAtEnd b1) where
+      low_left : last_of [] xs ≡ last_of [] s.out
+      low_left = ap (last_of []) (front_is t b1 s.lefts xs fault known ended s.left lx) ∙ s.last
+
+      pub left_place : (bytes : List ℕ) × IsWrittenBefore t u (of_both xs ys) (last_of [] xs) bytes × Appends w0 w1 bytes × (n ≡ length bytes)
+      left_place = place_written t u w0 w1 xs ys n (last_of [] xs) (record {
+        out = s.out;
+        more = left_more.0;
+        is = left_more.1;
+        magic_left = stopped_magic t b1 s.lefts fault s.left;
+        magic_right = has_magic u (last_of [] s.out) b2 s.rights s.other s.right;
+        low_is = low_left;
+        ordered = s.joins.ordered;
+        content = content_of_both xs ys lx.front.ordered ly.front.ordered;
+        count = s.written_is;
+        gained = s.gained;
+      })
+
+      pub left_first : (IsArchiveText t → ⊥) → LeftStops t u xs ys
+      left_first faulty = record {
+        faulty = faulty;
+        first = inr (
+          has_magic u (last_of [] s.out) b2 s.rights s.other s.right,
+          elim gy'.place [
+            | inl a ↦ inl a
+            | inr (inl e) ↦ inr (λ b. false≢true (sym (below-self (last_of [] s.out)) ∙ subst (λ (x : List ℕ). may_follow Archive x (last_of [] s.out) ≡ true) e.1 (subst (λ (x : List ℕ). may_follow Archive (last_of [] ys) x ≡ true) low_left b)))
+            | inr (inr a) ↦ inr (λ b. false≢true (sym (below-back (last_of [] s.out) (last_of [] ys) a) ∙ subst (λ (x : List ℕ). may_follow Archive (last_of [] ys) x ≡ true) low_left b))
+          ],
+        );
+      }
+
+  -- ---- the right side did
+
+  module _ (s : RightStopped (Some t) b1 (Some u) b2 w0 w1 fault n) where
+    rx : IsLongestFront Archive t xs
+    rx = front_of t xs (has_magic t (last_of [] s.out) b1 s.lefts s.other s.left) gx
+
+    ry : IsLongestFront Archive u ys
+    ry = front_of u ys (stopped_magic u b2 s.rights fault s.right) gy
+
+    gx' : GoesOn t (last_of [] s.out) s.lefts xs s.other.ahead
+    gx' = goes_on t (last_of [] s.out) b1 s.lefts xs s.other s.left rx
+
+    right_more : (more : List (List ℕ)) × (listing (of_both xs ys) ≡ s.out ++ more)
+    right_more =
+        let f = stopped_goes u b2 s.rights ys fault s.right ry in
+        begins s.out s.lefts s.rights gx'.more f.0 xs ys s.joins rx.front.ordered ry.front.ordered gx'.is f.1 gx'.ordered (subst (λ (x : List ℕ). InOrder Archive x f.0) s.last f.2)
+
+    pub right_begun : WritesFirst w0 w1 (written (of_both xs ys)) n
+    right_begun = begun_whole w0 w1 (of_both xs ys) s.out right_more.0 n right_more.1 s.written_is s.gained
+
+    module _ (known : IsOfText fault.kind) (ended : fault.kind ≡ Truncated → IsAtEnd b2) where
+      low_right : last_of [] ys ≡ last_of [] s.out
+      low_right = ap (last_of []) (front_is u b2 s.rights ys fault known ended s.right ry) ∙ s.last
+
+      pub right_place : (bytes : List ℕ) × IsWrittenBefore t u (of_both xs ys) (last_of [] ys) bytes × Appends w0 w1 bytes × (n ≡ length bytes)
+      right_place = place_written t u w0 w1 xs ys n (last_of [] ys) (record {
+        out = s.out;
+        more = right_more.0;
+        is = right_more.1;
+        magic_left = has_magic t (last_of [] s.out) b1 s.lefts s.other s.left;
+        magic_right = stopped_magic u b2 s.rights fault s.right;
+        low_is = low_right;
+        ordered = s.joins.ordered;
+        content = content_of_both xs ys rx.front.ordered ry.front.ordered;
+        count = s.written_is;
+        gained = s.gained;
+      })
+
+      pub right_first : (IsArchiveText u → ⊥) → RightStops t u xs ys
+      right_first faulty = record {
+        faulty = faulty;
+        magic_left = has_magic t (last_of [] s.out) b1 s.lefts s.other s.left;
+        first = inr (elim gx'.place [
+          | inl a ↦ inl a
+          | inr (inl e) ↦ absurd (s.read e.0)
+          | inr (inr a) ↦ inr (subst (λ (x : List ℕ). may_follow Archive x (last_of [] xs) ≡ true) (sym low_right) a)
+        ]);
+      }
+
+  -- ---- the writer did
+
+  module _ (s : WriteStopped (Some t) b1 (Some u) b2 w0 w1 n) where
+    wx : IsLongestFront Archive t xs
+    wx = front_of t xs (has_magic t (last_of [] s.out) b1 s.lefts s.left_side s.left) gx
+
+    wy : IsLongestFront Archive u ys
+    wy = front_of u ys (has_magic u (last_of [] s.out) b2 s.rights s.right_side s.right) gy
+
+    pub write_begun : WritesFirst w0 w1 (written (of_both xs ys)) n
+    write_begun =
+        let f = goes_on t (last_of [] s.out) b1 s.lefts xs s.left_side s.left wx in
+        let g = goes_on u (last_of [] s.out) b2 s.rights ys s.right_side s.right wy in
+        let m = begins s.out s.lefts s.rights f.more g.more xs ys s.joins wx.front.ordered wy.front.ordered f.is g.is f.ordered g.ordered in
+        elim s.within [
+          | inl lt ↦ begun_part w0 w1 (of_both xs ys) s.out m.0 n m.1 lt s.gained
+          | inr e ↦
+              let here : Joins s.out xs ys = at_fronts s.out s.lefts s.rights xs ys (sym (f.ended e.0)) (sym (g.ended e.1)) s.joins in
+              let whole : text_of Archive s.out ≡ written (of_both xs ys) = sym (written_text (of_both xs ys) ∙ ap (text_of Archive) (joins_listing xs ys s.out here)) in
+              record { within = omega (arith, e.2, ap length whole); gained = subst (λ (x : List ℕ). Appends w0 w1 (take n x)) whole s.gained }
+        ]

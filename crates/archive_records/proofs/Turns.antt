@@ -1,0 +1,184 @@
+-- A turn of a merge: the record that is next is written.
+use Rattle.std.proofs.Common.{◌≡◌, ◌≢◌, ℕ, ◌+◌, true, List, [], ◌∷◌, ◌++◌, length, Option, Result, Ok, Err, refl, sym, ap, ◌∙◌, subst, arith, inl, append_assoc, length-append}
+use Rattle.std.specs.Prelude.{IfErr, OnOk, MatchResult}
+use Rattle.std.specs.declared.cmp.Ordering.{Ordering}
+use Rattle.std.specs.declared.cmp.Ordering.TheVariants.{Less, Equal, Greater}
+use Rattle.std.specs.List.{concat}
+use Rattle.std.specs.Io.KnownBytes.{Appends}
+use Rattle.byte_device.specs.Writes.{WritesFirst}
+use Rattle.byte_device.specs.declared.writing.WriteFault.{WriteFault}
+use Rattle.byte_device.proofs.Gains.{stopped}
+use Rattle.byte_device.proofs.Known.{Appends-then}
+use Rattle.archive_records.specs.declared.kind.TextKind.TheVariants.{Archive}
+use Rattle.archive_records.specs.declared.merging.Merge.{Merge}
+use Rattle.archive_records.specs.declared.side.Ahead.{Ahead}
+use Rattle.archive_records.specs.declared.side.Ahead.TheVariants.{Unread, Held, Ended}
+use Rattle.archive_records.specs.declared.side.Side.{Side}
+use Rattle.archive_records.specs.declared.writing.Sizes.{Sizes}
+use Rattle.archive_records.specs.Kind.{magic, may_follow}
+use Rattle.archive_records.specs.Text.{end_record, text_of, last_of}
+use Rattle.archive_records.specs.Reader.{HasRead}
+use Rattle.archive_records.specs.Turns.{Stands, Joins, Merging, WriteStopped, IsWritten, first_by, first_of}
+use Rattle.archive_records.proofs.Puts.{bytes_same, concat-push}
+use Rattle.archive_records.proofs.Steps.{last_of-push}
+use Rattle.archive_records.proofs.Ascending.{below-less, below-greater, last_is_record}
+use Rattle.archive_records.proofs.Unions.{Joins-left, Joins-right, Joins-both}
+
+-- ---- which is first
+
+first_less : (l r : Ahead) (o : Ordering) → first_by l r o ≡ Less → (l ≡ Held) × (r ≡ Held → o ≡ Less)
+first_less Held Held o e = (refl, λ _. e)
+first_less Held Ended o e = (refl, λ t. absurd cc)
+first_less Held Unread o e = (refl, λ t. absurd cc)
+first_less Ended r o e = absurd cc
+first_less Unread r o e = absurd cc
+
+first_equal : (l r : Ahead) (o : Ordering) → first_by l r o ≡ Equal → (l ≡ Held) × (r ≡ Held) × (o ≡ Equal)
+first_equal Held Held o e = (refl, refl, e)
+first_equal Held Ended o e = absurd cc
+first_equal Held Unread o e = absurd cc
+first_equal Ended r o e = absurd cc
+first_equal Unread r o e = absurd cc
+
+first_greater : (l r : Ahead) (o : Ordering) → l ≢ Unread → (l ≡ Ended → r ≡ Held) → first_by l r o ≡ Greater → (r ≡ Held) × (l ≡ Held → o ≡ Greater)
+first_greater Held Held o read some e = (refl, λ _. e)
+first_greater Held Ended o read some e = absurd cc
+first_greater Held Unread o read some e = absurd cc
+first_greater Ended r o read some e = (some refl, λ t. absurd cc)
+first_greater Unread r o read some e = absurd (read refl)
+
+-- ---- one side
+
+abbrev unread_of : Side → Side
+unread_of s = record { reader = s.reader; ahead = Unread }
+
+-- its record was written
+wrote_own : (a b : Option (List ℕ)) (done out : List (List ℕ)) (x : List ℕ) (s : Side) → x ≡ s.reader.last → HasRead Archive a b (done ++ s.reader.last ∷ []) s.reader → Stands a b (done ++ x ∷ []) (last_of [] (out ++ x ∷ [])) (unread_of s)
+wrote_own a b done out x s e h = record {
+  unread = λ _. (
+    subst (λ (t : List ℕ). HasRead Archive a b (done ++ t ∷ []) s.reader) (sym e) h,
+    last_of-push [] done x ∙ sym (last_of-push [] out x),
+  );
+  held = λ t. absurd cc;
+  ended = λ t. absurd cc;
+}
+
+-- the other side's was
+wrote_other : (a b : Option (List ℕ)) (done out : List (List ℕ)) (low x : List ℕ) (s : Side) → s.ahead ≢ Unread → (s.ahead ≡ Held → may_follow Archive x s.reader.last ≡ true) → Stands a b done low s → Stands a b done (last_of [] (out ++ x ∷ [])) s
+wrote_other a b done out low x s read above p = record {
+  unread = λ t. absurd (read t);
+  held = λ t. ((p.held t).0, rw (last_of-push [] out x) (above t));
+  ended = p.ended;
+}
+
+-- ---- both sides, once the record x is behind the others
+
+record Next (a1 b1 a2 b2 : Option (List ℕ)) (l r : Side) (out : List (List ℕ)) : Type 0 where
+  lefts : List (List ℕ)
+  rights : List (List ℕ)
+  left : Stands a1 b1 lefts (last_of [] out) l
+  right : Stands a2 b2 rights (last_of [] out) r
+  joins : Joins out lefts rights
+
+module _ (a1 b1 a2 b2 w0 w1 w2 : Option (List ℕ)) (m : Merge) (p : Merging a1 b1 a2 b2 w0 w1 m) where
+  next_left : m.right.ahead ≢ Unread → first_of m.left m.right ≡ Less → Next a1 b1 a2 b2 (unread_of m.left) m.right (p.out ++ m.left.reader.last ∷ [])
+  next_left read first =
+      let x = m.left.reader.last in
+      let f = first_less m.left.ahead m.right.ahead _ first in
+      let h = p.left.held f.0 in
+      record {
+        lefts = p.lefts ++ x ∷ [];
+        rights = p.rights;
+        left = wrote_own a1 b1 p.lefts p.out x m.left refl h.0;
+        right = wrote_other a2 b2 p.rights p.out _ x m.right read (λ t. below-less _ _ (f.1 t)) p.right;
+        joins = Joins-left p.out p.lefts p.rights x p.joins (last_is_record [] p.lefts _ h.0.ordered) h.1;
+      }
+
+  next_right : m.left.ahead ≢ Unread → (m.left.ahead ≡ Ended → m.right.ahead ≡ Held) → first_of m.left m.right ≡ Greater → Next a1 b1 a2 b2 m.left (unread_of m.right) (p.out ++ m.right.reader.last ∷ [])
+  next_right read some first =
+      let x = m.right.reader.last in
+      let f = first_greater m.left.ahead m.right.ahead _ read some first in
+      let h = p.right.held f.0 in
+      record {
+        lefts = p.lefts;
+        rights = p.rights ++ x ∷ [];
+        left = wrote_other a1 b1 p.lefts p.out _ x m.left read (λ t. below-greater _ _ (f.1 t)) p.left;
+        right = wrote_own a2 b2 p.rights p.out x m.right refl h.0;
+        joins = Joins-right p.out p.lefts p.rights x p.joins (last_is_record [] p.rights _ h.0.ordered) h.1;
+      }
+
+  next_both : first_of m.left m.right ≡ Equal → Next a1 b1 a2 b2 (unread_of m.left) (unread_of m.right) (p.out ++ m.left.reader.last ∷ [])
+  next_both first =
+      let x = m.left.reader.last in
+      let f = first_equal m.left.ahead m.right.ahead _ first in
+      let h = p.left.held f.0 in
+      let k = p.right.held f.1 in
+      record {
+        lefts = p.lefts ++ x ∷ [];
+        rights = p.rights ++ x ∷ [];
+        left = wrote_own a1 b1 p.lefts p.out x m.left refl h.0;
+        right = wrote_own a2 b2 p.rights p.out x m.right (bytes_same _ _ f.2) k.0;
+        joins = Joins-both p.out p.lefts p.rights x p.joins (last_is_record [] p.lefts _ h.0.ordered) h.1;
+      }
+
+  wrote : (x : List ℕ) (left right old new : Side) (written : Sizes) → x ≡ old.reader.last → Next a1 b1 a2 b2 left right (p.out ++ x ∷ []) → IsWritten w1 w2 m.written written old new → Merging a1 b1 a2 b2 w0 w2 (record { left = left; right = right; written = written })
+  wrote x left right old new written e n i =
+      let gained : Appends w1 w2 x = subst (Appends w1 w2) (sym e) i.gained in
+      record {
+        lefts = n.lefts;
+        rights = n.rights;
+        out = p.out ++ x ∷ [];
+        left = n.left;
+        right = n.right;
+        joins = n.joins;
+        records = omega (arith, i.records, p.records, length-append p.out (x ∷ []));
+        bytes = omega (arith, i.bytes, ap length e, p.bytes, ap length (concat-push p.out x), length-append (concat p.out) x);
+        gained = subst (Appends w0 w2) (append_assoc magic (concat p.out) x ∙ ap (λ (t : List ℕ). magic ++ t) (sym (concat-push p.out x))) (Appends-then w0 w1 w2 (magic ++ concat p.out) x p.gained gained);
+      }
+
+  write_stops : (x : List ℕ) (left right : Side) (written k : ℕ) → Next a1 b1 a2 b2 left right (p.out ++ x ∷ []) → written ≡ m.written.bytes + k → WritesFirst w1 w2 x k → WriteStopped a1 b1 a2 b2 w0 w2 written
+  write_stops x left right written k n is q =
+      let end : List ℕ = end_record (length (p.out ++ x ∷ [])) in
+      let text : text_of Archive (p.out ++ x ∷ []) ≡ (magic ++ concat p.out) ++ (x ++ end) = ap (λ (t : List ℕ). magic ++ t) (ap (λ (t : List ℕ). t ++ end) (concat-push p.out x) ∙ append_assoc (concat p.out) x end) ∙ sym (append_assoc magic (concat p.out) (x ++ end)) in
+      let s = stopped w0 w1 w2 (magic ++ concat p.out) x end (text_of Archive (p.out ++ x ∷ [])) m.written.bytes k (p.bytes ∙ sym (length-append magic (concat p.out))) text p.gained q in
+      record {
+        lefts = n.lefts;
+        rights = n.rights;
+        out = p.out ++ x ∷ [];
+        left_side = left;
+        right_side = right;
+        left = n.left;
+        right = n.right;
+        joins = n.joins;
+        within = inl (omega (arith, is, q.within, p.bytes, ap length (concat-push p.out x), length-append (concat p.out) x));
+        gained = rw is s.gained;
+      }
+
+  module _ {X : Type 0} (r : Result X WriteFault) (written : Sizes) (side : Side) where
+    pub left_turn : m.right.ahead ≢ Unread → first_of m.left m.right ≡ Less → OnOk r (IsWritten w1 w2 m.written written m.left side) → IfErr r (λ e. (k : ℕ) × (e.written ≡ m.written.bytes + k) × WritesFirst w1 w2 m.left.reader.last k)
+        → MatchResult r (λ _. Merging a1 b1 a2 b2 w0 w2 (record { left = side; right = m.right; written = written })) (λ fault. WriteStopped a1 b1 a2 b2 w0 w2 fault.written)
+    left_turn read first ok err = by r ok err
+      where
+        by : (r : Result X WriteFault) → OnOk r (IsWritten w1 w2 m.written written m.left side) → IfErr r (λ e. (k : ℕ) × (e.written ≡ m.written.bytes + k) × WritesFirst w1 w2 m.left.reader.last k)
+            → MatchResult r (λ _. Merging a1 b1 a2 b2 w0 w2 (record { left = side; right = m.right; written = written })) (λ fault. WriteStopped a1 b1 a2 b2 w0 w2 fault.written)
+        by (Ok x) i e = subst (λ (s : Side). Merging a1 b1 a2 b2 w0 w2 (record { left = s; right = m.right; written = written })) (sym i.side) (wrote m.left.reader.last (unread_of m.left) m.right m.left side written refl (next_left read first) i)
+        by (Err fault) i e = write_stops m.left.reader.last (unread_of m.left) m.right fault.written e.0 (next_left read first) e.1 e.2
+
+    pub both_turn : first_of m.left m.right ≡ Equal → OnOk r (IsWritten w1 w2 m.written written m.left side) → IfErr r (λ e. (k : ℕ) × (e.written ≡ m.written.bytes + k) × WritesFirst w1 w2 m.left.reader.last k)
+        → MatchResult r (λ _. Merging a1 b1 a2 b2 w0 w2 (record { left = side; right = unread_of m.right; written = written })) (λ fault. WriteStopped a1 b1 a2 b2 w0 w2 fault.written)
+    both_turn first ok err = by r ok err
+      where
+        by : (r : Result X WriteFault) → OnOk r (IsWritten w1 w2 m.written written m.left side) → IfErr r (λ e. (k : ℕ) × (e.written ≡ m.written.bytes + k) × WritesFirst w1 w2 m.left.reader.last k)
+            → MatchResult r (λ _. Merging a1 b1 a2 b2 w0 w2 (record { left = side; right = unread_of m.right; written = written })) (λ fault. WriteStopped a1 b1 a2 b2 w0 w2 fault.written)
+        by (Ok x) i e = subst (λ (s : Side). Merging a1 b1 a2 b2 w0 w2 (record { left = s; right = unread_of m.right; written = written })) (sym i.side) (wrote m.left.reader.last (unread_of m.left) (unread_of m.right) m.left side written refl (next_both first) i)
+        by (Err fault) i e = write_stops m.left.reader.last (unread_of m.left) (unread_of m.right) fault.written e.0 (next_both first) e.1 e.2
+
+    pub right_turn : m.left.ahead ≢ Unread → (m.left.ahead ≡ Ended → m.right.ahead ≡ Held) → first_of m.left m.right ≡ Greater → OnOk r (IsWritten w1 w2 m.written written m.right side)
+        → IfErr r (λ e. (k : ℕ) × (e.written ≡ m.written.bytes + k) × WritesFirst w1 w2 m.right.reader.last k)
+        → MatchResult r (λ _. Merging a1 b1 a2 b2 w0 w2 (record { left = m.left; right = side; written = written })) (λ fault. WriteStopped a1 b1 a2 b2 w0 w2 fault.written)
+    right_turn read some first ok err = by r ok err
+      where
+        by : (r : Result X WriteFault) → OnOk r (IsWritten w1 w2 m.written written m.right side) → IfErr r (λ e. (k : ℕ) × (e.written ≡ m.written.bytes + k) × WritesFirst w1 w2 m.right.reader.last k)
+            → MatchResult r (λ _. Merging a1 b1 a2 b2 w0 w2 (record { left = m.left; right = side; written = written })) (λ fault. WriteStopped a1 b1 a2 b2 w0 w2 fault.written)
+        by (Ok x) i e = subst (λ (s : Side). Merging a1 b1 a2 b2 w0 w2 (record { left = m.left; right = s; written = written })) (sym i.side) (wrote m.right.reader.last m.left (unread_of m.right) m.right side written refl (next_right read some first) i)
+        by (Err fault) i e = write_stops m.right.reader.last m.left (unread_of m.right) fault.written e.0 (next_right read some first) e.1 e.2

@@ -1,0 +1,214 @@
+-- A merge of two streams, turn by turn: the words of the inner functions. No contract of a public one has them.
+use Rattle.std.specs.Prelude.{◌≡◌, ◌≢◌, ℕ, ◌+◌, ◌-◌, ◌*◌, ◌^◌, ◌<◌, ◌≤◌, true, List, [], ◌∷◌, ◌++◌, length, take, Option, Result, Ok, Err, MatchResult, ◌⊎◌}
+use Rattle.std.specs.declared.cmp.Ordering.{Ordering}
+use Rattle.std.specs.declared.cmp.Ordering.TheVariants.{Less, Greater}
+use Rattle.std.specs.Ordering.{nat_cmp}
+use Rattle.std.specs.Cmp.Lexicographic.{slice_cmp}
+use Rattle.std.specs.List.{concat, Contains}
+use Rattle.std.specs.Io.KnownBytes.{Appends, Consumes, IsAtEnd}
+use Rattle.byte_device.specs.Devices.{FailedIn}
+use Rattle.archive_records.specs.declared.fault.RecordFault.{RecordFault}
+use Rattle.archive_records.specs.declared.fault.MergeCause.{MergeCause}
+use Rattle.archive_records.specs.declared.fault.MergeCause.TheVariants.{Left, Right, Write}
+use Rattle.archive_records.specs.declared.fault.MergeFault.{MergeFault}
+use Rattle.archive_records.specs.declared.kind.TextKind.TheVariants.{Archive}
+use Rattle.archive_records.specs.declared.merging.Merge.{Merge}
+use Rattle.archive_records.specs.declared.side.Ahead.{Ahead}
+use Rattle.archive_records.specs.declared.side.Ahead.TheVariants.{Unread, Held, Ended}
+use Rattle.archive_records.specs.declared.side.Side.{Side}
+use Rattle.archive_records.specs.declared.writing.Sizes.{Sizes}
+use Rattle.archive_records.specs.Kind.{magic, may_follow}
+use Rattle.archive_records.specs.Text.{text_of, InOrder, last_of}
+use Rattle.archive_records.specs.Reading.{Blames}
+use Rattle.archive_records.specs.Merging.{Stream, IsUnfailed}
+use Rattle.archive_records.specs.Reader.{HasRead, HasReadAll, Stopped, StopsInMagic}
+
+-- ---- one side
+
+-- Of the side's records these were written, and the last of all that were is low: the next one is to be read; or it
+-- was, and is above low; or the text was read to its end.
+pub record Stands (a b : Option (List ℕ)) (done : List (List ℕ)) (low : List ℕ) (side : Side) : Type 0 where
+  pub unread : side.ahead ≡ Unread → HasRead Archive a b done side.reader × (last_of [] done ≡ low)
+  pub held : side.ahead ≡ Held → HasRead Archive a b (done ++ side.reader.last ∷ []) side.reader
+      × (may_follow Archive low side.reader.last ≡ true)
+  pub ended : side.ahead ≡ Ended → HasReadAll Archive a b done side.reader × IsAtEnd b
+
+-- reading stopped in the magic
+pub record StopsBeforeRecords (a b : Option (List ℕ)) (fault : RecordFault) : Type 0 where
+  pub bytes : List ℕ
+  pub taken : Consumes a b bytes
+  pub stops : StopsInMagic Archive bytes fault.kind
+  pub start : fault.offset ≡ 0
+
+-- how many records are held
+abbrev pub held_by : Ahead → ℕ
+held_by Unread = 0
+held_by Held = 1
+held_by Ended = 0
+
+abbrev pub cost : Ahead → ℕ
+cost Unread = 1
+cost Held = 2
+cost Ended = 0
+
+-- how much there may still be to do
+abbrev pub weight : Side → ℕ
+weight side = (2 ^ 63 - side.reader.count) * 2 + cost side.ahead
+
+-- The record that the side held was written behind what was written before.
+pub record IsWritten (w0 w1 : Option (List ℕ)) (before after : Sizes) (old new : Side) : Type 0 where
+  pub gained : Appends w0 w1 old.reader.last
+  pub records : after.records ≡ before.records + 1
+  pub bytes : after.bytes ≡ before.bytes + length old.reader.last
+  pub side : new ≡ record { reader = old.reader; ahead = Unread }
+
+-- ---- both sides
+
+-- The ascending list whose members are exactly those of both.
+pub record Joins (out lefts rights : List (List ℕ)) : Type 0 where
+  pub ordered : InOrder Archive [] out
+  pub from : (r : List ℕ) → Contains out r → Contains lefts r ⊎ Contains rights r
+  pub left : (r : List ℕ) → Contains lefts r → Contains out r
+  pub right : (r : List ℕ) → Contains rights r → Contains out r
+
+-- What was written is the magic and the join of what was read, but for what is held, which is above it.
+pub record Merging (a1 b1 a2 b2 w0 w1 : Option (List ℕ)) (m : Merge) : Type 0 where
+  pub lefts : List (List ℕ)
+  pub rights : List (List ℕ)
+  pub out : List (List ℕ)
+  pub left : Stands a1 b1 lefts (last_of [] out) m.left
+  pub right : Stands a2 b2 rights (last_of [] out) m.right
+  pub joins : Joins out lefts rights
+  pub records : m.written.records ≡ length out
+  pub bytes : m.written.bytes ≡ 8 + length (concat out)
+  pub gained : Appends w0 w1 (magic ++ concat out)
+
+-- The left side stopped it. What was written is the join of what was read, but for what the right side holds.
+pub record LeftStopped (a1 b1 a2 b2 w0 w1 : Option (List ℕ)) (fault : RecordFault) (written : ℕ) : Type 0 where
+  pub lefts : List (List ℕ)
+  pub rights : List (List ℕ)
+  pub out : List (List ℕ)
+  pub other : Side
+  pub left : Stopped Archive a1 b1 lefts fault
+  pub last : last_of [] lefts ≡ last_of [] out
+  pub right : Stands a2 b2 rights (last_of [] out) other
+  pub joins : Joins out lefts rights
+  pub written_is : written ≡ 8 + length (concat out)
+  pub gained : Appends w0 w1 (magic ++ concat out)
+
+-- The right side did, and the left one holds a record, or was read to its end.
+pub record RightStopped (a1 b1 a2 b2 w0 w1 : Option (List ℕ)) (fault : RecordFault) (written : ℕ) : Type 0 where
+  pub lefts : List (List ℕ)
+  pub rights : List (List ℕ)
+  pub out : List (List ℕ)
+  pub other : Side
+  pub left : Stands a1 b1 lefts (last_of [] out) other
+  pub read : other.ahead ≢ Unread
+  pub right : Stopped Archive a2 b2 rights fault
+  pub last : last_of [] rights ≡ last_of [] out
+  pub joins : Joins out lefts rights
+  pub written_is : written ≡ 8 + length (concat out)
+  pub gained : Appends w0 w1 (magic ++ concat out)
+
+-- The writer failed inside the text of these records, the join of what was read, but for what is held; inside its end
+-- record only where both texts were read to their ends.
+pub record WriteStopped (a1 b1 a2 b2 w0 w1 : Option (List ℕ)) (written : ℕ) : Type 0 where
+  pub lefts : List (List ℕ)
+  pub rights : List (List ℕ)
+  pub out : List (List ℕ)
+  pub left_side : Side
+  pub right_side : Side
+  pub left : Stands a1 b1 lefts (last_of [] out) left_side
+  pub right : Stands a2 b2 rights (last_of [] out) right_side
+  pub joins : Joins out lefts rights
+  pub within : (written < 8 + length (concat out))
+      ⊎ ((left_side.ahead ≡ Ended) × (right_side.ahead ≡ Ended) × (written < length (text_of Archive out)))
+  pub gained : Appends w0 w1 (take written (text_of Archive out))
+
+-- what is said by the cause
+abbrev pub ByCause : MergeCause → (RecordFault → Type 0) → (RecordFault → Type 0) → Type 0 → Type 0
+ByCause (Left fault) P Q T = P fault
+ByCause (Right fault) P Q T = Q fault
+ByCause Write P Q T = T
+
+-- What a result says of the devices, of the writer by its count of failures before and after: no other failed than the
+-- one that is told.
+abbrev pub BlamesBy : {R S : Type 0} → Stream R → Stream S → ℕ → ℕ → MergeCause → Type 0
+BlamesBy left right w0 w1 (Left fault) =
+    Blames left.bytes left.failures left.old left.new fault.kind × IsUnfailed right × (w1 ≡ w0)
+BlamesBy left right w0 w1 (Right fault) =
+    IsUnfailed left × Blames right.bytes right.failures right.old right.new fault.kind × (w1 ≡ w0)
+BlamesBy left right w0 w1 Write = IsUnfailed left × IsUnfailed right × FailedIn w0 w1
+
+abbrev pub BlamesDevices : {R S T : Type 0} → Stream R → Stream S → ℕ → ℕ → Result T MergeFault → Type 0
+BlamesDevices left right w0 w1 result =
+    MatchResult result (λ _. IsUnfailed left × IsUnfailed right × (w1 ≡ w0)) (λ e. BlamesBy left right w0 w1 e.cause)
+
+-- how a merge stops behind the magic
+abbrev pub HasStoppedMerge : Option (List ℕ) → Option (List ℕ) → Option (List ℕ) → Option (List ℕ)
+    → Option (List ℕ) → Option (List ℕ) → MergeFault → Type 0
+HasStoppedMerge a1 b1 a2 b2 w0 w1 e = ByCause e.cause
+    (λ fault. LeftStopped a1 b1 a2 b2 w0 w1 fault e.written)
+    (λ fault. RightStopped a1 b1 a2 b2 w0 w1 fault e.written)
+    (WriteStopped a1 b1 a2 b2 w0 w1 e.written)
+
+-- how it stops at all: before the magic is written, too
+abbrev pub Stops : Option (List ℕ) → Option (List ℕ) → Option (List ℕ) → Option (List ℕ)
+    → Option (List ℕ) → Option (List ℕ) → MergeFault → Type 0
+Stops a1 b1 a2 b2 w0 w1 e = ByCause e.cause
+    (λ fault. ((e.written ≡ 0) × Appends w0 w1 [] × StopsBeforeRecords a1 b1 fault)
+    ⊎ LeftStopped a1 b1 a2 b2 w0 w1 fault e.written)
+    (λ fault. ((e.written ≡ 0) × Appends w0 w1 [] × Consumes a1 b1 magic × StopsBeforeRecords a2 b2 fault)
+    ⊎ RightStopped a1 b1 a2 b2 w0 w1 fault e.written)
+    (WriteStopped a1 b1 a2 b2 w0 w1 e.written)
+
+-- Two whole texts were read, and the text of the join was written.
+pub record MergedAll (a1 b1 a2 b2 w0 w1 : Option (List ℕ)) (sizes : Sizes) : Type 0 where
+  pub lefts : List (List ℕ)
+  pub rights : List (List ℕ)
+  pub out : List (List ℕ)
+  pub left : Side
+  pub right : Side
+  pub left_read : HasReadAll Archive a1 b1 lefts left.reader × IsAtEnd b1
+  pub right_read : HasReadAll Archive a2 b2 rights right.reader × IsAtEnd b2
+  pub joins : Joins out lefts rights
+  pub gained : Appends w0 w1 (text_of Archive out)
+  pub records : sizes.records ≡ length out
+  pub bytes : sizes.bytes ≡ length (text_of Archive out)
+
+-- what a merge leaves
+abbrev pub Leaves : Option (List ℕ) → Option (List ℕ) → Option (List ℕ) → Option (List ℕ)
+    → Option (List ℕ) → Option (List ℕ) → Result Sizes MergeFault → Type 0
+Leaves a1 b1 a2 b2 w0 w1 (Ok sizes) = MergedAll a1 b1 a2 b2 w0 w1 sizes
+Leaves a1 b1 a2 b2 w0 w1 (Err e) = Stops a1 b1 a2 b2 w0 w1 e
+
+-- ---- which is next, and numbers
+
+abbrev pub first_by : Ahead → Ahead → Ordering → Ordering
+first_by Held Held o = o
+first_by Held Ended o = Less
+first_by Held Unread o = Less
+first_by Ended s o = Greater
+first_by Unread s o = Greater
+
+-- which side's record is the next to be written
+abbrev pub first_of : Side → Side → Ordering
+first_of left right = first_by left.ahead right.ahead (slice_cmp nat_cmp left.reader.last right.reader.last)
+
+-- The numbers of a merge fit.
+pub record Fits (m : Merge) : Type 0 where
+  pub left_archive : m.left.reader.file ≡ Archive
+  pub right_archive : m.right.reader.file ≡ Archive
+  pub left_few : m.left.reader.count < 2 ^ 63
+  pub right_few : m.right.reader.count < 2 ^ 63
+  pub tally : m.written.records + held_by m.left.ahead + held_by m.right.ahead
+      ≤ m.left.reader.count + m.right.reader.count
+  pub bytes : m.written.bytes ≤ 8 + m.written.records * 2 ^ 64
+
+abbrev pub cost_of : Merge → ℕ
+cost_of m = weight m.left + weight m.right
+
+-- nothing is to be read
+pub record IsRead (m : Merge) : Type 0 where
+  pub left : m.left.ahead ≢ Unread
+  pub right : m.right.ahead ≢ Unread

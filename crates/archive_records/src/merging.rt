@@ -1,0 +1,177 @@
+//! A merge, turn by turn: the record that is next is written, and the side or sides that it came from are read on.
+
+ghost use Rattle.std.specs.Prelude.{◌≡◌, ◌+◌, ◌*◌, ◌^◌, ◌<◌, ◌≤◌, ℕ, List, Option, OnOk, IfOk, IfErr, MatchResult, length, true, false};
+ghost use Rattle.std.specs.Io.KnownBytes.{Appends};
+ghost use Rattle.byte_device.specs.Devices.{FailedIn};
+ghost use Rattle.byte_device.specs.Writes.{WritesFirst};
+ghost use Rattle.archive_records.specs.Merging.{stream};
+ghost use Rattle.archive_records.specs.Turns.{BlamesDevices, Fits, HasStoppedMerge, IsRead, IsWritten, Merging, WriteStopped, cost_of, first_of};
+
+use crate::fault::{MergeCause, MergeFault};
+use crate::side::{Ahead, Side};
+use crate::writing::Sizes;
+use byte_device::{Sink, Source, WriteFault, put};
+use std::cmp::Ordering;
+
+/// Two texts that are merged, and how much of their join was written.
+#[derive(Drop)]
+pub struct Merge {
+    pub left: Side,
+    pub right: Side,
+    pub written: Sizes,
+}
+
+impl Merge {
+    /// What is told where this stops the merge behind what was written.
+    fn stopped_by(&self, cause: MergeCause) -> MergeFault
+        ensures { result ≡ record { cause = cause; written = self.now.written.bytes } }
+    {
+        MergeFault {
+            cause,
+            written: self.written.bytes,
+        }
+    }
+
+    /// Whether both texts were read to their ends.
+    fn is_done(&self) -> bool
+        requires { IsRead self.now }
+        ensures left { result ≡ true → self.now.left.ahead ≡ Ahead.Ended }
+        ensures right { result ≡ true → self.now.right.ahead ≡ Ahead.Ended }
+        ensures some { result ≡ false → self.now.left.ahead ≡ Ahead.Ended → self.now.right.ahead ≡ Ahead.Held }
+    {
+        match (self.left.ahead, self.right.ahead) {
+            (Ahead::Ended, Ahead::Ended) => true,
+            _ => false,
+        }
+    }
+}
+
+/// Which side's record is the next to be written: the left one's, both sides', or the right one's.
+fn first(left: &Side, right: &Side) -> Ordering
+    ensures { result ≡ first_of left.now right.now }
+{
+    match (left.ahead, right.ahead) {
+        (Ahead::Held, Ahead::Held) => left.reader.last().cmp(&right.reader.last()),
+        (Ahead::Held, _) => Ordering::Less,
+        _ => Ordering::Greater,
+    }
+}
+
+/// Writes the record that the side holds.
+fn put_held<W: Sink>(w: &mut W, written: &mut Sizes, side: &mut Side) -> Result<(), WriteFault>
+    requires few { written.old.records + 1 < 2 ^ 64 }
+    requires fits { written.old.bytes ≤ 8 + written.old.records * 2 ^ 64 }
+    ensures ok { OnOk result (IsWritten (W.held w.old) (W.held w.new) written.old written.new side.old side.new) }
+    ensures fits { OnOk result (written.new.bytes ≤ 8 + written.new.records * 2 ^ 64) }
+    ensures unfailed { OnOk result (W.failures w.new ≡ W.failures w.old) }
+    ensures err { IfErr result (λ e. (k : ℕ) × (e.written ≡ written.old.bytes + k)
+        × WritesFirst (W.held w.old) (W.held w.new) side.old.reader.last k) }
+    ensures failed { IfErr result (λ _. FailedIn (W.failures w.old) (W.failures w.new)) }
+{
+    written.bytes = put(w, written.bytes, side.reader.last())?;
+    written.records += 1;
+    side.ahead = Ahead::Unread;
+    Ok(())
+}
+
+/// Writes the record that is next, once, and leaves the side or sides that it came from to be read on.
+fn write_first<W: Sink>(w: &mut W, m: &mut Merge) -> Result<(), WriteFault>
+    requires read { IsRead m.old }
+    requires some { m.old.left.ahead ≡ Ahead.Ended → m.old.right.ahead ≡ Ahead.Held }
+    requires fits { Fits m.old }
+    ensures merging { (a1 b1 a2 b2 w0 : Option (List ℕ)) → Merging a1 b1 a2 b2 w0 (W.held w.old) m.old
+        → MatchResult result
+        (λ _. Merging a1 b1 a2 b2 w0 (W.held w.new) m.new)
+        (λ fault. WriteStopped a1 b1 a2 b2 w0 (W.held w.new) fault.written) }
+    ensures fits { OnOk result (Fits m.new) }
+    ensures less { OnOk result (cost_of m.new < cost_of m.old) }
+    ensures unfailed { OnOk result (W.failures w.new ≡ W.failures w.old) }
+    ensures failed { IfErr result (λ _. FailedIn (W.failures w.old) (W.failures w.new)) }
+{
+    match first(&m.left, &m.right) {
+        Ordering::Less => put_held(w, &mut m.written, &mut m.left),
+        Ordering::Equal => {
+            m.right.ahead = Ahead::Unread;
+            put_held(w, &mut m.written, &mut m.left)
+        }
+        Ordering::Greater => put_held(w, &mut m.written, &mut m.right),
+    }
+}
+
+/// Reads on behind what was written, left first.
+fn read_on<R: Source, S: Source>(r1: &mut R, r2: &mut S, m: &mut Merge) -> Result<(), MergeFault>
+    requires { Fits m.old }
+    ensures merging { (a1 a2 w0 w1 : Option (List ℕ)) → Merging a1 (R.left r1.old) a2 (S.left r2.old) w0 w1 m.old
+        → MatchResult result
+        (λ _. Merging a1 (R.left r1.new) a2 (S.left r2.new) w0 w1 m.new)
+        (λ e. HasStoppedMerge a1 (R.left r1.new) a2 (S.left r2.new) w0 w1 e) }
+    ensures fits { OnOk result (Fits m.new) }
+    ensures read { OnOk result (IsRead m.new) }
+    ensures less { OnOk result (cost_of m.new ≤ cost_of m.old) }
+    ensures devices { BlamesDevices (stream R.left R.failures r1.old r1.new) (stream S.left S.failures r2.old r2.new)
+        0 0 result }
+{
+    if let Err(fault) = m.left.read_on(r1) {
+        return Err(m.stopped_by(MergeCause::Left(fault)));
+    }
+    if let Err(fault) = m.right.read_on(r2) {
+        return Err(m.stopped_by(MergeCause::Right(fault)));
+    }
+    Ok(())
+}
+
+/// Writes the record that is next, and reads on.
+fn turn<R: Source, S: Source, W: Sink>(
+    r1: &mut R,
+    r2: &mut S,
+    w: &mut W,
+    m: &mut Merge,
+) -> Result<(), MergeFault>
+    requires fits { Fits m.old }
+    requires read { IsRead m.old }
+    requires some { m.old.left.ahead ≡ Ahead.Ended → m.old.right.ahead ≡ Ahead.Held }
+    ensures merging { (a1 a2 w0 : Option (List ℕ))
+        → Merging a1 (R.left r1.old) a2 (S.left r2.old) w0 (W.held w.old) m.old
+        → MatchResult result
+        (λ _. Merging a1 (R.left r1.new) a2 (S.left r2.new) w0 (W.held w.new) m.new)
+        (λ e. HasStoppedMerge a1 (R.left r1.new) a2 (S.left r2.new) w0 (W.held w.new) e) }
+    ensures fits { OnOk result (Fits m.new) }
+    ensures read { OnOk result (IsRead m.new) }
+    ensures less { OnOk result (cost_of m.new < cost_of m.old) }
+    ensures devices { BlamesDevices (stream R.left R.failures r1.old r1.new) (stream S.left S.failures r2.old r2.new)
+        (W.failures w.old) (W.failures w.new) result }
+{
+    if let Err(fault) = write_first(w, m) {
+        return Err(MergeFault {
+            cause: MergeCause::Write,
+            written: fault.written,
+        });
+    }
+    read_on(r1, r2, m)
+}
+
+/// Writes all records behind the magic.
+pub fn merge_records<R: Source, S: Source, W: Sink>(
+    r1: &mut R,
+    r2: &mut S,
+    w: &mut W,
+    m: &mut Merge,
+) -> Result<(), MergeFault>
+    requires fits { Fits m.old }
+    ensures merging { (a1 a2 w0 : Option (List ℕ))
+        → Merging a1 (R.left r1.old) a2 (S.left r2.old) w0 (W.held w.old) m.old
+        → MatchResult result
+        (λ _. Merging a1 (R.left r1.new) a2 (S.left r2.new) w0 (W.held w.new) m.new)
+        (λ e. HasStoppedMerge a1 (R.left r1.new) a2 (S.left r2.new) w0 (W.held w.new) e) }
+    ensures fits { OnOk result (Fits m.new) }
+    ensures left_end { OnOk result (m.new.left.ahead ≡ Ahead.Ended) }
+    ensures right_end { OnOk result (m.new.right.ahead ≡ Ahead.Ended) }
+    ensures devices { BlamesDevices (stream R.left R.failures r1.old r1.new) (stream S.left S.failures r2.old r2.new)
+        (W.failures w.old) (W.failures w.new) result }
+{
+    read_on(r1, r2, m)?;
+    'turns: while !m.is_done() {
+        turn(r1, r2, w, m)?;
+    }
+    Ok(())
+}

@@ -1,0 +1,99 @@
+//! One side of a merge.
+
+ghost use Rattle.std.specs.Prelude.{◌≡◌, ◌≢◌, ◌+◌, ◌<◌, ◌≤◌, ◌^◌, ℕ, List, Option, [], OnOk, IfOk, IfErr, MatchResult};
+ghost use Rattle.archive_records.specs.declared.kind.TextKind.TheVariants.{Archive};
+ghost use Rattle.archive_records.specs.Text.{last_of};
+ghost use Rattle.archive_records.specs.Reader.{FaultBlamesReader, HasRead, Stopped};
+ghost use Rattle.archive_records.specs.Turns.{Stands, StopsBeforeRecords, held_by, weight};
+
+use crate::fault::RecordFault;
+use crate::kind::TextKind;
+use crate::reader::RecordReader;
+use byte_device::Source;
+use memory::Heap;
+
+/// What is known of the next record.
+#[derive(Clone, Copy, Debug, PartialEq, Eq)]
+pub enum Ahead {
+    /// It is to be read, over the last one, which was written.
+    Unread,
+    /// It was read, and is to be written.
+    Held,
+    /// There is none: the end record was read, and nothing stands behind it.
+    Ended,
+}
+
+/// The text of an archive that is read record by record.
+#[derive(Drop)]
+pub struct Side {
+    pub reader: RecordReader,
+    pub ahead: Ahead,
+}
+
+impl Side {
+    /// Reads the magic.
+    pub fn begin<R: Source>(heap: &Heap, r: &mut R) -> Result<Side, RecordFault>
+        ensures read { IfOk result (λ side. HasRead Archive (R.left r.old) (R.left r.new) [] side.reader) }
+        ensures unread { IfOk result (λ side. side.ahead ≡ Ahead.Unread) }
+        ensures stops { IfErr result (StopsBeforeRecords (R.left r.old) (R.left r.new)) }
+        ensures reader { FaultBlamesReader R.left R.failures r.old r.new result }
+    {
+        let Ok(own) = heap.clone() else {
+            return Err(RecordFault::out_of_memory(0));
+        };
+        let reader = RecordReader::begin(own, TextKind::Archive, r)?;
+        Ok(Side {
+            reader,
+            ahead: Ahead::Unread,
+        })
+    }
+
+    /// Reads the next record over the last, or else the end record, behind which the input ends.
+    fn advance<R: Source>(&mut self, r: &mut R) -> Result<(), RecordFault>
+        requires archive { self.old.reader.file ≡ Archive }
+        requires few { self.old.reader.count < 2 ^ 63 }
+        requires unread { self.old.ahead ≡ Ahead.Unread }
+        ensures stands { (a : Option (List ℕ)) (done : List (List ℕ))
+            → HasRead Archive a (R.left r.old) done self.old.reader
+            → MatchResult result
+            (λ _. Stands a (R.left r.new) done (last_of [] done) self.new)
+            (λ fault. Stopped Archive a (R.left r.new) done fault) }
+        ensures archive { OnOk result (self.new.reader.file ≡ Archive) }
+        ensures read { OnOk result (self.new.ahead ≢ Ahead.Unread) }
+        ensures few { OnOk result (self.new.reader.count < 2 ^ 63) }
+        ensures tally { OnOk result (self.old.reader.count + held_by self.new.ahead ≤ self.new.reader.count) }
+        ensures less { OnOk result (weight self.new < weight self.old) }
+        ensures reader { FaultBlamesReader R.left R.failures r.old r.new result }
+    {
+        if self.reader.advance(r)? {
+            self.reader.finish(r)?;
+            self.ahead = Ahead::Ended;
+        } else {
+            self.ahead = Ahead::Held;
+        }
+        Ok(())
+    }
+
+    /// Reads on, where the last record was written.
+    pub fn read_on<R: Source>(&mut self, r: &mut R) -> Result<(), RecordFault>
+        requires archive { self.old.reader.file ≡ Archive }
+        requires few { self.old.reader.count < 2 ^ 63 }
+        ensures stands { (a : Option (List ℕ)) (done : List (List ℕ)) (low : List ℕ)
+            → Stands a (R.left r.old) done low self.old
+            → MatchResult result
+            (λ _. Stands a (R.left r.new) done low self.new)
+            (λ fault. Stopped Archive a (R.left r.new) done fault × (last_of [] done ≡ low)) }
+        ensures archive { OnOk result (self.new.reader.file ≡ Archive) }
+        ensures read { OnOk result (self.new.ahead ≢ Ahead.Unread) }
+        ensures few { OnOk result (self.new.reader.count < 2 ^ 63) }
+        ensures tally { OnOk result
+            (self.old.reader.count + held_by self.new.ahead ≤ self.new.reader.count + held_by self.old.ahead) }
+        ensures less { OnOk result (weight self.new ≤ weight self.old) }
+        ensures reader { FaultBlamesReader R.left R.failures r.old r.new result }
+    {
+        match self.ahead {
+            Ahead::Unread => self.advance(r),
+            Ahead::Held | Ahead::Ended => Ok(()),
+        }
+    }
+}

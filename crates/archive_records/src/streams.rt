@@ -1,0 +1,116 @@
+//! Two archives that are merged as they come.
+
+ghost use Rattle.std.specs.Prelude.{◌≡◌, ℕ, List, Option, OnOk, IfOk, IfErr, MatchResult};
+ghost use Rattle.byte_device.specs.Devices.{FailedIn};
+ghost use Rattle.archive_records.specs.declared.fault.MergeCause.TheVariants.{Write};
+ghost use Rattle.archive_records.specs.Merging.{Merges, stream};
+ghost use Rattle.archive_records.specs.Turns.{BlamesDevices, Fits, Leaves, Merging, Stops};
+
+use crate::fault::{MergeCause, MergeFault, RecordFault};
+use crate::kind::TextKind;
+use crate::merging::{Merge, merge_records};
+use crate::side::{Ahead, Side};
+use crate::writing::{Sizes, put_end};
+use byte_device::{Sink, Source, put};
+use memory::Heap;
+
+// The fault with this cause, where nothing was written.
+fn before_the_magic(cause: MergeCause) -> MergeFault
+    ensures { result ≡ record { cause = cause; written = 0 } }
+{
+    MergeFault { cause, written: 0 }
+}
+
+/// Reads both magics, left first, and writes one.
+fn begin_both<R: Source, S: Source, W: Sink>(
+    heap: &Heap,
+    r1: &mut R,
+    r2: &mut S,
+    w: &mut W,
+) -> Result<Merge, MergeFault>
+    ensures merging { MatchResult result
+        (λ m. Merging (R.left r1.old) (R.left r1.new) (S.left r2.old) (S.left r2.new) (W.held w.old) (W.held w.new) m)
+        (λ e. Stops (R.left r1.old) (R.left r1.new) (S.left r2.old) (S.left r2.new) (W.held w.old) (W.held w.new) e) }
+    ensures fits { IfOk result (λ m. Fits m) }
+    ensures devices { BlamesDevices (stream R.left R.failures r1.old r1.new) (stream S.left S.failures r2.old r2.new)
+        (W.failures w.old) (W.failures w.new) result }
+{
+    let left = match Side::begin(heap, r1) {
+        Ok(side) => side,
+        Err(fault) => return Err(before_the_magic(MergeCause::Left(fault))),
+    };
+    let right = match Side::begin(heap, r2) {
+        Ok(side) => side,
+        Err(fault) => return Err(before_the_magic(MergeCause::Right(fault))),
+    };
+    match put(w, 0, &TextKind::Archive.magic()) {
+        Ok(bytes) => Ok(Merge {
+            left,
+            right,
+            written: Sizes { records: 0, bytes },
+        }),
+        Err(fault) => Err(MergeFault {
+            cause: MergeCause::Write,
+            written: fault.written,
+        }),
+    }
+}
+
+/// Writes the end record.
+fn finish<W: Sink>(w: &mut W, m: &Merge) -> Result<Sizes, MergeFault>
+    requires fits { Fits m.now }
+    requires left_end { m.now.left.ahead ≡ Ahead.Ended }
+    requires right_end { m.now.right.ahead ≡ Ahead.Ended }
+    ensures leaves { (a1 b1 a2 b2 w0 : Option (List ℕ)) → Merging a1 b1 a2 b2 w0 (W.held w.old) m.now
+        → Leaves a1 b1 a2 b2 w0 (W.held w.new) result }
+    ensures unfailed { OnOk result (W.failures w.new ≡ W.failures w.old) }
+    ensures cause { IfErr result (λ e. (e.cause ≡ Write) × FailedIn (W.failures w.old) (W.failures w.new)) }
+{
+    match put_end(w, m.written.bytes, m.written.records) {
+        Ok(sizes) => Ok(sizes),
+        Err(fault) => Err(MergeFault {
+            cause: MergeCause::Write,
+            written: fault.written,
+        }),
+    }
+}
+
+/// Merges two inputs. What is said is of the bytes that were taken.
+fn merge_taken<R: Source, S: Source, W: Sink>(
+    heap: &Heap,
+    r1: &mut R,
+    r2: &mut S,
+    w: &mut W,
+) -> Result<Sizes, MergeFault>
+    ensures leaves { Leaves (R.left r1.old) (R.left r1.new) (S.left r2.old) (S.left r2.new)
+        (W.held w.old) (W.held w.new) result }
+    ensures devices { BlamesDevices (stream R.left R.failures r1.old r1.new) (stream S.left S.failures r2.old r2.new)
+        (W.failures w.old) (W.failures w.new) result }
+{
+    let mut m = begin_both(heap, r1, r2, w)?;
+    merge_records(r1, r2, w, &mut m)?;
+    finish(w, &m)
+}
+
+/// Merges two archives of any size in the memory of one record of each, and says how large what was written is. Each
+/// slice is checked, and none is copied or hashed. The pieces in which the readers give their bytes do not matter.
+///
+/// It reads the left magic and the right one and writes the magic; then it reads the left record and the right one,
+/// writes the lesser of the two, or one of two that are equal, and reads on the side or sides that it came from, left
+/// first. An end record is read with the test that the input ends there.
+///
+/// # Errors
+///
+/// `Left` and `Right` with the fault that [`crate::read_archive`] gives of that side alone; `Write` where the writer
+/// failed. The writer has a beginning of an archive then, `written` bytes of it, and no end record.
+pub fn merge_streams<R: Source, S: Source, W: Sink>(
+    heap: &Heap,
+    left: &mut R,
+    right: &mut S,
+    w: &mut W,
+) -> Result<Sizes, MergeFault>
+    ensures { Merges (stream R.left R.failures left.old left.new) (stream S.left S.failures right.old right.new)
+        (stream W.held W.failures w.old w.new) result }
+{
+    merge_taken(heap, left, right, w)
+}
