@@ -12,7 +12,7 @@ use Rattle.archive_core.specs.declared.keys.ArchKey.{ArchKey}
 use Rattle.archive_core.specs.declared.keys.Digest.{Digest}
 use Rattle.command_line.specs.Lines.{KeepsInputs, Line, admit, admit_of, all_spelled_at, apply, apply_of, delta, delta_of}
 use Rattle.command_line.specs.Lines.{find, find_of, is_path_among, kept, line_in, merge, merge_of, new}
-use Rattle.command_line.specs.Lines.{optional_at, plan_view, retire, retire_of, spelled_at, summary, summary_of}
+use Rattle.command_line.specs.Lines.{optional_at, plan_view, rehearse, retire, retire_of, spelled_at, summary, summary_of}
 use Rattle.command_line.specs.Lines.{symbolicate, symbolicate_of}
 use Rattle.archive_words.specs.Words.{address_of, arch_of, digest_of}
 use Rattle.command_line.specs.declared.line_faults.LineFault.{LineFault}
@@ -39,6 +39,10 @@ kept-KeepsInputs out inputs line l keeps is = tested (is_path_among out inputs) 
 new_line-KeepsInputs : (out : Option Text) (l : Line) → Some l ≡ option_map new out → KeepsInputs l
 new_line-KeepsInputs (Some o) l is = subst KeepsInputs {x = new o} {y = l} (cc) tt
 new_line-KeepsInputs None l is = cc
+
+rehearse_line-KeepsInputs : (script : Option Text) (l : Line) → Some l ≡ option_map rehearse script → KeepsInputs l
+rehearse_line-KeepsInputs (Some s) l is = subst KeepsInputs {x = rehearse s} {y = l} (cc) tt
+rehearse_line-KeepsInputs None l is = cc
 
 admit_of-KeepsInputs : (input out : Option Text) (files : Option (List Text)) (l : Line)
     → Some l ≡ admit_of input out files → KeepsInputs l
@@ -133,7 +137,8 @@ line_in-KeepsInputs (name, rows) l =
     (first_of (codes "OUT") rows) l)
     (chosen (bytes_eq name (codes "delta")) _ _ l (delta_of-KeepsInputs (first_of (codes "ARCHIVE") rows)
     (first_of (codes "SUMMARY") rows) (first_of (codes "OUT") rows) l)
-    (λ is. cc)))))))))
+    (chosen (bytes_eq name (codes "rehearse")) _ _ l (rehearse_line-KeepsInputs (first_of (codes "SCRIPT") rows) l)
+    (λ is. cc))))))))))
 
 -- so does a plan
 pub planned-KeepsInputs : (named : Text × List Row) (result : Result Plan LineFault)

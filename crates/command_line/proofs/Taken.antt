@@ -22,7 +22,7 @@ use Rattle.command_line.specs.Lines.{apply_of, are_taken, delta, delta_line, del
 use Rattle.command_line.specs.Lines.{find_line, find_of, has_form, have_forms, inputs_at, is_in_order, is_path_among}
 use Rattle.command_line.specs.Lines.{kept, line_in}
 use Rattle.command_line.specs.Lines.{line_of, merge, merge_line, merge_of, named_command, new, new_line, optional_at}
-use Rattle.command_line.specs.Lines.{retire, retire_line, retire_of}
+use Rattle.command_line.specs.Lines.{rehearse, rehearse_line, retire, retire_line, retire_of}
 use Rattle.command_line.specs.Lines.{spares_inputs, spelled_at, spelled_if_there, symbolicate, symbolicate_line}
 use Rattle.command_line.specs.Lines.{summary, summary_line, summary_of, symbolicate_of, words_at}
 use Rattle.archive_words.specs.Words.{address_of, arch_of, digest_of}
@@ -384,6 +384,16 @@ symbolicate_some rules rows asks o =
     (there (codes "ADDRESS") rules rows o rest.1) tests.1 in
     subst IsSome (sym (λ i. symbolicate_of (archive.first i) (uuid.1 i) (arch.1 i) (load.1 i) (addresses.1 i))) refl
 
+asks_script : List Rule → Bool
+asks_script rules = requires (codes "SCRIPT") rules
+
+rehearse_some : (rules : List Rule) (rows : List Row) → asks_script rules ≡ true → InOrder rules rows
+    → IsSome (rehearse_line rows)
+unfolding asks_script
+rehearse_some rules rows asks o =
+    let script = there (codes "SCRIPT") rules rows o asks in
+    subst (λ x. IsSome (option_map rehearse x)) (sym script.first) refl
+
 -- ---- any of them
 
 -- the command of this name requires what its line asks for
@@ -400,6 +410,7 @@ asks name rules =
     then asks_uuid (codes "ARCHIVE") (requires (codes "ARCH") rules && requires (codes "ADDRESS") rules) rules
     else if bytes_eq name (codes "summary") then asks_archive true rules
     else if bytes_eq name (codes "delta") then asks_archive (requires (codes "SUMMARY") rules) rules
+    else if bytes_eq name (codes "rehearse") then asks_script rules
     else false
 
 chosen : (b p q : Bool) (x y : Option Line) → (p ≡ true → IsSome x) → (q ≡ true → IsSome y)
@@ -420,7 +431,8 @@ line_some name rules rows o =
     (chosen (bytes_eq name (codes "symbolicate")) _ _ _ _ (λ is. symbolicate_some rules rows is o)
     (chosen (bytes_eq name (codes "summary")) _ _ _ _ (λ is. summary_some rules rows is o)
     (chosen (bytes_eq name (codes "delta")) _ _ _ _ (λ is. delta_some rules rows is o)
-    (λ is. absurd (true≢false (sym is)))))))))))
+    (chosen (bytes_eq name (codes "rehearse")) _ _ _ _ (λ is. rehearse_some rules rows is o)
+    (λ is. absurd (true≢false (sym is))))))))))))
 
 -- ---- commands that are built
 
@@ -512,7 +524,7 @@ taken_some a words sound taken tests =
 -- ---- the program's command
 
 symarch_sound : IsSound (built symarch_command)
-unfolding symarch_command is_sound asks asks_new asks_with asks_uuid asks_archive
+unfolding symarch_command is_sound asks asks_new asks_with asks_uuid asks_archive asks_script
 symarch_sound = record { needs_command = refl; has_help = refl; values = refl; commands = refl }
 
 -- a line that is taken, in which each value has its form and OUT's path is no input's, asks for something

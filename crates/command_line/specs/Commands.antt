@@ -75,8 +75,13 @@ abbrev pub delta_command : App
 delta_command = with_rules (new_app (codes "delta"))
     (one_value (codes "ARCHIVE") ∷ one_value (codes "SUMMARY") ∷ one_value (codes "OUT") ∷ [])
 
+-- `rehearse SCRIPT`
+abbrev pub rehearse_command : App
+rehearse_command = with_rules (new_app (codes "rehearse")) (one_value (codes "SCRIPT") ∷ [])
+
 -- the program's own
 unfoldable pub symarch_command : App
 symarch_command = needing_command
     (with_commands (new_app (codes "symarch")) (new_command ∷ admit_command ∷ retire_command
-    ∷ merge_command ∷ apply_command ∷ find_command ∷ symbolicate_command ∷ summary_command ∷ delta_command ∷ []))
+    ∷ merge_command ∷ apply_command ∷ find_command ∷ symbolicate_command ∷ summary_command
+    ∷ delta_command ∷ rehearse_command ∷ []))

@@ -24,6 +24,7 @@ pub data Line : Type 0 where
   symbolicate : (archive : Text) (uuid : List ℕ) (arch : ArchKey) (load : Option ℕ) (addresses : List ℕ) → Line
   summary : (archive out : Text) → Line
   delta : (archive summary out : Text) → Line
+  rehearse : (script : Text) → Line
 
 -- ---- the words, by `clap`'s own definitions
 
@@ -150,6 +151,10 @@ abbrev pub delta_line : List Row → Option Line
 delta_line rows = delta_of (first_of (codes "ARCHIVE") rows) (first_of (codes "SUMMARY") rows)
     (first_of (codes "OUT") rows)
 
+-- `rehearse SCRIPT`
+abbrev pub rehearse_line : List Row → Option Line
+rehearse_line rows = option_map rehearse (first_of (codes "SCRIPT") rows)
+
 -- by the command's name and what stands at its names
 abbrev pub line_in : Text × List Row → Option Line
 line_in p =
@@ -162,6 +167,7 @@ line_in p =
     else if bytes_eq p.0 (codes "symbolicate") then symbolicate_line p.1
     else if bytes_eq p.0 (codes "summary") then summary_line p.1
     else if bytes_eq p.0 (codes "delta") then delta_line p.1
+    else if bytes_eq p.0 (codes "rehearse") then rehearse_line p.1
     else None
 
 -- what the words ask for, where each value is there and has its form, and OUT is no input
@@ -184,7 +190,7 @@ have_forms rows = has_form parsed (codes "UUID") rows && (has_form arch_of (code
     && (has_form digest_of (codes "DIGEST") rows && (has_form address_of (codes "HEX") rows
     && has_form address_of (codes "ADDRESS") rows)))
 
--- the paths of the inputs
+-- the paths of the inputs of commands that write OUT
 abbrev pub inputs_at : List Row → List Text
 inputs_at rows =
     words_at (codes "IN") rows ++ (words_at (codes "FILE") rows ++ (words_at (codes "OPS") rows
@@ -217,6 +223,7 @@ plan_view (plan.Symbolicate archive uuid arch load addresses) =
     symbolicate (string_bytes archive) uuid arch load addresses.items
 plan_view (plan.Summary archive out) = summary (string_bytes archive) (string_bytes out)
 plan_view (plan.Delta archive named out) = delta (string_bytes archive) (string_bytes named) (string_bytes out)
+plan_view (plan.Rehearse script) = rehearse (string_bytes script)
 
 -- OUT is no input, as text
 abbrev pub KeepsInputs : Line → Type 0
@@ -229,3 +236,4 @@ KeepsInputs (find archive uuid) = ⊤
 KeepsInputs (symbolicate archive uuid arch load addresses) = ⊤
 KeepsInputs (summary archive out) = ¬ Contains (archive ∷ []) out
 KeepsInputs (delta archive named out) = ¬ Contains (archive ∷ named ∷ []) out
+KeepsInputs (rehearse script) = ⊤

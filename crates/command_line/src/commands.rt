@@ -5,7 +5,7 @@ ghost use Rattle.clap.specs.Words.{app_of, new_app, with_rule};
 ghost use Rattle.clap.specs.declared.builder.command.Command.TheViews.{out-Command};
 ghost use Rattle.command_line.specs.Commands.{admit_command, apply_command, find_command};
 ghost use Rattle.command_line.specs.Commands.{merge_command, new_command, one_option, one_value};
-ghost use Rattle.command_line.specs.Commands.{retire_command, several_values, symarch_command};
+ghost use Rattle.command_line.specs.Commands.{rehearse_command, retire_command, several_values, symarch_command};
 ghost use Rattle.command_line.specs.Commands.{delta_command, summary_command, symbolicate_command};
 
 use clap::{Arg, ArgAction, Command};
@@ -173,6 +173,19 @@ fn delta_command<'a>(alloc: Global) -> Result<Command<'a>, AllocError>
     with_one_value(alloc, command, "OUT", "The archive to write")
 }
 
+/// `rehearse SCRIPT`
+fn rehearse_command<'a>(alloc: Global) -> Result<Command<'a>, AllocError>
+    ensures app { IfOk result (λ c. app_of c ≡ rehearse_command) }
+    ensures local { IfOk result (λ c. (out-Command c).has_globals ≡ false) }
+{
+    let command = bare_command(
+        alloc,
+        "rehearse",
+        "Carries out events at sites that exchange",
+    );
+    with_one_value(alloc, command, "SCRIPT", "The script of the events")
+}
+
 /// The program's command with its subcommands, one of which has to be named.
 #[tactic(auto, unfolding(crate::specs::Commands::symarch_command))]
 pub fn symarch_command<'a>(alloc: Global) -> Result<Command<'a>, AllocError>
@@ -189,5 +202,6 @@ pub fn symarch_command<'a>(alloc: Global) -> Result<Command<'a>, AllocError>
     let command = command.subcommand(symbolicate_command(alloc)?)?;
     let command = command.subcommand(summary_command(alloc)?)?;
     let command = command.subcommand(delta_command(alloc)?)?;
+    let command = command.subcommand(rehearse_command(alloc)?)?;
     Ok(command.subcommand_required(true))
 }

@@ -5,7 +5,7 @@
 //! - `commands`: the commands, as `clap` builds them;
 //! - `values`: the values that `clap` puts at the names of a command;
 //! - `updates`: the plans of the commands that write OUT;
-//! - `queries`: the plans of the commands that ask one;
+//! - `queries`: the plans of the commands that only report;
 //! - `reads`: a line, read.
 #![tactic(auto)]
 

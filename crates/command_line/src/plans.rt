@@ -62,4 +62,8 @@ pub enum Plan {
         summary: String,
         out: String,
     },
+    /// `rehearse SCRIPT`: to carry out the events of a script, and tell what comes of them.
+    Rehearse {
+        script: String,
+    },
 }

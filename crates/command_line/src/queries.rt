@@ -1,9 +1,9 @@
-//! The plans of the commands that ask an archive. One function a command says which value stands at
+//! The plans of the commands that only report. One function a command says which value stands at
 //! which name.
 
 ghost use Rattle.std.specs.Prelude.{◌≡◌, IfErr, IfOk, IsSome, Some};
 ghost use Rattle.clap.specs.Words.{found_of, rows_of};
-ghost use Rattle.command_line.specs.Lines.{find_line, plan_view, symbolicate_line};
+ghost use Rattle.command_line.specs.Lines.{find_line, plan_view, rehearse_line, symbolicate_line};
 ghost use Rattle.command_line.specs.Told.{IsRefusalUnlessMemory};
 
 use crate::line_faults::LineFault;
@@ -46,5 +46,18 @@ pub fn plan_symbolicate(alloc: Global, matches: &ArgMatches) -> Result<Plan, Lin
         arch,
         load,
         addresses,
+    })
+}
+
+/// `rehearse SCRIPT`
+pub fn plan_rehearse(alloc: Global, matches: &ArgMatches) -> Result<Plan, LineFault>
+    ensures ok { IfOk result (λ p. Some (plan_view p) ≡ rehearse_line (rows_of (found_of matches.now))) }
+    ensures err { IsSome (rehearse_line (rows_of (found_of matches.now)))
+        → IfErr result (λ e. e ≡ LineFault.OutOfMemory) }
+    ensures refusal { IfErr result IsRefusalUnlessMemory }
+{
+    let script = one_value(alloc, matches, "SCRIPT")?;
+    Ok(Plan::Rehearse {
+        script: String::from_str(alloc, script)?,
     })
 }

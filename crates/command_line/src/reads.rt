@@ -10,7 +10,7 @@ ghost use Rattle.command_line.specs.Told.{IsHelpUnlessMemory, IsRefusalUnlessMem
 use crate::commands::symarch_command;
 use crate::line_faults::{LineFault, parse_fault, refused};
 use crate::plans::Plan;
-use crate::queries::{plan_find, plan_symbolicate};
+use crate::queries::{plan_find, plan_rehearse, plan_symbolicate};
 use crate::updates::{
     plan_admit, plan_apply, plan_delta, plan_merge, plan_new, plan_retire, plan_summary,
 };
@@ -45,6 +45,8 @@ fn plan_in(alloc: Global, name: &str, matches: &ArgMatches) -> Result<Plan, Line
         plan_summary(alloc, matches)
     } else if name == "delta" {
         plan_delta(alloc, matches)
+    } else if name == "rehearse" {
+        plan_rehearse(alloc, matches)
     } else {
         Err(refused(format!(in alloc; "error: no such command: {name}\n")))
     }

@@ -26,7 +26,9 @@ returns-clause-app c =
     (c.in_ok-command-8.ensures.shape c.in_ok-summary_command.ensures.local) in
     let delta = with_one_more _ _ _ _ _ summary c.in_ok-delta_command.ensures.app
     (c.in_ok-command-9.ensures.shape c.in_ok-delta_command.ensures.local) in
-    ap app_of_fields c.subcommand_required.ensures ∙ ap needing_command delta
+    let rehearse = with_one_more _ _ _ _ _ delta c.in_ok-rehearse_command.ensures.app
+    (c.in_ok-command-10.ensures.shape c.in_ok-rehearse_command.ensures.local) in
+    ap app_of_fields c.subcommand_required.ensures ∙ ap needing_command rehearse
 
 pub returns-clause-local : goal.returns-clause-local
 returns-clause-local c =
@@ -40,4 +42,5 @@ returns-clause-local c =
     let symbolicate = with_no_global _ _ _ c.in_ok-command-7.ensures.globals find c.in_ok-symbolicate_command.ensures.local in
     let summary = with_no_global _ _ _ c.in_ok-command-8.ensures.globals symbolicate c.in_ok-summary_command.ensures.local in
     let delta = with_no_global _ _ _ c.in_ok-command-9.ensures.globals summary c.in_ok-delta_command.ensures.local in
-    ap (λ fields. fields.has_globals) c.subcommand_required.ensures ∙ delta
+    let rehearse = with_no_global _ _ _ c.in_ok-command-10.ensures.globals delta c.in_ok-rehearse_command.ensures.local in
+    ap (λ fields. fields.has_globals) c.subcommand_required.ensures ∙ rehearse
