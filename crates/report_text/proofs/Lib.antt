@@ -1,3 +1,4 @@
 pub mod Escapes
+pub mod Events
 pub mod Grouped
 pub mod Counted

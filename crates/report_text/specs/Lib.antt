@@ -3,3 +3,4 @@ pub mod Rows
 pub mod Report
 pub mod Finds
 pub mod Answers
+pub mod Rehearsal

@@ -5,18 +5,21 @@
 //! - `report`: reports, made whole in memory;
 //! - `finds`: the lines of `find`;
 //! - `answers`: the lines of `symbolicate`;
+//! - `rehearsals`: the lines of `rehearse`;
 //! - [`laws`]: what holds of the lines of `find`.
 #![tactic(auto)]
 
 mod answers;
 mod finds;
 pub mod laws;
+mod rehearsals;
 mod report;
 mod rows;
 mod texts;
 
 pub use answers::{Escaped, push_answer};
 pub use finds::find_lines;
+pub use rehearsals::{push_events, push_site};
 pub use report::{admit_lines, apply_line, retire_line, summary_line, with_sizes};
 pub use rows::AdmitRow;
 pub use texts::Text;
