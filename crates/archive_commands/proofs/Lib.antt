@@ -13,3 +13,5 @@ pub mod AcceptedOperations
 pub mod AcceptedSummary
 pub mod Answered
 pub mod Viewed
+pub mod Rehearsed
+pub mod OneRehearsal

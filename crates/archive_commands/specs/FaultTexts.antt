@@ -1,11 +1,12 @@
 -- The printed texts of the faults of commands.
 use Rattle.std.specs.Prelude.{List, ℕ, ◌++◌, codes}
 use Rattle.std.specs.Fmt.{decimal}
+use Rattle.report_text.specs.Rehearsal.{script_fault_text}
 use Rattle.report_text.specs.Texts.{record_fault_text, take_fault_text}
 use Rattle.archive_commands.specs.declared.faults.Place.{Place}
-use Rattle.archive_commands.specs.declared.faults.Place.TheVariants.{Archive, File, Ops, Summary}
+use Rattle.archive_commands.specs.declared.faults.Place.TheVariants.{Archive, File, Ops, Summary, Script as ScriptPlace}
 use Rattle.archive_commands.specs.declared.faults.Why.{Why}
-use Rattle.archive_commands.specs.declared.faults.Why.TheVariants.{CannotOpen, Device, Record, Take}
+use Rattle.archive_commands.specs.declared.faults.Why.TheVariants.{CannotOpen, Device, Record, Take, Script}
 use Rattle.archive_commands.specs.declared.faults.CommandFault.{CommandFault}
 use Rattle.archive_commands.specs.declared.faults.CommandFault.TheVariants.{Input, Output, Report, OutOfMemory}
 
@@ -15,6 +16,7 @@ place_text (Archive number) = codes "archive " ++ decimal number
 place_text (File number) = codes "file " ++ decimal number
 place_text Ops = codes "ops"
 place_text Summary = codes "summary"
+place_text ScriptPlace = codes "script"
 
 -- what is wrong with an input
 unfoldable pub why_text : Why → List ℕ
@@ -22,6 +24,7 @@ why_text CannotOpen = codes "cannot open"
 why_text Device = codes "Device"
 why_text (Record fault) = record_fault_text fault
 why_text (Take fault) = take_fault_text fault
+why_text (Script fault line) = script_fault_text fault ++ codes " at line " ++ decimal line
 
 -- where a device failed: the number of bytes that it had taken
 abbrev pub failed_after : ℕ → List ℕ

@@ -14,13 +14,14 @@ use Rattle.archive_records.specs.declared.kind.TextKind.TheVariants.{Archive as 
 use Rattle.archive_exchange.specs.File.{IsAcceptedFile, IsTakeFault}
 use Rattle.archive_exchange.specs.declared.fault.TakeFault.{TakeFault}
 use Rattle.archive_exchange.specs.declared.fault.TakeFault.TheVariants.{OutOfMemory as TakeOutOfMemory}
+use Rattle.rehearsal.specs.Script.{script_of}
 use Rattle.archive_commands.specs.declared.faults.CannotOpen.{CannotOpen}
 use Rattle.archive_commands.specs.declared.faults.CommandFault.{CommandFault}
 use Rattle.archive_commands.specs.declared.faults.CommandFault.TheVariants.{Input, Output, Report, OutOfMemory}
 use Rattle.archive_commands.specs.declared.faults.Place.{Place}
-use Rattle.archive_commands.specs.declared.faults.Place.TheVariants.{Archive, File, Ops, Summary}
+use Rattle.archive_commands.specs.declared.faults.Place.TheVariants.{Archive, File, Ops, Summary, Script}
 use Rattle.archive_commands.specs.declared.faults.Why.{Why}
-use Rattle.archive_commands.specs.declared.faults.Why.TheVariants.{Device as CannotRead, Record, Take, CannotOpen as NotOpened}
+use Rattle.archive_commands.specs.declared.faults.Why.TheVariants.{Device as CannotRead, Record, Take, Script as Faulty, CannotOpen as NotOpened}
 
 -- An input in a call, before it and after it: a reader, or that none was opened. The functions tell what a reader has
 -- left, where that is known, and how often it has failed.
@@ -112,6 +113,16 @@ IsFileRefused input why =
     × IfSome (input.left source) (λ bytes. IsTakeFault bytes fault)))
     (λ _. why ≡ NotOpened)
 
+-- why a script is not carried out: it was not opened, the reader failed, or it did not and this is wrong with the first
+-- faulty line of its bytes
+abbrev pub IsScriptRefused : {S : Type 0} → Reader S → Why → Type 0
+IsScriptRefused input NotOpened = MatchResult input.old (λ _. ⊥) (λ _. Unit {0})
+IsScriptRefused input CannotRead =
+    MatchResult input.old (λ source. FailedIn (input.failures source) (failures_of input.failures input.new)) (λ _. ⊥)
+IsScriptRefused input (Faulty fault line) = Unfailed input × Gives input (λ bytes. script_of bytes ≡ Err (fault, line))
+IsScriptRefused input (Record _) = ⊥
+IsScriptRefused input (Take _) = ⊥
+
 -- The input is the text of a content.
 abbrev pub IsArchive : {S : Type 0} → Reader S → Type 0
 IsArchive input = (o : Operations) × IsContent o × Holds input (written o)
@@ -140,6 +151,10 @@ IsRefusedOps input at why = (at ≡ Ops) × IsOpsRefused input why
 -- the summary is refused
 abbrev pub IsRefusedSummary : {S : Type 0} → Reader S → Place → Why → Type 0
 IsRefusedSummary input at why = (at ≡ Summary) × IsSummaryRefused input why
+
+-- the script is refused
+abbrev pub IsRefusedScript : {S : Type 0} → Reader S → Place → Why → Type 0
+IsRefusedScript input at why = (at ≡ Script) × IsScriptRefused input why
 
 -- One of these inputs, which have such places in the words, is refused: those before it are accepted, with no reader
 -- of theirs failing, and those behind it are untouched.
@@ -178,3 +193,4 @@ IsDeviceFault NotOpened = ⊥
 IsDeviceFault CannotRead = Unit {0}
 IsDeviceFault (Record fault) = fault.kind ≡ Device
 IsDeviceFault (Take _) = ⊥
+IsDeviceFault (Faulty _ _) = ⊥

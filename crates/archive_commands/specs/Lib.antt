@@ -10,3 +10,4 @@ pub mod Find
 pub mod Symbolicate
 pub mod Summary
 pub mod Delta
+pub mod Rehearse

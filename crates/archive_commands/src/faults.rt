@@ -2,6 +2,7 @@
 
 use archive_exchange::TakeFault;
 use archive_records::RecordFault;
+use rehearsal::ScriptFault;
 use report_text::Text;
 use std::alloc::{AllocError, AllocFailed};
 use std::error::Error;
@@ -35,6 +36,8 @@ pub enum Place {
     Ops,
     /// The summary that an archive is compared with.
     Summary,
+    /// The script that is carried out.
+    Script,
 }
 
 /// What is wrong with an input.
@@ -42,12 +45,14 @@ pub enum Place {
 pub enum Why {
     /// It could not be opened.
     CannotOpen,
-    /// Reading a file of slices failed.
+    /// Reading a file of slices or a script failed.
     Device,
     /// It is no text of an archive, of operations or of a summary, or reading it failed.
     Record(RecordFault),
     /// Its slices are not taken.
     Take(TakeFault),
+    /// It is no script; the line is the first faulty one, counted from 1.
+    Script { fault: ScriptFault, line: u64 },
 }
 
 /// Why a command is refused.
@@ -102,6 +107,7 @@ impl fmt::Display for Place {
             Place::File(number) => write!(f, "file {number}"),
             Place::Ops => f.write_str("ops"),
             Place::Summary => f.write_str("summary"),
+            Place::Script => f.write_str("script"),
         }
     }
 }
@@ -124,6 +130,10 @@ impl fmt::Display for Why {
             Why::Take(fault) => {
                 let fault = Text(*fault);
                 write!(f, "{fault}")
+            }
+            Why::Script { fault, line } => {
+                let fault = Text(*fault);
+                write!(f, "{fault} at line {line}")
             }
         }
     }

@@ -7,9 +7,9 @@
 //! - `failures`: the line that the program says where it fails;
 //! - `sources`: the inputs;
 //! - `publish`: the end of each command;
-//! - `new`, `admit`, `retire`, `merge`, `apply`, `find`, `symbolicate`, `summary`, `delta`: a command each;
-//! - [`admit_laws`], [`merge_laws`], [`apply_laws`], [`symbolicate_laws`], [`exchange_laws`]: what the definitions of the
-//!   commands say in the words of their user.
+//! - `new`, `admit`, `retire`, `merge`, `apply`, `find`, `symbolicate`, `summary`, `delta`, `rehearse`: a command each;
+//! - [`admit_laws`], [`merge_laws`], [`apply_laws`], [`symbolicate_laws`], [`exchange_laws`], [`rehearse_laws`]: what the
+//!   definitions of the commands say in the words of their user.
 #![tactic(auto)]
 
 mod admit;
@@ -25,6 +25,8 @@ mod merge;
 pub mod merge_laws;
 mod new;
 mod publish;
+mod rehearse;
+pub mod rehearse_laws;
 mod retire;
 mod sources;
 mod summary;
@@ -39,6 +41,7 @@ pub use faults::{CannotCreate, CannotOpen, CommandFault, Place, Status, Why};
 pub use find::run_find;
 pub use merge::run_merge;
 pub use new::run_new;
+pub use rehearse::run_rehearse;
 pub use retire::run_retire;
 pub use summary::run_summary;
 pub use symbolicate::run_symbolicate;

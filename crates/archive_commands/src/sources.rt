@@ -1,12 +1,13 @@
 //! The inputs of a command, each opened beforehand and refused at its turn.
-ghost use Rattle.std.specs.Prelude.{◌≡◌, ◌≢◌, OnOk, IfOk, IfErr};
+ghost use Rattle.std.specs.Prelude.{◌≡◌, ◌≢◌, Ok, OnOk, IfOk, IfErr};
 ghost use Rattle.archive_core.specs.Content.{IsContent};
 ghost use Rattle.archive_records.specs.declared.fault.RecordFaultKind.TheVariants.{OutOfMemory as RecordOutOfMemory};
 ghost use Rattle.archive_records.specs.Entry.{AreEntries};
 ghost use Rattle.archive_records.specs.Text.{IsOperationsText, summary_text, written};
+ghost use Rattle.rehearsal.specs.Script.{acts, script_of};
 ghost use Rattle.archive_commands.specs.declared.faults.Why.TheVariants.{Record};
 ghost use Rattle.archive_commands.specs.Inputs.{Gives, Holds, IsRefusal, IsRefusedArchive, IsRefusedFile, IsRefusedOps};
-ghost use Rattle.archive_commands.specs.Inputs.{IsRefusedSummary, Unfailed, reader};
+ghost use Rattle.archive_commands.specs.Inputs.{IsRefusedScript, IsRefusedSummary, Unfailed, reader};
 
 use crate::faults::{CannotOpen, CommandFault, Place, Why};
 use archive_core::{Archive, Operation};
@@ -15,6 +16,7 @@ use archive_records::{
 };
 use byte_device::{ReadFault, Source, read_to_end};
 use memory::Heap;
+use rehearsal::{Script, ScriptError, read_script};
 
 /// The refusal of an input at a place, whose text has this fault or whose reader failed.
 fn refusal(at: Place, fault: RecordFault) -> CommandFault
@@ -121,5 +123,36 @@ pub(crate) fn read_named<S: Source>(
     match read_summary(heap, source) {
         Ok(entries) => Ok(entries),
         Err(fault) => Err(refusal(at, fault)),
+    }
+}
+
+/// Reads the script that is carried out, to its end, and then what it says.
+pub(crate) fn read_events<S: Source>(
+    heap: Heap,
+    script: &mut Result<S, CannotOpen>,
+) -> Result<Script, CommandFault>
+    ensures script { IfOk result (λ said. Gives (reader S.left S.failures script.old script.new)
+        (λ bytes. script_of bytes ≡ Ok (said.sites, acts said.events.items))) }
+    ensures unfailed { OnOk result (Unfailed (reader S.left S.failures script.old script.new)) }
+    ensures refused { IfErr result
+        (IsRefusal (IsRefusedScript (reader S.left S.failures script.old script.new))
+        (Unfailed (reader S.left S.failures script.old script.new))) }
+{
+    let at = Place::Script;
+    let source = match script {
+        Ok(source) => source,
+        Err(CannotOpen) => return Err(CommandFault::Input(at, Why::CannotOpen)),
+    };
+    let bytes = match read_to_end(heap.clone()?, source) {
+        Ok(bytes) => bytes,
+        Err(ReadFault::Device) => return Err(CommandFault::Input(at, Why::Device)),
+        Err(ReadFault::OutOfMemory) => return Err(CommandFault::OutOfMemory),
+    };
+    match read_script(heap, &bytes) {
+        Ok(said) => Ok(said),
+        Err(ScriptError::Faulty { fault, line }) => {
+            Err(CommandFault::Input(at, Why::Script { fault, line }))
+        }
+        Err(ScriptError::OutOfMemory) => Err(CommandFault::OutOfMemory),
     }
 }
