@@ -7,7 +7,6 @@ use crate::ends::{End, Left};
 use crate::faults::{CallFault, CaseFault};
 use crate::images::{tell_fat, tell_image, tell_kind, tell_named, tell_nearest, tell_slice};
 use crate::parts::bytes_of;
-use crate::rehearsals::tell_rehearsal;
 use command_line::Plan;
 use memory::Heap;
 
@@ -27,7 +26,6 @@ pub enum Call<'t> {
     Take(&'t str),
     /// The name of another archive.
     Join(&'t str),
-    Rehearse,
 }
 
 /// What a case asks for.
@@ -52,7 +50,6 @@ impl<'t> Task<'t> {
             "front" => Call::Front,
             "take" => Call::Take(rest),
             "join" => Call::Join(rest),
-            "rehearse" => Call::Rehearse,
             _ => return Err(CaseFault::BadLine),
         };
         Ok(Task::Call(call, name))
@@ -104,7 +101,6 @@ impl<'a> Desk<'a> {
                 let other = self.bytes(other).ok_or(CaseFault::BadLine)?;
                 tell_join(self.heap()?, Heap::new(self.alloc)?, bytes, other, told)
             }
-            Call::Rehearse => tell_rehearsal(self.heap()?, bytes, told),
         })
     }
 }

@@ -36,9 +36,7 @@
 //! - `take ARCHIVE OPS`: the operations of a file, taken into an archive in turn: `admit UUID ARCH SHA256 new` or
 //!   `retire ..`, where the word at the end is `new` if that changed the archive, `held` if it was there before, or
 //!   else `covered`; then `2 records`;
-//! - `join ARCHIVE OTHER`: an archive before and after it is joined with another: `2 records, all of the other: no`;
-//! - `rehearse NAME`: the script of a rehearsal, a line an event, as `0 took 1 0 0`, `1 sent 0 74` or `2 refused NoSite`,
-//!   and a line a site: `site 0 RECORDS BYTES SHA256`, of its archive's text.
+//! - `join ARCHIVE OTHER`: an archive before and after it is joined with another: `2 records, all of the other: no`.
 //!
 //! A case that is not swept is carried out again with inputs in pieces of 1 and of 7 bytes. A report of more than 40
 //! lines is told as their number and the SHA-256 of all: `5000 lines SHA256`. What contradicts itself is told in a line

@@ -4,7 +4,7 @@ use crate::desk::{Desk, TriedArchive};
 use crate::ends::{End, Left};
 use archive_commands::{
     CommandFault, Status, run_admit, run_apply, run_delta, run_find, run_merge, run_new,
-    run_retire, run_summary, run_symbolicate,
+    run_rehearse, run_retire, run_summary, run_symbolicate,
 };
 use archive_core::SliceKey;
 use byte_device::Short;
@@ -33,7 +33,7 @@ impl<'a> Desk<'a> {
         })
     }
 
-    // A plan that asks, or else one that writes OUT.
+    // A plan that only reports, or else one that writes OUT.
     fn execute(self, plan: &Plan, outputs: &mut Outputs) -> Result<Status, CommandFault> {
         match plan {
             Plan::Find { archive, uuid } => {
@@ -61,6 +61,10 @@ impl<'a> Desk<'a> {
                     addresses,
                     report,
                 )
+            }
+            Plan::Rehearse { script } => {
+                let mut script = self.open(script);
+                run_rehearse::<TriedArchive, _, _>(self.heap()?, &mut script, &mut outputs.report)
             }
             _ => self.update(plan, outputs),
         }
@@ -141,6 +145,6 @@ pub fn out_of(plan: &Plan) -> Option<&str> {
         | Plan::Apply { out, .. }
         | Plan::Summary { out, .. }
         | Plan::Delta { out, .. } => Some(out),
-        Plan::Find { .. } | Plan::Symbolicate { .. } => None,
+        Plan::Find { .. } | Plan::Symbolicate { .. } | Plan::Rehearse { .. } => None,
     }
 }

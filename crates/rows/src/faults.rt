@@ -7,7 +7,6 @@ use hex::FromHexError;
 use macho_image::ImageFault;
 use macho_symbols::SymbolFault;
 use memory::NoMemory;
-use rehearsal::{ScriptError, ScriptFault};
 use std::alloc::AllocFailed;
 use std::fmt;
 
@@ -29,8 +28,6 @@ pub enum CallFault {
     Slice(SliceFault),
     /// The bytes are no text of an archive or of operations, or their reader failed.
     Record(RecordFault),
-    /// The bytes are no script of a rehearsal; the line is counted from 1.
-    Script(ScriptFault, u64),
     /// A growth was refused.
     OutOfMemory,
 }
@@ -96,22 +93,12 @@ impl From<RecordFault> for CallFault {
     }
 }
 
-impl From<ScriptError> for CallFault {
-    fn from(refused: ScriptError) -> CallFault {
-        match refused {
-            ScriptError::Faulty { fault, line } => CallFault::Script(fault, line),
-            ScriptError::OutOfMemory => CallFault::OutOfMemory,
-        }
-    }
-}
-
 impl fmt::Display for CallFault {
     fn fmt<W: fmt::Write>(&self, f: &mut fmt::Formatter<W>) -> fmt::Result {
         match *self {
             CallFault::Fat(fault) => write!(f, "{fault:?}"),
             CallFault::Slice(fault) => write!(f, "{fault:?}"),
             CallFault::Record(RecordFault { kind, offset }) => write!(f, "{kind:?} at {offset}"),
-            CallFault::Script(fault, line) => write!(f, "{fault:?} at line {line}"),
             CallFault::OutOfMemory => f.write_str("OutOfMemory"),
         }
     }

@@ -11,7 +11,7 @@
 //! - `desk`: what a case goes over;
 //! - `ends`: how a case ends, and what it leaves;
 //! - `commands`: a plan, carried out;
-//! - `images`, `archives`, `rehearsals`, `calls`: calls below the commands, carried out;
+//! - `images`, `archives`, `calls`: calls below the commands, carried out;
 //! - `outcomes`, `sweeps`: one case at each place of a device;
 //! - `tellings`: what is printed of a case;
 //! - `cases`: the lines of cases, their language.
@@ -30,7 +30,6 @@ mod images;
 mod limits;
 mod outcomes;
 mod parts;
-mod rehearsals;
 mod store;
 mod sweeps;
 mod tellings;

@@ -2,7 +2,7 @@
 
 use archive_commands::{
     CannotCreate, CommandFault, Failure, Status, run_admit, run_apply, run_delta, run_find,
-    run_merge, run_new, run_retire, run_summary, run_symbolicate,
+    run_merge, run_new, run_rehearse, run_retire, run_summary, run_symbolicate,
 };
 use archive_core::{Digest, PlainArchive, SliceKey};
 use archive_files::{OutFile, open_all, open_all_buffered, open_buffered};
@@ -123,6 +123,7 @@ fn execute<R: Files + Print + AllocGlobal>(rt: &R, plan: &Plan) -> Result<Status
             summary,
             out,
         } => delta(rt, heap, archive, summary, out),
+        Plan::Rehearse { script } => rehearse(rt, heap, script),
     }
 }
 
@@ -292,6 +293,18 @@ fn delta<R: Files + Print + AllocGlobal>(
         &mut report,
     );
     ended(result, &out)
+}
+
+/// `rehearse SCRIPT`
+fn rehearse<R: Files + Print + AllocGlobal>(
+    rt: &R,
+    heap: Heap,
+    script: &str,
+) -> Result<Status, Failure> {
+    let mut report = Writing::new(io::writer(rt));
+    let mut script = open_buffered(rt.alloc(), rt, script)?;
+    let status = run_rehearse::<PlainArchive, _, _>(heap, &mut script, &mut report)?;
+    Ok(status)
 }
 
 /// How a command ended that wrote to OUT: a file that was not created is told as such.
