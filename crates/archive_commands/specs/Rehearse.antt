@@ -30,8 +30,8 @@ site_lines held (suc n) = site_lines held n ++ held_line n (held n)
 abbrev pub rehearsal_lines : ℕ → List Outcome → World → List ℕ
 rehearsal_lines sites told w = event_lines (map message_text w.messages) 0 told ++ site_lines w.held sites
 
--- The events are carried out on so many sites, which begin empty: these outcomes tell what is answered to each, and these
--- are their lines and those of what the sites hold behind all events.
+-- The events are carried out on so many sites, which begin empty: these outcomes tell what is answered to each, and
+-- these are their lines and those of what the sites hold behind all events.
 pub record TellsEvents (sites : ℕ) (events : List Event) (text : List ℕ) : Type 0 where
   pub seen : List Seen
   pub told : List Outcome

@@ -8,8 +8,8 @@
 //! - `sources`: the inputs;
 //! - `publish`: the end of each command;
 //! - `new`, `admit`, `retire`, `merge`, `apply`, `find`, `symbolicate`, `summary`, `delta`, `rehearse`: a command each;
-//! - [`admit_laws`], [`merge_laws`], [`apply_laws`], [`symbolicate_laws`], [`exchange_laws`], [`rehearse_laws`]: what the
-//!   definitions of the commands say in the words of their user.
+//! - [`admit_laws`], [`merge_laws`], [`apply_laws`], [`symbolicate_laws`], [`exchange_laws`], [`rehearse_laws`]: what
+//!   the definitions of the commands say in the words of their user.
 #![tactic(auto)]
 
 mod admit;

@@ -61,14 +61,14 @@ fn lines_of<A: Archive + Drop>(heap: Heap, script: &Script) -> Result<String<Hea
     Ok(text)
 }
 
-/// Carries out the events of SCRIPT on sites that begin empty, and writes a line an event to the report, and behind them
-/// a line a site: how many records and bytes its archive has, and the SHA-256 of that archive's text. The script is read
-/// to its end before anything is carried out, and the lines are made whole before any is written. What events are
-/// refused for stands in their lines; the status is `Done` all the same.
+/// Carries out the events of SCRIPT on sites that begin empty, and writes a line an event to the report, and behind
+/// them a line a site: how many records and bytes its archive has, and the SHA-256 of that archive's text. The script
+/// is read to its end before anything is carried out, and the lines are made whole before any is written. Why an event
+/// is refused stands in its line; the status is `Done` all the same.
 ///
 /// # Errors
 ///
-/// `Input` where the script is refused; `Report` where the report failed; `OutOfMemory`, also where an event wants memory.
+/// `Input` where the script is refused; `Report` where the report failed; `OutOfMemory`, at whatever event.
 pub fn run_rehearse<A: Archive + Drop, S: Source, P: Sink>(
     heap: Heap,
     script: &mut Result<S, CannotOpen>,

@@ -147,8 +147,8 @@ fn push_outcome<A: Archive>(
     }
 }
 
-/// Writes the lines of a rehearsal's events: the number of each, counted from 0, and what is answered to it. Where memory
-/// is refused, a part of them may stand there.
+/// Writes the lines of a rehearsal's events: the number of each, counted from 0, and what is answered to it. Where
+/// memory is refused, a part of them may stand there.
 pub fn push_events<A: Archive>(
     text: &mut String<Heap>,
     world: &World<A>,
