@@ -3,6 +3,7 @@
 ghost use Rattle.std.specs.Prelude.{◌≡◌, ◌≤◌, ◌<◌, IfSome, IfOk, IsSome, length, true, false, []};
 ghost use Rattle.archive_files.specs.OutFiles.{is_created, is_not_created, is_untouched};
 
+use crate::identities::is_same_file;
 use byte_device::{Failed, Sink};
 use std::fs;
 use std::io::Write;
@@ -12,12 +13,13 @@ use std::rt::Files;
 const MOST_FAILURES: u64 = u64::MAX;
 
 /// OUT: a file that is created when the first bytes for it come, so that a command that is refused leaves none. A push
-/// of no bytes creates none.
+/// of no bytes creates none. What is there at its path is replaced, but an input's own file is spared.
 #[derive(Drop)]
 pub struct OutFile<'a, F: Files> {
     files: &'a F,
     path: &'a str,
     state: OutState<F::File>,
+    is_input: bool,
     failures: u64,
 }
 
@@ -39,7 +41,32 @@ impl<'a, F: Files> OutFile<'a, F> {
             files,
             path,
             state: OutState::Untouched,
+            is_input: false,
             failures: 0,
+        }
+    }
+
+    /// Spares the file of this path, an input: where OUT names the same regular file it is not created, since the input
+    /// would be lost with OUT's first byte.
+    pub fn spare(&mut self, input: &str)
+        ensures kept { self.new.state ≡ self.old.state }
+        ensures count { self.new.failures ≡ self.old.failures }
+        ensures spared { self.old.is_input ≡ true → self.new.is_input ≡ true }
+    {
+        if is_same_file(self.files, self.path, input) {
+            self.is_input = true;
+        }
+    }
+
+    /// Spares the files of these paths.
+    pub fn spare_all(&mut self, inputs: &[String])
+        ensures kept { self.new.state ≡ self.old.state }
+        ensures count { self.new.failures ≡ self.old.failures }
+        ensures spared { self.old.is_input ≡ true → self.new.is_input ≡ true }
+    {
+        let (files, path) = (self.files, self.path);
+        if inputs.iter().any(|input| is_same_file(files, path, input)) {
+            self.is_input = true;
         }
     }
 
@@ -50,17 +77,31 @@ impl<'a, F: Files> OutFile<'a, F> {
         matches!(self.state, OutState::NotCreated)
     }
 
-    /// Creates the file where no bytes came before: once, also where that fails.
+    /// Creates the file where no bytes came before: once, also where that fails, and never an input's.
     fn create(&mut self)
         ensures once { is_untouched self.old.state ≡ false → self.new.state ≡ self.old.state }
         ensures tried { is_untouched self.new.state ≡ false }
+        ensures spared { self.old.is_input ≡ true → is_untouched self.old.state ≡ true
+            → is_not_created self.new.state ≡ true }
+        ensures input { self.new.is_input ≡ self.old.is_input }
         ensures count { self.new.failures ≡ self.old.failures }
     {
         if let OutState::Untouched = self.state {
-            self.state = match fs::create(self.files, self.path) {
-                Ok(file) => OutState::Created(file),
-                Err(_) => OutState::NotCreated,
+            self.state = if self.is_input {
+                OutState::NotCreated
+            } else {
+                self.created()
             };
+        }
+    }
+
+    /// The file, created or emptied.
+    fn created(&self) -> OutState<F::File>
+        ensures { is_untouched result ≡ false }
+    {
+        match fs::create(self.files, self.path) {
+            Ok(file) => OutState::Created(file),
+            Err(_) => OutState::NotCreated,
         }
     }
 
@@ -72,6 +113,9 @@ impl<'a, F: Files> OutFile<'a, F> {
         ensures tried { is_untouched self.new.state ≡ false }
         ensures created { IsSome result → is_created self.new.state ≡ true }
         ensures given_up { is_not_created self.old.state ≡ true → is_not_created self.new.state ≡ true }
+        ensures spared { self.old.is_input ≡ true → is_untouched self.old.state ≡ true
+            → is_not_created self.new.state ≡ true }
+        ensures input { self.new.is_input ≡ self.old.is_input }
     {
         self.create();
         match &mut self.state {
@@ -97,12 +141,15 @@ impl<'a, F: Files> Sink for OutFile<'a, F> {
         ensures count { CountsFailure self.old.failures self.new.failures result }
 
         // No bytes create no file, the first bytes do. What takes bytes is a file that was created, and one that could
-        // not be created stays so.
+        // not be created stays so. The file of an input is never created.
         ensures empty { bytes.now ≡ [] → self.new.state ≡ self.old.state }
         ensures tried { 0 < length bytes.now → self.old.failures < most_failures
             → is_untouched self.new.state ≡ false }
         ensures created { IfOk result (λ n. 0 < n → is_created self.new.state ≡ true) }
         ensures given_up { is_not_created self.old.state ≡ true → is_not_created self.new.state ≡ true }
+        ensures spared { self.old.is_input ≡ true → is_created self.old.state ≡ false
+            → is_created self.new.state ≡ false }
+        ensures input { self.new.is_input ≡ self.old.is_input }
     {
         if self.failures == MOST_FAILURES {
             return Err(Failed);
