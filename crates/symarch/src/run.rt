@@ -1,5 +1,10 @@
 //! The program over the words, the files and the standard streams that it is started with.
 
+ghost use Rattle.std.specs.Prelude.{◌≡◌, ◌≢◌};
+ghost use Rattle.std.specs.Process.{exit_status};
+ghost use Rattle.std.specs.IoError.{error_kind};
+ghost use Rattle.symarch.specs.Statuses.{status_of, status_of_failure, status_of_line};
+
 use archive_commands::{
     CannotCreate, CommandFault, Failure, Status, run_admit, run_apply, run_delta, run_find,
     run_merge, run_new, run_rehearse, run_retire, run_summary, run_symbolicate,
@@ -10,6 +15,7 @@ use byte_device::Writing;
 use command_line::{LineFault, Plan, plan};
 use memory::Heap;
 use std::fs::File;
+use std::io::ErrorKind;
 use std::process::ExitCode;
 use std::rt::{Env, Files};
 use std::{env, io};
@@ -32,14 +38,26 @@ pub fn run<R: Files + Env + Print + Eprint + AllocGlobal>(rt: &R) -> ExitCode {
     let _error = File::open(rt, "/dev/null");
     match env::args(rt) {
         Ok(words) => run_words(rt, words),
-        Err(_) => refuse_line(rt, "error: a word is no UTF-8 text\n"),
+        Err(error) => refuse_words(rt, &error),
+    }
+}
+
+/// Refuses words that could not be read: there was no memory for them, or one is no text.
+fn refuse_words<R: Eprint>(rt: &R, error: &io::Error) -> ExitCode
+    ensures memory { error_kind error.now ≡ ErrorKind.OutOfMemory → exit_status result ≡ 4 }
+    ensures text { error_kind error.now ≢ ErrorKind.OutOfMemory → exit_status result ≡ 3 }
+{
+    if error.kind() == ErrorKind::OutOfMemory {
+        fail(rt, Failure::Command(CommandFault::OutOfMemory))
+    } else {
+        refuse_line(rt, "error: a word is no UTF-8 text\n")
     }
 }
 
 fn run_words<R: Files + Print + Eprint + AllocGlobal>(rt: &R, words: env::Args) -> ExitCode {
     match words.collect::<Vec<String>>(rt.alloc()) {
         Ok(words) => run_line(rt, &words),
-        Err(_) => fail(rt, Failure::from(CommandFault::OutOfMemory)),
+        Err(_) => fail(rt, Failure::Command(CommandFault::OutOfMemory)),
     }
 }
 
@@ -50,7 +68,9 @@ fn run_line<R: Files + Print + Eprint + AllocGlobal>(rt: &R, words: &[String]) -
     }
 }
 
-fn end<R: Eprint>(rt: &R, ended: Result<Status, Failure>) -> ExitCode {
+fn end<R: Eprint>(rt: &R, ended: Result<Status, Failure>) -> ExitCode
+    ensures { exit_status result ≡ status_of ended }
+{
     match ended {
         Ok(Status::Done) => ExitCode::SUCCESS,
         Ok(Status::Partial) => ExitCode::FAILURE,
@@ -58,23 +78,31 @@ fn end<R: Eprint>(rt: &R, ended: Result<Status, Failure>) -> ExitCode {
     }
 }
 
-fn refuse<R: Print + Eprint>(rt: &R, fault: LineFault) -> ExitCode {
+fn refuse<R: Print + Eprint>(rt: &R, fault: LineFault) -> ExitCode
+    ensures { exit_status result ≡ status_of_line fault }
+{
     match fault {
         LineFault::Help(text) => {
             let _ = rt.print(&text);
             ExitCode::SUCCESS
         }
         LineFault::Refused(text) => refuse_line(rt, &text),
-        LineFault::OutOfMemory => fail(rt, Failure::from(CommandFault::OutOfMemory)),
+        LineFault::OutOfMemory => fail(rt, Failure::Command(CommandFault::OutOfMemory)),
     }
 }
 
-fn refuse_line<R: Eprint>(rt: &R, text: &str) -> ExitCode {
-    let _ = rt.eprint(text);
+/// Tells the text of a refused line, which begins with `error: `, with the prefix of every other fault.
+fn refuse_line<R: Eprint>(rt: &R, text: &str) -> ExitCode
+    ensures { exit_status result ≡ 3 }
+{
+    let told = text.strip_prefix("error: ").unwrap_or(text);
+    let _ = eprint!(rt; "symarch: {told}");
     ExitCode::from(BAD_LINE)
 }
 
-fn fail<R: Eprint>(rt: &R, failure: Failure) -> ExitCode {
+fn fail<R: Eprint>(rt: &R, failure: Failure) -> ExitCode
+    ensures { exit_status result ≡ status_of_failure failure }
+{
     let _ = rt.eprintln(failure);
     match failure {
         Failure::Command(CommandFault::OutOfMemory) => ExitCode::from(OUT_OF_MEMORY),
@@ -144,9 +172,11 @@ fn admit<R: Files + Print + AllocGlobal>(
     files: &[String],
 ) -> Result<Status, Failure> {
     let mut report = Writing::new(io::writer(rt));
+    let mut out = OutFile::new(rt, out);
+    out.spare(input);
+    out.spare_all(files);
     let mut input = open_buffered(rt.alloc(), rt, input)?;
     let mut files = open_all(rt.alloc(), rt, files)?;
-    let mut out = OutFile::new(rt, out);
     let result = run_admit::<PlainArchive, _, _, _, _>(
         heap,
         &mut input,
@@ -167,8 +197,9 @@ fn retire<R: Files + Print + AllocGlobal>(
     digest: Digest,
 ) -> Result<Status, Failure> {
     let mut report = Writing::new(io::writer(rt));
-    let mut input = open_buffered(rt.alloc(), rt, input)?;
     let mut out = OutFile::new(rt, out);
+    out.spare(input);
+    let mut input = open_buffered(rt.alloc(), rt, input)?;
     let result = run_retire::<PlainArchive, _, _, _>(
         heap,
         &mut input,
@@ -189,9 +220,11 @@ fn merge<R: Files + Print + AllocGlobal>(
     files: &[String],
 ) -> Result<Status, Failure> {
     let mut report = Writing::new(io::writer(rt));
+    let mut out = OutFile::new(rt, out);
+    out.spare(input);
+    out.spare_all(files);
     let mut input = open_buffered(rt.alloc(), rt, input)?;
     let mut files = open_all_buffered(rt.alloc(), rt, files)?;
-    let mut out = OutFile::new(rt, out);
     let result = run_merge::<PlainArchive, _, _, _, _>(
         heap,
         &mut input,
@@ -211,9 +244,11 @@ fn apply<R: Files + Print + AllocGlobal>(
     ops: &str,
 ) -> Result<Status, Failure> {
     let mut report = Writing::new(io::writer(rt));
+    let mut out = OutFile::new(rt, out);
+    out.spare(input);
+    out.spare(ops);
     let mut input = open_buffered(rt.alloc(), rt, input)?;
     let mut ops = open_buffered(rt.alloc(), rt, ops)?;
-    let mut out = OutFile::new(rt, out);
     let result = run_apply::<PlainArchive, _, _, _, _>(
         heap,
         &mut input,
@@ -267,8 +302,9 @@ fn summary<R: Files + Print + AllocGlobal>(
     out: &str,
 ) -> Result<Status, Failure> {
     let mut report = Writing::new(io::writer(rt));
-    let mut archive = open_buffered(rt.alloc(), rt, archive)?;
     let mut out = OutFile::new(rt, out);
+    out.spare(archive);
+    let mut archive = open_buffered(rt.alloc(), rt, archive)?;
     let result = run_summary::<PlainArchive, _, _, _>(heap, &mut archive, &mut out, &mut report);
     ended(result, &out)
 }
@@ -282,9 +318,11 @@ fn delta<R: Files + Print + AllocGlobal>(
     out: &str,
 ) -> Result<Status, Failure> {
     let mut report = Writing::new(io::writer(rt));
+    let mut out = OutFile::new(rt, out);
+    out.spare(archive);
+    out.spare(summary);
     let mut archive = open_buffered(rt.alloc(), rt, archive)?;
     let mut summary = open_buffered(rt.alloc(), rt, summary)?;
-    let mut out = OutFile::new(rt, out);
     let result = run_delta::<PlainArchive, _, _, _, _>(
         heap,
         &mut archive,
@@ -318,3 +356,6 @@ fn ended<F: Files>(
         Ok(status) => Ok(status),
     }
 }
+
+#[cfg(test)]
+mod tests;
