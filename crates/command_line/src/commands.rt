@@ -11,6 +11,17 @@ ghost use Rattle.command_line.specs.Commands.{delta_command, summary_command, sy
 use clap::{Arg, ArgAction, Command};
 use std::alloc::{AllocError, Global};
 
+const ARCHIVE_OUT: &str = "The archive to write, which is replaced if it is there";
+
+const ARCH: &str = "The architecture: x86_64, x86_64h, arm64, arm64e or cpu:CCCCCCCC/00SSSSSS";
+
+const LOAD: &str = "Where the image was loaded, in hexadecimal, with or without 0x";
+
+const ADDRESSES: &str = "The addresses to look up, in hexadecimal, with or without 0x";
+
+const IMAGES: &str =
+    "The Mach-O files to take; of a dSYM bundle the one in Contents/Resources/DWARF";
+
 /// A command that takes nothing yet.
 fn bare_command<'a>(alloc: Global, name: &'a str, about: &'a str) -> Command<'a>
     ensures app { app_of result ≡ new_app name.now }
@@ -76,7 +87,7 @@ fn new_command<'a>(alloc: Global) -> Result<Command<'a>, AllocError>
     ensures local { IfOk result (λ c. (out-Command c).has_globals ≡ false) }
 {
     let command = bare_command(alloc, "new", "Writes the empty archive");
-    with_one_value(alloc, command, "OUT", "The archive to write")
+    with_one_value(alloc, command, "OUT", ARCHIVE_OUT)
 }
 
 /// `admit IN OUT FILE...`
@@ -86,8 +97,8 @@ fn admit_command<'a>(alloc: Global) -> Result<Command<'a>, AllocError>
 {
     let command = bare_command(alloc, "admit", "Takes Mach-O images into an archive");
     let command = with_one_value(alloc, command, "IN", "The archive to read")?;
-    let command = with_one_value(alloc, command, "OUT", "The archive to write")?;
-    with_several_values(alloc, command, "FILE", "The images to take")
+    let command = with_one_value(alloc, command, "OUT", ARCHIVE_OUT)?;
+    with_several_values(alloc, command, "FILE", IMAGES)
 }
 
 /// `retire IN OUT UUID ARCH DIGEST`
@@ -95,12 +106,17 @@ fn retire_command<'a>(alloc: Global) -> Result<Command<'a>, AllocError>
     ensures app { IfOk result (λ c. app_of c ≡ retire_command) }
     ensures local { IfOk result (λ c. (out-Command c).has_globals ≡ false) }
 {
-    let command = bare_command(alloc, "retire", "Takes a slice out of an archive for good");
+    let command = bare_command(alloc, "retire", "Covers a slice for good, on every site");
     let command = with_one_value(alloc, command, "IN", "The archive to read")?;
-    let command = with_one_value(alloc, command, "OUT", "The archive to write")?;
+    let command = with_one_value(alloc, command, "OUT", ARCHIVE_OUT)?;
     let command = with_one_value(alloc, command, "UUID", "The UUID of the slice")?;
-    let command = with_one_value(alloc, command, "ARCH", "The architecture of the slice")?;
-    with_one_value(alloc, command, "DIGEST", "The SHA-256 of the slice")
+    let command = with_one_value(alloc, command, "ARCH", ARCH)?;
+    with_one_value(
+        alloc,
+        command,
+        "DIGEST",
+        "The SHA-256 of the slice, as find prints it",
+    )
 }
 
 /// `merge IN OUT FILE...`
@@ -110,7 +126,7 @@ fn merge_command<'a>(alloc: Global) -> Result<Command<'a>, AllocError>
 {
     let command = bare_command(alloc, "merge", "Joins archives");
     let command = with_one_value(alloc, command, "IN", "The archive to read")?;
-    let command = with_one_value(alloc, command, "OUT", "The archive to write")?;
+    let command = with_one_value(alloc, command, "OUT", ARCHIVE_OUT)?;
     with_several_values(alloc, command, "FILE", "The archives to join to it")
 }
 
@@ -121,7 +137,7 @@ fn apply_command<'a>(alloc: Global) -> Result<Command<'a>, AllocError>
 {
     let command = bare_command(alloc, "apply", "Takes the records of an operations file");
     let command = with_one_value(alloc, command, "IN", "The archive to read")?;
-    let command = with_one_value(alloc, command, "OUT", "The archive to write")?;
+    let command = with_one_value(alloc, command, "OUT", ARCHIVE_OUT)?;
     with_one_value(alloc, command, "OPS", "The operations file to take")
 }
 
@@ -143,9 +159,9 @@ fn symbolicate_command<'a>(alloc: Global) -> Result<Command<'a>, AllocError>
     let command = bare_command(alloc, "symbolicate", "Names the symbols at addresses");
     let command = with_one_value(alloc, command, "ARCHIVE", "The archive to read")?;
     let command = with_one_value(alloc, command, "UUID", "The UUID of the image")?;
-    let command = with_one_value(alloc, command, "ARCH", "The architecture of the image")?;
-    let command = with_option(alloc, command, "HEX", "load", "Where the image was loaded")?;
-    with_several_values(alloc, command, "ADDRESS", "The addresses to look up")
+    let command = with_one_value(alloc, command, "ARCH", ARCH)?;
+    let command = with_option(alloc, command, "HEX", "load", LOAD)?;
+    with_several_values(alloc, command, "ADDRESS", ADDRESSES)
 }
 
 /// `summary ARCHIVE OUT`
@@ -159,7 +175,12 @@ fn summary_command<'a>(alloc: Global) -> Result<Command<'a>, AllocError>
         "Writes what an archive has, without its slices",
     );
     let command = with_one_value(alloc, command, "ARCHIVE", "The archive to read")?;
-    with_one_value(alloc, command, "OUT", "The summary to write")
+    with_one_value(
+        alloc,
+        command,
+        "OUT",
+        "The summary to write, which is replaced if it is there",
+    )
 }
 
 /// `delta ARCHIVE SUMMARY OUT`
@@ -170,7 +191,7 @@ fn delta_command<'a>(alloc: Global) -> Result<Command<'a>, AllocError>
     let command = bare_command(alloc, "delta", "Writes what a summary lacks of an archive");
     let command = with_one_value(alloc, command, "ARCHIVE", "The archive to read")?;
     let command = with_one_value(alloc, command, "SUMMARY", "The summary to compare with")?;
-    with_one_value(alloc, command, "OUT", "The archive to write")
+    with_one_value(alloc, command, "OUT", ARCHIVE_OUT)
 }
 
 /// `rehearse SCRIPT`

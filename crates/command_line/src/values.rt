@@ -142,7 +142,18 @@ fn spelled<T: Word>(alloc: Global, id: &str, word: &str) -> Result<T, LineFault>
 fn other_form(alloc: Global, id: &str, word: &str) -> LineFault
     ensures { IsRefusalUnlessMemory result }
 {
-    refused(format!(in alloc; "error: {id} has another form: {word}\n"))
+    let form = form_of(id);
+    refused(format!(in alloc; "error: {id} has another form than {form}: {word}\n"))
+}
+
+/// The form that a name asks for, in words.
+fn form_of(id: &str) -> &'static str {
+    match id {
+        "UUID" => "32 hex digits, with or without hyphens",
+        "ARCH" => "x86_64, x86_64h, arm64, arm64e or cpu:CCCCCCCC/00SSSSSS",
+        "DIGEST" => "64 hex digits",
+        _ => "1 to 16 hex digits, with or without 0x",
+    }
 }
 
 /// The refusal of a line in which a value is missing.
