@@ -9,8 +9,3 @@ use Rattle.archive_exchange.specs.declared.checking.AcceptedFile.TheVariants.{Th
 abbrev pub IsAcceptedAs : List ℕ → AcceptedFile → Type 0
 IsAcceptedAs file (Thin slice) = (kind_of file ≡ thin_kind) × (slice ≡ file)
 IsAcceptedAs file (Universal universal) = (is_fat (kind_of file) ≡ true) × (universal ≡ file)
-
--- the bytes of the file that was accepted
-abbrev pub file_of : AcceptedFile → List ℕ
-file_of (Thin slice) = slice
-file_of (Universal universal) = universal

@@ -7,3 +7,4 @@ pub mod Seen
 pub mod Take
 pub mod Accepted
 pub mod InnerEvents
+pub mod InnerTaking

@@ -2,7 +2,8 @@
 ghost use Rattle.std.specs.Prelude.{◌≡◌, ◌≢◌, [], ◌∷◌, true, IfOk, IfErr, OnOk, OnErr, filter, if◌then◌else◌};
 ghost use Rattle.archive_core.specs.Valid.{IsValid};
 ghost use Rattle.fat_slices.specs.Kind.{kind_of, is_fat};
-ghost use Rattle.archive_exchange.specs.Accepted.{IsAcceptedAs, file_of};
+ghost use Rattle.archive_exchange.specs.Accepted.{IsAcceptedAs};
+ghost use Rattle.archive_exchange.specs.InnerTaking.{file_of};
 ghost use Rattle.archive_exchange.specs.File.{IsAcceptedFile, IsTakeFault, is_admissible, admissible, parts};
 ghost use Rattle.archive_exchange.specs.Take.{admitted, taken_of, taken_rows, IsTakenInPart};
 
