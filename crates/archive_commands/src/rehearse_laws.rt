@@ -1,16 +1,22 @@
 //! What the definitions of `rehearse` say in the words of its user. Each law is the contract of a function that does
 //! nothing but call laws of the crates below.
-ghost use Rattle.std.specs.Prelude.{◌≡◌, ℕ, List, Ok};
+ghost use Rattle.std.specs.Prelude.{◌≡◌, ℕ, List, Ok, length};
+ghost use Rattle.archive_core.specs.Content.{made};
+ghost use Rattle.exchange_model.specs.Reached.{reached};
+ghost use Rattle.exchange_model.specs.World.{state};
+ghost use Rattle.archive_exchange.specs.Seen.{Seen};
 ghost use Rattle.rehearsal.specs.Events.{Act};
 ghost use Rattle.rehearsal.specs.Script.{script_of};
 ghost use Rattle.archive_commands.specs.declared.faults.Place.{Place};
 ghost use Rattle.archive_commands.specs.declared.faults.Status.{Status};
 ghost use Rattle.archive_commands.specs.declared.faults.Why.{Why};
 ghost use Rattle.archive_commands.specs.Inputs.{IsDeviceFault, IsGiven, Reader};
-ghost use Rattle.archive_commands.specs.Rehearse.{MakesRehearsed, rehearse};
+ghost use Rattle.archive_commands.specs.Rehearse.{MakesRehearsed, held_line, rehearse};
 
+use archive_exchange::TakeFault;
 use archive_exchange::laws::one_meaning;
 use byte_device::Source;
+use exchange_model::laws::same_reached;
 
 /// Where SCRIPT says a script, it is not refused but for its device, whatever its events are.
 pub fn accepted_script_is_not_refused<S: Source>()
@@ -32,4 +38,15 @@ pub fn one_rehearsal<R: Source, S: Source>()
         → (status ≡ other_status) × (text ≡ other_text) }
 {
     one_meaning();
+}
+
+/// Sites that the same operations reached, in one rehearsal or in two, have lines that are the same behind their numbers:
+/// as many records and bytes, and one digest.
+pub fn same_operations_same_line()
+    ensures { (sites others : ℕ) (seen later : List Seen) (i j number : ℕ)
+        → made (reached sites seen i) ≡ made (reached others later j)
+        → held_line number ((state sites seen (length seen)).held i)
+        ≡ held_line number ((state others later (length later)).held j) }
+{
+    same_reached::<TakeFault>();
 }
