@@ -5,6 +5,7 @@ pub mod Rows
 pub mod Orders
 pub mod Accepted
 pub mod Joins
+pub mod Streamed
 pub mod Least
 pub mod Archives
 pub mod Counts

@@ -1,7 +1,7 @@
 //! The commands, over any archive, sources and sinks.
 //!
 //! A command reads its inputs in the order of its words, each opened beforehand and refused at its turn, and only then
-//! writes OUT, and after that its report.
+//! writes OUT, and after that its report. `merge` of one FILE alone writes OUT while it reads.
 //!
 //! - `faults`: how a command ends, and why one is refused;
 //! - `failures`: the line that the program says where it fails;

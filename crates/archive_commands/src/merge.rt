@@ -5,14 +5,18 @@ ghost use Rattle.archive_records.specs.Text.{written};
 ghost use Rattle.archive_commands.specs.Ends.{Ends};
 ghost use Rattle.archive_commands.specs.Inputs.{EachUnfailed, Holds, IsArchive, IsArchiveRefused, IsFirstRefused, IsRefusal, IsRefusedArchive, Unfailed, reader, readers};
 ghost use Rattle.archive_commands.specs.Merge.{HasJoined, file_place, merge};
+ghost use Rattle.archive_commands.specs.MergeStreams.{EndsMerge, EndsOfOne, EndsStreamed, IsTold};
 ghost use Rattle.archive_commands.specs.Outputs.{writer};
+ghost use Rattle.archive_records.specs.Merging.{stream};
 
-use crate::faults::{CannotOpen, CommandFault, Status};
-use crate::publish::publish;
-use crate::sources::read_input;
+use crate::faults::{CannotOpen, CommandFault, Place, Status, Why};
+use crate::publish::{publish, tell};
+use crate::sources::{read_input, refusal};
 use archive_core::{Archive, take_all};
+use archive_records::{MergeCause, MergeFault, merge_streams};
 use byte_device::{Sink, Source};
 use memory::Heap;
+use report_text::with_sizes;
 
 /// Joins the archive with this number among the words.
 fn join_file<A: Archive + Drop, S: Source>(
@@ -53,14 +57,9 @@ fn join_files<A: Archive + Drop, S: Source>(
     Ok(())
 }
 
-/// Writes the join of IN's archive with that of each file to OUT, and its sizes to the report. The inputs are read in
-/// the order of the words, IN first, each to its end, before anything is written.
-///
-/// # Errors
-///
-/// `Input` for the first archive that is refused, IN being archive 0 and the first file archive 1; `Output` and
-/// `Report` where that writer failed; `OutOfMemory`.
-pub fn run_merge<A: Archive + Drop, R: Source, S: Source, W: Sink, P: Sink>(
+/// Writes the join of IN's archive with that of each file to OUT, and its sizes to the report. Each is read to its end
+/// before anything is written.
+fn merge_values<A: Archive + Drop, R: Source, S: Source, W: Sink, P: Sink>(
     heap: Heap,
     input: &mut Result<R, CannotOpen>,
     files: &mut [Result<S, CannotOpen>],
@@ -74,4 +73,83 @@ pub fn run_merge<A: Archive + Drop, R: Source, S: Source, W: Sink, P: Sink>(
     let mut archive: A = read_input(heap.clone()?, 0, input)?;
     join_files(&heap, &mut archive, files)?;
     publish(&archive, String::new(heap), out, report)
+}
+
+/// What is told where this stopped a merge, IN being archive 0 and the file archive 1.
+fn told_of(fault: MergeFault) -> CommandFault
+    ensures { IsTold fault result }
+{
+    match fault.cause {
+        MergeCause::Left(why) => refusal(Place::Archive(0), why),
+        MergeCause::Right(why) => refusal(Place::Archive(1), why),
+        MergeCause::Write => CommandFault::Output(fault.written),
+    }
+}
+
+/// Merges two archives into OUT as they come, and writes the sizes to the report.
+fn merge_opened<R: Source, S: Source, W: Sink, P: Sink>(
+    heap: Heap,
+    left: &mut R,
+    right: &mut S,
+    out: &mut W,
+    report: &mut P,
+) -> Result<Status, CommandFault>
+    ensures { EndsStreamed (stream R.left R.failures left.old left.new) (stream S.left S.failures right.old right.new)
+        (stream W.held W.failures out.old out.new) (writer P.held P.failures report.old report.new) result }
+{
+    let sizes = match merge_streams(&heap, left, right, out) {
+        Ok(sizes) => sizes,
+        Err(fault) => return Err(told_of(fault)),
+    };
+    let text = with_sizes(String::new(heap), sizes)?;
+    tell(Status::Done, &text, report)
+}
+
+/// Merges IN and the one file, if both were opened.
+fn merge_one<R: Source, S: Source, W: Sink, P: Sink>(
+    heap: Heap,
+    input: &mut Result<R, CannotOpen>,
+    file: &mut Result<S, CannotOpen>,
+    out: &mut W,
+    report: &mut P,
+) -> Result<Status, CommandFault>
+    ensures { EndsOfOne (reader R.left R.failures input.old input.new) (reader S.left S.failures file.old file.new)
+        (stream W.held W.failures out.old out.new) (writer P.held P.failures report.old report.new) result }
+{
+    let left = match input {
+        Ok(source) => source,
+        Err(CannotOpen) => return Err(CommandFault::Input(Place::Archive(0), Why::CannotOpen)),
+    };
+    let right = match file {
+        Ok(source) => source,
+        Err(CannotOpen) => return Err(CommandFault::Input(Place::Archive(1), Why::CannotOpen)),
+    };
+    merge_opened(heap, left, right, out, report)
+}
+
+/// Writes the join of IN's archive with that of each file to OUT, and its sizes to the report. With one file the two
+/// are merged as they come, in the memory of one record of each; with more the inputs are read in the order of the
+/// words, IN first, each to its end, before anything is written.
+///
+/// # Errors
+///
+/// `Input` for the first archive that is refused, IN being archive 0 and the first file archive 1; with one file for
+/// the first that cannot be opened, or else the one that stops their merge, behind bytes in OUT that are no archive.
+/// `Output` and `Report` where that writer failed; `OutOfMemory`.
+pub fn run_merge<A: Archive + Drop, R: Source, S: Source, W: Sink, P: Sink>(
+    heap: Heap,
+    input: &mut Result<R, CannotOpen>,
+    files: &mut [Result<S, CannotOpen>],
+    out: &mut W,
+    report: &mut P,
+) -> Result<Status, CommandFault>
+    ensures { EndsMerge
+        (reader R.left R.failures input.old input.new) (readers S.left S.failures files.old files.new)
+        (stream W.held W.failures out.old out.new) (writer P.held P.failures report.old report.new) result }
+{
+    if files.len() == 1 {
+        merge_one(heap, input, &mut files[0], out, report)
+    } else {
+        merge_values::<A, R, S, W, P>(heap, input, files, out, report)
+    }
 }

@@ -1,18 +1,24 @@
 //! What the definitions of `merge` say in the words of its user. Each law is the contract of a function that does
 //! nothing but call other laws.
-ghost use Rattle.std.specs.Prelude.{◌≡◌, ◌↔◌, ◌<◌, ◌^◌, ◌++◌, ◌∷◌, [], ℕ, List, Contains, map};
+ghost use Rattle.std.specs.Prelude.{◌≡◌, ◌↔◌, ◌<◌, ◌^◌, ◌++◌, ◌∷◌, [], ℕ, List, Contains, map, Ok, Err};
 ghost use Rattle.std.specs.List.{AllByRecursion, AllZip};
 ghost use Rattle.std.specs.FinSet as set;
 ghost use Rattle.archive_core.specs.Content.{Operations, IsBelow, IsContent, made, joined};
 ghost use Rattle.archive_records.specs.Text.{written};
 ghost use Rattle.archive_commands.specs.declared.faults.Place.{Place};
 ghost use Rattle.archive_commands.specs.declared.faults.Why.{Why};
+ghost use Rattle.archive_commands.specs.declared.faults.CommandFault.TheVariants.{Input, Report};
+ghost use Rattle.archive_commands.specs.declared.faults.Status.{Status};
+ghost use Rattle.archive_records.specs.Merging.{Stream};
+ghost use Rattle.archive_commands.specs.Ends.{Ends};
 ghost use Rattle.archive_commands.specs.Inputs.{IsDeviceFault, IsGiven, Reader};
+ghost use Rattle.archive_commands.specs.MergeStreams.{EndsOfOne};
+ghost use Rattle.archive_commands.specs.Outputs.{Writer, writer};
 ghost use Rattle.archive_commands.specs.Merge.{merge, merged, operations_of};
 
 use crate::admit_laws::accepted_inputs_are_not_refused;
 use archive_core::laws::contents_join;
-use byte_device::Source;
+use byte_device::{Sink, Source};
 
 /// What `merge` makes is the least content above IN and above each FILE: it holds what they hold, and nothing else.
 pub fn merged_is_least()
@@ -65,3 +71,25 @@ pub fn accepted_archives_are_not_refused<R: Source, S: Source>()
     accepted_inputs_are_not_refused::<R, R>();
     accepted_inputs_are_not_refused::<S, S>();
 }
+
+/// With one FILE `merge` writes and reports the same, where it is not stopped, as if it had read both archives first.
+pub fn both_ways_write_the_same<R: Source, S: Source, W: Sink>()
+    ensures done { (input : Reader R) (file : Reader S) (out : Stream W) (report : Writer) (status : Status)
+        → EndsOfOne input file out report (Ok status)
+        → Ends (merge input (file ∷ [])) (writer out.bytes out.failures out.old out.new) report (Ok status) }
+    ensures report { (input : Reader R) (file : Reader S) (out : Stream W) (report : Writer) (n : ℕ)
+        → EndsOfOne input file out report (Err (Report n))
+        → Ends (merge input (file ∷ [])) (writer out.bytes out.failures out.old out.new) report (Err (Report n)) }
+{}
+
+/// Where IN and the one FILE are the texts of contents, neither is refused but for its device.
+pub fn two_accepted_archives_are_not_refused<R: Source, S: Source, W: Sink>()
+    ensures { (input : Reader R) (file : Reader S) (out : Stream W) (report : Writer) (o p : Operations)
+        (place : Place) (why : Why)
+        → IsContent o
+        → IsContent p
+        → IsGiven input (written o)
+        → IsGiven file (written p)
+        → EndsOfOne input file out report (Err (Input place why))
+        → IsDeviceFault why }
+{}

@@ -19,7 +19,7 @@ use memory::Heap;
 use rehearsal::{Script, ScriptError, read_script};
 
 /// The refusal of an input at a place, whose text has this fault or whose reader failed.
-fn refusal(at: Place, fault: RecordFault) -> CommandFault
+pub(crate) fn refusal(at: Place, fault: RecordFault) -> CommandFault
     ensures refused { IsRefusal (λ place why. (place ≡ at) × (why ≡ Record fault) × (fault.kind ≢ RecordOutOfMemory))
         (fault.kind ≡ RecordOutOfMemory) result }
 {

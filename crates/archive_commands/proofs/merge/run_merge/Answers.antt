@@ -1,29 +1,16 @@
-use Rattle.std.proofs.Common.{inl, refl}
-use Rattle.std.proofs.lemmas.Result.{err_from_is_err_and}
-use Rattle.byte_device.proofs.Known.{Appends-none}
-use Rattle.archive_commands.proofs.Endings.{behind_refused, first_refused, published}
-use Rattle.archive_commands.proofs.Joins.{makes_merged}
-use Rattle.archive_commands.proofs.Readers.{none_failed, none_touched}
+use Rattle.std.proofs.Common.{◌≡◌, length, arith}
+use Rattle.archive_commands.specs.Inputs.{reader, readers}
+use Rattle.archive_records.specs.Merging.{stream}
+use Rattle.archive_commands.specs.Outputs.{writer}
+use Rattle.archive_commands.proofs.Readers.{readers_long}
+use Rattle.archive_commands.proofs.Streamed.{of_many}
 use Rattle.archive_commands.proofs.merge.run_merge.Goals as goal
 
-pub returns-in_err-clone : goal.returns-in_err-clone
-returns-in_err-clone g c =
-    let p = err_from_is_err_and c.from_residual.result c.from_residual.ensures.1 in
-    rw (p.1, p.2) ((refl, none_failed g.S.Source.left g.S.Source.failures c.args.files.now), inl ((Appends-none _, refl), (Appends-none _, refl)))
-
-pub returns-in_err-archive : goal.returns-in_err-archive
-returns-in_err-archive g c =
-    let p = err_from_is_err_and c.from_residual-in_err-archive.result c.from_residual-in_err-archive.ensures.1 in
-    rw (p.1, p.2) (first_refused _ _ _ _ _ _ _ c.in_err-archive.field-0.0 c.in_err-archive.ensures.refused
-    (none_touched g.S.Source.left g.S.Source.failures c.args.files.now) (none_failed g.S.Source.left g.S.Source.failures c.args.files.now) (Appends-none _, refl) (Appends-none _, refl))
-
-pub returns-in_err-join_files : goal.returns-in_err-join_files
-returns-in_err-join_files g c =
-    let p = err_from_is_err_and c.from_residual-in_err-join_files.result c.from_residual-in_err-join_files.ensures.1 in
-    rw (p.1, p.2) (behind_refused _ _ _ _ _ _ _ c.in_err-join_files.field-0.0 _ c.in_ok-archive.ensures.content c.in_ok-archive.ensures.text c.in_ok-archive.ensures.unfailed
-    c.in_err-join_files.ensures.refused (Appends-none _, refl) (Appends-none _, refl))
-
-pub returns : goal.returns
-returns g c = published _ _ _ _ _ c.publish.result _ _ (c.in_ok-archive.ensures.unfailed, c.in_ok-join_files.ensures.unfailed)
-    (makes_merged _ _ _ _ _ c.in_ok-archive.ensures.content c.in_ok-archive.ensures.text c.in_ok-join_files.ensures.joined c.new.ensures.bytes)
-    c.publish.ensures
+pub returns-else-files-eq1 : goal.returns-else-files-eq1
+returns-else-files-eq1 g c =
+    let old = c.args.files.now in
+    let new = c.merge_values.new.files in
+    let long = readers_long g.S.Source.left g.S.Source.failures old new c.merge_values.auto.files in
+    let many : length (readers g.S.Source.left g.S.Source.failures old new) ≡ 1 → ⊥ = λ one. c.if-files-eq1.false (omega (arith, long, one)) in
+    of_many (reader g.R.Source.left g.R.Source.failures c.args.input.now c.merge_values.new.input) (stream g.W.Sink.held g.W.Sink.failures c.args.out.now c.merge_values.new.out) (writer g.P.Sink.held g.P.Sink.failures c.args.report.now c.merge_values.new.report) c.merge_values.result
+    (readers g.S.Source.left g.S.Source.failures old new) many c.merge_values.ensures
