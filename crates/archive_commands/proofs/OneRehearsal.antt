@@ -7,7 +7,8 @@ use Rattle.std.specs.List.{AllZip}
 use Rattle.archive_core.specs.Record.{retirement_record}
 use Rattle.exchange_model.specs.World as model
 use Rattle.exchange_model.specs.World.{state, outcomes}
-use Rattle.archive_exchange.specs.Seen.{Seen, SeenFile, IsFile, IsSeen, AreSeen, Tells, row_told, fault_told}
+use Rattle.archive_exchange.specs.InnerEvents.{SeenFile}
+use Rattle.archive_exchange.specs.Seen.{Seen, IsFile, IsSeen, AreSeen, Tells, row_told, fault_told}
 use Rattle.archive_exchange.specs.declared.fault.TakeFault.{TakeFault}
 use Rattle.archive_exchange.specs.declared.event.Event.{Event}
 use Rattle.archive_exchange.specs.declared.event.Event.TheVariants as event
