@@ -10,3 +10,4 @@ pub mod Lookups
 pub mod Entries
 pub mod Summaries
 pub mod Beginnings
+pub mod Naming

@@ -1,5 +1,5 @@
 //! What an archive is.
-ghost use Rattle.std.specs.Prelude.{◌≡◌, ◌<◌, ◌↔◌, IfOk, OnOk, OnErr, slice_index_or, []};
+ghost use Rattle.std.specs.Prelude.{◌≡◌, ◌<◌, ◌↔◌, IfOk, OnOk, OnErr, map, slice_index_or, []};
 ghost use Rattle.std.specs.FinSet as set;
 ghost use Rattle.join_core.specs.Listing.{listing};
 ghost use Rattle.archive_core.specs.Record.{rec, lent};
@@ -7,8 +7,9 @@ ghost use Rattle.join_core.specs.Bound.{IsTowards};
 ghost use Rattle.archive_core.specs.Content.{Operations, IsContent, IsBelow, with_record, changes, joined};
 ghost use Rattle.archive_core.specs.Find.{IsFinds};
 ghost use Rattle.archive_core.specs.Lookup.{IsAnswer, IsConflict, answer_view};
+ghost use Rattle.archive_core.specs.Names.{IsNames, name_view};
 
-use crate::{Answer, FindRow, Operation, Record, SliceKey, Where};
+use crate::{Answer, FindRow, NameRow, Operation, Record, SliceKey, Where};
 use join_core::Join;
 use memory::{Heap, NoMemory};
 use std::marker::Model;
@@ -63,6 +64,12 @@ pub trait Archive: Join<Content = Contents> {
     fn lookup(&self, key: &SliceKey, place: Where) -> Result<Answer<'_>, NoMemory>
         ensures answer { IfOk result (λ answer. IsAnswer (Self.content self.now) key.now place (answer_view answer)) }
         ensures memory { OnErr result (IsConflict (Self.content self.now) key.now) };
+
+    /// Where symbols of a name stand in live slices: a row for each, by key, digest and address, then by the number
+    /// and the names of the section; symbols that are alike in all of these have one row. The name has no NUL at its
+    /// end. Refused for want of memory alone.
+    fn find_name(&self, name: &[u8]) -> Result<Vec<NameRow<'_>, Heap>, NoMemory>
+        ensures { IfOk result (λ rows. IsNames (Self.content self.now) name.now (map name_view rows.items)) };
 
     /// The number of operations.
     fn len(&self) -> u64

@@ -7,10 +7,10 @@ use memory::{Heap, NoMemory};
 use std::cmp::Ordering;
 use std::marker::Model;
 
-// An operation that a search tells, beside its row, so that a slice is hashed once. A contract sees
-// it as the operation.
+/// An operation that a search tells, beside its row, so that a slice is hashed once. A contract sees
+/// it as the operation.
 #[derive(Drop)]
-pub(crate) struct Finding<'a> {
+pub struct Finding<'a> {
     operation: &'a Operation,
     row: FindRow,
 }
@@ -28,8 +28,8 @@ impl<'a> Model for Finding<'a> {
 }
 
 impl<'a> Finding<'a> {
-    // The operation with its row.
-    pub(crate) fn of(operation: &'a Operation) -> Finding<'a>
+    /// The operation with its row.
+    pub fn of(operation: &'a Operation) -> Finding<'a>
         ensures { result ≡ operation.now }
     {
         let (digest, state) = match operation {
@@ -44,15 +44,15 @@ impl<'a> Finding<'a> {
         Finding { operation, row }
     }
 
-    // The row.
-    pub(crate) fn row(&self) -> FindRow
+    /// The row.
+    pub fn row(&self) -> FindRow
         ensures { result ≡ row_of self.now }
     {
         self.row
     }
 
-    // Compares by architecture, then by record.
-    pub(crate) fn compare(&self, other: &Finding<'_>) -> Ordering
+    /// Compares by architecture, then by record.
+    pub fn compare(&self, other: &Finding<'_>) -> Ordering
         ensures { result ≡ find_cmp self.now other.now }
     {
         let first = self.row.arch;
@@ -65,8 +65,8 @@ impl<'a> Finding<'a> {
     }
 }
 
-// The rows, in the order of their operations.
-pub(crate) fn rows_of(heap: Heap, findings: &[Finding<'_>]) -> Result<Vec<FindRow, Heap>, NoMemory>
+/// The rows, in the order of their operations.
+pub fn rows_of(heap: Heap, findings: &[Finding<'_>]) -> Result<Vec<FindRow, Heap>, NoMemory>
     ensures { IfOk result (λ rows. rows.items ≡ map row_of findings.now) }
 {
     findings.iter().map(|finding| finding.row()).collect(heap)

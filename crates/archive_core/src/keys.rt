@@ -28,8 +28,8 @@ pub struct SliceKey {
 #[derive(Clone, Copy, Debug, PartialEq, Eq)]
 pub struct Digest(pub [u8; 32]);
 
-// Compares two keys as their bytes stand in records.
-pub(crate) fn compare_keys(a: &SliceKey, b: &SliceKey) -> Ordering
+/// Compares two keys as their bytes stand in records.
+pub fn compare_keys(a: &SliceKey, b: &SliceKey) -> Ordering
     ensures order { result ≡ slice_cmp nat_cmp (key_bytes a.now) (key_bytes b.now) }
     ensures first { length (key_bytes a.now) ≡ 24 }
     ensures second { length (key_bytes b.now) ≡ 24 }

@@ -15,6 +15,7 @@ ghost use Rattle.archive_core.specs.Content.{Operations, made, IsMade, IsContent
 ghost use Rattle.archive_core.specs.Summary.{Entries, entry, summary, delta, DigestsTell};
 ghost use Rattle.archive_core.specs.Find.{IsFinds, AreAnswering, answering_count};
 ghost use Rattle.archive_core.specs.Lookup.{AnswerRecord, IsAnswer};
+ghost use Rattle.archive_core.specs.Names.{NameRecord, IsNames};
 ghost use Rattle.join_core.specs.Listing.{IsListing, listing};
 ghost use Rattle.archive_core.specs.declared.find.FindRow.{FindRow};
 ghost use Rattle.archive_core.specs.declared.keys.SliceKey.{SliceKey};
@@ -223,6 +224,14 @@ pub fn one_find()
         → rows ≡ others }
 {}
 
+/// A content and a name have one list of rows.
+pub fn one_find_name()
+    ensures { (o : Operations) (name : List ℕ) (rows others : List NameRecord)
+        → IsNames o name rows
+        → IsNames o name others
+        → rows ≡ others }
+{}
+
 /// The rows of a UUID tell how many slices answer under it and an architecture.
 pub fn rows_count_answering()
     ensures { (o : Operations) (key : SliceKey) (rows : List FindRow)
@@ -262,7 +271,13 @@ pub fn alike<A: Archive, B: Archive>()
         → IsFinds (A.content a) uuid rows
         → IsFinds (B.content b) uuid others
         → rows ≡ others }
+    ensures find_name { (a : A) (b : B) (name : List ℕ) (rows others : List NameRecord)
+        → A.content a ≡ B.content b
+        → IsNames (A.content a) name rows
+        → IsNames (B.content b) name others
+        → rows ≡ others }
 {
     one_find();
+    one_find_name();
     one_answer();
 }

@@ -79,15 +79,15 @@ impl<'a> Tally<'a> {
     }
 }
 
-// Whether two keys are one.
-pub(crate) fn is_key(a: &SliceKey, b: &SliceKey) -> bool
+/// Whether two keys are one.
+pub fn is_key(a: &SliceKey, b: &SliceKey) -> bool
     ensures { result ≡ is_key a.now b.now }
 {
     *a == *b
 }
 
-// Whether a slice is a companion, where one is asked for, or else whether it is none.
-pub(crate) fn is_kind(dsym: bool, slice: &Slice) -> bool
+/// Whether a slice is a companion, where one is asked for, or else whether it is none.
+pub fn is_kind(dsym: bool, slice: &Slice) -> bool
     ensures { result ≡ is_kind dsym slice.now }
 {
     slice.image().is_dsym() == dsym
@@ -113,8 +113,8 @@ fn nearest(slice: &Slice, address: u64) -> Own<'_>
     }
 }
 
-// The address in a slice's file that a place stands for.
-fn file_address(slice: &Slice, place: Where) -> Option<u64>
+/// The address in a slice's file that a place stands for.
+pub fn file_address(slice: &Slice, place: Where) -> Option<u64>
     ensures { result ≡ file_address slice.now place }
 {
     match place {
@@ -134,8 +134,8 @@ fn unslid(base: u64, load: u64, address: u64) -> Option<u64>
     }
 }
 
-// What the only slice that answers tells.
-pub(crate) fn answer_of_one(own: Own<'_>) -> Answer<'_>
+/// What the only slice that answers tells.
+pub fn answer_of_one(own: Own<'_>) -> Answer<'_>
     ensures { answer_view result ≡ Alone (own_view own.entry) }
 {
     match own {

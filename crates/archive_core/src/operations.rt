@@ -68,8 +68,8 @@ impl Operation {
         }
     }
 
-    // The key that it is under.
-    pub(crate) fn key(&self) -> SliceKey
+    /// The key that it is under.
+    pub fn key(&self) -> SliceKey
         ensures { result ≡ key_in self.now }
     {
         match self {

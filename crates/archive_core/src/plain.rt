@@ -12,12 +12,14 @@ ghost use Rattle.archive_core.specs.Valid.{key_of};
 ghost use Rattle.archive_core.specs.Record.{rec, retirement_record};
 ghost use Rattle.archive_core.specs.InnerScan.{is_finding, live_in, live_among, IsTally};
 ghost use Rattle.archive_core.specs.Lookup.{IsOwnRow, IsAnswerOf, own_row, answer_view};
+ghost use Rattle.archive_core.specs.Names.{name_view};
+ghost use Rattle.archive_core.specs.InnerNames.{names_of, names_among};
 
 use crate::finding::{Finding, rows_of};
 use crate::live::{Hashed, Tally, answer_of_one, is_key, is_kind};
 use crate::{
-    Answer, Archive, Contents, Digest, FindRow, FindState, Operation, Own, Record, Slice, SliceKey,
-    Where,
+    Answer, Archive, Contents, Digest, FindRow, FindState, NameRow, Operation, Own, Record, Slice,
+    SliceKey, Where, put_in_order, rows_in,
 };
 use join_core::Join;
 use memory::{Heap, NoMemory};
@@ -203,6 +205,40 @@ impl PlainArchive {
         }
     }
 
+    // The rows of a name in what an operation admits, unless that is retired.
+    fn names_of<'a>(
+        &self,
+        operation: &'a Operation,
+        name: &[u8],
+    ) -> Result<Vec<NameRow<'a>, Heap>, NoMemory>
+        ensures { IfOk result (λ rows. map name_view rows.items ≡ names_of self.now name.now operation.now) }
+    {
+        let heap = self.operations.allocator().clone()?;
+        let Operation::Admit(slice) = operation else {
+            return Ok(Vec::new(heap));
+        };
+        match self.unless_retired(slice) {
+            Some(hashed) => rows_in(heap, slice, hashed.digest(), name),
+            None => Ok(Vec::new(heap)),
+        }
+    }
+
+    // The rows of a name in operations, as they come.
+    fn gather_names<'a>(
+        &self,
+        operations: &'a [Operation],
+        name: &[u8],
+    ) -> Result<Vec<NameRow<'a>, Heap>, NoMemory>
+        ensures { IfOk result (λ rows. map name_view rows.items ≡ names_among self.now name.now operations.now) }
+    {
+        let mut rows = Vec::new(self.operations.allocator().clone()?);
+        'operations: for operation in operations {
+            let mut more = self.names_of(operation, name)?;
+            rows.append(&mut more)?;
+        }
+        Ok(rows)
+    }
+
     // Copies of those operations that the archive does not hold.
     fn copy_missing(&self, operations: &[Operation]) -> Result<Vec<Operation, Heap>, NoMemory>
         ensures { IfOk result (λ missing.
@@ -293,6 +329,12 @@ impl Archive for PlainArchive {
             }
             companions => self.answer_of(&self.operations, key, true, companions, place),
         }
+    }
+
+    fn find_name(&self, name: &[u8]) -> Result<Vec<NameRow<'_>, Heap>, NoMemory> {
+        let mut rows = self.gather_names(&self.operations, name)?;
+        put_in_order(&mut rows);
+        Ok(rows)
     }
 
     fn len(&self) -> u64 {

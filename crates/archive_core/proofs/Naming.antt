@@ -1,0 +1,205 @@
+-- The rows of a name: their order, and that a scan finds them.
+use Rattle.std.proofs.Common.{◌≡◌, ◌↔◌, ℕ, ◌+◌, ◌<◌, Bool, true, false, cond, List, [], ◌∷◌, ◌++◌, length, take, map, slice_index_or, refl, sym, ap, ◌∙◌, inl, inr, arith, subst, add-one}
+use Rattle.std.specs.declared.cmp.Ordering.{Ordering}
+use Rattle.std.specs.declared.cmp.Ordering.TheVariants.{Less, Equal}
+use Rattle.std.specs.Ordering.{nat_cmp, on, ordering_then, eq_by_cmp}
+use Rattle.std.specs.Cmp.{IsTotalOrder, Equal-is, nat_cmp_total, on_total, then_total}
+use Rattle.std.specs.Cmp.Lexicographic.{slice_cmp, on_texts}
+use Rattle.std.specs.List.{AllByRecursion, Contains, flat_map, dedup}
+use Rattle.std.specs.List.Sorted.{IsSorted, IsStrictlySortedBy, IsPermutation}
+use Rattle.std.specs.FinSet.{from_list, contains, nat_cmp-IsAntisymmetric}
+use Rattle.std.proofs.lemmas.List.Elements.{All-contains, All-from_recursion, Contains-append_left, Contains-append_right, Contains-append_cases}
+use Rattle.std.proofs.lemmas.List.Kept.{IsStrictlySortedBy-dedup, Contains-from_dedup, Any-dedup}
+use Rattle.std.proofs.lemmas.List.Sorted.{Contains-permutation, IsPermutation-sym}
+use Rattle.std.proofs.lemmas.Cmp.{eq_by_cmp_equiv}
+use Rattle.std.proofs.lemmas.Grind.{flat_map-append}
+use Rattle.std.proofs.lemmas.List.{append-nil}
+use Rattle.std.proofs.Math.Seq.{take-suc}
+use Rattle.sha2.specs.Sha256.{sha256}
+use Rattle.macho_symbols.proofs.Order.{both_equal}
+use Rattle.macho_symbols.specs.Found.{named}
+use Rattle.archive_core.specs.Valid.{key_of}
+use Rattle.archive_core.specs.Record.{rec, admission_record, retirement_record, IsOperation}
+use Rattle.archive_core.specs.Content.{Operations}
+use Rattle.archive_core.specs.Names.{NameRecord, key_cmp, place_cmp, name_cmp, name_row, IsNameRow, IsNames, name_view}
+use Rattle.archive_core.specs.InnerNames.{names_in, names_of, names_among}
+use Rattle.archive_core.specs.Find.{arch_cmp}
+use Rattle.archive_core.specs.InnerHeld.{IsHeld}
+use Rattle.archive_core.specs.declared.names.NameRow.{NameRow}
+use Rattle.archive_core.specs.declared.operations.Operation.{Operation}
+use Rattle.archive_core.specs.declared.operations.Operation.TheVariants.{Admit, Retire}
+use Rattle.archive_core.proofs.Held.{bytes_same}
+use Rattle.archive_core.proofs.Scanned.{in_cons, in_front, in_rest, one_with_members, record_there, operation_there}
+
+-- the order of rows is a total order
+key_total : IsTotalOrder key_cmp
+key_total = then_total (on_texts (λ key. key.uuid)) (on_total (λ key. key.arch) (then_total (on_total (λ arch. arch.cputype) nat_cmp_total) (on_total (λ arch. arch.subtype) nat_cmp_total)))
+
+place_total : IsTotalOrder place_cmp
+place_total = then_total (on_total (λ row. row.address) nat_cmp_total) (then_total (on_total (λ row. row.sect) nat_cmp_total) (then_total (on_texts (λ row. row.segment)) (on_texts (λ row. row.section))))
+
+pub name_total : IsTotalOrder name_cmp
+name_total = then_total (then_total (on_total (λ row. row.key) key_total) (on_texts (λ row. row.digest))) place_total
+
+-- rows that it ties are one
+pub rows_same : (a b : NameRecord) → name_cmp a b ≡ Equal → a ≡ b
+rows_same a b h =
+    let halves = both_equal (ordering_then (key_cmp a.key b.key) (slice_cmp nat_cmp a.digest b.digest)) (place_cmp a b) h in
+    let slices = both_equal (key_cmp a.key b.key) (slice_cmp nat_cmp a.digest b.digest) halves.0 in
+    let key = both_equal (slice_cmp nat_cmp a.key.uuid b.key.uuid) (arch_cmp a.key.arch b.key.arch) slices.0 in
+    let arch = both_equal (nat_cmp a.key.arch.cputype b.key.arch.cputype) (nat_cmp a.key.arch.subtype b.key.arch.subtype) key.1 in
+    let names = both_equal (slice_cmp nat_cmp a.segment b.segment) (slice_cmp nat_cmp a.section b.section) in
+    let sects = both_equal (nat_cmp a.sect b.sect) (ordering_then (slice_cmp nat_cmp a.segment b.segment) (slice_cmp nat_cmp a.section b.section)) in
+    let addresses = both_equal (nat_cmp a.address b.address) (ordering_then (nat_cmp a.sect b.sect) (ordering_then (slice_cmp nat_cmp a.segment b.segment) (slice_cmp nat_cmp a.section b.section))) halves.1 in
+    let uuid = bytes_same a.key.uuid b.key.uuid key.0 in
+    let cputype = nat_cmp-IsAntisymmetric a.key.arch.cputype b.key.arch.cputype arch.0 in
+    let subtype = nat_cmp-IsAntisymmetric a.key.arch.subtype b.key.arch.subtype arch.1 in
+    let digest = bytes_same a.digest b.digest slices.1 in
+    let address = nat_cmp-IsAntisymmetric a.address b.address addresses.0 in
+    let sect = nat_cmp-IsAntisymmetric a.sect b.sect (sects addresses.1).0 in
+    let segment = bytes_same a.segment b.segment (names (sects addresses.1).1).0 in
+    let section = bytes_same a.section b.section (names (sects addresses.1).1).1 in
+    λ i. record {
+      key = record { uuid = uuid i; arch = record { cputype = cputype i; subtype = subtype i } };
+      digest = digest i;
+      address = address i;
+      sect = sect i;
+      segment = segment i;
+      section = section i;
+    }
+
+module _ {X Y : Type 0} where
+  -- what is among the values of a function
+  pub in_map : (f : X → Y) (xs : List X) (b : Y) → Contains (map f xs) b → (a : X) × Contains xs a × (b ≡ f a)
+  in_map f [] b (k, lt, e) = absurd (omega arith)
+  in_map f (x ∷ xs) b h = elim (in_cons (f x) (map f xs) b h) [
+    | inl e ↦ (x, in_front x xs, sym e)
+    | inr there ↦ let one = in_map f xs b there in (one.0, in_rest x xs one.0 one.1, one.2)
+  ]
+
+  pub to_map : (f : X → Y) (xs : List X) (a : X) → Contains xs a → Contains (map f xs) (f a)
+  to_map f [] a (k, lt, e) = absurd (omega arith)
+  to_map f (x ∷ xs) a h = elim (in_cons x xs a h) [
+    | inl e ↦ subst (λ y. Contains (f x ∷ map f xs) (f y)) e (in_front (f x) (map f xs))
+    | inr there ↦ in_rest (f x) (map f xs) (f a) (to_map f xs a there)
+  ]
+
+  -- what is among the lists that a function gives
+  pub in_flat_map : (f : X → List Y) (xs : List X) (b : Y) → Contains (flat_map f xs) b → (a : X) × Contains xs a × Contains (f a) b
+  in_flat_map f [] b (k, lt, e) = absurd (omega arith)
+  in_flat_map f (x ∷ xs) b h = elim (Contains-append_cases (f x) (flat_map f xs) b h) [
+    | inl here ↦ (x, in_front x xs, here)
+    | inr there ↦ let one = in_flat_map f xs b there in (one.0, in_rest x xs one.0 one.1, one.2)
+  ]
+
+  pub to_flat_map : (f : X → List Y) (xs : List X) (a : X) (b : Y) → Contains xs a → Contains (f a) b → Contains (flat_map f xs) b
+  to_flat_map f [] a b (k, lt, e) g = absurd (omega arith)
+  to_flat_map f (x ∷ xs) a b h g = elim (in_cons x xs a h) [
+    | inl e ↦ Contains-append_left (f x) (flat_map f xs) b (subst (λ y. Contains (f y) b) (sym e) g)
+    | inr there ↦ Contains-append_right (f x) (flat_map f xs) b (to_flat_map f xs a b there g)
+  ]
+
+  -- the values ascend where the list does by them
+  pub ascending_map : (R : Y → Y → Ordering) (f : X → Y) (xs : List X) → IsStrictlySortedBy (on f R) xs → IsStrictlySortedBy R (map f xs)
+  unfolding IsStrictlySortedBy
+  ascending_map R f [] h = tt
+  ascending_map R f (x ∷ xs) h = (each xs h.0, ascending_map R f xs h.1)
+    where
+      each : (ys : List X) → AllByRecursion (λ y. R (f x) (f y) ≡ Less) ys → AllByRecursion (λ k. R (f x) k ≡ Less) (map f ys)
+      each [] g = tt
+      each (y ∷ ys) g = (g.0, each ys g.1)
+
+-- rows by their values
+row_cmp : NameRow → NameRow → Ordering
+row_cmp = on name_view name_cmp
+
+-- rows in order, each once
+pub record AreOrdered (old new : List NameRow) : Type 0 where
+  pub ascending : IsStrictlySortedBy name_cmp (map name_view new)
+  pub same : (row : NameRecord) → Contains (map name_view new) row ↔ Contains (map name_view old) row
+
+pub ordered : (old sorted : List NameRow) → IsPermutation old sorted → IsSorted (on name_view name_cmp) sorted → AreOrdered old (dedup (eq_by_cmp (on name_view name_cmp)) sorted)
+ordered old sorted permuted up = record {
+  ascending = ascending_map name_cmp name_view kept (IsStrictlySortedBy-dedup total (λ x y. refl) sorted up);
+  same = λ row. (to row, back row);
+}
+  where
+    total : IsTotalOrder (on name_view name_cmp)
+    total = on_total name_view name_total
+
+    kept : List NameRow
+    kept = dedup (eq_by_cmp (on name_view name_cmp)) sorted
+
+    to : (row : NameRecord) → Contains (map name_view kept) row → Contains (map name_view old) row
+    to row h =
+        let one = in_map name_view kept row h in
+        let there = Contains-permutation sorted old one.0 (IsPermutation-sym old sorted permuted) (Contains-from_dedup (eq_by_cmp (on name_view name_cmp)) sorted one.0 one.1) in
+        subst (Contains (map name_view old)) (sym one.2) (to_map name_view old one.0 there)
+
+    back : (row : NameRecord) → Contains (map name_view old) row → Contains (map name_view kept) row
+    back row h =
+        let one = in_map name_view old row h in
+        let there = Contains-permutation old sorted one.0 permuted one.1 in
+        let alike = Any-dedup (eq_by_cmp_equiv total) sorted one.0 there in
+        let tied : name_cmp (name_view one.0) (name_view alike.1) ≡ Equal = (Equal-is (name_cmp (name_view one.0) (name_view alike.1))).0 alike.4 in
+        subst (Contains (map name_view kept)) (sym (one.2 ∙ rows_same (name_view one.0) (name_view alike.1) tied)) (to_map name_view kept alike.1 (alike.0, alike.2, alike.3))
+
+-- the rows of one more operation
+module _ (o : Operations) (name : List ℕ) (operations : List Operation) (i : ℕ) (a : Operation) (lt : i < length operations) (is : a ≡ slice_index_or operations i a) where
+  pub names_more : names_among o name (take (i + 1) operations) ≡ names_among o name (take i operations) ++ names_of o name a
+  unfolding names_among
+  names_more =
+      ap (λ (n : ℕ). names_among o name (take n operations)) (add-one i)
+      ∙ ap (names_among o name) (take-suc operations i a lt ∙ ap (λ (x : Operation). take i operations ++ x ∷ []) (sym is))
+      ∙ flat_map-append (names_of o name) (take i operations) (a ∷ [])
+      ∙ ap (λ l. names_among o name (take i operations) ++ l) (append-nil (names_of o name a))
+
+-- what a scan finds are the rows of the name
+pub names_scanned : (o : Operations) (name : List ℕ) (operations : List Operation) → IsHeld operations → from_list (map rec operations) ≡ o
+    → (row : NameRecord) → Contains (names_among o name operations) row ↔ IsNameRow o name row
+unfolding names_among
+names_scanned o name operations held is row = (to, back)
+  where
+    told_of : (a : Operation) → Contains operations a → Contains (names_of o name a) row → IsNameRow o name row
+    told_of (Admit slice) there h = by (contains o (retirement_record (key_of slice) (sha256 slice))) refl h
+      where
+        by : (b : Bool) → contains o (retirement_record (key_of slice) (sha256 slice)) ≡ b → Contains (cond b [] (names_in name slice)) row → IsNameRow o name row
+        by true e (k, lt, g) = absurd (omega arith)
+        by false e g =
+            let one = in_map (name_row slice) (named slice name) row g in
+            record {
+              slice = slice;
+              valid = All-contains IsOperation operations (Admit slice) (All-from_recursion IsOperation operations held.are) there;
+              live = record { admitted = ap (λ s. contains s (admission_record slice)) (sym is) ∙ record_there operations (Admit slice) there; under = refl; kept = e };
+              found = one.0;
+              candidate = one.1;
+              row_is = one.2;
+            }
+    told_of (Retire key digest) there (k, lt, g) = absurd (omega arith)
+
+    to : Contains (names_among o name operations) row → IsNameRow o name row
+    to h = let one = in_flat_map (names_of o name) operations row h in told_of one.0 one.1 one.2
+
+    back : IsNameRow o name row → Contains (names_among o name operations) row
+    back h =
+        let live = h.live in
+        let there = operation_there operations (Admit h.slice) held.are h.valid (ap (λ s. contains s (admission_record h.slice)) is ∙ live.admitted) in
+        let rows = subst (λ l. Contains l row) (ap (λ b. cond b [] (names_in name h.slice)) (sym live.kept)) (subst (Contains (names_in name h.slice)) (sym h.row_is) (to_map (name_row h.slice) (named h.slice name) h.found h.candidate)) in
+        to_flat_map (names_of o name) operations (Admit h.slice) row there rows
+
+-- a content and a name have one list of rows
+pub one_list_of_names : (o : Operations) (name : List ℕ) (rows others : List NameRecord) → IsNames o name rows → IsNames o name others → rows ≡ others
+one_list_of_names o name rows others f g =
+    one_with_members name_total rows others f.ascending g.ascending (λ a h. (g.exactly a).1 ((f.exactly a).0 h)) (λ a h. (f.exactly a).1 ((g.exactly a).0 h))
+
+-- put in order, they are what a search for the name tells
+pub names_put : (o : Operations) (name : List ℕ) (operations : List Operation) → IsHeld operations → from_list (map rec operations) ≡ o
+    → (old new : List NameRecord) → old ≡ names_among o name operations → IsStrictlySortedBy name_cmp new → ((row : NameRecord) → Contains new row ↔ Contains old row) → IsNames o name new
+names_put o name operations held is old new gathered ascending same = record {
+  ascending = ascending;
+  exactly = λ row.
+      let scanned = names_scanned o name operations held is row in (
+        λ h. scanned.0 (subst (λ l. Contains l row) gathered ((same row).0 h)),
+        λ h. (same row).1 (subst (λ l. Contains l row) (sym gathered) (scanned.1 h)),
+      );
+}

@@ -1,0 +1,25 @@
+-- What an archive tells of a name as it goes through its operations.
+use Rattle.std.specs.Prelude.{ℕ, List, [], map, if◌then◌else◌}
+use Rattle.std.specs.List.{flat_map}
+use Rattle.std.specs.FinSet as set
+use Rattle.sha2.specs.Sha256.{sha256}
+use Rattle.macho_symbols.specs.Found.{named}
+use Rattle.archive_core.specs.Valid.{key_of}
+use Rattle.archive_core.specs.Record.{retirement_record}
+use Rattle.archive_core.specs.Content.{Operations}
+use Rattle.archive_core.specs.Names.{NameRecord, name_row}
+use Rattle.archive_core.specs.declared.operations.Operation.{Operation}
+use Rattle.archive_core.specs.declared.operations.Operation.TheVariants.{Admit, Retire}
+
+-- the rows of a name in a slice, in the order of its symbol table
+abbrev pub names_in : List ℕ → List ℕ → List NameRecord
+names_in name slice = map (name_row slice) (named slice name)
+
+-- the rows of a name in what an operation admits, unless that is retired
+abbrev pub names_of : Operations → List ℕ → Operation → List NameRecord
+names_of o name (Admit slice) = if set.contains o (retirement_record (key_of slice) (sha256 slice)) then [] else names_in name slice
+names_of o name (Retire key digest) = []
+
+-- the rows of a name in operations, one after another
+unfoldable pub names_among : Operations → List ℕ → List Operation → List NameRecord
+names_among o name operations = flat_map (names_of o name) operations
