@@ -1,0 +1,27 @@
+use Rattle.std.proofs.Common.{refl, sym, subst, take, ◌+◌}
+use Rattle.archive_core.specs.Scan.{live_among}
+use Rattle.archive_core.proofs.Lookups.{one_more, none_more}
+use Rattle.archive_index.specs.Few.{IsFew}
+use Rattle.archive_index.proofs.indexed.IndexedArchive.few.Goals.{in-Some, in_default}
+use Rattle.archive_index.proofs.indexed.IndexedArchive.few.Goals as goal
+
+pub operations-init : goal.operations-init
+unfolding live_among
+operations-init c = refl
+
+pub operations-preserved : goal.operations-preserved
+operations-preserved c =
+    let o = c.args.self.now in
+    let operations = c.args.operations.now in
+    let i = c.operations.tabled-index in
+    let a = c.tabled-item.result in
+    let before = live_among o c.args.key.now c.args.dsym (take i operations) in
+    let after = live_among o c.args.key.now c.args.dsym (take (i + 1) operations) in
+    elim c.match-live.branch [
+      | in-Some w ↦
+          let grown = one_more o c.args.key.now c.args.dsym operations i a c.operations-test.true c.tabled-item.is c.live.result w.in-Some.slice c.live.ensures w.in-Some.is in
+          subst (λ f. IsFew f after) (sym w.few-is) (subst (IsFew w.and-few.result) (sym grown) (w.and-few.ensures before c.operations.invariant))
+      | in_default w ↦
+          let same = none_more o c.args.key.now c.args.dsym operations i a c.operations-test.true c.tabled-item.is c.live.result c.live.ensures w.in_default.is in
+          subst (λ f. IsFew f after) (sym w.few-is) (subst (IsFew c.operations.few) (sym same) c.operations.invariant)
+    ]

@@ -1,0 +1,30 @@
+use Rattle.std.proofs.Common.{sym, subst, ap, map, take, ◌∙◌}
+use Rattle.std.specs.List.{AllZip}
+use Rattle.archive_core.specs.Lookup.{IsOwnRow, own_row}
+use Rattle.archive_core.specs.Scan.{live_among}
+use Rattle.archive_core.proofs.Lookups.{one_more, none_more, rows_more}
+use Rattle.archive_index.proofs.indexed.IndexedArchive.own_rows.Goals.{in-Some+in_ok-push, in_default}
+use Rattle.archive_index.proofs.indexed.IndexedArchive.own_rows.Goals as goal
+
+pub operations-init : goal.operations-init
+unfolding live_among
+operations-init c = rw c.new-rows.ensures.items tt
+
+pub operations-preserved : goal.operations-preserved
+operations-preserved c =
+    let o = c.args.self.now in
+    let operations = c.args.operations.now in
+    let i = c.operations.tabled-index in
+    let a = c.tabled-item.result in
+    let rows = c.match-live.rows.items in
+    let before = live_among o c.args.key.now c.args.dsym (take i operations) in
+    elim c.match-live.branch [
+      | in-Some+in_ok-push w ↦
+          let grown = one_more o c.args.key.now c.args.dsym operations i a c.operations-test.true c.tabled-item.is c.live.result w.in-Some.slice c.live.ensures w.in-Some.is in
+          subst (λ slices. AllZip (IsOwnRow c.args.place) slices (map own_row rows)) (sym grown)
+          (rows_more c.args.place before c.operations.rows.items rows w.in-Some.slice w.row.result c.operations.invariant w.row.ensures (ap (λ v. v.items) w.rows-is ∙ w.in_ok-push.ensures.items))
+      | in_default w ↦
+          let same = none_more o c.args.key.now c.args.dsym operations i a c.operations-test.true c.tabled-item.is c.live.result c.live.ensures w.in_default.is in
+          subst (λ slices. AllZip (IsOwnRow c.args.place) slices (map own_row rows)) (sym same)
+          (subst (λ items. AllZip (IsOwnRow c.args.place) before (map own_row items)) (sym (ap (λ v. v.items) w.rows-is)) c.operations.invariant)
+    ]

@@ -1,0 +1,349 @@
+//! An archive with a table of addresses beside each slice.
+ghost use Rattle.std.specs.Prelude.{◌≡◌, ◌≤◌, length, map, filter, not, if◌then◌else◌, Some, None, IfOk, OnOk, OnErr};
+ghost use Rattle.std.specs.FinSet as set;
+ghost use Rattle.std.specs.Ordering.{nat_cmp};
+ghost use Rattle.std.specs.Cmp.Lexicographic.{slice_cmp};
+ghost use Rattle.std.specs.List.{list_all, AllZip};
+ghost use Rattle.std.specs.List.Sorted.{IsStrictlySortedBy, IsSearchInRange};
+ghost use Rattle.join_core.specs.Listing.{IsFound};
+ghost use Rattle.sha2.specs.Sha256.{sha256};
+ghost use Rattle.archive_core.specs.Valid.{key_of};
+ghost use Rattle.archive_core.specs.Record.{rec, retirement_record};
+ghost use Rattle.archive_core.specs.Scan.{is_told, live_in, live_among};
+ghost use Rattle.archive_core.specs.Lookup.{IsOwnRow, IsToldBy, own_row, answer_view};
+ghost use Rattle.archive_core.specs.Names.{name_view};
+ghost use Rattle.archive_core.specs.InnerNames.{names_of, names_among};
+ghost use Rattle.archive_index.specs.Few.{IsFew};
+
+use crate::range::{Kind, under};
+use crate::searched::{Few, Searched};
+use crate::tabled::Tabled;
+use archive_core::{
+    Answer, Archive, Contents, Digest, FindRow, FindState, NameRow, Operation, Own, Record,
+    SliceKey, Told, Where, is_key, put_in_order, rows_of, told_alone,
+};
+use join_core::Join;
+use memory::{Heap, NoMemory};
+use std::marker::Model;
+use uuid::Uuid;
+
+/// An archive as a list of operations, strictly ascending by their records, each slice with its table of addresses.
+///
+/// What is asked of a key is found by halving, and an address by halving in the tables of the slices that answer. A
+/// `take` of a slice builds its table, and a join those of the slices that it takes in.
+#[derive(Drop)]
+pub struct IndexedArchive {
+    operations: Vec<Tabled, Heap>,
+}
+
+impl Model for IndexedArchive {
+    ghost use Rattle.std.specs.Prelude.{map};
+    ghost use Rattle.std.specs.Ordering.{nat_cmp};
+    ghost use Rattle.std.specs.Cmp.Lexicographic.{slice_cmp};
+    ghost use Rattle.std.specs.FinSet as set;
+    ghost use Rattle.std.specs.Coded.{coded_list, coded_ℕ};
+    ghost use Rattle.archive_core.specs.Record.{rec};
+    ghost use Rattle.archive_core.specs.Held.{IsHeld};
+
+    ghost Value = { set.FinSet (slice_cmp nat_cmp) };
+
+    ghost coded = { set.code (coded_list coded_ℕ) };
+
+    ghost view = { λ archive. set.from_list (map rec archive.operations.items) };
+
+    ghost invariant = { λ archive. IsHeld archive.operations.items };
+}
+
+// Where an operation stands among others that ascend, or where it would go.
+fn search(operations: &[Tabled], operation: &Operation) -> Result<usize, usize>
+    requires { IsStrictlySortedBy (slice_cmp nat_cmp) (map rec operations.now) }
+    ensures bound { IsSearchInRange result (length operations.now) }
+    ensures found { IsFound (slice_cmp nat_cmp) (map rec operations.now) (rec operation.now) result }
+{
+    operations.binary_search_by(|tabled| tabled.operation().compare(operation))
+}
+
+// The same, with the end tried first: operations that come in ascending order are not searched for.
+fn search_from_end(operations: &[Tabled], operation: &Operation) -> Result<usize, usize>
+    requires { IsStrictlySortedBy (slice_cmp nat_cmp) (map rec operations.now) }
+    ensures bound { IsSearchInRange result (length operations.now) }
+    ensures found { IsFound (slice_cmp nat_cmp) (map rec operations.now) (rec operation.now) result }
+{
+    if let Some(last) = operations.last() {
+        if last.operation().compare(operation).is_lt() {
+            return Err(operations.len());
+        }
+    }
+    search(operations, operation)
+}
+
+impl IndexedArchive {
+    // Whether the archive holds each of the operations.
+    fn holds_each(&self, operations: &[Tabled]) -> bool
+        ensures { result ≡ list_all (λ operation. set.contains self.now (rec operation)) operations.now }
+    {
+        operations
+            .iter()
+            .all(|tabled| self.holds(tabled.operation()))
+    }
+
+    // Whether a retirement covers the slice. It is hashed only where a retirement of its key stands.
+    fn is_retired(&self, slice: &Searched<'_>) -> bool
+        ensures { result ≡ set.contains self.now (retirement_record (key_of slice.now) (sha256 slice.now)) }
+    {
+        if under(&self.operations, Kind::Retirement, slice.key()).is_empty() {
+            return false;
+        }
+        self.holds(&Operation::Retire(slice.key(), slice.digest()))
+    }
+
+    // The slice that an operation admits, where it is live under the key, and a companion or not.
+    #[tactic(auto, unfolding(archive_core::specs::Scan::is_live_kind))]
+    fn live<'a>(&self, tabled: &'a Tabled, key: &SliceKey, dsym: bool) -> Option<Searched<'a>>
+        ensures { result ≡ live_in self.now key.now dsym tabled.now }
+    {
+        let slice = tabled.slice()?;
+        if !is_key(&slice.key(), key) || !slice.is_kind(dsym) || self.is_retired(&slice) {
+            return None;
+        }
+        Some(slice)
+    }
+
+    // The live slices of a key, companions or not, as far as one of them is asked alone.
+    fn few<'a>(&self, operations: &'a [Tabled], key: &SliceKey, dsym: bool) -> Few<'a>
+        ensures { IsFew result (live_among self.now key.now dsym operations.now) }
+    {
+        let mut few = Few::Nothing;
+        'operations: for tabled in operations {
+            if let Some(slice) = self.live(tabled, key, dsym) {
+                few = few.and(slice);
+            }
+        }
+        few
+    }
+
+    // What each of the live slices of a key, companions or not, tells of a place.
+    fn own_rows<'a>(
+        &self,
+        operations: &'a [Tabled],
+        key: &SliceKey,
+        dsym: bool,
+        place: Where,
+    ) -> Result<Vec<(Digest, Own<'a>), Heap>, NoMemory>
+        ensures { IfOk result (λ rows.
+            AllZip (IsOwnRow place) (live_among self.now key.now dsym operations.now) (map own_row rows.items)) }
+    {
+        let mut rows = Vec::new(self.operations.allocator().clone()?);
+        'operations: for tabled in operations {
+            if let Some(slice) = self.live(tabled, key, dsym) {
+                rows.push(slice.row(place))?;
+            }
+        }
+        Ok(rows)
+    }
+
+    // What the live slices of a key, companions or not, tell together, where so much is kept of them.
+    fn told_by<'a>(
+        &self,
+        operations: &'a [Tabled],
+        key: &SliceKey,
+        dsym: bool,
+        few: Few<'a>,
+        place: Where,
+    ) -> Result<Answer<'a>, NoMemory>
+        requires { IsFew few (live_among self.now key.now dsym operations.now) }
+        ensures told { IfOk result (λ answer.
+            IsToldBy place (live_among self.now key.now dsym operations.now) (answer_view answer)) }
+        ensures memory { OnErr result (2 ≤ length (live_among self.now key.now dsym operations.now)) }
+    {
+        match few {
+            Few::Nothing => Ok(Answer::Unknown),
+            Few::One(slice) => Ok(told_alone(slice.own(place))),
+            Few::Several => Ok(Answer::Conflict(self.own_rows(operations, key, dsym, place)?)),
+        }
+    }
+
+    // The operation with its row, where a search for the UUID tells it.
+    fn told<'a>(&self, tabled: &'a Tabled, uuid: &Uuid) -> Option<Told<'a>>
+        ensures { result ≡ if is_told self.now uuid.now tabled.now then Some tabled.now else None }
+    {
+        let operation = tabled.operation();
+        let key = operation.key();
+        if key.uuid != *uuid {
+            return None;
+        }
+        let told = Told::of(operation);
+        match told.row().state {
+            FindState::Retired => Some(told),
+            FindState::Image | FindState::Dsym => {
+                let retirement = Operation::Retire(key, told.row().digest);
+                if self.holds(&retirement) {
+                    None
+                } else {
+                    Some(told)
+                }
+            }
+        }
+    }
+
+    // Those operations that a search for the UUID tells, each with its row.
+    fn gather<'a>(
+        &self,
+        operations: &'a [Tabled],
+        uuid: &Uuid,
+    ) -> Result<Vec<Told<'a>, Heap>, NoMemory>
+        ensures { IfOk result (λ told. told.items ≡ filter (is_told self.now uuid.now) operations.now) }
+    {
+        let mut told = Vec::new(self.operations.allocator().clone()?);
+        'operations: for tabled in operations {
+            if let Some(found) = self.told(tabled, uuid) {
+                told.push(found)?;
+            }
+        }
+        Ok(told)
+    }
+
+    // The rows of a name in what an operation admits, unless that is retired. A slice without the name is not hashed.
+    fn names_of<'a>(
+        &self,
+        tabled: &'a Tabled,
+        name: &[u8],
+    ) -> Result<Vec<NameRow<'a>, Heap>, NoMemory>
+        ensures { IfOk result (λ rows. map name_view rows.items ≡ names_of self.now name.now tabled.now) }
+    {
+        let heap = self.operations.allocator().clone()?;
+        let Some(slice) = tabled.slice() else {
+            return Ok(Vec::new(heap));
+        };
+        if !slice.has_name(name) || self.is_retired(&slice) {
+            return Ok(Vec::new(heap));
+        }
+        slice.rows(heap, name)
+    }
+
+    // The rows of a name in operations, as they come.
+    fn gather_names<'a>(
+        &self,
+        operations: &'a [Tabled],
+        name: &[u8],
+    ) -> Result<Vec<NameRow<'a>, Heap>, NoMemory>
+        ensures { IfOk result (λ rows. map name_view rows.items ≡ names_among self.now name.now operations.now) }
+    {
+        let mut rows = Vec::new(self.operations.allocator().clone()?);
+        'operations: for tabled in operations {
+            let mut more = self.names_of(tabled, name)?;
+            rows.append(&mut more)?;
+        }
+        Ok(rows)
+    }
+
+    // Copies of those operations that the archive does not hold.
+    fn copy_missing(&self, operations: &[Tabled]) -> Result<Vec<Tabled, Heap>, NoMemory>
+        ensures { IfOk result (λ missing.
+            missing.items ≡ filter (λ operation. not (set.contains self.now (rec operation))) operations.now) }
+    {
+        let heap = self.operations.allocator();
+        let mut missing = Vec::new(heap.clone()?);
+        'operations: for tabled in operations {
+            if !self.holds(tabled.operation()) {
+                let copy = tabled.copy(heap.clone()?)?;
+                missing.push(copy)?;
+            }
+        }
+        Ok(missing)
+    }
+}
+
+impl Join for IndexedArchive {
+    ghost use Rattle.std.specs.Prelude.{◌≡◌, true};
+    ghost use Rattle.std.specs.Cmp.Lexicographic.{nat_list_cmp_total};
+    ghost use Rattle.std.specs.FinSet.{nat_cmp-IsAntisymmetric, slice_cmp-IsAntisymmetric};
+    ghost use Rattle.join_core.proofs.Subset.{subset_reflexive, subset_transitive, subset_antisymmetric};
+    ghost use Rattle.archive_core.specs.Content.{IsContent, IsBelow};
+
+    type Content = Contents;
+
+    ghost content = { λ archive. archive };
+
+    ghost is_content = { IsContent };
+
+    ghost below = { IsBelow };
+
+    ghost reflexive = { subset_reflexive nat_list_cmp_total };
+
+    ghost transitive = { subset_transitive nat_list_cmp_total };
+
+    ghost antisymmetric = { λ o p _ _.
+        subset_antisymmetric nat_list_cmp_total (slice_cmp-IsAntisymmetric nat_cmp-IsAntisymmetric) o p };
+
+    fn join(&mut self, other: &Self) -> Result<(), NoMemory> {
+        let mut missing = self.copy_missing(&other.operations)?;
+        self.operations.append(&mut missing)?;
+        self.operations
+            .sort_unstable_by(|a, b| a.operation().compare(b.operation()));
+        Ok(())
+    }
+
+    fn covers(&self, other: &Self) -> bool {
+        other.operations.len() <= self.operations.len() && self.holds_each(&other.operations)
+    }
+}
+
+impl Archive for IndexedArchive {
+    ghost is_content_is = { λ _. (λ h. h, λ h. h) };
+
+    ghost below_is = { λ _ _. (λ h. h, λ h. h) };
+
+    fn empty(heap: Heap) -> Self {
+        IndexedArchive {
+            operations: Vec::new(heap),
+        }
+    }
+
+    fn take(&mut self, operation: Operation) -> Result<bool, NoMemory> {
+        match search_from_end(&self.operations, &operation) {
+            Ok(_) => Ok(false),
+            Err(place) => {
+                let heap = self.operations.allocator().clone()?;
+                let tabled = Tabled::of(heap, operation)?;
+                self.operations.insert(place, tabled)?;
+                Ok(true)
+            }
+        }
+    }
+
+    fn holds(&self, operation: &Operation) -> bool {
+        search(&self.operations, operation).is_ok()
+    }
+
+    fn find(&self, uuid: &Uuid) -> Result<Vec<FindRow, Heap>, NoMemory> {
+        let mut told = self.gather(&self.operations, uuid)?;
+        told.sort_unstable_by(|a, b| a.compare(b));
+        rows_of(self.operations.allocator().clone()?, &told)
+    }
+
+    fn lookup(&self, key: &SliceKey, place: Where) -> Result<Answer<'_>, NoMemory> {
+        let admissions = under(&self.operations, Kind::Admission, *key);
+        match self.few(admissions, key, true) {
+            Few::Nothing => {
+                let images = self.few(admissions, key, false);
+                self.told_by(admissions, key, false, images, place)
+            }
+            companions => self.told_by(admissions, key, true, companions, place),
+        }
+    }
+
+    fn find_name(&self, name: &[u8]) -> Result<Vec<NameRow<'_>, Heap>, NoMemory> {
+        let mut rows = self.gather_names(&self.operations, name)?;
+        put_in_order(&mut rows);
+        Ok(rows)
+    }
+
+    fn len(&self) -> u64 {
+        self.operations.len() as u64
+    }
+
+    fn record_at(&self, place: u64) -> Record<'_> {
+        self.operations[place as usize].operation().lend()
+    }
+}

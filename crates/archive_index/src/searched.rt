@@ -1,0 +1,132 @@
+//! A slice that is asked for an address.
+ghost use Rattle.std.specs.Prelude.{◌≡◌, ◌∷◌, [], ◌++◌, ℕ, List, length, map, nat_lt, IfOk};
+ghost use Rattle.sha2.specs.Sha256.{sha256};
+ghost use Rattle.macho_symbols.specs.Found.{FindsNearest, named};
+ghost use Rattle.archive_core.specs.Valid.{key_of};
+ghost use Rattle.archive_core.specs.Lookup.{IsOwn, IsOwnRow, own_view, own_row};
+ghost use Rattle.archive_core.specs.Names.{name_view};
+ghost use Rattle.archive_core.specs.InnerNames.{names_in};
+ghost use Rattle.archive_core.specs.Scan.{is_kind};
+ghost use Rattle.archive_index.specs.Tabled.{IsTabledSlice};
+ghost use Rattle.archive_index.specs.Few.{IsFew};
+
+use archive_core::{Digest, NameRow, Own, Slice, SliceKey, Where, file_address, is_kind, rows_in};
+use macho_symbols::AddressTable;
+use memory::{Heap, NoMemory};
+use std::marker::Model;
+
+// A slice, with its table where it has one. A contract sees it as the slice's bytes.
+#[derive(Drop)]
+pub(crate) struct Searched<'a> {
+    slice: &'a Slice,
+    table: &'a Option<AddressTable>,
+}
+
+impl<'a> Model for Searched<'a> {
+    ghost use Rattle.std.specs.Prelude.{ℕ, List};
+
+    ghost Value = { List ℕ };
+
+    ghost use Rattle.archive_index.specs.Tabled.{IsTabledSlice};
+
+    ghost view = { λ searched. searched.slice.now };
+
+    ghost invariant = { λ searched. IsTabledSlice searched.slice.now searched.table.now };
+}
+
+// What is kept of slices as they are counted: at most one of them is asked alone.
+#[derive(Drop)]
+pub(crate) enum Few<'a> {
+    Nothing,
+    One(Searched<'a>),
+    Several,
+}
+
+impl<'a> Searched<'a> {
+    // The slice, with its table.
+    pub(crate) fn of(slice: &'a Slice, table: &'a Option<AddressTable>) -> Searched<'a>
+        requires { IsTabledSlice slice.now table.now }
+        ensures { result ≡ slice.now }
+    {
+        Searched { slice, table }
+    }
+
+    // The key of the slice.
+    pub(crate) fn key(&self) -> SliceKey
+        ensures { result ≡ key_of self.now }
+    {
+        self.slice.key()
+    }
+
+    // The SHA-256 of the slice.
+    pub(crate) fn digest(&self) -> Digest
+        ensures { result.0 ≡ sha256 self.now }
+    {
+        self.slice.digest()
+    }
+
+    // Whether the slice is a companion, where one is asked for, or else whether it is none.
+    pub(crate) fn is_kind(&self, dsym: bool) -> bool
+        ensures { result ≡ is_kind dsym self.now }
+    {
+        is_kind(dsym, self.slice)
+    }
+
+    // What the slice tells of a place.
+    pub(crate) fn own(&self, place: Where) -> Own<'a>
+        ensures { IsOwn self.now place (own_view result) }
+    {
+        match file_address(self.slice, place) {
+            Some(address) => self.nearest(address),
+            None => Own::NoSymbol,
+        }
+    }
+
+    // The nearest symbol of an address in the slice's file: out of the table, or by a scan where there is none.
+    fn nearest(&self, address: u64) -> Own<'a>
+        ensures { FindsNearest self.now address (own_view result) }
+    {
+        let found = match self.table {
+            Some(table) => table.nearest(address, self.slice.bytes()),
+            None => self.slice.symbols().nearest_plain(address),
+        };
+        match found {
+            Some(found) => Own::Symbol(found),
+            None => Own::NoSymbol,
+        }
+    }
+
+    // Whether a symbol of the slice has the name.
+    pub(crate) fn has_name(&self, name: &[u8]) -> bool
+        ensures { result ≡ nat_lt 0 (length (named self.now name.now)) }
+    {
+        let mut names = self.slice.symbols().named(name);
+        names.next().is_some()
+    }
+
+    // The rows of a name in the slice.
+    pub(crate) fn rows(&self, heap: Heap, name: &[u8]) -> Result<Vec<NameRow<'a>, Heap>, NoMemory>
+        ensures { IfOk result (λ rows. map name_view rows.items ≡ names_in name.now self.now) }
+    {
+        rows_in(heap, self.slice, self.digest(), name)
+    }
+
+    // The slice's digest and what it tells of a place.
+    pub(crate) fn row(&self, place: Where) -> (Digest, Own<'a>)
+        ensures { IsOwnRow place self.now (own_row result) }
+    {
+        (self.digest(), self.own(place))
+    }
+}
+
+impl<'a> Few<'a> {
+    // The same with one slice more.
+    pub(crate) fn and(self, slice: Searched<'a>) -> Few<'a>
+        ensures { (slices : List (List ℕ)) → IsFew self.entry slices → IsFew result (slices ++ slice.entry ∷ []) }
+    {
+        match self {
+            Few::Nothing => Few::One(slice),
+            Few::One(_) | Few::Several => Few::Several,
+        }
+    }
+}
