@@ -18,8 +18,8 @@ use Rattle.archive_core.specs.Key.{IsKey}
 use Rattle.archive_core.specs.Valid.{key_of}
 use Rattle.archive_core.specs.Record.{rec, admission, retirement_record, IsOperation}
 use Rattle.archive_core.specs.Content.{Operations}
-use Rattle.archive_core.specs.Held.{IsHeld}
-use Rattle.archive_core.specs.Scan.{is_key, is_live_kind, live_in, live_among}
+use Rattle.archive_core.specs.InnerHeld.{IsHeld}
+use Rattle.archive_core.specs.InnerScan.{is_key, is_live_kind, live_in, live_among}
 use Rattle.archive_core.specs.declared.keys.SliceKey.{SliceKey}
 use Rattle.archive_core.specs.declared.operations.Operation.{Operation}
 use Rattle.archive_core.specs.declared.operations.Operation.TheVariants.{Admit, Retire}

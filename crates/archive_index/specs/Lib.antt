@@ -1,3 +1,3 @@
 pub mod Tabled
 pub mod Range
-pub mod Few
+pub mod Tally

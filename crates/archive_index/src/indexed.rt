@@ -5,22 +5,22 @@ ghost use Rattle.std.specs.Ordering.{nat_cmp};
 ghost use Rattle.std.specs.Cmp.Lexicographic.{slice_cmp};
 ghost use Rattle.std.specs.List.{list_all, AllZip};
 ghost use Rattle.std.specs.List.Sorted.{IsStrictlySortedBy, IsSearchInRange};
-ghost use Rattle.join_core.specs.Listing.{IsFound};
+ghost use Rattle.join_core.specs.InnerSearch.{IsFound};
 ghost use Rattle.sha2.specs.Sha256.{sha256};
 ghost use Rattle.archive_core.specs.Valid.{key_of};
 ghost use Rattle.archive_core.specs.Record.{rec, retirement_record};
-ghost use Rattle.archive_core.specs.Scan.{is_told, live_in, live_among};
-ghost use Rattle.archive_core.specs.Lookup.{IsOwnRow, IsToldBy, own_row, answer_view};
+ghost use Rattle.archive_core.specs.InnerScan.{is_finding, live_in, live_among};
+ghost use Rattle.archive_core.specs.Lookup.{IsOwnRow, IsAnswerOf, own_row, answer_view};
 ghost use Rattle.archive_core.specs.Names.{name_view};
 ghost use Rattle.archive_core.specs.InnerNames.{names_of, names_among};
-ghost use Rattle.archive_index.specs.Few.{IsFew};
+ghost use Rattle.archive_index.specs.Tally.{IsTally};
 
 use crate::range::{Kind, under};
-use crate::searched::{Few, Searched};
+use crate::searched::{Tally, Searched};
 use crate::tabled::Tabled;
 use archive_core::{
     Answer, Archive, Contents, Digest, FindRow, FindState, NameRow, Operation, Own, Record,
-    SliceKey, Told, Where, is_key, put_in_order, rows_of, told_alone,
+    SliceKey, Finding, Where, is_key, put_in_order, rows_of, answer_of_one,
 };
 use join_core::Join;
 use memory::{Heap, NoMemory};
@@ -43,7 +43,7 @@ impl Model for IndexedArchive {
     ghost use Rattle.std.specs.FinSet as set;
     ghost use Rattle.std.specs.Coded.{coded_list, coded_ℕ};
     ghost use Rattle.archive_core.specs.Record.{rec};
-    ghost use Rattle.archive_core.specs.Held.{IsHeld};
+    ghost use Rattle.archive_core.specs.InnerHeld.{IsHeld};
 
     ghost Value = { set.FinSet (slice_cmp nat_cmp) };
 
@@ -98,7 +98,7 @@ impl IndexedArchive {
     }
 
     // The slice that an operation admits, where it is live under the key, and a companion or not.
-    #[tactic(auto, unfolding(archive_core::specs::Scan::is_live_kind))]
+    #[tactic(auto, unfolding(archive_core::specs::InnerScan::is_live_kind))]
     fn live<'a>(&self, tabled: &'a Tabled, key: &SliceKey, dsym: bool) -> Option<Searched<'a>>
         ensures { result ≡ live_in self.now key.now dsym tabled.now }
     {
@@ -110,16 +110,16 @@ impl IndexedArchive {
     }
 
     // The live slices of a key, companions or not, as far as one of them is asked alone.
-    fn few<'a>(&self, operations: &'a [Tabled], key: &SliceKey, dsym: bool) -> Few<'a>
-        ensures { IsFew result (live_among self.now key.now dsym operations.now) }
+    fn tally<'a>(&self, operations: &'a [Tabled], key: &SliceKey, dsym: bool) -> Tally<'a>
+        ensures { IsTally result (live_among self.now key.now dsym operations.now) }
     {
-        let mut few = Few::Nothing;
+        let mut tally = Tally::Nothing;
         'operations: for tabled in operations {
             if let Some(slice) = self.live(tabled, key, dsym) {
-                few = few.and(slice);
+                tally = tally.and(slice);
             }
         }
-        few
+        tally
     }
 
     // What each of the live slices of a key, companions or not, tells of a place.
@@ -143,44 +143,44 @@ impl IndexedArchive {
     }
 
     // What the live slices of a key, companions or not, tell together, where so much is kept of them.
-    fn told_by<'a>(
+    fn answer_of<'a>(
         &self,
         operations: &'a [Tabled],
         key: &SliceKey,
         dsym: bool,
-        few: Few<'a>,
+        tally: Tally<'a>,
         place: Where,
     ) -> Result<Answer<'a>, NoMemory>
-        requires { IsFew few (live_among self.now key.now dsym operations.now) }
-        ensures told { IfOk result (λ answer.
-            IsToldBy place (live_among self.now key.now dsym operations.now) (answer_view answer)) }
+        requires { IsTally tally (live_among self.now key.now dsym operations.now) }
+        ensures answer { IfOk result (λ answer.
+            IsAnswerOf place (live_among self.now key.now dsym operations.now) (answer_view answer)) }
         ensures memory { OnErr result (2 ≤ length (live_among self.now key.now dsym operations.now)) }
     {
-        match few {
-            Few::Nothing => Ok(Answer::Unknown),
-            Few::One(slice) => Ok(told_alone(slice.own(place))),
-            Few::Several => Ok(Answer::Conflict(self.own_rows(operations, key, dsym, place)?)),
+        match tally {
+            Tally::Nothing => Ok(Answer::Unknown),
+            Tally::One(slice) => Ok(answer_of_one(slice.own(place))),
+            Tally::Several => Ok(Answer::Conflict(self.own_rows(operations, key, dsym, place)?)),
         }
     }
 
     // The operation with its row, where a search for the UUID tells it.
-    fn told<'a>(&self, tabled: &'a Tabled, uuid: &Uuid) -> Option<Told<'a>>
-        ensures { result ≡ if is_told self.now uuid.now tabled.now then Some tabled.now else None }
+    fn finding<'a>(&self, tabled: &'a Tabled, uuid: &Uuid) -> Option<Finding<'a>>
+        ensures { result ≡ if is_finding self.now uuid.now tabled.now then Some tabled.now else None }
     {
         let operation = tabled.operation();
         let key = operation.key();
         if key.uuid != *uuid {
             return None;
         }
-        let told = Told::of(operation);
-        match told.row().state {
-            FindState::Retired => Some(told),
+        let finding = Finding::of(operation);
+        match finding.row().state {
+            FindState::Retired => Some(finding),
             FindState::Image | FindState::Dsym => {
-                let retirement = Operation::Retire(key, told.row().digest);
+                let retirement = Operation::Retire(key, finding.row().digest);
                 if self.holds(&retirement) {
                     None
                 } else {
-                    Some(told)
+                    Some(finding)
                 }
             }
         }
@@ -191,16 +191,16 @@ impl IndexedArchive {
         &self,
         operations: &'a [Tabled],
         uuid: &Uuid,
-    ) -> Result<Vec<Told<'a>, Heap>, NoMemory>
-        ensures { IfOk result (λ told. told.items ≡ filter (is_told self.now uuid.now) operations.now) }
+    ) -> Result<Vec<Finding<'a>, Heap>, NoMemory>
+        ensures { IfOk result (λ findings. findings.items ≡ filter (is_finding self.now uuid.now) operations.now) }
     {
-        let mut told = Vec::new(self.operations.allocator().clone()?);
+        let mut findings = Vec::new(self.operations.allocator().clone()?);
         'operations: for tabled in operations {
-            if let Some(found) = self.told(tabled, uuid) {
-                told.push(found)?;
+            if let Some(finding) = self.finding(tabled, uuid) {
+                findings.push(finding)?;
             }
         }
-        Ok(told)
+        Ok(findings)
     }
 
     // The rows of a name in what an operation admits, unless that is retired. A slice without the name is not hashed.
@@ -317,19 +317,19 @@ impl Archive for IndexedArchive {
     }
 
     fn find(&self, uuid: &Uuid) -> Result<Vec<FindRow, Heap>, NoMemory> {
-        let mut told = self.gather(&self.operations, uuid)?;
-        told.sort_unstable_by(|a, b| a.compare(b));
-        rows_of(self.operations.allocator().clone()?, &told)
+        let mut findings = self.gather(&self.operations, uuid)?;
+        findings.sort_unstable_by(|a, b| a.compare(b));
+        rows_of(self.operations.allocator().clone()?, &findings)
     }
 
     fn lookup(&self, key: &SliceKey, place: Where) -> Result<Answer<'_>, NoMemory> {
         let admissions = under(&self.operations, Kind::Admission, *key);
-        match self.few(admissions, key, true) {
-            Few::Nothing => {
-                let images = self.few(admissions, key, false);
-                self.told_by(admissions, key, false, images, place)
+        match self.tally(admissions, key, true) {
+            Tally::Nothing => {
+                let images = self.tally(admissions, key, false);
+                self.answer_of(admissions, key, false, images, place)
             }
-            companions => self.told_by(admissions, key, true, companions, place),
+            companions => self.answer_of(admissions, key, true, companions, place),
         }
     }
 
@@ -343,7 +343,7 @@ impl Archive for IndexedArchive {
         self.operations.len() as u64
     }
 
-    fn record_at(&self, place: u64) -> Record<'_> {
-        self.operations[place as usize].operation().lend()
+    fn record_at(&self, index: u64) -> Record<'_> {
+        self.operations[index as usize].operation().lend()
     }
 }

@@ -3,7 +3,7 @@ ghost use Rattle.std.specs.Prelude.{◌≡◌, filter};
 ghost use Rattle.std.specs.Ordering.{nat_cmp};
 ghost use Rattle.std.specs.Cmp.Lexicographic.{slice_cmp};
 ghost use Rattle.archive_core.specs.Key.{IsKey};
-ghost use Rattle.archive_core.specs.Held.{IsHeld};
+ghost use Rattle.archive_core.specs.InnerHeld.{IsHeld};
 ghost use Rattle.archive_index.specs.Range.{front, front_of, is_under};
 
 use crate::tabled::Tabled;

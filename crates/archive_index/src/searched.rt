@@ -6,9 +6,9 @@ ghost use Rattle.archive_core.specs.Valid.{key_of};
 ghost use Rattle.archive_core.specs.Lookup.{IsOwn, IsOwnRow, own_view, own_row};
 ghost use Rattle.archive_core.specs.Names.{name_view};
 ghost use Rattle.archive_core.specs.InnerNames.{names_in};
-ghost use Rattle.archive_core.specs.Scan.{is_kind};
+ghost use Rattle.archive_core.specs.InnerScan.{is_kind};
 ghost use Rattle.archive_index.specs.Tabled.{IsTabledSlice};
-ghost use Rattle.archive_index.specs.Few.{IsFew};
+ghost use Rattle.archive_index.specs.Tally.{IsTally};
 
 use archive_core::{Digest, NameRow, Own, Slice, SliceKey, Where, file_address, is_kind, rows_in};
 use macho_symbols::AddressTable;
@@ -36,7 +36,7 @@ impl<'a> Model for Searched<'a> {
 
 // What is kept of slices as they are counted: at most one of them is asked alone.
 #[derive(Drop)]
-pub(crate) enum Few<'a> {
+pub(crate) enum Tally<'a> {
     Nothing,
     One(Searched<'a>),
     Several,
@@ -119,14 +119,14 @@ impl<'a> Searched<'a> {
     }
 }
 
-impl<'a> Few<'a> {
+impl<'a> Tally<'a> {
     // The same with one slice more.
-    pub(crate) fn and(self, slice: Searched<'a>) -> Few<'a>
-        ensures { (slices : List (List ℕ)) → IsFew self.entry slices → IsFew result (slices ++ slice.entry ∷ []) }
+    pub(crate) fn and(self, slice: Searched<'a>) -> Tally<'a>
+        ensures { (slices : List (List ℕ)) → IsTally self.entry slices → IsTally result (slices ++ slice.entry ∷ []) }
     {
         match self {
-            Few::Nothing => Few::One(slice),
-            Few::One(_) | Few::Several => Few::Several,
+            Tally::Nothing => Tally::One(slice),
+            Tally::One(_) | Tally::Several => Tally::Several,
         }
     }
 }

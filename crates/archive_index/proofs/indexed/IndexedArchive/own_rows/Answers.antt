@@ -1,7 +1,7 @@
 use Rattle.std.proofs.Common.{sym, subst, ap, map, take, ◌∙◌}
 use Rattle.std.specs.List.{AllZip}
 use Rattle.archive_core.specs.Lookup.{IsOwnRow, own_row}
-use Rattle.archive_core.specs.Scan.{live_among}
+use Rattle.archive_core.specs.InnerScan.{live_among}
 use Rattle.archive_core.proofs.Lookups.{one_more, none_more, rows_more}
 use Rattle.archive_index.proofs.indexed.IndexedArchive.own_rows.Goals.{in-Some+in_ok-push, in_default}
 use Rattle.archive_index.proofs.indexed.IndexedArchive.own_rows.Goals as goal

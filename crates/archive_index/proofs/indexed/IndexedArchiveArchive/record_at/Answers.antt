@@ -8,7 +8,7 @@ use Rattle.join_core.specs.Listing.{listing}
 use Rattle.join_core.proofs.Place.{len_listed}
 use Rattle.join_core.proofs.Listing.{listing_ascending}
 use Rattle.archive_core.specs.Record.{rec}
-use Rattle.archive_core.specs.Held.{IsHeld}
+use Rattle.archive_core.specs.InnerHeld.{IsHeld}
 use Rattle.archive_core.specs.declared.operations.Operation.{Operation}
 use Rattle.archive_core.proofs.Held.{bytes_same}
 use Rattle.archive_index.proofs.indexed.IndexedArchiveArchive.record_at.Goals as goal
@@ -21,10 +21,10 @@ placed : (items : List Operation) (s : set.FinSet (slice_cmp nat_cmp)) (i : ℕ)
 placed items s i one held is lt at = ap rec at ∙ sym (get_or-map rec items i one [] lt) ∙ ap (λ l. get_or l i []) (sym (listing_ascending nat_list_cmp_total bytes_same (map rec items) held.ascending) ∙ ap listing is)
 
 pub index-requires : goal.index-requires
-index-requires c = let lt = within c.self.inside.operations.items c.args.self.now c.args.place c.self.invariant c.self.view_is c.requires in omega (arith, lt, c.self.inside.operations.ok.0)
+index-requires c = let lt = within c.self.inside.operations.items c.args.self.now c.args.index c.self.invariant c.self.view_is c.requires in omega (arith, lt, c.self.inside.operations.ok.0)
 
 pub returns : goal.returns
 returns c =
     let items = c.self.inside.operations.items in
-    let lt = within items c.args.self.now c.args.place c.self.invariant c.self.view_is c.requires in
-    c.lend.ensures ∙ ap rec c.operation.ensures ∙ placed items c.args.self.now c.args.place c.index.result.now c.self.invariant c.self.view_is lt c.index.ensures
+    let lt = within items c.args.self.now c.args.index c.self.invariant c.self.view_is c.requires in
+    c.lend.ensures ∙ ap rec c.operation.ensures ∙ placed items c.args.self.now c.args.index c.index.result.now c.self.invariant c.self.view_is lt c.index.ensures

@@ -1,9 +1,9 @@
 use Rattle.std.proofs.Common.{refl, sym, subst, take, ◌+◌}
-use Rattle.archive_core.specs.Scan.{live_among}
+use Rattle.archive_core.specs.InnerScan.{live_among}
 use Rattle.archive_core.proofs.Lookups.{one_more, none_more}
-use Rattle.archive_index.specs.Few.{IsFew}
-use Rattle.archive_index.proofs.indexed.IndexedArchive.few.Goals.{in-Some, in_default}
-use Rattle.archive_index.proofs.indexed.IndexedArchive.few.Goals as goal
+use Rattle.archive_index.specs.Tally.{IsTally}
+use Rattle.archive_index.proofs.indexed.IndexedArchive.tally.Goals.{in-Some, in_default}
+use Rattle.archive_index.proofs.indexed.IndexedArchive.tally.Goals as goal
 
 pub operations-init : goal.operations-init
 unfolding live_among
@@ -20,8 +20,8 @@ operations-preserved c =
     elim c.match-live.branch [
       | in-Some w ↦
           let grown = one_more o c.args.key.now c.args.dsym operations i a c.operations-test.true c.tabled-item.is c.live.result w.in-Some.slice c.live.ensures w.in-Some.is in
-          subst (λ f. IsFew f after) (sym w.few-is) (subst (IsFew w.and-few.result) (sym grown) (w.and-few.ensures before c.operations.invariant))
+          subst (λ f. IsTally f after) (sym w.tally-is) (subst (IsTally w.and-tally.result) (sym grown) (w.and-tally.ensures before c.operations.invariant))
       | in_default w ↦
           let same = none_more o c.args.key.now c.args.dsym operations i a c.operations-test.true c.tabled-item.is c.live.result c.live.ensures w.in_default.is in
-          subst (λ f. IsFew f after) (sym w.few-is) (subst (IsFew c.operations.few) (sym same) c.operations.invariant)
+          subst (λ f. IsTally f after) (sym w.tally-is) (subst (IsTally c.operations.tally) (sym same) c.operations.invariant)
     ]
