@@ -11,6 +11,7 @@ use archive_commands::{
 };
 use archive_core::{Digest, PlainArchive, SliceKey};
 use archive_files::{OutFile, open_all, open_all_buffered, open_buffered};
+use archive_index::IndexedArchive;
 use byte_device::Writing;
 use command_line::{LineFault, Plan, plan};
 use memory::Heap;
@@ -283,7 +284,7 @@ fn symbolicate<R: Files + Print + AllocGlobal>(
 ) -> Result<Status, Failure> {
     let mut report = Writing::new(io::writer(rt));
     let mut archive = open_buffered(rt.alloc(), rt, archive)?;
-    let status = run_symbolicate::<PlainArchive, _, _>(
+    let status = run_symbolicate::<IndexedArchive, _, _>(
         heap,
         &mut archive,
         key,
