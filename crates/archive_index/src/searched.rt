@@ -1,7 +1,9 @@
 //! A slice that is asked for an address.
 ghost use Rattle.std.specs.Prelude.{◌≡◌, ◌∷◌, [], ◌++◌, ℕ, List, length, map, nat_lt, IfOk};
+ghost use Rattle.std.specs.Option.{option_map};
 ghost use Rattle.sha2.specs.Sha256.{sha256};
 ghost use Rattle.macho_symbols.specs.Found.{FindsNearest, named};
+ghost use Rattle.macho_symbols.specs.Views.{found_view};
 ghost use Rattle.archive_core.specs.Valid.{key_of};
 ghost use Rattle.archive_core.specs.Lookup.{IsOwn, IsOwnRow, own_view, own_row};
 ghost use Rattle.archive_core.specs.Names.{name_view};
@@ -11,7 +13,7 @@ ghost use Rattle.archive_index.specs.Tabled.{IsTabledSlice};
 ghost use Rattle.archive_index.specs.Tally.{IsTally};
 
 use archive_core::{Digest, NameRow, Own, Slice, SliceKey, Where, file_address, is_kind, rows_in};
-use macho_symbols::AddressTable;
+use macho_symbols::{AddressTable, Found};
 use memory::{Heap, NoMemory};
 use std::marker::Model;
 
@@ -77,22 +79,18 @@ impl<'a> Searched<'a> {
         ensures { IsOwn self.now place (own_view result) }
     {
         match file_address(self.slice, place) {
-            Some(address) => self.nearest(address),
+            Some(address) => own_of(self.nearest(address)),
             None => Own::NoSymbol,
         }
     }
 
     // The nearest symbol of an address in the slice's file: out of the table, or by a scan where there is none.
-    fn nearest(&self, address: u64) -> Own<'a>
-        ensures { FindsNearest self.now address (own_view result) }
+    fn nearest(&self, address: u64) -> Option<Found<'a>>
+        ensures { FindsNearest self.now address (option_map found_view result) }
     {
-        let found = match self.table {
+        match self.table {
             Some(table) => table.nearest(address, self.slice.bytes()),
             None => self.slice.symbols().nearest_plain(address),
-        };
-        match found {
-            Some(found) => Own::Symbol(found),
-            None => Own::NoSymbol,
         }
     }
 
@@ -116,6 +114,16 @@ impl<'a> Searched<'a> {
         ensures { IsOwnRow place self.now (own_row result) }
     {
         (self.digest(), self.own(place))
+    }
+}
+
+// What a slice tells where this is the nearest symbol.
+fn own_of(found: Option<Found<'_>>) -> Own<'_>
+    ensures { own_view result ≡ option_map found_view found.entry }
+{
+    match found {
+        Some(found) => Own::Symbol(found),
+        None => Own::NoSymbol,
     }
 }
 
