@@ -13,6 +13,7 @@ ghost use Rattle.archive_core.specs.InnerScan.{is_finding, live_in, live_among};
 ghost use Rattle.archive_core.specs.Lookup.{IsOwnRow, IsAnswerOf, own_row, answer_view};
 ghost use Rattle.archive_core.specs.Names.{name_view};
 ghost use Rattle.archive_core.specs.InnerNames.{names_of, names_among};
+ghost use Rattle.archive_index.specs.Tabled.{IsDigestBeside};
 ghost use Rattle.archive_index.specs.Tally.{IsTally};
 
 use crate::range::{Kind, under};
@@ -30,7 +31,8 @@ use uuid::Uuid;
 /// An archive as a list of operations, strictly ascending by their records, each slice with its table of addresses.
 ///
 /// What is asked of a key is found by halving, and an address by halving in the tables of the slices that answer. A
-/// `take` of a slice builds its table, and a join those of the slices that it takes in.
+/// `take` of a slice builds its table, and a join those of the slices that it takes in. The digest of a slice that is
+/// taken behind a retirement of its key is kept beside it; any other is computed where it is asked for.
 #[derive(Drop)]
 pub struct IndexedArchive {
     operations: Vec<Tabled, Heap>,
@@ -95,6 +97,19 @@ impl IndexedArchive {
             return false;
         }
         self.holds(&Operation::Retire(slice.key(), slice.digest()))
+    }
+
+    // The digest that is kept beside an operation: of a slice where a retirement of its key stands.
+    fn digest_to_keep(&self, operation: &Operation) -> Option<Digest>
+        ensures { IsDigestBeside operation.now result }
+    {
+        let Operation::Admit(slice) = operation else {
+            return None;
+        };
+        if under(&self.operations, Kind::Retirement, slice.key()).is_empty() {
+            return None;
+        }
+        Some(slice.digest())
     }
 
     // The slice that an operation admits, where it is live under the key, and a companion or not.
@@ -305,7 +320,8 @@ impl Archive for IndexedArchive {
             Ok(_) => Ok(false),
             Err(place) => {
                 let heap = self.operations.allocator().clone()?;
-                let tabled = Tabled::of(heap, operation)?;
+                let digest = self.digest_to_keep(&operation);
+                let tabled = Tabled::of(heap, operation, digest)?;
                 self.operations.insert(place, tabled)?;
                 Ok(true)
             }

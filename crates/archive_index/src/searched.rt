@@ -9,7 +9,7 @@ ghost use Rattle.archive_core.specs.Lookup.{IsOwn, IsOwnRow, own_view, own_row};
 ghost use Rattle.archive_core.specs.Names.{name_view};
 ghost use Rattle.archive_core.specs.InnerNames.{names_in};
 ghost use Rattle.archive_core.specs.InnerScan.{is_kind};
-ghost use Rattle.archive_index.specs.Tabled.{IsTabledSlice};
+ghost use Rattle.archive_index.specs.Tabled.{IsTabledSlice, IsDigestOf};
 ghost use Rattle.archive_index.specs.Tally.{IsTally};
 
 use archive_core::{Digest, NameRow, Own, Slice, SliceKey, Where, file_address, is_kind, rows_in};
@@ -17,11 +17,12 @@ use macho_symbols::{AddressTable, Found};
 use memory::{Heap, NoMemory};
 use std::marker::Model;
 
-// A slice, with its table where it has one. A contract sees it as the slice's bytes.
+// A slice, with its table and its digest where it has them. A contract sees it as the slice's bytes.
 #[derive(Drop)]
 pub(crate) struct Searched<'a> {
     slice: &'a Slice,
     table: &'a Option<AddressTable>,
+    digest: Option<Digest>,
 }
 
 impl<'a> Model for Searched<'a> {
@@ -29,11 +30,12 @@ impl<'a> Model for Searched<'a> {
 
     ghost Value = { List ℕ };
 
-    ghost use Rattle.archive_index.specs.Tabled.{IsTabledSlice};
+    ghost use Rattle.archive_index.specs.Tabled.{IsTabledSlice, IsDigestOf};
 
     ghost view = { λ searched. searched.slice.now };
 
-    ghost invariant = { λ searched. IsTabledSlice searched.slice.now searched.table.now };
+    ghost invariant = { λ searched.
+        IsTabledSlice searched.slice.now searched.table.now × IsDigestOf searched.slice.now searched.digest };
 }
 
 // What is kept of slices as they are counted: at most one of them is asked alone.
@@ -45,12 +47,21 @@ pub(crate) enum Tally<'a> {
 }
 
 impl<'a> Searched<'a> {
-    // The slice, with its table.
-    pub(crate) fn of(slice: &'a Slice, table: &'a Option<AddressTable>) -> Searched<'a>
-        requires { IsTabledSlice slice.now table.now }
+    // The slice, with its table and its digest.
+    pub(crate) fn of(
+        slice: &'a Slice,
+        table: &'a Option<AddressTable>,
+        digest: Option<Digest>,
+    ) -> Searched<'a>
+        requires table { IsTabledSlice slice.now table.now }
+        requires digest { IsDigestOf slice.now digest }
         ensures { result ≡ slice.now }
     {
-        Searched { slice, table }
+        Searched {
+            slice,
+            table,
+            digest,
+        }
     }
 
     // The key of the slice.
@@ -60,11 +71,14 @@ impl<'a> Searched<'a> {
         self.slice.key()
     }
 
-    // The SHA-256 of the slice.
+    // The SHA-256 of the slice, computed anew where it is not kept.
     pub(crate) fn digest(&self) -> Digest
         ensures { result.0 ≡ sha256 self.now }
     {
-        self.slice.digest()
+        match self.digest {
+            Some(digest) => digest,
+            None => self.slice.digest(),
+        }
     }
 
     // Whether the slice is a companion, where one is asked for, or else whether it is none.
