@@ -54,6 +54,14 @@ impl<'t> Task<'t> {
         };
         Ok(Task::Call(call, name))
     }
+
+    /// Whether OUT is written while the inputs are read, as by `merge` of one FILE.
+    pub fn writes_as_it_reads(self) -> bool {
+        match self {
+            Task::Run(Plan::Merge { files, .. }) => files.len() == 1,
+            _ => false,
+        }
+    }
 }
 
 impl<'a> Desk<'a> {

@@ -13,7 +13,7 @@
 //! - `each cut NAME`, `each read NAME`, `each out`, `each report`, `each pieces N` carry the next case out at each
 //!   place, and tell places in a row that have one outcome in one line;
 //! - `each growth` carries it out with 0, 1, .. growths until none is refused, and tells how many runs met a refusal. A
-//!   refused run leaves its report empty and OUT empty or whole.
+//!   refused run leaves its report empty and OUT empty or whole; one that writes as it reads leaves a beginning.
 //!
 //! The program, whose report stands behind `|`:
 //!

@@ -80,12 +80,13 @@ impl Left {
     }
 
     /// Whether this may be left where memory is wanting, beside what is left where it is not: of a command no report,
-    /// and nothing in OUT or all of it; of a call the first of its lines.
-    pub fn may_want_memory(&self, whole: &Left) -> bool {
+    /// and nothing in OUT or all of it, or any beginning where it writes as it reads; of a call the first of its lines.
+    pub fn may_want_memory(&self, whole: &Left, writes_as_it_reads: bool) -> bool {
         match self.end {
             End::Given | End::Fault(_) => whole.report.starts_with(&self.report),
             End::Done(_) | End::Refused(_) => {
-                self.report.is_empty() && (self.out.is_empty() || self.out == whole.out)
+                let begun = writes_as_it_reads && whole.out.starts_with(&self.out);
+                self.report.is_empty() && (begun || self.out.is_empty() || self.out == whole.out)
             }
         }
     }

@@ -102,7 +102,7 @@ pub fn tell_growths(desk: Desk, task: Task, told: &mut String) -> Result<(), Cas
         if !left.end.wants_memory() {
             return tell_last_growth(growths, left.is_as(&whole), told);
         }
-        if !left.may_want_memory(&whole) {
+        if !left.may_want_memory(&whole, task.writes_as_it_reads()) {
             writeln!(
                 told,
                 "  WRONG: growth {growths} was refused, and something was written"
