@@ -17,11 +17,11 @@ ghost use Rattle.archive_index.specs.Tabled.{IsDigestBeside};
 ghost use Rattle.archive_index.specs.Tally.{IsTally};
 
 use crate::range::{Kind, under};
-use crate::searched::{Tally, Searched};
+use crate::searched::{Searched, Tally};
 use crate::tabled::Tabled;
 use archive_core::{
-    Answer, Archive, Contents, Digest, FindRow, FindState, NameRow, Operation, Own, Record,
-    SliceKey, Finding, Where, is_key, put_in_order, rows_of, answer_of_one,
+    Answer, Archive, Contents, Digest, FindRow, FindState, Finding, NameRow, Operation, Own,
+    Record, SliceKey, Where, answer_of_one, is_key, put_in_order, rows_of,
 };
 use join_core::Join;
 use memory::{Heap, NoMemory};
