@@ -42,7 +42,7 @@ use Rattle.archive_records.specs.declared.kind.TextKind.{TextKind}
 use Rattle.archive_records.specs.declared.kind.TextKind.TheVariants.{Archive, Operations as Operations_file, Summary as Summary_file}
 
 -- two byte strings are the same, or not
-same_or_not : (a b : List ℕ) → (a ≡ b) ⊎ (a ≢ b)
+pub same_or_not : (a b : List ℕ) → (a ≡ b) ⊎ (a ≢ b)
 same_or_not a b = elim (eq_by_cmp order a b) as (λ t. eq_by_cmp order a b ≡ t → (a ≡ b) ⊎ (a ≢ b)) [
   | true ↦ λ e. inl (same_bytes a b e)
   | false ↦ λ e. inr (λ same. apart (sym e ∙ ap (λ (x : List ℕ). eq_by_cmp order a x) (sym same) ∙ ap is_eq (tied_itself nat_list_cmp_total a)))

@@ -25,3 +25,4 @@ pub mod Starts
 pub mod Fronts
 pub mod Places
 pub mod Merges
+pub mod Sides

@@ -1,19 +1,24 @@
 //! What the definitions say of each other. Each law is a function with an empty body, and its contract the law.
 
-ghost use Rattle.std.specs.Prelude.{◌≡◌, ◌≢◌, ◌+◌, ◌<◌, ◌^◌, ◌++◌, ◌↔◌, ◌⊎◌, ℕ, List, [], length, take, slice_index};
+ghost use Rattle.std.specs.Prelude.{◌≡◌, ◌≢◌, ◌+◌, ◌<◌, ◌^◌, ◌++◌, ◌↔◌, ◌⊎◌, ℕ, List, [], length, take, slice_index, Some, Err};
 ghost use Rattle.std.specs.FinSet as set;
-ghost use Rattle.archive_core.specs.Content.{Operations, IsContent};
+ghost use Rattle.byte_device.specs.Writes.{WritesFirst};
+ghost use Rattle.join_core.specs.Listing.{listing};
+ghost use Rattle.archive_core.specs.Content.{Operations, IsContent, joined};
 ghost use Rattle.archive_records.specs.declared.fault.RecordFaultKind.TheVariants.{TooLarge, NotAscending, BadSlice, KeyMismatch, BadCount, Trailing};
 ghost use Rattle.archive_core.specs.declared.faults.SliceFault.{SliceFault};
 ghost use Rattle.archive_core.specs.Summary.{Entries, summary};
 ghost use Rattle.archive_records.specs.Entry.{AreEntries};
 ghost use Rattle.archive_records.specs.declared.fault.RecordFault.{RecordFault};
+ghost use Rattle.archive_records.specs.declared.fault.MergeFault.{MergeFault};
 ghost use Rattle.archive_core.specs.declared.operations.Operation.{Operation};
 ghost use Rattle.archive_records.specs.declared.kind.TextKind.{TextKind};
 ghost use Rattle.archive_records.specs.Text.{IsWritten, written, IsOperationsText, IsSummaryText, summary_text};
 ghost use Rattle.archive_records.specs.Fault.{IsFault, IsOperationsFault, IsSummaryFault, IsFaultOf, IsMagicFault};
 ghost use Rattle.archive_records.specs.Front.{IsLongestFront, front_length};
-ghost use Rattle.archive_records.specs.Merging.{AreGoodRecords, IsArchiveText, IsWrittenBefore, LeftStops, RightStops};
+ghost use Rattle.archive_records.specs.Merging.{AreGoodRecords, IsArchiveText, IsWrittenBefore, LeftStops, Merges, RightStops, Stream, of_both};
+
+use byte_device::{Sink, Source};
 
 /// A content has exactly one text: the one that `written` gives.
 pub fn written_is_the_one_text()
@@ -132,6 +137,27 @@ pub fn one_list_of_good_records()
     ensures { (text : List ℕ) (a b : List (List ℕ)) → AreGoodRecords text a → AreGoodRecords text b → a ≡ b }
 {}
 
+/// Bytes have a list of good records.
+pub fn good_records_exist()
+    ensures { (text : List ℕ) → ((i : ℕ) → slice_index text i < 256)
+        → (records : List (List ℕ)) × AreGoodRecords text records }
+{}
+
+/// Those of the text of a content are its records, and those of two such texts make the join of both.
+pub fn good_records_of_texts()
+    ensures records { (o : Operations) → IsContent o → AreGoodRecords (written o) (listing o) }
+    ensures joined { (o p : Operations) → of_both (listing o) (listing p) ≡ joined o p }
+{}
+
+/// Two inputs are both the texts of archives, or the left side stops their merge, or the right side does.
+pub fn texts_or_one_side_stops()
+    ensures { (left right : List ℕ) (lefts rights : List (List ℕ)) → AreGoodRecords left lefts
+        → AreGoodRecords right rights
+        → (IsArchiveText left × IsArchiveText right)
+        ⊎ LeftStops left right lefts rights
+        ⊎ RightStops left right lefts rights }
+{}
+
 /// Of two sides one at most stops their merge, behind one text.
 pub fn one_side_stops()
     ensures side { (left right : List ℕ) (lefts rights : List (List ℕ)) → LeftStops left right lefts rights
@@ -143,4 +169,16 @@ pub fn one_side_stops()
 /// What a merge writes that is stopped is no archive's text: no beginning of such a text is one but the whole.
 pub fn beginning_is_no_text()
     ensures { (o : Operations) (n : ℕ) → IsContent o → n < length (written o) → IsArchiveText (take n (written o)) → ⊥ }
+{}
+
+/// What a merge of the texts of two contents has written that was stopped, as where the writer failed, are the first
+/// bytes of the text of their join, and not all of it.
+pub fn stopped_merge_of_texts<R: Source, S: Source, W: Sink>()
+    ensures { (left : Stream R) (right : Stream S) (out : Stream W) (o p : Operations) (fault : MergeFault)
+        → IsContent o
+        → IsContent p
+        → left.bytes left.old ≡ Some (written o)
+        → right.bytes right.old ≡ Some (written p)
+        → Merges left right out (Err fault)
+        → WritesFirst (out.bytes out.old) (out.bytes out.new) (written (joined o p)) fault.written }
 {}
