@@ -1,22 +1,19 @@
 -- Each text is that of a content, or has a fault.
-use Rattle.std.proofs.Common.{◌≡◌, ◌≢◌, ℕ, zero, suc, ◌+◌, ◌<◌, ◌≤◌, ◌^◌, true, false, List, [], ◌∷◌, ◌++◌, length, get_or, take, drop, ◌==◌, Some, Ok, Err, refl, sym, ap, ◌∙◌, subst, arith, inl, inr, ◌⊎◌, append_assoc, length-append, length-drop, length-take, take-append-drop, lit≤}
+use Rattle.std.proofs.Common.{◌≡◌, ◌≢◌, ℕ, zero, suc, ◌+◌, ◌<◌, ◌≤◌, true, false, List, [], ◌∷◌, ◌++◌, length, get_or, take, drop, ◌==◌, Some, Ok, Err, refl, sym, ap, ◌∙◌, subst, arith, inl, inr, ◌⊎◌, append_assoc, length-append, length-take, take-append-drop, lit≤}
 use Rattle.std.proofs.lemmas.Bool.{cases_Bool, cases_lt, eqb-true, false≢true}
 use Rattle.std.proofs.lemmas.List.{take_all, drop_at, get_or-take}
-use Rattle.std.proofs.lemmas.Nat.{be_bytes_4}
-use Rattle.std.specs.Int.{w32, from_be_bytes}
 use Rattle.std.specs.List.{concat}
 use Rattle.std.specs.Ordering.{eq_by_cmp, is_eq}
 use Rattle.std.specs.Cmp.{tied_itself}
 use Rattle.std.specs.Cmp.Lexicographic.{nat_list_cmp_total}
 use Rattle.std.specs.FinSet as set
-use Rattle.archive_core.specs.Key.{IsKey, key_bytes}
+use Rattle.archive_core.specs.Key.{key_bytes}
 use Rattle.archive_core.specs.Valid.{key_of}
 use Rattle.archive_core.specs.declared.operations.Operation.{Operation}
 use Rattle.archive_core.specs.Record.{IsRecord}
 use Rattle.archive_core.specs.Content.{Operations, IsContent}
 use Rattle.archive_core.specs.Summary.{Entries}
 use Rattle.archive_records.specs.Entry.{AreEntries}
-use Rattle.archive_core.specs.declared.keys.SliceKey.{SliceKey}
 use Rattle.archive_records.specs.declared.fault.RecordFaultKind.{RecordFaultKind}
 use Rattle.archive_records.specs.declared.fault.RecordFaultKind.TheVariants.{BadMagic, Truncated, BadSlice, KeyMismatch, Trailing}
 use Rattle.archive_records.specs.declared.fault.RecordFault.{RecordFault}
@@ -26,8 +23,7 @@ use Rattle.archive_records.specs.Text.{ending, text_of, IsWritten, InOrder, last
 use Rattle.archive_records.specs.Fault.{is_end, next, FailsNext, RefusesSlice, Refuses, IsTrailing, IsUnended, IsFault, IsOperationsFault, IsSummaryFault, IsFaultOf}
 use Rattle.archive_records.specs.Front.{front_length}
 use Rattle.archive_records.proofs.Framed.{same_body, framed-whole}
-use Rattle.archive_records.proofs.Holds.{holds, Holds-nine, Holds-end, next-framed, next-above, next-counts, done, whole-retirement, whole-admission}
-use Rattle.archive_records.proofs.Heads.{read_key}
+use Rattle.archive_records.proofs.Holds.{holds, Holds-nine, Holds-end, next-framed, next-above, next-counts, done, whole-admission}
 use Rattle.archive_records.proofs.SliceFacts.{slice_or_fault}
 use Rattle.archive_records.proofs.Forms.{IsBytes, IsBytes-take, IsBytes-drop, retires, admits, item-framed, archive_framed, entry-of}
 use Rattle.archive_records.proofs.Ends.{ends}
@@ -51,33 +47,13 @@ same_or_not a b = elim (eq_by_cmp order a b) as (λ t. eq_by_cmp order a b ≡ t
     apart : false ≡ true → ⊥
     apart h = cc
 
-be_small : (bs : List ℕ) → length bs ≡ 4 → IsBytes bs → from_be_bytes w32 bs < 2 ^ 32
-be_small bs long fits = omega (arith, fits 0, fits 1, fits 2, fits 3)
-
--- the key in a record
-key_at : (bytes : List ℕ) → 25 ≤ length bytes → IsBytes bytes → (key : SliceKey) × (key_bytes key ≡ take 24 (drop 1 bytes)) × IsKey key
-key_at bytes long fits =
-    let a : List ℕ = take 4 (drop 17 bytes) in
-    let b : List ℕ = take 4 (drop 21 bytes) in
-    let a4 : length a ≡ 4 = omega (arith, length-take 4 (drop 17 bytes), length-drop 17 bytes) in
-    let b4 : length b ≡ 4 = omega (arith, length-take 4 (drop 21 bytes), length-drop 21 bytes) in
-    let a_fits : IsBytes a = IsBytes-take 4 (drop 17 bytes) (IsBytes-drop 17 bytes fits) in
-    let b_fits : IsBytes b = IsBytes-take 4 (drop 21 bytes) (IsBytes-drop 21 bytes fits) in
-    let key : SliceKey = record { uuid = take 16 (drop 1 bytes); arch = record { cputype = from_be_bytes w32 a; subtype = from_be_bytes w32 b } } in (
-      key,
-      read_key bytes key refl (be_bytes_4 a (from_be_bytes w32 a) a4 a_fits refl) (be_bytes_4 b (from_be_bytes w32 b) b4 b_fits refl),
-      record { uuid = omega (arith, length-take 16 (drop 1 bytes), length-drop 1 bytes); cputype = be_small a a4 a_fits; subtype = be_small b b4 b_fits },
-    )
-
 -- whole bytes that are no end record are a record, or refused for what they hold
 record_or_refused : (bytes : List ℕ) → framed Archive bytes ≡ Ok (length bytes) → is_end bytes ≡ false → IsBytes bytes → IsRecord bytes ⊎ ((kind : RecordFaultKind) × RefusesSlice bytes kind)
 record_or_refused bytes whole no_end fits =
     elim (cases_Bool (get_or bytes 0 0 == 1)) [
       | inl one ↦
           let tag = eqb-true _ _ one in
-          let long = whole-retirement Archive bytes whole tag in
-          let key = key_at bytes (omega arith) fits in
-          inl (inr (retires bytes key.0 whole tag key.1 key.2))
+          inl (inr (retires bytes whole tag fits))
       | inr other ↦ by_slice (whole-admission Archive bytes whole no_end (λ tag. not_one tag other))
     ]
   where

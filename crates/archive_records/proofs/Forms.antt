@@ -1,9 +1,9 @@
 -- A record as the bytes of a retirement or of an admission.
-use Rattle.std.proofs.Common.{◌≡◌, ℕ, suc, ◌+◌, ◌<◌, ◌≤◌, eqb, false, List, [], ◌∷◌, ◌++◌, length, get_or, take, drop, Some, Ok, refl, sym, ap, ◌∙◌, subst, arith, inl, inr, ◌⊎◌, length-append, length-drop}
+use Rattle.std.proofs.Common.{◌≡◌, ℕ, suc, ◌+◌, ◌<◌, ◌≤◌, eqb, false, List, [], ◌∷◌, ◌++◌, ◌^◌, length, get_or, take, drop, Some, Ok, refl, sym, ap, ◌∙◌, subst, arith, inl, inr, ◌⊎◌, length-append, length-drop}
 use Rattle.std.proofs.lemmas.Bool.{cases_Bool, cases_lt, eqb-true, false≢true}
 use Rattle.std.proofs.lemmas.List.{take_all, take_at, drop_at, length-take, get_or-take, get_or-drop, get_or_past, take-append-drop, drop-drop}
-use Rattle.std.proofs.lemmas.Nat.{be_bytes_8, from_be_bytes-to_be_bytes_8}
-use Rattle.std.specs.Int.{w64, from_be_bytes, to_be_bytes}
+use Rattle.std.proofs.lemmas.Nat.{be_bytes_4, be_bytes_8, from_be_bytes-to_be_bytes_8}
+use Rattle.std.specs.Int.{w32, w64, from_be_bytes, to_be_bytes}
 use Rattle.archive_core.specs.Key.{IsKey, key_bytes}
 use Rattle.archive_core.specs.Valid.{IsValid, key_of}
 use Rattle.archive_core.specs.Record.{admission, admission_record, retirement_record, Admits, Retires, IsRecord}
@@ -17,6 +17,7 @@ use Rattle.archive_records.specs.Kind.{IsItem, admission_length}
 use Rattle.archive_records.specs.Entry.{IsEntry}
 use Rattle.archive_records.specs.Fault.{is_end, RefusesSlice, Refuses}
 use Rattle.archive_records.proofs.Framed.{framed-whole}
+use Rattle.archive_records.proofs.Heads.{read_key}
 use Rattle.archive_records.proofs.Holds.{holds, done, body_one, body_two, whole-retirement, whole-admission}
 use Rattle.archive_records.proofs.SliceFacts.{short_slice, no_slice_fault}
 use Rattle.archive_records.specs.declared.kind.TextKind.{TextKind}
@@ -257,9 +258,9 @@ archive_framed file (inl is) bytes whole no_end = subst (λ (f : TextKind). fram
 archive_framed file (inr is) bytes whole no_end = operations_framed bytes (subst (λ (f : TextKind). framed f bytes ≡ Ok (length bytes)) is whole) no_end
 
 -- whole bytes with a retirement's tag are a retirement's record
-pub retires : (bytes : List ℕ) (key : SliceKey) → framed Archive bytes ≡ Ok (length bytes) → get_or bytes 0 0 ≡ 1 → key_bytes key ≡ take 24 (drop 1 bytes) → IsKey key → Retires bytes
-retires [] key f tag k w = absurd (omega (arith, whole-retirement Archive [] f tag))
-retires (b ∷ bs) key f tag k w =
+retires_with : (bytes : List ℕ) (key : SliceKey) → framed Archive bytes ≡ Ok (length bytes) → get_or bytes 0 0 ≡ 1 → key_bytes key ≡ take 24 (drop 1 bytes) → IsKey key → Retires bytes
+retires_with [] key f tag k w = absurd (omega (arith, whole-retirement Archive [] f tag))
+retires_with (b ∷ bs) key f tag k w =
     let long = whole-retirement Archive (b ∷ bs) f tag in
     record {
       key = key;
@@ -268,3 +269,28 @@ retires (b ∷ bs) key f tag k w =
       long = omega (arith, length-drop 24 bs);
       is = cons_both b 1 bs (key_bytes key ++ drop 24 bs) tag (sym (ap (λ (t : List ℕ). t ++ drop 24 bs) k ∙ take-append-drop 24 bs));
     }
+
+be_small : (bs : List ℕ) → length bs ≡ 4 → IsBytes bs → from_be_bytes w32 bs < 2 ^ 32
+be_small bs long fits = omega (arith, fits 0, fits 1, fits 2, fits 3)
+
+-- the key in a record
+key_at : (bytes : List ℕ) → 25 ≤ length bytes → IsBytes bytes → (key : SliceKey) × (key_bytes key ≡ take 24 (drop 1 bytes)) × IsKey key
+key_at bytes long fits =
+    let a : List ℕ = take 4 (drop 17 bytes) in
+    let b : List ℕ = take 4 (drop 21 bytes) in
+    let a4 : length a ≡ 4 = omega (arith, length-take 4 (drop 17 bytes), length-drop 17 bytes) in
+    let b4 : length b ≡ 4 = omega (arith, length-take 4 (drop 21 bytes), length-drop 21 bytes) in
+    let a_fits : IsBytes a = IsBytes-take 4 (drop 17 bytes) (IsBytes-drop 17 bytes fits) in
+    let b_fits : IsBytes b = IsBytes-take 4 (drop 21 bytes) (IsBytes-drop 21 bytes fits) in
+    let key : SliceKey = record { uuid = take 16 (drop 1 bytes); arch = record { cputype = from_be_bytes w32 a; subtype = from_be_bytes w32 b } } in (
+      key,
+      read_key bytes key refl (be_bytes_4 a (from_be_bytes w32 a) a4 a_fits refl) (be_bytes_4 b (from_be_bytes w32 b) b4 b_fits refl),
+      record { uuid = omega (arith, length-take 16 (drop 1 bytes), length-drop 1 bytes); cputype = be_small a a4 a_fits; subtype = be_small b b4 b_fits },
+    )
+
+-- whole bytes with a retirement's tag are a retirement's record
+pub retires : (bytes : List ℕ) → framed Archive bytes ≡ Ok (length bytes) → get_or bytes 0 0 ≡ 1 → IsBytes bytes → Retires bytes
+retires bytes f tag fits =
+    let long = whole-retirement Archive bytes f tag in
+    let key = key_at bytes (omega (arith, long)) fits in
+    retires_with bytes key.0 f tag key.1 key.2

@@ -14,7 +14,7 @@ ghost use Rattle.archive_records.specs.Reader.{BlamesReader, bytes_so_far, seen_
 use crate::buffer::Buffer;
 use crate::fault::RecordFaultKind;
 use crate::frame::read_record;
-use crate::head::{ADMISSION_HEAD_LEN, END, RETIREMENT, has_key, key_in, record_count_of};
+use crate::head::{ADMISSION_HEAD_LEN, END, RETIREMENT, has_key, record_count_of};
 use crate::kind::TextKind;
 use archive_core::Slice;
 use byte_device::Source;
@@ -77,7 +77,6 @@ fn test_slice(bytes: &[u8]) -> Result<(), RecordFaultKind>
     ensures refused { IfErr result (λ kind. RefusesSlice bytes.now kind) }
 {
     if bytes[0] == RETIREMENT {
-        let _key = key_in(bytes);
         return Ok(());
     }
     match Slice::check(&bytes[ADMISSION_HEAD_LEN..]) {

@@ -3,7 +3,7 @@ use Rattle.std.proofs.lemmas.Bool.{false≢true}
 use Rattle.std.proofs.lemmas.List.{take_rest}
 use Rattle.archive_core.specs.Key.{key_bytes}
 use Rattle.archive_core.specs.Valid.{key_of}
-use Rattle.archive_records.proofs.Holds.{holds, whole-retirement, whole-admission}
+use Rattle.archive_records.proofs.Holds.{holds, whole-admission}
 use Rattle.archive_records.proofs.Forms.{retires, admits}
 use Rattle.archive_records.specs.declared.kind.TextKind.TheVariants.{Archive}
 use Rattle.archive_records.proofs.next.test_slice.Goals as goal
@@ -11,12 +11,9 @@ use Rattle.archive_records.proofs.next.test_slice.Goals as goal
 pub bounds-bytes-0 : goal.bounds-bytes-0
 bounds-bytes-0 c = omega (arith, (holds Archive c.args.bytes.now (length c.args.bytes.now) c.requires.whole).one)
 
-pub key_in-key-requires : goal.key_in-key-requires
-key_in-key-requires c = omega (arith, whole-retirement Archive c.args.bytes.now c.requires.whole c.if-bytes-eq-RETIREMENT.true)
-
 pub returns-then-bytes-eq-RETIREMENT-clause-known : goal.returns-then-bytes-eq-RETIREMENT-clause-known
 returns-then-bytes-eq-RETIREMENT-clause-known c =
-    inr (retires c.args.bytes.now c.key_in-key.result c.requires.whole c.if-bytes-eq-RETIREMENT.true c.key_in-key.ensures.bytes c.key_in-key.ensures.widths)
+    inr (retires c.args.bytes.now c.requires.whole c.if-bytes-eq-RETIREMENT.true (λ i. omega (arith, c.type_inv.bytes i)))
 
 pub slice_bounds-check-count : goal.slice_bounds-check-count
 slice_bounds-check-count c = omega (arith, (whole-admission Archive c.args.bytes.now c.requires.whole c.requires.item c.if-bytes-eq-RETIREMENT.false).1)
