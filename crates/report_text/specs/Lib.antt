@@ -3,4 +3,5 @@ pub mod Rows
 pub mod Report
 pub mod Finds
 pub mod Answers
+pub mod Names
 pub mod Rehearsal

@@ -5,6 +5,7 @@
 //! - `report`: reports, made whole in memory;
 //! - `finds`: the lines of `find`;
 //! - `answers`: the lines of `symbolicate`;
+//! - `names`: the lines of `name`;
 //! - `rehearsals`: the lines of `rehearse`;
 //! - [`laws`]: what holds of the lines of `find`.
 #![tactic(auto)]
@@ -12,6 +13,7 @@
 mod answers;
 mod finds;
 pub mod laws;
+mod names;
 mod rehearsals;
 mod report;
 mod rows;
@@ -19,6 +21,7 @@ mod texts;
 
 pub use answers::{Escaped, push_answer};
 pub use finds::find_lines;
+pub use names::name_lines;
 pub use rehearsals::{push_events, push_site};
 pub use report::{admit_lines, apply_line, retire_line, summary_line, with_sizes};
 pub use rows::AdmitRow;
