@@ -14,5 +14,6 @@ pub mod AcceptedOperations
 pub mod AcceptedSummary
 pub mod Answered
 pub mod Viewed
+pub mod NameTold
 pub mod Rehearsed
 pub mod OneRehearsal

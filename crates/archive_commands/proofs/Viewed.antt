@@ -121,7 +121,7 @@ module _ (one : (o : Operations) (key : SliceKey) (place : Where) (answer other 
 known : (left : Option (List ℕ)) (bytes : List ℕ) (P : List ℕ → Type 0) → left ≡ Some bytes → IfSome left P → P bytes
 known left bytes P is p = let q : IfSome (Some bytes) P = subst (λ (l : Option (List ℕ)). IfSome l P) is p in q
 
-given_text : {R : Type 0} (left : R → Option (List ℕ)) (failures : R → ℕ) (old new : Result R CannotOpen) (bytes text : List ℕ) → IsGiven (reader left failures old new) bytes → Holds (reader left failures old new) text → bytes ≡ text
+pub given_text : {R : Type 0} (left : R → Option (List ℕ)) (failures : R → ℕ) (old new : Result R CannotOpen) (bytes text : List ℕ) → IsGiven (reader left failures old new) bytes → Holds (reader left failures old new) text → bytes ≡ text
 given_text left failures (Ok source) new bytes text given holds = known (left source) bytes (λ b. b ≡ text) given holds
 given_text left failures (Err _) new bytes text given holds = absurd given
 

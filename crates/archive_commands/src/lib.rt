@@ -7,9 +7,10 @@
 //! - `failures`: the line that the program says where it fails;
 //! - `sources`: the inputs;
 //! - `publish`: the end of each command;
-//! - `new`, `admit`, `retire`, `merge`, `apply`, `find`, `symbolicate`, `summary`, `delta`, `rehearse`: a command each;
-//! - [`admit_laws`], [`merge_laws`], [`apply_laws`], [`symbolicate_laws`], [`exchange_laws`], [`rehearse_laws`]: what
-//!   the definitions of the commands say in the words of their user.
+//! - `new`, `admit`, `retire`, `merge`, `apply`, `find`, `name`, `symbolicate`, `summary`, `delta`, `rehearse`: a
+//!   command each;
+//! - [`admit_laws`], [`merge_laws`], [`apply_laws`], [`name_laws`], [`symbolicate_laws`], [`exchange_laws`],
+//!   [`rehearse_laws`]: what the definitions of the commands say in the words of their user.
 #![tactic(auto)]
 
 mod admit;
@@ -23,6 +24,8 @@ mod faults;
 mod find;
 mod merge;
 pub mod merge_laws;
+mod name;
+pub mod name_laws;
 mod new;
 mod publish;
 mod rehearse;
@@ -40,6 +43,7 @@ pub use failures::Failure;
 pub use faults::{CannotCreate, CannotOpen, CommandFault, Place, Status, Why};
 pub use find::run_find;
 pub use merge::run_merge;
+pub use name::run_name;
 pub use new::run_new;
 pub use rehearse::run_rehearse;
 pub use retire::run_retire;
