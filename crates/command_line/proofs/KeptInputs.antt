@@ -11,7 +11,7 @@ use Rattle.uuid.specs.Text.{parsed}
 use Rattle.archive_core.specs.declared.keys.ArchKey.{ArchKey}
 use Rattle.archive_core.specs.declared.keys.Digest.{Digest}
 use Rattle.command_line.specs.Lines.{KeepsInputs, Line, admit, admit_of, all_spelled_at, apply, apply_of, delta, delta_of}
-use Rattle.command_line.specs.Lines.{find, find_of, is_path_among, kept, line_in, merge, merge_of, new}
+use Rattle.command_line.specs.Lines.{find, find_of, is_path_among, kept, line_in, merge, merge_of, name, name_of, new}
 use Rattle.command_line.specs.Lines.{optional_at, plan_view, rehearse, retire, retire_of, spelled_at, summary, summary_of}
 use Rattle.command_line.specs.Lines.{symbolicate, symbolicate_of}
 use Rattle.archive_words.specs.Words.{address_of, arch_of, digest_of}
@@ -68,6 +68,11 @@ find_of-KeepsInputs (Some a) (Some u) l is = subst KeepsInputs {x = find a u} {y
 find_of-KeepsInputs (Some a) None l is = cc
 find_of-KeepsInputs None u l is = cc
 
+name_of-KeepsInputs : (archive sought : Option Text) (l : Line) → Some l ≡ name_of archive sought → KeepsInputs l
+name_of-KeepsInputs (Some a) (Some s) l is = subst KeepsInputs {x = name a s} {y = l} (cc) tt
+name_of-KeepsInputs (Some a) None l is = cc
+name_of-KeepsInputs None s l is = cc
+
 merge_of-KeepsInputs : (input out : Option Text) (files : Option (List Text)) (l : Line)
     → Some l ≡ merge_of input out files → KeepsInputs l
 merge_of-KeepsInputs (Some i) (Some o) (Some fs) l is =
@@ -116,29 +121,31 @@ chosen true x y l here there is = here is
 chosen false x y l here there is = there is
 
 line_in-KeepsInputs : (named : Text × List Row) (l : Line) → Some l ≡ line_in named → KeepsInputs l
-line_in-KeepsInputs (name, rows) l =
-    chosen (bytes_eq name (codes "new")) _ _ l (new_line-KeepsInputs (first_of (codes "OUT") rows) l)
-    (chosen (bytes_eq name (codes "admit")) _ _ l (admit_of-KeepsInputs (first_of (codes "IN") rows)
+line_in-KeepsInputs (command, rows) l =
+    chosen (bytes_eq command (codes "new")) _ _ l (new_line-KeepsInputs (first_of (codes "OUT") rows) l)
+    (chosen (bytes_eq command (codes "admit")) _ _ l (admit_of-KeepsInputs (first_of (codes "IN") rows)
     (first_of (codes "OUT") rows) (all_of (codes "FILE") rows) l)
-    (chosen (bytes_eq name (codes "retire")) _ _ l (retire_of-KeepsInputs (first_of (codes "IN") rows)
+    (chosen (bytes_eq command (codes "retire")) _ _ l (retire_of-KeepsInputs (first_of (codes "IN") rows)
     (first_of (codes "OUT") rows) (spelled_at parsed (codes "UUID") rows)
     (spelled_at arch_of (codes "ARCH") rows) (spelled_at digest_of (codes "DIGEST") rows) l)
-    (chosen (bytes_eq name (codes "merge")) _ _ l (merge_of-KeepsInputs (first_of (codes "IN") rows)
+    (chosen (bytes_eq command (codes "merge")) _ _ l (merge_of-KeepsInputs (first_of (codes "IN") rows)
     (first_of (codes "OUT") rows) (all_of (codes "FILE") rows) l)
-    (chosen (bytes_eq name (codes "apply")) _ _ l (apply_of-KeepsInputs (first_of (codes "IN") rows)
+    (chosen (bytes_eq command (codes "apply")) _ _ l (apply_of-KeepsInputs (first_of (codes "IN") rows)
     (first_of (codes "OUT") rows) (first_of (codes "OPS") rows) l)
-    (chosen (bytes_eq name (codes "find")) _ _ l (find_of-KeepsInputs (first_of (codes "ARCHIVE") rows)
+    (chosen (bytes_eq command (codes "find")) _ _ l (find_of-KeepsInputs (first_of (codes "ARCHIVE") rows)
     (spelled_at parsed (codes "UUID") rows) l)
-    (chosen (bytes_eq name (codes "symbolicate")) _ _ l (symbolicate_of-KeepsInputs
+    (chosen (bytes_eq command (codes "name")) _ _ l (name_of-KeepsInputs (first_of (codes "ARCHIVE") rows)
+    (first_of (codes "NAME") rows) l)
+    (chosen (bytes_eq command (codes "symbolicate")) _ _ l (symbolicate_of-KeepsInputs
     (first_of (codes "ARCHIVE") rows) (spelled_at parsed (codes "UUID") rows)
     (spelled_at arch_of (codes "ARCH") rows) (optional_at address_of (codes "HEX") rows)
     (all_spelled_at address_of (codes "ADDRESS") rows) l)
-    (chosen (bytes_eq name (codes "summary")) _ _ l (summary_of-KeepsInputs (first_of (codes "ARCHIVE") rows)
+    (chosen (bytes_eq command (codes "summary")) _ _ l (summary_of-KeepsInputs (first_of (codes "ARCHIVE") rows)
     (first_of (codes "OUT") rows) l)
-    (chosen (bytes_eq name (codes "delta")) _ _ l (delta_of-KeepsInputs (first_of (codes "ARCHIVE") rows)
+    (chosen (bytes_eq command (codes "delta")) _ _ l (delta_of-KeepsInputs (first_of (codes "ARCHIVE") rows)
     (first_of (codes "SUMMARY") rows) (first_of (codes "OUT") rows) l)
-    (chosen (bytes_eq name (codes "rehearse")) _ _ l (rehearse_line-KeepsInputs (first_of (codes "SCRIPT") rows) l)
-    (λ is. cc))))))))))
+    (chosen (bytes_eq command (codes "rehearse")) _ _ l (rehearse_line-KeepsInputs (first_of (codes "SCRIPT") rows) l)
+    (λ is. cc)))))))))))
 
 -- so does a plan
 pub planned-KeepsInputs : (named : Text × List Row) (result : Result Plan LineFault)

@@ -21,6 +21,7 @@ pub data Line : Type 0 where
   merge : (input out : Text) (files : List Text) → Line
   apply : (input out ops : Text) → Line
   find : (archive : Text) (uuid : List ℕ) → Line
+  name : (archive sought : Text) → Line
   symbolicate : (archive : Text) (uuid : List ℕ) (arch : ArchKey) (load : Option ℕ) (addresses : List ℕ) → Line
   summary : (archive out : Text) → Line
   delta : (archive summary out : Text) → Line
@@ -122,6 +123,14 @@ find_of _ _ = None
 abbrev pub find_line : List Row → Option Line
 find_line rows = find_of (first_of (codes "ARCHIVE") rows) (spelled_at parsed (codes "UUID") rows)
 
+-- `name ARCHIVE NAME`: nothing where a value is missing
+abbrev pub name_of : Option Text → Option Text → Option Line
+name_of (Some archive) (Some sought) = Some (name archive sought)
+name_of _ _ = None
+
+abbrev pub name_line : List Row → Option Line
+name_line rows = name_of (first_of (codes "ARCHIVE") rows) (first_of (codes "NAME") rows)
+
 -- `symbolicate ARCHIVE UUID ARCH [--load HEX] ADDRESS...`: nothing where a word has another form
 abbrev pub symbolicate_of : Option Text → Option (List ℕ) → Option ArchKey → Option (Option ℕ)
     → Option (List ℕ) → Option Line
@@ -164,6 +173,7 @@ line_in p =
     else if bytes_eq p.0 (codes "merge") then merge_line p.1
     else if bytes_eq p.0 (codes "apply") then apply_line p.1
     else if bytes_eq p.0 (codes "find") then find_line p.1
+    else if bytes_eq p.0 (codes "name") then name_line p.1
     else if bytes_eq p.0 (codes "symbolicate") then symbolicate_line p.1
     else if bytes_eq p.0 (codes "summary") then summary_line p.1
     else if bytes_eq p.0 (codes "delta") then delta_line p.1
@@ -219,6 +229,7 @@ plan_view (plan.Merge input out files) =
 plan_view (plan.Apply input out ops) =
     apply (string_bytes input) (string_bytes out) (string_bytes ops)
 plan_view (plan.Find archive uuid) = find (string_bytes archive) uuid
+plan_view (plan.Name archive sought) = name (string_bytes archive) (string_bytes sought)
 plan_view (plan.Symbolicate archive uuid arch load addresses) =
     symbolicate (string_bytes archive) uuid arch load addresses.items
 plan_view (plan.Summary archive out) = summary (string_bytes archive) (string_bytes out)
@@ -233,6 +244,7 @@ KeepsInputs (retire input out uuid arch digest) = ¬ Contains (input ∷ []) out
 KeepsInputs (merge input out files) = ¬ Contains (input ∷ files) out
 KeepsInputs (apply input out ops) = ¬ Contains (input ∷ ops ∷ []) out
 KeepsInputs (find archive uuid) = ⊤
+KeepsInputs (name archive sought) = ⊤
 KeepsInputs (symbolicate archive uuid arch load addresses) = ⊤
 KeepsInputs (summary archive out) = ¬ Contains (archive ∷ []) out
 KeepsInputs (delta archive named out) = ¬ Contains (archive ∷ named ∷ []) out

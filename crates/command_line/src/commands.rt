@@ -4,7 +4,7 @@ ghost use Rattle.std.specs.Prelude.{◌≡◌, IfOk, false};
 ghost use Rattle.clap.specs.Words.{app_of, new_app, with_rule};
 ghost use Rattle.clap.specs.declared.builder.command.Command.TheViews.{out-Command};
 ghost use Rattle.command_line.specs.Commands.{admit_command, apply_command, find_command};
-ghost use Rattle.command_line.specs.Commands.{merge_command, new_command, one_option, one_value};
+ghost use Rattle.command_line.specs.Commands.{merge_command, name_command, new_command, one_option, one_value};
 ghost use Rattle.command_line.specs.Commands.{rehearse_command, retire_command, several_values, symarch_command};
 ghost use Rattle.command_line.specs.Commands.{delta_command, summary_command, symbolicate_command};
 
@@ -18,6 +18,8 @@ const ARCH: &str = "The architecture: x86_64, x86_64h, arm64, arm64e or cpu:CCCC
 const LOAD: &str = "Where the image was loaded, in hexadecimal, with or without 0x";
 
 const ADDRESSES: &str = "The addresses to look up, in hexadecimal, with or without 0x";
+
+const SYMBOL_NAME: &str = "The whole name of a symbol; one that begins with - stands behind --";
 
 const IMAGES: &str =
     "The Mach-O files to take; of a dSYM bundle the one in Contents/Resources/DWARF";
@@ -151,6 +153,16 @@ fn find_command<'a>(alloc: Global) -> Result<Command<'a>, AllocError>
     with_one_value(alloc, command, "UUID", "The UUID to look for")
 }
 
+/// `name ARCHIVE NAME`
+fn name_command<'a>(alloc: Global) -> Result<Command<'a>, AllocError>
+    ensures app { IfOk result (λ c. app_of c ≡ name_command) }
+    ensures local { IfOk result (λ c. (out-Command c).has_globals ≡ false) }
+{
+    let command = bare_command(alloc, "name", "Lists where symbols of a name stand");
+    let command = with_one_value(alloc, command, "ARCHIVE", "The archive to read")?;
+    with_one_value(alloc, command, "NAME", SYMBOL_NAME)
+}
+
 /// `symbolicate ARCHIVE UUID ARCH [--load HEX] ADDRESS...`
 fn symbolicate_command<'a>(alloc: Global) -> Result<Command<'a>, AllocError>
     ensures app { IfOk result (λ c. app_of c ≡ symbolicate_command) }
@@ -220,6 +232,7 @@ pub fn symarch_command<'a>(alloc: Global) -> Result<Command<'a>, AllocError>
     let command = command.subcommand(merge_command(alloc)?)?;
     let command = command.subcommand(apply_command(alloc)?)?;
     let command = command.subcommand(find_command(alloc)?)?;
+    let command = command.subcommand(name_command(alloc)?)?;
     let command = command.subcommand(symbolicate_command(alloc)?)?;
     let command = command.subcommand(summary_command(alloc)?)?;
     let command = command.subcommand(delta_command(alloc)?)?;

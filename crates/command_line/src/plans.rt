@@ -42,6 +42,11 @@ pub enum Plan {
         archive: String,
         uuid: Uuid,
     },
+    /// `name ARCHIVE NAME`: to tell where symbols of a name stand. The name is the word itself.
+    Name {
+        archive: String,
+        name: String,
+    },
     /// `symbolicate ARCHIVE UUID ARCH [--load HEX] ADDRESS...`: to answer each address, in the order
     /// of the words. With `load` the addresses are those of an image that was loaded there.
     Symbolicate {
