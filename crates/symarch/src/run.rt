@@ -7,7 +7,7 @@ ghost use Rattle.symarch.specs.Statuses.{status_of, status_of_failure, status_of
 
 use archive_commands::{
     CannotCreate, CommandFault, Failure, Status, run_admit, run_apply, run_delta, run_find,
-    run_merge, run_new, run_rehearse, run_retire, run_summary, run_symbolicate,
+    run_merge, run_name, run_new, run_rehearse, run_retire, run_summary, run_symbolicate,
 };
 use archive_core::{Digest, PlainArchive, SliceKey};
 use archive_files::{OutFile, open_all, open_all_buffered, open_buffered};
@@ -133,6 +133,10 @@ fn execute<R: Files + Print + AllocGlobal>(rt: &R, plan: &Plan) -> Result<Status
         Plan::Merge { input, out, files } => merge(rt, heap, input, out, files),
         Plan::Apply { input, out, ops } => apply(rt, heap, input, out, ops),
         Plan::Find { archive, uuid } => find(rt, heap, archive, uuid),
+        Plan::Name {
+            archive,
+            name: sought,
+        } => name(rt, heap, archive, sought),
         Plan::Symbolicate {
             archive,
             uuid,
@@ -270,6 +274,20 @@ fn find<R: Files + Print + AllocGlobal>(
     let mut report = Writing::new(io::writer(rt));
     let mut archive = open_buffered(rt.alloc(), rt, archive)?;
     let status = run_find::<PlainArchive, _, _>(heap, &mut archive, uuid, &mut report)?;
+    Ok(status)
+}
+
+/// `name ARCHIVE NAME`
+fn name<R: Files + Print + AllocGlobal>(
+    rt: &R,
+    heap: Heap,
+    archive: &str,
+    sought: &str,
+) -> Result<Status, Failure> {
+    let mut report = Writing::new(io::writer(rt));
+    let mut archive = open_buffered(rt.alloc(), rt, archive)?;
+    let sought = sought.as_bytes();
+    let status = run_name::<IndexedArchive, _, _>(heap, &mut archive, sought, &mut report)?;
     Ok(status)
 }
 
