@@ -3,7 +3,7 @@
 use crate::desk::{Desk, TriedArchive};
 use crate::ends::{End, Left};
 use archive_commands::{
-    CommandFault, Status, run_admit, run_apply, run_delta, run_find, run_merge, run_new,
+    CommandFault, Status, run_admit, run_apply, run_delta, run_find, run_merge, run_name, run_new,
     run_rehearse, run_retire, run_summary, run_symbolicate,
 };
 use archive_core::SliceKey;
@@ -39,6 +39,16 @@ impl<'a> Desk<'a> {
             Plan::Find { archive, uuid } => {
                 let mut input = self.open(archive);
                 run_find::<TriedArchive, _, _>(self.heap()?, &mut input, uuid, &mut outputs.report)
+            }
+            Plan::Name { archive, name } => {
+                let mut input = self.open(archive);
+                let sought = name.as_bytes();
+                run_name::<TriedArchive, _, _>(
+                    self.heap()?,
+                    &mut input,
+                    sought,
+                    &mut outputs.report,
+                )
             }
             Plan::Symbolicate {
                 archive,
@@ -145,6 +155,7 @@ pub fn out_of(plan: &Plan) -> Option<&str> {
         | Plan::Apply { out, .. }
         | Plan::Summary { out, .. }
         | Plan::Delta { out, .. } => Some(out),
-        Plan::Find { .. } | Plan::Symbolicate { .. } | Plan::Rehearse { .. } => None,
+        Plan::Find { .. } | Plan::Name { .. } | Plan::Symbolicate { .. } | Plan::Rehearse { .. } =>
+            None,
     }
 }
