@@ -1,5 +1,5 @@
 -- A record as the bytes of a retirement or of an admission.
-use Rattle.std.proofs.Common.{◌≡◌, ℕ, suc, ◌+◌, ◌<◌, ◌≤◌, eqb, false, List, [], ◌∷◌, ◌++◌, ◌^◌, length, get_or, take, drop, Some, Ok, refl, sym, ap, ◌∙◌, subst, arith, inl, inr, ◌⊎◌, length-append, length-drop}
+use Rattle.std.proofs.Common.{◌≡◌, ℕ, suc, ◌+◌, ◌<◌, ◌≤◌, eqb, false, List, [], ◌∷◌, ◌++◌, ◌^◌, length, get_or, take, drop, Option, Some, None, Ok, refl, sym, ap, ◌∙◌, subst, arith, inl, inr, ◌⊎◌, length-append, length-drop}
 use Rattle.std.proofs.lemmas.Bool.{cases_Bool, cases_lt, eqb-true, false≢true}
 use Rattle.std.proofs.lemmas.List.{take_all, take_at, drop_at, length-take, get_or-take, get_or-drop, get_or_past, take-append-drop, drop-drop}
 use Rattle.std.proofs.lemmas.Nat.{be_bytes_4, be_bytes_8, from_be_bytes-to_be_bytes_8}
@@ -8,6 +8,7 @@ use Rattle.archive_core.specs.Key.{IsKey, key_bytes}
 use Rattle.archive_core.specs.Valid.{IsValid, key_of}
 use Rattle.archive_core.specs.Record.{admission, admission_record, retirement_record, Admits, Retires, IsRecord}
 use Rattle.archive_core.specs.declared.keys.SliceKey.{SliceKey}
+use Rattle.archive_core.specs.declared.slices.SliceFacts.{SliceFacts}
 use Rattle.archive_core.proofs.Compare.{length_key_bytes}
 use Rattle.archive_core.proofs.Records.{length-key_of}
 use Rattle.archive_records.specs.declared.fault.RecordFaultKind.{RecordFaultKind}
@@ -16,6 +17,7 @@ use Rattle.archive_records.specs.Layout.{head_length, slice_length, admission_bo
 use Rattle.archive_records.specs.Kind.{IsItem, admission_length}
 use Rattle.archive_records.specs.Entry.{IsEntry}
 use Rattle.archive_records.specs.Fault.{is_end, RefusesSlice, Refuses}
+use Rattle.archive_records.specs.Reader.{IsFound, IsFoundIn}
 use Rattle.archive_records.proofs.Framed.{framed-whole}
 use Rattle.archive_records.proofs.Heads.{read_key}
 use Rattle.archive_records.proofs.Holds.{holds, done, body_one, body_two, whole-retirement, whole-admission}
@@ -126,18 +128,21 @@ admits (b ∷ bs) p valid key fits =
           (sym (ap (λ (t : List ℕ). t ++ (to_be_bytes w64 (length slice) ++ slice)) (sym key) ∙ ap (λ (t : List ℕ). take 24 bs ++ t) rest ∙ take-append-drop 24 bs));
     }
 
--- a record with a retirement's tag is a retirement's
-pub retirement-of : (bytes : List ℕ) → IsRecord bytes → get_or bytes 0 0 ≡ 1 → Retires bytes
-retirement-of bytes (inl a) one = absurd (omega (arith, (parts-of bytes a).tag))
-retirement-of bytes (inr t) one = t
+-- where something was found, or nothing was to be found, it is a record
+record-found : (bytes : List ℕ) (found : Option SliceFacts) → IsFound bytes found → IsRecord bytes
+record-found bytes None t = inr t
+record-found bytes (Some facts) a = inl a.0
 
--- and any other is an admission's
-pub admission-of : (bytes : List ℕ) → IsRecord bytes → (get_or bytes 0 0 ≡ 1 → ⊥) → Admits bytes
-admission-of bytes (inl a) other = a
-admission-of bytes (inr t) other = absurd (other (parts-retires bytes t).tag)
+pub item-found : (file : TextKind) (item : List ℕ) (found : Option SliceFacts) → IsFoundIn file item found → IsItem file item
+item-found Archive item found is = record-found item found is
+item-found Operations item found is = record-found item found is
+item-found Summary item found is = is
 
 pub long-retirement : (bytes : List ℕ) → Retires bytes → length bytes ≡ 57
 long-retirement bytes t = (parts-retires bytes t).long
+
+pub tag-retirement : (bytes : List ℕ) → Retires bytes → get_or bytes 0 0 ≡ 1
+tag-retirement bytes t = (parts-retires bytes t).tag
 
 pub long-admission : (bytes : List ℕ) → Admits bytes → 33 ≤ length bytes
 long-admission bytes a = omega (arith, (parts-of bytes a).long)

@@ -14,7 +14,10 @@ use Rattle.archive_records.specs.declared.fault.RecordFault.{RecordFault}
 use Rattle.archive_records.specs.Kind.{magic_of, IsItem, end_length, may_follow}
 use Rattle.archive_records.specs.Text.{end_record, ending, text_of, InOrder, last_of}
 use Rattle.archive_records.specs.Fault.{next, IsUnended}
-use Rattle.archive_records.specs.Reader.{Position, Passes, Finishes, StopsAt, HasRead, HasReadAll, Stopped, HasStopped, IsEnded, Makes, MakesAll, IsReadTo}
+use Rattle.archive_records.specs.declared.next.Step.{Step}
+use Rattle.archive_records.specs.declared.next.Step.TheVariants.{End, Item}
+use Rattle.archive_core.specs.declared.slices.SliceFacts.{SliceFacts}
+use Rattle.archive_records.specs.Reader.{IfEnd, IfItem, Position, Passes, Finishes, StopsAt, HasRead, HasReadAll, Stopped, HasStopped, IsEnded, Makes, MakesAll, IsReadTo}
 use Rattle.archive_records.proofs.Puts.{concat-push, bytes_same}
 use Rattle.archive_records.proofs.Holds.{next-above}
 use Rattle.archive_records.proofs.FaultKinds.{never_trailing}
@@ -91,6 +94,15 @@ module _ (file : TextKind) where
     unended = λ known. subst (λ (f : TextKind). IsUnended f s.rest) h.file_is (s.unended known);
     stops = inl (s.offset_is ∙ h.offset_is, λ known. rw (← h.file_is, ← h.last_is, ← h.count_is) (s.fails known));
   }
+
+-- what holds at the end, and of an item, may be said in other words
+pub IfEnd-then : {P Q : Type 0} (step : Step) → IfEnd step P → (P → Q) → IfEnd step Q
+IfEnd-then End p f = f p
+IfEnd-then (Item found) p f = tt
+
+pub IfItem-then : {P Q : Option SliceFacts → Type 0} (step : Step) → IfItem step P → ((found : Option SliceFacts) → P found → Q found) → IfItem step Q
+IfItem-then End p f = tt
+IfItem-then (Item found) p f = f found p
 
 -- a step, by what it read over the last record
 pub step_passes : (a b : Option (List ℕ)) (before after : Position) (bytes : List ℕ) → after.last ≡ bytes → Consumes a b bytes → IsItem before.file bytes → may_follow before.file before.last bytes ≡ true

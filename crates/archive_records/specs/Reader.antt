@@ -1,5 +1,5 @@
 -- Records that are read from a source one over the other: the words of the inner functions. No contract of a public one has them.
-use Rattle.std.specs.Prelude.{◌≡◌, ◌≢◌, ℕ, ◌+◌, ◌*◌, ◌^◌, ◌<◌, ◌≤◌, Bool, true, false, List, [], ◌++◌, length, take, drop, map, All, Option, Result, Ok, Err, MatchResult, ◌⊎◌}
+use Rattle.std.specs.Prelude.{◌≡◌, ◌≢◌, ℕ, ◌+◌, ◌*◌, ◌^◌, ◌<◌, ◌≤◌, true, List, [], ◌++◌, length, take, drop, map, All, Option, Some, None, Result, Ok, Err, MatchResult, ◌⊎◌}
 use Rattle.std.specs.List.{concat, AllByRecursion}
 use Rattle.std.specs.List.Sorted.{IsStrictlySortedBy}
 use Rattle.std.specs.Ordering.{nat_cmp}
@@ -7,11 +7,15 @@ use Rattle.std.specs.Cmp.Lexicographic.{slice_cmp}
 use Rattle.std.specs.FinSet as set
 use Rattle.std.specs.Io.KnownBytes.{Consumes, IsAtEnd}
 use Rattle.archive_core.specs.declared.operations.Operation.{Operation}
-use Rattle.archive_core.specs.Record.{IsOperation, rec}
+use Rattle.archive_core.specs.declared.slices.SliceFacts.{SliceFacts}
+use Rattle.archive_core.specs.Valid.{IsCheckedOf}
+use Rattle.archive_core.specs.Record.{IsOperation, rec, Admits, Retires}
 use Rattle.archive_core.specs.Content.{Operations}
 use Rattle.archive_records.specs.declared.kind.TextKind.{TextKind}
 use Rattle.archive_records.specs.declared.kind.TextKind.TheVariants.{Archive, Operations as Operations_file, Summary as Summary_file}
 use Rattle.archive_records.specs.declared.buffer.Buffer.{Buffer}
+use Rattle.archive_records.specs.declared.next.Step.{Step}
+use Rattle.archive_records.specs.declared.next.Step.TheVariants.{End, Item}
 use Rattle.archive_records.specs.declared.fault.RecordFaultKind.{RecordFaultKind}
 use Rattle.archive_records.specs.declared.fault.RecordFaultKind.TheVariants.{BadMagic, Truncated, BadTag, TooLarge, NotAscending, BadSlice, KeyMismatch, BadCount, Trailing, Device, OutOfMemory}
 use Rattle.archive_records.specs.declared.fault.RecordFault.{RecordFault}
@@ -67,6 +71,27 @@ StopsInMagic file bytes kind =
     ⊎ ((kind ≡ Device) × (length bytes < 8))
     ⊎ ((kind ≡ OutOfMemory) × (length bytes < 8))
 
+-- what was found out of a record: a retirement has no slice, and that of an admission was checked
+abbrev pub IsFound : List ℕ → Option SliceFacts → Type 0
+IsFound bytes None = Retires bytes
+IsFound bytes (Some facts) = Admits bytes × IsCheckedOf (drop 33 bytes) facts
+
+-- the same of an item of such a file; an entry has no slice
+abbrev pub IsFoundIn : TextKind → List ℕ → Option SliceFacts → Type 0
+IsFoundIn Archive item found = IsFound item found
+IsFoundIn Operations_file item found = IsFound item found
+IsFoundIn Summary_file item found = IsEntry item
+
+-- what holds where the file ends
+abbrev pub IfEnd : Step → Type 0 → Type 0
+IfEnd End holds = holds
+IfEnd (Item _) holds = Unit {0}
+
+-- what holds of one item more
+abbrev pub IfItem : Step → (Option SliceFacts → Type 0) → Type 0
+IfItem End holds = Unit {0}
+IfItem (Item found) holds = holds found
+
 -- Where a reader of records stands: in which kind of file, behind which last record, how many records and how many bytes.
 pub record Position : Type 0 where
   pub file : TextKind
@@ -115,9 +140,9 @@ pub record StopsAt (a b : Option (List ℕ)) (before : Position) (fault : Record
   pub few : before.count < 2 ^ 63
 
 -- What came of one step: the end of the file, one item more, or why the reader stops.
-abbrev pub Advances : {R : Type 0} → (R → Option (List ℕ)) → (R → ℕ) → R → R → Position → Position → Result Bool RecordFault → Type 0
-Advances left failures old new before after (Ok true) = Finishes (left old) (left new) before after × (failures new ≡ failures old)
-Advances left failures old new before after (Ok false) = Passes (left old) (left new) before after × (failures new ≡ failures old)
+abbrev pub Advances : {R : Type 0} → (R → Option (List ℕ)) → (R → ℕ) → R → R → Position → Position → Result Step RecordFault → Type 0
+Advances left failures old new before after (Ok End) = Finishes (left old) (left new) before after × (failures new ≡ failures old)
+Advances left failures old new before after (Ok (Item found)) = Passes (left old) (left new) before after × (failures new ≡ failures old) × IsFoundIn before.file after.last found
 Advances left failures old new before after (Err fault) = StopsAt (left old) (left new) before fault × Blames left failures old new fault.kind
 
 -- The magic and these records were read, and nothing behind them.

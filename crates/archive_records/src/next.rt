@@ -2,22 +2,30 @@
 
 ghost use Rattle.std.specs.Prelude.{◌≡◌, ◌≢◌, ◌<◌, ◌≤◌, ℕ, List, length, Ok, Err, OnOk, IfOk, IfErr, MatchResult, IsTrue, ◌↔◌, true, false};
 ghost use Rattle.std.specs.Io.KnownBytes.{Consumes};
-ghost use Rattle.archive_core.specs.Record.{IsRecord};
 ghost use Rattle.archive_records.specs.declared.fault.RecordFaultKind.TheVariants.{Truncated, Device};
 ghost use Rattle.archive_records.specs.declared.kind.TextKind.TheVariants.{Archive, Operations};
-ghost use Rattle.archive_records.specs.Kind.{IsItem, may_follow};
+ghost use Rattle.archive_records.specs.Kind.{may_follow};
 ghost use Rattle.archive_records.specs.Layout.{framed};
 ghost use Rattle.archive_records.specs.Text.{end_record, ending};
 ghost use Rattle.archive_records.specs.Fault.{is_end, tested, next, RefusesSlice, Refuses, FailsNext, IsUnended, IsOfText};
-ghost use Rattle.archive_records.specs.Reader.{BlamesReader, bytes_so_far, seen_as, IsEnded};
+ghost use Rattle.archive_records.specs.Reader.{BlamesReader, bytes_so_far, seen_as, IsEnded, IsFound, IsFoundIn, IfEnd, IfItem};
 
 use crate::buffer::Buffer;
 use crate::fault::RecordFaultKind;
 use crate::frame::read_record;
 use crate::head::{ADMISSION_HEAD_LEN, END, RETIREMENT, has_key, record_count_of};
 use crate::kind::TextKind;
-use archive_core::Slice;
+use archive_core::{Slice, SliceFacts};
 use byte_device::Source;
+
+/// What the reader came to.
+#[derive(Clone, Copy)]
+pub enum Step {
+    /// What ends the file.
+    End,
+    /// One item more. Of an admission it has what the check of the slice found out.
+    Item(Option<SliceFacts>),
+}
 
 /// What the tests of a whole record or end record say: whether it is the end record.
 #[tactic(auto, unfolding(crate::specs::Fault::tested, crate::specs::Fault::is_end))]
@@ -69,20 +77,20 @@ fn read_in_order<R: Source>(
     test(file, file.allows(buffer.order), count, &buffer.bytes)
 }
 
-/// Whether the slice of a whole record is one, and of the record's key.
-fn test_slice(bytes: &[u8]) -> Result<(), RecordFaultKind>
+/// Tests whether the slice of a whole record is one, and of the record's key, and gives what the check found out of it.
+fn test_slice(bytes: &[u8]) -> Result<Option<SliceFacts>, RecordFaultKind>
     requires whole { framed Archive bytes.now ≡ Ok (length bytes.now) }
     requires item { is_end bytes.now ≡ false }
-    ensures known { OnOk result (IsRecord bytes.now) }
+    ensures found { IfOk result (λ found. IsFound bytes.now found) }
     ensures refused { IfErr result (λ kind. RefusesSlice bytes.now kind) }
 {
     if bytes[0] == RETIREMENT {
-        return Ok(());
+        return Ok(None);
     }
     match Slice::check(&bytes[ADMISSION_HEAD_LEN..]) {
         Ok(slice) => {
             if has_key(bytes, &slice.key()) {
-                Ok(())
+                Ok(Some(slice.facts()))
             } else {
                 Err(RecordFaultKind::KeyMismatch)
             }
@@ -91,27 +99,27 @@ fn test_slice(bytes: &[u8]) -> Result<(), RecordFaultKind>
     }
 }
 
-/// Whether what a whole item holds is as it must be.
-fn test_item(file: TextKind, bytes: &[u8]) -> Result<(), RecordFaultKind>
+/// Tests whether what a whole item holds is as it must be, and gives what was found out of its slice.
+fn test_item(file: TextKind, bytes: &[u8]) -> Result<Option<SliceFacts>, RecordFaultKind>
     requires whole { framed file bytes.now ≡ Ok (length bytes.now) }
     requires item { is_end bytes.now ≡ false }
-    ensures known { OnOk result (IsItem file bytes.now) }
+    ensures found { IfOk result (λ found. IsFoundIn file bytes.now found) }
     ensures refused { IfErr result (λ kind. Refuses file bytes.now kind) }
 {
     match file {
-        TextKind::Summary => Ok(()),
+        TextKind::Summary => Ok(None),
         TextKind::Archive | TextKind::Operations => test_slice(bytes),
     }
 }
 
-/// Reads the next record or the end record over the last record, and says whether it is the end record.
+/// Reads the next record or the end record over the last record.
 fn read_tested<R: Source>(
     file: TextKind,
     r: &mut R,
     chunk: &mut [u8],
     buffer: &mut Buffer,
     count: u64,
-) -> Result<bool, RecordFaultKind>
+) -> Result<Step, RecordFaultKind>
     requires { 0 < length chunk.old }
     ensures within { buffer.new.at ≤ length buffer.new.bytes.items }
     ensures taken { Consumes (R.left r.old) (R.left r.new) (bytes_so_far buffer.new) }
@@ -120,17 +128,17 @@ fn read_tested<R: Source>(
     ensures fails { IfErr result (λ kind.
         FailsNext file buffer.old.bytes.items count (bytes_so_far buffer.new) (seen_as kind)) }
     ensures whole { OnOk result (buffer.new.bytes.items ≡ bytes_so_far buffer.new) }
-    ensures end { IfOk result (λ end. end ≡ true → (is_end (bytes_so_far buffer.new) ≡ true)
-        × (bytes_so_far buffer.new ≡ end_record count)) }
-    ensures item { IfOk result (λ end. end ≡ false → IsItem file (bytes_so_far buffer.new)) }
+    ensures end { IfOk result (λ step. IfEnd step ((is_end (bytes_so_far buffer.new) ≡ true)
+        × (bytes_so_far buffer.new ≡ end_record count))) }
+    ensures item { IfOk result (λ step. IfItem step (λ found. IsFoundIn file (bytes_so_far buffer.new) found)) }
     ensures reader { BlamesReader R.left R.failures r.old r.new result }
 {
     let end = read_in_order(file, r, chunk, buffer, count)?;
     if end {
-        return Ok(true);
+        return Ok(Step::End);
     }
     match test_item(file, &buffer.bytes) {
-        Ok(()) => Ok(false),
+        Ok(found) => Ok(Step::Item(found)),
         Err(kind) => Err(kind),
     }
 }
@@ -142,32 +150,32 @@ fn ends_file(file: TextKind, kind: RecordFaultKind, at: usize) -> bool
     kind == RecordFaultKind::Truncated && at == 0 && file.is_open()
 }
 
-/// Reads the next record over the last record, or what ends the file, and says whether the file ends.
+/// Reads the next record over the last record, or what ends the file.
 pub fn read_next<R: Source>(
     file: TextKind,
     r: &mut R,
     chunk: &mut [u8],
     buffer: &mut Buffer,
     count: u64,
-) -> Result<bool, RecordFaultKind>
+) -> Result<Step, RecordFaultKind>
     requires { 0 < length chunk.old }
     ensures taken { Consumes (R.left r.old) (R.left r.new) (bytes_so_far buffer.new) }
-    ensures end { IfOk result (λ end. end ≡ true → bytes_so_far buffer.new ≡ ending file count) }
-    ensures ends { IfOk result (λ end. end ≡ true → IsEnded file (R.left r.new)) }
-    ensures whole { IfOk result (λ end. end ≡ false → buffer.new.bytes.items ≡ bytes_so_far buffer.new) }
-    ensures item { IfOk result (λ end. end ≡ false → IsItem file (bytes_so_far buffer.new)) }
-    ensures follows { IfOk result (λ end. end ≡ false
-        → may_follow file buffer.old.bytes.items (bytes_so_far buffer.new) ≡ true) }
+    ensures end { IfOk result (λ step. IfEnd step (bytes_so_far buffer.new ≡ ending file count)) }
+    ensures ends { IfOk result (λ step. IfEnd step (IsEnded file (R.left r.new))) }
+    ensures whole { IfOk result (λ step. IfItem step (λ _. buffer.new.bytes.items ≡ bytes_so_far buffer.new)) }
+    ensures item { IfOk result (λ step. IfItem step (λ found. IsFoundIn file (bytes_so_far buffer.new) found)) }
+    ensures follows { IfOk result (λ step. IfItem step (λ _.
+        may_follow file buffer.old.bytes.items (bytes_so_far buffer.new) ≡ true)) }
     ensures fails { IfErr result (λ kind.
         FailsNext file buffer.old.bytes.items count (bytes_so_far buffer.new) (seen_as kind)) }
     ensures unended { IfErr result (λ kind. IsOfText kind → IsUnended file (bytes_so_far buffer.new)) }
     ensures reader { BlamesReader R.left R.failures r.old r.new result }
 {
     match read_tested(file, r, chunk, buffer, count) {
-        Ok(end) => Ok(end),
+        Ok(step) => Ok(step),
         Err(kind) => {
             if ends_file(file, kind, buffer.at) {
-                Ok(true)
+                Ok(Step::End)
             } else {
                 Err(kind)
             }

@@ -2,16 +2,17 @@
 
 ghost use Rattle.std.specs.Prelude.{◌≡◌, ◌+◌, ◌∷◌, ◌++◌, ℕ, List, Option, [], OnOk, IfOk, IfErr};
 ghost use Rattle.archive_core.specs.declared.operations.Operation.{Operation};
-ghost use Rattle.archive_core.specs.Record.{rec, IsRecord, IsOperation};
+ghost use Rattle.archive_core.specs.Record.{rec, IsOperation};
 ghost use Rattle.archive_records.specs.declared.kind.TextKind.TheVariants.{Operations};
 ghost use Rattle.archive_records.specs.Reading.{ReadsWhole};
-ghost use Rattle.archive_records.specs.Reader.{FaultBlamesReader, HasStopped, Lists, AreRead};
+ghost use Rattle.archive_records.specs.Reader.{FaultBlamesReader, HasStopped, IsFound, Lists, AreRead};
 
 use crate::fault::RecordFault;
 use crate::kind::TextKind;
+use crate::next::Step;
 use crate::reader::RecordReader;
 use crate::reading::{operation_of, two_handles};
-use archive_core::Operation;
+use archive_core::{Operation, SliceFacts};
 use byte_device::Source;
 use memory::{Heap, NoMemory};
 
@@ -20,12 +21,13 @@ fn push_record(
     operations: &mut Vec<Operation, Heap>,
     heap: &Heap,
     bytes: &[u8],
+    found: Option<SliceFacts>,
 ) -> Result<(), NoMemory>
-    requires { IsRecord bytes.now }
+    requires { IsFound bytes.now found }
     ensures { OnOk result ((operation : Operation) × (operations.new.items ≡ operations.old.items ++ operation ∷ [])
         × IsOperation operation × (rec operation ≡ bytes.now)) }
 {
-    let operation = operation_of(heap.clone()?, bytes)?;
+    let operation = operation_of(heap.clone()?, bytes, found)?;
     operations.push(operation)?;
     Ok(())
 }
@@ -46,12 +48,12 @@ fn push_records<R: Source>(
 {
     'pushing: loop {
         let offset = reader.offset();
-        match reader.advance(r) {
-            Ok(true) => return Ok(()),
-            Ok(false) => {}
+        let found = match reader.advance(r) {
+            Ok(Step::End) => return Ok(()),
+            Ok(Step::Item(found)) => found,
             Err(fault) => return Err(fault),
-        }
-        if let Err(_) = push_record(operations, heap, reader.last()) {
+        };
+        if let Err(_) = push_record(operations, heap, reader.last(), found) {
             return Err(RecordFault::out_of_memory(offset));
         }
     }

@@ -9,7 +9,7 @@ ghost use Rattle.archive_records.specs.Reader.{Position, Bounds, Advances, Blame
 use crate::buffer::{Buffer, fill};
 use crate::fault::{RecordFault, RecordFaultKind};
 use crate::kind::TextKind;
-use crate::next::read_next;
+use crate::next::{Step, read_next};
 use byte_device::{Failed, Source, is_at_end};
 use memory::{Heap, NoMemory};
 use std::cmp::Ordering;
@@ -141,19 +141,19 @@ impl RecordReader {
         self.offset
     }
 
-    /// Reads the next record over the last, or else what ends the file, and says whether the file ends.
-    pub fn advance<R: Source>(&mut self, r: &mut R) -> Result<bool, RecordFault>
+    /// Reads the next record over the last, or else what ends the file.
+    pub fn advance<R: Source>(&mut self, r: &mut R) -> Result<Step, RecordFault>
         ensures { Advances R.left R.failures r.old r.new self.old self.new result }
     {
         match read_next(self.file, r, &mut self.chunk, &mut self.buffer, self.count) {
-            Ok(true) => Ok(true),
-            Ok(false) => {
+            Ok(Step::End) => Ok(Step::End),
+            Ok(Step::Item(found)) => {
                 if self.count == MOST {
                     return Err(RecordFault::out_of_memory(self.offset));
                 }
                 self.count += 1;
                 self.offset += self.buffer.bytes.len() as u128;
-                Ok(false)
+                Ok(Step::Item(found))
             }
             Err(kind) => Err(RecordFault {
                 kind,

@@ -2,42 +2,50 @@
 
 ghost use Rattle.std.specs.Prelude.{◌≡◌, ◌≢◌, ℕ, List, Option, OnOk, IfOk, IfErr};
 ghost use Rattle.std.specs.Io.KnownBytes.{IsAtEnd};
-ghost use Rattle.archive_core.specs.Record.{rec, IsRecord, IsOperation};
+ghost use Rattle.archive_core.specs.Record.{rec, IsOperation};
 ghost use Rattle.archive_core.specs.Content.{with_record};
 ghost use Rattle.archive_records.specs.declared.fault.RecordFaultKind.TheVariants.{Trailing};
 ghost use Rattle.archive_records.specs.declared.kind.TextKind.TheVariants.{Archive};
 ghost use Rattle.archive_records.specs.Reading.{ReadsWhole, ReadsFront};
-ghost use Rattle.archive_records.specs.Reader.{FaultBlamesReader, HasStopped, Makes, MakesAll, IsReadTo};
+ghost use Rattle.archive_records.specs.Reader.{FaultBlamesReader, HasStopped, IsFound, Makes, MakesAll, IsReadTo};
 
 use crate::fault::RecordFault;
-use crate::head::{ADMISSION_HEAD_LEN, RETIREMENT, digest_in, key_in};
+use crate::head::{ADMISSION_HEAD_LEN, digest_in, key_in};
 use crate::kind::TextKind;
+use crate::next::Step;
 use crate::reader::RecordReader;
-use archive_core::laws::one_slice_fault;
-use archive_core::{Archive, Operation, Slice};
+use archive_core::{Archive, Operation, Slice, SliceFacts};
 use byte_device::Source;
 use memory::{Heap, NoMemory};
 
-/// The operation of a record.
-pub fn operation_of(heap: Heap, bytes: &[u8]) -> Result<Operation, NoMemory>
-    requires { IsRecord bytes.now }
+/// The operation of a record, by what was found out of its slice. The slice is copied, and not checked again.
+pub fn operation_of(
+    heap: Heap,
+    bytes: &[u8],
+    found: Option<SliceFacts>,
+) -> Result<Operation, NoMemory>
+    requires { IsFound bytes.now found }
     ensures valid { IfOk result (λ operation. IsOperation operation) }
     ensures bytes { IfOk result (λ operation. rec operation ≡ bytes.now) }
 {
-    if bytes[0] == RETIREMENT {
+    let Some(facts) = found else {
         return Ok(Operation::Retire(key_in(bytes), digest_in(bytes)));
-    }
-    one_slice_fault();
-    let slice = Slice::check(&bytes[ADMISSION_HEAD_LEN..]).unwrap();
-    Ok(Operation::Admit(slice.admit(heap)?))
+    };
+    let slice = Vec::from_slice(heap, &bytes[ADMISSION_HEAD_LEN..])?;
+    Ok(Operation::Admit(Slice::of_checked(slice, facts)))
 }
 
 /// Takes the operation of a record.
-fn take_record<A: Archive>(archive: &mut A, heap: &Heap, bytes: &[u8]) -> Result<(), NoMemory>
-    requires { IsRecord bytes.now }
+fn take_record<A: Archive>(
+    archive: &mut A,
+    heap: &Heap,
+    bytes: &[u8],
+    found: Option<SliceFacts>,
+) -> Result<(), NoMemory>
+    requires { IsFound bytes.now found }
     ensures { OnOk result (A.content archive.new ≡ with_record (A.content archive.old) bytes.now) }
 {
-    let operation = operation_of(heap.clone()?, bytes)?;
+    let operation = operation_of(heap.clone()?, bytes, found)?;
     archive.take(operation)?;
     Ok(())
 }
@@ -59,12 +67,12 @@ fn take_records<A: Archive, R: Source>(
 {
     'taking: loop {
         let offset = reader.offset();
-        match reader.advance(r) {
-            Ok(true) => return Ok(()),
-            Ok(false) => {}
+        let found = match reader.advance(r) {
+            Ok(Step::End) => return Ok(()),
+            Ok(Step::Item(found)) => found,
             Err(fault) => return Err(fault),
-        }
-        if let Err(_) = take_record(archive, heap, reader.last()) {
+        };
+        if let Err(_) = take_record(archive, heap, reader.last(), found) {
             return Err(RecordFault::out_of_memory(offset));
         }
     }

@@ -8,6 +8,7 @@ ghost use Rattle.archive_records.specs.Turns.{Stands, StopsBeforeRecords, held_b
 
 use crate::fault::RecordFault;
 use crate::kind::TextKind;
+use crate::next::Step;
 use crate::reader::RecordReader;
 use byte_device::Source;
 use memory::Heap;
@@ -65,11 +66,12 @@ impl Side {
         ensures less { OnOk result (weight self.new < weight self.old) }
         ensures reader { FaultBlamesReader R.left R.failures r.old r.new result }
     {
-        if self.reader.advance(r)? {
-            self.reader.finish(r)?;
-            self.ahead = Ahead::Ended;
-        } else {
-            self.ahead = Ahead::Held;
+        match self.reader.advance(r)? {
+            Step::End => {
+                self.reader.finish(r)?;
+                self.ahead = Ahead::Ended;
+            }
+            Step::Item(_) => self.ahead = Ahead::Held,
         }
         Ok(())
     }

@@ -17,6 +17,7 @@ ghost use Rattle.archive_records.specs.Reader.{FaultBlamesReader, HasReadAll, Ha
 use crate::entry::{Entry, entry_in};
 use crate::fault::RecordFault;
 use crate::kind::TextKind;
+use crate::next::Step;
 use crate::reader::RecordReader;
 use crate::reading::two_handles;
 use archive_core::Archive;
@@ -122,8 +123,8 @@ fn push_entries<R: Source>(
     'pushing: loop {
         let offset = reader.offset();
         match reader.advance(r) {
-            Ok(true) => return Ok(()),
-            Ok(false) => {}
+            Ok(Step::End) => return Ok(()),
+            Ok(Step::Item(_)) => {}
             Err(fault) => return Err(fault),
         }
         if let Err(_) = entries.push(entry_in(reader.last())) {

@@ -5,9 +5,9 @@ use Rattle.archive_records.proofs.Steps.{HasReadAll-grows, Stopped-fails, Stoppe
 use Rattle.archive_records.proofs.Listed.{Lists-grows, AreRead-all}
 use Rattle.archive_records.proofs.operations.push_records.Goals as goal
 
-pub returns-in-Ok-true-clause-all : goal.returns-in-Ok-true-clause-all
-returns-in-Ok-true-clause-all g c = λ a start.
-    let step = rw c.in-Ok-true.field-0-test at c.in-Ok-true.ensures in
+pub returns-in-Ok-End-clause-all : goal.returns-in-Ok-End-clause-all
+returns-in-Ok-End-clause-all g c = λ a start.
+    let step = rw c.in-Ok-End.field-0-is at c.in-Ok-End.ensures in
     let l = c.pushing.invariant.lists a start in
     AreRead-all a _ _ _ (HasReadAll-grows Operations a _ _ (map rec c.pushing.operations.items) c.pushing.reader c.advance.new.self l.read step.0) l.are
 
@@ -18,7 +18,7 @@ returns-in-Err-clause-stopped g c = λ a start.
 
 pub returns-in-Err-push_record-clause-stopped : goal.returns-in-Err-push_record-clause-stopped
 returns-in-Err-push_record-clause-stopped g c =
-    let step = rw c.in-Ok-false.field-0-test at c.in-Ok-false.ensures in
+    let step = rw c.in-Ok-Item.field-0-is at c.in-Ok-Item.ensures in
     rw (c.out_of_memory.ensures, c.offset-offset.ensures)
     (λ a start.
     let l = c.pushing.invariant.lists a start in
@@ -26,7 +26,7 @@ returns-in-Err-push_record-clause-stopped g c =
 
 pub pushing-preserved : goal.pushing-preserved
 pushing-preserved g c =
-    let step = rw c.in-Ok-false.field-0-test at c.in-Ok-false.ensures in
+    let step = rw c.in-Ok-Item.field-0-is at c.in-Ok-Item.ensures in
     let pushed = rw c.last.ensures at c.in_default.ensures in
     record {
       lists = λ a start. Lists-grows a _ _ _ _ c.pushing.reader c.advance.new.self (c.pushing.invariant.lists a start) step.0 pushed;
@@ -36,5 +36,5 @@ pushing-preserved g c =
 
 pub pushing-smaller : goal.pushing-smaller
 pushing-smaller g c =
-    let step = rw c.in-Ok-false.field-0-test at c.in-Ok-false.ensures in
+    let step = rw c.in-Ok-Item.field-0-is at c.in-Ok-Item.ensures in
     omega (arith, step.0.count_is, step.0.few)

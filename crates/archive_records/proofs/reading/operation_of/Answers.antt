@@ -1,35 +1,26 @@
-use Rattle.std.proofs.Common.{◌≡◌, ◌∙◌, drop, arith, rules, Result, Ok, Err, IfErr, IsOk}
+use Rattle.std.proofs.Common.{◌∙◌, arith}
 use Rattle.std.proofs.lemmas.List.{take_rest}
-use Rattle.std.proofs.lemmas.Result.{IfOk-at_ok}
-use Rattle.archive_records.proofs.Forms.{retirement-of, admission-of, long-retirement, long-admission, retired_is, admitted_valid, admitted_is}
+use Rattle.archive_records.proofs.Forms.{long-retirement, tag-retirement, long-admission, retired_is, admitted_is}
 use Rattle.archive_records.proofs.reading.operation_of.Goals as goal
 
--- a result that can be no error is none
-is_ok : {T E : Type 0} (r : Result T E) (P : E → Type 0) → IfErr r P → ((e : E) → P e → ⊥) → IsOk r
-is_ok (Ok x) P h none = search rules
-is_ok (Err e) P h none = absurd (none e h)
-
 pub digest_in-requires : goal.digest_in-requires
-digest_in-requires c = omega (arith, long-retirement c.args.bytes.now (retirement-of c.args.bytes.now c.requires c.if-bytes-eq-RETIREMENT.true))
+digest_in-requires c = omega (arith, long-retirement c.args.bytes.now (rw c.in_default.is at c.requires))
 
-pub returns-then-bytes-eq-RETIREMENT-clause-bytes : goal.returns-then-bytes-eq-RETIREMENT-clause-bytes
-returns-then-bytes-eq-RETIREMENT-clause-bytes c =
-    retired_is c.args.bytes.now c.key_in.result c.digest_in.result.0 (long-retirement c.args.bytes.now (retirement-of c.args.bytes.now c.requires c.if-bytes-eq-RETIREMENT.true)) c.if-bytes-eq-RETIREMENT.true
-    c.key_in.ensures.bytes c.digest_in.ensures
+pub returns-in_default-clause-bytes : goal.returns-in_default-clause-bytes
+returns-in_default-clause-bytes c =
+    let t = rw c.in_default.is at c.requires in
+    retired_is c.args.bytes.now c.key_in.result c.digest_in.result.0 (long-retirement c.args.bytes.now t) (tag-retirement c.args.bytes.now t) c.key_in.ensures.bytes c.digest_in.ensures
 
-pub slice_bounds-check-count : goal.slice_bounds-check-count
-slice_bounds-check-count c = long-admission c.args.bytes.now (admission-of c.args.bytes.now c.requires c.if-bytes-eq-RETIREMENT.false)
+pub slice_bounds-from_slice-count : goal.slice_bounds-from_slice-count
+slice_bounds-from_slice-count c = long-admission c.args.bytes.now (rw c.in-Some.is at c.requires).0
 
-pub slice_bounds-check-start : goal.slice_bounds-check-start
-slice_bounds-check-start c = long-admission c.args.bytes.now (admission-of c.args.bytes.now c.requires c.if-bytes-eq-RETIREMENT.false)
+pub slice_bounds-from_slice-start : goal.slice_bounds-from_slice-start
+slice_bounds-from_slice-start c = long-admission c.args.bytes.now (rw c.in-Some.is at c.requires).0
 
-pub unwrap-slice-requires : goal.unwrap-slice-requires
-unwrap-slice-requires c =
-    is_ok c.check.result _ c.check.ensures.faulty
-    (λ fault is. c.one_slice_fault.ensures.none (drop 33 c.args.bytes.now) fault (admitted_valid c.args.bytes.now (admission-of c.args.bytes.now c.requires c.if-bytes-eq-RETIREMENT.false)) (rw take_rest at is))
+pub of_checked-requires : goal.of_checked-requires
+of_checked-requires c = rw (c.in_ok-slice.ensures.items, take_rest) (rw c.in-Some.is at c.requires).1
 
 pub returns-clause-bytes : goal.returns-clause-bytes
 returns-clause-bytes c =
-    let checked = rw take_rest at c.check.ensures.slice in
-    let slice = c.in_ok-admit.ensures ∙ IfOk-at_ok (λ slice. slice ≡ drop 33 c.args.bytes.now) c.unwrap-slice.ensures checked in
-    admitted_is c.args.bytes.now c.in_ok-admit.field-0 (admission-of c.args.bytes.now c.requires c.if-bytes-eq-RETIREMENT.false) slice
+    let copied = rw take_rest at c.in_ok-slice.ensures.items in
+    admitted_is c.args.bytes.now c.of_checked.result (rw c.in-Some.is at c.requires).0 (c.of_checked.ensures ∙ copied)

@@ -5,9 +5,9 @@ use Rattle.archive_records.proofs.Steps.{HasReadAll-grows, Stopped-fails, Stoppe
 use Rattle.archive_records.proofs.Named.{Names-grows}
 use Rattle.archive_records.proofs.summary.push_entries.Goals as goal
 
-pub returns-in-Ok-true-clause-all : goal.returns-in-Ok-true-clause-all
-returns-in-Ok-true-clause-all g c = λ a start.
-    let step = rw c.in-Ok-true.field-0-test at c.in-Ok-true.ensures in
+pub returns-in-Ok-End-clause-all : goal.returns-in-Ok-End-clause-all
+returns-in-Ok-End-clause-all g c = λ a start.
+    let step = rw c.in-Ok-End.field-0-is at c.in-Ok-End.ensures in
     HasReadAll-grows Summary a _ _ (map entry_bytes c.pushing.entries.items) c.pushing.reader c.advance.new.self (c.pushing.invariant.names a start) step.0
 
 pub returns-in-Err-clause-stopped : goal.returns-in-Err-clause-stopped
@@ -16,13 +16,13 @@ returns-in-Err-clause-stopped g c = λ a start.
 
 pub returns-in-Err-push-clause-stopped : goal.returns-in-Err-push-clause-stopped
 returns-in-Err-push-clause-stopped g c =
-    let step = rw c.in-Ok-false.field-0-test at c.in-Ok-false.ensures in
+    let step = rw c.in-Ok-Item.field-0-is at c.in-Ok-Item.ensures in
     rw (c.out_of_memory.ensures, c.offset-offset.ensures)
     (λ a start. inr (map entry_bytes c.pushing.entries.items, Stopped-unkept Summary a _ _ (map entry_bytes c.pushing.entries.items) c.pushing.reader c.advance.new.self (c.pushing.invariant.names a start) step.0))
 
 pub pushing-preserved : goal.pushing-preserved
 pushing-preserved g c =
-    let step = rw c.in-Ok-false.field-0-test at c.in-Ok-false.ensures in
+    let step = rw c.in-Ok-Item.field-0-is at c.in-Ok-Item.ensures in
     record {
       names = λ a start. Names-grows a _ _ _ _ _ c.pushing.reader c.advance.new.self (c.pushing.invariant.names a start) step.0 c.in_default.ensures.items (c.entry_in.ensures ∙ c.last.ensures);
       summary = step.0.file_is ∙ c.pushing.invariant.summary;
@@ -31,5 +31,5 @@ pushing-preserved g c =
 
 pub pushing-smaller : goal.pushing-smaller
 pushing-smaller g c =
-    let step = rw c.in-Ok-false.field-0-test at c.in-Ok-false.ensures in
+    let step = rw c.in-Ok-Item.field-0-is at c.in-Ok-Item.ensures in
     omega (arith, step.0.count_is, step.0.few)

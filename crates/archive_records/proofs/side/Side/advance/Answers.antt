@@ -8,9 +8,9 @@ returns-in_err-advance-clause-stands g c = λ a done h.
     let p = err_from_is_err_and c.from_residual.result c.from_residual.ensures.1 in
     rw (p.1, p.2) (Stopped-fails Archive a _ _ done c.args.self.now.reader _ h c.in_err-advance.ensures.0)
 
-pub returns-else-branch-clause-stands : goal.returns-else-branch-clause-stands
-returns-else-branch-clause-stands g c = λ a done h.
-    let step = rw c.if-branch.false at c.in_ok-advance.ensures in
+pub returns-in-Item-clause-stands : goal.returns-in-Item-clause-stands
+returns-in-Item-clause-stands g c = λ a done h.
+    let step = rw c.in-Item.is at c.in_ok-advance.ensures in
     record {
       unread = λ t. absurd cc;
       held = λ _. (HasRead-grows Archive a _ _ done c.args.self.now.reader c.advance.new.self h step.0, rw (← h.last_is, ← h.file_is) step.0.follows);
