@@ -83,11 +83,11 @@ fn list_taken<R: Source>(heap: Heap, r: &mut R) -> Result<Vec<Operation, Heap>, 
     ensures stopped { IfErr result (λ fault. HasStopped Operations (R.left r.old) (R.left r.new) fault) }
     ensures reader { FaultBlamesReader R.left R.failures r.old r.new result }
 {
-    let Ok((own, buffers)) = two_handles(&heap) else {
+    let Ok((kept, buffers)) = two_handles(&heap) else {
         return Err(RecordFault::out_of_memory(0));
     };
     let reader = RecordReader::begin(buffers, TextKind::Operations, r)?;
-    list_rest(&heap, Vec::new(own), reader, r)
+    list_rest(&heap, Vec::new(kept), reader, r)
 }
 
 /// Reads an operations file: the magic `MSYMOPS1`, and retirements and admissions in any order and with repeats up to

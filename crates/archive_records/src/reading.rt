@@ -97,7 +97,7 @@ fn read_rest<A: Archive + Drop, R: Source>(
     Ok((archive, reader))
 }
 
-/// The heap's handle for what is handed out, and that for what is read.
+/// The heap's handle for what is kept of a text, and that for the buffers of its reader.
 pub fn two_handles(heap: &Heap) -> Result<(Heap, Heap), NoMemory> {
     Ok((heap.clone()?, heap.clone()?))
 }
@@ -113,11 +113,11 @@ fn read_text<A: Archive + Drop, R: Source>(
     ensures no_trailing { IfErr result (λ fault. fault.kind ≢ Trailing) }
     ensures reader { FaultBlamesReader R.left R.failures r.old r.new result }
 {
-    let Ok((own, buffers)) = two_handles(&heap) else {
+    let Ok((kept, buffers)) = two_handles(&heap) else {
         return Err(RecordFault::out_of_memory(0));
     };
     let reader = RecordReader::begin(buffers, TextKind::Archive, r)?;
-    read_rest(&heap, A::empty(own), reader, r)
+    read_rest(&heap, A::empty(kept), reader, r)
 }
 
 /// Reads a whole input as the text of an archive. What is said is of the bytes that were taken.

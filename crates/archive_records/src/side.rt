@@ -39,10 +39,10 @@ impl Side {
         ensures stops { IfErr result (StopsBeforeRecords (R.left r.old) (R.left r.new)) }
         ensures reader { FaultBlamesReader R.left R.failures r.old r.new result }
     {
-        let Ok(own) = heap.clone() else {
+        let Ok(buffers) = heap.clone() else {
             return Err(RecordFault::out_of_memory(0));
         };
-        let reader = RecordReader::begin(own, TextKind::Archive, r)?;
+        let reader = RecordReader::begin(buffers, TextKind::Archive, r)?;
         Ok(Side {
             reader,
             ahead: Ahead::Unread,

@@ -161,11 +161,11 @@ fn read_text<R: Source>(
     ensures stopped { IfErr result (λ fault. HasStopped SummaryFile (R.left r.old) (R.left r.new) fault) }
     ensures reader { FaultBlamesReader R.left R.failures r.old r.new result }
 {
-    let Ok((own, buffers)) = two_handles(&heap) else {
+    let Ok((kept, buffers)) = two_handles(&heap) else {
         return Err(RecordFault::out_of_memory(0));
     };
     let reader = RecordReader::begin(buffers, TextKind::Summary, r)?;
-    read_entries(Vec::new(own), reader, r)
+    read_entries(Vec::new(kept), reader, r)
 }
 
 /// Reads a whole input as the text of a summary. What is said is of the bytes that were taken.
