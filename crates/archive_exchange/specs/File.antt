@@ -48,7 +48,7 @@ pub record IsRefusedPart (file : List ℕ) (i : ℕ) (fault : SliceFault) : Type
   pub begins : is_admissible part ≡ true
   pub refused : IsSliceFault part fault
 
--- i is the least place of a part that is refused
+-- i is the least index of a part that is refused
 pub record IsFirstRefused (file : List ℕ) (i : ℕ) (fault : SliceFault) : Type 0 where
   pub here : IsRefusedPart file i fault
   pub first : (j : ℕ) (other : SliceFault) → j < i → IsRefusedPart file j other → ⊥

@@ -29,18 +29,18 @@ pub(crate) fn begins_as_image(part: &[u8]) -> bool
     matches!(kind(part), FileKind::Thin)
 }
 
-/// Whether the part at a place begins as an image; one that does has to be a slice.
-fn check_part(place: u64, part: &[u8]) -> Result<bool, TakeFault>
+/// Whether the part at an index begins as an image; one that does has to be a slice.
+fn check_part(index: u64, part: &[u8]) -> Result<bool, TakeFault>
     ensures begins { IfOk result (λ begins. begins ≡ is_admissible part.now) }
     ensures valid { OnOk result (is_admissible part.now ≡ true → IsValid part.now) }
-    ensures refused { IfErr result (λ fault. (why : SliceFault) × (fault ≡ TakeFault.Slice place why) × (is_admissible part.now ≡ true) × IsSliceFault part.now why) }
+    ensures refused { IfErr result (λ fault. (why : SliceFault) × (fault ≡ TakeFault.Slice index why) × (is_admissible part.now ≡ true) × IsSliceFault part.now why) }
 {
     if !begins_as_image(part) {
         return Ok(false);
     }
     match Slice::check(part) {
         Ok(_) => Ok(true),
-        Err(fault) => Err(TakeFault::Slice(place, fault)),
+        Err(fault) => Err(TakeFault::Slice(index, fault)),
     }
 }
 
@@ -70,8 +70,8 @@ fn check_universal(file: &[u8]) -> Result<Universal<'_>, TakeFault>
     one_slice_fault();
     let universal = Universal::read(file)?;
     let mut found = false;
-    'places: for place in 0..universal.len() {
-        found |= check_part(place as u64, universal.slice(place))?;
+    'parts: for index in 0..universal.len() {
+        found |= check_part(index as u64, universal.slice(index))?;
     }
     if found {
         Ok(universal)

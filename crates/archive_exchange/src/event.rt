@@ -5,7 +5,7 @@ use archive_core::{Digest, SliceKey};
 use archive_records::RecordFault;
 use memory::Heap;
 
-/// What happens at a site. Sites and messages are counted from 0, a message by its place among those that were sent.
+/// What happens at a site. Sites and messages are counted from 0, a message by its number among those that were sent.
 #[derive(Debug, Drop)]
 pub enum Event {
     /// The site takes the slices of a file, all or none.

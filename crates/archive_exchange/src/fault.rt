@@ -15,7 +15,7 @@ pub enum TakeFault {
     Unrecognised,
     /// The file begins as a universal one and is none.
     Fat(FatFault),
-    /// The slice at this place of the file, counted from 0, begins as a 64-bit little-endian image and is
+    /// The slice at this index of the file, counted from 0, begins as a 64-bit little-endian image and is
     /// none that an archive keeps. It is the first such slice. A thin file has the slice 0 alone.
     Slice(u64, SliceFault),
     /// No slice begins as a 64-bit little-endian image.

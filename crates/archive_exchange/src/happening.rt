@@ -176,9 +176,9 @@ pub(crate) fn happen<A: Archive + Drop>(
         → model.site_of seen < length sites.old.items
         → IsRecorded seen) }
 {
-    let place = event.site() as usize;
-    if place >= sites.len() {
+    let index = event.site() as usize;
+    if index >= sites.len() {
         return Ok(Outcome::Refused(EventFault::NoSite));
     }
-    happen_at(&mut sites[place], messages, event)
+    happen_at(&mut sites[index], messages, event)
 }

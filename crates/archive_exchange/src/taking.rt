@@ -84,8 +84,8 @@ fn take_universal<A: Archive>(
     ensures stopped { OnErr result (IsTakenInPart universal.now (A.content archive.old) (A.content archive.new)) }
 {
     let mut rows = Vec::new(heap.clone()?);
-    'places: for place in 0..universal.len() {
-        let row = take_part(archive, heap.clone()?, universal.slice(place))?;
+    'parts: for index in 0..universal.len() {
+        let row = take_part(archive, heap.clone()?, universal.slice(index))?;
         rows.push(row)?;
     }
     Ok(rows)

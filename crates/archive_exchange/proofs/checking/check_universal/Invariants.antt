@@ -2,5 +2,5 @@ use Rattle.fat_slices.specs.Slices.{slices}
 use Rattle.archive_exchange.proofs.Files.{IsChecked}
 use Rattle.archive_exchange.proofs.checking.check_universal.Given as goal
 
-abbrev pub invariant-places : goal.invariant-places
-invariant-places l = IsChecked (slices l.universal) l.place l.found
+abbrev pub invariant-parts : goal.invariant-parts
+invariant-parts l = IsChecked (slices l.universal) l.index l.found

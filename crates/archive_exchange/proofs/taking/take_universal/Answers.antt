@@ -2,35 +2,35 @@ use Rattle.std.proofs.Common.{◌≡◌, ◌∙◌, refl, arith}
 use Rattle.archive_exchange.proofs.Fronts.{errs, taking_none, taking_more, valid_slice, stopped_before, stopped_behind, all_content, all_rows}
 use Rattle.archive_exchange.proofs.taking.take_universal.Goals as goal
 
-pub places-init : goal.places-init
-places-init g c = taking_none _ _ _ c.new-rows.ensures.items
+pub parts-init : goal.parts-init
+parts-init g c = taking_none _ _ _ c.new-rows.ensures.items
 
-pub places-preserved : goal.places-preserved
-places-preserved g c =
-    taking_more _ c.places.place c.slice.result.now _ _ _ c.places.rows.items _ c.in_ok-row.row c.places.invariant c.slice.ensures.part c.in_ok-row.ensures.content c.in_ok-row.ensures.row c.in_ok-push.ensures.items
+pub parts-preserved : goal.parts-preserved
+parts-preserved g c =
+    taking_more _ c.parts.index c.slice.result.now _ _ _ c.parts.rows.items _ c.in_ok-row.row c.parts.invariant c.slice.ensures.part c.in_ok-row.ensures.content c.in_ok-row.ensures.row c.in_ok-push.ensures.items
 
 pub take_part-requires : goal.take_part-requires
 take_part-requires g c =
-    valid_slice c.args.universal.now c.args.universal.now c.requires.fat refl c.places.place c.slice.result.now c.requires.accepted c.slice.ensures.part
+    valid_slice c.args.universal.now c.args.universal.now c.requires.fat refl c.parts.index c.slice.result.now c.requires.accepted c.slice.ensures.part
 
 pub returns-in_err-clone-2-clause-stopped : goal.returns-in_err-clone-2-clause-stopped
 returns-in_err-clone-2-clause-stopped g c =
-    errs _ (stopped_before c.args.universal.now c.args.universal.now c.requires.fat refl c.places.place _ _ _ c.places.rows.items c.places.invariant refl)
+    errs _ (stopped_before c.args.universal.now c.args.universal.now c.requires.fat refl c.parts.index _ _ _ c.parts.rows.items c.parts.invariant refl)
 
 pub returns-in_err-row-clause-stopped : goal.returns-in_err-row-clause-stopped
 returns-in_err-row-clause-stopped g c =
-    errs _ (stopped_before c.args.universal.now c.args.universal.now c.requires.fat refl c.places.place _ _ _ c.places.rows.items c.places.invariant c.in_err-row.ensures.refused)
+    errs _ (stopped_before c.args.universal.now c.args.universal.now c.requires.fat refl c.parts.index _ _ _ c.parts.rows.items c.parts.invariant c.in_err-row.ensures.refused)
 
 pub returns-in_err-push-clause-stopped : goal.returns-in_err-push-clause-stopped
 returns-in_err-push-clause-stopped g c =
-    errs _ (stopped_behind c.args.universal.now c.args.universal.now c.requires.fat refl c.places.place c.slice.result.now _ _ _ c.places.rows.items c.places.invariant c.slice.ensures.part c.in_ok-row.ensures.content)
+    errs _ (stopped_behind c.args.universal.now c.args.universal.now c.requires.fat refl c.parts.index c.slice.result.now _ _ _ c.parts.rows.items c.parts.invariant c.slice.ensures.part c.in_ok-row.ensures.content)
 
 pub returns-clause-content : goal.returns-clause-content
 returns-clause-content g c =
-    let all : c.places.place ≡ c.len-place-end.result = omega arith in
-    all_content c.args.universal.now c.args.universal.now c.requires.fat refl c.places.place _ _ _ c.places.invariant (all ∙ c.len-place-end.ensures.number)
+    let all : c.parts.index ≡ c.len-index-end.result = omega arith in
+    all_content c.args.universal.now c.args.universal.now c.requires.fat refl c.parts.index _ _ _ c.parts.invariant (all ∙ c.len-index-end.ensures.number)
 
 pub returns-clause-rows : goal.returns-clause-rows
 returns-clause-rows g c =
-    let all : c.places.place ≡ c.len-place-end.result = omega arith in
-    all_rows c.args.universal.now c.args.universal.now c.requires.fat refl c.places.place _ _ _ c.places.invariant (all ∙ c.len-place-end.ensures.number)
+    let all : c.parts.index ≡ c.len-index-end.result = omega arith in
+    all_rows c.args.universal.now c.args.universal.now c.requires.fat refl c.parts.index _ _ _ c.parts.invariant (all ∙ c.len-index-end.ensures.number)
