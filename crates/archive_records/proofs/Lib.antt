@@ -6,6 +6,7 @@ pub mod SliceFacts
 pub mod Forms
 pub mod Laid
 pub mod Above
+pub mod Tested
 pub mod Ends
 pub mod Longest
 pub mod Grown

@@ -28,7 +28,7 @@ pub enum Step {
 }
 
 /// What the tests of a whole record or end record say: whether it is the end record.
-#[tactic(auto, unfolding(crate::specs::Fault::tested, crate::specs::Fault::is_end))]
+#[tactic(auto, unfolding(crate::specs::Fault::is_end))]
 fn test(file: TextKind, allowed: bool, count: u64, bytes: &[u8]) -> Result<bool, RecordFaultKind>
     requires { framed file bytes.now ≡ Ok (length bytes.now) }
     ensures tested { (last : List ℕ) → allowed ≡ may_follow file last bytes.now

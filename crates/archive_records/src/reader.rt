@@ -46,9 +46,7 @@ impl Model for RecordReader {
 fn chunk_of(size: usize, heap: &Heap) -> Result<Vec<u8, Heap>, NoMemory>
     ensures { IfOk result (λ chunk. length chunk.items ≡ size) }
 {
-    let mut chunk = Vec::new(heap.clone()?);
-    chunk.resize(size, 0)?;
-    Ok(chunk)
+    Ok(vec![in heap.clone()?; 0; size]?)
 }
 
 /// Whether these bytes are as the magic begins.
