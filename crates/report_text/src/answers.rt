@@ -1,14 +1,14 @@
 //! The lines of `symbolicate`.
-ghost use Rattle.std.specs.Prelude.{◌≡◌, ◌++◌, OnOk, string_bytes};
-ghost use Rattle.std.specs.List.{flat_map};
-ghost use Rattle.report_text.specs.Answers.{own_line, answer_lines};
+ghost use Rattle.std.specs.Prelude.{◌≡◌, ◌++◌, IfSome, OnOk, string_bytes};
+ghost use Rattle.std.specs.List.{flat_map, list_any};
+ghost use Rattle.report_text.specs.Answers.{answer_lines, escaped, is_escaped, own_line};
 
 use crate::Text;
 use archive_core::{Answer, Digest, Own};
 use archive_words::{Address, Spelled};
 use macho_symbols::Found;
 use memory::{Heap, NoMemory};
-use std::fmt;
+use std::{fmt, str};
 
 /// A name of a symbol, a segment or a section as it is printed: each byte that is no printed
 /// character of ASCII, and the backslash, as `\x` and two hex digits.
@@ -19,6 +19,31 @@ pub struct Escaped<'a>(pub &'a [u8]);
 #[derive(Clone, Copy)]
 struct EscapedByte(u8);
 
+// Whether a byte of a name is not printed as itself.
+fn is_escaped(byte: u8) -> bool
+    ensures { result ≡ is_escaped byte }
+{
+    byte < 0x20 || byte > 0x7e || byte == b'\\'
+}
+
+// Whether a name has a byte that is not printed as itself.
+fn has_escaped(name: &[u8]) -> bool
+    ensures { result ≡ list_any is_escaped name.now }
+{
+    name.iter().any(|byte| is_escaped(*byte))
+}
+
+// A name as it is printed, where each of its bytes is printed as itself.
+#[tactic(auto, using(crate::proofs::Escapes::plain_is_escaped))]
+fn plain(name: &[u8]) -> Option<&str>
+    ensures { IfSome result (λ text. text.now ≡ escaped name.now) }
+{
+    if has_escaped(name) {
+        return None;
+    }
+    str::from_utf8(name).ok()
+}
+
 #[tactic(auto, using(crate::proofs::Escapes::two_digits), unfolding(crate::specs::Answers::escaped_byte))]
 impl fmt::Display for EscapedByte {
     ghost use Rattle.std.specs.Prelude.{Some};
@@ -28,7 +53,7 @@ impl fmt::Display for EscapedByte {
 
     fn fmt<W: fmt::Write>(&self, f: &mut fmt::Formatter<W>) -> fmt::Result {
         let byte = self.0;
-        if byte < 0x20 || byte > 0x7e || byte == b'\\' {
+        if is_escaped(byte) {
             write!(f, "\\x{byte:02x}")
         } else {
             f.write_char(char::from(byte))
@@ -43,6 +68,9 @@ impl<'a> fmt::Display for Escaped<'a> {
     ghost output = { λ name. Some (escaped name.0.now) };
 
     fn fmt<W: fmt::Write>(&self, f: &mut fmt::Formatter<W>) -> fmt::Result {
+        if let Some(text) = plain(self.0) {
+            return f.write_str(text);
+        }
         'bytes: for byte in self.0 {
             let byte = EscapedByte(*byte);
             write!(f, "{byte}")?;
