@@ -108,7 +108,9 @@ impl<'a> Searched<'a> {
         }
     }
 
-    // Whether a symbol of the slice has the name.
+    // Whether a symbol of the slice has the name. Not inlined, nor is `rows`: a scan has 16 KiB on the stack, and where
+    // there is no memory for a stack that grows, the program is ended and cannot tell it.
+    #[inline(never)]
     pub(crate) fn has_name(&self, name: &[u8]) -> bool
         ensures { result ≡ nat_lt 0 (length (named self.now name.now)) }
     {
@@ -117,6 +119,7 @@ impl<'a> Searched<'a> {
     }
 
     // The rows of a name in the slice.
+    #[inline(never)]
     pub(crate) fn rows(&self, heap: Heap, name: &[u8]) -> Result<Vec<NameRow<'a>, Heap>, NoMemory>
         ensures { IfOk result (λ rows. map name_view rows.items ≡ names_in name.now self.now) }
     {
