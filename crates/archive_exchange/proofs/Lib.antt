@@ -4,6 +4,7 @@ pub mod Accepting
 pub mod Rows
 pub mod Fronts
 pub mod Resumed
+pub mod Redelivered
 pub mod RowPlaces
 pub mod FaultLaws
 pub mod Texts

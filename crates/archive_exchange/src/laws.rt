@@ -6,6 +6,7 @@ ghost use Rattle.std.specs.Prelude.{◌≡◌, ◌≢◌, ◌⊎◌, ◌↔◌, 
 ghost use Rattle.archive_core.specs.Content.{Operations, IsMade, IsContent, IsBelow};
 ghost use Rattle.archive_core.specs.Valid.{IsValid};
 ghost use Rattle.archive_exchange.specs.File.{IsAcceptedFile, IsTakeFault, is_admissible, admissible, parts};
+ghost use Rattle.archive_exchange.specs.Keeping.{Keeping, HasJoined, HasJoinedInPart};
 ghost use Rattle.archive_exchange.specs.Take.{admitted, taken_of, taken_rows, IsTakenInPart};
 ghost use Rattle.archive_exchange.specs.Seen.{Seen, AreSeen};
 ghost use Rattle.archive_exchange.specs.declared.event.Event.{Event};
@@ -65,6 +66,22 @@ pub fn taking_resumed()
         → IsMade o
         → IsTakenInPart file o mid
         → admitted mid (admissible file) ≡ admitted o (admissible file) }
+{}
+
+/// A delivery that stopped half way left a content between the old one and the one asked for, and gives the latter when
+/// it is made again.
+pub fn delivery_resumed()
+    ensures above { (text : List ℕ) (old mid : Keeping) → HasJoinedInPart text old mid → IsBelow old.held mid.held }
+    ensures below { (text : List ℕ) (old mid new : Keeping)
+        → IsContent old.held
+        → HasJoinedInPart text old mid
+        → HasJoined text old new
+        → IsBelow mid.held new.held }
+    ensures again { (text : List ℕ) (old mid new : Keeping)
+        → IsContent old.held
+        → HasJoinedInPart text old mid
+        → HasJoined text mid new
+        → HasJoined text old new }
 {}
 
 /// Each list of events is one list to the definitions of `exchange_model`.
