@@ -11,3 +11,5 @@ pub mod Entries
 pub mod Summaries
 pub mod Beginnings
 pub mod Naming
+pub mod Listed
+pub mod Parts

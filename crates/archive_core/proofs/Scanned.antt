@@ -1,5 +1,5 @@
 -- What a plain archive tells as it goes through its operations.
-use Rattle.std.proofs.Common.{◌≡◌, ◌⊎◌, ◌+◌, ℕ, zero, suc, Bool, true, false, ◌&&◌, ◌||◌, not, cond, List, [], ◌∷◌, ◌<◌, length, take, slice_index_or, map, filter, ◌++◌, Option, Some, None, if◌then◌else◌, refl, sym, ap, ◌∙◌, inl, inr, arith, subst, add-one}
+use Rattle.std.proofs.Common.{◌≡◌, ◌↔◌, ◌⊎◌, ◌+◌, ℕ, zero, suc, Bool, true, false, ◌&&◌, ◌||◌, not, cond, List, [], ◌∷◌, ◌<◌, length, take, slice_index_or, map, filter, ◌++◌, Option, Some, None, if◌then◌else◌, refl, sym, ap, ◌∙◌, inl, inr, arith, subst, add-one}
 use mathlib.Core.Bool.{true≢false}
 use Rattle.std.specs.declared.cmp.Ordering.{Ordering}
 use Rattle.std.specs.declared.cmp.Ordering.TheVariants.{Less, Equal, Greater}
@@ -182,14 +182,15 @@ module _ {X : Type 0} where
           | inr there ↦ there
         ]
 
+-- what the second order tells apart is not tied
+pub untied : (r s : Ordering) → is_eq s ≡ false → is_eq (ordering_then r s) ≡ false
+untied Less s h = refl
+untied Equal s h = h
+untied Greater s h = refl
+
 -- operations that the order of rows ties have one record
-untied_records : (a b : Operation) → eq_by_cmp (on rec (slice_cmp nat_cmp)) a b ≡ false → eq_by_cmp find_cmp a b ≡ false
+pub untied_records : (a b : Operation) → eq_by_cmp (on rec (slice_cmp nat_cmp)) a b ≡ false → eq_by_cmp find_cmp a b ≡ false
 untied_records a b = untied (arch_cmp (key_in a).arch (key_in b).arch) (slice_cmp nat_cmp (rec a) (rec b))
-  where
-    untied : (r s : Ordering) → is_eq s ≡ false → is_eq (ordering_then r s) ≡ false
-    untied Less s h = refl
-    untied Equal s h = h
-    untied Greater s h = refl
 
 -- an operation among others has its record among theirs
 pub record_there : (operations : List Operation) (a : Operation) → Contains operations a → contains (from_list {R = slice_cmp nat_cmp} (map rec operations)) (rec a) ≡ true
@@ -236,32 +237,42 @@ test_of_finding : (o : Operations) (uuid : List ℕ) (a : Operation) → IsFindi
 test_of_finding o uuid (Admit slice) h = (h.1.admitted, (λ i. (bytes_eq-Decides (key_of slice).uuid uuid).1 h.0 i && not (h.1.kept i)))
 test_of_finding o uuid (Retire key digest) h = (h.1, (bytes_eq-Decides key.uuid uuid).1 h.0)
 
+-- operations that are told: all that have a fact, strictly ascending
+pub record AreTold (R : Operation → Operation → Ordering) (P : Operation → Type 0) (told : List Operation) : Type 0 where
+  pub ascending : IsStrictlySortedBy R told
+  pub exactly : (a : Operation) → Contains told a ↔ (IsOperation a × P a)
+
+-- those of a content that pass a test, sorted, are told where the test decides the fact
+module _ (o : Operations) (R : Operation → Operation → Ordering) (total : IsTotalOrder R) (apart : (a b : Operation) → eq_by_cmp (on rec (slice_cmp nat_cmp)) a b ≡ false → eq_by_cmp R a b ≡ false)
+    (test : Operation → Bool) (P : Operation → Type 0) (by_test : (a : Operation) → contains o (rec a) ≡ true → test a ≡ true → P a) (of_fact : (a : Operation) → P a → (contains o (rec a) ≡ true) × (test a ≡ true)) where
+  pub told_sorted : (operations told : List Operation) → IsHeld operations → from_list (map rec operations) ≡ o → IsPermutation (filter test operations) told → IsSorted R told → AreTold R P told
+  told_sorted operations told held is permuted sorted =
+      let by_record = IsStrictlySortedBy-filter (on rec (slice_cmp nat_cmp)) test operations (ascending_by (slice_cmp nat_cmp) rec operations held.ascending) in
+      let differ = distinct_finer (eq_by_cmp (on rec (slice_cmp nat_cmp))) (eq_by_cmp R) apart (filter test operations) (IsDistinct-from_sorted (on rec (slice_cmp nat_cmp)) (filter test operations) by_record) in
+      record {
+        ascending = ascending_from_distinct total told sorted (IsDistinct-IsPermutation (eq_by_cmp R) (eq_by_cmp_equiv total).symm (filter test operations) told permuted differ);
+        exactly = λ a. (to a, back a);
+      }
+    where
+      to : (a : Operation) → Contains told a → IsOperation a × P a
+      to a h =
+          let kept = in_filter test operations a (Contains-permutation told (filter test operations) a (IsPermutation-sym (filter test operations) told permuted) h) in (
+            All-contains IsOperation operations a (All-from_recursion IsOperation operations held.are) kept.0,
+            by_test a (ap (λ s. contains s (rec a)) (sym is) ∙ record_there operations a kept.0) kept.1,
+          )
+
+      back : (a : Operation) → IsOperation a × P a → Contains told a
+      back a h =
+          let tested = of_fact a h.1 in
+          let there = operation_there operations a held.are h.0 (ap (λ s. contains s (rec a)) is ∙ tested.0) in
+          Contains-permutation (filter test operations) told a permuted (to_filter test operations a there tested.1)
+
 -- the told operations of a plain archive, sorted, are those that a search tells
 pub finds_sorted : (o : Operations) (uuid : List ℕ) (operations told : List Operation) → IsHeld operations → from_list (map rec operations) ≡ o
     → IsPermutation (filter (is_finding o uuid) operations) told → IsSorted find_cmp told → IsFinds o uuid (map row_of told)
 finds_sorted o uuid operations told held is permuted sorted =
-    let found = filter (is_finding o uuid) operations in
-    let by_record = IsStrictlySortedBy-filter (on rec (slice_cmp nat_cmp)) (is_finding o uuid) operations (ascending_by (slice_cmp nat_cmp) rec operations held.ascending) in
-    let apart = distinct_finer (eq_by_cmp (on rec (slice_cmp nat_cmp))) (eq_by_cmp find_cmp) untied_records found (IsDistinct-from_sorted (on rec (slice_cmp nat_cmp)) found by_record) in
-    record {
-      operations = told;
-      ascending = ascending_from_distinct find_total told sorted (IsDistinct-IsPermutation (eq_by_cmp find_cmp) (eq_by_cmp_equiv find_total).symm found told permuted apart);
-      exactly = λ a. (to a, back a);
-      rows_are = refl;
-    }
-  where
-    to : (a : Operation) → Contains told a → IsOperation a × IsFinding o uuid a
-    to a h =
-        let kept = in_filter (is_finding o uuid) operations a (Contains-permutation told (filter (is_finding o uuid) operations) a (IsPermutation-sym (filter (is_finding o uuid) operations) told permuted) h) in (
-          All-contains IsOperation operations a (All-from_recursion IsOperation operations held.are) kept.0,
-          finding_by_test o uuid a (ap (λ s. contains s (rec a)) (sym is) ∙ record_there operations a kept.0) kept.1,
-        )
-
-    back : (a : Operation) → IsOperation a × IsFinding o uuid a → Contains told a
-    back a h =
-        let tested = test_of_finding o uuid a h.1 in
-        let there = operation_there operations a held.are h.0 (ap (λ s. contains s (rec a)) is ∙ tested.0) in
-        Contains-permutation (filter (is_finding o uuid) operations) told a permuted (to_filter (is_finding o uuid) operations a there tested.1)
+    let are = told_sorted o find_cmp find_total untied_records (is_finding o uuid) (IsFinding o uuid) (finding_by_test o uuid) (test_of_finding o uuid) operations told held is permuted sorted in
+    record { operations = told; ascending = are.ascending; exactly = are.exactly; rows_are = refl }
 
 -- a content and a UUID have one list of rows
 pub one_list_of_rows : (o : Operations) (uuid : List ℕ) (rows others : List FindRow) → IsFinds o uuid rows → IsFinds o uuid others → rows ≡ others

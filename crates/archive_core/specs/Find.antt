@@ -11,6 +11,7 @@ use Rattle.archive_core.specs.Valid.{key_of}
 use Rattle.archive_core.specs.Record.{rec, admission_record, retirement_record, IsOperation}
 use Rattle.archive_core.specs.Content.{Operations, IsLive, IsAnswering}
 use Rattle.archive_core.specs.declared.keys.ArchKey.{ArchKey}
+use Rattle.archive_core.specs.declared.keys.Digest.{Digest}
 use Rattle.archive_core.specs.declared.keys.SliceKey.{SliceKey}
 use Rattle.archive_core.specs.declared.find.FindRow.{FindRow}
 use Rattle.archive_core.specs.declared.find.FindState.{FindState}
@@ -40,10 +41,19 @@ IsFinding o uuid (Retire key digest) = (key.uuid ≡ uuid) × (set.contains o (r
 abbrev pub state_of : List ℕ → FindState
 state_of slice = if is_dsym_image slice then Dsym else Image
 
+-- the SHA-256 of the slice that an operation admits, or the one that it retires
+abbrev pub digest_in : Operation → Digest
+digest_in (Admit slice) = record { 0 = sha256 slice }
+digest_in (Retire key digest) = digest
+
+-- what its row stands for
+abbrev pub state_in : Operation → FindState
+state_in (Admit slice) = state_of slice
+state_in (Retire key digest) = Retired
+
 -- the row of an operation
 abbrev pub row_of : Operation → FindRow
-row_of (Admit slice) = record { arch = (key_of slice).arch; digest = record { 0 = sha256 slice }; state = state_of slice }
-row_of (Retire key digest) = record { arch = key.arch; digest = digest; state = Retired }
+row_of operation = record { key = key_in operation; digest = digest_in operation; state = state_in operation }
 
 -- what a search tells: one row for each retirement and each live slice of the UUID, by architecture, then by record
 pub record IsFinds (o : Operations) (uuid : List ℕ) (rows : List FindRow) : Type 0 where
@@ -70,11 +80,11 @@ is_arch a b = (a.cputype == b.cputype) && (a.subtype == b.subtype)
 
 -- a row of a live companion of the architecture
 abbrev pub is_dsym_row : ArchKey → FindRow → Bool
-is_dsym_row arch row = is_arch row.arch arch && is_dsym row.state
+is_dsym_row arch row = is_arch row.key.arch arch && is_dsym row.state
 
 -- a row of another live slice of the architecture
 abbrev pub is_image_row : ArchKey → FindRow → Bool
-is_image_row arch row = is_arch row.arch arch && is_image row.state
+is_image_row arch row = is_arch row.key.arch arch && is_image row.state
 
 -- how many slices of an architecture answer, as rows tell it: the companions, or else the images
 abbrev pub answering_count : List FindRow → ArchKey → ℕ

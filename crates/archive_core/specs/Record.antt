@@ -49,7 +49,11 @@ abbrev pub rec : Operation → List ℕ
 rec (Admit slice) = admission_record slice
 rec (Retire key digest) = retirement_record key digest.0
 
+-- the operation that is lent
+abbrev pub operation_lent : Record → Operation
+operation_lent (Lent_Admit slice) = Admit slice.now
+operation_lent (Lent_Retire key digest) = Retire key digest
+
 -- the record of an operation that is lent
 abbrev pub lent : Record → List ℕ
-lent (Lent_Admit slice) = admission_record slice.now
-lent (Lent_Retire key digest) = retirement_record key digest.0
+lent operation = rec (operation_lent operation)

@@ -1,11 +1,11 @@
-//! What a search for a UUID tells.
-use crate::{ArchKey, Digest};
+//! What a search for a UUID tells, and what a list of all tells.
+use crate::{Digest, SliceKey};
 
-/// A retirement, or a live slice, under some UUID.
+/// A retirement, or a live slice.
 #[derive(Clone, Copy, Debug, PartialEq, Eq)]
 pub struct FindRow {
-    /// The architecture of its key.
-    pub arch: ArchKey,
+    /// Its key.
+    pub key: SliceKey,
     /// The SHA-256 of the slice's bytes, or the one that the retirement names.
     pub digest: Digest,
     /// Which of the two it is, and of which kind a slice.

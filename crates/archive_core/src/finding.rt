@@ -1,8 +1,11 @@
 //! An operation beside the row that a search tells of it.
 ghost use Rattle.std.specs.Prelude.{◌≡◌, map, IfOk};
 ghost use Rattle.archive_core.specs.Find.{find_cmp, row_of, state_of};
+ghost use Rattle.archive_core.specs.Lists.{list_cmp};
+ghost use Rattle.archive_core.specs.Record.{IsOperation, operation_lent};
+ghost use Rattle.archive_core.specs.declared.operations.Operation.TheVariants.{Admit, Retire};
 
-use crate::{FindRow, FindState, Operation, Slice};
+use crate::{Digest, FindRow, FindState, Record, Slice, SliceKey};
 use memory::{Heap, NoMemory};
 use std::cmp::Ordering;
 use std::marker::Model;
@@ -11,37 +14,64 @@ use std::marker::Model;
 /// it as the operation.
 #[derive(Drop)]
 pub struct Finding<'a> {
-    operation: &'a Operation,
+    operation: Record<'a>,
     row: FindRow,
 }
 
 impl<'a> Model for Finding<'a> {
     ghost use Rattle.std.specs.Prelude.{◌≡◌};
     ghost use Rattle.archive_core.specs.Find.{row_of};
+    ghost use Rattle.archive_core.specs.Record.{operation_lent};
     ghost use Rattle.archive_core.specs.declared.operations.Operation.{Operation};
 
     ghost Value = { Operation };
 
-    ghost view = { λ finding. finding.operation.now };
+    ghost view = { λ finding. operation_lent finding.operation };
 
-    ghost invariant = { λ finding. finding.row ≡ row_of finding.operation.now };
+    ghost invariant = { λ finding. finding.row ≡ row_of (operation_lent finding.operation) };
 }
 
 impl<'a> Finding<'a> {
     /// The operation with its row.
-    pub fn of(operation: &'a Operation) -> Finding<'a>
-        ensures { result ≡ operation.now }
+    pub fn of(operation: &Record<'a>) -> Finding<'a>
+        ensures finding { result ≡ operation_lent operation.now }
+        ensures operation { IsOperation (operation_lent operation.now) }
     {
-        let (digest, state) = match operation {
-            Operation::Admit(slice) => (slice.digest(), state_in(slice)),
-            Operation::Retire(_, digest) => (*digest, FindState::Retired),
-        };
+        match operation {
+            Record::Admit(slice) => Finding::of_slice(slice),
+            Record::Retire(key, digest) => Finding::of_retirement(*key, *digest),
+        }
+    }
+
+    // The admission of a slice, with its row.
+    fn of_slice(slice: &'a Slice) -> Finding<'a>
+        ensures finding { result ≡ Admit slice.now }
+        ensures operation { IsOperation (Admit slice.now) }
+    {
+        Finding {
+            operation: Record::Admit(slice),
+            row: FindRow {
+                key: slice.key(),
+                digest: slice.digest(),
+                state: state_in(slice),
+            },
+        }
+    }
+
+    // A retirement, with its row.
+    fn of_retirement(key: SliceKey, digest: Digest) -> Finding<'a>
+        ensures finding { result ≡ Retire key digest }
+        ensures operation { IsOperation (Retire key digest) }
+    {
         let row = FindRow {
-            arch: operation.key().arch,
+            key,
             digest,
-            state,
+            state: FindState::Retired,
         };
-        Finding { operation, row }
+        Finding {
+            operation: Record::Retire(row.key, row.digest),
+            row,
+        }
     }
 
     /// The row.
@@ -55,13 +85,25 @@ impl<'a> Finding<'a> {
     pub fn compare(&self, other: &Finding<'_>) -> Ordering
         ensures { result ≡ find_cmp self.now other.now }
     {
-        let first = self.row.arch;
-        let second = other.row.arch;
+        let first = self.row.key.arch;
+        let second = other.row.key.arch;
         first
             .cputype
             .cmp(&second.cputype)
             .then(first.subtype.cmp(&second.subtype))
-            .then_with(|| self.operation.compare(other.operation))
+            .then(self.operation.compare(&other.operation))
+    }
+
+    /// Compares by UUID, then by architecture, then by record.
+    pub fn compare_all(&self, other: &Finding<'_>) -> Ordering
+        ensures { result ≡ list_cmp self.now other.now }
+    {
+        let first = self.row.key.uuid;
+        let second = other.row.key.uuid;
+        first
+            .as_bytes()
+            .cmp(second.as_bytes())
+            .then(self.compare(other))
     }
 }
 

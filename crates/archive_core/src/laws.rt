@@ -6,6 +6,8 @@ ghost use Rattle.std.specs.Prelude.{◌≡◌, ◌⊎◌, ◌↔◌, ◌&&◌, �
 ghost use Rattle.std.specs.Ordering.{nat_cmp};
 ghost use Rattle.std.specs.Cmp.Lexicographic.{slice_cmp};
 ghost use Rattle.std.specs.FinSet as set;
+ghost use Rattle.std.specs.List.{flat_map};
+ghost use Rattle.std.specs.List.Sorted.{IsStrictlySortedBy};
 ghost use Rattle.sha2.specs.Sha256.{sha256};
 ghost use Rattle.join_core.specs.Bound.{IsLeastAbove};
 ghost use Rattle.archive_core.specs.Key.{IsKey, key_bytes};
@@ -14,6 +16,7 @@ ghost use Rattle.archive_core.specs.Record.{IsRecord, Admits, IsOperation, rec, 
 ghost use Rattle.archive_core.specs.Content.{Operations, made, IsMade, IsContent, IsBelow, with_record, with_records, changes, joined, HaveSameMembers, IsLive};
 ghost use Rattle.archive_core.specs.Summary.{Entries, entry, summary, delta, DigestsTell};
 ghost use Rattle.archive_core.specs.Find.{IsFinds, AreAnswering, answering_count};
+ghost use Rattle.archive_core.specs.Lists.{IsList, rows_under};
 ghost use Rattle.archive_core.specs.Lookup.{AnswerRecord, IsAnswer};
 ghost use Rattle.archive_core.specs.Names.{NameRecord, IsNames};
 ghost use Rattle.join_core.specs.Listing.{IsListing, listing};
@@ -224,6 +227,30 @@ pub fn one_find()
         → rows ≡ others }
 {}
 
+/// A content has one list of all its rows.
+pub fn one_list()
+    ensures { (o : Operations) (rows others : List FindRow) → IsList o rows → IsList o others → rows ≡ others }
+{}
+
+/// What a search for a UUID tells is the part of the list that is under it, and the list is such parts, one behind
+/// another, UUIDs ascending.
+pub fn finds_are_parts()
+    ensures part { (o : Operations) (uuid : List ℕ) (rows : List FindRow)
+        → IsList o rows
+        → IsFinds o uuid (rows_under uuid rows) }
+    ensures found { (o : Operations) (uuid : List ℕ) (rows found : List FindRow)
+        → IsList o rows
+        → IsFinds o uuid found
+        → found ≡ rows_under uuid rows }
+    ensures parts { (o : Operations) (rows : List FindRow)
+        → IsList o rows
+        → (uuids : List (List ℕ))
+        × IsStrictlySortedBy (slice_cmp nat_cmp) uuids
+        × (rows ≡ flat_map (λ uuid. rows_under uuid rows) uuids) }
+{
+    one_find();
+}
+
 /// A content and a name have one list of rows.
 pub fn one_find_name()
     ensures { (o : Operations) (name : List ℕ) (rows others : List NameRecord)
@@ -271,6 +298,11 @@ pub fn alike<A: Archive, B: Archive>()
         → IsFinds (A.content a) uuid rows
         → IsFinds (B.content b) uuid others
         → rows ≡ others }
+    ensures list { (a : A) (b : B) (rows others : List FindRow)
+        → A.content a ≡ B.content b
+        → IsList (A.content a) rows
+        → IsList (B.content b) others
+        → rows ≡ others }
     ensures find_name { (a : A) (b : B) (name : List ℕ) (rows others : List NameRecord)
         → A.content a ≡ B.content b
         → IsNames (A.content a) name rows
@@ -278,6 +310,7 @@ pub fn alike<A: Archive, B: Archive>()
         → rows ≡ others }
 {
     one_find();
+    one_list();
     one_find_name();
     one_answer();
 }

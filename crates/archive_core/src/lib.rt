@@ -15,6 +15,7 @@
 //! - `names`: what a search for a name tells;
 //! - `archives`: the trait [`Archive`];
 //! - `finding`: an operation beside the row that a search tells of it;
+//! - `lists`: what a list of all tells;
 //! - `live`: slices that answer under a key, and what they tell;
 //! - `plain`: an archive as a sorted list;
 //! - [`laws`]: what holds of records, contents, joins, summaries, rows and answers.
@@ -26,6 +27,7 @@ mod find;
 mod finding;
 mod keys;
 pub mod laws;
+mod lists;
 mod live;
 mod lookup;
 mod names;
@@ -38,6 +40,7 @@ pub use faults::{AdmitFault, SliceFault};
 pub use find::{FindRow, FindState};
 pub use finding::{Finding, rows_of};
 pub use keys::{ArchKey, Digest, SliceKey, compare_keys};
+pub use lists::list;
 pub use live::{answer_of_one, file_address, is_key, is_kind};
 pub use lookup::{Answer, Own, Where};
 pub use names::{NameRow, put_in_order, rows_in};

@@ -2,7 +2,7 @@
 ghost use Rattle.std.specs.Prelude.{◌≡◌, IfOk};
 ghost use Rattle.std.specs.Ordering.{nat_cmp};
 ghost use Rattle.std.specs.Cmp.Lexicographic.{slice_cmp};
-ghost use Rattle.archive_core.specs.Record.{rec, lent, admission};
+ghost use Rattle.archive_core.specs.Record.{rec, lent, operation_lent, admission};
 ghost use Rattle.archive_core.specs.Find.{key_in};
 
 use crate::keys::compare_keys;
@@ -42,7 +42,8 @@ impl Operation {
 
     /// The operation, lent.
     pub fn lend(&self) -> Record<'_>
-        ensures { lent result ≡ rec self.now }
+        ensures record { lent result ≡ rec self.now }
+        ensures operation { operation_lent result ≡ self.now }
     {
         match self {
             Operation::Admit(slice) => Record::Admit(slice),
@@ -75,6 +76,24 @@ impl Operation {
         match self {
             Operation::Admit(slice) => slice.key(),
             Operation::Retire(key, _) => *key,
+        }
+    }
+}
+
+impl<'a> Record<'a> {
+    /// Compares two records, byte by byte, without building them.
+    pub fn compare(&self, other: &Record<'_>) -> Ordering
+        ensures { result ≡ slice_cmp nat_cmp (lent self.now) (lent other.now) }
+    {
+        match self {
+            Record::Admit(slice) => match other {
+                Record::Admit(that) => compare_admissions(slice, that),
+                Record::Retire(_, _) => Ordering::Greater,
+            },
+            Record::Retire(key, digest) => match other {
+                Record::Admit(_) => Ordering::Less,
+                Record::Retire(that, other) => compare_keys(key, that).then(digest.0.cmp(&other.0)),
+            },
         }
     }
 }

@@ -92,7 +92,7 @@ impl PlainArchive {
         if key.uuid != *uuid {
             return None;
         }
-        let finding = Finding::of(operation);
+        let finding = Finding::of(&operation.lend());
         match finding.row().state {
             FindState::Retired => Some(finding),
             FindState::Image | FindState::Dsym => {

@@ -187,7 +187,7 @@ impl IndexedArchive {
         if key.uuid != *uuid {
             return None;
         }
-        let finding = Finding::of(operation);
+        let finding = Finding::of(&operation.lend());
         match finding.row().state {
             FindState::Retired => Some(finding),
             FindState::Image | FindState::Dsym => {

@@ -1,15 +1,53 @@
-//! The lines of `find`.
+//! The lines of `find` and of `list`.
 ghost use Rattle.std.specs.Prelude.{◌≡◌, ◌≤◌, ◌++◌, length, IfOk, OnOk, string_bytes};
 ghost use Rattle.std.specs.List.{prefix_len, flat_map};
-ghost use Rattle.archive_core.specs.Find.{is_arch, is_dsym_row, is_image_row, answering_count};
+ghost use Rattle.archive_core.specs.Find.{is_dsym_row, is_image_row, answering_count};
+ghost use Rattle.archive_core.specs.InnerScan.{is_key};
 ghost use Rattle.report_text.specs.Report.{line};
-ghost use Rattle.report_text.specs.Finds.{conflict_line, find_row_text, find_lines};
+ghost use Rattle.report_text.specs.Finds.{conflict_line, find_row_text, groups_lines, find_lines, list_lines};
 
 use crate::Text;
-use archive_core::{ArchKey, FindRow, FindState};
+use archive_core::{ArchKey, FindRow, FindState, SliceKey, is_key};
 use archive_words::Spelled;
 use memory::{Heap, NoMemory};
 use std::fmt;
+
+// What a line tells of a key.
+#[derive(Clone, Copy)]
+enum KeyForm {
+    // The architecture, where all lines are under one UUID.
+    Arch,
+    // The UUID too.
+    Whole,
+}
+
+// A key as a line tells it.
+#[derive(Clone, Copy)]
+struct KeyText {
+    form: KeyForm,
+    key: SliceKey,
+}
+
+// A row as a line tells it.
+#[derive(Clone, Copy)]
+struct Row {
+    form: KeyForm,
+    row: FindRow,
+}
+
+impl fmt::Display for KeyText {
+    ghost use Rattle.std.specs.Prelude.{Some};
+    ghost use Rattle.report_text.specs.Finds.{key_form_text};
+
+    ghost output = { λ text. Some (key_form_text text.form text.key) };
+
+    fn fmt<W: fmt::Write>(&self, f: &mut fmt::Formatter<W>) -> fmt::Result {
+        match self.form {
+            KeyForm::Arch => Spelled(self.key.arch).fmt(f),
+            KeyForm::Whole => Text(self.key).fmt(f),
+        }
+    }
+}
 
 #[tactic(auto, unfolding(crate::specs::Finds::find_state_text))]
 impl fmt::Display for Text<FindState> {
@@ -28,17 +66,20 @@ impl fmt::Display for Text<FindState> {
 }
 
 #[tactic(auto, unfolding(crate::specs::Finds::find_row_text))]
-impl fmt::Display for Text<FindRow> {
+impl fmt::Display for Row {
     ghost use Rattle.std.specs.Prelude.{Some};
     ghost use Rattle.report_text.specs.Finds.{find_row_text};
 
-    ghost output = { λ text. Some (find_row_text text.0) };
+    ghost output = { λ row. Some (find_row_text row.form row.row) };
 
     fn fmt<W: fmt::Write>(&self, f: &mut fmt::Formatter<W>) -> fmt::Result {
-        let arch = Spelled(self.0.arch);
-        let state = Text(self.0.state);
-        let digest = Spelled(self.0.digest);
-        write!(f, "{arch} {state} {digest}")
+        let key = KeyText {
+            form: self.form,
+            key: self.row.key,
+        };
+        let state = Text(self.row.state);
+        let digest = Spelled(self.row.digest);
+        write!(f, "{key} {state} {digest}")
     }
 }
 
@@ -46,14 +87,14 @@ impl fmt::Display for Text<FindRow> {
 fn is_dsym_row(arch: ArchKey, row: &FindRow) -> bool
     ensures { result ≡ is_dsym_row arch row.now }
 {
-    row.arch == arch && matches!(row.state, FindState::Dsym)
+    row.key.arch == arch && matches!(row.state, FindState::Dsym)
 }
 
 // Whether a row is of another live slice of the architecture.
 fn is_image_row(arch: ArchKey, row: &FindRow) -> bool
     ensures { result ≡ is_image_row arch row.now }
 {
-    row.arch == arch && matches!(row.state, FindState::Image)
+    row.key.arch == arch && matches!(row.state, FindState::Image)
 }
 
 // How many slices of an architecture answer, as rows tell it.
@@ -68,20 +109,20 @@ fn answering_count(rows: &[FindRow], arch: ArchKey) -> usize
     }
 }
 
-// How many rows of an architecture stand at the front.
-fn group_len(rows: &[FindRow], arch: ArchKey) -> usize
-    ensures len { result ≡ prefix_len (λ row. is_arch row.arch arch) rows.now }
+// How many rows of a key stand at the front.
+fn group_len(rows: &[FindRow], key: &SliceKey) -> usize
+    ensures len { result ≡ prefix_len (λ row. is_key row.key key.now) rows.now }
     ensures within { result ≤ length rows.now }
 {
-    rows.iter().take_while(|row| row.arch == arch).count()
+    rows.iter().take_while(|row| is_key(&row.key, key)).count()
 }
 
 // Writes a line a row.
-fn push_rows(text: &mut String<Heap>, rows: &[FindRow]) -> Result<(), NoMemory>
-    ensures { OnOk result (string_bytes text.new ≡ string_bytes text.old ++ flat_map (λ row. line (find_row_text row)) rows.now) }
+fn push_rows(text: &mut String<Heap>, form: KeyForm, rows: &[FindRow]) -> Result<(), NoMemory>
+    ensures { OnOk result (string_bytes text.new ≡ string_bytes text.old ++ flat_map (λ row. line (find_row_text form row)) rows.now) }
 {
     'rows: for row in rows {
-        let row = Text(*row);
+        let row = Row { form, row: *row };
         writeln!(text, "{row}")?;
     }
     Ok(())
@@ -89,14 +130,35 @@ fn push_rows(text: &mut String<Heap>, rows: &[FindRow]) -> Result<(), NoMemory>
 
 // Writes the line of a conflict where several slices answer.
 #[tactic(auto, unfolding(crate::specs::Finds::conflict_line))]
-fn push_conflict(text: &mut String<Heap>, arch: ArchKey, count: usize) -> Result<(), NoMemory>
-    ensures { OnOk result (string_bytes text.new ≡ string_bytes text.old ++ conflict_line arch count) }
+fn push_conflict(
+    text: &mut String<Heap>,
+    form: KeyForm,
+    key: SliceKey,
+    count: usize,
+) -> Result<(), NoMemory>
+    ensures { OnOk result (string_bytes text.new ≡ string_bytes text.old ++ conflict_line form key count) }
 {
     if count >= 2 {
-        let arch = Spelled(arch);
-        writeln!(text, "{arch} conflict {count}")?;
+        let key = KeyText { form, key };
+        writeln!(text, "{key} conflict {count}")?;
     }
     Ok(())
+}
+
+// A line a row, and behind the rows of a key the line of its conflict.
+fn groups_lines(heap: Heap, form: KeyForm, rows: &[FindRow]) -> Result<String<Heap>, NoMemory>
+    ensures { IfOk result (λ text. string_bytes text ≡ groups_lines form rows.now) }
+{
+    let mut text = String::new(heap);
+    let mut rest = rows;
+    'groups: while let Some(first) = rest.first() {
+        let key = first.key;
+        let (group, others) = rest.split_at(group_len(rest, &key));
+        push_rows(&mut text, form, group)?;
+        push_conflict(&mut text, form, key, answering_count(group, key.arch))?;
+        rest = others;
+    }
+    Ok(text)
 }
 
 /// The lines of `find`: one a row, and after the rows of an architecture for which several slices
@@ -104,14 +166,12 @@ fn push_conflict(text: &mut String<Heap>, arch: ArchKey, count: usize) -> Result
 pub fn find_lines(heap: Heap, rows: &[FindRow]) -> Result<String<Heap>, NoMemory>
     ensures { IfOk result (λ text. string_bytes text ≡ find_lines rows.now) }
 {
-    let mut text = String::new(heap);
-    let mut rest = rows;
-    'groups: while let Some(first) = rest.first() {
-        let arch = first.arch;
-        let (group, others) = rest.split_at(group_len(rest, arch));
-        push_rows(&mut text, group)?;
-        push_conflict(&mut text, arch, answering_count(group, arch))?;
-        rest = others;
-    }
-    Ok(text)
+    groups_lines(heap, KeyForm::Arch, rows)
+}
+
+/// The lines of `list`: those of `find` for each UUID, with the UUID in front of each.
+pub fn list_lines(heap: Heap, rows: &[FindRow]) -> Result<String<Heap>, NoMemory>
+    ensures { IfOk result (λ text. string_bytes text ≡ list_lines rows.now) }
+{
+    groups_lines(heap, KeyForm::Whole, rows)
 }

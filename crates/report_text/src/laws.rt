@@ -1,8 +1,9 @@
-//! What holds of the lines of `find`.
+//! What holds of the lines of `find` and of `list`.
 ghost use Rattle.std.specs.Prelude.{◌≡◌, ℕ, List, All};
 ghost use Rattle.std.specs.List.{flat_map};
 ghost use Rattle.archive_core.specs.Content.{Operations};
 ghost use Rattle.archive_core.specs.Find.{IsFinds, answering_count};
+ghost use Rattle.archive_core.specs.Lists.{IsList, rows_under};
 ghost use Rattle.archive_core.specs.declared.find.FindRow.{FindRow};
 ghost use Rattle.report_text.specs.Finds.{groups};
 
@@ -14,5 +15,16 @@ pub fn groups_are_rows()
 /// In what a search tells, each group has as many slices that answer as all rows tell of its
 /// architecture, so a conflict tells how many answer under the UUID and the architecture.
 pub fn conflicts_count_answering()
-    ensures { (o : Operations) (uuid : List ℕ) (rows : List FindRow) → IsFinds o uuid rows → All (λ group. answering_count group.rows group.arch ≡ answering_count rows group.arch) (groups rows) }
+    ensures { (o : Operations) (uuid : List ℕ) (rows : List FindRow)
+        → IsFinds o uuid rows
+        → All (λ group. answering_count group.rows group.key.arch ≡ answering_count rows group.key.arch) (groups rows) }
+{}
+
+/// In what a list tells, each group has as many slices that answer as the rows of its UUID tell of its architecture,
+/// and these rows are what a search for the UUID tells (`archive_core::laws::finds_are_parts`).
+pub fn list_conflicts_count_answering()
+    ensures { (o : Operations) (rows : List FindRow)
+        → IsList o rows
+        → All (λ group. answering_count group.rows group.key.arch
+        ≡ answering_count (rows_under group.key.uuid rows) group.key.arch) (groups rows) }
 {}

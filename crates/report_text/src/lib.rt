@@ -3,11 +3,11 @@
 //! - `texts`: the printed texts of faults;
 //! - `rows`: keys and the rows of reports;
 //! - `report`: reports, made whole in memory;
-//! - `finds`: the lines of `find`;
+//! - `finds`: the lines of `find` and of `list`;
 //! - `answers`: the lines of `symbolicate`;
 //! - `names`: the lines of `name`;
 //! - `rehearsals`: the lines of `rehearse`;
-//! - [`laws`]: what holds of the lines of `find`.
+//! - [`laws`]: what holds of the lines of `find` and of `list`.
 #![tactic(auto)]
 
 mod answers;
@@ -20,7 +20,7 @@ mod rows;
 mod texts;
 
 pub use answers::{Escaped, push_answer};
-pub use finds::find_lines;
+pub use finds::{find_lines, list_lines};
 pub use names::name_lines;
 pub use rehearsals::{push_events, push_site};
 pub use report::{admit_lines, apply_line, retire_line, summary_line, with_sizes};

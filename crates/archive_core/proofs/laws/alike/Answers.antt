@@ -1,5 +1,6 @@
 use Rattle.std.proofs.Common.{subst}
 use Rattle.archive_core.specs.Find.{IsFinds}
+use Rattle.archive_core.specs.Lists.{IsList}
 use Rattle.archive_core.specs.Lookup.{IsAnswer}
 use Rattle.archive_core.specs.Names.{IsNames}
 use Rattle.archive_core.proofs.laws.alike.Goals as goal
@@ -12,3 +13,6 @@ returns-clause-lookup g c = λ a b key place answer other same f h. c.one_answer
 
 pub returns-clause-find_name : goal.returns-clause-find_name
 returns-clause-find_name g c = λ a b name rows others same f h. c.one_find_name.ensures (g.B.Join.content b) name rows others (subst (λ o. IsNames o name rows) same f) h
+
+pub returns-clause-list : goal.returns-clause-list
+returns-clause-list g c = λ a b rows others same f h. c.one_list.ensures (g.B.Join.content b) rows others (subst (λ o. IsList o rows) same f) h

@@ -5,4 +5,4 @@ use Rattle.report_text.specs.Finds.{find_row_text}
 use Rattle.report_text.proofs.finds.push_rows.Given as goal
 
 abbrev pub invariant-rows : goal.invariant-rows
-invariant-rows l = string_bytes l.text ≡ string_bytes l.initial.text ++ flat_map (λ row. line (find_row_text row)) (take l.row-index l.rows)
+invariant-rows l = string_bytes l.text ≡ string_bytes l.initial.text ++ flat_map (λ row. line (find_row_text l.form row)) (take l.row-index l.rows)

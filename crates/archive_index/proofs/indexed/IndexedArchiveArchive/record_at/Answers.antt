@@ -27,4 +27,4 @@ pub returns : goal.returns
 returns c =
     let items = c.self.inside.operations.items in
     let lt = within items c.args.self.now c.args.index c.self.invariant c.self.view_is c.requires in
-    c.lend.ensures ∙ ap rec c.operation.ensures ∙ placed items c.args.self.now c.args.index c.index.result.now c.self.invariant c.self.view_is lt c.index.ensures
+    c.lend.ensures.record ∙ ap rec c.operation.ensures ∙ placed items c.args.self.now c.args.index c.index.result.now c.self.invariant c.self.view_is lt c.index.ensures

@@ -1,0 +1,162 @@
+-- What a list of all tells, made of the records of an archive, and what a search tells as a part of it.
+use Rattle.std.proofs.Common.{◌≡◌, ◌↔◌, ◌≤◌, ◌<◌, ℕ, Bool, true, false, not, cond, List, [], ◌∷◌, length, map, filter, slice_index_or, get_or, refl, sym, ap, ◌∙◌, arith, subst}
+use mathlib.Core.Bool.{true≢false}
+use Rattle.std.specs.declared.cmp.Ordering.{Ordering}
+use Rattle.std.specs.declared.cmp.Ordering.TheVariants.{Less, Equal}
+use Rattle.std.specs.Ordering.{nat_cmp, on, ordering_then, eq_by_cmp}
+use Rattle.std.specs.Cmp.{IsTotalOrder, tied_itself, then_total}
+use Rattle.std.specs.Cmp.Lexicographic.{slice_cmp, nat_list_cmp_total, on_texts}
+use Rattle.std.specs.List.{AllByRecursion, Contains}
+use Rattle.std.specs.List.Sorted.{IsSorted, IsStrictlySortedBy, IsPermutation}
+use Rattle.std.specs.FinSet as set
+use Rattle.std.specs.FinSet.{from_list, contains}
+use Rattle.std.specs.Str.{bytes_eq}
+use Rattle.std.proofs.Math.ListN.{length-map}
+use Rattle.std.proofs.lemmas.List.{get_or-map}
+use Rattle.std.proofs.lemmas.List.Elements.{All-from_recursion, All-get_or}
+use Rattle.std.proofs.lemmas.List.Kept.{IsStrictlySortedBy-filter}
+use Rattle.std.proofs.lemmas.Slice.Eq.{bytes_eq-Decides}
+use Rattle.sha2.specs.Sha256.{sha256}
+use Rattle.join_core.specs.Listing.{listing}
+use Rattle.join_core.proofs.Listing.{listed, listing_ascending}
+use Rattle.join_core.proofs.Merge.{along_members}
+use Rattle.join_core.proofs.Place.{len_listed}
+use Rattle.archive_core.specs.Valid.{key_of}
+use Rattle.archive_core.specs.Record.{rec, retirement_record, IsOperation, IsRecord}
+use Rattle.archive_core.specs.Content.{Operations, IsContent}
+use Rattle.archive_core.specs.Find.{key_in, find_cmp, row_of, IsFinding, IsFinds}
+use Rattle.archive_core.specs.Lists.{list_cmp, IsListed, IsList, rows_under}
+use Rattle.archive_core.specs.InnerHeld.{IsHeld}
+use Rattle.archive_core.specs.InnerLists.{is_listed}
+use Rattle.archive_core.specs.declared.find.FindRow.{FindRow}
+use Rattle.archive_core.specs.declared.operations.Operation.{Operation}
+use Rattle.archive_core.specs.declared.operations.Operation.TheVariants.{Admit, Retire}
+use Rattle.archive_core.proofs.Records.{one_operation, operation_of_record}
+use Rattle.archive_core.proofs.Held.{bytes_same}
+use Rattle.archive_core.proofs.Scanned.{find_total, untied, untied_records, told_sorted, in_filter, to_filter, one_with_members}
+
+-- records are those of operations
+operations_of : (rs : List (List ℕ)) → AllByRecursion IsRecord rs → (operations : List Operation) × AllByRecursion IsOperation operations × (map rec operations ≡ rs)
+operations_of [] all = ([], tt, refl)
+operations_of (r ∷ rs) all =
+    let first = operation_of_record r all.0 in
+    let rest = operations_of rs all.1 in
+    (first.0 ∷ rest.0, (first.1, rest.1), λ i. first.2 i ∷ rest.2 i)
+
+-- a content is that of operations in order
+pub held_of : (o : Operations) → IsContent o → (operations : List Operation) × IsHeld operations × (from_list (map rec operations) ≡ o)
+held_of o content =
+    let is = listed nat_list_cmp_total bytes_same o in
+    let members = along_members nat_list_cmp_total IsRecord (listing o) (λ r h. content.records r (ap (λ s. contains s r) is.same ∙ h)) in
+    let all = operations_of (listing o) members in
+    (all.0, record { ascending = rw (all.2) is.ascending; are = all.1 }, ap from_list all.2 ∙ sym is.same)
+
+-- as many operations as the content has records
+pub length_held : (operations : List Operation) (o : Operations) → IsHeld operations → from_list (map rec operations) ≡ o → length operations ≡ set.len o
+length_held operations o held is = omega (arith, len_listed nat_list_cmp_total bytes_same (map rec operations) held.ascending, length-map operations rec, ap set.len is)
+
+-- the operation that is lent at a place is the one that is held there
+pub lent_at : (operations : List Operation) (o : Operations) (i : ℕ) (a : Operation) → IsHeld operations → from_list (map rec operations) ≡ o → i < length operations → IsOperation a
+    → rec a ≡ slice_index_or (listing o) i [] → a ≡ slice_index_or operations i a
+lent_at operations o i a held is lt valid at =
+    let there : rec a ≡ rec (get_or operations i a) = at ∙ ap (λ l. get_or l i []) (sym (sym (listing_ascending nat_list_cmp_total bytes_same (map rec operations) held.ascending) ∙ ap listing is)) ∙ get_or-map rec operations i a [] lt in
+    one_operation a (get_or operations i a) valid (All-get_or IsOperation operations i a lt (All-from_recursion IsOperation operations held.are)) there
+
+-- the order of a list is a total order
+pub list_total : IsTotalOrder list_cmp
+list_total = then_total (on_texts (λ operation. (key_in operation).uuid)) find_total
+
+untied_in_list : (a b : Operation) → eq_by_cmp (on rec (slice_cmp nat_cmp)) a b ≡ false → eq_by_cmp list_cmp a b ≡ false
+untied_in_list a b h = untied (slice_cmp nat_cmp (key_in a).uuid (key_in b).uuid) (find_cmp a b) (untied_records a b h)
+
+-- the test of an operation of the content decides whether it is listed
+listed_by_test : (o : Operations) (a : Operation) → contains o (rec a) ≡ true → is_listed o a ≡ true → IsListed o a
+listed_by_test o (Admit slice) there h = (refl, record { admitted = there; under = refl; kept = none (contains o (retirement_record (key_of slice) (sha256 slice))) h })
+  where
+    none : (b : Bool) → not b ≡ true → b ≡ false
+    none true e = absurd (true≢false (sym e))
+    none false e = refl
+listed_by_test o (Retire key digest) there h = (refl, there)
+
+test_of_listed : (o : Operations) (a : Operation) → IsListed o a → (contains o (rec a) ≡ true) × (is_listed o a ≡ true)
+test_of_listed o (Admit slice) h = (h.1.admitted, λ i. not (h.1.kept i))
+test_of_listed o (Retire key digest) h = (h.1, refl)
+
+-- the listed operations, sorted, make the list
+pub list_sorted : (o : Operations) (operations told : List Operation) → IsHeld operations → from_list (map rec operations) ≡ o
+    → IsPermutation (filter (is_listed o) operations) told → IsSorted list_cmp told → IsList o (map row_of told)
+list_sorted o operations told held is permuted sorted =
+    let are = told_sorted o list_cmp list_total untied_in_list (is_listed o) (IsListed o) (listed_by_test o) (test_of_listed o) operations told held is permuted sorted in
+    record { operations = told; ascending = are.ascending; exactly = are.exactly; rows_are = refl }
+
+-- a content has one list
+pub one_list_of_all : (o : Operations) (rows others : List FindRow) → IsList o rows → IsList o others → rows ≡ others
+one_list_of_all o rows others f g =
+    let one = one_with_members list_total f.operations g.operations f.ascending g.ascending (λ a h. (g.exactly a).1 ((f.exactly a).0 h)) (λ a h. (f.exactly a).1 ((g.exactly a).0 h)) in
+    f.rows_are ∙ ap (map row_of) one ∙ sym g.rows_are
+
+-- operations under a UUID
+under : List ℕ → Operation → Bool
+under uuid operation = bytes_eq (key_in operation).uuid uuid
+
+-- their rows are the rows of the UUID
+rows_of_under : (uuid : List ℕ) (xs : List Operation) → map row_of (filter (under uuid) xs) ≡ rows_under uuid (map row_of xs)
+unfolding under
+rows_of_under uuid [] = refl
+rows_of_under uuid (x ∷ xs) = by (bytes_eq (key_in x).uuid uuid) (rows_of_under uuid xs)
+  where
+    by : (b : Bool) → map row_of (filter (under uuid) xs) ≡ rows_under uuid (map row_of xs)
+        → map row_of (cond b (x ∷ filter (under uuid) xs) (filter (under uuid) xs)) ≡ cond b (row_of x ∷ rows_under uuid (map row_of xs)) (rows_under uuid (map row_of xs))
+    by true e = ap (λ rows. row_of x ∷ rows) e
+    by false e = e
+
+-- what is told under a UUID is under it
+pub found_under : (o : Operations) (uuid : List ℕ) (a : Operation) → IsFinding o uuid a → (key_in a).uuid ≡ uuid
+found_under o uuid (Admit slice) h = h.0
+found_under o uuid (Retire key digest) h = h.0
+
+-- under one UUID a list ascends as a search
+below_under : (uuid : List ℕ) (a b : Operation) → (key_in a).uuid ≡ uuid → (key_in b).uuid ≡ uuid → list_cmp a b ≡ Less → find_cmp a b ≡ Less
+below_under uuid a b a_is b_is h =
+    let tied : slice_cmp nat_cmp (key_in a).uuid (key_in b).uuid ≡ Equal = rw (a_is, b_is) (tied_itself nat_list_cmp_total uuid) in
+    sym (ap (λ r. ordering_then r (find_cmp a b)) tied) ∙ h
+
+ascending_under : (uuid : List ℕ) (xs : List Operation) → AllByRecursion (λ a. (key_in a).uuid ≡ uuid) xs → IsStrictlySortedBy list_cmp xs → IsStrictlySortedBy find_cmp xs
+unfolding IsStrictlySortedBy
+ascending_under uuid [] are up = tt
+ascending_under uuid (x ∷ xs) are up = (each xs are.1 up.0, ascending_under uuid xs are.1 up.1)
+  where
+    each : (ys : List Operation) → AllByRecursion (λ a. (key_in a).uuid ≡ uuid) ys → AllByRecursion (λ y. list_cmp x y ≡ Less) ys → AllByRecursion (λ y. find_cmp x y ≡ Less) ys
+    each [] all g = tt
+    each (y ∷ ys) all g = (below_under uuid x y are.0 all.0 g.0, each ys all.1 g.1)
+
+all_under : (uuid : List ℕ) (xs : List Operation) → AllByRecursion (λ a. (key_in a).uuid ≡ uuid) (filter (under uuid) xs)
+unfolding under
+all_under uuid [] = tt
+all_under uuid (x ∷ xs) = by (bytes_eq (key_in x).uuid uuid) refl (all_under uuid xs)
+  where
+    by : (b : Bool) → bytes_eq (key_in x).uuid uuid ≡ b → AllByRecursion (λ a. (key_in a).uuid ≡ uuid) (filter (under uuid) xs)
+        → AllByRecursion (λ a. (key_in a).uuid ≡ uuid) (cond b (x ∷ filter (under uuid) xs) (filter (under uuid) xs))
+    by true e rest = ((bytes_eq-Decides (key_in x).uuid uuid).0 e, rest)
+    by false e rest = rest
+
+-- what a search tells is the part of the list under its UUID
+pub part_of_list : (o : Operations) (uuid : List ℕ) (rows : List FindRow) → IsList o rows → IsFinds o uuid (rows_under uuid rows)
+unfolding under
+part_of_list o uuid rows list = record {
+  operations = filter (under uuid) list.operations;
+  ascending = ascending_under uuid (filter (under uuid) list.operations) (all_under uuid list.operations) (IsStrictlySortedBy-filter list_cmp (under uuid) list.operations list.ascending);
+  exactly = λ a. (to a, back a);
+  rows_are = ap (rows_under uuid) list.rows_are ∙ sym (rows_of_under uuid list.operations);
+}
+  where
+    to : (a : Operation) → Contains (filter (under uuid) list.operations) a → IsOperation a × IsFinding o uuid a
+    to a h =
+        let kept = in_filter (under uuid) list.operations a h in
+        let told = (list.exactly a).0 kept.0 in
+        (told.0, subst (λ u. IsFinding o u a) ((bytes_eq-Decides (key_in a).uuid uuid).0 kept.1) told.1)
+
+    back : (a : Operation) → IsOperation a × IsFinding o uuid a → Contains (filter (under uuid) list.operations) a
+    back a h =
+        let is = found_under o uuid a h.1 in
+        to_filter (under uuid) list.operations a ((list.exactly a).1 (h.0, subst (λ u. IsFinding o u a) (sym is) h.1)) ((bytes_eq-Decides (key_in a).uuid uuid).1 is)
