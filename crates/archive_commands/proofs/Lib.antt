@@ -15,5 +15,6 @@ pub mod AcceptedSummary
 pub mod Answered
 pub mod Viewed
 pub mod NameTold
+pub mod ListTold
 pub mod Rehearsed
 pub mod OneRehearsal

@@ -8,6 +8,7 @@ pub mod Merge
 pub mod MergeStreams
 pub mod Apply
 pub mod Find
+pub mod List
 pub mod Name
 pub mod Symbolicate
 pub mod Summary

@@ -15,7 +15,7 @@ use report_text::find_lines;
 use uuid::Uuid;
 
 /// How a search ends that gave these rows.
-fn status_of(rows: &[FindRow]) -> Status
+pub fn status_of(rows: &[FindRow]) -> Status
     ensures { result ≡ find_status rows.now }
 {
     if rows.is_empty() {

@@ -7,9 +7,9 @@
 //! - `failures`: the line that the program says where it fails;
 //! - `sources`: the inputs;
 //! - `publish`: the end of each command;
-//! - `new`, `admit`, `retire`, `merge`, `apply`, `find`, `name`, `symbolicate`, `summary`, `delta`, `rehearse`: a
-//!   command each;
-//! - [`admit_laws`], [`merge_laws`], [`apply_laws`], [`name_laws`], [`symbolicate_laws`], [`exchange_laws`],
+//! - `new`, `admit`, `retire`, `merge`, `apply`, `find`, `list`, `name`, `symbolicate`, `summary`, `delta`,
+//!   `rehearse`: a command each;
+//! - [`admit_laws`], [`merge_laws`], [`apply_laws`], [`list_laws`], [`name_laws`], [`symbolicate_laws`], [`exchange_laws`],
 //!   [`rehearse_laws`]: what the definitions of the commands say in the words of their user.
 #![tactic(auto)]
 
@@ -22,6 +22,8 @@ pub mod exchange_laws;
 mod failures;
 mod faults;
 mod find;
+mod list;
+pub mod list_laws;
 mod merge;
 pub mod merge_laws;
 mod name;
@@ -42,6 +44,7 @@ pub use delta::run_delta;
 pub use failures::Failure;
 pub use faults::{CannotCreate, CannotOpen, CommandFault, Place, Status, Why};
 pub use find::run_find;
+pub use list::run_list;
 pub use merge::run_merge;
 pub use name::run_name;
 pub use new::run_new;

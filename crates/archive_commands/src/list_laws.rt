@@ -1,0 +1,27 @@
+//! What the definition of `list` says in the words of its user. The law is the contract of a function that does nothing
+//! but call laws of the crates below.
+ghost use Rattle.std.specs.Prelude.{◌≡◌, ℕ, List};
+ghost use Rattle.archive_core.specs.Content.{Operations, IsContent};
+ghost use Rattle.archive_records.specs.Text.{written};
+ghost use Rattle.archive_commands.specs.declared.faults.Status.{Status};
+ghost use Rattle.archive_commands.specs.Inputs.{IsGiven, Reader};
+ghost use Rattle.archive_commands.specs.List.{MakesListed};
+
+use archive_core::laws::one_list;
+use archive_records::laws::one_content;
+use byte_device::Source;
+
+/// Two files that hold the text of one content give the same status and the same report.
+pub fn one_report<R: Source, S: Source>()
+    ensures { (archive : Reader R) (other : Reader S) (o : Operations)
+        (status other_status : Status) (text other_text : List ℕ)
+        → IsContent o
+        → IsGiven archive (written o)
+        → IsGiven other (written o)
+        → MakesListed archive status text
+        → MakesListed other other_status other_text
+        → (status ≡ other_status) × (text ≡ other_text) }
+{
+    one_content();
+    one_list();
+}
