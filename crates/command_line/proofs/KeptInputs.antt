@@ -11,7 +11,7 @@ use Rattle.uuid.specs.Text.{parsed}
 use Rattle.archive_core.specs.declared.keys.ArchKey.{ArchKey}
 use Rattle.archive_core.specs.declared.keys.Digest.{Digest}
 use Rattle.command_line.specs.Lines.{KeepsInputs, Line, admit, admit_of, all_spelled_at, apply, apply_of, delta, delta_of}
-use Rattle.command_line.specs.Lines.{find, find_of, is_path_among, kept, line_in, merge, merge_of, name, name_of, new}
+use Rattle.command_line.specs.Lines.{find, find_of, is_path_among, kept, line_in, list, merge, merge_of, name, name_of, new}
 use Rattle.command_line.specs.Lines.{optional_at, plan_view, rehearse, retire, retire_of, spelled_at, summary, summary_of}
 use Rattle.command_line.specs.Lines.{symbolicate, symbolicate_of}
 use Rattle.archive_words.specs.Words.{address_of, arch_of, digest_of}
@@ -67,6 +67,10 @@ find_of-KeepsInputs : (archive : Option Text) (uuid : Option (List ℕ)) (l : Li
 find_of-KeepsInputs (Some a) (Some u) l is = subst KeepsInputs {x = find a u} {y = l} (cc) tt
 find_of-KeepsInputs (Some a) None l is = cc
 find_of-KeepsInputs None u l is = cc
+
+list_line-KeepsInputs : (archive : Option Text) (l : Line) → Some l ≡ option_map list archive → KeepsInputs l
+list_line-KeepsInputs (Some a) l is = subst KeepsInputs {x = list a} {y = l} (cc) tt
+list_line-KeepsInputs None l is = cc
 
 name_of-KeepsInputs : (archive sought : Option Text) (l : Line) → Some l ≡ name_of archive sought → KeepsInputs l
 name_of-KeepsInputs (Some a) (Some s) l is = subst KeepsInputs {x = name a s} {y = l} (cc) tt
@@ -134,6 +138,7 @@ line_in-KeepsInputs (command, rows) l =
     (first_of (codes "OUT") rows) (first_of (codes "OPS") rows) l)
     (chosen (bytes_eq command (codes "find")) _ _ l (find_of-KeepsInputs (first_of (codes "ARCHIVE") rows)
     (spelled_at parsed (codes "UUID") rows) l)
+    (chosen (bytes_eq command (codes "list")) _ _ l (list_line-KeepsInputs (first_of (codes "ARCHIVE") rows) l)
     (chosen (bytes_eq command (codes "name")) _ _ l (name_of-KeepsInputs (first_of (codes "ARCHIVE") rows)
     (first_of (codes "NAME") rows) l)
     (chosen (bytes_eq command (codes "symbolicate")) _ _ l (symbolicate_of-KeepsInputs
@@ -145,7 +150,7 @@ line_in-KeepsInputs (command, rows) l =
     (chosen (bytes_eq command (codes "delta")) _ _ l (delta_of-KeepsInputs (first_of (codes "ARCHIVE") rows)
     (first_of (codes "SUMMARY") rows) (first_of (codes "OUT") rows) l)
     (chosen (bytes_eq command (codes "rehearse")) _ _ l (rehearse_line-KeepsInputs (first_of (codes "SCRIPT") rows) l)
-    (λ is. cc)))))))))))
+    (λ is. cc))))))))))))
 
 -- so does a plan
 pub planned-KeepsInputs : (named : Text × List Row) (result : Result Plan LineFault)

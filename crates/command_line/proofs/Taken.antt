@@ -20,7 +20,7 @@ use Rattle.command_line.specs.Commands.{symarch_command}
 use Rattle.command_line.specs.Lines.{Line, admit, admit_line, admit_of, all_spelled, all_spelled_at, apply, apply_line}
 use Rattle.command_line.specs.Lines.{apply_of, are_taken, delta, delta_line, delta_of}
 use Rattle.command_line.specs.Lines.{find_line, find_of, has_form, have_forms, inputs_at, is_in_order, is_path_among}
-use Rattle.command_line.specs.Lines.{kept, line_in}
+use Rattle.command_line.specs.Lines.{kept, line_in, list, list_line}
 use Rattle.command_line.specs.Lines.{line_of, merge, merge_line, merge_of, name_line, name_of, named_command, new, new_line}
 use Rattle.command_line.specs.Lines.{optional_at, rehearse, rehearse_line, retire, retire_line, retire_of}
 use Rattle.command_line.specs.Lines.{spares_inputs, spelled_at, spelled_if_there, symbolicate, symbolicate_line}
@@ -343,6 +343,15 @@ find_some rules rows asks o =
     (uuids rows o.forms) in
     subst IsSome (sym (ap₂ find_of archive.first uuid.1)) refl
 
+asks_list : List Rule → Bool
+asks_list rules = requires (codes "ARCHIVE") rules
+
+list_some : (rules : List Rule) (rows : List Row) → asks_list rules ≡ true → InOrder rules rows → IsSome (list_line rows)
+unfolding asks_list
+list_some rules rows asks o =
+    let archive = there (codes "ARCHIVE") rules rows o asks in
+    subst (λ x. IsSome (option_map list x)) (sym archive.first) refl
+
 asks_name : List Rule → Bool
 asks_name rules = requires (codes "ARCHIVE") rules && requires (codes "NAME") rules
 
@@ -417,6 +426,7 @@ asks name rules =
     else if bytes_eq name (codes "merge") then asks_with (requires (codes "FILE") rules) rules
     else if bytes_eq name (codes "apply") then asks_with (requires (codes "OPS") rules) rules
     else if bytes_eq name (codes "find") then asks_uuid (codes "ARCHIVE") true rules
+    else if bytes_eq name (codes "list") then asks_list rules
     else if bytes_eq name (codes "name") then asks_name rules
     else if bytes_eq name (codes "symbolicate")
     then asks_uuid (codes "ARCHIVE") (requires (codes "ARCH") rules && requires (codes "ADDRESS") rules) rules
@@ -440,12 +450,13 @@ line_some name rules rows o =
     (chosen (bytes_eq name (codes "merge")) _ _ _ _ (λ is. merge_some rules rows is o)
     (chosen (bytes_eq name (codes "apply")) _ _ _ _ (λ is. apply_some rules rows is o)
     (chosen (bytes_eq name (codes "find")) _ _ _ _ (λ is. find_some rules rows is o)
+    (chosen (bytes_eq name (codes "list")) _ _ _ _ (λ is. list_some rules rows is o)
     (chosen (bytes_eq name (codes "name")) _ _ _ _ (λ is. name_some rules rows is o)
     (chosen (bytes_eq name (codes "symbolicate")) _ _ _ _ (λ is. symbolicate_some rules rows is o)
     (chosen (bytes_eq name (codes "summary")) _ _ _ _ (λ is. summary_some rules rows is o)
     (chosen (bytes_eq name (codes "delta")) _ _ _ _ (λ is. delta_some rules rows is o)
     (chosen (bytes_eq name (codes "rehearse")) _ _ _ _ (λ is. rehearse_some rules rows is o)
-    (λ is. absurd (true≢false (sym is)))))))))))))
+    (λ is. absurd (true≢false (sym is))))))))))))))
 
 -- ---- commands that are built
 
@@ -537,7 +548,7 @@ taken_some a words sound taken tests =
 -- ---- the program's command
 
 symarch_sound : IsSound (built symarch_command)
-unfolding symarch_command is_sound asks asks_new asks_with asks_uuid asks_name asks_archive asks_script
+unfolding symarch_command is_sound asks asks_new asks_with asks_uuid asks_list asks_name asks_archive asks_script
 symarch_sound = record { needs_command = refl; has_help = refl; values = refl; commands = refl }
 
 -- a line that is taken, in which each value has its form and OUT's path is no input's, asks for something

@@ -59,6 +59,10 @@ abbrev pub find_command : App
 find_command = with_rules (new_app (codes "find"))
     (one_value (codes "ARCHIVE") ∷ one_value (codes "UUID") ∷ [])
 
+-- `list ARCHIVE`
+abbrev pub list_command : App
+list_command = with_rules (new_app (codes "list")) (one_value (codes "ARCHIVE") ∷ [])
+
 -- `name ARCHIVE NAME`
 abbrev pub name_command : App
 name_command = with_rules (new_app (codes "name"))
@@ -88,5 +92,5 @@ rehearse_command = with_rules (new_app (codes "rehearse")) (one_value (codes "SC
 unfoldable pub symarch_command : App
 symarch_command = needing_command
     (with_commands (new_app (codes "symarch")) (new_command ∷ admit_command ∷ retire_command
-    ∷ merge_command ∷ apply_command ∷ find_command ∷ name_command ∷ symbolicate_command
-    ∷ summary_command ∷ delta_command ∷ rehearse_command ∷ []))
+    ∷ merge_command ∷ apply_command ∷ find_command ∷ list_command ∷ name_command
+    ∷ symbolicate_command ∷ summary_command ∷ delta_command ∷ rehearse_command ∷ []))

@@ -21,6 +21,7 @@ pub data Line : Type 0 where
   merge : (input out : Text) (files : List Text) → Line
   apply : (input out ops : Text) → Line
   find : (archive : Text) (uuid : List ℕ) → Line
+  list : (archive : Text) → Line
   name : (archive sought : Text) → Line
   symbolicate : (archive : Text) (uuid : List ℕ) (arch : ArchKey) (load : Option ℕ) (addresses : List ℕ) → Line
   summary : (archive out : Text) → Line
@@ -123,6 +124,10 @@ find_of _ _ = None
 abbrev pub find_line : List Row → Option Line
 find_line rows = find_of (first_of (codes "ARCHIVE") rows) (spelled_at parsed (codes "UUID") rows)
 
+-- `list ARCHIVE`
+abbrev pub list_line : List Row → Option Line
+list_line rows = option_map list (first_of (codes "ARCHIVE") rows)
+
 -- `name ARCHIVE NAME`: nothing where a value is missing
 abbrev pub name_of : Option Text → Option Text → Option Line
 name_of (Some archive) (Some sought) = Some (name archive sought)
@@ -173,6 +178,7 @@ line_in p =
     else if bytes_eq p.0 (codes "merge") then merge_line p.1
     else if bytes_eq p.0 (codes "apply") then apply_line p.1
     else if bytes_eq p.0 (codes "find") then find_line p.1
+    else if bytes_eq p.0 (codes "list") then list_line p.1
     else if bytes_eq p.0 (codes "name") then name_line p.1
     else if bytes_eq p.0 (codes "symbolicate") then symbolicate_line p.1
     else if bytes_eq p.0 (codes "summary") then summary_line p.1
@@ -229,6 +235,7 @@ plan_view (plan.Merge input out files) =
 plan_view (plan.Apply input out ops) =
     apply (string_bytes input) (string_bytes out) (string_bytes ops)
 plan_view (plan.Find archive uuid) = find (string_bytes archive) uuid
+plan_view (plan.List archive) = list (string_bytes archive)
 plan_view (plan.Name archive sought) = name (string_bytes archive) (string_bytes sought)
 plan_view (plan.Symbolicate archive uuid arch load addresses) =
     symbolicate (string_bytes archive) uuid arch load addresses.items
@@ -244,6 +251,7 @@ KeepsInputs (retire input out uuid arch digest) = ¬ Contains (input ∷ []) out
 KeepsInputs (merge input out files) = ¬ Contains (input ∷ files) out
 KeepsInputs (apply input out ops) = ¬ Contains (input ∷ ops ∷ []) out
 KeepsInputs (find archive uuid) = ⊤
+KeepsInputs (list archive) = ⊤
 KeepsInputs (name archive sought) = ⊤
 KeepsInputs (symbolicate archive uuid arch load addresses) = ⊤
 KeepsInputs (summary archive out) = ¬ Contains (archive ∷ []) out

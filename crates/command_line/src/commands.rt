@@ -4,7 +4,7 @@ ghost use Rattle.std.specs.Prelude.{◌≡◌, IfOk, false};
 ghost use Rattle.clap.specs.Words.{app_of, new_app, rule_of, with_rule};
 ghost use Rattle.clap.specs.declared.builder.command.Command.TheViews.{out-Command};
 ghost use Rattle.command_line.specs.Commands.{admit_command, apply_command, find_command};
-ghost use Rattle.command_line.specs.Commands.{merge_command, name_command, new_command, one_option, one_value};
+ghost use Rattle.command_line.specs.Commands.{list_command, merge_command, name_command, new_command, one_option, one_value};
 ghost use Rattle.command_line.specs.Commands.{rehearse_command, retire_command, several_values, symarch_command};
 ghost use Rattle.command_line.specs.Commands.{delta_command, summary_command, symbolicate_command};
 
@@ -160,6 +160,15 @@ fn find_command<'a>(alloc: Global) -> Result<Command<'a>, AllocError>
     with_one_value(alloc, command, "UUID", "The UUID to look for")
 }
 
+/// `list ARCHIVE`
+fn list_command<'a>(alloc: Global) -> Result<Command<'a>, AllocError>
+    ensures app { IfOk result (λ c. app_of c ≡ list_command) }
+    ensures local { IfOk result (λ c. (out-Command c).has_globals ≡ false) }
+{
+    let command = bare_command(alloc, "list", "Lists all that an archive has");
+    with_one_value(alloc, command, "ARCHIVE", "The archive to read")
+}
+
 /// `name ARCHIVE NAME`
 fn name_command<'a>(alloc: Global) -> Result<Command<'a>, AllocError>
     ensures app { IfOk result (λ c. app_of c ≡ name_command) }
@@ -239,6 +248,7 @@ pub fn symarch_command<'a>(alloc: Global) -> Result<Command<'a>, AllocError>
     let command = command.subcommand(merge_command(alloc)?)?;
     let command = command.subcommand(apply_command(alloc)?)?;
     let command = command.subcommand(find_command(alloc)?)?;
+    let command = command.subcommand(list_command(alloc)?)?;
     let command = command.subcommand(name_command(alloc)?)?;
     let command = command.subcommand(symbolicate_command(alloc)?)?;
     let command = command.subcommand(summary_command(alloc)?)?;

@@ -42,6 +42,10 @@ pub enum Plan {
         archive: String,
         uuid: Uuid,
     },
+    /// `list ARCHIVE`: to tell all that the archive has.
+    List {
+        archive: String,
+    },
     /// `name ARCHIVE NAME`: to tell where symbols of a name stand. The name is the word itself.
     Name {
         archive: String,

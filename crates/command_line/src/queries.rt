@@ -3,7 +3,7 @@
 
 ghost use Rattle.std.specs.Prelude.{◌≡◌, IfErr, IfOk, IsSome, Some};
 ghost use Rattle.clap.specs.Words.{found_of, rows_of};
-ghost use Rattle.command_line.specs.Lines.{find_line, name_line, plan_view, rehearse_line, symbolicate_line};
+ghost use Rattle.command_line.specs.Lines.{find_line, list_line, name_line, plan_view, rehearse_line, symbolicate_line};
 ghost use Rattle.command_line.specs.Told.{IsRefusalUnlessMemory};
 
 use crate::line_faults::LineFault;
@@ -24,6 +24,19 @@ pub fn plan_find(alloc: Global, matches: &ArgMatches) -> Result<Plan, LineFault>
     Ok(Plan::Find {
         archive: String::from_str(alloc, archive)?,
         uuid,
+    })
+}
+
+/// `list ARCHIVE`
+pub fn plan_list(alloc: Global, matches: &ArgMatches) -> Result<Plan, LineFault>
+    ensures ok { IfOk result (λ p. Some (plan_view p) ≡ list_line (rows_of (found_of matches.now))) }
+    ensures err { IsSome (list_line (rows_of (found_of matches.now)))
+        → IfErr result (λ e. e ≡ LineFault.OutOfMemory) }
+    ensures refusal { IfErr result IsRefusalUnlessMemory }
+{
+    let archive = one_value(alloc, matches, "ARCHIVE")?;
+    Ok(Plan::List {
+        archive: String::from_str(alloc, archive)?,
     })
 }
 

@@ -10,7 +10,7 @@ ghost use Rattle.command_line.specs.Told.{IsHelpUnlessMemory, IsRefusalUnlessMem
 use crate::commands::symarch_command;
 use crate::line_faults::{LineFault, parse_fault, refused};
 use crate::plans::Plan;
-use crate::queries::{plan_find, plan_name, plan_rehearse, plan_symbolicate};
+use crate::queries::{plan_find, plan_list, plan_name, plan_rehearse, plan_symbolicate};
 use crate::updates::{
     plan_admit, plan_apply, plan_delta, plan_merge, plan_new, plan_retire, plan_summary,
 };
@@ -39,6 +39,8 @@ fn plan_in(alloc: Global, name: &str, matches: &ArgMatches) -> Result<Plan, Line
         plan_apply(alloc, matches)
     } else if name == "find" {
         plan_find(alloc, matches)
+    } else if name == "list" {
+        plan_list(alloc, matches)
     } else if name == "name" {
         plan_name(alloc, matches)
     } else if name == "symbolicate" {

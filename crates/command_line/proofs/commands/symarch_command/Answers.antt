@@ -20,16 +20,18 @@ returns-clause-app c =
     (c.in_ok-command-5.ensures.shape c.in_ok-apply_command.ensures.local) in
     let find = with_one_more _ _ _ _ _ apply c.in_ok-find_command.ensures.app
     (c.in_ok-command-6.ensures.shape c.in_ok-find_command.ensures.local) in
-    let name = with_one_more _ _ _ _ _ find c.in_ok-name_command.ensures.app
-    (c.in_ok-command-7.ensures.shape c.in_ok-name_command.ensures.local) in
+    let list = with_one_more _ _ _ _ _ find c.in_ok-list_command.ensures.app
+    (c.in_ok-command-7.ensures.shape c.in_ok-list_command.ensures.local) in
+    let name = with_one_more _ _ _ _ _ list c.in_ok-name_command.ensures.app
+    (c.in_ok-command-8.ensures.shape c.in_ok-name_command.ensures.local) in
     let symbolicate = with_one_more _ _ _ _ _ name c.in_ok-symbolicate_command.ensures.app
-    (c.in_ok-command-8.ensures.shape c.in_ok-symbolicate_command.ensures.local) in
+    (c.in_ok-command-9.ensures.shape c.in_ok-symbolicate_command.ensures.local) in
     let summary = with_one_more _ _ _ _ _ symbolicate c.in_ok-summary_command.ensures.app
-    (c.in_ok-command-9.ensures.shape c.in_ok-summary_command.ensures.local) in
+    (c.in_ok-command-10.ensures.shape c.in_ok-summary_command.ensures.local) in
     let delta = with_one_more _ _ _ _ _ summary c.in_ok-delta_command.ensures.app
-    (c.in_ok-command-10.ensures.shape c.in_ok-delta_command.ensures.local) in
+    (c.in_ok-command-11.ensures.shape c.in_ok-delta_command.ensures.local) in
     let rehearse = with_one_more _ _ _ _ _ delta c.in_ok-rehearse_command.ensures.app
-    (c.in_ok-command-11.ensures.shape c.in_ok-rehearse_command.ensures.local) in
+    (c.in_ok-command-12.ensures.shape c.in_ok-rehearse_command.ensures.local) in
     ap app_of_fields c.subcommand_required.ensures ∙ ap needing_command rehearse
 
 pub returns-clause-local : goal.returns-clause-local
@@ -41,9 +43,10 @@ returns-clause-local c =
     let merge = with_no_global _ _ _ c.in_ok-command-4.ensures.globals retire c.in_ok-merge_command.ensures.local in
     let apply = with_no_global _ _ _ c.in_ok-command-5.ensures.globals merge c.in_ok-apply_command.ensures.local in
     let find = with_no_global _ _ _ c.in_ok-command-6.ensures.globals apply c.in_ok-find_command.ensures.local in
-    let name = with_no_global _ _ _ c.in_ok-command-7.ensures.globals find c.in_ok-name_command.ensures.local in
-    let symbolicate = with_no_global _ _ _ c.in_ok-command-8.ensures.globals name c.in_ok-symbolicate_command.ensures.local in
-    let summary = with_no_global _ _ _ c.in_ok-command-9.ensures.globals symbolicate c.in_ok-summary_command.ensures.local in
-    let delta = with_no_global _ _ _ c.in_ok-command-10.ensures.globals summary c.in_ok-delta_command.ensures.local in
-    let rehearse = with_no_global _ _ _ c.in_ok-command-11.ensures.globals delta c.in_ok-rehearse_command.ensures.local in
+    let list = with_no_global _ _ _ c.in_ok-command-7.ensures.globals find c.in_ok-list_command.ensures.local in
+    let name = with_no_global _ _ _ c.in_ok-command-8.ensures.globals list c.in_ok-name_command.ensures.local in
+    let symbolicate = with_no_global _ _ _ c.in_ok-command-9.ensures.globals name c.in_ok-symbolicate_command.ensures.local in
+    let summary = with_no_global _ _ _ c.in_ok-command-10.ensures.globals symbolicate c.in_ok-summary_command.ensures.local in
+    let delta = with_no_global _ _ _ c.in_ok-command-11.ensures.globals summary c.in_ok-delta_command.ensures.local in
+    let rehearse = with_no_global _ _ _ c.in_ok-command-12.ensures.globals delta c.in_ok-rehearse_command.ensures.local in
     ap (λ fields. fields.has_globals) c.subcommand_required.ensures ∙ rehearse
