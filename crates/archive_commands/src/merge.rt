@@ -34,7 +34,7 @@ fn join_file<A: Archive + Drop, S: Source>(
         (Unfailed (reader S.left S.failures file.old file.new))) }
 {
     let other: A = read_input(heap, number, file)?;
-    take_all(archive, &other)?;
+    take_all(archive, other)?;
     Ok(())
 }
 

@@ -59,6 +59,21 @@ held_insert operations i operation held one place = record {
   are = along_insert IsOperation operations i operation one held.are;
 }
 
+-- an operation that is taken leaves a content
+pub content_with : (o next : set.FinSet (slice_cmp nat_cmp)) (operation : Operation) → IsContent o → IsOperation operation → next ≡ set.insert o (rec operation) → IsContent next
+content_with o next operation content one is = rw is (record { itself = refl; records = each })
+  where
+    each : (r : List ℕ) → contains (set.insert o (rec operation)) r ≡ true → IsRecord r
+    each r h =
+        elim (eq_by_cmp (slice_cmp nat_cmp) r (rec operation)) as (λ b. eq_by_cmp (slice_cmp nat_cmp) r (rec operation) ≡ b → (b || contains o r) ≡ true → IsRecord r) [
+          | true ↦ λ e _. subst IsRecord (sym (bytes_same r (rec operation) ((Equal-is (slice_cmp nat_cmp r (rec operation))).0 e))) (record_of_operation operation one)
+          | false ↦ λ _ rest. content.records r rest
+        ] refl (sym (contains-insert nat_list_cmp_total o (rec operation) r) ∙ h)
+
+-- and no operations are a content
+pub content_none : IsContent set.empty
+content_none = record { itself = refl; records = λ r h. absurd (true≢false (sym h ∙ contains-empty (slice_cmp nat_cmp) r)) }
+
 -- no operations are held in order
 pub held_none : IsHeld []
 unfolding IsStrictlySortedBy

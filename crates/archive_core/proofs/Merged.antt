@@ -1,14 +1,16 @@
 -- What a join of plain archives leaves: the operations of both, ascending.
 use Rattle.std.proofs.Common.{◌≡◌, ◌+◌, ◌<◌, true, false, not, cond, List, [], ◌∷◌, ◌++◌, length, map, filter, refl, ap, ◌∙◌, arith, subst}
-use Rattle.std.specs.Ordering.{nat_cmp, is_lt}
+use Rattle.std.specs.Ordering.{nat_cmp, is_lt, on, eq_by_cmp}
+use Rattle.std.specs.List.{dedup}
 use Rattle.std.specs.Cmp.Lexicographic.{slice_cmp, nat_list_cmp_total}
 use Rattle.std.specs.List.Sorted.{IsSorted, IsSortedBy, IsPermutation}
 use Rattle.std.specs.FinSet.{from_list, contains, union}
 use Rattle.std.proofs.lemmas.List.{map-append, get_or-map}
 use Rattle.std.proofs.Math.ListN.{length-map}
+use Rattle.std.proofs.lemmas.List.Filters.{All-dedup}
 use Rattle.std.proofs.lemmas.List.Elements.{All-filter, All-append, All-from_recursion, recursion_from_All}
 use Rattle.std.proofs.lemmas.List.Sorted.{IsPermutation-map, All-permutation}
-use Rattle.join_core.proofs.Merge.{merged_is}
+use Rattle.join_core.proofs.Merge.{map_dedup, deduped_is, merged_is}
 use Rattle.archive_core.specs.Record.{rec, IsOperation}
 use Rattle.archive_core.specs.Content.{Operations}
 use Rattle.archive_core.specs.InnerHeld.{IsHeld}
@@ -53,4 +55,22 @@ holds_both mine theirs merged held_mine held_theirs permuted sorted =
         are = recursion_from_All IsOperation merged (All-permutation IsOperation (mine ++ missing) merged permuted all);
       };
       members = both.members;
+    }
+
+-- the same where all of theirs were sorted with mine, and of equal ones one was kept
+pub holds_deduped : (mine theirs sorted : List Operation) → IsHeld mine → IsHeld theirs
+    → IsPermutation (mine ++ theirs) sorted
+    → IsSortedBy (λ x y. is_lt (slice_cmp nat_cmp (rec x) (rec y))) sorted → HoldsBoth mine theirs (dedup (eq_by_cmp (on rec (slice_cmp nat_cmp))) sorted)
+holds_deduped mine theirs sorted held_mine held_theirs permuted up =
+    let kept = dedup (eq_by_cmp (on rec (slice_cmp nat_cmp))) sorted in
+    let records : map rec kept ≡ dedup (eq_by_cmp (slice_cmp nat_cmp)) (map rec sorted) = map_dedup rec (eq_by_cmp (slice_cmp nat_cmp)) sorted in
+    let together : IsPermutation (map rec mine ++ map rec theirs) (map rec sorted) = subst (λ l. IsPermutation l (map rec sorted)) (map-append rec mine theirs) (IsPermutation-map rec (mine ++ theirs) sorted permuted) in
+    let both = deduped_is nat_list_cmp_total bytes_same (map rec mine) (map rec theirs) (map rec sorted) together (sorted_records sorted up) in
+    let all = All-append IsOperation mine theirs (All-from_recursion IsOperation mine held_mine.are) (All-from_recursion IsOperation theirs held_theirs.are) in
+    record {
+      held = record {
+        ascending = rw records both.ascending;
+        are = recursion_from_All IsOperation kept (All-dedup (eq_by_cmp (on rec (slice_cmp nat_cmp))) IsOperation sorted (All-permutation IsOperation (mine ++ theirs) sorted permuted all));
+      };
+      members = rw records both.members;
     }

@@ -1,15 +1,17 @@
 -- What operations give that are taken one after another, and what a retirement keeps out.
-use Rattle.std.proofs.Common.{◌≡◌, ◌↔◌, ℕ, List, Bool, true, false, refl, sym, ap, ◌∙◌}
+use Rattle.std.proofs.Common.{◌≡◌, ◌↔◌, ◌≤◌, ◌+◌, ℕ, List, [], ◌∷◌, Bool, true, false, cond, length, map, refl, sym, ap, ◌∙◌, subst, arith}
 use Rattle.std.specs.Prelude.{not}
 use mathlib.Core.Bool.{true≢false}
 use Rattle.std.specs.Cmp.Lexicographic.{nat_list_cmp_total}
 use Rattle.std.specs.FinSet as set
-use Rattle.std.specs.FinSet.{is_subset-contains}
+use Rattle.std.specs.FinSet.{is_subset-contains, contains-empty}
 use Rattle.sha2.specs.Sha256.{sha256}
 use Rattle.join_core.proofs.Members.{from_list_same, inserts_are_union}
 use Rattle.join_core.proofs.Place.{insert_present, insert_changes}
-use Rattle.archive_core.specs.Record.{retirement_record}
-use Rattle.archive_core.specs.Content.{Operations, made, IsBelow, with_record, with_records, changes, joined, HaveSameMembers, IsLive}
+use Rattle.join_core.proofs.Subset.{subset_reflexive, subset_transitive, union_left}
+use Rattle.archive_core.specs.Record.{rec, retirement_record}
+use Rattle.archive_core.specs.Content.{Operations, made, IsBelow, with_record, with_records, changes, joined, HaveSameMembers, IsLive, IsTakenInPart}
+use Rattle.archive_core.specs.declared.operations.Operation.{Operation}
 use Rattle.archive_core.specs.declared.keys.SliceKey.{SliceKey}
 use Rattle.archive_core.proofs.Held.{bytes_same}
 
@@ -37,6 +39,46 @@ taken_are_joined o rs = inserts_are_union nat_list_cmp_total bytes_same o rs
 -- so neither their order nor repeats count
 pub taken_in_any_order : (o : Operations) (rs ss : List (List ℕ)) → HaveSameMembers rs ss → with_records o rs ≡ with_records o ss
 taken_in_any_order o rs ss same = taken_are_joined o rs ∙ ap (joined o) (from_list_same nat_list_cmp_total bytes_same rs ss same) ∙ sym (taken_are_joined o ss)
+
+-- a content is below that with more operations
+pub below_taken : (o : Operations) (rs : List (List ℕ)) → IsBelow o (with_records o rs)
+below_taken o rs = rw (taken_are_joined o rs) (union_left nat_list_cmp_total o (made (set.from_list rs)))
+
+-- Between the content at first and that after some operations, with these left: where it stands, and what the rest will make.
+pub record IsUnderWay (old now : Operations) (all left : List Operation) : Type 0 where
+  pub above_old : IsBelow old now
+  pub content : with_records now (map rec left) ≡ with_records old (map rec all)
+
+pub at_first : (o : Operations) (all left : List Operation) → left ≡ all → IsUnderWay o o all left
+at_first o all left is = rw is (record { above_old = subset_reflexive nat_list_cmp_total o; content = refl })
+
+pub one_taken : (old now next : Operations) (all left rest : List Operation) (operation : Operation) → IsUnderWay old now all left → left ≡ operation ∷ rest → next ≡ with_record now (rec operation) → IsUnderWay old next all rest
+one_taken old now next all left rest operation way is next_is = rw next_is (record {
+  above_old = subset_transitive nat_list_cmp_total old now (with_record now (rec operation)) way.above_old (below_taken now (rec operation ∷ []));
+  content = ap (λ (l : List Operation). with_records now (map rec l)) (sym is) ∙ way.content;
+})
+
+pub all_taken : (old now : Operations) (all left : List Operation) → IsUnderWay old now all left → length left ≡ 0 → now ≡ with_records old (map rec all)
+all_taken old now all [] way none = way.content
+all_taken old now all (x ∷ xs) way none = absurd (omega arith)
+
+pub taken_in_part : (old now new : Operations) (all left : List Operation) → IsUnderWay old now all left → new ≡ now → IsTakenInPart old (map rec all) new
+taken_in_part old now new all left way same = rw same (record {
+  above_old = way.above_old;
+  below_all = subst (λ (o : Operations). IsBelow now o) way.content (below_taken now (map rec left));
+})
+
+-- and has no more than that
+grown : (o : Operations) (rs : List (List ℕ)) → set.len o ≤ set.len (with_records o rs)
+grown o [] = omega arith
+grown o (r ∷ rs) = at_least (set.contains o r) (set.len-insert nat_list_cmp_total o r) (grown (with_record o r) rs)
+  where
+    at_least : (has : Bool) → set.len (with_record o r) ≡ cond has (set.len o) (set.len o + 1) → set.len (with_record o r) ≤ set.len (with_records (with_record o r) rs) → set.len o ≤ set.len (with_records (with_record o r) rs)
+    at_least true e h = omega (arith, e)
+    at_least false e h = omega (arith, e)
+
+pub grown_to : (o next : Operations) (rs : List (List ℕ)) → next ≡ with_records o rs → set.len o ≤ set.len next
+grown_to o next rs is = rw is (grown o rs)
 
 -- above a content that retires a slice, none has it live
 pub never_live_again : (o p : Operations) (key : SliceKey) (slice : List ℕ) → set.contains o (retirement_record key (sha256 slice)) ≡ true → IsBelow o p → IsLive p key slice → ⊥

@@ -42,6 +42,11 @@ changes o r = not (set.contains o r)
 abbrev pub with_records : Operations → List (List ℕ) → Operations
 with_records o rs = fold with_record o rs
 
+-- some of the records may have been taken: a content above the one before, and below that with all of them
+pub record IsTakenInPart (o : Operations) (rs : List (List ℕ)) (mid : Operations) : Type 0 where
+  pub above_old : IsBelow o mid
+  pub below_all : IsBelow mid (with_records o rs)
+
 -- the join of two contents: what the operations of both make
 abbrev pub joined : Operations → Operations → Operations
 joined o p = made (set.union o p)

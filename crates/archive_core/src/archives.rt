@@ -86,12 +86,12 @@ pub trait Archive: Join<Content = Contents> {
     ghost below_is: { (o p : Operations) → Self.Join.below o p ↔ IsBelow o p };
 }
 
-/// Joins an archive with another one of its type. Refused for want of memory alone; a part of
-/// `other` may then have been taken in.
-pub fn take_all<A: Archive>(archive: &mut A, other: &A) -> Result<(), NoMemory>
-    ensures joined { OnOk result (A.content archive.new ≡ joined (A.content archive.old) (A.content other.now)) }
+/// Joins an archive with another one of its type, and takes over what that holds without a copy. Refused for want of
+/// memory alone; a part of `other` may then have been taken in.
+pub fn take_all<A: Archive>(archive: &mut A, other: A) -> Result<(), NoMemory>
+    ensures joined { OnOk result (A.content archive.new ≡ joined (A.content archive.old) (A.content other)) }
     ensures refused { OnErr result
-        (IsTowards IsContent IsBelow (A.content archive.old) (A.content other.now) (A.content archive.new)) }
+        (IsTowards IsContent IsBelow (A.content archive.old) (A.content other) (A.content archive.new)) }
 {
-    archive.join(other)
+    archive.absorb(other)
 }

@@ -13,7 +13,7 @@ ghost use Rattle.join_core.specs.Bound.{IsLeastAbove};
 ghost use Rattle.archive_core.specs.Key.{IsKey, key_bytes};
 ghost use Rattle.archive_core.specs.Valid.{IsValid, IsSliceFault, key_of};
 ghost use Rattle.archive_core.specs.Record.{IsRecord, Admits, IsOperation, rec, admission_record, retirement_record};
-ghost use Rattle.archive_core.specs.Content.{Operations, made, IsMade, IsContent, IsBelow, with_record, with_records, changes, joined, HaveSameMembers, IsLive};
+ghost use Rattle.archive_core.specs.Content.{Operations, made, IsMade, IsContent, IsBelow, with_record, with_records, changes, joined, HaveSameMembers, IsLive, IsTakenInPart};
 ghost use Rattle.archive_core.specs.Summary.{Entries, entry, summary, delta, DigestsTell};
 ghost use Rattle.archive_core.specs.Find.{IsFinds, AreAnswering, answering_count};
 ghost use Rattle.archive_core.specs.Lists.{IsList, rows_under};
@@ -135,6 +135,13 @@ pub fn takes_in_any_order()
     ensures union { (o : Operations) (rs : List (List ℕ))
         → IsMade o
         → with_records o rs ≡ joined o (made (set.from_list rs)) }
+{}
+
+/// Operations that were taken in part, and are taken again, all of them, give what all would have given at first.
+pub fn taking_each_resumed()
+    ensures { (o mid : Operations) (rs : List (List ℕ))
+        → IsTakenInPart o rs mid
+        → with_records mid rs ≡ with_records o rs }
 {}
 
 /// What was retired never comes back: no content above one that retires a slice has it live.

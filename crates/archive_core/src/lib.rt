@@ -14,6 +14,7 @@
 //! - `lookup`: what is asked of a key, and what is answered;
 //! - `names`: what a search for a name tells;
 //! - `archives`: the trait [`Archive`];
+//! - `taking`: many operations at once;
 //! - `finding`: an operation beside the row that a search tells of it;
 //! - `lists`: what a list of all tells;
 //! - `live`: slices that answer under a key, and what they tell;
@@ -34,6 +35,7 @@ mod names;
 mod operations;
 mod plain;
 mod slices;
+mod taking;
 
 pub use archives::{Archive, Contents, take_all};
 pub use faults::{AdmitFault, SliceFault};
@@ -47,3 +49,4 @@ pub use names::{NameRow, put_in_order, rows_in};
 pub use operations::{Operation, Record};
 pub use plain::PlainArchive;
 pub use slices::{CheckedSlice, Slice, SliceFacts};
+pub use taking::take_each;

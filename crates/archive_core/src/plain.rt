@@ -1,15 +1,17 @@
 //! An archive as a sorted list of operations.
-ghost use Rattle.std.specs.Prelude.{◌≡◌, ◌≤◌, length, map, filter, not, if◌then◌else◌, Some, None, IfOk, OnErr};
+ghost use Rattle.std.specs.Prelude.{◌≡◌, ◌≤◌, length, map, filter, not, if◌then◌else◌, Some, None, IfOk, OnOk, OnErr};
 ghost use Rattle.std.specs.FinSet as set;
-ghost use Rattle.std.specs.Ordering.{nat_cmp};
+ghost use Rattle.std.specs.Ordering.{nat_cmp, is_lt};
 ghost use Rattle.std.specs.Cmp.Lexicographic.{slice_cmp};
 ghost use Rattle.std.specs.List.{list_all, AllZip};
-ghost use Rattle.std.specs.List.Sorted.{IsStrictlySortedBy, IsSearchInRange};
+ghost use Rattle.std.specs.List.Sorted.{IsPermutation, IsSortedBy, IsStrictlySortedBy, IsSearchInRange};
 ghost use Rattle.join_core.specs.InnerSearch.{IsFound};
 ghost use Rattle.sha2.specs.Sha256.{sha256};
 ghost use Rattle.archive_core.specs.Key.{IsKey};
 ghost use Rattle.archive_core.specs.Valid.{key_of};
 ghost use Rattle.archive_core.specs.Record.{rec, retirement_record};
+ghost use Rattle.archive_core.specs.Content.{IsTakenInPart, with_records};
+ghost use Rattle.archive_core.specs.InnerHeld.{IsHeld};
 ghost use Rattle.archive_core.specs.InnerScan.{is_finding, live_in, live_among, IsTally};
 ghost use Rattle.archive_core.specs.Lookup.{IsOwnRow, IsAnswerOf, own_row, answer_view};
 ghost use Rattle.archive_core.specs.Names.{name_view};
@@ -29,7 +31,8 @@ use uuid::Uuid;
 /// An archive as a list of operations, strictly ascending by their records.
 ///
 /// It is searched by halving. A `take` above the last operation only appends; any other shifts what
-/// stands behind. A join copies what is missing, before it changes anything, and sorts once.
+/// stands behind. A join copies what is missing, before it changes anything, and merges it with what is there. What is
+/// absorbed is merged, too, or put in at its place where it is little.
 #[derive(Drop)]
 pub struct PlainArchive {
     operations: Vec<Operation, Heap>,
@@ -53,6 +56,10 @@ impl Model for PlainArchive {
     ghost invariant = { λ archive. IsHeld archive.operations.items };
 }
 
+// So many operations at most are put one by one into an archive that has as many, each by a search and a shift of what
+// stands behind it. A merge goes through all that is there, and costs about as much as these.
+const FEW: usize = 8;
+
 // Where an operation stands among others that ascend, or where it would go.
 fn search(operations: &[Operation], operation: &Operation) -> Result<usize, usize>
     requires { IsStrictlySortedBy (slice_cmp nat_cmp) (map rec operations.now) }
@@ -74,6 +81,16 @@ fn search_from_end(operations: &[Operation], operation: &Operation) -> Result<us
         }
     }
     search(operations, operation)
+}
+
+// Sorts operations by their records. Runs that ascend are merged, where there is memory for it.
+fn sort(operations: &mut Vec<Operation, Heap>)
+    ensures permutation { IsPermutation operations.old.items operations.new.items }
+    ensures sorted { IsSortedBy (λ x y. is_lt (slice_cmp nat_cmp (rec x) (rec y))) operations.new.items }
+{
+    if operations.sort_by(|a, b| a.compare(b)).is_err() {
+        operations.sort_unstable_by(|a, b| a.compare(b));
+    }
 }
 
 impl PlainArchive {
@@ -254,6 +271,29 @@ impl PlainArchive {
         }
         Ok(missing)
     }
+
+    // Takes operations one after another.
+    fn take_in_turn(&mut self, operations: Vec<Operation, Heap>) -> Result<(), NoMemory>
+        ensures taken { OnOk result (self.new ≡ with_records self.old (map rec operations.items)) }
+        ensures refused { OnErr result (IsTakenInPart self.old (map rec operations.items) self.new) }
+    {
+        'operations: for operation in operations {
+            self.take(operation)?;
+        }
+        Ok(())
+    }
+
+    // Takes over operations that ascend. Of two that are equal one is dropped.
+    fn merge(&mut self, mut operations: Vec<Operation, Heap>) -> Result<(), NoMemory>
+        requires { IsHeld operations.items }
+        ensures merged { OnOk result (self.new ≡ set.union self.old (set.from_list (map rec operations.items))) }
+        ensures refused { OnErr result (self.new ≡ self.old) }
+    {
+        self.operations.append(&mut operations)?;
+        sort(&mut self.operations);
+        self.operations.dedup_by(|a, b| a.compare(b).is_eq());
+        Ok(())
+    }
 }
 
 impl Join for PlainArchive {
@@ -281,8 +321,16 @@ impl Join for PlainArchive {
     fn join(&mut self, other: &Self) -> Result<(), NoMemory> {
         let mut missing = self.copy_missing(&other.operations)?;
         self.operations.append(&mut missing)?;
-        self.operations.sort_unstable_by(|a, b| a.compare(b));
+        sort(&mut self.operations);
         Ok(())
+    }
+
+    fn absorb(&mut self, other: Self) -> Result<(), NoMemory> {
+        let PlainArchive { operations } = other;
+        if operations.len() <= FEW.min(self.operations.len()) {
+            return self.take_in_turn(operations);
+        }
+        self.merge(operations)
     }
 
     fn covers(&self, other: &Self) -> bool {

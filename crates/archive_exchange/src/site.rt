@@ -202,7 +202,7 @@ impl<A: Archive + Drop> Site<A> {
         ensures stopped { OnErr result ((self.new ≡ self.old) ⊎ HasJoinedInPart message.now self.old self.new) }
     {
         let other: A = archive_in(self.saved.allocator().clone()?, message)?;
-        take_all(&mut self.archive, &other)?;
+        take_all(&mut self.archive, other)?;
         Ok(())
     }
 

@@ -1,14 +1,16 @@
 //! An archive with a table of addresses beside each slice.
 ghost use Rattle.std.specs.Prelude.{◌≡◌, ◌≤◌, length, map, filter, not, if◌then◌else◌, Some, None, IfOk, OnOk, OnErr};
 ghost use Rattle.std.specs.FinSet as set;
-ghost use Rattle.std.specs.Ordering.{nat_cmp};
+ghost use Rattle.std.specs.Ordering.{nat_cmp, is_lt};
 ghost use Rattle.std.specs.Cmp.Lexicographic.{slice_cmp};
 ghost use Rattle.std.specs.List.{list_all, AllZip};
-ghost use Rattle.std.specs.List.Sorted.{IsStrictlySortedBy, IsSearchInRange};
+ghost use Rattle.std.specs.List.Sorted.{IsPermutation, IsSortedBy, IsStrictlySortedBy, IsSearchInRange};
 ghost use Rattle.join_core.specs.InnerSearch.{IsFound};
 ghost use Rattle.sha2.specs.Sha256.{sha256};
 ghost use Rattle.archive_core.specs.Valid.{key_of};
 ghost use Rattle.archive_core.specs.Record.{rec, retirement_record};
+ghost use Rattle.archive_core.specs.Content.{IsTakenInPart, with_record, with_records};
+ghost use Rattle.archive_core.specs.InnerHeld.{IsHeld};
 ghost use Rattle.archive_core.specs.InnerScan.{is_finding, live_in, live_among};
 ghost use Rattle.archive_core.specs.Lookup.{IsOwnRow, IsAnswerOf, own_row, answer_view};
 ghost use Rattle.archive_core.specs.Names.{name_view};
@@ -32,7 +34,8 @@ use uuid::Uuid;
 ///
 /// What is asked of a key is found by halving, and an address by halving in the tables of the slices that answer. A
 /// `take` of a slice builds its table, and a join those of the slices that it takes in. The digest of a slice that is
-/// taken behind a retirement of its key is kept beside it; any other is computed where it is asked for.
+/// taken behind a retirement of its key is kept beside it; any other is computed where it is asked for. What is absorbed
+/// keeps its tables and its digests.
 #[derive(Drop)]
 pub struct IndexedArchive {
     operations: Vec<Tabled, Heap>,
@@ -56,6 +59,10 @@ impl Model for IndexedArchive {
     ghost invariant = { λ archive. IsHeld archive.operations.items };
 }
 
+// So many operations at most are put one by one into an archive that has as many, each by a search and a shift of what
+// stands behind it. A merge goes through all that is there, and costs about as much as these.
+const FEW: usize = 8;
+
 // Where an operation stands among others that ascend, or where it would go.
 fn search(operations: &[Tabled], operation: &Operation) -> Result<usize, usize>
     requires { IsStrictlySortedBy (slice_cmp nat_cmp) (map rec operations.now) }
@@ -77,6 +84,19 @@ fn search_from_end(operations: &[Tabled], operation: &Operation) -> Result<usize
         }
     }
     search(operations, operation)
+}
+
+// Sorts operations by their records. Runs that ascend are merged, where there is memory for it.
+fn sort(operations: &mut Vec<Tabled, Heap>)
+    ensures permutation { IsPermutation operations.old.items operations.new.items }
+    ensures sorted { IsSortedBy (λ x y. is_lt (slice_cmp nat_cmp (rec x) (rec y))) operations.new.items }
+{
+    if operations
+        .sort_by(|a, b| a.operation().compare(b.operation()))
+        .is_err()
+    {
+        operations.sort_unstable_by(|a, b| a.operation().compare(b.operation()));
+    }
 }
 
 impl IndexedArchive {
@@ -267,6 +287,41 @@ impl IndexedArchive {
         }
         Ok(missing)
     }
+
+    // Puts an operation at its place, unless it is there.
+    fn put(&mut self, tabled: Tabled) -> Result<(), NoMemory>
+        ensures put { OnOk result (self.new ≡ with_record self.old (rec tabled)) }
+        ensures refused { OnErr result (self.new ≡ self.old) }
+    {
+        if let Err(place) = search_from_end(&self.operations, tabled.operation()) {
+            self.operations.insert(place, tabled)?;
+        }
+        Ok(())
+    }
+
+    // Puts operations at their places, one after another.
+    fn put_in_turn(&mut self, operations: Vec<Tabled, Heap>) -> Result<(), NoMemory>
+        ensures put { OnOk result (self.new ≡ with_records self.old (map rec operations.items)) }
+        ensures refused { OnErr result (IsTakenInPart self.old (map rec operations.items) self.new) }
+    {
+        'operations: for tabled in operations {
+            self.put(tabled)?;
+        }
+        Ok(())
+    }
+
+    // Takes over operations that ascend. Of two that are equal one is dropped.
+    fn merge(&mut self, mut operations: Vec<Tabled, Heap>) -> Result<(), NoMemory>
+        requires { IsHeld operations.items }
+        ensures merged { OnOk result (self.new ≡ set.union self.old (set.from_list (map rec operations.items))) }
+        ensures refused { OnErr result (self.new ≡ self.old) }
+    {
+        self.operations.append(&mut operations)?;
+        sort(&mut self.operations);
+        self.operations
+            .dedup_by(|a, b| a.operation().compare(b.operation()).is_eq());
+        Ok(())
+    }
 }
 
 impl Join for IndexedArchive {
@@ -294,9 +349,16 @@ impl Join for IndexedArchive {
     fn join(&mut self, other: &Self) -> Result<(), NoMemory> {
         let mut missing = self.copy_missing(&other.operations)?;
         self.operations.append(&mut missing)?;
-        self.operations
-            .sort_unstable_by(|a, b| a.operation().compare(b.operation()));
+        sort(&mut self.operations);
         Ok(())
+    }
+
+    fn absorb(&mut self, other: Self) -> Result<(), NoMemory> {
+        let IndexedArchive { operations } = other;
+        if operations.len() <= FEW.min(self.operations.len()) {
+            return self.put_in_turn(operations);
+        }
+        self.merge(operations)
     }
 
     fn covers(&self, other: &Self) -> bool {

@@ -1,18 +1,18 @@
--- Two ascending lists without a common key, put together and sorted: the ascending list of the union.
-use Rattle.std.proofs.Common.{◌≡◌, ℕ, suc, ◌+◌, ◌≤◌, Bool, true, false, not, cond, ◌||◌, List, [], ◌∷◌, ◌++◌, length, filter, refl, sym, ap, ◌∙◌, arith, add-one}
+-- Two ascending lists put together and sorted, without their common keys: the ascending list of the union.
+use Rattle.std.proofs.Common.{◌≡◌, ℕ, suc, ◌+◌, ◌≤◌, Bool, true, false, not, cond, ◌||◌, List, [], ◌∷◌, ◌++◌, length, map, filter, refl, sym, ap, ◌∙◌, arith, add-one}
 use mathlib.Core.Bool.{true≢false}
 use Rattle.std.specs.declared.cmp.Ordering.{Ordering}
 use Rattle.std.specs.declared.cmp.Ordering.TheVariants.{Less, Equal, Greater}
 use Rattle.std.specs.Ordering.{eq_by_cmp, is_eq, is_lt, ordering_reverse}
-use Rattle.std.specs.Cmp.{IsTotalOrder, tied_itself, Equal-is}
-use Rattle.std.specs.List.{AllByRecursion, list_any}
+use Rattle.std.specs.Cmp.{IsTotalOrder, tied_itself, alike_right, Equal-is}
+use Rattle.std.specs.List.{AllByRecursion, list_any, dedup, dedup_from}
 use Rattle.std.specs.List.Sorted.{IsStrictlySortedBy, IsSorted, IsPermutation}
 use Rattle.std.specs.FinSet as set
 use Rattle.std.specs.FinSet.{FinSet, from_list, contains, union, IsAntisymmetric, contains-from_list, contains-insert, contains-union, contains_tied, same_set, len-insert, len-empty}
 use Rattle.std.proofs.lemmas.Cmp.{eq_by_cmp_equiv}
 use Rattle.std.proofs.lemmas.List.Folds.{list_any-append}
 use Rattle.std.proofs.lemmas.List.Sorted.{list_any-IsPermutation, length_permutation}
-use Rattle.std.proofs.lemmas.List.Kept.{IsStrictlySortedBy-filter}
+use Rattle.std.proofs.lemmas.List.Kept.{IsStrictlySortedBy-filter, IsStrictlySortedBy-dedup}
 use Rattle.join_core.proofs.Place.{none_tied}
 
 or_false : (a b : Bool) → (a || b) ≡ false → (a ≡ false) × (b ≡ false)
@@ -23,6 +23,22 @@ or_false false b h = (refl, h)
 below_all : {K : Type 0} (R : K → K → Ordering) → IsTotalOrder R → (x y : K) (ys : List K) → R x y ≡ Less → AllByRecursion (λ z. R y z ≡ Less) ys → AllByRecursion (λ z. R x z ≡ Less) ys
 below_all R o x y [] lt h = tt
 below_all R o x y (z ∷ ys) lt h = (o.trans x y z lt h.0, below_all R o x y ys lt h.1)
+
+twice : (a c : Bool) → (a || c) ≡ (a || (a || c))
+twice true c = refl
+twice false c = refl
+
+-- of elements with one key one is kept, as of the keys
+map_dedup_from : {X K : Type 0} (f : X → K) (same : K → K → Bool) (x : X) (xs : List X) → map f (dedup_from (λ a b. same (f a) (f b)) x xs) ≡ dedup_from same (f x) (map f xs)
+map_dedup_from f same x [] = refl
+map_dedup_from f same x (y ∷ ys) = elim (same (f y) (f x)) as (λ b. map f (cond b (dedup_from (λ a b. same (f a) (f b)) x ys) (x ∷ dedup_from (λ a b. same (f a) (f b)) y ys)) ≡ cond b (dedup_from same (f x) (map f ys)) (f x ∷ dedup_from same (f y) (map f ys))) [
+  | true ↦ map_dedup_from f same x ys
+  | false ↦ ap (λ l. f x ∷ l) (map_dedup_from f same y ys)
+]
+
+pub map_dedup : {X K : Type 0} (f : X → K) (same : K → K → Bool) (xs : List X) → map f (dedup (λ a b. same (f a) (f b)) xs) ≡ dedup same (map f xs)
+map_dedup f same [] = refl
+map_dedup f same (x ∷ xs) = map_dedup_from f same x xs
 
 module _ {K : Type 0} {R : K → K → Ordering} (o : IsTotalOrder R) where
   -- a set has no more members than the list that it is made of
@@ -104,6 +120,21 @@ module _ {K : Type 0} {R : K → K → Ordering} (o : IsTotalOrder R) where
     | false ↦ λ e. (e, missing_apart s ks)
   ] refl
 
+  -- a key is among those of which one is kept just where it is among all
+  any_dedup_from : (q k : K) (ks : List K) → list_any (eq_by_cmp R q) (dedup_from (eq_by_cmp R) k ks) ≡ (eq_by_cmp R q k || list_any (eq_by_cmp R q) ks)
+  any_dedup_from q k [] = refl
+  any_dedup_from q k (x ∷ xs) = elim (eq_by_cmp R x k) as (λ b. eq_by_cmp R x k ≡ b → list_any (eq_by_cmp R q) (cond b (dedup_from (eq_by_cmp R) k xs) (k ∷ dedup_from (eq_by_cmp R) x xs)) ≡ (eq_by_cmp R q k || (eq_by_cmp R q x || list_any (eq_by_cmp R q) xs))) [
+    | true ↦ λ e.
+        any_dedup_from q k xs
+        ∙ twice (eq_by_cmp R q k) (list_any (eq_by_cmp R q) xs)
+        ∙ ap (λ r. eq_by_cmp R q k || (is_eq r || list_any (eq_by_cmp R q) xs)) (sym (alike_right o x k q ((Equal-is (R x k)).0 e)))
+    | false ↦ λ _. ap (λ b. eq_by_cmp R q k || b) (any_dedup_from q x xs)
+  ] refl
+
+  any_dedup : (q : K) (ks : List K) → list_any (eq_by_cmp R q) (dedup (eq_by_cmp R) ks) ≡ list_any (eq_by_cmp R q) ks
+  any_dedup q [] = refl
+  any_dedup q (k ∷ ks) = any_dedup_from q k ks
+
   module _ (same : IsAntisymmetric R) where
     -- the order of a list does not count
     pub from_list_permuted : (xs ys : List K) → IsPermutation xs ys → from_list {R = R} ys ≡ from_list xs
@@ -160,3 +191,14 @@ module _ {K : Type 0} {R : K → K → Ordering} (o : IsTotalOrder R) where
         in_list : (zs : List K) → AllByRecursion (λ z. contains (from_list {R = R} xs) z ≡ false) zs → AllByRecursion (λ z. list_any (eq_by_cmp R z) xs ≡ false) zs
         in_list [] h = tt
         in_list (z ∷ zs) h = (sym (contains-from_list o xs z) ∙ h.0, in_list zs h.1)
+
+    -- repeats do not count
+    from_list_dedup : (ks : List K) → from_list {R = R} (dedup (eq_by_cmp R) ks) ≡ from_list ks
+    from_list_dedup ks = same_set o same _ _ (λ q. contains-from_list o (dedup (eq_by_cmp R) ks) q ∙ any_dedup q ks ∙ sym (contains-from_list o ks q))
+
+    -- sorted together, two lists are the ascending list of the union once of each key one is kept
+    pub deduped_is : (xs ks sorted : List K) → IsPermutation (xs ++ ks) sorted → IsSorted R sorted → IsMerged xs ks (dedup (eq_by_cmp R) sorted)
+    deduped_is xs ks sorted permuted up = record {
+      ascending = IsStrictlySortedBy-dedup o (λ x y. refl) sorted up;
+      members = from_list_dedup sorted ∙ from_list_permuted (xs ++ ks) sorted permuted ∙ from_list_append xs ks;
+    }

@@ -29,6 +29,11 @@ pub trait Join {
         ensures joined { OnOk result (IsLeastAbove is_content below (content self.old) (content other.now) (content self.new)) }
         ensures refused { OnErr result (IsTowards is_content below (content self.old) (content other.now) (content self.new)) };
 
+    /// Takes over the content of `other`, without a copy of what it holds. Otherwise as [`join`](Join::join).
+    fn absorb(&mut self, other: Self) -> Result<(), NoMemory>
+        ensures joined { OnOk result (IsLeastAbove is_content below (content self.old) (content other) (content self.new)) }
+        ensures refused { OnErr result (IsTowards is_content below (content self.old) (content other) (content self.new)) };
+
     /// Whether the content of `other` is below this one, so that joining it would change nothing.
     fn covers(&self, other: &Self) -> bool
         ensures answer { IsTrue result ↔ below (content other.now) (content self.now) }

@@ -6,14 +6,14 @@ pub returns-clause-joined : goal.returns-clause-joined
 returns-clause-joined g c =
     let join = g.A.Join in
     let law = g.met.A.Archive in
-    on_ok_weaker c.join.result
-    (least_is_joined join.is_content join.below law.is_content_is law.below_is (join.content c.args.archive.now) (join.content c.args.other.now) (join.content c.join.new.self))
-    c.join.ensures.joined
+    on_ok_weaker c.absorb.result
+    (least_is_joined join.is_content join.below law.is_content_is law.below_is (join.content c.args.archive.now) (join.content c.args.other) (join.content c.absorb.new.self))
+    c.absorb.ensures.joined
 
 pub returns-clause-refused : goal.returns-clause-refused
 returns-clause-refused g c =
     let join = g.A.Join in
     let law = g.met.A.Archive in
-    on_err_weaker c.join.result
-    (towards_in_words join.is_content join.below law.is_content_is law.below_is (join.content c.args.archive.now) (join.content c.args.other.now) (join.content c.join.new.self))
-    c.join.ensures.refused
+    on_err_weaker c.absorb.result
+    (towards_in_words join.is_content join.below law.is_content_is law.below_is (join.content c.args.archive.now) (join.content c.args.other) (join.content c.absorb.new.self))
+    c.absorb.ensures.refused

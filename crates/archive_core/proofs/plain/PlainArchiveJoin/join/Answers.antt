@@ -1,11 +1,6 @@
-use Rattle.std.proofs.Common.{◌++◌, ◌∙◌, ap, subst, rules}
-use Rattle.std.specs.Ordering.{nat_cmp, is_lt}
-use Rattle.std.specs.Cmp.Lexicographic.{slice_cmp, nat_list_cmp_total}
+use Rattle.std.proofs.Common.{◌++◌, ◌∙◌, ap, subst}
 use Rattle.std.specs.FinSet as set
-use Rattle.std.proofs.lemmas.Fn.{always_returns_same}
-use Rattle.std.proofs.lemmas.List.MinMax.{ranks_by}
 use Rattle.std.proofs.lemmas.Result.{err_from_is_err_and}
-use Rattle.archive_core.specs.Record.{rec}
 use Rattle.archive_core.specs.Content.{IsContent}
 use Rattle.archive_core.proofs.Held.{content_of_held}
 use Rattle.archive_core.proofs.Joined.{joined, unmoved}
@@ -27,19 +22,17 @@ pub invariant_of-self-2 : goal.invariant_of-self-2
 invariant_of-self-2 c =
     let mine = c.self.inside.operations.items in
     let theirs = c.other.inside.operations.items in
-    let by_record = c.sort_unstable_by.ensures.sorted (λ x y. is_lt (slice_cmp nat_cmp (rec x) (rec y))) (ranks_by nat_list_cmp_total rec) (always_returns_same _ _ _ (λ a r g called. (search rules, search rules))) in
     let added = c.in_ok-append.ensures.items ∙ ap (λ items. mine ++ items) c.in_ok-missing.ensures in
-    let permuted = rw (added, c.deref.ensures.value, ← c.self.view_is) at c.sort_unstable_by.ensures.permutation in
-    (holds_both mine theirs c.sort_unstable_by.new.self.items c.self.invariant c.other.invariant permuted by_record).held
+    let permuted = rw (added, c.deref.ensures.value, ← c.self.view_is) at c.sort.ensures.permutation in
+    (holds_both mine theirs c.sort.new.operations.items c.self.invariant c.other.invariant permuted c.sort.ensures.sorted).held
 
 pub returns-clause-joined : goal.returns-clause-joined
 returns-clause-joined c =
     let mine = c.self.inside.operations.items in
     let theirs = c.other.inside.operations.items in
-    let by_record = c.sort_unstable_by.ensures.sorted (λ x y. is_lt (slice_cmp nat_cmp (rec x) (rec y))) (ranks_by nat_list_cmp_total rec) (always_returns_same _ _ _ (λ a r g called. (search rules, search rules))) in
     let added = c.in_ok-append.ensures.items ∙ ap (λ items. mine ++ items) c.in_ok-missing.ensures in
-    let permuted = rw (added, c.deref.ensures.value, ← c.self.view_is) at c.sort_unstable_by.ensures.permutation in
-    let both = holds_both mine theirs c.sort_unstable_by.new.self.items c.self.invariant c.other.invariant permuted by_record in
+    let permuted = rw (added, c.deref.ensures.value, ← c.self.view_is) at c.sort.ensures.permutation in
+    let both = holds_both mine theirs c.sort.new.operations.items c.self.invariant c.other.invariant permuted c.sort.ensures.sorted in
     let mine_is = subst IsContent c.self.view_is (content_of_held mine c.self.invariant) in
     let theirs_is = subst IsContent c.other.view_is (content_of_held theirs c.other.invariant) in
     joined c.args.self.now c.args.other.now _ mine_is theirs_is (both.members ∙ (λ i. set.union (c.self.view_is i) (c.other.view_is i)))

@@ -1,0 +1,37 @@
+use Rattle.std.proofs.Common.{◌≡◌, ◌∷◌, List, length, map, sym, ap, ◌∙◌, subst, arith, rules}
+use Rattle.std.specs.Vec.Iter.{into_iter_items, into_iter_len}
+use Rattle.std.proofs.lemmas.Result.{err_from_is_err_and}
+use Rattle.archive_core.specs.Content.{IsTakenInPart}
+use Rattle.archive_core.specs.Record.{rec}
+use Rattle.archive_core.specs.declared.operations.Operation.{Operation}
+use Rattle.archive_core.proofs.Held.{content_with}
+use Rattle.archive_core.proofs.Taken.{one_taken, taken_in_part}
+use Rattle.archive_core.proofs.taking.take_in_turn.Goals as goal
+
+pub operations-preserved : goal.operations-preserved
+operations-preserved g c =
+    let at = c.operations in
+    let left : List Operation = into_iter_items at.operation-iterator in
+    let rest : List Operation = into_iter_items c.next.new.self in
+    let steps : left ≡ c.in-Some.operation ∷ rest = c.in-Some.ensures.steps.0 in
+    let now = g.A.Join.content at.archive in
+    let next = g.A.Join.content c.take.new.self in
+    record {
+      can = tt;
+      finite = tt;
+      way = one_taken (g.A.Join.content c.args.archive.now) now next (into_iter_items c.into_iter-operation-iterator.result) left rest c.in-Some.operation at.invariant.way steps c.in_ok-take.ensures.taken;
+      content = λ was. content_with now next c.in-Some.operation (at.invariant.content was) (search rules) c.in_ok-take.ensures.taken;
+      long =
+          let was : into_iter_len at.operation-iterator ≡ length left = at.invariant.long in
+          let gone = c.in-Some.ensures.steps.1 in
+          let short : length left ≡ length (c.in-Some.operation ∷ rest) = ap length steps in
+          omega arith;
+    }
+
+pub returns-in_err-take-clause-refused : goal.returns-in_err-take-clause-refused
+returns-in_err-take-clause-refused g c =
+    let p = err_from_is_err_and c.from_residual.result c.from_residual.ensures.1 in
+    let old = g.A.Join.content c.args.archive.now in
+    let new = g.A.Join.content c.take.new.self in
+    let part = taken_in_part old (g.A.Join.content c.operations.archive) new (into_iter_items c.into_iter-operation-iterator.result) (into_iter_items c.operations.operation-iterator) c.operations.invariant.way c.in_err-take.ensures.refused in
+    rw p.1 (subst (λ (all : List Operation). IsTakenInPart old (map rec all) new) c.into_iter-operation-iterator.ensures.into_iter_gives.0 part)

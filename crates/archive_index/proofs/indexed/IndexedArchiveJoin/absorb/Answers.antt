@@ -1,0 +1,38 @@
+use Rattle.std.proofs.Common.{◌∙◌, ap, map, subst}
+use Rattle.std.specs.FinSet as set
+use Rattle.std.proofs.lemmas.Result.{on_ok_weaker, on_err_weaker}
+use Rattle.archive_core.specs.Content.{IsContent}
+use Rattle.archive_core.specs.Record.{rec}
+use Rattle.archive_core.proofs.Held.{content_of_held}
+use Rattle.archive_core.proofs.Joined.{joined, unmoved, taken_towards}
+use Rattle.archive_core.proofs.Taken.{taken_are_joined}
+use Rattle.archive_index.proofs.indexed.IndexedArchiveJoin.absorb.Goals as goal
+
+pub returns-then-len-min-clause-joined : goal.returns-then-len-min-clause-joined
+returns-then-len-min-clause-joined c =
+    let mine = c.self.inside.operations.items in
+    let theirs = c.other.inside.operations.items in
+    let mine_is = subst IsContent c.self.view_is (content_of_held mine c.self.invariant) in
+    let theirs_is = subst IsContent c.other.view_is (content_of_held theirs c.other.invariant) in
+    on_ok_weaker c.put_in_turn.result (λ taken. joined c.args.self.now c.args.other _ mine_is theirs_is (taken ∙ taken_are_joined c.args.self.now (map rec theirs) ∙ ap (set.union c.args.self.now) c.other.view_is)) c.put_in_turn.ensures.put
+
+pub returns-then-len-min-clause-refused : goal.returns-then-len-min-clause-refused
+returns-then-len-min-clause-refused c =
+    let mine = c.self.inside.operations.items in
+    let theirs = c.other.inside.operations.items in
+    let mine_is = subst IsContent c.self.view_is (content_of_held mine c.self.invariant) in
+    let theirs_is = subst IsContent c.other.view_is (content_of_held theirs c.other.invariant) in
+    on_err_weaker c.put_in_turn.result (taken_towards c.args.self.now c.args.other _ (map rec theirs) mine_is theirs_is c.other.view_is) c.put_in_turn.ensures.refused
+
+pub returns-clause-joined : goal.returns-clause-joined
+returns-clause-joined c =
+    let mine = c.self.inside.operations.items in
+    let theirs = c.other.inside.operations.items in
+    let mine_is = subst IsContent c.self.view_is (content_of_held mine c.self.invariant) in
+    let theirs_is = subst IsContent c.other.view_is (content_of_held theirs c.other.invariant) in
+    on_ok_weaker c.merge.result (λ merged. joined c.args.self.now c.args.other _ mine_is theirs_is (merged ∙ ap (set.union c.args.self.now) c.other.view_is)) c.merge.ensures.merged
+
+pub returns-clause-refused : goal.returns-clause-refused
+returns-clause-refused c =
+    let mine_is = subst IsContent c.self.view_is (content_of_held c.self.inside.operations.items c.self.invariant) in
+    on_err_weaker c.merge.result (λ same. rw same (unmoved c.args.self.now c.args.other mine_is)) c.merge.ensures.refused
