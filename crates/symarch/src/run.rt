@@ -7,9 +7,9 @@ ghost use Rattle.symarch.specs.Statuses.{status_of, status_of_failure, status_of
 
 use archive_commands::{
     CannotCreate, CommandFault, Failure, Status, run_admit, run_apply, run_delta, run_find,
-    run_merge, run_name, run_new, run_rehearse, run_retire, run_summary, run_symbolicate,
+    run_list, run_merge, run_name, run_new, run_rehearse, run_retire, run_summary, run_symbolicate,
 };
-use archive_core::{Digest, PlainArchive, SliceKey};
+use archive_core::{ArchKey, Digest, PlainArchive, SliceKey};
 use archive_files::{OutFile, open_all, open_all_buffered, open_buffered};
 use archive_index::IndexedArchive;
 use byte_device::Writing;
@@ -123,16 +123,11 @@ fn execute<R: Files + Print + AllocGlobal>(rt: &R, plan: &Plan) -> Result<Status
             uuid,
             arch,
             digest,
-        } => {
-            let key = SliceKey {
-                uuid: *uuid,
-                arch: *arch,
-            };
-            retire(rt, heap, input, out, key, *digest)
-        }
+        } => retire(rt, heap, input, out, key_of(uuid, arch), *digest),
         Plan::Merge { input, out, files } => merge(rt, heap, input, out, files),
         Plan::Apply { input, out, ops } => apply(rt, heap, input, out, ops),
         Plan::Find { archive, uuid } => find(rt, heap, archive, uuid),
+        Plan::List { archive } => list(rt, heap, archive),
         Plan::Name {
             archive,
             name: sought,
@@ -143,13 +138,7 @@ fn execute<R: Files + Print + AllocGlobal>(rt: &R, plan: &Plan) -> Result<Status
             arch,
             load,
             addresses,
-        } => {
-            let key = SliceKey {
-                uuid: *uuid,
-                arch: *arch,
-            };
-            symbolicate(rt, heap, archive, &key, *load, addresses)
-        }
+        } => symbolicate(rt, heap, archive, &key_of(uuid, arch), *load, addresses),
         Plan::Summary { archive, out } => summary(rt, heap, archive, out),
         Plan::Delta {
             archive,
@@ -157,6 +146,14 @@ fn execute<R: Files + Print + AllocGlobal>(rt: &R, plan: &Plan) -> Result<Status
             out,
         } => delta(rt, heap, archive, summary, out),
         Plan::Rehearse { script } => rehearse(rt, heap, script),
+    }
+}
+
+/// The key that a line names.
+fn key_of(uuid: &Uuid, arch: &ArchKey) -> SliceKey {
+    SliceKey {
+        uuid: *uuid,
+        arch: *arch,
     }
 }
 
@@ -274,6 +271,18 @@ fn find<R: Files + Print + AllocGlobal>(
     let mut report = Writing::new(io::writer(rt));
     let mut archive = open_buffered(rt.alloc(), rt, archive)?;
     let status = run_find::<PlainArchive, _, _>(heap, &mut archive, uuid, &mut report)?;
+    Ok(status)
+}
+
+/// `list ARCHIVE`
+fn list<R: Files + Print + AllocGlobal>(
+    rt: &R,
+    heap: Heap,
+    archive: &str,
+) -> Result<Status, Failure> {
+    let mut report = Writing::new(io::writer(rt));
+    let mut archive = open_buffered(rt.alloc(), rt, archive)?;
+    let status = run_list::<PlainArchive, _, _>(heap, &mut archive, &mut report)?;
     Ok(status)
 }
 
