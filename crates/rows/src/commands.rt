@@ -3,8 +3,8 @@
 use crate::desk::{Desk, TriedArchive};
 use crate::ends::{End, Left};
 use archive_commands::{
-    CommandFault, Status, run_admit, run_apply, run_delta, run_find, run_merge, run_name, run_new,
-    run_rehearse, run_retire, run_summary, run_symbolicate,
+    CommandFault, Status, run_admit, run_apply, run_delta, run_find, run_list, run_merge, run_name,
+    run_new, run_rehearse, run_retire, run_summary, run_symbolicate,
 };
 use archive_core::SliceKey;
 use byte_device::Short;
@@ -40,15 +40,14 @@ impl<'a> Desk<'a> {
                 let mut input = self.open(archive);
                 run_find::<TriedArchive, _, _>(self.heap()?, &mut input, uuid, &mut outputs.report)
             }
-            Plan::Name { archive, name } => {
+            Plan::List { archive } => {
                 let mut input = self.open(archive);
+                run_list::<TriedArchive, _, _>(self.heap()?, &mut input, &mut outputs.report)
+            }
+            Plan::Name { archive, name } => {
+                let input = &mut self.open(archive);
                 let sought = name.as_bytes();
-                run_name::<TriedArchive, _, _>(
-                    self.heap()?,
-                    &mut input,
-                    sought,
-                    &mut outputs.report,
-                )
+                run_name::<TriedArchive, _, _>(self.heap()?, input, sought, &mut outputs.report)
             }
             Plan::Symbolicate {
                 archive,
@@ -57,20 +56,13 @@ impl<'a> Desk<'a> {
                 load,
                 addresses,
             } => {
-                let mut input = self.open(archive);
-                let key = SliceKey {
+                let input = &mut self.open(archive);
+                let key = &SliceKey {
                     uuid: *uuid,
                     arch: *arch,
                 };
-                let report = &mut outputs.report;
-                run_symbolicate::<TriedArchive, _, _>(
-                    self.heap()?,
-                    &mut input,
-                    &key,
-                    *load,
-                    addresses,
-                    report,
-                )
+                let (heap, report) = (self.heap()?, &mut outputs.report);
+                run_symbolicate::<TriedArchive, _, _>(heap, input, key, *load, addresses, report)
             }
             Plan::Rehearse { script } => {
                 let mut script = self.open(script);
@@ -155,7 +147,10 @@ pub fn out_of(plan: &Plan) -> Option<&str> {
         | Plan::Apply { out, .. }
         | Plan::Summary { out, .. }
         | Plan::Delta { out, .. } => Some(out),
-        Plan::Find { .. } | Plan::Name { .. } | Plan::Symbolicate { .. } | Plan::Rehearse { .. } =>
-            None,
+        Plan::Find { .. }
+        | Plan::List { .. }
+        | Plan::Name { .. }
+        | Plan::Symbolicate { .. }
+        | Plan::Rehearse { .. } => None,
     }
 }
