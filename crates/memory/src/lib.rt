@@ -41,6 +41,13 @@ impl Memory<Global> {
     }
 }
 
+impl<B: Allocator> Memory<B> {
+    /// Grants `growths` growths from here on, to this handle and its clones, in place of what is left.
+    pub fn grant(&self, growths: u64) {
+        self.growths.set(growths);
+    }
+}
+
 impl<B: Allocator + Clone> Clone for Memory<B> {
     fn clone(&self) -> Result<Self, AllocError> {
         Ok(Memory {
@@ -136,7 +143,11 @@ mod tests {
         first.shrink_to_fit();
         second.push(2u8)?;
         drop(first);
-        assert!(rt; Vec::new(heap).push(3u8).is_err());
+        let mut third = Vec::new(heap.clone()?);
+        assert!(rt; third.push(3u8).is_err());
+        heap.grant(1);
+        third.push(3u8)?;
+        assert!(rt; Vec::new(heap).push(4u8).is_err());
         Ok(())
     }
 }
