@@ -34,7 +34,8 @@ fn push_steps(addresses: &mut Vec<u64>, from: u64, to: u64, step: u64) -> Result
     Ok(())
 }
 
-fn address(word: &str) -> Result<u64, CaseFault> {
+/// The address that a word spells.
+pub fn address(word: &str) -> Result<u64, CaseFault> {
     let digits = word.strip_prefix("0x").ok_or(CaseFault::BadLine)?;
     u64::from_str_radix(digits, 16)
         .ok()

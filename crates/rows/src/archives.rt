@@ -1,18 +1,23 @@
-//! Calls over the texts of archives and of operations.
+//! Calls over the texts of archives, of operations and of summaries.
 
-use crate::desk::TriedArchive;
 use crate::faults::CallFault;
 use archive_core::{Archive, Operation};
-use archive_records::{RecordFault, read_archive, read_front, read_ops};
+use archive_records::{
+    RecordFault, Summary, read_archive, read_front, read_ops, read_summary, write_archive,
+};
 use archive_words::Spelled;
-use byte_device::{Pieces, Source};
-use join_core::Join;
+use byte_device::{Bytes, Pieces, Short, Source};
 use memory::{Heap, NoMemory};
 use report_text::Text;
+use std::alloc::Global;
 
 /// Reads an archive's text from the front of an input, and tells what is left of it.
-pub fn tell_front(heap: Heap, source: &mut Pieces, told: &mut String) -> Result<(), CallFault> {
-    let archive = read_front::<TriedArchive, _>(heap, source)?;
+pub fn tell_front<A: Archive + Drop>(
+    heap: Heap,
+    source: &mut Pieces,
+    told: &mut String,
+) -> Result<(), CallFault> {
+    let archive = read_front::<A, _>(heap, source)?;
     let records = archive.len();
     let (left, end) = count_left(source);
     writeln!(told, "{records} records, {left} bytes are left{end}")?;
@@ -32,38 +37,60 @@ fn count_left(source: &mut Pieces) -> (u64, &'static str) {
     (u64::MAX, " or more")
 }
 
-/// Takes operations into an archive, and tells of each whether it was new.
-pub fn tell_takings(
+/// Reads an archive's text, and tells how many records it has, and how many entries its summary.
+pub fn tell_whole<A: Archive + Drop>(
     heap: Heap,
-    archive: &mut Pieces,
-    operations: &mut Pieces,
+    source: &mut Pieces,
     told: &mut String,
 ) -> Result<(), CallFault> {
-    let mut archive = read_archive::<TriedArchive, _>(heap.clone()?, archive)?;
-    let operations = read_ops(heap, operations)?;
-    tell_each_taking(&mut archive, operations, told)?;
+    let archive = read_archive::<A, _>(heap.clone()?, source)?;
+    let records = archive.len();
+    let entries = Summary::of(heap, &archive)?.len();
+    writeln!(told, "{records} records, {entries} entries")?;
     Ok(())
 }
 
-fn tell_each_taking(
-    archive: &mut TriedArchive,
+/// Reads operations, and tells how many there are.
+pub fn tell_operations(
+    heap: Heap,
+    source: &mut Pieces,
+    told: &mut String,
+) -> Result<(), CallFault> {
+    let operations = read_ops(heap, source)?.len();
+    writeln!(told, "{operations} operations")?;
+    Ok(())
+}
+
+/// Reads a summary, and tells how many entries it has.
+pub fn tell_summary(heap: Heap, source: &mut Pieces, told: &mut String) -> Result<(), CallFault> {
+    let entries = read_summary(heap, source)?.len();
+    writeln!(told, "{entries} entries")?;
+    Ok(())
+}
+
+/// Takes operations into an archive in turn, and tells of each whether it was new.
+pub fn tell_each_taking<A: Archive>(
+    alloc: Global,
+    archive: &mut A,
     operations: Vec<Operation, Heap>,
     told: &mut String,
-) -> Result<(), NoMemory> {
+) -> Result<(), CallFault> {
     for operation in operations {
-        tell_taking(archive, operation, told)?;
+        tell_taking(alloc, archive, operation, told)?;
     }
     let records = archive.len();
-    writeln!(told, "{records} records")
+    writeln!(told, "{records} records")?;
+    Ok(())
 }
 
 // Takes an operation, and tells whether it was new. One that is refused leaves the archive as it was.
-fn tell_taking(
-    archive: &mut TriedArchive,
+fn tell_taking<A: Archive>(
+    alloc: Global,
+    archive: &mut A,
     operation: Operation,
     told: &mut String,
 ) -> Result<(), NoMemory> {
-    let before = archive.len();
+    let before = text_of(alloc, archive)?;
     let held = archive.holds(&operation);
     tell_operation(&operation, told)?;
     match archive.take(operation) {
@@ -71,7 +98,7 @@ fn tell_taking(
         Ok(false) if held => writeln!(told, " held"),
         Ok(false) => writeln!(told, " covered"),
         Err(refused) => {
-            if archive.len() != before {
+            if text_of(alloc, archive)? != before {
                 writeln!(told, " WRONG: refused, and taken")?;
             }
             Err(refused)
@@ -95,56 +122,22 @@ fn tell_operation(operation: &Operation, told: &mut String) -> Result<(), NoMemo
     }
 }
 
-// Reads an archive that is there whole.
-fn read(heap: Heap, text: &[u8]) -> Result<TriedArchive, RecordFault> {
-    read_archive(heap, &mut Pieces::new(text, usize::MAX, usize::MAX))
+/// Reads an archive that is there whole.
+pub fn read<A: Archive + Drop>(heap: Heap, text: &[u8]) -> Result<A, RecordFault> {
+    read_archive(heap, &mut Bytes::new(text))
 }
 
-/// Joins an archive, whose memory is limited, with another one. Where that is refused, it is left between what it was
-/// and the join.
-pub fn tell_join(
-    heap: Heap,
-    ample: Heap,
-    text: &[u8],
-    other: &[u8],
-    told: &mut String,
-) -> Result<(), CallFault> {
-    let mut archive = read(heap, text)?;
-    let other = read(ample.clone()?, other)?;
-    tell_beside(&archive, &other, told)?;
-    if archive.join(&other).is_err() {
-        let before = read(ample, text)?;
-        tell_between(before, &archive, &other, told)?;
-        return Err(CallFault::OutOfMemory);
+/// The text of an archive.
+pub fn text_of<A: Archive>(alloc: Global, archive: &A) -> Result<Vec<u8>, NoMemory> {
+    let mut text = Short::new(Heap::new(alloc)?, usize::MAX);
+    match write_archive(archive, &mut text) {
+        Ok(_) => text.as_slice().to_vec(alloc),
+        Err(_) => Err(NoMemory),
     }
-    tell_beside(&archive, &other, told)?;
-    Ok(())
 }
 
-// Tells where an archive is not between what it was and the join with another one.
-fn tell_between(
-    before: TriedArchive,
-    archive: &TriedArchive,
-    other: &TriedArchive,
-    told: &mut String,
-) -> Result<(), NoMemory> {
-    let mut whole = before;
-    if !archive.covers(&whole) {
-        writeln!(told, "WRONG: refused, and less than before")?;
-    }
-    whole.join(other)?;
-    if !whole.covers(archive) {
-        writeln!(told, "WRONG: refused, and more than the join")?;
-    }
-    Ok(())
-}
-
-// Tells how many records an archive has, and whether it has all of the other's.
-fn tell_beside(
-    archive: &TriedArchive,
-    other: &TriedArchive,
-    told: &mut String,
-) -> Result<(), NoMemory> {
+/// Tells how many records an archive has, and whether it has all of the other's.
+pub fn tell_beside<A: Archive>(archive: &A, other: &A, told: &mut String) -> Result<(), NoMemory> {
     let records = archive.len();
     let all = if archive.covers(other) { "yes" } else { "no" };
     writeln!(told, "{records} records, all of the other: {all}")

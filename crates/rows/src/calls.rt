@@ -1,14 +1,18 @@
 //! What a case asks for: a plan, or a call below the commands.
 
 use crate::addresses::addresses_of;
-use crate::archives::{tell_front, tell_join, tell_takings};
-use crate::desk::Desk;
+use crate::archives::{tell_front, tell_operations, tell_summary, tell_whole};
+use crate::changes::tell_change;
+use crate::desk::{Desk, Tried};
 use crate::ends::{End, Left};
 use crate::faults::{CallFault, CaseFault};
 use crate::images::{tell_fat, tell_image, tell_kind, tell_named, tell_nearest, tell_slice};
-use crate::parts::bytes_of;
+use crate::pairs::tell_pairs;
+use crate::parts::{bytes_of, number};
+use crate::subjects::{Act, ArchiveAct, Change, SiteAct};
+use archive_core::{Archive, PlainArchive};
+use archive_index::IndexedArchive;
 use command_line::Plan;
-use memory::Heap;
 
 /// A call below the commands, with the words behind the first file's name.
 #[derive(Clone, Copy)]
@@ -22,10 +26,15 @@ pub enum Call<'t> {
     /// The parts of a name.
     Named(&'t str),
     Front,
-    /// The name of a file of operations.
-    Take(&'t str),
-    /// The name of another archive.
-    Join(&'t str),
+    Whole,
+    Operations,
+    Summary,
+    /// The number of the pairs, and the seed.
+    Pairs(&'t str),
+    /// What is asked, behind the name of what the call is given, if it is given something.
+    OnArchive(ArchiveAct, &'t str),
+    /// The name of the archive that a site has saved, the call, the name of what it is given, and what is asked.
+    AtSite(&'t str),
 }
 
 /// What a case asks for.
@@ -48,8 +57,14 @@ impl<'t> Task<'t> {
             "nearest" => Call::Nearest(rest),
             "named" => Call::Named(rest),
             "front" => Call::Front,
-            "take" => Call::Take(rest),
-            "join" => Call::Join(rest),
+            "whole" => Call::Whole,
+            "operations" => Call::Operations,
+            "summary" => Call::Summary,
+            "pairs" => Call::Pairs(rest),
+            "ask" => Call::OnArchive(ArchiveAct::Ask, rest),
+            "take" => Call::OnArchive(ArchiveAct::Take, rest),
+            "join" => Call::OnArchive(ArchiveAct::Join, rest),
+            "site" => Call::AtSite(rest),
             _ => return Err(CaseFault::BadLine),
         };
         Ok(Task::Call(call, name))
@@ -65,13 +80,20 @@ impl<'t> Task<'t> {
 }
 
 impl<'a> Desk<'a> {
-    /// Carries out what a case asks for.
-    pub fn carry_out(self, task: Task) -> Result<Left, CaseFault> {
+    /// Carries out what a case asks for, on the archive that is tried.
+    pub fn carry_out(self, task: Task<'a>) -> Result<Left, CaseFault> {
+        match self.tried {
+            Tried::Plain => self.carry_out_on::<PlainArchive>(task),
+            Tried::Indexed => self.carry_out_on::<IndexedArchive>(task),
+        }
+    }
+
+    fn carry_out_on<A: Archive + Drop>(self, task: Task<'a>) -> Result<Left, CaseFault> {
         match task {
-            Task::Run(plan) => Ok(self.run(plan)?),
+            Task::Run(plan) => Ok(self.run::<A>(plan)?),
             Task::Call(call, name) => {
                 let mut told = String::new(self.alloc);
-                let end = End::of_call(self.call(call, name, &mut told)?);
+                let end = End::of_call(self.call::<A>(call, name, &mut told)?);
                 let report = told.into_bytes();
                 let out = Vec::new(self.alloc);
                 Ok(Left { end, out, report })
@@ -80,9 +102,9 @@ impl<'a> Desk<'a> {
     }
 
     // Makes a call, and tells what it gives.
-    fn call(
+    fn call<A: Archive + Drop>(
         self,
-        call: Call,
+        call: Call<'a>,
         name: &str,
         told: &mut String,
     ) -> Result<Result<(), CallFault>, CaseFault> {
@@ -100,15 +122,70 @@ impl<'a> Desk<'a> {
                 let name = bytes_of(self.alloc, self.store, parts)?;
                 tell_named(bytes, &name, told)
             }
-            Call::Front => tell_front(self.heap()?, &mut self.source(name)?, told),
-            Call::Take(operations) => {
-                let mut operations = self.source(operations)?;
-                tell_takings(self.heap()?, &mut self.source(name)?, &mut operations, told)
+            Call::Front => tell_front::<A>(self.heap()?, &mut self.source(name)?, told),
+            Call::Whole => tell_whole::<A>(self.heap()?, &mut self.source(name)?, told),
+            Call::Operations => tell_operations(self.heap()?, &mut self.source(name)?, told),
+            Call::Summary => tell_summary(self.heap()?, &mut self.source(name)?, told),
+            Call::Pairs(words) => {
+                let (pairs, seed) = first_word(words);
+                tell_pairs::<A>(self.alloc, bytes, number(pairs)?, number(seed)?, told)
             }
-            Call::Join(other) => {
-                let other = self.bytes(other).ok_or(CaseFault::BadLine)?;
-                tell_join(self.heap()?, Heap::new(self.alloc)?, bytes, other, told)
+            Call::OnArchive(act, words) => {
+                let change = self.change(bytes, act, words)?;
+                tell_change::<A>(change, self.limits.growths, told)
+            }
+            Call::AtSite(words) => {
+                let change = self.change_at_site(bytes, words)?;
+                tell_change::<A>(change, self.limits.growths, told)
             }
         })
     }
+
+    // A call on an archive, of which the words say the rest.
+    fn change(
+        self,
+        held: &'a [u8],
+        act: ArchiveAct,
+        words: &'a str,
+    ) -> Result<Change<'a>, CaseFault> {
+        let (input, questions) = match act {
+            ArchiveAct::Ask => ("-", words),
+            ArchiveAct::Take | ArchiveAct::Join => first_word(words),
+        };
+        Ok(Change {
+            alloc: self.alloc,
+            held,
+            act: Act::OnArchive(act),
+            input: self.given(input)?,
+            questions,
+        })
+    }
+
+    // A call at a site, of which the words say the rest.
+    fn change_at_site(self, held: &'a [u8], words: &'a str) -> Result<Change<'a>, CaseFault> {
+        let (saved, rest) = first_word(words);
+        let (verb, rest) = first_word(rest);
+        let (input, questions) = first_word(rest);
+        let act = SiteAct::of_verb(verb).ok_or(CaseFault::BadLine)?;
+        Ok(Change {
+            alloc: self.alloc,
+            held,
+            act: Act::AtSite(act, self.given(saved)?),
+            input: self.given(input)?,
+            questions,
+        })
+    }
+
+    // What a call is given: the bytes of a file, or nothing.
+    fn given(self, name: &str) -> Result<&'a [u8], CaseFault> {
+        if name == "-" {
+            return Ok(&[]);
+        }
+        self.bytes(name).ok_or(CaseFault::BadLine)
+    }
+}
+
+// The first word, and the rest.
+fn first_word(words: &str) -> (&str, &str) {
+    words.split_once(' ').unwrap_or((words, ""))
 }

@@ -12,8 +12,9 @@
 //! - `hold cut NAME N`: a file has its first N bytes alone; `hold read NAME N`: it fails when it gave N bytes;
 //! - `each cut NAME`, `each read NAME`, `each out`, `each report`, `each pieces N` carry the next case out at each
 //!   place, and tell places in a row that have one outcome in one line;
-//! - `each growth` carries it out with 0, 1, .. growths until none is refused, and tells how many runs met a refusal. A
-//!   refused run leaves its report empty and OUT empty or whole; one that writes as it reads leaves a beginning.
+//! - `each growth` carries it out with 0, 1, .. growths until none is refused, and tells how many runs met a refusal on
+//!   either archive. A refused run leaves its report empty and OUT empty or whole; one that writes as it reads leaves a
+//!   beginning.
 //!
 //! The program, whose report stands behind `|`:
 //!
@@ -33,18 +34,36 @@
 //! - `named NAME PART..`: each symbol of a name, as `nearest` tells it, at its own address;
 //! - `front NAME`: an archive's text, read from the front of a file: `2 records, 106 bytes are left`, with `then it
 //!   fails` where the reader fails behind them;
-//! - `take ARCHIVE OPS`: the operations of a file, taken into an archive in turn: `admit UUID ARCH SHA256 new` or
-//!   `retire ..`, where the word at the end is `new` if that changed the archive, `held` if it was there before, or
-//!   else `covered`; then `2 records`;
-//! - `join ARCHIVE OTHER`: an archive before and after it is joined with another: `2 records, all of the other: no`.
+//! - `whole NAME`, `operations NAME`, `summary NAME`: an archive's text, operations and a summary, read to their ends:
+//!   `2 records, 2 entries`, where the entries are those of its summary, `3 operations`, `2 entries`;
+//! - `pairs IMAGE N SEED`: N random pairs of archives, made of an image, which are merged as they come and joined as
+//!   values: the length and the SHA-256 of all that was merged.
 //!
-//! A case that is not swept is carried out again with inputs in pieces of 1 and of 7 bytes. A report of more than 40
-//! lines is told as their number and the SHA-256 of all: `5000 lines SHA256`. What contradicts itself is told in a line
-//! that has the word `WRONG`.
+//! Calls that may change an archive. Behind what each gives stand the length and the SHA-256 of the text of what is
+//! held then, of a site also of what it saved, and the answers to the questions; `questions` has the forms of QUESTION:
+//!
+//! - `ask ARCHIVE QUESTION..`: the answers alone;
+//! - `take ARCHIVE OPS QUESTION..`: the operations of a file, taken into an archive in turn: `admit UUID ARCH SHA256
+//!   new` or `retire ..`, where the word at the end is `new` if that changed the archive, `held` if it was there, or
+//!   else `covered`; then `2 records`;
+//! - `join ARCHIVE OTHER QUESTION..`: an archive before and after it is joined with another: `2 records, all of the
+//!   other: no`;
+//! - `site HELD SAVED CALL INPUT QUESTION..`: a call of a site that saved the archive SAVED, and holds HELD beside it:
+//!   `take`, `retire` (the slice that INPUT is), `full`, `ask`, `reply`, `deliver`, `save` or `stop`; `-` stands for no
+//!   INPUT.
+//!
+//! Where growths are held, those of the call alone count. Where one is refused, what is held and saved has to be what
+//! the call promises, and to answer as an archive does that is read from its text; calls that take no memory have to
+//! succeed; and the call made again has to come to what it comes to at once.
+//!
+//! Each case is carried out on the plain archive and on the indexed one, and has to end alike; what is told is of the
+//! first. A case that is not swept is carried out on the first with inputs in pieces of 1 byte, too, and on the second
+//! in pieces of 7. A report of more than 40 lines is told as their number and the SHA-256 of all: `5000 lines SHA256`.
+//! What contradicts itself is told in a line that has the word `WRONG`.
 
 use crate::calls::Task;
 use crate::commands::out_of;
-use crate::desk::Desk;
+use crate::desk::{Desk, Tried};
 use crate::ends::Left;
 use crate::faults::CaseFault;
 use crate::limits::{Front, Limits, Sweep};
@@ -218,6 +237,7 @@ impl<'t> Bench<'t> {
             alloc: self.alloc,
             store: &self.store,
             limits,
+            tried: Tried::Plain,
         };
         match mode {
             Mode::Growths => tell_growths(desk, task, told),
@@ -225,7 +245,7 @@ impl<'t> Bench<'t> {
             Mode::Once => {
                 let left = desk.carry_out(task)?;
                 tell_left(&left, told)?;
-                tell_pieces(desk, task, &left, told)?;
+                tell_others(desk, task, &left, told)?;
                 self.keep_out(out, left.out)
             }
         }
@@ -249,17 +269,22 @@ fn front(words: &str) -> Result<Front<'_>, CaseFault> {
     })
 }
 
-// Tells where it makes a difference that the inputs come in small pieces.
-fn tell_pieces(desk: Desk, task: Task, left: &Left, told: &mut String) -> Result<(), CaseFault> {
-    for pieces in [1, 7] {
+// Tells where it makes a difference that the archive is the other one, or that the inputs come in small pieces.
+fn tell_others(desk: Desk, task: Task, left: &Left, told: &mut String) -> Result<(), CaseFault> {
+    for (tried, pieces) in [(Tried::Plain, 1), (Tried::Indexed, 7)] {
         let limits = Limits {
             pieces,
             ..desk.limits
         };
-        if !(Desk { limits, ..desk }.carry_out(task)?.is_as(left)) {
+        let other = Desk {
+            limits,
+            tried,
+            ..desk
+        };
+        if !other.carry_out(task)?.is_as(left) {
             writeln!(
                 told,
-                "  WRONG: another end with inputs in pieces of {pieces}"
+                "  WRONG: another end on {tried:?} with inputs in pieces of {pieces}"
             )?;
         }
     }

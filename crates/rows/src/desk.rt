@@ -4,13 +4,21 @@ use crate::faults::CaseFault;
 use crate::limits::Limits;
 use crate::store::Store;
 use archive_commands::CannotOpen;
-use archive_core::PlainArchive;
 use byte_device::Pieces;
 use memory::{Heap, NoMemory};
 use std::alloc::Global;
 
-/// The archive that the cases try.
-pub type TriedArchive = PlainArchive;
+/// The archive that a case is tried on.
+#[derive(Clone, Copy, Debug)]
+pub enum Tried {
+    Plain,
+    Indexed,
+}
+
+impl Tried {
+    /// Both, of which the first one's answers are told, and another answer of the other.
+    pub const BOTH: [Tried; 2] = [Tried::Plain, Tried::Indexed];
+}
 
 /// An input of a command.
 pub type Input<'a> = Result<Pieces<'a>, CannotOpen>;
@@ -21,6 +29,7 @@ pub struct Desk<'a> {
     pub alloc: Global,
     pub store: &'a Store,
     pub limits: Limits<'a>,
+    pub tried: Tried,
 }
 
 impl<'a> Desk<'a> {

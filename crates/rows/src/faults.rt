@@ -1,6 +1,7 @@
 //! Why a case is not carried out, and why a call below the commands is refused.
 
 use archive_core::{AdmitFault, SliceFault};
+use archive_exchange::{DeliverFault, ReplyFault, TakeFault};
 use archive_records::{RecordFault, RecordFaultKind};
 use fat_slices::FatFault;
 use hex::FromHexError;
@@ -26,8 +27,10 @@ pub enum CallFault {
     Fat(FatFault),
     /// The bytes are no image, or its symbols cannot be read.
     Slice(SliceFault),
-    /// The bytes are no text of an archive or of operations, or their reader failed.
+    /// The bytes are no text of an archive, of operations or of a summary, or their reader failed.
     Record(RecordFault),
+    /// The bytes are no file of which a site takes the slices.
+    Take(TakeFault),
     /// A growth was refused.
     OutOfMemory,
 }
@@ -74,6 +77,12 @@ impl From<SymbolFault> for CallFault {
     }
 }
 
+impl From<SliceFault> for CallFault {
+    fn from(refused: SliceFault) -> CallFault {
+        CallFault::Slice(refused)
+    }
+}
+
 impl From<AdmitFault> for CallFault {
     fn from(refused: AdmitFault) -> CallFault {
         match refused {
@@ -93,11 +102,39 @@ impl From<RecordFault> for CallFault {
     }
 }
 
+impl From<TakeFault> for CallFault {
+    fn from(refused: TakeFault) -> CallFault {
+        match refused {
+            TakeFault::OutOfMemory => CallFault::OutOfMemory,
+            _ => CallFault::Take(refused),
+        }
+    }
+}
+
+impl From<ReplyFault> for CallFault {
+    fn from(refused: ReplyFault) -> CallFault {
+        match refused {
+            ReplyFault::NotASummary(fault) => CallFault::Record(fault),
+            ReplyFault::OutOfMemory => CallFault::OutOfMemory,
+        }
+    }
+}
+
+impl From<DeliverFault> for CallFault {
+    fn from(refused: DeliverFault) -> CallFault {
+        match refused {
+            DeliverFault::Refused(fault) => CallFault::Record(fault),
+            DeliverFault::OutOfMemory => CallFault::OutOfMemory,
+        }
+    }
+}
+
 impl fmt::Display for CallFault {
     fn fmt<W: fmt::Write>(&self, f: &mut fmt::Formatter<W>) -> fmt::Result {
         match *self {
             CallFault::Fat(fault) => write!(f, "{fault:?}"),
             CallFault::Slice(fault) => write!(f, "{fault:?}"),
+            CallFault::Take(fault) => write!(f, "{fault:?}"),
             CallFault::Record(RecordFault { kind, offset }) => write!(f, "{kind:?} at {offset}"),
             CallFault::OutOfMemory => f.write_str("OutOfMemory"),
         }

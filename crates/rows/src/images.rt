@@ -121,15 +121,19 @@ fn tell_section(number: u32, section: Section, told: &mut String) -> Result<(), 
     )
 }
 
-/// Tells the key and the digest of a slice.
+/// Tells the key and the digest of a slice, which is copied, too.
 pub fn tell_slice(heap: Heap, bytes: &[u8], told: &mut String) -> Result<(), CallFault> {
     let checked = Slice::check(bytes).map(|slice| slice.key());
-    let slice = Slice::admit(heap, bytes)?;
+    let slice = Slice::admit(heap.clone()?, bytes)?;
+    let copy = slice.copy(heap)?;
     let key = Text(slice.key());
     let digest = Spelled(slice.digest());
     writeln!(told, "{key} {digest}")?;
     if checked != Ok(slice.key()) || slice.bytes() != bytes {
         writeln!(told, "WRONG: the check says otherwise")?;
+    }
+    if copy.key() != slice.key() || copy.bytes() != bytes {
+        writeln!(told, "WRONG: the copy is another slice")?;
     }
     Ok(())
 }

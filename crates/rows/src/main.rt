@@ -11,7 +11,11 @@
 //! - `desk`: what a case goes over;
 //! - `ends`: how a case ends, and what it leaves;
 //! - `commands`: a plan, carried out;
-//! - `images`, `archives`, `calls`: calls below the commands, carried out;
+//! - `images`, `archives`: calls that read bytes, carried out;
+//! - `questions`: what is asked of an archive;
+//! - `subjects`, `changes`: calls that may change an archive, and what they leave where memory is refused;
+//! - `pairs`: random pairs of archives, merged and joined;
+//! - `calls`: calls below the commands;
 //! - `outcomes`, `sweeps`: one case at each place of a device;
 //! - `tellings`: what is printed of a case;
 //! - `cases`: the lines of cases, their language.
@@ -21,6 +25,7 @@ mod addresses;
 mod archives;
 mod calls;
 mod cases;
+mod changes;
 mod commands;
 mod counters;
 mod desk;
@@ -29,8 +34,11 @@ mod faults;
 mod images;
 mod limits;
 mod outcomes;
+mod pairs;
 mod parts;
+mod questions;
 mod store;
+mod subjects;
 mod sweeps;
 mod tellings;
 

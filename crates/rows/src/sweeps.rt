@@ -1,7 +1,7 @@
 //! One case at each place of a device.
 
 use crate::calls::Task;
-use crate::desk::Desk;
+use crate::desk::{Desk, Tried};
 use crate::ends::Left;
 use crate::faults::CaseFault;
 use crate::limits::{Limits, Sweep};
@@ -9,7 +9,7 @@ use crate::outcomes::Outcome;
 use memory::NoMemory;
 
 // Places in a row with one outcome.
-#[derive(Clone, Copy)]
+#[derive(Clone, Copy, PartialEq, Eq)]
 struct Group {
     first: usize,
     last: usize,
@@ -24,9 +24,13 @@ pub fn tell_sweep<'a>(
     task: Task,
     told: &mut String,
 ) -> Result<(), CaseFault> {
-    let mut groups = Vec::new(desk.alloc);
-    sweep_places(desk, sweep, task, &mut groups)?;
+    let whole = desk.carry_out(task)?;
+    let groups = sweep_places(desk, sweep, task, &whole)?;
     tell_groups(&groups, told)?;
+    let tried = Tried::Indexed;
+    if sweep_places(Desk { tried, ..desk }, sweep, task, &whole)? != groups {
+        writeln!(told, "  WRONG: other outcomes on {tried:?}")?;
+    }
     Ok(())
 }
 
@@ -35,15 +39,15 @@ fn sweep_places<'a>(
     desk: Desk<'a>,
     sweep: Sweep<'a>,
     task: Task,
-    groups: &mut Vec<Group>,
-) -> Result<(), CaseFault> {
-    let whole = desk.carry_out(task)?;
-    for place in 0..=last_place(desk, sweep, &whole)? {
+    whole: &Left,
+) -> Result<Vec<Group>, CaseFault> {
+    let mut groups = Vec::new(desk.alloc);
+    for place in 0..=last_place(desk, sweep, whole)? {
         let limits = sweep.limits(desk.limits, place);
         let left = Desk { limits, ..desk }.carry_out(task)?;
-        add_place(groups, place, Outcome::at(place, &left, &whole))?;
+        add_place(&mut groups, place, Outcome::at(place, &left, whole))?;
     }
-    Ok(())
+    Ok(groups)
 }
 
 fn tell_groups(groups: &[Group], told: &mut String) -> Result<(), NoMemory> {
@@ -90,9 +94,18 @@ fn add_place(groups: &mut Vec<Group>, place: usize, outcome: Outcome) -> Result<
 // How many growths are granted at most before a sweep of them gives up.
 const MOST_GROWTHS: u64 = 100_000;
 
-/// Carries out a case with each number of growths from 0 on, until it meets no refusal, and tells how many met one.
+/// Carries out a case on either archive with each number of growths from 0 on, until it meets no refusal, and tells how
+/// many met one.
 pub fn tell_growths(desk: Desk, task: Task, told: &mut String) -> Result<(), CaseFault> {
     let whole = desk.carry_out(task)?;
+    for tried in Tried::BOTH {
+        tell_refusals(Desk { tried, ..desk }, task, &whole, told)?;
+    }
+    Ok(())
+}
+
+fn tell_refusals(desk: Desk, task: Task, whole: &Left, told: &mut String) -> Result<(), CaseFault> {
+    let tried = desk.tried;
     for growths in 0..MOST_GROWTHS {
         let limits = Limits {
             growths,
@@ -100,30 +113,35 @@ pub fn tell_growths(desk: Desk, task: Task, told: &mut String) -> Result<(), Cas
         };
         let left = Desk { limits, ..desk }.carry_out(task)?;
         if !left.end.wants_memory() {
-            return tell_last_growth(growths, left.is_as(&whole), told);
+            return tell_last_growth(tried, growths, left.is_as(whole), told);
         }
-        if !left.may_want_memory(&whole, task.writes_as_it_reads()) {
+        if !left.may_want_memory(whole, task.writes_as_it_reads()) {
             writeln!(
                 told,
-                "  WRONG: growth {growths} was refused, and something was written"
+                "  WRONG: growth {growths} was refused on {tried:?}, and something was written"
             )?;
         }
     }
-    writeln!(told, "  WRONG: every run was refused")?;
+    writeln!(told, "  WRONG: every run was refused on {tried:?}")?;
     Ok(())
 }
 
 // Tells how many runs met a refusal, and whether the first that met none left what ample memory leaves.
-fn tell_last_growth(growths: u64, same: bool, told: &mut String) -> Result<(), CaseFault> {
+fn tell_last_growth(
+    tried: Tried,
+    growths: u64,
+    same: bool,
+    told: &mut String,
+) -> Result<(), CaseFault> {
     if same {
         writeln!(
             told,
-            "  {growths} refusals, then the same as with ample memory"
+            "  {tried:?}: {growths} refusals, then the same as with ample memory"
         )?;
     } else {
         writeln!(
             told,
-            "  WRONG: {growths} refusals, then not the same as with ample memory"
+            "  WRONG on {tried:?}: {growths} refusals, then not the same as with ample memory"
         )?;
     }
     Ok(())

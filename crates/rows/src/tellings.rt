@@ -21,9 +21,15 @@ pub fn tell_left(left: &Left, told: &mut String) -> Result<(), NoMemory> {
 }
 
 fn tell_out(out: &[u8], told: &mut String) -> Result<(), NoMemory> {
-    let len = out.len();
-    let digest = Spelled(Digest(Sha256::digest(out)));
-    writeln!(told, "  OUT {len} bytes {digest}")
+    told.push_str("  OUT ")?;
+    tell_text(out, told)
+}
+
+/// Tells the length and the digest of bytes.
+pub fn tell_text(bytes: &[u8], told: &mut String) -> Result<(), NoMemory> {
+    let len = bytes.len();
+    let digest = Spelled(Digest(Sha256::digest(bytes)));
+    writeln!(told, "{len} bytes {digest}")
 }
 
 // Tells how a case ended. A call that gave something says no more.
