@@ -63,7 +63,9 @@ impl<'t> Task<'t> {
             "pairs" => Call::Pairs(rest),
             "ask" => Call::OnArchive(ArchiveAct::Ask, rest),
             "take" => Call::OnArchive(ArchiveAct::Take, rest),
+            "take-each" => Call::OnArchive(ArchiveAct::TakeEach, rest),
             "join" => Call::OnArchive(ArchiveAct::Join, rest),
+            "absorb" => Call::OnArchive(ArchiveAct::Absorb, rest),
             "site" => Call::AtSite(rest),
             _ => return Err(CaseFault::BadLine),
         };
@@ -150,7 +152,9 @@ impl<'a> Desk<'a> {
     ) -> Result<Change<'a>, CaseFault> {
         let (input, questions) = match act {
             ArchiveAct::Ask => ("-", words),
-            ArchiveAct::Take | ArchiveAct::Join => first_word(words),
+            ArchiveAct::Take | ArchiveAct::TakeEach | ArchiveAct::Join | ArchiveAct::Absorb => {
+                first_word(words)
+            }
         };
         Ok(Change {
             alloc: self.alloc,

@@ -48,6 +48,8 @@
 //!   else `covered`; then `2 records`;
 //! - `join ARCHIVE OTHER QUESTION..`: an archive before and after it is joined with another: `2 records, all of the
 //!   other: no`;
+//! - `take-each ARCHIVE OPS QUESTION..`, `absorb ARCHIVE OTHER QUESTION..`: the same, with the operations taken together,
+//!   `2 new`, and the other archive joined by value;
 //! - `site HELD SAVED CALL INPUT QUESTION..`: a call of a site that saved the archive SAVED, and holds HELD beside it:
 //!   `take`, `retire` (the slice that INPUT is), `full`, `ask`, `reply`, `deliver`, `save` or `stop`; `-` stands for no
 //!   INPUT.

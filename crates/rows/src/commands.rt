@@ -46,7 +46,7 @@ impl<'a> Desk<'a> {
             }
             Plan::List { archive } => {
                 let mut input = self.open(archive);
-                run_list::<TriedArchive, _, _>(self.heap()?, &mut input, &mut outputs.report)
+                run_list::<A, _, _>(self.heap()?, &mut input, &mut outputs.report)
             }
             Plan::Name { archive, name } => {
                 let input = &mut self.open(archive);

@@ -3,10 +3,9 @@
 use crate::archives::{read, text_of};
 use crate::faults::CallFault;
 use crate::tellings::tell_text;
-use archive_core::{Archive, Operation, Slice};
+use archive_core::{Archive, Operation, Slice, take_all};
 use archive_records::merge_streams;
 use byte_device::{Bytes, Grown};
-use join_core::Join;
 use memory::Heap;
 use std::alloc::Global;
 
@@ -96,7 +95,7 @@ pub fn tell_pairs<A: Archive + Drop>(
             &mut merged,
         );
         let mut joined: A = read(heap.clone()?, &left)?;
-        joined.join(&read(heap.clone()?, &right)?)?;
+        take_all(&mut joined, read(heap.clone()?, &right)?)?;
         let records = sizes.map(|sizes| sizes.records);
         if records != Ok(joined.len()) || merged.as_slice() != text_of(alloc, &joined)?.as_slice() {
             writeln!(told, "WRONG: pair {number} is merged otherwise")?;

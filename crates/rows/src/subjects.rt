@@ -4,7 +4,7 @@ use crate::archives::{read, tell_beside, tell_each_taking, text_of};
 use crate::faults::CallFault;
 use crate::questions::{tell_answers, tell_needless};
 use crate::tellings::tell_text;
-use archive_core::{Archive, Slice};
+use archive_core::{Archive, Slice, take_all, take_each};
 use archive_exchange::Site;
 use archive_records::read_ops;
 use byte_device::Bytes;
@@ -20,8 +20,12 @@ pub enum ArchiveAct {
     Ask,
     /// Operations, taken in turn.
     Take,
+    /// Operations, taken together.
+    TakeEach,
     /// Another archive, joined.
     Join,
+    /// Another archive, joined by value.
+    Absorb,
 }
 
 /// A call on a site.
@@ -68,7 +72,8 @@ impl Act<'_> {
     pub fn is_done_in_parts(self) -> bool {
         match self {
             Act::OnArchive(act) => match act {
-                ArchiveAct::Take | ArchiveAct::Join => true,
+                ArchiveAct::Take | ArchiveAct::TakeEach | ArchiveAct::Join | ArchiveAct::Absorb =>
+                    true,
                 ArchiveAct::Ask => false,
             },
             Act::AtSite(act, _) => match act {
@@ -148,7 +153,9 @@ impl<A: Archive + Drop> Subject<A> {
                     tell_answers(change.alloc, heap, archive, change.questions, told)
                 }
                 ArchiveAct::Take => tell_takings(archive, heap, change, growths, told),
+                ArchiveAct::TakeEach => tell_taking_each(archive, heap, change, growths, told),
                 ArchiveAct::Join => tell_join(archive, heap, change, growths, told),
+                ArchiveAct::Absorb => tell_absorbing(archive, heap, change, growths, told),
             },
             Subject::Site { site, act } => {
                 heap.grant(growths);
@@ -224,6 +231,38 @@ fn tell_join<A: Archive + Drop>(
     heap.grant(growths);
     archive.join(&other)?;
     tell_beside(archive, &other, told)?;
+    Ok(())
+}
+
+// Joins an archive with that of a text, by value.
+fn tell_absorbing<A: Archive + Drop>(
+    archive: &mut A,
+    heap: &Heap,
+    change: Change,
+    growths: u64,
+    told: &mut String,
+) -> Result<(), CallFault> {
+    let other: A = read(heap.clone()?, change.input)?;
+    tell_beside(archive, &other, told)?;
+    heap.grant(growths);
+    take_all(archive, other)?;
+    let records = archive.len();
+    writeln!(told, "{records} records")?;
+    Ok(())
+}
+
+// Takes the operations of a text together, and tells how many were new.
+fn tell_taking_each<A: Archive + Drop>(
+    archive: &mut A,
+    heap: &Heap,
+    change: Change,
+    growths: u64,
+    told: &mut String,
+) -> Result<(), CallFault> {
+    let operations = read_ops(heap.clone()?, &mut Bytes::new(change.input))?;
+    heap.grant(growths);
+    let new = take_each(archive, operations)?;
+    writeln!(told, "{new} new")?;
     Ok(())
 }
 
