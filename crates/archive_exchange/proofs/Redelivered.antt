@@ -40,8 +40,8 @@ asked_again text old mid new is part rest = record {
   message = part.message;
   says = part.says;
   held =
-    rest.held
-    ∙ ap (joined mid.held) (one_message text rest.message part.message rest.says part.says)
-    ∙ joined_again old.held part.message mid.held is part.says.content part.held;
+      rest.held
+      ∙ ap (joined mid.held) (one_message text rest.message part.message rest.says part.says)
+      ∙ joined_again old.held part.message mid.held is part.says.content part.held;
   saved = rest.saved ∙ part.saved;
 }
