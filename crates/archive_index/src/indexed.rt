@@ -1,4 +1,4 @@
-//! An archive with a table of addresses beside each slice.
+//! An archive with tables of addresses beside the slices that are asked many questions.
 ghost use Rattle.std.specs.Prelude.{◌≡◌, ◌≤◌, length, map, filter, not, if◌then◌else◌, Some, None, IfOk, OnOk, OnErr};
 ghost use Rattle.std.specs.FinSet as set;
 ghost use Rattle.std.specs.Ordering.{nat_cmp, is_lt};
@@ -18,7 +18,7 @@ ghost use Rattle.archive_core.specs.InnerNames.{names_of, names_among};
 ghost use Rattle.archive_index.specs.Tabled.{IsDigestBeside};
 ghost use Rattle.archive_index.specs.Tally.{IsTally};
 
-use crate::range::{Kind, under};
+use crate::range::{Kind, prepare_under, under};
 use crate::searched::{Searched, Tally};
 use crate::tabled::Tabled;
 use archive_core::{
@@ -30,12 +30,13 @@ use memory::{Heap, NoMemory};
 use std::marker::Model;
 use uuid::Uuid;
 
-/// An archive as a list of operations, strictly ascending by their records, each slice with its table of addresses.
+/// An archive as a list of operations, strictly ascending by their records, in which a slice may have its table of
+/// addresses beside it.
 ///
-/// What is asked of a key is found by halving, and an address by halving in the tables of the slices that answer. A
-/// `take` of a slice builds its table, and a join those of the slices that it takes in. The digest of a slice that is
-/// taken behind a retirement of its key is kept beside it; any other is computed where it is asked for. What is absorbed
-/// keeps its tables and its digests.
+/// What is asked of a key is found by halving. `prepare` builds the tables of the slices under a key that have none: an
+/// address is then found by halving in those of the slices that answer, and else by a scan of their symbols. The digest
+/// of a slice that is taken behind a retirement of its key is kept beside it; any other is computed where it is asked
+/// for. What is absorbed keeps its tables and its digests, and a copy that a join takes in its digest alone.
 #[derive(Drop)]
 pub struct IndexedArchive {
     operations: Vec<Tabled, Heap>,
@@ -381,9 +382,8 @@ impl Archive for IndexedArchive {
         match search_from_end(&self.operations, &operation) {
             Ok(_) => Ok(false),
             Err(place) => {
-                let heap = self.operations.allocator().clone()?;
                 let digest = self.digest_to_keep(&operation);
-                let tabled = Tabled::of(heap, operation, digest)?;
+                let tabled = Tabled::of(operation, digest);
                 self.operations.insert(place, tabled)?;
                 Ok(true)
             }
@@ -392,6 +392,11 @@ impl Archive for IndexedArchive {
 
     fn holds(&self, operation: &Operation) -> bool {
         search(&self.operations, operation).is_ok()
+    }
+
+    fn prepare(&mut self, key: &SliceKey) -> Result<(), NoMemory> {
+        let heap = self.operations.allocator().clone()?;
+        prepare_under(&mut self.operations, *key, &heap)
     }
 
     fn find(&self, uuid: &Uuid) -> Result<Vec<FindRow, Heap>, NoMemory> {

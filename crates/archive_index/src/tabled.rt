@@ -8,8 +8,8 @@ use macho_symbols::AddressTable;
 use memory::{Heap, NoMemory};
 use std::marker::Model;
 
-// An operation, and of a slice that it admits the table of addresses, and its digest where it was computed. A contract
-// sees it as the operation.
+// An operation, and of a slice that it admits the table of addresses and the digest, each where it was asked for. A
+// contract sees it as the operation.
 #[derive(Drop)]
 pub(crate) struct Tabled {
     operation: Operation,
@@ -31,24 +31,30 @@ impl Model for Tabled {
 }
 
 impl Tabled {
-    // The operation, with the table of its slice.
-    pub(crate) fn of(
-        heap: Heap,
-        operation: Operation,
-        digest: Option<Digest>,
-    ) -> Result<Tabled, NoMemory>
+    // The operation, without a table.
+    pub(crate) fn of(operation: Operation, digest: Option<Digest>) -> Tabled
         requires { IsDigestBeside operation digest }
-        ensures { IfOk result (λ tabled. tabled ≡ operation) }
+        ensures { result ≡ operation }
     {
-        let table = match &operation {
-            Operation::Admit(slice) => Some(AddressTable::build(heap, &slice.symbols())?),
-            Operation::Retire(_, _) => None,
-        };
-        Ok(Tabled {
+        Tabled {
             operation,
-            table,
+            table: None,
             digest,
-        })
+        }
+    }
+
+    // Builds the table of the slice that it admits, where it has none.
+    fn prepare(&mut self, heap: &Heap) -> Result<(), NoMemory>
+        ensures { self.new ≡ self.old }
+    {
+        if self.table.is_some() {
+            return Ok(());
+        }
+        if let Operation::Admit(slice) = &self.operation {
+            let table = AddressTable::build(heap.clone()?, &slice.symbols())?;
+            self.table = Some(table);
+        }
+        Ok(())
     }
 
     // The operation.
@@ -58,12 +64,11 @@ impl Tabled {
         &self.operation
     }
 
-    // The same once more.
+    // The same once more, without a table.
     pub(crate) fn copy(&self, heap: Heap) -> Result<Tabled, NoMemory>
         ensures { IfOk result (λ tabled. tabled ≡ self.now) }
     {
-        let copy = self.operation.copy(heap.clone()?)?;
-        Tabled::of(heap, copy, self.digest)
+        Ok(Tabled::of(self.operation.copy(heap)?, self.digest))
     }
 
     // The slice that it admits, if it admits one.
@@ -75,4 +80,14 @@ impl Tabled {
             Operation::Retire(_, _) => None,
         }
     }
+}
+
+// Builds the tables of the slices that operations admit, where they have none.
+pub(crate) fn prepare_each(operations: &mut [Tabled], heap: &Heap) -> Result<(), NoMemory>
+    ensures { operations.new ≡ operations.old }
+{
+    'operations: for tabled in operations {
+        tabled.prepare(heap)?;
+    }
+    Ok(())
 }

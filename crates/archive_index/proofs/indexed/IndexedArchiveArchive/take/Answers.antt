@@ -11,7 +11,7 @@ use Rattle.archive_index.proofs.indexed.IndexedArchiveArchive.take.Goals as goal
 
 pub invariant_of-self-in-Err : goal.invariant_of-self-in-Err
 invariant_of-self-in-Err c =
-    rw (c.in_ok-insert-in-Err.ensures.items, c.in_ok-tabled-in-Err.ensures)
+    rw (c.in_ok-insert-in-Err.ensures.items, c.of-tabled.ensures)
     (held_insert c.self.inside.operations.items c.in-Err.place c.args.operation c.self.invariant (search rules) (rw (← c.deref.ensures.value) c.in-Err.ensures.found.absent))
 
 pub returns-in-Ok-clause-taken : goal.returns-in-Ok-clause-taken
@@ -22,7 +22,7 @@ returns-in-Ok-clause-answer c = sym (present_changes c.args.self.now (rec c.args
 
 pub returns-in_ok-insert-in-Err-clause-taken : goal.returns-in_ok-insert-in-Err-clause-taken
 returns-in_ok-insert-in-Err-clause-taken c =
-    ap (λ items. set.from_list {R = slice_cmp nat_cmp} (map rec items)) (c.in_ok-insert-in-Err.ensures.items ∙ ap (insert_at c.self.inside.operations.items c.in-Err.place) c.in_ok-tabled-in-Err.ensures)
+    ap (λ items. set.from_list {R = slice_cmp nat_cmp} (map rec items)) (c.in_ok-insert-in-Err.ensures.items ∙ ap (insert_at c.self.inside.operations.items c.in-Err.place) c.of-tabled.ensures)
     ∙ records_insert c.self.inside.operations.items c.in-Err.place c.args.operation
     ∙ ap (λ s. set.insert s (rec c.args.operation)) c.self.view_is
 
