@@ -53,6 +53,10 @@ pub trait Archive: Join<Content = Contents> {
     fn holds(&self, operation: &Operation) -> bool
         ensures { result ≡ set.contains (Self.content self.now) (rec operation.now) };
 
+    /// Makes ready for many lookups of a key. No answer depends on it. Refused for want of memory alone.
+    fn prepare(&mut self, key: &SliceKey) -> Result<(), NoMemory>
+        ensures { Self.content self.new ≡ Self.content self.old };
+
     /// The retirements and the live slices under a UUID, a row for each, by `cputype` and `subtype`,
     /// then in the order of their records. Refused for want of memory alone.
     fn find(&self, uuid: &Uuid) -> Result<Vec<FindRow, Heap>, NoMemory>

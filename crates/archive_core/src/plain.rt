@@ -363,6 +363,10 @@ impl Archive for PlainArchive {
         search(&self.operations, operation).is_ok()
     }
 
+    fn prepare(&mut self, _key: &SliceKey) -> Result<(), NoMemory> {
+        Ok(())
+    }
+
     fn find(&self, uuid: &Uuid) -> Result<Vec<FindRow, Heap>, NoMemory> {
         let mut findings = self.gather(&self.operations, uuid)?;
         findings.sort_unstable_by(|a, b| a.compare(b));
