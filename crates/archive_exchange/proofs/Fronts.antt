@@ -10,7 +10,7 @@ use Rattle.fat_slices.specs.declared.file_kind.FileKind.TheVariants.{Thin}
 use Rattle.archive_core.specs.Content.{Operations}
 use Rattle.archive_core.specs.Valid.{IsValid}
 use Rattle.archive_exchange.specs.File.{is_admissible, parts, admissible, IsAcceptedFile}
-use Rattle.archive_exchange.specs.Take.{admitted, taken_of, taken_rows, IsTakenInPart}
+use Rattle.archive_exchange.specs.Take.{admitted, taken_of, taken_rows, HoldsFirstParts}
 use Rattle.archive_exchange.specs.declared.taken.Taken.{Taken}
 use Rattle.archive_exchange.proofs.FileKinds.{thin_begins, parts_thin, parts_fat}
 use Rattle.archive_exchange.proofs.Files.{kept_is}
@@ -58,10 +58,10 @@ taking_more xs i x old mid new rows more row before is new_is row_is more_is = r
 kept_front : (xs : List (List ℕ)) (i : ℕ) → filter is_admissible xs ≡ filter is_admissible (take i xs) ++ filter is_admissible (drop i xs)
 kept_front xs i = ap (filter is_admissible) (sym (take-append-drop i xs)) ∙ filter-append is_admissible (take i xs) (drop i xs)
 
-pub in_part : (file : List ℕ) (xs : List (List ℕ)) (i : ℕ) (old new : Operations) → xs ≡ parts file → new ≡ admitted old (filter is_admissible (take i xs)) → IsTakenInPart file old new
-in_part file xs i old new same is = subst (λ (ys : List (List ℕ)). new ≡ admitted old (filter is_admissible (take i ys)) → IsTakenInPart file old new) (sym same) by is
+pub in_part : (file : List ℕ) (xs : List (List ℕ)) (i : ℕ) (old new : Operations) → xs ≡ parts file → new ≡ admitted old (filter is_admissible (take i xs)) → HoldsFirstParts file old new
+in_part file xs i old new same is = subst (λ (ys : List (List ℕ)). new ≡ admitted old (filter is_admissible (take i ys)) → HoldsFirstParts file old new) (sym same) by is
   where
-    by : new ≡ admitted old (filter is_admissible (take i (parts file))) → IsTakenInPart file old new
+    by : new ≡ admitted old (filter is_admissible (take i (parts file))) → HoldsFirstParts file old new
     by is' = record {
       count = length (filter is_admissible (take i (parts file)));
       some = omega (arith, ap length (kept_front (parts file) i), length-append (filter is_admissible (take i (parts file))) (filter is_admissible (drop i (parts file))));
@@ -70,7 +70,7 @@ in_part file xs i old new same is = subst (λ (ys : List (List ℕ)). new ≡ ad
           ∙ ap (take (length (filter is_admissible (take i (parts file))))) (sym (kept_front (parts file) i)));
     }
 
-pub none_taken : (file : List ℕ) (old new : Operations) → new ≡ old → IsTakenInPart file old new
+pub none_taken : (file : List ℕ) (old new : Operations) → new ≡ old → HoldsFirstParts file old new
 none_taken file old new is = in_part file (parts file) 0 old new refl is
 
 -- of a universal file u that has the bytes of the file
@@ -82,11 +82,11 @@ module _ (file u : List ℕ) (fat : is_fat (kind_of file) ≡ true) (bytes : u �
   valid_slice i x accepted is begins =
       kept_is IsValid (slices u) i x (subst (λ (xs : List (List ℕ)). All IsValid (filter is_admissible xs)) (sym slices_are) accepted.valid) is begins
 
-  pub stopped_before : (i : ℕ) (old mid new : Operations) (rows : List Taken) → IsTaking (slices u) i old mid rows → new ≡ mid → IsTakenInPart file old new
+  pub stopped_before : (i : ℕ) (old mid new : Operations) (rows : List Taken) → IsTaking (slices u) i old mid rows → new ≡ mid → HoldsFirstParts file old new
   stopped_before i old mid new rows before same = in_part file (slices u) i old new slices_are (same ∙ before.content)
 
   pub stopped_behind : (i : ℕ) (x : List ℕ) (old mid new : Operations) (rows : List Taken) → IsTaking (slices u) i old mid rows → slice_get (slices u) i ≡ Some x
-      → new ≡ admitted mid (filter is_admissible (x ∷ [])) → IsTakenInPart file old new
+      → new ≡ admitted mid (filter is_admissible (x ∷ [])) → HoldsFirstParts file old new
   stopped_behind i x old mid new rows before is new_is = in_part file (slices u) (i + 1) old new slices_are (content_more (slices u) i x old mid new rows before is new_is)
 
   pub all_content : (n : ℕ) (old new : Operations) (rows : List Taken) → IsTaking (slices u) n old new rows → n ≡ length (slices u) → new ≡ admitted old (admissible file)
@@ -109,7 +109,7 @@ module _ (file : List ℕ) (thin : kind_of file ≡ Thin) where
       ∙ ap (λ (b : Bool). admitted old (cond b (file ∷ []) [])) (thin_begins file thin)
       ∙ ap (λ (xs : List (List ℕ)). admitted old (filter is_admissible xs)) (sym (parts_thin file thin))
 
-  pub thin_stopped : (x : List ℕ) (old new : Operations) → x ≡ file → new ≡ admitted old (x ∷ []) → IsTakenInPart file old new
+  pub thin_stopped : (x : List ℕ) (old new : Operations) → x ≡ file → new ≡ admitted old (x ∷ []) → HoldsFirstParts file old new
   thin_stopped x old new is new_is = record {
     count = length (admissible file);
     some = omega arith;

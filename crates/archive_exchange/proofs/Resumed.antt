@@ -10,7 +10,7 @@ use Rattle.archive_core.specs.Record.{admission_record}
 use Rattle.archive_core.specs.Content.{Operations, IsBelow}
 use Rattle.archive_core.proofs.Taken.{taken_are_joined, taken_in_any_order}
 use Rattle.archive_exchange.specs.File.{admissible}
-use Rattle.archive_exchange.specs.Take.{admitted, IsTakenInPart}
+use Rattle.archive_exchange.specs.Take.{admitted, HoldsFirstParts}
 use Rattle.archive_exchange.proofs.Rows.{admitted-append}
 
 pub admitted_alike : (o : Operations) (images others : List (List ℕ)) → ((image : List ℕ) → Contains images image ↔ Contains others image) → admitted o images ≡ admitted o others
@@ -47,10 +47,10 @@ grows o images = subst (IsBelow o) (sym (taken_are_joined o (map admission_recor
 split : (o : Operations) (k : ℕ) (xs : List (List ℕ)) → admitted (admitted o (take k xs)) (drop k xs) ≡ admitted o xs
 split o k xs = sym (admitted-append o (take k xs) (drop k xs)) ∙ ap (admitted o) (take-append-drop k xs)
 
-pub above_old : (file : List ℕ) (o mid : Operations) → IsTakenInPart file o mid → IsBelow o mid
+pub above_old : (file : List ℕ) (o mid : Operations) → HoldsFirstParts file o mid → IsBelow o mid
 above_old file o mid part = subst (IsBelow o) (sym part.content) (grows o (take part.count (admissible file)))
 
-pub below_asked : (file : List ℕ) (o mid : Operations) → IsTakenInPart file o mid → IsBelow mid (admitted o (admissible file))
+pub below_asked : (file : List ℕ) (o mid : Operations) → HoldsFirstParts file o mid → IsBelow mid (admitted o (admissible file))
 below_asked file o mid part =
     subst (λ (p : Operations). IsBelow p (admitted o (admissible file))) (sym part.content)
     (subst (IsBelow (admitted o (take part.count (admissible file)))) (split o part.count (admissible file))
@@ -63,7 +63,7 @@ in_all xs k image has =
 twice : (xs : List (List ℕ)) (k : ℕ) (image : List ℕ) → Contains (take k xs ++ xs) image → Contains xs image
 twice xs k image has = elim (Contains-append_cases (take k xs) xs image has) [ inl first ↦ in_all xs k image first | inr rest ↦ rest ]
 
-pub asked_again : (file : List ℕ) (o mid : Operations) → IsTakenInPart file o mid → admitted mid (admissible file) ≡ admitted o (admissible file)
+pub asked_again : (file : List ℕ) (o mid : Operations) → HoldsFirstParts file o mid → admitted mid (admissible file) ≡ admitted o (admissible file)
 asked_again file o mid part =
     ap (λ (p : Operations). admitted p (admissible file)) part.content
     ∙ sym (admitted-append o (take part.count (admissible file)) (admissible file))

@@ -26,7 +26,7 @@ taken_rows o (part ∷ parts) =
     else Skipped ∷ taken_rows o parts
 
 -- some first ones of the file's admissible parts were admitted, and nothing else
-pub record IsTakenInPart (file : List ℕ) (old new : Operations) : Type 0 where
+pub record HoldsFirstParts (file : List ℕ) (old new : Operations) : Type 0 where
   pub count : ℕ
   pub some : count ≤ length (admissible file)
   pub content : new ≡ admitted old (take count (admissible file))

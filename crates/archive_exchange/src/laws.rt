@@ -7,7 +7,7 @@ ghost use Rattle.archive_core.specs.Content.{Operations, IsMade, IsContent, IsBe
 ghost use Rattle.archive_core.specs.Valid.{IsValid};
 ghost use Rattle.archive_exchange.specs.File.{IsAcceptedFile, IsTakeFault, is_admissible, admissible, parts};
 ghost use Rattle.archive_exchange.specs.Keeping.{Keeping, HasJoined, HasJoinedInPart};
-ghost use Rattle.archive_exchange.specs.Take.{admitted, taken_of, taken_rows, IsTakenInPart};
+ghost use Rattle.archive_exchange.specs.Take.{admitted, taken_of, taken_rows, HoldsFirstParts};
 ghost use Rattle.archive_exchange.specs.Seen.{Seen, AreSeen};
 ghost use Rattle.archive_exchange.specs.declared.event.Event.{Event};
 ghost use Rattle.archive_exchange.specs.declared.fault.TakeFault.{TakeFault};
@@ -55,16 +55,16 @@ pub fn taking_resumed()
     ensures above { (file : List ℕ) (o mid : Operations)
         → IsContent o
         → IsAcceptedFile file
-        → IsTakenInPart file o mid
+        → HoldsFirstParts file o mid
         → IsBelow o mid }
     ensures below { (file : List ℕ) (o mid : Operations)
         → IsContent o
         → IsAcceptedFile file
-        → IsTakenInPart file o mid
+        → HoldsFirstParts file o mid
         → IsBelow mid (admitted o (admissible file)) }
     ensures again { (file : List ℕ) (o mid : Operations)
         → IsMade o
-        → IsTakenInPart file o mid
+        → HoldsFirstParts file o mid
         → admitted mid (admissible file) ≡ admitted o (admissible file) }
 {}
 

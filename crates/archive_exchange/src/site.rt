@@ -6,7 +6,7 @@ ghost use Rattle.archive_core.specs.Record.{retirement_record, IsRecord};
 ghost use Rattle.archive_core.specs.Summary.{Entries, summary, delta};
 ghost use Rattle.archive_records.specs.Text.{written, summary_text};
 ghost use Rattle.archive_exchange.specs.File.{IsAcceptedFile, IsTakeFault, admissible, parts};
-ghost use Rattle.archive_exchange.specs.Take.{admitted, taken_rows, IsTakenInPart};
+ghost use Rattle.archive_exchange.specs.Take.{admitted, taken_rows, HoldsFirstParts};
 ghost use Rattle.archive_exchange.specs.Keeping.{Says, IsArchiveText, IsDeliverFault, HasJoined, HasJoinedInPart, Names, RepliesTo, IsReplyFault};
 
 use crate::taking::take_accepted;
@@ -136,7 +136,7 @@ impl<A: Archive + Drop> Site<A> {
         ensures rows { IfOk result (λ rows. rows.items ≡ taken_rows self.old.held (parts file.now)) }
         ensures refused { IfErr result (IsTakeFault file.now) }
         ensures kept { IfErr result (λ fault. fault ≢ TakeFault.OutOfMemory → self.new ≡ self.old) }
-        ensures stopped { OnErr result (IsTakenInPart file.now self.old.held self.new.held) }
+        ensures stopped { OnErr result (HoldsFirstParts file.now self.old.held self.new.held) }
         ensures saved { self.new.saved ≡ self.old.saved }
     {
         let accepted = check_file(file)?;

@@ -5,7 +5,7 @@ ghost use Rattle.fat_slices.specs.Kind.{kind_of, is_fat};
 ghost use Rattle.archive_exchange.specs.Accepted.{IsAcceptedAs};
 ghost use Rattle.archive_exchange.specs.InnerTaking.{file_of};
 ghost use Rattle.archive_exchange.specs.File.{IsAcceptedFile, IsTakeFault, is_admissible, admissible, parts};
-ghost use Rattle.archive_exchange.specs.Take.{admitted, taken_of, taken_rows, IsTakenInPart};
+ghost use Rattle.archive_exchange.specs.Take.{admitted, taken_of, taken_rows, HoldsFirstParts};
 
 use crate::checking::{AcceptedFile, check_file};
 use crate::{TakeFault, Taken};
@@ -62,7 +62,7 @@ fn take_thin<A: Archive>(
     requires { kind_of slice ≡ FileKind.Thin }
     ensures content { OnOk result (A.content archive.new ≡ admitted (A.content archive.old) (admissible slice)) }
     ensures rows { IfOk result (λ rows. rows.items ≡ taken_rows (A.content archive.old) (parts slice)) }
-    ensures stopped { OnErr result (IsTakenInPart slice (A.content archive.old) (A.content archive.new)) }
+    ensures stopped { OnErr result (HoldsFirstParts slice (A.content archive.old) (A.content archive.new)) }
 {
     let mut rows = Vec::new(heap);
     let row = take_slice(archive, slice)?;
@@ -81,7 +81,7 @@ fn take_universal<A: Archive>(
     ensures content { OnOk result
         (A.content archive.new ≡ admitted (A.content archive.old) (admissible universal.now)) }
     ensures rows { IfOk result (λ rows. rows.items ≡ taken_rows (A.content archive.old) (parts universal.now)) }
-    ensures stopped { OnErr result (IsTakenInPart universal.now (A.content archive.old) (A.content archive.new)) }
+    ensures stopped { OnErr result (HoldsFirstParts universal.now (A.content archive.old) (A.content archive.new)) }
 {
     let mut rows = Vec::new(heap.clone()?);
     'parts: for index in 0..universal.len() {
@@ -105,7 +105,7 @@ pub(crate) fn take_accepted<A: Archive>(
     ensures rows { IfOk result (λ rows.
         rows.items ≡ taken_rows (A.content archive.old) (parts (file_of accepted.now))) }
     ensures stopped { OnErr result
-        (IsTakenInPart (file_of accepted.now) (A.content archive.old) (A.content archive.new)) }
+        (HoldsFirstParts (file_of accepted.now) (A.content archive.old) (A.content archive.new)) }
 {
     match accepted {
         AcceptedFile::Thin(slice) => take_thin(archive, heap.clone()?, slice.admit(heap)?),
@@ -135,7 +135,7 @@ pub fn take_file<A: Archive>(
     ensures refused { IfErr result (IsTakeFault file.items) }
     ensures kept { IfErr result (λ fault.
         fault ≢ TakeFault.OutOfMemory → A.content archive.new ≡ A.content archive.old) }
-    ensures stopped { OnErr result (IsTakenInPart file.items (A.content archive.old) (A.content archive.new)) }
+    ensures stopped { OnErr result (HoldsFirstParts file.items (A.content archive.old) (A.content archive.new)) }
 {
     let accepted = check_file(&file)?;
     let heap = file.allocator().clone()?;

@@ -1,6 +1,6 @@
 //! Archives, summaries and deltas that are written to a sink.
 
-ghost use Rattle.std.specs.Prelude.{◌≡◌, ◌+◌, ◌<◌, ◌≤◌, ◌^◌, ◌++◌, ◌∷◌, [], ℕ, length, map, OnOk, IfOk, IfErr};
+ghost use Rattle.std.specs.Prelude.{◌≡◌, ◌+◌, ◌<◌, ◌≤◌, ◌^◌, ◌++◌, ◌∷◌, [], ℕ, length, take, map, OnOk, IfOk, IfErr};
 ghost use Rattle.std.specs.FinSet as set;
 ghost use Rattle.std.specs.List.{concat};
 ghost use Rattle.std.specs.Io.KnownBytes.{Appends};
@@ -29,6 +29,41 @@ pub struct Sizes {
     pub bytes: u128,
 }
 
+/// A record of so many bytes at most goes out in one push.
+const SMALL_RECORD: usize = 1024;
+
+/// Lays two parts, one behind the other.
+fn lay_both(room: &mut [u8], head: &[u8], body: &[u8])
+    requires { length (head.now ++ body.now) ≤ length room.old }
+    ensures laid { take (length (head.now ++ body.now)) room.new ≡ head.now ++ body.now }
+    ensures room { length room.new ≡ length room.old }
+{
+    let end = head.len() + body.len();
+    room[..head.len()].copy_from_slice(head);
+    room[head.len()..end].copy_from_slice(body);
+}
+
+/// Writes two small parts of a text, one behind the other, in one push.
+fn put_together<W: Sink>(
+    w: &mut W,
+    done: u128,
+    head: &[u8],
+    body: &[u8],
+) -> Result<u128, WriteFault>
+    requires fits { done + length (head.now ++ body.now) < 2 ^ 128 }
+    requires small { length (head.now ++ body.now) ≤ 1024 }
+    ensures ok { IfOk result (λ n. (n ≡ done + length (head.now ++ body.now))
+        × Appends (W.held w.old) (W.held w.new) (head.now ++ body.now)) }
+    ensures unfailed { OnOk result (W.failures w.new ≡ W.failures w.old) }
+    ensures err { IfErr result (λ e. (k : ℕ) × (e.written ≡ done + k)
+        × WritesFirst (W.held w.old) (W.held w.new) (head.now ++ body.now) k) }
+    ensures failed { IfErr result (λ _. FailedIn (W.failures w.old) (W.failures w.new)) }
+{
+    let mut room = [0; SMALL_RECORD];
+    lay_both(&mut room, head, body);
+    put(w, done, &room[..head.len() + body.len()])
+}
+
 /// Writes two parts of a text, one behind the other.
 fn put_both<W: Sink>(w: &mut W, done: u128, head: &[u8], body: &[u8]) -> Result<u128, WriteFault>
     requires { done + length (head.now ++ body.now) < 2 ^ 128 }
@@ -39,6 +74,9 @@ fn put_both<W: Sink>(w: &mut W, done: u128, head: &[u8], body: &[u8]) -> Result<
         × WritesFirst (W.held w.old) (W.held w.new) (head.now ++ body.now) k) }
     ensures failed { IfErr result (λ _. FailedIn (W.failures w.old) (W.failures w.new)) }
 {
+    if head.len() <= SMALL_RECORD && body.len() <= SMALL_RECORD - head.len() {
+        return put_together(w, done, head, body);
+    }
     let done = put(w, done, head)?;
     put(w, done, body)
 }
