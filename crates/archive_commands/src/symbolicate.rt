@@ -74,7 +74,8 @@ pub fn run_symbolicate<A: Archive + Drop, R: Source, P: Sink>(
     ensures { EndsReport (symbolicate (reader R.left R.failures archive.old archive.new) key.now load addresses.now)
         (writer P.held P.failures report.old report.new) result }
 {
-    let archive: A = read_input(heap.clone()?, 0, archive)?;
+    let mut archive: A = read_input(heap.clone()?, 0, archive)?;
+    archive.prepare(key)?;
     let (status, text) = answer_each(heap, &archive, key, load, addresses)?;
     tell(status, &text, report)
 }
