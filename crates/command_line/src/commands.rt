@@ -1,15 +1,18 @@
 //! The commands, as `clap` builds them. What each does and takes is said by one line of help.
 
-ghost use Rattle.std.specs.Prelude.{◌≡◌, IfOk, false};
-ghost use Rattle.clap.specs.Words.{app_of, new_app, rule_of, with_rule};
+ghost use Rattle.std.specs.Prelude.{◌≡◌, ◌∷◌, [], IfOk, false, map};
+ghost use Rattle.clap.specs.Words.{app_of, new_app, with_rule};
 ghost use Rattle.clap.specs.declared.builder.command.Command.TheViews.{out-Command};
-ghost use Rattle.command_line.specs.Commands.{admit_command, apply_command, find_command};
-ghost use Rattle.command_line.specs.Commands.{list_command, merge_command, name_command, new_command, one_option, one_value};
-ghost use Rattle.command_line.specs.Commands.{rehearse_command, retire_command, several_values, symarch_command};
-ghost use Rattle.command_line.specs.Commands.{delta_command, summary_command, symbolicate_command};
+ghost use Rattle.command_line.specs.Commands.{admit_command, apply_command, delta_command, find_command};
+ghost use Rattle.command_line.specs.Commands.{list_command, merge_command, name_command, new_command, one_option};
+ghost use Rattle.command_line.specs.Commands.{one_value, rehearse_command, retire_command, several_values};
+ghost use Rattle.command_line.specs.Commands.{summary_command, symarch_command, symbolicate_command};
+ghost use Rattle.command_line.specs.Commands.{with_commands, with_rules};
 
 use clap::{Arg, ArgAction, Command};
 use std::alloc::{AllocError, Global};
+
+const ARCHIVE_IN: &str = "The archive to read";
 
 const ARCHIVE_OUT: &str = "The archive to write, which is replaced if it is there";
 
@@ -47,6 +50,23 @@ fn with_one_value<'a>(
     command.arg(argument)
 }
 
+/// Adds positional arguments that have one value each: the id of each, and its help.
+fn with_values<'a>(
+    alloc: Global,
+    mut command: Command<'a>,
+    values: &[(&'a str, &'a str)],
+) -> Result<Command<'a>, AllocError>
+    ensures app { IfOk result (λ c. app_of c
+        ≡ with_rules (app_of command.entry) (map (λ v. one_value v.0.now) values.now)) }
+    ensures local { (out-Command command.entry).has_globals ≡ false
+        → IfOk result (λ c. (out-Command c).has_globals ≡ false) }
+{
+    'values: for (id, help) in values {
+        command = with_one_value(alloc, command, id, help)?;
+    }
+    Ok(command)
+}
+
 /// Adds a last positional argument that has one value or more, each a word of its own.
 fn with_several_values<'a>(
     alloc: Global,
@@ -66,14 +86,6 @@ fn with_several_values<'a>(
     command.arg(argument)
 }
 
-/// An option that has one value, and may be left out.
-fn option<'a>(alloc: Global, id: &'a str, name: &'a str, help: &'a str) -> Arg<'a>
-    ensures rule { rule_of result ≡ one_option id.now name.now }
-    ensures local { result.global ≡ false }
-{
-    Arg::new(alloc, id).help(help).long(name)
-}
-
 /// Adds an option that has one value, and may be left out.
 fn with_option<'a>(
     alloc: Global,
@@ -87,7 +99,8 @@ fn with_option<'a>(
     ensures local { (out-Command command.entry).has_globals ≡ false
         → IfOk result (λ c. (out-Command c).has_globals ≡ false) }
 {
-    command.arg(option(alloc, id, name, help))
+    let argument = Arg::new(alloc, id).help(help).long(name);
+    command.arg(argument)
 }
 
 /// `new OUT`
@@ -105,8 +118,7 @@ fn admit_command<'a>(alloc: Global) -> Result<Command<'a>, AllocError>
     ensures local { IfOk result (λ c. (out-Command c).has_globals ≡ false) }
 {
     let command = bare_command(alloc, "admit", "Takes Mach-O images into an archive");
-    let command = with_one_value(alloc, command, "IN", "The archive to read")?;
-    let command = with_one_value(alloc, command, "OUT", ARCHIVE_OUT)?;
+    let command = with_values(alloc, command, &[("IN", ARCHIVE_IN), ("OUT", ARCHIVE_OUT)])?;
     with_several_values(alloc, command, "FILE", IMAGES)
 }
 
@@ -116,16 +128,14 @@ fn retire_command<'a>(alloc: Global) -> Result<Command<'a>, AllocError>
     ensures local { IfOk result (λ c. (out-Command c).has_globals ≡ false) }
 {
     let command = bare_command(alloc, "retire", "Covers a slice for good, on every site");
-    let command = with_one_value(alloc, command, "IN", "The archive to read")?;
-    let command = with_one_value(alloc, command, "OUT", ARCHIVE_OUT)?;
-    let command = with_one_value(alloc, command, "UUID", "The UUID of the slice")?;
-    let command = with_one_value(alloc, command, "ARCH", ARCH)?;
-    with_one_value(
-        alloc,
-        command,
-        "DIGEST",
-        "The SHA-256 of the slice, as find prints it",
-    )
+    let values = [
+        ("IN", ARCHIVE_IN),
+        ("OUT", ARCHIVE_OUT),
+        ("UUID", "The UUID of the slice"),
+        ("ARCH", ARCH),
+        ("DIGEST", "The SHA-256 of the slice, as find prints it"),
+    ];
+    with_values(alloc, command, &values)
 }
 
 /// `merge IN OUT FILE...`
@@ -134,8 +144,7 @@ fn merge_command<'a>(alloc: Global) -> Result<Command<'a>, AllocError>
     ensures local { IfOk result (λ c. (out-Command c).has_globals ≡ false) }
 {
     let command = bare_command(alloc, "merge", "Joins archives");
-    let command = with_one_value(alloc, command, "IN", "The archive to read")?;
-    let command = with_one_value(alloc, command, "OUT", ARCHIVE_OUT)?;
+    let command = with_values(alloc, command, &[("IN", ARCHIVE_IN), ("OUT", ARCHIVE_OUT)])?;
     with_several_values(alloc, command, "FILE", "The archives to join to it")
 }
 
@@ -145,9 +154,12 @@ fn apply_command<'a>(alloc: Global) -> Result<Command<'a>, AllocError>
     ensures local { IfOk result (λ c. (out-Command c).has_globals ≡ false) }
 {
     let command = bare_command(alloc, "apply", "Takes the records of an operations file");
-    let command = with_one_value(alloc, command, "IN", "The archive to read")?;
-    let command = with_one_value(alloc, command, "OUT", ARCHIVE_OUT)?;
-    with_one_value(alloc, command, "OPS", "The operations file to take")
+    let values = [
+        ("IN", ARCHIVE_IN),
+        ("OUT", ARCHIVE_OUT),
+        ("OPS", "The operations file to take"),
+    ];
+    with_values(alloc, command, &values)
 }
 
 /// `find ARCHIVE UUID`
@@ -156,8 +168,8 @@ fn find_command<'a>(alloc: Global) -> Result<Command<'a>, AllocError>
     ensures local { IfOk result (λ c. (out-Command c).has_globals ≡ false) }
 {
     let command = bare_command(alloc, "find", "Lists what an archive has of a UUID");
-    let command = with_one_value(alloc, command, "ARCHIVE", "The archive to read")?;
-    with_one_value(alloc, command, "UUID", "The UUID to look for")
+    let values = [("ARCHIVE", ARCHIVE_IN), ("UUID", "The UUID to look for")];
+    with_values(alloc, command, &values)
 }
 
 /// `list ARCHIVE`
@@ -166,7 +178,7 @@ fn list_command<'a>(alloc: Global) -> Result<Command<'a>, AllocError>
     ensures local { IfOk result (λ c. (out-Command c).has_globals ≡ false) }
 {
     let command = bare_command(alloc, "list", "Lists all that an archive has");
-    with_one_value(alloc, command, "ARCHIVE", "The archive to read")
+    with_one_value(alloc, command, "ARCHIVE", ARCHIVE_IN)
 }
 
 /// `name ARCHIVE NAME`
@@ -175,8 +187,11 @@ fn name_command<'a>(alloc: Global) -> Result<Command<'a>, AllocError>
     ensures local { IfOk result (λ c. (out-Command c).has_globals ≡ false) }
 {
     let command = bare_command(alloc, "name", "Lists where symbols of a name stand");
-    let command = with_one_value(alloc, command, "ARCHIVE", "The archive to read")?;
-    with_one_value(alloc, command, "NAME", SYMBOL_NAME)
+    with_values(
+        alloc,
+        command,
+        &[("ARCHIVE", ARCHIVE_IN), ("NAME", SYMBOL_NAME)],
+    )
 }
 
 /// `symbolicate ARCHIVE UUID ARCH [--load HEX] ADDRESS...`
@@ -185,9 +200,12 @@ fn symbolicate_command<'a>(alloc: Global) -> Result<Command<'a>, AllocError>
     ensures local { IfOk result (λ c. (out-Command c).has_globals ≡ false) }
 {
     let command = bare_command(alloc, "symbolicate", "Names the symbols at addresses");
-    let command = with_one_value(alloc, command, "ARCHIVE", "The archive to read")?;
-    let command = with_one_value(alloc, command, "UUID", "The UUID of the image")?;
-    let command = with_one_value(alloc, command, "ARCH", ARCH)?;
+    let values = [
+        ("ARCHIVE", ARCHIVE_IN),
+        ("UUID", "The UUID of the image"),
+        ("ARCH", ARCH),
+    ];
+    let command = with_values(alloc, command, &values)?;
     let command = with_option(alloc, command, "HEX", "load", LOAD)?;
     with_several_values(alloc, command, "ADDRESS", ADDRESSES)
 }
@@ -202,13 +220,14 @@ fn summary_command<'a>(alloc: Global) -> Result<Command<'a>, AllocError>
         "summary",
         "Writes what an archive has, without its slices",
     );
-    let command = with_one_value(alloc, command, "ARCHIVE", "The archive to read")?;
-    with_one_value(
-        alloc,
-        command,
-        "OUT",
-        "The summary to write, which is replaced if it is there",
-    )
+    let values = [
+        ("ARCHIVE", ARCHIVE_IN),
+        (
+            "OUT",
+            "The summary to write, which is replaced if it is there",
+        ),
+    ];
+    with_values(alloc, command, &values)
 }
 
 /// `delta ARCHIVE SUMMARY OUT`
@@ -217,9 +236,12 @@ fn delta_command<'a>(alloc: Global) -> Result<Command<'a>, AllocError>
     ensures local { IfOk result (λ c. (out-Command c).has_globals ≡ false) }
 {
     let command = bare_command(alloc, "delta", "Writes what a summary lacks of an archive");
-    let command = with_one_value(alloc, command, "ARCHIVE", "The archive to read")?;
-    let command = with_one_value(alloc, command, "SUMMARY", "The summary to compare with")?;
-    with_one_value(alloc, command, "OUT", ARCHIVE_OUT)
+    let values = [
+        ("ARCHIVE", ARCHIVE_IN),
+        ("SUMMARY", "The summary to compare with"),
+        ("OUT", ARCHIVE_OUT),
+    ];
+    with_values(alloc, command, &values)
 }
 
 /// `rehearse SCRIPT`
@@ -235,6 +257,45 @@ fn rehearse_command<'a>(alloc: Global) -> Result<Command<'a>, AllocError>
     with_one_value(alloc, command, "SCRIPT", "The script of the events")
 }
 
+/// Adds the commands that write an archive.
+fn with_updates<'a>(alloc: Global, command: Command<'a>) -> Result<Command<'a>, AllocError>
+    ensures app { IfOk result (λ c. app_of c ≡ with_commands (app_of command.entry)
+        (new_command ∷ admit_command ∷ retire_command ∷ merge_command ∷ apply_command ∷ [])) }
+    ensures local { (out-Command command.entry).has_globals ≡ false
+        → IfOk result (λ c. (out-Command c).has_globals ≡ false) }
+{
+    let command = command.subcommand(new_command(alloc)?)?;
+    let command = command.subcommand(admit_command(alloc)?)?;
+    let command = command.subcommand(retire_command(alloc)?)?;
+    let command = command.subcommand(merge_command(alloc)?)?;
+    command.subcommand(apply_command(alloc)?)
+}
+
+/// Adds the commands that ask an archive.
+fn with_queries<'a>(alloc: Global, command: Command<'a>) -> Result<Command<'a>, AllocError>
+    ensures app { IfOk result (λ c. app_of c ≡ with_commands (app_of command.entry)
+        (find_command ∷ list_command ∷ name_command ∷ symbolicate_command ∷ [])) }
+    ensures local { (out-Command command.entry).has_globals ≡ false
+        → IfOk result (λ c. (out-Command c).has_globals ≡ false) }
+{
+    let command = command.subcommand(find_command(alloc)?)?;
+    let command = command.subcommand(list_command(alloc)?)?;
+    let command = command.subcommand(name_command(alloc)?)?;
+    command.subcommand(symbolicate_command(alloc)?)
+}
+
+/// Adds the commands by which sites exchange.
+fn with_exchanges<'a>(alloc: Global, command: Command<'a>) -> Result<Command<'a>, AllocError>
+    ensures app { IfOk result (λ c. app_of c ≡ with_commands (app_of command.entry)
+        (summary_command ∷ delta_command ∷ rehearse_command ∷ [])) }
+    ensures local { (out-Command command.entry).has_globals ≡ false
+        → IfOk result (λ c. (out-Command c).has_globals ≡ false) }
+{
+    let command = command.subcommand(summary_command(alloc)?)?;
+    let command = command.subcommand(delta_command(alloc)?)?;
+    command.subcommand(rehearse_command(alloc)?)
+}
+
 /// The program's command with its subcommands, one of which has to be named.
 #[tactic(auto, unfolding(crate::specs::Commands::symarch_command))]
 pub fn symarch_command<'a>(alloc: Global) -> Result<Command<'a>, AllocError>
@@ -242,17 +303,8 @@ pub fn symarch_command<'a>(alloc: Global) -> Result<Command<'a>, AllocError>
     ensures local { IfOk result (λ c. (out-Command c).has_globals ≡ false) }
 {
     let command = bare_command(alloc, "symarch", "Keeps Mach-O images in archives");
-    let command = command.subcommand(new_command(alloc)?)?;
-    let command = command.subcommand(admit_command(alloc)?)?;
-    let command = command.subcommand(retire_command(alloc)?)?;
-    let command = command.subcommand(merge_command(alloc)?)?;
-    let command = command.subcommand(apply_command(alloc)?)?;
-    let command = command.subcommand(find_command(alloc)?)?;
-    let command = command.subcommand(list_command(alloc)?)?;
-    let command = command.subcommand(name_command(alloc)?)?;
-    let command = command.subcommand(symbolicate_command(alloc)?)?;
-    let command = command.subcommand(summary_command(alloc)?)?;
-    let command = command.subcommand(delta_command(alloc)?)?;
-    let command = command.subcommand(rehearse_command(alloc)?)?;
+    let command = with_updates(alloc, command)?;
+    let command = with_queries(alloc, command)?;
+    let command = with_exchanges(alloc, command)?;
     Ok(command.subcommand_required(true))
 }

@@ -1,16 +1,14 @@
-use Rattle.command_line.proofs.CommandLemmas.{with_last, with_next}
+use Rattle.std.proofs.Common.{◌∷◌, [], codes}
+use Rattle.command_line.specs.Commands.{one_value}
+use Rattle.command_line.proofs.CommandLemmas.{with_last, with_next_rules}
 use Rattle.command_line.proofs.commands.admit_command.Goals as goal
 
 pub returns-clause-app : goal.returns-clause-app
 returns-clause-app c =
-    let a0 = c.bare_command-command.ensures.app in
-    let a1 = with_next _ _ _ _ a0 c.in_ok-command.ensures.app in
-    let a2 = with_next _ _ _ _ a1 c.in_ok-command-2.ensures.app in
-    with_last _ _ _ _ a2 c.with_several_values.ensures.app
+    let rules = one_value (codes "IN") ∷ one_value (codes "OUT") ∷ [] in
+    let values = with_next_rules _ _ _ rules c.bare_command-command.ensures.app c.in_ok-command.ensures.app in
+    with_last _ _ _ _ values c.with_several_values.ensures.app
 
 pub returns-clause-local : goal.returns-clause-local
 returns-clause-local c =
-    let l0 = c.bare_command-command.ensures.local in
-    let l1 = c.in_ok-command.ensures.local l0 in
-    let l2 = c.in_ok-command-2.ensures.local l1 in
-    c.with_several_values.ensures.local l2
+    c.with_several_values.ensures.local (c.in_ok-command.ensures.local c.bare_command-command.ensures.local)
