@@ -270,7 +270,7 @@ fn find<R: Files + Print + AllocGlobal>(
 ) -> Result<Status, Failure> {
     let mut report = Writing::new(io::writer(rt));
     let mut archive = open_buffered(rt.alloc(), rt, archive)?;
-    let status = run_find::<PlainArchive, _, _>(heap, &mut archive, uuid, &mut report)?;
+    let status = run_find::<IndexedArchive, _, _>(heap, &mut archive, uuid, &mut report)?;
     Ok(status)
 }
 
@@ -282,7 +282,7 @@ fn list<R: Files + Print + AllocGlobal>(
 ) -> Result<Status, Failure> {
     let mut report = Writing::new(io::writer(rt));
     let mut archive = open_buffered(rt.alloc(), rt, archive)?;
-    let status = run_list::<PlainArchive, _, _>(heap, &mut archive, &mut report)?;
+    let status = run_list::<IndexedArchive, _, _>(heap, &mut archive, &mut report)?;
     Ok(status)
 }
 
@@ -369,7 +369,7 @@ fn rehearse<R: Files + Print + AllocGlobal>(
 ) -> Result<Status, Failure> {
     let mut report = Writing::new(io::writer(rt));
     let mut script = open_buffered(rt.alloc(), rt, script)?;
-    let status = run_rehearse::<PlainArchive, _, _>(heap, &mut script, &mut report)?;
+    let status = run_rehearse::<IndexedArchive, _, _>(heap, &mut script, &mut report)?;
     Ok(status)
 }
 
