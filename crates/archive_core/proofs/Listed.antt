@@ -1,7 +1,6 @@
 -- What a list of all tells, made of the records of an archive, and what a search tells as a part of it.
-use Rattle.std.proofs.Common.{◌≡◌, ◌↔◌, ◌≤◌, ◌<◌, ℕ, Bool, true, false, not, cond, List, [], ◌∷◌, length, map, filter, slice_index_or, get_or, refl, sym, ap, ◌∙◌, arith, subst}
+use Rattle.std.proofs.Common.{◌≡◌, ◌<◌, ℕ, Bool, true, false, not, cond, List, [], ◌∷◌, length, map, filter, slice_index_or, get_or, refl, sym, ap, ◌∙◌, arith, subst}
 use mathlib.Core.Bool.{true≢false}
-use Rattle.std.specs.declared.cmp.Ordering.{Ordering}
 use Rattle.std.specs.declared.cmp.Ordering.TheVariants.{Less, Equal}
 use Rattle.std.specs.Ordering.{nat_cmp, on, ordering_then, eq_by_cmp}
 use Rattle.std.specs.Cmp.{IsTotalOrder, tied_itself, then_total}

@@ -4,7 +4,7 @@ use Rattle.std.specs.Prelude.{not}
 use mathlib.Core.Bool.{true≢false}
 use Rattle.std.specs.Cmp.Lexicographic.{nat_list_cmp_total}
 use Rattle.std.specs.FinSet as set
-use Rattle.std.specs.FinSet.{is_subset-contains, contains-empty}
+use Rattle.std.specs.FinSet.{is_subset-contains}
 use Rattle.sha2.specs.Sha256.{sha256}
 use Rattle.join_core.proofs.Members.{from_list_same, inserts_are_union}
 use Rattle.join_core.proofs.Place.{insert_present, insert_changes}

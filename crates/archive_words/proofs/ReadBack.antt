@@ -1,5 +1,5 @@
 -- What is printed is read back.
-use Rattle.std.proofs.Common.{◌≡◌, ◌∙◌, ◌<◌, ◌≤◌, ◌+◌, ◌*◌, ◌/◌, ◌%◌, ◌^◌, ℕ, zero, suc, Bool, true, false, Option, Some, None, List, [], ◌∷◌, ◌++◌, All, codes, length, length-append, refl, sym, ap, arith, pow-suc, inl, slice_index, unwrap_or, nat_lt, cond, subst}
+use Rattle.std.proofs.Common.{◌≡◌, ◌∙◌, ◌<◌, ◌/◌, ◌%◌, ◌^◌, ℕ, zero, suc, Bool, true, false, Some, List, [], ◌∷◌, ◌++◌, All, codes, length, length-append, refl, sym, ap, arith, pow-suc, inl, slice_index, unwrap_or, nat_lt, cond, subst}
 use Rattle.std.proofs.lemmas.Bool.{ltb-false, ltb-true}
 use Rattle.std.proofs.lemmas.Bool.Decides.{nat_tests}
 use Rattle.std.proofs.lemmas.Int.Digits.{digits_value_push}
@@ -11,7 +11,6 @@ use Rattle.std.specs.List.{AllByRecursion, find, list_all, slice_range}
 use Rattle.std.specs.Option.{option_map}
 use Rattle.std.specs.Result.{result_ok}
 use Rattle.std.specs.Str.Parse.{digits_value}
-use Rattle.hex.specs.Hex.{IsBytes, encode_lower}
 use Rattle.hex.proofs.HexLemmas.{decode_sized-encode_lower}
 use Rattle.uuid.specs.Text.{hyphenated_text, lower, parsed}
 use Rattle.uuid.proofs.RoundTrips.{parses_hyphenated}
@@ -19,7 +18,7 @@ use Rattle.archive_core.proofs.Answering.{one_arch}
 use Rattle.archive_core.specs.Find.{is_arch}
 use Rattle.archive_core.specs.declared.keys.ArchKey.{ArchKey}
 use Rattle.archive_core.specs.declared.keys.Digest.{Digest}
-use Rattle.archive_words.specs.Words.{NamedArch, address_of, address_text, arch_key, arch_key_of, arch_of, arch_text, cpu_of, cpu_text, digest_of, digest_text, hex_digits, named_archs, number_of}
+use Rattle.archive_words.specs.Words.{NamedArch, address_of, address_text, arch_of, arch_text, cpu_of, cpu_text, digest_of, digest_text, hex_digits, named_archs, number_of}
 
 -- ---- digits
 

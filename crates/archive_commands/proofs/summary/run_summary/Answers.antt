@@ -1,4 +1,4 @@
-use Rattle.std.proofs.Common.{ap, refl}
+use Rattle.std.proofs.Common.{ap}
 use Rattle.archive_records.specs.Text.{summary_text}
 use Rattle.archive_commands.specs.Outputs.{summary_report_of}
 use Rattle.archive_commands.proofs.Endings.{given_out}
