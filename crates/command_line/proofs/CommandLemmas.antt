@@ -1,7 +1,8 @@
 -- Commands to which something is added.
 use Rattle.std.proofs.Common.{◌≡◌, ◌∙◌, ◌||◌, false, ap, ap₂, List, Result, Ok, Err, IfOk}
 use Rattle.std.specs.Result.{IsOkAnd}
-use Rattle.clap.specs.Words.{AddsSubcommand, App, Rule, app_of, with_rule, with_subcommand}
+use Rattle.clap.specs.Words.{AddsArg, AddsSubcommand, App, Rule, app_of, rule_of, with_rule, with_subcommand}
+use Rattle.clap.specs.declared.builder.arg.Arg.{Arg}
 use Rattle.clap.specs.declared.builder.command.Command.{Command}
 use Rattle.clap.specs.declared.builder.command.Command.TheViews.{out-Command}
 use Rattle.command_line.specs.Commands.{with_rules}
@@ -57,3 +58,16 @@ pub with_last_local : {E : Type 0} (made r : Result Command E) (old : Command) �
     → IfOk r (λ new. IsOkAnd made (λ c. AddsSubcommand old c new)) → IfOk r (λ c. (out-Command c).has_globals ≡ false)
 with_last_local made (Ok new) old none also adds = with_no_global made old new none also adds
 with_last_local made (Err e) old none also adds = tt
+
+-- an argument that is not global adds its rule
+pub adds_rule : {E : Type 0} (r : Result Command E) (old : Command) (a : Arg) (rule : Rule)
+    → IfOk r (λ c. AddsArg old a c)
+    → a.global ≡ false → rule_of a ≡ rule → IfOk r (λ c. app_of c ≡ with_rule (app_of old) rule)
+adds_rule (Ok c) old a rule adds local is = adds.shape local ∙ ap (with_rule (app_of old)) is
+adds_rule (Err e) old a rule adds local is = tt
+
+-- it leaves a command with no global argument one
+pub adds_no_global : {E : Type 0} (r : Result Command E) (old : Command) (a : Arg) → IfOk r (λ c. AddsArg old a c)
+    → a.global ≡ false → (out-Command old).has_globals ≡ false → IfOk r (λ c. (out-Command c).has_globals ≡ false)
+adds_no_global (Ok c) old a adds local none = adds.globals ∙ ap₂ (λ x y. x || y) none local
+adds_no_global (Err e) old a adds local none = tt

@@ -1,7 +1,7 @@
 //! The commands, as `clap` builds them. What each does and takes is said by one line of help.
 
 ghost use Rattle.std.specs.Prelude.{◌≡◌, ◌∷◌, [], IfOk, IsOkAnd, false, map};
-ghost use Rattle.clap.specs.Words.{AddsSubcommand, app_of, new_app, with_rule};
+ghost use Rattle.clap.specs.Words.{AddsSubcommand, app_of, new_app, rule_of, with_rule};
 ghost use Rattle.clap.specs.declared.builder.command.Command.TheViews.{out-Command};
 ghost use Rattle.command_line.specs.Commands.{admit_command, apply_command, delta_command, find_command};
 ghost use Rattle.command_line.specs.Commands.{list_command, merge_command, name_command, new_command, one_option};
@@ -86,6 +86,14 @@ fn with_several_values<'a>(
     command.arg(argument)
 }
 
+/// An option that has one value, and may be left out.
+fn option<'a>(alloc: Global, id: &'a str, name: &'a str, help: &'a str) -> Arg<'a>
+    ensures rule { rule_of result ≡ one_option id.now name.now }
+    ensures local { result.global ≡ false }
+{
+    Arg::new(alloc, id).help(help).long(name)
+}
+
 /// Adds an option that has one value, and may be left out.
 fn with_option<'a>(
     alloc: Global,
@@ -99,7 +107,7 @@ fn with_option<'a>(
     ensures local { (out-Command command.entry).has_globals ≡ false
         → IfOk result (λ c. (out-Command c).has_globals ≡ false) }
 {
-    let argument = Arg::new(alloc, id).help(help).long(name);
+    let argument = option(alloc, id, name, help);
     command.arg(argument)
 }
 
