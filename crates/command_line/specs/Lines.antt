@@ -169,7 +169,24 @@ delta_line rows = delta_of (first_of (codes "ARCHIVE") rows) (first_of (codes "S
 abbrev pub rehearse_line : List Row → Option Line
 rehearse_line rows = option_map rehearse (first_of (codes "SCRIPT") rows)
 
--- by the command's name and what stands at its names
+-- by the command's name and what stands at its names, of the commands by which sites exchange
+abbrev pub exchange_line_in : Text × List Row → Option Line
+exchange_line_in p =
+    if bytes_eq p.0 (codes "summary") then summary_line p.1
+    else if bytes_eq p.0 (codes "delta") then delta_line p.1
+    else if bytes_eq p.0 (codes "rehearse") then rehearse_line p.1
+    else None
+
+-- the same of those too that ask an archive
+abbrev pub query_line_in : Text × List Row → Option Line
+query_line_in p =
+    if bytes_eq p.0 (codes "find") then find_line p.1
+    else if bytes_eq p.0 (codes "list") then list_line p.1
+    else if bytes_eq p.0 (codes "name") then name_line p.1
+    else if bytes_eq p.0 (codes "symbolicate") then symbolicate_line p.1
+    else exchange_line_in p
+
+-- the same of all commands
 abbrev pub line_in : Text × List Row → Option Line
 line_in p =
     if bytes_eq p.0 (codes "new") then new_line p.1
@@ -177,14 +194,7 @@ line_in p =
     else if bytes_eq p.0 (codes "retire") then retire_line p.1
     else if bytes_eq p.0 (codes "merge") then merge_line p.1
     else if bytes_eq p.0 (codes "apply") then apply_line p.1
-    else if bytes_eq p.0 (codes "find") then find_line p.1
-    else if bytes_eq p.0 (codes "list") then list_line p.1
-    else if bytes_eq p.0 (codes "name") then name_line p.1
-    else if bytes_eq p.0 (codes "symbolicate") then symbolicate_line p.1
-    else if bytes_eq p.0 (codes "summary") then summary_line p.1
-    else if bytes_eq p.0 (codes "delta") then delta_line p.1
-    else if bytes_eq p.0 (codes "rehearse") then rehearse_line p.1
-    else None
+    else query_line_in p
 
 -- what the words ask for, where each value is there and has its form, and OUT is no input
 abbrev pub line_of : List Text → Option Line

@@ -1,7 +1,7 @@
 //! The commands, as `clap` builds them. What each does and takes is said by one line of help.
 
-ghost use Rattle.std.specs.Prelude.{◌≡◌, ◌∷◌, [], IfOk, false, map};
-ghost use Rattle.clap.specs.Words.{app_of, new_app, with_rule};
+ghost use Rattle.std.specs.Prelude.{◌≡◌, ◌∷◌, [], IfOk, IsOkAnd, false, map};
+ghost use Rattle.clap.specs.Words.{AddsSubcommand, app_of, new_app, rule_of, with_rule};
 ghost use Rattle.clap.specs.declared.builder.command.Command.TheViews.{out-Command};
 ghost use Rattle.command_line.specs.Commands.{admit_command, apply_command, delta_command, find_command};
 ghost use Rattle.command_line.specs.Commands.{list_command, merge_command, name_command, new_command, one_option};
@@ -86,6 +86,14 @@ fn with_several_values<'a>(
     command.arg(argument)
 }
 
+/// An option that has one value, and may be left out.
+fn option<'a>(alloc: Global, id: &'a str, name: &'a str, help: &'a str) -> Arg<'a>
+    ensures rule { rule_of result ≡ one_option id.now name.now }
+    ensures local { result.global ≡ false }
+{
+    Arg::new(alloc, id).help(help).long(name)
+}
+
 /// Adds an option that has one value, and may be left out.
 fn with_option<'a>(
     alloc: Global,
@@ -99,7 +107,7 @@ fn with_option<'a>(
     ensures local { (out-Command command.entry).has_globals ≡ false
         → IfOk result (λ c. (out-Command c).has_globals ≡ false) }
 {
-    let argument = Arg::new(alloc, id).help(help).long(name);
+    let argument = option(alloc, id, name, help);
     command.arg(argument)
 }
 
@@ -257,6 +265,16 @@ fn rehearse_command<'a>(alloc: Global) -> Result<Command<'a>, AllocError>
     with_one_value(alloc, command, "SCRIPT", "The script of the events")
 }
 
+/// Adds a command, if there was memory for it.
+fn with_command<'a>(
+    command: Command<'a>,
+    added: Result<Command<'a>, AllocError>,
+) -> Result<Command<'a>, AllocError>
+    ensures { IfOk result (λ c. IsOkAnd added.entry (λ a. AddsSubcommand command.entry a c)) }
+{
+    command.subcommand(added?)
+}
+
 /// Adds the commands that write an archive.
 fn with_updates<'a>(alloc: Global, command: Command<'a>) -> Result<Command<'a>, AllocError>
     ensures app { IfOk result (λ c. app_of c ≡ with_commands (app_of command.entry)
@@ -264,11 +282,11 @@ fn with_updates<'a>(alloc: Global, command: Command<'a>) -> Result<Command<'a>, 
     ensures local { (out-Command command.entry).has_globals ≡ false
         → IfOk result (λ c. (out-Command c).has_globals ≡ false) }
 {
-    let command = command.subcommand(new_command(alloc)?)?;
-    let command = command.subcommand(admit_command(alloc)?)?;
-    let command = command.subcommand(retire_command(alloc)?)?;
-    let command = command.subcommand(merge_command(alloc)?)?;
-    command.subcommand(apply_command(alloc)?)
+    let command = with_command(command, new_command(alloc))?;
+    let command = with_command(command, admit_command(alloc))?;
+    let command = with_command(command, retire_command(alloc))?;
+    let command = with_command(command, merge_command(alloc))?;
+    with_command(command, apply_command(alloc))
 }
 
 /// Adds the commands that ask an archive.
@@ -278,10 +296,10 @@ fn with_queries<'a>(alloc: Global, command: Command<'a>) -> Result<Command<'a>, 
     ensures local { (out-Command command.entry).has_globals ≡ false
         → IfOk result (λ c. (out-Command c).has_globals ≡ false) }
 {
-    let command = command.subcommand(find_command(alloc)?)?;
-    let command = command.subcommand(list_command(alloc)?)?;
-    let command = command.subcommand(name_command(alloc)?)?;
-    command.subcommand(symbolicate_command(alloc)?)
+    let command = with_command(command, find_command(alloc))?;
+    let command = with_command(command, list_command(alloc))?;
+    let command = with_command(command, name_command(alloc))?;
+    with_command(command, symbolicate_command(alloc))
 }
 
 /// Adds the commands by which sites exchange.
@@ -291,9 +309,9 @@ fn with_exchanges<'a>(alloc: Global, command: Command<'a>) -> Result<Command<'a>
     ensures local { (out-Command command.entry).has_globals ≡ false
         → IfOk result (λ c. (out-Command c).has_globals ≡ false) }
 {
-    let command = command.subcommand(summary_command(alloc)?)?;
-    let command = command.subcommand(delta_command(alloc)?)?;
-    command.subcommand(rehearse_command(alloc)?)
+    let command = with_command(command, summary_command(alloc))?;
+    let command = with_command(command, delta_command(alloc))?;
+    with_command(command, rehearse_command(alloc))
 }
 
 /// The program's command with its subcommands, one of which has to be named.

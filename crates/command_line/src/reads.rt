@@ -3,8 +3,8 @@
 ghost use Rattle.std.specs.Prelude.{◌≡◌, IfErr, IfOk, IsErrAnd, IsSome, OnOk, Some, [], ◌∷◌};
 ghost use Rattle.std.specs.Prelude.{map, option_map, true};
 ghost use Rattle.clap.specs.Words.{IsAmong, found_of, rows_of, subcommand_rows_of};
-ghost use Rattle.command_line.specs.Lines.{KeepsInputs, are_taken, error_kinds, is_in_order, line_in};
-ghost use Rattle.command_line.specs.Lines.{line_of, named_command, plan_view};
+ghost use Rattle.command_line.specs.Lines.{KeepsInputs, are_taken, error_kinds, exchange_line_in, is_in_order};
+ghost use Rattle.command_line.specs.Lines.{line_in, line_of, named_command, plan_view, query_line_in};
 ghost use Rattle.command_line.specs.Told.{IsHelpUnlessMemory, IsRefusalUnlessMemory};
 
 use crate::commands::symarch_command;
@@ -18,6 +18,47 @@ use clap::ArgMatches;
 use clap::error::ErrorKind;
 use std::alloc::Global;
 use std::convert::AsStr;
+
+/// The plan of the command with this name, if it is one by which sites exchange.
+fn plan_exchange_in(alloc: Global, name: &str, matches: &ArgMatches) -> Result<Plan, LineFault>
+    ensures ok { IfOk result (λ p. Some (plan_view p)
+        ≡ exchange_line_in (name.now, rows_of (found_of matches.now))) }
+    ensures err { IsSome (exchange_line_in (name.now, rows_of (found_of matches.now)))
+        → IfErr result (λ e. e ≡ LineFault.OutOfMemory) }
+    ensures refusal { IfErr result IsRefusalUnlessMemory }
+{
+    if name == "summary" {
+        plan_summary(alloc, matches)
+    } else if name == "delta" {
+        plan_delta(alloc, matches)
+    } else if name == "rehearse" {
+        plan_rehearse(alloc, matches)
+    } else {
+        Err(refused(format!(in alloc; "error: no such command: {name}\n")))
+    }
+}
+
+/// The plan of the command with this name, if it is one that asks an archive or by which sites
+/// exchange.
+fn plan_query_in(alloc: Global, name: &str, matches: &ArgMatches) -> Result<Plan, LineFault>
+    ensures ok { IfOk result (λ p. Some (plan_view p)
+        ≡ query_line_in (name.now, rows_of (found_of matches.now))) }
+    ensures err { IsSome (query_line_in (name.now, rows_of (found_of matches.now)))
+        → IfErr result (λ e. e ≡ LineFault.OutOfMemory) }
+    ensures refusal { IfErr result IsRefusalUnlessMemory }
+{
+    if name == "find" {
+        plan_find(alloc, matches)
+    } else if name == "list" {
+        plan_list(alloc, matches)
+    } else if name == "name" {
+        plan_name(alloc, matches)
+    } else if name == "symbolicate" {
+        plan_symbolicate(alloc, matches)
+    } else {
+        plan_exchange_in(alloc, name, matches)
+    }
+}
 
 /// The plan of the command with this name.
 fn plan_in(alloc: Global, name: &str, matches: &ArgMatches) -> Result<Plan, LineFault>
@@ -37,22 +78,8 @@ fn plan_in(alloc: Global, name: &str, matches: &ArgMatches) -> Result<Plan, Line
         plan_merge(alloc, matches)
     } else if name == "apply" {
         plan_apply(alloc, matches)
-    } else if name == "find" {
-        plan_find(alloc, matches)
-    } else if name == "list" {
-        plan_list(alloc, matches)
-    } else if name == "name" {
-        plan_name(alloc, matches)
-    } else if name == "symbolicate" {
-        plan_symbolicate(alloc, matches)
-    } else if name == "summary" {
-        plan_summary(alloc, matches)
-    } else if name == "delta" {
-        plan_delta(alloc, matches)
-    } else if name == "rehearse" {
-        plan_rehearse(alloc, matches)
     } else {
-        Err(refused(format!(in alloc; "error: no such command: {name}\n")))
+        plan_query_in(alloc, name, matches)
     }
 }
 

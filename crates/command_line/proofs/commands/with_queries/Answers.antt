@@ -4,18 +4,21 @@ use Rattle.command_line.proofs.commands.with_queries.Goals as goal
 
 pub returns-clause-app : goal.returns-clause-app
 returns-clause-app c =
-    let find = with_one_more _ _ _ _ _ refl c.in_ok-find_command.ensures.app
-    (c.in_ok-command.ensures.shape c.in_ok-find_command.ensures.local) in
-    let list = with_one_more _ _ _ _ _ find c.in_ok-list_command.ensures.app
-    (c.in_ok-command-2.ensures.shape c.in_ok-list_command.ensures.local) in
-    let name = with_one_more _ _ _ _ _ list c.in_ok-name_command.ensures.app
-    (c.in_ok-command-3.ensures.shape c.in_ok-name_command.ensures.local) in
-    with_last_command _ _ _ _ _ name c.in_ok-symbolicate_command.ensures.app c.in_ok-symbolicate_command.ensures.local
-    c.subcommand-4.ensures
+    let find = with_one_more c.find_command.result _ _ _ _ refl c.find_command.ensures.app
+    c.find_command.ensures.local c.in_ok-command.ensures in
+    let list = with_one_more c.list_command.result _ _ _ _ find c.list_command.ensures.app
+    c.list_command.ensures.local c.in_ok-command-2.ensures in
+    let name = with_one_more c.name_command.result _ _ _ _ list c.name_command.ensures.app
+    c.name_command.ensures.local c.in_ok-command-3.ensures in
+    with_last_command c.symbolicate_command.result _ _ _ _ name c.symbolicate_command.ensures.app
+    c.symbolicate_command.ensures.local c.with_command-4.ensures
 
 pub returns-clause-local : goal.returns-clause-local
 returns-clause-local c none =
-    let find = with_no_global _ _ _ c.in_ok-command.ensures.globals none c.in_ok-find_command.ensures.local in
-    let list = with_no_global _ _ _ c.in_ok-command-2.ensures.globals find c.in_ok-list_command.ensures.local in
-    let name = with_no_global _ _ _ c.in_ok-command-3.ensures.globals list c.in_ok-name_command.ensures.local in
-    with_last_local _ _ _ name c.in_ok-symbolicate_command.ensures.local c.subcommand-4.ensures
+    let find = with_no_global c.find_command.result _ _ none c.find_command.ensures.local
+    c.in_ok-command.ensures in
+    let list = with_no_global c.list_command.result _ _ find c.list_command.ensures.local
+    c.in_ok-command-2.ensures in
+    let name = with_no_global c.name_command.result _ _ list c.name_command.ensures.local
+    c.in_ok-command-3.ensures in
+    with_last_local c.symbolicate_command.result _ _ name c.symbolicate_command.ensures.local c.with_command-4.ensures
