@@ -23,7 +23,7 @@ use Rattle.command_line.specs.Lines.{find_line, find_of, has_form, have_forms, i
 use Rattle.command_line.specs.Lines.{kept, line_in, list, list_line}
 use Rattle.command_line.specs.Lines.{line_of, merge, merge_line, merge_of, name_line, name_of, named_command, new, new_line}
 use Rattle.command_line.specs.Lines.{optional_at, rehearse, rehearse_line, retire, retire_line, retire_of}
-use Rattle.command_line.specs.Lines.{spares_inputs, spelled_at, spelled_if_there, symbolicate, symbolicate_line}
+use Rattle.command_line.specs.Lines.{spares_inputs, spelled_at, spelled_if_there, symbolicate_line}
 use Rattle.command_line.specs.Lines.{summary, summary_line, summary_of, symbolicate_of, words_at}
 use Rattle.archive_words.specs.Words.{address_of, arch_of, digest_of}
 use Rattle.command_line.proofs.Filled.{are_filled, found_passes, is_filled, lets_name, lets_stop, level}
