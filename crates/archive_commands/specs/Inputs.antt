@@ -1,5 +1,6 @@
 -- The inputs of a command: what they hold, which are refused, and why.
-use Rattle.std.specs.Prelude.{◌≡◌, ◌≢◌, ℕ, ◌+◌, List, map, take, drop, zip, Option, Some, None, IfSome, Result, Ok, Err, MatchResult, slice_get, ◌⊎◌}
+use Rattle.std.specs.Prelude.{◌≡◌, ◌≢◌, ℕ, ◌+◌, List, map, take, drop, zip, Option, Some}
+use Rattle.std.specs.Prelude.{None, IfSome, Result, Ok, Err, MatchResult, slice_get, ◌⊎◌}
 use Rattle.std.specs.Io.KnownBytes.{Consumes}
 use Rattle.std.specs.List.{AllByRecursion}
 use Rattle.byte_device.specs.Devices.{FailedIn}
@@ -10,7 +11,9 @@ use Rattle.archive_records.specs.Front.{IsLongestLengthOf}
 use Rattle.archive_records.specs.declared.fault.RecordFault.{RecordFault}
 use Rattle.archive_records.specs.declared.fault.RecordFaultKind.TheVariants.{Device, OutOfMemory as RecordOutOfMemory}
 use Rattle.archive_records.specs.declared.kind.TextKind.{TextKind}
-use Rattle.archive_records.specs.declared.kind.TextKind.TheVariants.{Archive as ArchiveFile, Operations as OperationsFile, Summary as SummaryFile}
+use Rattle.archive_records.specs.declared.kind.TextKind.TheVariants.{Archive as ArchiveFile}
+use Rattle.archive_records.specs.declared.kind.TextKind.TheVariants.{Operations as OperationsFile}
+use Rattle.archive_records.specs.declared.kind.TextKind.TheVariants.{Summary as SummaryFile}
 use Rattle.archive_exchange.specs.File.{IsAcceptedFile, IsTakeFault}
 use Rattle.archive_exchange.specs.declared.fault.TakeFault.{TakeFault}
 use Rattle.archive_exchange.specs.declared.fault.TakeFault.TheVariants.{OutOfMemory as TakeOutOfMemory}
@@ -21,7 +24,8 @@ use Rattle.archive_commands.specs.declared.faults.CommandFault.TheVariants.{Inpu
 use Rattle.archive_commands.specs.declared.faults.Place.{Place}
 use Rattle.archive_commands.specs.declared.faults.Place.TheVariants.{Archive, File, Ops, Summary, Script}
 use Rattle.archive_commands.specs.declared.faults.Why.{Why}
-use Rattle.archive_commands.specs.declared.faults.Why.TheVariants.{Device as CannotRead, Record, Take, Script as Faulty, CannotOpen as NotOpened}
+use Rattle.archive_commands.specs.declared.faults.Why.TheVariants.{Device as CannotRead, Record, Take, Script as Faulty}
+use Rattle.archive_commands.specs.declared.faults.Why.TheVariants.{CannotOpen as NotOpened}
 
 -- An input in a call, before it and after it: a reader, or that none was opened. The functions tell what a reader has
 -- left, where that is known, and how often it has failed.
@@ -82,8 +86,8 @@ FailedBehind IsOffsetOf input offset =
     × (bytes : List ℕ) × Consumes (left_of input.left input.old) (left_of input.left input.new) bytes
     × IsOffsetOf bytes offset
 
--- why the text of such a file is not read: it was not opened, it has this fault, or the reader failed; the offset is then
--- the length of the longest good front of what came
+-- why the text of such a file is not read: it was not opened, it has this fault, or the reader failed; the offset is
+-- then the length of the longest good front of what came
 abbrev pub IsTextRefused : {S : Type 0} → TextKind → Reader S → Why → Type 0
 IsTextRefused kind input why =
     MatchResult input.old

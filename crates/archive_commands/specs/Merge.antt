@@ -7,7 +7,8 @@ use Rattle.archive_records.specs.Text.{written}
 use Rattle.archive_commands.specs.declared.faults.Place.{Place}
 use Rattle.archive_commands.specs.declared.faults.Place.TheVariants.{Archive}
 use Rattle.archive_commands.specs.Ends.{Command, MakesArchive}
-use Rattle.archive_commands.specs.Inputs.{Reader, Holds, Unfailed, EachUnfailed, EachUntouched, IsArchive, IsArchiveRefused, IsFirstRefused, IsRefusedInOrder}
+use Rattle.archive_commands.specs.Inputs.{Reader, Holds, Unfailed, EachUnfailed, EachUntouched, IsArchive}
+use Rattle.archive_commands.specs.Inputs.{IsArchiveRefused, IsFirstRefused, IsRefusedInOrder}
 
 -- a content with others, one joined after another
 abbrev pub merged : Operations → List Operations → Operations

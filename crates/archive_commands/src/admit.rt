@@ -6,7 +6,9 @@ ghost use Rattle.archive_exchange.specs.Take.{admitted, taken_rows};
 ghost use Rattle.archive_commands.specs.declared.faults.Place.TheVariants.{File};
 ghost use Rattle.archive_commands.specs.Admit.{HasTaken, admit, file_rows};
 ghost use Rattle.archive_commands.specs.Ends.{Ends};
-ghost use Rattle.archive_commands.specs.Inputs.{EachUnfailed, Holds, IsAccepted, IsFileRefused, IsFirstRefused, IsRefusal, IsRefusedBytes, IsRefusedFile, Unfailed, reader, readers};
+ghost use Rattle.archive_commands.specs.Inputs.{EachUnfailed, Holds, IsAccepted, IsFileRefused};
+ghost use Rattle.archive_commands.specs.Inputs.{IsFirstRefused, IsRefusal, IsRefusedBytes};
+ghost use Rattle.archive_commands.specs.Inputs.{IsRefusedFile, Unfailed, reader, readers};
 ghost use Rattle.archive_commands.specs.Outputs.{writer};
 
 use crate::faults::{CannotOpen, CommandFault, Place, Status, Why};

@@ -11,8 +11,8 @@ use archive_core::Archive;
 use byte_device::{Sink, Source};
 use memory::Heap;
 
-/// Writes the archive of those operations of ARCHIVE whose entries are not in SUMMARY to OUT, and its sizes to the report.
-/// ARCHIVE is read first, then SUMMARY, each to its end, before anything is written.
+/// Writes the archive of those operations of ARCHIVE whose entries are not in SUMMARY to OUT, and its sizes to the
+/// report. ARCHIVE is read first, then SUMMARY, each to its end, before anything is written.
 ///
 /// # Errors
 ///

@@ -9,8 +9,8 @@
 //! - `publish`: the end of each command;
 //! - `new`, `admit`, `retire`, `merge`, `apply`, `find`, `list`, `name`, `symbolicate`, `summary`, `delta`,
 //!   `rehearse`: a command each;
-//! - [`admit_laws`], [`merge_laws`], [`apply_laws`], [`list_laws`], [`name_laws`], [`symbolicate_laws`], [`exchange_laws`],
-//!   [`rehearse_laws`]: what the definitions of the commands say in the words of their user.
+//! - [`admit_laws`], [`merge_laws`], [`apply_laws`], [`list_laws`], [`name_laws`], [`symbolicate_laws`],
+//!   [`exchange_laws`], [`rehearse_laws`]: what the definitions of the commands say in the words of their user.
 #![tactic(auto)]
 
 mod admit;

@@ -40,8 +40,8 @@ pub fn one_rehearsal<R: Source, S: Source>()
     one_meaning();
 }
 
-/// Sites that the same operations reached, in one rehearsal or in two, have lines that are the same behind their numbers:
-/// as many records and bytes, and one digest.
+/// Sites that the same operations reached, in one rehearsal or in two, have lines that are the same behind their
+/// numbers: as many records and bytes, and one digest.
 pub fn same_operations_same_line()
     ensures { (sites others : ℕ) (seen later : List Seen) (i j number : ℕ)
         → made (reached sites seen i) ≡ made (reached others later j)

@@ -13,7 +13,8 @@ use Rattle.archive_core.specs.declared.keys.SliceKey.{SliceKey}
 abbrev pub Operations : Type 0
 Operations = set.FinSet (slice_cmp nat_cmp)
 
--- the content that a set of operations makes: the set itself. Added and retired slices only grow, as in the two-phase set (INRIA RR-7506, 2P-Set)
+-- the content that a set of operations makes: the set itself. Added and retired slices only grow, as in the two-phase
+-- set (INRIA RR-7506, 2P-Set)
 abbrev pub made : Operations → Operations
 made o = o
 
@@ -64,4 +65,5 @@ pub record IsLive (o : Operations) (key : SliceKey) (slice : List ℕ) : Type 0 
 -- an answering slice of a key: if the key has live companions, they alone answer; otherwise its live slices do
 pub record IsAnswering (o : Operations) (key : SliceKey) (slice : List ℕ) : Type 0 where
   pub live : IsLive o key slice
-  pub companions_first : (companion : List ℕ) → IsLive o key companion → is_dsym_image companion ≡ true → is_dsym_image slice ≡ true
+  pub companions_first : (companion : List ℕ) → IsLive o key companion → is_dsym_image companion ≡ true
+      → is_dsym_image slice ≡ true

@@ -88,7 +88,8 @@ is_image_row arch row = is_arch row.key.arch arch && is_image row.state
 
 -- how many slices of an architecture answer, as rows tell it: the companions, or else the images
 abbrev pub answering_count : List FindRow → ArchKey → ℕ
-answering_count rows arch = if count_by (is_dsym_row arch) rows == 0 then count_by (is_image_row arch) rows else count_by (is_dsym_row arch) rows
+answering_count rows arch = if count_by (is_dsym_row arch) rows == 0 then count_by (is_image_row arch) rows
+    else count_by (is_dsym_row arch) rows
 
 -- the answering slices of a key, strictly ascending by their records
 pub record AreAnswering (o : Operations) (key : SliceKey) (slices : List (List ℕ)) : Type 0 where

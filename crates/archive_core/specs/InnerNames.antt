@@ -17,7 +17,8 @@ names_in name slice = map (name_row slice) (named slice name)
 
 -- the rows of a name in what an operation admits, unless that is retired
 abbrev pub names_of : Operations → List ℕ → Operation → List NameRecord
-names_of o name (Admit slice) = if set.contains o (retirement_record (key_of slice) (sha256 slice)) then [] else names_in name slice
+names_of o name (Admit slice) =
+    if set.contains o (retirement_record (key_of slice) (sha256 slice)) then [] else names_in name slice
 names_of o name (Retire key digest) = []
 
 -- the rows of a name in operations, one after another

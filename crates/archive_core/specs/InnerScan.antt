@@ -1,5 +1,7 @@
--- What a plain archive finds as it goes through its operations: the words of inner functions. No contract of a public one has them.
-use Rattle.std.specs.Prelude.{◌≡◌, ◌≤◌, ℕ, Bool, List, [], ◌∷◌, Option, Some, None, length, filter_map, ◌&&◌, not, if◌then◌else◌}
+-- What a plain archive finds as it goes through its operations: the words of inner functions. No contract of a public
+-- one has them.
+use Rattle.std.specs.Prelude.{◌≡◌, ◌≤◌, ℕ, Bool, List, [], ◌∷◌, Option, Some, None}
+use Rattle.std.specs.Prelude.{length, filter_map, ◌&&◌, not, if◌then◌else◌}
 use Rattle.std.specs.Str.{bytes_eq}
 use Rattle.std.specs.FinSet as set
 use Rattle.sha2.specs.Sha256.{sha256}
@@ -16,7 +18,8 @@ use Rattle.archive_core.specs.declared.live.Tally.TheVariants.{Nothing, One, Sev
 
 -- a search finds an operation of the content under its UUID, unless it admits a slice that is retired
 abbrev pub is_finding : Operations → List ℕ → Operation → Bool
-is_finding o uuid (Admit slice) = bytes_eq (key_of slice).uuid uuid && not (set.contains o (retirement_record (key_of slice) (sha256 slice)))
+is_finding o uuid (Admit slice) =
+    bytes_eq (key_of slice).uuid uuid && not (set.contains o (retirement_record (key_of slice) (sha256 slice)))
 is_finding o uuid (Retire key digest) = bytes_eq key.uuid uuid
 
 -- two keys are one
@@ -29,7 +32,9 @@ is_kind dsym slice = if dsym then is_dsym_image slice else not (is_dsym_image sl
 
 -- an admitted slice is live under a key, and of the kind
 unfoldable pub is_live_kind : Operations → SliceKey → Bool → List ℕ → Bool
-is_live_kind o key dsym slice = is_key (key_of slice) key && (is_kind dsym slice && not (set.contains o (retirement_record (key_of slice) (sha256 slice))))
+is_live_kind o key dsym slice =
+    is_key (key_of slice) key && (is_kind dsym slice
+    && not (set.contains o (retirement_record (key_of slice) (sha256 slice))))
 
 -- the slice of an operation, where it is such a one
 abbrev pub live_in : Operations → SliceKey → Bool → Operation → Option (List ℕ)

@@ -19,7 +19,8 @@ list_cmp = then_cmp (on (λ operation. (key_in operation).uuid) (slice_cmp nat_c
 abbrev pub IsListed : Operations → Operation → Type 0
 IsListed o operation = IsFinding o (key_in operation).uuid operation
 
--- what a list of all tells: one row for each retirement and each live slice, by UUID, then by architecture, then by record
+-- what a list of all tells: one row for each retirement and each live slice, by UUID, then by architecture, then by
+-- record
 pub record IsList (o : Operations) (rows : List FindRow) : Type 0 where
   pub operations : List Operation
   pub ascending : IsStrictlySortedBy list_cmp operations

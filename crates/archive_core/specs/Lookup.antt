@@ -1,5 +1,6 @@
 -- What a lookup answers: what the answering slices of a key tell of a place.
-use Rattle.std.specs.Prelude.{◌≡◌, ◌≤◌, ◌+◌, ◌-◌, ◌^◌, ◌&&◌, ℕ, nat_le, nat_lt, List, [], ◌∷◌, length, map, Option, Some, None, MatchOption, option_and_then, if◌then◌else◌}
+use Rattle.std.specs.Prelude.{◌≡◌, ◌≤◌, ◌+◌, ◌-◌, ◌^◌, ◌&&◌, ℕ, nat_le, nat_lt, List, [], ◌∷◌, length}
+use Rattle.std.specs.Prelude.{map, Option, Some, None, MatchOption, option_and_then, if◌then◌else◌}
 use Rattle.std.specs.List.{AllZip}
 use Rattle.sha2.specs.Sha256.{sha256}
 use Rattle.macho_image.specs.Sections.{text_base_of}
@@ -18,9 +19,11 @@ use Rattle.archive_core.specs.declared.lookup.Answer.TheVariants.{Unknown, NoSym
 
 -- address - load + base in whole numbers, where that lies in 0 to 2 ^ 64 - 1
 abbrev pub unslid : ℕ → ℕ → ℕ → Option ℕ
-unslid base load address = if nat_le load (address + base) && nat_lt (address + base - load) (2 ^ 64) then Some (address + base - load) else None
+unslid base load address = if nat_le load (address + base) && nat_lt (address + base - load) (2 ^ 64)
+    then Some (address + base - load) else None
 
--- the address in a slice's file that a place stands for; a loaded one stands for none where the slice has no segment __TEXT
+-- the address in a slice's file that a place stands for; a loaded one stands for none where the slice has no segment
+-- __TEXT
 abbrev pub file_address : List ℕ → Where → Option ℕ
 file_address slice (File address) = Some address
 file_address slice (Loaded load address) = option_and_then (λ base. unslid base load address) (text_base_of slice)
@@ -39,7 +42,8 @@ pub record IsOwnRow (place : Where) (slice : List ℕ) (row : OwnRow) : Type 0 w
   pub digest_is : row.digest ≡ sha256 slice
   pub own_is : IsOwn slice place row.own
 
--- an answer, without where its names lie: nothing answers, one slice tells a symbol or none, or several tell each its own
+-- an answer, without where its names lie: nothing answers, one slice tells a symbol or none, or several tell each its
+-- own
 pub data AnswerRecord : Type 0 where
   Unanswered : AnswerRecord
   Alone : Option FoundRecord → AnswerRecord

@@ -12,7 +12,8 @@ use Rattle.archive_core.specs.Find.{arch_cmp}
 use Rattle.archive_core.specs.declared.keys.SliceKey.{SliceKey}
 use Rattle.archive_core.specs.declared.names.NameRow.{NameRow}
 
--- where a symbol stands: the key and the SHA-256 of its slice, its address, its section's number, and that section's names
+-- where a symbol stands: the key and the SHA-256 of its slice, its address, its section's number, and that section's
+-- names
 pub record NameRecord : Type 0 where
   pub key : SliceKey
   pub digest : List ℕ
@@ -27,7 +28,9 @@ key_cmp = then_cmp (on (λ key. key.uuid) (slice_cmp nat_cmp)) (on (λ key. key.
 
 -- rows by the address of the symbol, then by its section
 abbrev pub place_cmp : NameRecord → NameRecord → Ordering
-place_cmp = then_cmp (on (λ row. row.address) nat_cmp) (then_cmp (on (λ row. row.sect) nat_cmp) (then_cmp (on (λ row. row.segment) (slice_cmp nat_cmp)) (on (λ row. row.section) (slice_cmp nat_cmp))))
+place_cmp = then_cmp (on (λ row. row.address) nat_cmp)
+    (then_cmp (on (λ row. row.sect) nat_cmp)
+    (then_cmp (on (λ row. row.segment) (slice_cmp nat_cmp)) (on (λ row. row.section) (slice_cmp nat_cmp))))
 
 -- rows by key, then by digest, then by where the symbol stands in its slice
 abbrev pub name_cmp : NameRecord → NameRecord → Ordering

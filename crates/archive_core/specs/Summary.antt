@@ -12,7 +12,8 @@ use Rattle.archive_core.specs.Content.{Operations}
 abbrev pub Entries : Type 0
 Entries = set.FinSet (slice_cmp nat_cmp)
 
--- the entry of an operation, by its record: of an admission tag 2, the key and the SHA-256 of the slice, in place of its length and the slice; of a retirement its record
+-- the entry of an operation, by its record: of an admission tag 2, the key and the SHA-256 of the slice, in place of
+-- its length and the slice; of a retirement its record
 unfoldable pub entry : List ℕ → List ℕ
 entry r = if slice_index r 0 == 2 then 2 ∷ (take 24 (drop 1 r) ++ sha256 (drop 33 r)) else r
 
@@ -26,4 +27,5 @@ delta o s = set.retain o (λ r. not (set.contains s (entry r)))
 
 -- no slice of the one content has the SHA-256 of a different slice of the other
 abbrev pub DigestsTell : Operations → Operations → Type 0
-DigestsTell o p = (a b : List ℕ) → set.contains o (admission_record a) ≡ true → set.contains p (admission_record b) ≡ true → sha256 a ≡ sha256 b → a ≡ b
+DigestsTell o p = (a b : List ℕ) → set.contains o (admission_record a) ≡ true
+    → set.contains p (admission_record b) ≡ true → sha256 a ≡ sha256 b → a ≡ b

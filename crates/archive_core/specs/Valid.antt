@@ -10,7 +10,8 @@ use Rattle.archive_core.specs.declared.faults.SliceFault.TheVariants.{Image, Sym
 use Rattle.archive_core.specs.declared.faults.AdmitFault.{AdmitFault}
 use Rattle.archive_core.specs.declared.faults.AdmitFault.TheVariants.{Slice, OutOfMemory}
 
--- a slice is a thin 64-bit image without a fault, whose symbols can be read (mach-o/loader.h: mach_header_64, its load commands and LC_SYMTAB)
+-- a slice is a thin 64-bit image without a fault, whose symbols can be read (mach-o/loader.h: mach_header_64, its load
+-- commands and LC_SYMTAB)
 pub record IsValid (bytes : List ℕ) : Type 0 where
   pub image : IsImage bytes
   pub symbols : HasSymbols bytes
@@ -25,7 +26,8 @@ abbrev pub IsAdmitFault : List ℕ → AdmitFault → Type 0
 IsAdmitFault bytes (Slice fault) = IsSliceFault bytes fault
 IsAdmitFault bytes OutOfMemory = IsValid bytes
 
--- the key of a slice: its LC_UUID, and cputype and cpusubtype of its header, the high byte of the latter cleared (mach/machine.h: CPU_SUBTYPE_MASK)
+-- the key of a slice: its LC_UUID, and cputype and cpusubtype of its header, the high byte of the latter cleared
+-- (mach/machine.h: CPU_SUBTYPE_MASK)
 unfoldable pub key_of : List ℕ → SliceKey
 key_of bytes = record {
   uuid = uuid_of bytes;

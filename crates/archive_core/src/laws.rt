@@ -2,7 +2,8 @@
 //!
 //! Each law is the contract of a function that does nothing but call other laws, and speaks of the definitions alone: a
 //! caller that wants a law calls its function.
-ghost use Rattle.std.specs.Prelude.{◌≡◌, ◌⊎◌, ◌↔◌, ◌&&◌, ℕ, ◌+◌, List, [], ◌∷◌, ◌++◌, true, false, not, filter, length, slice_index_or};
+ghost use Rattle.std.specs.Prelude.{◌≡◌, ◌⊎◌, ◌↔◌, ◌&&◌, ℕ, ◌+◌, List, [], ◌∷◌, ◌++◌};
+ghost use Rattle.std.specs.Prelude.{true, false, not, filter, length, slice_index_or};
 ghost use Rattle.std.specs.Ordering.{nat_cmp};
 ghost use Rattle.std.specs.Cmp.Lexicographic.{slice_cmp};
 ghost use Rattle.std.specs.FinSet as set;
@@ -13,7 +14,8 @@ ghost use Rattle.join_core.specs.Bound.{IsLeastAbove};
 ghost use Rattle.archive_core.specs.Key.{IsKey, key_bytes};
 ghost use Rattle.archive_core.specs.Valid.{IsValid, IsSliceFault, key_of};
 ghost use Rattle.archive_core.specs.Record.{IsRecord, Admits, IsOperation, rec, admission_record, retirement_record};
-ghost use Rattle.archive_core.specs.Content.{Operations, made, IsMade, IsContent, IsBelow, with_record, with_records, changes, joined, HaveSameMembers, IsLive, IsTakenInPart};
+ghost use Rattle.archive_core.specs.Content.{Operations, made, IsMade, IsContent, IsBelow, with_record, with_records};
+ghost use Rattle.archive_core.specs.Content.{changes, joined, HaveSameMembers, IsLive, IsTakenInPart};
 ghost use Rattle.archive_core.specs.Summary.{Entries, entry, summary, delta, DigestsTell};
 ghost use Rattle.archive_core.specs.Find.{IsFinds, AreAnswering, answering_count};
 ghost use Rattle.archive_core.specs.Lists.{IsList, rows_under};

@@ -15,7 +15,8 @@ use memory::{Heap, NoMemory};
 // The operation with its row, unless it admits a slice that is retired.
 fn listed<'a, A: Archive>(archive: &A, operation: &Record<'a>) -> Option<Finding<'a>>
     ensures listed { result
-        ≡ if is_listed (A.content archive.now) (operation_lent operation.now) then Some (operation_lent operation.now) else None }
+        ≡ if is_listed (A.content archive.now) (operation_lent operation.now) then Some (operation_lent operation.now)
+        else None }
     ensures operation { IsOperation (operation_lent operation.now) }
 {
     let finding = Finding::of(operation);

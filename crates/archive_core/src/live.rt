@@ -2,7 +2,8 @@
 ghost use Rattle.std.specs.Prelude.{◌≡◌, ◌∷◌, [], ◌++◌, ℕ, List};
 ghost use Rattle.sha2.specs.Sha256.{sha256};
 ghost use Rattle.macho_symbols.specs.Found.{FindsNearest};
-ghost use Rattle.archive_core.specs.Lookup.{IsOwn, IsOwnRow, Alone, file_address, unslid, own_view, own_row, answer_view};
+ghost use Rattle.archive_core.specs.Lookup.{IsOwn, IsOwnRow, Alone, file_address, unslid};
+ghost use Rattle.archive_core.specs.Lookup.{own_view, own_row, answer_view};
 ghost use Rattle.archive_core.specs.InnerScan.{IsTally, is_key, is_kind};
 
 use crate::{Answer, Digest, Own, Slice, SliceKey, Where};

@@ -143,7 +143,8 @@ impl PlainArchive {
     // The slice with its digest, unless a retirement covers it.
     fn unless_retired<'a>(&self, slice: &'a Slice) -> Option<Hashed<'a>>
         ensures { result
-            ≡ if set.contains self.now (retirement_record (key_of slice.now) (sha256 slice.now)) then None else Some slice.now }
+            ≡ if set.contains self.now (retirement_record (key_of slice.now) (sha256 slice.now)) then None
+            else Some slice.now }
     {
         let hashed = Hashed::of(slice);
         if self.holds(&Operation::Retire(slice.key(), hashed.digest())) {

@@ -10,4 +10,5 @@ use Rattle.archive_records.specs.Text.{written}
 pub record AreAlike (o p : Operations) : Type 0 where
   pub content : o ≡ p
   pub bytes : written o ≡ written p
-  pub answers : (key : SliceKey) (place : Where) (answer : AnswerRecord) → IsAnswer o key place answer ↔ IsAnswer p key place answer
+  pub answers : (key : SliceKey) (place : Where) (answer : AnswerRecord)
+      → IsAnswer o key place answer ↔ IsAnswer p key place answer

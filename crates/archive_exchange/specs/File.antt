@@ -9,7 +9,8 @@ use Rattle.fat_slices.specs.declared.file_kind.FileKind.TheVariants.{Thin, Unive
 use Rattle.archive_core.specs.Valid.{IsValid, IsSliceFault}
 use Rattle.archive_core.specs.declared.faults.SliceFault.{SliceFault}
 use Rattle.archive_exchange.specs.declared.fault.TakeFault.{TakeFault}
-use Rattle.archive_exchange.specs.declared.fault.TakeFault.TheVariants.{Unrecognised, Fat, Slice, NothingToAdmit, OutOfMemory}
+use Rattle.archive_exchange.specs.declared.fault.TakeFault.TheVariants.{Unrecognised, Fat, Slice, NothingToAdmit}
+use Rattle.archive_exchange.specs.declared.fault.TakeFault.TheVariants.{OutOfMemory}
 
 -- the parts of a file of a kind: a thin file is its only part, a universal file has its slices
 abbrev pub parts_of : FileKind → List ℕ → List (List ℕ)

@@ -1,4 +1,5 @@
--- What an event makes of a site, of all sites and of a run: the words of inner functions. No contract of a public one has them.
+-- What an event makes of a site, of all sites and of a run: the words of inner functions. No contract of a public one
+-- has them.
 use Rattle.std.specs.Prelude.{◌≡◌, ℕ, true, suc, ◌≤◌, List, Some, length, slice_get, slice_set}
 use Rattle.std.specs.List.{AllZip}
 use Rattle.std.specs.FinSet as set
@@ -21,21 +22,27 @@ SeenFile = model.File TakeFault
 abbrev pub IsRecorded : model.Event TakeFault → Type 0
 IsRecorded seen = (r : List ℕ) → set.contains (issues (Some seen)) r ≡ true → IsRecord r
 
--- The event happens at a site: in each world that sites show, of which this one stands at the event's number, it leaves the
--- sites as they are with this one, and is answered so.
-pub record Follows (e : Event TakeFault) (old new : Keeping) (texts later : List (List ℕ)) (answer : Outcome) : Type 0 where
-  pub shows : (sites : List Keeping) (w : World) → slice_get sites (site_of e) ≡ Some old → Shows sites texts w → Shows (slice_set sites (site_of e) new) later (happens (length sites) w e)
-  pub tells : (sites : List Keeping) (w : World) → slice_get sites (site_of e) ≡ Some old → Shows sites texts w → Tells answer (outcome (length sites) w e)
+-- The event happens at a site: in each world that sites show, of which this one stands at the event's number, it leaves
+-- the sites as they are with this one, and is answered so.
+pub record Follows (e : Event TakeFault) (old new : Keeping) (texts later : List (List ℕ))
+    (answer : Outcome) : Type 0 where
+  pub shows : (sites : List Keeping) (w : World) → slice_get sites (site_of e) ≡ Some old → Shows sites texts w
+      → Shows (slice_set sites (site_of e) new) later (happens (length sites) w e)
+  pub tells : (sites : List Keeping) (w : World) → slice_get sites (site_of e) ≡ Some old → Shows sites texts w
+      → Tells answer (outcome (length sites) w e)
 
 -- The event happens among sites: it leaves them so in each world that they show, and is answered so.
-pub record Happens (e : Event TakeFault) (sites others : List Keeping) (texts later : List (List ℕ)) (answer : Outcome) : Type 0 where
+pub record Happens (e : Event TakeFault) (sites others : List Keeping) (texts later : List (List ℕ))
+    (answer : Outcome) : Type 0 where
   pub shows : (w : World) → Shows sites texts w → Shows others later (happens (length sites) w e)
   pub tells : (w : World) → Shows sites texts w → Tells answer (outcome (length sites) w e)
 
--- What was run so far: the sites and messages show the state after the first n events, the outcomes tell theirs, and what the accepted
--- ones of them issued are records of operations.
-pub record HasRun (sites : ℕ) (events : List (Event TakeFault)) (n : ℕ) (kept : List Keeping) (texts : List (List ℕ)) (told : List Outcome) : Type 0 where
+-- What was run so far: the sites and messages show the state after the first n events, the outcomes tell theirs, and
+-- what the accepted ones of them issued are records of operations.
+pub record HasRun (sites : ℕ) (events : List (Event TakeFault)) (n : ℕ) (kept : List Keeping) (texts : List (List ℕ))
+    (told : List Outcome) : Type 0 where
   pub shows : Shows kept texts (state sites events n)
   pub tells : AllZip Tells told (outcomes sites events n)
-  pub recorded : (k : ℕ) (r : List ℕ) → suc k ≤ n → is_accepted sites events (senders sites events k) (slice_get events k) ≡ true
+  pub recorded : (k : ℕ) (r : List ℕ) → suc k ≤ n
+      → is_accepted sites events (senders sites events k) (slice_get events k) ≡ true
       → set.contains (issues (slice_get events k)) r ≡ true → IsRecord r

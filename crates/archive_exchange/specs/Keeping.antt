@@ -23,7 +23,8 @@ pub record Keeping : Type 0 where
 -- a site's keeping is stored as the pair of its parts
 abbrev pub keeping_code : Coded Keeping
 keeping_code =
-    code_by (set.FinSet (slice_cmp nat_cmp) × List ℕ) (coded× (set.code (coded_list coded_ℕ)) (coded_list coded_ℕ)) (λ k. (k.held, k.saved)) (λ p. record { held = p.0; saved = p.1 }) (λ _. refl)
+    code_by (set.FinSet (slice_cmp nat_cmp) × List ℕ) (coded× (set.code (coded_list coded_ℕ)) (coded_list coded_ℕ))
+    (λ k. (k.held, k.saved)) (λ p. record { held = p.0; saved = p.1 }) (λ _. refl)
 
 -- the text is that of this content; laws of texts say that it is that of no other
 pub record Says (text : List ℕ) (o : Operations) : Type 0 where

@@ -15,7 +15,8 @@ pub record Scene : Type 0 where
 -- a scene is stored as the pair of its parts
 abbrev pub scene_code : Coded Scene
 scene_code =
-    code_by (List Keeping × List (List ℕ)) (coded× (coded_list keeping_code) (coded_list (coded_list coded_ℕ))) (λ s. (s.sites, s.messages)) (λ p. record { sites = p.0; messages = p.1 }) (λ _. refl)
+    code_by (List Keeping × List (List ℕ)) (coded× (coded_list keeping_code) (coded_list (coded_list coded_ℕ)))
+    (λ s. (s.sites, s.messages)) (λ p. record { sites = p.0; messages = p.1 }) (λ _. refl)
 
 -- the text of a message: of a content or of a summary
 abbrev pub message_text : Message → List ℕ

@@ -18,9 +18,11 @@ use Rattle.archive_exchange.specs.declared.taken.Taken.TheVariants.{Added, Known
 use Rattle.archive_exchange.specs.declared.event.Event.{Event}
 use Rattle.archive_exchange.specs.declared.event.Event.TheVariants.{Take, Retire, Full, Ask, Reply, Deliver, Save, Stop}
 use Rattle.archive_exchange.specs.declared.event.EventFault.{EventFault}
-use Rattle.archive_exchange.specs.declared.event.EventFault.TheVariants.{NoSite, NoMessage, NotASummary, Refused as Text_refused, File}
+use Rattle.archive_exchange.specs.declared.event.EventFault.TheVariants.{NoSite, NoMessage, NotASummary}
+use Rattle.archive_exchange.specs.declared.event.EventFault.TheVariants.{Refused as Text_refused, File}
 use Rattle.archive_exchange.specs.declared.event.Outcome.{Outcome}
-use Rattle.archive_exchange.specs.declared.event.Outcome.TheVariants.{Took, Retired, Sent, Delivered, Saved, Stopped, Refused}
+use Rattle.archive_exchange.specs.declared.event.Outcome.TheVariants.{Took, Retired, Sent, Delivered}
+use Rattle.archive_exchange.specs.declared.event.Outcome.TheVariants.{Saved, Stopped, Refused}
 
 -- an event as the definitions of sites see it, where a file is refused by a TakeFault
 abbrev pub Seen : Type 0

@@ -33,7 +33,8 @@ pub(crate) fn begins_as_image(part: &[u8]) -> bool
 fn check_part(index: u64, part: &[u8]) -> Result<bool, TakeFault>
     ensures begins { IfOk result (λ begins. begins ≡ is_admissible part.now) }
     ensures valid { OnOk result (is_admissible part.now ≡ true → IsValid part.now) }
-    ensures refused { IfErr result (λ fault. (why : SliceFault) × (fault ≡ TakeFault.Slice index why) × (is_admissible part.now ≡ true) × IsSliceFault part.now why) }
+    ensures refused { IfErr result (λ fault. (why : SliceFault) × (fault ≡ TakeFault.Slice index why)
+        × (is_admissible part.now ≡ true) × IsSliceFault part.now why) }
 {
     if !begins_as_image(part) {
         return Ok(false);

@@ -2,7 +2,8 @@
 //!
 //! Each law is the contract of a function that does nothing but call laws of the crates below, and speaks of the
 //! definitions alone: a caller that wants a law calls its function.
-ghost use Rattle.std.specs.Prelude.{◌≡◌, ◌≢◌, ◌⊎◌, ◌↔◌, ℕ, Contains, List, Some, true, false, length, take, filter, slice_get};
+ghost use Rattle.std.specs.Prelude.{◌≡◌, ◌≢◌, ◌⊎◌, ◌↔◌, ℕ, Contains, List, Some, true};
+ghost use Rattle.std.specs.Prelude.{false, length, take, filter, slice_get};
 ghost use Rattle.archive_core.specs.Content.{Operations, IsMade, IsContent, IsBelow};
 ghost use Rattle.archive_core.specs.Valid.{IsValid};
 ghost use Rattle.archive_exchange.specs.File.{IsAcceptedFile, IsTakeFault, is_admissible, admissible, parts};

@@ -54,8 +54,8 @@ fn rehearse<A: Archive + Drop>(
 /// Carries out a list of events on so many sites, which begin empty, and gives the world that they leave and an outcome
 /// an event. Any events, in any order: a refused one changes nothing.
 ///
-/// Each clause speaks of what the events are to the definitions of `exchange_model`, as `laws::one_meaning` says of each
-/// list. Want of memory at any event refuses the run.
+/// Each clause speaks of what the events are to the definitions of `exchange_model`, as `laws::one_meaning` says of
+/// each list. Want of memory at any event refuses the run.
 pub fn run<A: Archive + Drop>(
     heap: Heap,
     sites: u32,
@@ -74,8 +74,8 @@ pub fn run<A: Archive + Drop>(
         → slice_get done.0.sites i ≡ Some site
         → site.held ≡ made (reached sites seen i))) }
 
-    // The headline: sites that the same operations reached, here or in any other run, hold the same content, write the same
-    // bytes and answer every lookup alike.
+    // The headline: sites that the same operations reached, here or in any other run, hold the same content, write the
+    // same bytes and answer every lookup alike.
     ensures same_operations_same_bytes { IfOk result (λ done. OfEvents events.now (λ seen.
         (i : ℕ) (site : Keeping) (others : ℕ) (later : List Seen) (j : ℕ)
         → slice_get done.0.sites i ≡ Some site
@@ -96,8 +96,8 @@ pub fn run<A: Archive + Drop>(
         → n ≤ m
         → IsBelow ((state sites seen n).saved i) ((state sites seen m).held i))) }
 
-    // Where no two different issued slices share a SHA-256: a site that takes a delta made in reply to any summary that it
-    // sent is above what the replier held then.
+    // Where no two different issued slices share a SHA-256: a site that takes a delta made in reply to any summary that
+    // it sent is above what the replier held then.
     ensures lifted { IfOk result (λ _. OfEvents events.now (λ seen. (i x a r k : ℕ)
         → IsDigestTelling sites seen
         → IsExchange sites seen i x a r k

@@ -7,7 +7,8 @@ ghost use Rattle.archive_core.specs.Summary.{Entries, summary, delta};
 ghost use Rattle.archive_records.specs.Text.{written, summary_text};
 ghost use Rattle.archive_exchange.specs.File.{IsAcceptedFile, IsTakeFault, admissible, parts};
 ghost use Rattle.archive_exchange.specs.Take.{admitted, taken_rows, HoldsFirstParts};
-ghost use Rattle.archive_exchange.specs.Keeping.{Says, IsArchiveText, IsDeliverFault, HasJoined, HasJoinedInPart, Names, RepliesTo, IsReplyFault};
+ghost use Rattle.archive_exchange.specs.Keeping.{Says, IsArchiveText, IsDeliverFault, HasJoined, HasJoinedInPart};
+ghost use Rattle.archive_exchange.specs.Keeping.{Names, RepliesTo, IsReplyFault};
 
 use crate::taking::take_accepted;
 use crate::{DeliverFault, ReplyFault, TakeFault, Taken, check_file};
@@ -193,8 +194,8 @@ impl<A: Archive + Drop> Site<A> {
     ///
     /// # Errors
     ///
-    /// `Refused` where the message is no archive's text, which leaves the site as it was, and `OutOfMemory`, after which
-    /// some of the message's operations may have been taken in; the call may then be made again.
+    /// `Refused` where the message is no archive's text, which leaves the site as it was, and `OutOfMemory`, after
+    /// which some of the message's operations may have been taken in; the call may then be made again.
     pub fn deliver(&mut self, message: &[u8]) -> Result<(), DeliverFault>
         ensures joined { OnOk result (HasJoined message.now self.old self.new) }
         ensures refused { IfErr result (IsDeliverFault message.now) }

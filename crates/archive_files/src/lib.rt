@@ -11,6 +11,3 @@ mod out_file;
 
 pub use inputs::{Buffered, Plain, open_all, open_all_buffered, open_buffered};
 pub use out_file::OutFile;
-
-#[cfg(test)]
-mod tests;

@@ -127,6 +127,10 @@ impl IndexedArchive {
         let Operation::Admit(slice) = operation else {
             return None;
         };
+        // Retirements stand first, so there is none where the first operation is an admission.
+        if let Operation::Admit(_) = self.operations.first()?.operation() {
+            return None;
+        }
         if under(&self.operations, Kind::Retirement, slice.key()).is_empty() {
             return None;
         }

@@ -18,7 +18,8 @@ pub(crate) enum Kind {
     Admission,
 }
 
-// Where the operations of a kind under a key begin, and how many they are. They stand together, and are found by halving.
+// Where the operations of a kind under a key begin, and how many they are. They stand together, and are found by
+// halving.
 fn place_of(operations: &[Tabled], kind: Kind, key: SliceKey) -> (usize, usize)
     requires { IsHeld operations.now }
     ensures within { result.0 + result.1 ≤ length operations.now }

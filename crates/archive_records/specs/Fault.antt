@@ -1,11 +1,15 @@
 -- The one fault of a text that is not an archive's, or not that of operations.
-use Rattle.std.specs.Prelude.{◌≡◌, ◌≢◌, ℕ, ◌+◌, ◌<◌, ◌≤◌, Bool, true, List, [], length, take, drop, slice_index, ◌==◌, if◌then◌else◌, Result, Ok, Err, ◌⊎◌}
+use Rattle.std.specs.Prelude.{◌≡◌, ◌≢◌, ℕ, ◌+◌, ◌<◌, ◌≤◌, Bool, true, List, [], length, take}
+use Rattle.std.specs.Prelude.{drop, slice_index, ◌==◌, if◌then◌else◌, Result, Ok, Err, ◌⊎◌}
 use Rattle.archive_core.specs.Key.{key_bytes}
 use Rattle.archive_core.specs.Valid.{IsValid, IsSliceFault, key_of}
 use Rattle.archive_records.specs.declared.kind.TextKind.{TextKind}
 use Rattle.archive_records.specs.declared.kind.TextKind.TheVariants.{Archive, Operations, Summary}
 use Rattle.archive_records.specs.declared.fault.RecordFaultKind.{RecordFaultKind}
-use Rattle.archive_records.specs.declared.fault.RecordFaultKind.TheVariants.{BadMagic, Truncated, BadTag, TooLarge, NotAscending, BadSlice, KeyMismatch, BadCount, Trailing, Device, OutOfMemory}
+use Rattle.archive_records.specs.declared.fault.RecordFaultKind.TheVariants.{BadMagic, Truncated, BadTag, TooLarge}
+use Rattle.archive_records.specs.declared.fault.RecordFaultKind.TheVariants.{NotAscending, BadSlice}
+use Rattle.archive_records.specs.declared.fault.RecordFaultKind.TheVariants.{KeyMismatch, BadCount, Trailing}
+use Rattle.archive_records.specs.declared.fault.RecordFaultKind.TheVariants.{Device, OutOfMemory}
 use Rattle.archive_records.specs.declared.fault.RecordFault.{RecordFault}
 use Rattle.archive_records.specs.Layout.{record_count, framed}
 use Rattle.archive_records.specs.Kind.{magic_of, may_follow}
@@ -26,14 +30,16 @@ abbrev pub next_by : TextKind → Result ℕ RecordFaultKind → List ℕ → �
 next_by file (Err kind) last count rest = Err kind
 next_by file (Ok n) last count rest = tested file last count rest n
 
--- the length of the record or end record in front of the rest, or else the first test that fails before its slice is looked at
+-- the length of the record or end record in front of the rest, or else the first test that fails before its slice is
+-- looked at
 unfoldable pub next : TextKind → List ℕ → ℕ → List ℕ → Result ℕ RecordFaultKind
 next file last count rest = next_by file (framed file rest) last count rest
 
 -- why the slice of a whole admission is refused: it is none, or has another key than the record
 abbrev pub RefusesSlice : List ℕ → RecordFaultKind → Type 0
 RefusesSlice bytes (BadSlice fault) = (slice_index bytes 0 ≡ 2) × IsSliceFault (drop 33 bytes) fault
-RefusesSlice bytes KeyMismatch = (slice_index bytes 0 ≡ 2) × IsValid (drop 33 bytes) × (take 24 (drop 1 bytes) ≢ key_bytes (key_of (drop 33 bytes)))
+RefusesSlice bytes KeyMismatch =
+    (slice_index bytes 0 ≡ 2) × IsValid (drop 33 bytes) × (take 24 (drop 1 bytes) ≢ key_bytes (key_of (drop 33 bytes)))
 RefusesSlice bytes BadMagic = ⊥
 RefusesSlice bytes Truncated = ⊥
 RefusesSlice bytes BadTag = ⊥
@@ -56,7 +62,8 @@ FailsNext file last count rest kind =
     (next file last count rest ≡ Err kind)
     ⊎ ((n : ℕ) × (next file last count rest ≡ Ok n) × Refuses file (take n rest) kind)
 
--- The first test that fails in front of the rest, behind these records. A test that looks at all of them would come last.
+-- The first test that fails in front of the rest, behind these records. A test that looks at all of them would come
+-- last.
 abbrev pub Fails : TextKind → List (List ℕ) → List ℕ → RecordFaultKind → Type 0
 Fails file records rest kind = FailsNext file (last_of [] records) (length records) rest kind
 
@@ -84,7 +91,8 @@ IsMagicFault file text OutOfMemory = ⊥
 abbrev pub IsFaultBehind : TextKind → List (List ℕ) → List ℕ → RecordFault → Type 0
 IsFaultBehind file records rest fault =
     (Fails file records rest fault.kind × (fault.offset ≡ front_length records))
-    ⊎ ((fault.kind ≡ Trailing) × IsTrailing file (last_of [] records) (length records) rest × (fault.offset ≡ front_length records + 9))
+    ⊎ ((fault.kind ≡ Trailing) × IsTrailing file (last_of [] records) (length records) rest
+    × (fault.offset ≡ front_length records + 9))
 
 -- The file does not end before the rest: operations do where nothing is left, the others only behind their end record.
 abbrev pub IsUnended : TextKind → List ℕ → Type 0
@@ -96,7 +104,8 @@ IsUnended Summary rest = Unit {0}
 abbrev pub IsFaultOf : TextKind → List ℕ → RecordFault → Type 0
 IsFaultOf file text fault =
     (IsMagicFault file text fault.kind × (fault.offset ≡ 0))
-    ⊎ ((records : List (List ℕ)) × (front : IsGoodFront file text records) × IsUnended file front.rest × IsFaultBehind file records front.rest fault)
+    ⊎ ((records : List (List ℕ)) × (front : IsGoodFront file text records) × IsUnended file front.rest
+    × IsFaultBehind file records front.rest fault)
 
 -- the fault of what should be an archive's text
 abbrev pub IsFault : List ℕ → RecordFault → Type 0

@@ -43,7 +43,8 @@ end_length Archive = Some 9
 end_length Operations = None
 end_length Summary = Some 9
 
--- whether a record may stand behind one that compares so with it: those of an archive and entries ascend, operations come in any order
+-- whether a record may stand behind one that compares so with it: those of an archive and entries ascend, operations
+-- come in any order
 unfoldable pub allows : TextKind → Ordering → Bool
 allows Archive order = is_lt order
 allows Operations order = true

@@ -1,5 +1,6 @@
 -- How records lie in a file: a tag, what else its head holds, and an admission's slice. Each number is big-endian.
-use Rattle.std.specs.Prelude.{ℕ, ◌+◌, List, length, take, drop, slice_index, nat_lt, ◌==◌, if◌then◌else◌, Option, Some, None, Result, Ok, Err}
+use Rattle.std.specs.Prelude.{ℕ, ◌+◌, List, length, take, drop, slice_index, nat_lt, ◌==◌}
+use Rattle.std.specs.Prelude.{if◌then◌else◌, Option, Some, None, Result, Ok, Err}
 use Rattle.std.specs.Int.{w64, from_be_bytes}
 use Rattle.archive_records.specs.declared.kind.TextKind.{TextKind}
 use Rattle.archive_records.specs.declared.kind.TextKind.TheVariants.{Archive, Operations, Summary}
@@ -10,7 +11,8 @@ use Rattle.archive_records.specs.declared.fault.RecordFaultKind.TheVariants.{Tru
 -- How long the head is, by its tag: a retirement is tag, UUID, cputype, subtype and digest; an admission's head is tag,
 -- UUID, cputype, subtype and the length of its slice; an end record is tag and number of records.
 unfoldable pub head_length : TextKind → ℕ → Option ℕ
-head_length file tag = if tag == 1 then Some 57 else if tag == 2 then Some (admission_length file) else if tag == 3 then end_length file else None
+head_length file tag = if tag == 1 then Some 57 else if tag == 2 then Some (admission_length file)
+    else if tag == 3 then end_length file else None
 
 -- the length of the slice that an admission's head claims
 unfoldable pub slice_length : List ℕ → ℕ
@@ -48,4 +50,5 @@ framed_by file (Some head) bytes = framed_behind file head bytes
 
 -- the length of the whole record or end record in front of the bytes, or else the first fault of its form
 unfoldable pub framed : TextKind → List ℕ → Result ℕ RecordFaultKind
-framed file bytes = if nat_lt (length bytes) 1 then Err Truncated else framed_by file (head_length file (slice_index bytes 0)) bytes
+framed file bytes = if nat_lt (length bytes) 1 then Err Truncated
+    else framed_by file (head_length file (slice_index bytes 0)) bytes

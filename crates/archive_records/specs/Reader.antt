@@ -1,5 +1,7 @@
--- Records that are read from a source one over the other: the words of the inner functions. No contract of a public one has them.
-use Rattle.std.specs.Prelude.{◌≡◌, ◌≢◌, ℕ, ◌+◌, ◌*◌, ◌^◌, ◌<◌, ◌≤◌, true, List, [], ◌++◌, length, take, drop, map, All, Option, Some, None, Result, Ok, Err, MatchResult, ◌⊎◌}
+-- Records that are read from a source one over the other: the words of the inner functions. No contract of a public one
+-- has them.
+use Rattle.std.specs.Prelude.{◌≡◌, ◌≢◌, ℕ, ◌+◌, ◌*◌, ◌^◌, ◌<◌, ◌≤◌, true, List, [], ◌++◌, length, take}
+use Rattle.std.specs.Prelude.{drop, map, All, Option, Some, None, Result, Ok, Err, MatchResult, ◌⊎◌}
 use Rattle.std.specs.List.{concat, AllByRecursion}
 use Rattle.std.specs.List.Sorted.{IsStrictlySortedBy}
 use Rattle.std.specs.Ordering.{nat_cmp}
@@ -12,12 +14,16 @@ use Rattle.archive_core.specs.Valid.{IsCheckedOf}
 use Rattle.archive_core.specs.Record.{IsOperation, rec, Admits, Retires}
 use Rattle.archive_core.specs.Content.{Operations}
 use Rattle.archive_records.specs.declared.kind.TextKind.{TextKind}
-use Rattle.archive_records.specs.declared.kind.TextKind.TheVariants.{Archive, Operations as Operations_file, Summary as Summary_file}
+use Rattle.archive_records.specs.declared.kind.TextKind.TheVariants.{Archive, Operations as Operations_file}
+use Rattle.archive_records.specs.declared.kind.TextKind.TheVariants.{Summary as Summary_file}
 use Rattle.archive_records.specs.declared.buffer.Buffer.{Buffer}
 use Rattle.archive_records.specs.declared.next.Step.{Step}
 use Rattle.archive_records.specs.declared.next.Step.TheVariants.{End, Item}
 use Rattle.archive_records.specs.declared.fault.RecordFaultKind.{RecordFaultKind}
-use Rattle.archive_records.specs.declared.fault.RecordFaultKind.TheVariants.{BadMagic, Truncated, BadTag, TooLarge, NotAscending, BadSlice, KeyMismatch, BadCount, Trailing, Device, OutOfMemory}
+use Rattle.archive_records.specs.declared.fault.RecordFaultKind.TheVariants.{BadMagic, Truncated, BadTag, TooLarge}
+use Rattle.archive_records.specs.declared.fault.RecordFaultKind.TheVariants.{NotAscending, BadSlice}
+use Rattle.archive_records.specs.declared.fault.RecordFaultKind.TheVariants.{KeyMismatch, BadCount, Trailing}
+use Rattle.archive_records.specs.declared.fault.RecordFaultKind.TheVariants.{Device, OutOfMemory}
 use Rattle.archive_records.specs.declared.fault.RecordFault.{RecordFault}
 use Rattle.archive_records.specs.declared.entry.Entry.{Entry}
 use Rattle.archive_records.specs.Entry.{entry_bytes, IsEntry}
@@ -58,11 +64,13 @@ seen_as OutOfMemory = Truncated
 
 -- What a result says of the reader: on success it did not fail, and else what the fault says.
 abbrev pub BlamesReader : {R T : Type 0} → (R → Option (List ℕ)) → (R → ℕ) → R → R → Result T RecordFaultKind → Type 0
-BlamesReader left failures old new result = MatchResult result (λ _. failures new ≡ failures old) (Blames left failures old new)
+BlamesReader left failures old new result =
+    MatchResult result (λ _. failures new ≡ failures old) (Blames left failures old new)
 
 -- the same of a fault with its offset
 abbrev pub FaultBlamesReader : {R T : Type 0} → (R → Option (List ℕ)) → (R → ℕ) → R → R → Result T RecordFault → Type 0
-FaultBlamesReader left failures old new result = MatchResult result (λ _. failures new ≡ failures old) (λ fault. Blames left failures old new fault.kind)
+FaultBlamesReader left failures old new result =
+    MatchResult result (λ _. failures new ≡ failures old) (λ fault. Blames left failures old new fault.kind)
 
 -- why the magic was not read, and the bytes that came instead
 abbrev pub StopsInMagic : TextKind → List ℕ → RecordFaultKind → Type 0
@@ -92,7 +100,8 @@ abbrev pub IfItem : Step → (Option SliceFacts → Type 0) → Type 0
 IfItem End holds = Unit {0}
 IfItem (Item found) holds = holds found
 
--- Where a reader of records stands: in which kind of file, behind which last record, how many records and how many bytes.
+-- Where a reader of records stands: in which kind of file, behind which last record, how many records and how many
+-- bytes.
 pub record Position : Type 0 where
   pub file : TextKind
   pub last : List ℕ
@@ -140,13 +149,18 @@ pub record StopsAt (a b : Option (List ℕ)) (before : Position) (fault : Record
   pub few : before.count < 2 ^ 63
 
 -- What came of one step: the end of the file, one item more, or why the reader stops.
-abbrev pub Advances : {R : Type 0} → (R → Option (List ℕ)) → (R → ℕ) → R → R → Position → Position → Result Step RecordFault → Type 0
-Advances left failures old new before after (Ok End) = Finishes (left old) (left new) before after × (failures new ≡ failures old)
-Advances left failures old new before after (Ok (Item found)) = Passes (left old) (left new) before after × (failures new ≡ failures old) × IsFoundIn before.file after.last found
-Advances left failures old new before after (Err fault) = StopsAt (left old) (left new) before fault × Blames left failures old new fault.kind
+abbrev pub Advances : {R : Type 0} → (R → Option (List ℕ)) → (R → ℕ) → R → R → Position → Position
+    → Result Step RecordFault → Type 0
+Advances left failures old new before after (Ok End) =
+    Finishes (left old) (left new) before after × (failures new ≡ failures old)
+Advances left failures old new before after (Ok (Item found)) =
+    Passes (left old) (left new) before after × (failures new ≡ failures old) × IsFoundIn before.file after.last found
+Advances left failures old new before after (Err fault) =
+    StopsAt (left old) (left new) before fault × Blames left failures old new fault.kind
 
 -- The magic and these records were read, and nothing behind them.
-pub record HasRead (file : TextKind) (a b : Option (List ℕ)) (records : List (List ℕ)) (position : Position) : Type 0 where
+pub record HasRead (file : TextKind) (a b : Option (List ℕ)) (records : List (List ℕ))
+    (position : Position) : Type 0 where
   pub file_is : position.file ≡ file
   pub taken : Consumes a b (magic_of file ++ concat records)
   pub ordered : InOrder file [] records
@@ -155,7 +169,8 @@ pub record HasRead (file : TextKind) (a b : Option (List ℕ)) (records : List (
   pub offset_is : position.offset ≡ front_length records
 
 -- The magic, these records and what ends the file behind them were read, and nothing behind it.
-pub record HasReadAll (file : TextKind) (a b : Option (List ℕ)) (records : List (List ℕ)) (position : Position) : Type 0 where
+pub record HasReadAll (file : TextKind) (a b : Option (List ℕ)) (records : List (List ℕ))
+    (position : Position) : Type 0 where
   pub taken : Consumes a b (text_of file records)
   pub ordered : InOrder file [] records
   pub few : length records < 2 ^ 63
@@ -166,11 +181,13 @@ pub record HasReadAll (file : TextKind) (a b : Option (List ℕ)) (records : Lis
 abbrev pub Stops : TextKind → List (List ℕ) → List ℕ → RecordFault → Type 0
 Stops file records rest fault =
     ((fault.offset ≡ front_length records) × (fault.kind ≢ OutOfMemory → Fails file records rest (seen_as fault.kind)))
-    ⊎ ((fault.kind ≡ Trailing) × IsTrailing file (last_of [] records) (length records) rest × (fault.offset ≡ front_length records + 9))
+    ⊎ ((fault.kind ≡ Trailing) × IsTrailing file (last_of [] records) (length records) rest
+    × (fault.offset ≡ front_length records + 9))
     ⊎ ((fault.kind ≡ Device) × (rest ≡ end_record (length records)) × (fault.offset ≡ front_length records))
 
 -- The magic, these records and what came behind them were read, where reading stopped.
-pub record Stopped (file : TextKind) (a b : Option (List ℕ)) (records : List (List ℕ)) (fault : RecordFault) : Type 0 where
+pub record Stopped (file : TextKind) (a b : Option (List ℕ)) (records : List (List ℕ))
+    (fault : RecordFault) : Type 0 where
   pub rest : List ℕ
   pub taken : Consumes a b (magic_of file ++ (concat records ++ rest))
   pub ordered : InOrder file [] records

@@ -1,5 +1,6 @@
 -- What a reader of a whole input, or of its front, gives, and why it is refused.
-use Rattle.std.specs.Prelude.{◌≡◌, ◌≢◌, ℕ, ◌^◌, ◌<◌, List, ◌++◌, length, All, Option, Some, IfSome, Result, Ok, Err, ◌⊎◌}
+use Rattle.std.specs.Prelude.{◌≡◌, ◌≢◌, ℕ, ◌^◌, ◌<◌, List, ◌++◌, length, All}
+use Rattle.std.specs.Prelude.{Option, Some, IfSome, Result, Ok, Err, ◌⊎◌}
 use Rattle.std.specs.FinSet as set
 use Rattle.std.specs.Io.KnownBytes.{Consumes, IsAtEnd}
 use Rattle.byte_device.specs.Devices.{FailedIn}
@@ -9,7 +10,8 @@ use Rattle.archive_core.specs.Content.{Operations, IsContent}
 use Rattle.archive_core.specs.Summary.{Entries}
 use Rattle.archive_records.specs.Entry.{AreEntries}
 use Rattle.archive_records.specs.declared.kind.TextKind.{TextKind}
-use Rattle.archive_records.specs.declared.kind.TextKind.TheVariants.{Archive, Operations as Operations_file, Summary as Summary_file}
+use Rattle.archive_records.specs.declared.kind.TextKind.TheVariants.{Archive, Operations as Operations_file}
+use Rattle.archive_records.specs.declared.kind.TextKind.TheVariants.{Summary as Summary_file}
 use Rattle.archive_records.specs.declared.fault.RecordFaultKind.{RecordFaultKind}
 use Rattle.archive_records.specs.declared.fault.RecordFaultKind.TheVariants.{Truncated, Trailing, Device, OutOfMemory}
 use Rattle.archive_records.specs.declared.fault.RecordFault.{RecordFault}
@@ -17,7 +19,8 @@ use Rattle.archive_records.specs.Text.{written, summary_text, IsOperationsText}
 use Rattle.archive_records.specs.Fault.{IsFaultOf, IsOfText}
 use Rattle.archive_records.specs.Front.{IsFrontLengthOf, IsLongestLengthOf}
 
--- what the text of a file says: an archive's a content, an operations file's a list of operations, a summary's its entries
+-- what the text of a file says: an archive's a content, an operations file's a list of operations, a summary's its
+-- entries
 abbrev pub Meaning : TextKind → Type 0
 Meaning Archive = Operations
 Meaning Operations_file = List Operation
@@ -41,19 +44,21 @@ IsTextOf Archive o text = text ≡ written o
 IsTextOf Operations_file operations text = IsOperationsText text operations
 IsTextOf Summary_file s text = text ≡ summary_text s
 
--- What a fault says of the reader in the call, which stood so before it and so after it: that it failed, if this is `Device`, and else
--- that it did not; and if this is `Truncated`, that it is at its end.
+-- What a fault says of the reader in the call, which stood so before it and so after it: that it failed, if this is
+-- `Device`, and else that it did not; and if this is `Truncated`, that it is at its end.
 abbrev pub Blames : {R : Type 0} → (R → Option (List ℕ)) → (R → ℕ) → R → R → RecordFaultKind → Type 0
 Blames left failures old new kind =
-    (kind ≡ Device → FailedIn (failures old) (failures new)) × (kind ≢ Device → failures new ≡ failures old) × (kind ≡ Truncated → IsAtEnd (left new))
+    (kind ≡ Device → FailedIn (failures old) (failures new)) × (kind ≢ Device → failures new ≡ failures old)
+    × (kind ≡ Truncated → IsAtEnd (left new))
 
 -- The offset is the one that this relation has of the bytes that were taken.
 abbrev pub StandsBehind : (List ℕ → ℕ → Type 0) → Option (List ℕ) → Option (List ℕ) → ℕ → Type 0
 StandsBehind IsOffsetOf a b offset = (bytes : List ℕ) × Consumes a b bytes × IsOffsetOf bytes offset
 
--- Why an input is refused: its text has this fault, its reader failed behind the longest good front of what came, or memory was
--- wanted behind a good front.
-pub record IsRefused {R : Type 0} (file : TextKind) (left : R → Option (List ℕ)) (failures : R → ℕ) (old new : R) (fault : RecordFault) : Type 0 where
+-- Why an input is refused: its text has this fault, its reader failed behind the longest good front of what came, or
+-- memory was wanted behind a good front.
+pub record IsRefused {R : Type 0} (file : TextKind) (left : R → Option (List ℕ)) (failures : R → ℕ) (old new : R)
+    (fault : RecordFault) : Type 0 where
   pub blames : Blames left failures old new fault.kind
   pub faulty : IsOfText fault.kind → IfSome (left old) (λ text. IsFaultOf file text fault)
   pub device : fault.kind ≡ Device → StandsBehind (IsLongestLengthOf file) (left old) (left new) fault.offset
@@ -64,34 +69,42 @@ abbrev pub IsOfMachine : RecordFaultKind → Type 0
 IsOfMachine kind = (kind ≡ Device) ⊎ (kind ≡ OutOfMemory)
 
 -- The whole input is the text of this meaning, and of no other.
-pub record IsReadWhole {R : Type 0} (file : TextKind) (meaning : Meaning file) (left : R → Option (List ℕ)) (failures : R → ℕ) (old new : R) : Type 0 where
+pub record IsReadWhole {R : Type 0} (file : TextKind) (meaning : Meaning file) (left : R → Option (List ℕ))
+    (failures : R → ℕ) (old new : R) : Type 0 where
   pub is : IsMeaning file meaning
   pub few : records_of file meaning < 2 ^ 63
   pub text : IfSome (left old) (IsTextOf file meaning)
-  pub alone : IfSome (left old) (λ text. (other : Meaning file) → IsMeaning file other → IsTextOf file other text → meaning ≡ other)
+  pub alone : IfSome (left old) (λ text. (other : Meaning file) → IsMeaning file other → IsTextOf file other text
+      → meaning ≡ other)
   pub at_end : IsAtEnd (left new)
   pub unfailed : failures new ≡ failures old
 
--- What came of reading a whole input, where this is the meaning of what is given. Texts of such files are refused by the machine alone.
-abbrev pub ReadsWhole : {R T : Type 0} → (file : TextKind) → (T → Meaning file) → (R → Option (List ℕ)) → (R → ℕ) → R → R → Result T RecordFault → Type 0
+-- What came of reading a whole input, where this is the meaning of what is given. Texts of such files are refused by
+-- the machine alone.
+abbrev pub ReadsWhole : {R T : Type 0} → (file : TextKind) → (T → Meaning file) → (R → Option (List ℕ)) → (R → ℕ) → R
+    → R → Result T RecordFault → Type 0
 ReadsWhole file meaning left failures old new (Ok value) = IsReadWhole file (meaning value) left failures old new
 ReadsWhole file meaning left failures old new (Err fault) =
     IsRefused file left failures old new fault
     × IfSome (left old) (λ text. (m : Meaning file) → IsMeaning file m → IsTextOf file m text → IsOfMachine fault.kind)
 
 -- The text of this meaning was taken from the front of the input, and the input begins with that of no other.
-pub record IsReadFront {R : Type 0} (file : TextKind) (meaning : Meaning file) (left : R → Option (List ℕ)) (failures : R → ℕ) (old new : R) : Type 0 where
+pub record IsReadFront {R : Type 0} (file : TextKind) (meaning : Meaning file) (left : R → Option (List ℕ))
+    (failures : R → ℕ) (old new : R) : Type 0 where
   pub is : IsMeaning file meaning
   pub few : records_of file meaning < 2 ^ 63
   pub taken : (text : List ℕ) × IsTextOf file meaning text × Consumes (left old) (left new) text
-  pub alone : IfSome (left old) (λ input. (other : Meaning file) (text rest : List ℕ) → IsMeaning file other → IsTextOf file other text → input ≡ text ++ rest → (meaning ≡ other) × (left new ≡ Some rest))
+  pub alone : IfSome (left old) (λ input. (other : Meaning file) (text rest : List ℕ) → IsMeaning file other
+      → IsTextOf file other text → input ≡ text ++ rest → (meaning ≡ other) × (left new ≡ Some rest))
   pub unfailed : failures new ≡ failures old
 
--- What came of reading the front of an input. No byte behind it is at fault, and inputs that begin with such a text are refused by
--- the machine alone.
-abbrev pub ReadsFront : {R T : Type 0} → (file : TextKind) → (T → Meaning file) → (R → Option (List ℕ)) → (R → ℕ) → R → R → Result T RecordFault → Type 0
+-- What came of reading the front of an input. No byte behind it is at fault, and inputs that begin with such a text are
+-- refused by the machine alone.
+abbrev pub ReadsFront : {R T : Type 0} → (file : TextKind) → (T → Meaning file) → (R → Option (List ℕ)) → (R → ℕ) → R
+    → R → Result T RecordFault → Type 0
 ReadsFront file meaning left failures old new (Ok value) = IsReadFront file (meaning value) left failures old new
 ReadsFront file meaning left failures old new (Err fault) =
     IsRefused file left failures old new fault
     × (fault.kind ≢ Trailing)
-    × IfSome (left old) (λ input. (m : Meaning file) (text rest : List ℕ) → IsMeaning file m → IsTextOf file m text → input ≡ text ++ rest → IsOfMachine fault.kind)
+    × IfSome (left old) (λ input. (m : Meaning file) (text rest : List ℕ) → IsMeaning file m → IsTextOf file m text
+    → input ≡ text ++ rest → IsOfMachine fault.kind)

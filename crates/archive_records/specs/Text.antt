@@ -12,7 +12,8 @@ use Rattle.archive_core.specs.Record.{IsOperation, rec}
 use Rattle.archive_core.specs.Content.{Operations}
 use Rattle.archive_core.specs.Summary.{Entries, entry}
 use Rattle.archive_records.specs.declared.kind.TextKind.{TextKind}
-use Rattle.archive_records.specs.declared.kind.TextKind.TheVariants.{Archive, Operations as Operations_file, Summary as Summary_file}
+use Rattle.archive_records.specs.declared.kind.TextKind.TheVariants.{Archive, Operations as Operations_file}
+use Rattle.archive_records.specs.declared.kind.TextKind.TheVariants.{Summary as Summary_file}
 use Rattle.archive_records.specs.Kind.{magic, operations_magic, summary_magic, magic_of, IsItem, may_follow}
 
 -- the end record of so many records

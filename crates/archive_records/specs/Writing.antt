@@ -7,13 +7,17 @@ use Rattle.byte_device.specs.Writes.{WritesFirst}
 use Rattle.archive_records.specs.declared.writing.Sizes.{Sizes}
 
 -- The text of so many records was written whole, these are its sizes, and the writer did not fail.
-pub record IsWrittenWhole {W : Type 0} (held : W → Option (List ℕ)) (failures : W → ℕ) (old new : W) (records : ℕ) (text : List ℕ) (sizes : Sizes) : Type 0 where
+pub record IsWrittenWhole {W : Type 0} (held : W → Option (List ℕ)) (failures : W → ℕ) (old new : W) (records : ℕ)
+    (text : List ℕ) (sizes : Sizes) : Type 0 where
   pub written : Appends (held old) (held new) text
   pub records_are : sizes.records ≡ records
   pub bytes_are : sizes.bytes ≡ length text
   pub unfailed : failures new ≡ failures old
 
--- What came of writing the text of so many records: all of it, or, where the writer failed, exactly its first `written` bytes, which are fewer than all.
-abbrev pub Writes : {W : Type 0} → (W → Option (List ℕ)) → (W → ℕ) → W → W → ℕ → List ℕ → Result Sizes WriteFault → Type 0
+-- What came of writing the text of so many records: all of it, or, where the writer failed, exactly its first `written`
+-- bytes, which are fewer than all.
+abbrev pub Writes : {W : Type 0} → (W → Option (List ℕ)) → (W → ℕ) → W → W → ℕ → List ℕ → Result Sizes WriteFault
+    → Type 0
 Writes held failures old new records text (Ok sizes) = IsWrittenWhole held failures old new records text sizes
-Writes held failures old new records text (Err fault) = WritesFirst (held old) (held new) text fault.written × FailedIn (failures old) (failures new)
+Writes held failures old new records text (Err fault) =
+    WritesFirst (held old) (held new) text fault.written × FailedIn (failures old) (failures new)

@@ -1,6 +1,7 @@
 //! Bytes from a source that are read over those of the last record.
 
-ghost use Rattle.std.specs.Prelude.{◌≡◌, ◌+◌, ◌^◌, ◌<◌, ◌≤◌, ◌++◌, OnOk, OnErr, IfErr, ℕ, List, length, take, drop, vec_capacity};
+ghost use Rattle.std.specs.Prelude.{◌≡◌, ◌+◌, ◌^◌, ◌<◌, ◌≤◌, ◌++◌, OnOk, OnErr, IfErr};
+ghost use Rattle.std.specs.Prelude.{ℕ, List, length, take, drop, vec_capacity};
 ghost use Rattle.std.specs.Ordering.{nat_cmp, ordering_then};
 ghost use Rattle.std.specs.Cmp.Lexicographic.{slice_cmp};
 ghost use Rattle.archive_records.specs.declared.fault.RecordFaultKind.TheVariants.{Truncated};
@@ -32,8 +33,10 @@ fn compare(a: &[u8], b: &[u8]) -> Ordering
 fn write_over(under: &mut Vec<u8, Heap>, at: usize, order: Ordering, bytes: &[u8]) -> Ordering
     requires within { at ≤ length under.old.items }
     requires room { at + length bytes.now ≤ vec_capacity under.old }
-    ensures written { under.new.items ≡ take at under.old.items ++ (bytes.now ++ drop (at + length bytes.now) under.old.items) }
-    ensures order { result ≡ ordering_then order (slice_cmp nat_cmp (take (length bytes.now) (drop at under.old.items)) bytes.now) }
+    ensures written { under.new.items
+        ≡ take at under.old.items ++ (bytes.now ++ drop (at + length bytes.now) under.old.items) }
+    ensures order { result
+        ≡ ordering_then order (slice_cmp nat_cmp (take (length bytes.now) (drop at under.old.items)) bytes.now) }
 {
     let over = bytes.len().min(under.len() - at);
     let order = match order {

@@ -1,6 +1,7 @@
 //! One record after another from a source, each read over the last.
 
-ghost use Rattle.std.specs.Prelude.{◌≡◌, ◌<◌, ◌≤◌, ℕ, List, length, Some, Ok, Err, IfOk, IfErr, MatchResult, slice_index};
+ghost use Rattle.std.specs.Prelude.{◌≡◌, ◌<◌, ◌≤◌, ℕ, List, length, Some, Ok, Err};
+ghost use Rattle.std.specs.Prelude.{IfOk, IfErr, MatchResult, slice_index};
 ghost use Rattle.std.specs.Io.KnownBytes.{Consumes};
 ghost use Rattle.archive_records.specs.Layout.{head_length, framed};
 ghost use Rattle.archive_records.specs.Reader.{BlamesReader, Fills, bytes_so_far, seen_as, Over};

@@ -1,11 +1,13 @@
 //! What the definitions say of each other. Each law is a function with an empty body, and its contract the law.
 
-ghost use Rattle.std.specs.Prelude.{◌≡◌, ◌≢◌, ◌+◌, ◌<◌, ◌^◌, ◌++◌, ◌↔◌, ◌⊎◌, ℕ, List, [], length, take, slice_index, Some, Err};
+ghost use Rattle.std.specs.Prelude.{◌≡◌, ◌≢◌, ◌+◌, ◌<◌, ◌^◌, ◌++◌, ◌↔◌, ◌⊎◌, ℕ, List};
+ghost use Rattle.std.specs.Prelude.{[], length, take, slice_index, Some, Err};
 ghost use Rattle.std.specs.FinSet as set;
 ghost use Rattle.byte_device.specs.Writes.{WritesFirst};
 ghost use Rattle.join_core.specs.Listing.{listing};
 ghost use Rattle.archive_core.specs.Content.{Operations, IsContent, joined};
-ghost use Rattle.archive_records.specs.declared.fault.RecordFaultKind.TheVariants.{TooLarge, NotAscending, BadSlice, KeyMismatch, BadCount, Trailing};
+ghost use Rattle.archive_records.specs.declared.fault.RecordFaultKind.TheVariants.{TooLarge, NotAscending, BadSlice};
+ghost use Rattle.archive_records.specs.declared.fault.RecordFaultKind.TheVariants.{KeyMismatch, BadCount, Trailing};
 ghost use Rattle.archive_core.specs.declared.faults.SliceFault.{SliceFault};
 ghost use Rattle.archive_core.specs.Summary.{Entries, summary};
 ghost use Rattle.archive_records.specs.Entry.{AreEntries};
@@ -16,7 +18,8 @@ ghost use Rattle.archive_records.specs.declared.kind.TextKind.{TextKind};
 ghost use Rattle.archive_records.specs.Text.{IsWritten, written, IsOperationsText, IsSummaryText, summary_text};
 ghost use Rattle.archive_records.specs.Fault.{IsFault, IsOperationsFault, IsSummaryFault, IsFaultOf, IsMagicFault};
 ghost use Rattle.archive_records.specs.Front.{IsLongestFront, front_length};
-ghost use Rattle.archive_records.specs.Merging.{AreGoodRecords, IsArchiveText, IsWrittenBefore, LeftStops, Merges, RightStops, Stream, of_both};
+ghost use Rattle.archive_records.specs.Merging.{AreGoodRecords, IsArchiveText, IsWrittenBefore};
+ghost use Rattle.archive_records.specs.Merging.{LeftStops, Merges, RightStops, Stream, of_both};
 
 use byte_device::{Sink, Source};
 

@@ -1,11 +1,13 @@
 //! A merge, turn by turn: the record that is next is written, and the side or sides that it came from are read on.
 
-ghost use Rattle.std.specs.Prelude.{◌≡◌, ◌+◌, ◌*◌, ◌^◌, ◌<◌, ◌≤◌, ℕ, List, Option, OnOk, IfOk, IfErr, MatchResult, length, true, false};
+ghost use Rattle.std.specs.Prelude.{◌≡◌, ◌+◌, ◌*◌, ◌^◌, ◌<◌, ◌≤◌, ℕ, List, Option, OnOk};
+ghost use Rattle.std.specs.Prelude.{IfOk, IfErr, MatchResult, length, true, false};
 ghost use Rattle.std.specs.Io.KnownBytes.{Appends};
 ghost use Rattle.byte_device.specs.Devices.{FailedIn};
 ghost use Rattle.byte_device.specs.Writes.{WritesFirst};
 ghost use Rattle.archive_records.specs.Merging.{stream};
-ghost use Rattle.archive_records.specs.Turns.{BlamesDevices, Fits, HasStoppedMerge, IsRead, IsWritten, Merging, WriteStopped, cost_of, first_of};
+ghost use Rattle.archive_records.specs.Turns.{BlamesDevices, Fits, HasStoppedMerge, IsRead, IsWritten};
+ghost use Rattle.archive_records.specs.Turns.{Merging, WriteStopped, cost_of, first_of};
 
 use crate::fault::{MergeCause, MergeFault};
 use crate::side::{Ahead, Side};

@@ -1,14 +1,17 @@
 //! The next record, tested against what came before it.
 
-ghost use Rattle.std.specs.Prelude.{◌≡◌, ◌≢◌, ◌<◌, ◌≤◌, ℕ, List, length, Ok, Err, OnOk, IfOk, IfErr, MatchResult, IsTrue, ◌↔◌, true, false};
+ghost use Rattle.std.specs.Prelude.{◌≡◌, ◌≢◌, ◌<◌, ◌≤◌, ℕ, List, length, Ok, Err, OnOk};
+ghost use Rattle.std.specs.Prelude.{IfOk, IfErr, MatchResult, IsTrue, ◌↔◌, true, false};
 ghost use Rattle.std.specs.Io.KnownBytes.{Consumes};
 ghost use Rattle.archive_records.specs.declared.fault.RecordFaultKind.TheVariants.{Truncated, Device};
 ghost use Rattle.archive_records.specs.declared.kind.TextKind.TheVariants.{Archive, Operations};
 ghost use Rattle.archive_records.specs.Kind.{may_follow};
 ghost use Rattle.archive_records.specs.Layout.{framed};
 ghost use Rattle.archive_records.specs.Text.{end_record, ending};
-ghost use Rattle.archive_records.specs.Fault.{is_end, tested, next, RefusesSlice, Refuses, FailsNext, IsUnended, IsOfText};
-ghost use Rattle.archive_records.specs.Reader.{BlamesReader, bytes_so_far, seen_as, IsEnded, IsFound, IsFoundIn, IfEnd, IfItem};
+ghost use Rattle.archive_records.specs.Fault.{is_end, tested, next, RefusesSlice, Refuses};
+ghost use Rattle.archive_records.specs.Fault.{FailsNext, IsUnended, IsOfText};
+ghost use Rattle.archive_records.specs.Reader.{BlamesReader, bytes_so_far, seen_as, IsEnded};
+ghost use Rattle.archive_records.specs.Reader.{IsFound, IsFoundIn, IfEnd, IfItem};
 
 use crate::buffer::Buffer;
 use crate::fault::RecordFaultKind;

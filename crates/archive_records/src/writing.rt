@@ -248,7 +248,8 @@ fn put_missing<A: Archive, W: Sink>(
     ensures short { IfOk result (λ n. n.bytes ≤ 2 ^ 98) }
     ensures unfailed { OnOk result (W.failures w.new ≡ W.failures w.old) }
     ensures err { IfErr result (λ e. (k : ℕ) × (e.written ≡ done + k)
-        × WritesFirst (W.held w.old) (W.held w.new) (concat (missing summary.now (listing (A.content archive.now)))) k) }
+        × WritesFirst (W.held w.old) (W.held w.new)
+        (concat (missing summary.now (listing (A.content archive.now)))) k) }
     ensures failed { IfErr result (λ _. FailedIn (W.failures w.old) (W.failures w.new)) }
 {
     let mut sizes = Sizes {

@@ -18,9 +18,6 @@ pub use streams::{Reading, Writing};
 pub use testing::{Pieces, Short};
 pub use writing::{WriteFault, push_all, put};
 
-#[cfg(test)]
-mod tests;
-
 /// The device failed in this call: no byte was given or taken, and its count of failures rose by
 /// one. A device whose count is at its greatest, 2^64 - 1, fails every call.
 #[derive(Clone, Copy, Debug, PartialEq, Eq)]

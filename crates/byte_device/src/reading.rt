@@ -1,6 +1,7 @@
 //! Bytes that are taken from a source to its end.
 
-ghost use Rattle.std.specs.Prelude.{◌≡◌, ℕ, List, [], ◌∷◌, ◌<◌, ◌≤◌, length, take, true, false, OnOk, OnErr, IfOk, IfSome, Err};
+ghost use Rattle.std.specs.Prelude.{◌≡◌, ℕ, List, [], ◌∷◌, ◌<◌, ◌≤◌, length, take};
+ghost use Rattle.std.specs.Prelude.{true, false, OnOk, OnErr, IfOk, IfSome, Err};
 ghost use Rattle.std.specs.Io.KnownBytes.{Consumes, IsAtEnd};
 ghost use Rattle.byte_device.specs.Devices.{FailedIn};
 

@@ -1,6 +1,7 @@
 //! Devices for tests: they give or take a part at a time, and fail where a test wants it.
 
-ghost use Rattle.std.specs.Prelude.{◌≡◌, ◌<◌, ◌≤◌, ◌+◌, ◌⊎◌, ◌↔◌, Some, [], IfOk, IsErr, OnErr, length, min, vec_capacity, MatchResult};
+ghost use Rattle.std.specs.Prelude.{◌≡◌, ◌<◌, ◌≤◌, ◌+◌, ◌⊎◌, ◌↔◌, Some, [], IfOk, IsErr};
+ghost use Rattle.std.specs.Prelude.{OnErr, length, min, vec_capacity, MatchResult};
 ghost use Rattle.std.specs.Io.KnownBytes.{ReadConsumes, WriteAppends};
 ghost use Rattle.byte_device.specs.Devices.{CountsFailure, most_failures};
 

@@ -29,7 +29,8 @@ AreIssued sites events o = (r : List ℕ) → set.contains o r ≡ true → IsIs
 
 -- no two different issued operations share an entry
 abbrev pub IsEntryTelling : {F : Type 0} → ℕ → List (Event F) → Type 0
-IsEntryTelling sites events = (r s : List ℕ) → IsIssued sites events r → IsIssued sites events s → entry r ≡ entry s → r ≡ s
+IsEntryTelling sites events = (r s : List ℕ) → IsIssued sites events r → IsIssued sites events s → entry r ≡ entry s
+    → r ≡ s
 
 -- the number of the message that event n sends, if it sends one: as many were sent before
 abbrev pub message_number : {F : Type 0} → ℕ → List (Event F) → ℕ → ℕ
@@ -55,7 +56,8 @@ is_changing _ = false
 
 -- from event low to event high site i has no Take, Retire, Deliver or Stop but event d
 pub record IsQuiet {F : Type 0} (events : List (Event F)) (i low high d : ℕ) : Type 0 where
-  pub quiet : (n : ℕ) → low ≤ n → n ≤ high → n ≢ d → (is_changing (slice_get events n) && i == site_or (slice_get events n)) ≡ false
+  pub quiet : (n : ℕ) → low ≤ n → n ≤ high → n ≢ d
+      → (is_changing (slice_get events n) && i == site_or (slice_get events n)) ≡ false
 
 -- each issued operation is told by the record of one
 abbrev pub AreRecords : {F : Type 0} → ℕ → List (Event F) → Type 0
@@ -63,4 +65,6 @@ AreRecords sites events = (r : List ℕ) → IsIssued sites events r → IsRecor
 
 -- no two different issued slices have the same SHA-256
 abbrev pub IsDigestTelling : {F : Type 0} → ℕ → List (Event F) → Type 0
-IsDigestTelling sites events = (a b : List ℕ) → IsIssued sites events (admission_record a) → IsIssued sites events (admission_record b) → sha256 a ≡ sha256 b → a ≡ b
+IsDigestTelling sites events =
+    (a b : List ℕ) → IsIssued sites events (admission_record a) → IsIssued sites events (admission_record b)
+    → sha256 a ≡ sha256 b → a ≡ b

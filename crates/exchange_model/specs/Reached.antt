@@ -1,12 +1,14 @@
 -- Which operations reach a site: by the number of sites and the list of events alone, with no state.
-use Rattle.std.specs.Prelude.{◌≡◌, ℕ, zero, suc, List, [], ◌∷◌, ◌++◌, Bool, true, false, not, ◌&&◌, ◌||◌, ◌==◌, if◌then◌else◌, nat_lt, ◌<◌, length, slice_get}
+use Rattle.std.specs.Prelude.{◌≡◌, ℕ, zero, suc, List, [], ◌∷◌, ◌++◌, Bool, true, false, not, ◌&&◌}
+use Rattle.std.specs.Prelude.{◌||◌, ◌==◌, if◌then◌else◌, nat_lt, ◌<◌, length, slice_get}
 use Rattle.std.specs.declared.option.Option.{Option}
 use Rattle.std.specs.declared.option.Option.TheVariants.{None, Some}
 use Rattle.std.specs.declared.result.Result.TheVariants.{Ok, Err}
 use Rattle.std.specs.FinSet as set
 use Rattle.archive_core.specs.Content.{Operations, made}
 use Rattle.archive_core.specs.Summary.{Entries, summary, delta}
-use Rattle.exchange_model.specs.World.{Event, Take, Retire, Full, Ask, Reply, Deliver, Save, Stop, site_of, records, Message, Content, Summary, operations_of}
+use Rattle.exchange_model.specs.World.{Event, Take, Retire, Full, Ask, Reply, Deliver, Save, Stop}
+use Rattle.exchange_model.specs.World.{site_of, records, Message, Content, Summary, operations_of}
 
 -- whether an event, if there is one, is an Ask; sends a message; saves; is a Stop
 abbrev pub is_ask : {F : Type 0} → Option (Event F) → Bool
@@ -70,10 +72,12 @@ module _ {F : Type 0} (sites : ℕ) (events : List (Event F)) where
   is_accepted sent (Some (Save i)) = nat_lt i sites
   is_accepted sent (Some (Stop i)) = nat_lt i sites
 
-  -- the numbers of the accepted Full, Ask and Reply events before n: message m is that of the event whose number stands at place m
+  -- the numbers of the accepted Full, Ask and Reply events before n: message m is that of the event whose number stands
+  -- at place m
   abbrev pub senders : ℕ → List ℕ
   senders zero = []
-  senders (suc n) = senders n ++ (if is_accepted (senders n) (slice_get events n) && is_sending (slice_get events n) then n ∷ [] else [])
+  senders (suc n) = senders n ++
+      (if is_accepted (senders n) (slice_get events n) && is_sending (slice_get events n) then n ∷ [] else [])
 
   -- whether event k is an accepted event of site i; and a Stop; and a Save or an Ask
   abbrev pub is_of : ℕ → ℕ → Bool
@@ -96,7 +100,8 @@ module _ {F : Type 0} (sites : ℕ) (events : List (Event F)) where
     asked None = set.empty
     asked (Some a) = summary (had a (site_or (slice_get events a)))
 
-    -- the message that event f sends: what its site had, the summary of it, or the delta of it against the summary that was asked with
+    -- the message that event f sends: what its site had, the summary of it, or the delta of it against the summary that
+    -- was asked with
     abbrev pub message_sent : ℕ → Option (Event F) → Message
     message_sent f (Some (Full x)) = Content (had f x)
     message_sent f (Some (Ask x)) = Summary (summary (had f x))
@@ -133,9 +138,11 @@ module _ {F : Type 0} (sites : ℕ) (events : List (Event F)) where
   reached i = reaching had i (length events)
 
 -- how an operation reaches a site: event `number` gave it, and each Stop since came after a Save or Ask since
-pub record Reaches {F : Type 0} (sites : ℕ) (events : List (Event F)) (had_by : ℕ → ℕ → Operations) (o : List ℕ) (i n : ℕ) : Type 0 where
+pub record Reaches {F : Type 0} (sites : ℕ) (events : List (Event F)) (had_by : ℕ → ℕ → Operations) (o : List ℕ)
+    (i n : ℕ) : Type 0 where
   pub number : ℕ
   pub before : number < n
   pub of_site : is_of sites events i number ≡ true
   pub gave : set.contains (given sites events had_by number (slice_get events number)) o ≡ true
-  pub kept : (s : ℕ) → number < s → s < n → stops sites events i s ≡ true → (t : ℕ) × (number < t) × (t < s) × (saves sites events i t ≡ true)
+  pub kept : (s : ℕ) → number < s → s < n → stops sites events i s ≡ true
+      → (t : ℕ) × (number < t) × (t < s) × (saves sites events i t ≡ true)

@@ -1,5 +1,6 @@
 -- Sites that exchange files: the state of all of them, an event, what it changes and what is answered to it.
-use Rattle.std.specs.Prelude.{Result, ℕ, zero, suc, List, [], ◌∷◌, ◌++◌, Bool, true, false, ◌==◌, if◌then◌else◌, nat_lt, length, slice_get}
+use Rattle.std.specs.Prelude.{Result, ℕ, zero, suc, List, [], ◌∷◌, ◌++◌, Bool, true}
+use Rattle.std.specs.Prelude.{false, ◌==◌, if◌then◌else◌, nat_lt, length, slice_get}
 use Rattle.std.specs.declared.option.Option.{Option}
 use Rattle.std.specs.declared.option.Option.TheVariants.{None, Some}
 use Rattle.std.specs.declared.result.Result.TheVariants.{Ok, Err}
@@ -26,7 +27,8 @@ abbrev pub entries_of : Message → Entries
 entries_of (Content o) = set.empty
 entries_of (Summary s) = s
 
--- what a file is to a site: for each of its parts the record of its admission, or none where the part is skipped; or the fault F for which the file is refused
+-- what a file is to a site: for each of its parts the record of its admission, or none where the part is skipped; or
+-- the fault F for which the file is refused
 abbrev pub File : Type 0 → Type 0
 File F = Result (List (Option (List ℕ))) F
 
@@ -34,7 +36,8 @@ File F = Result (List (Option (List ℕ))) F
 abbrev pub records : List (Option (List ℕ)) → List (List ℕ)
 records parts = filter_map (λ part. part) parts
 
--- what happens at a site: it takes a file or the record of a retirement, sends its whole content, asks with its summary, replies to a summary, is given a message, saves, or stops and begins again from what it saved
+-- what happens at a site: it takes a file or the record of a retirement, sends its whole content, asks with its
+-- summary, replies to a summary, is given a message, saves, or stops and begins again from what it saved
 pub data Event (F : Type 0) : Type 0 where
   Take : (site : ℕ) (file : File F) → Event F
   Retire : (site : ℕ) (retirement : List ℕ) → Event F
@@ -55,7 +58,8 @@ site_of (Deliver i m) = i
 site_of (Save i) = i
 site_of (Stop i) = i
 
--- why an event is refused: there is no such site, or no such message; a reply to a content; a summary that is delivered; or the file's fault
+-- why an event is refused: there is no such site, or no such message; a reply to a content; a summary that is
+-- delivered; or the file's fault
 pub data Fault (F : Type 0) : Type 0 where
   NoSite : Fault F
   NoMessage : Fault F
@@ -69,7 +73,8 @@ pub data Row : Type 0 where
   Known : (admission : List ℕ) → Row
   Skipped : Row
 
--- what is answered to an event: the rows of a file, whether a retirement is new, the number of the message that was sent, that it was done, or why it was refused
+-- what is answered to an event: the rows of a file, whether a retirement is new, the number of the message that was
+-- sent, that it was done, or why it was refused
 pub data Outcome (F : Type 0) : Type 0 where
   Took : (rows : List Row) → Outcome F
   Retired : (new : Bool) → Outcome F

@@ -3,13 +3,16 @@
 //!
 //! Each law is the contract of a function with an empty body, and speaks of the definitions alone; `F` is the type of a
 //! refused file's fault. Events, sites and messages are counted from 0, and `n` events are the first `n` of the list.
-ghost use Rattle.std.specs.Prelude.{◌≡◌, ◌↔◌, ◌≤◌, ℕ, suc, min, max, true, Some, None, is_none, List, length, map, take, slice_get};
+ghost use Rattle.std.specs.Prelude.{◌≡◌, ◌↔◌, ◌≤◌, ℕ, suc, min, max, true, Some, None};
+ghost use Rattle.std.specs.Prelude.{is_none, List, length, map, take, slice_get};
 ghost use Rattle.std.specs.declared.option.Option.{Option};
 ghost use Rattle.std.specs.FinSet as set;
 ghost use Rattle.archive_core.specs.Content.{Operations, IsBelow, made, with_records};
-ghost use Rattle.exchange_model.specs.World.{World, Event, Fault, Refused, Skipped, fault_of, effect, happens, answer, outcome, state, row_of, rows, records};
+ghost use Rattle.exchange_model.specs.World.{World, Event, Fault, Refused, Skipped, fault_of, effect};
+ghost use Rattle.exchange_model.specs.World.{happens, answer, outcome, state, row_of, rows, records};
 ghost use Rattle.exchange_model.specs.Reached.{is_accepted, senders, message_sent, had, reaching, reached, Reaches};
-ghost use Rattle.exchange_model.specs.Issued.{AreIssued, AreRecords, IsDigestTelling, IsEntryTelling, IsExchange, IsQuiet};
+ghost use Rattle.exchange_model.specs.Issued.{AreIssued, AreRecords, IsDigestTelling};
+ghost use Rattle.exchange_model.specs.Issued.{IsEntryTelling, IsExchange, IsQuiet};
 
 /// An event that is refused changes nothing and answers why; any other has its effect and its answer.
 pub fn refused_changes_nothing<F>()
@@ -43,10 +46,12 @@ pub fn rows_in_order()
 /// it, and the messages of that state are those that the accepted events before it have sent, in their order.
 pub fn accepted_in_words<F>()
     ensures accepted { (sites : ℕ) (events : List (Event F)) (n : ℕ) (e : Event F)
-        → is_accepted sites events (senders sites events n) (Some e) ≡ is_none (fault_of sites (state sites events n) e) }
+        → is_accepted sites events (senders sites events n) (Some e)
+        ≡ is_none (fault_of sites (state sites events n) e) }
     ensures messages { (sites : ℕ) (events : List (Event F)) (n : ℕ)
         → (state sites events n).messages
-        ≡ map (λ k. message_sent sites events (λ m i. (state sites events m).held i) k (slice_get events k)) (senders sites events n) }
+        ≡ map (λ k. message_sent sites events (λ m i. (state sites events m).held i) k (slice_get events k))
+        (senders sites events n) }
 {}
 
 /// What it says that an operation reaches a site: an accepted event before `n` of the site gave it, and each stop of

@@ -3,7 +3,8 @@ use Rattle.std.specs.Prelude.{ℕ, false, List, length, ◌≡◌, ◌+◌, ◌<
 use Rattle.fat_slices.specs.Kind.{kind_of, is_fat}
 use Rattle.fat_slices.specs.Layout.{nfat_arch, table_end, arch_at}
 use Rattle.fat_slices.specs.declared.fault.FatFault.{FatFault}
-use Rattle.fat_slices.specs.declared.fault.FatFault.TheVariants.{NotUniversal, HeaderTruncated, TooManyArches, TableTruncated, SliceOutside, TooLarge}
+use Rattle.fat_slices.specs.declared.fault.FatFault.TheVariants.{NotUniversal, HeaderTruncated, TooManyArches}
+use Rattle.fat_slices.specs.declared.fault.FatFault.TheVariants.{TableTruncated, SliceOutside, TooLarge}
 
 -- what entry i names passes the file's end, in whole numbers
 abbrev pub IsOutside : List ℕ → ℕ → Type 0

@@ -1,6 +1,7 @@
 -- Least bounds: what a join gives, and where a join may stop half way.
 
--- the join of x and y, their least upper bound: a content above both, and below each content that is above both (INRIA RR-7506, state-based objects)
+-- the join of x and y, their least upper bound: a content above both, and below each content that is above both (INRIA
+-- RR-7506, state-based objects)
 pub record IsLeastAbove {C : Type 0} (is_content : C → Type 0) (below : C → C → Type 0) (x y joined : C) : Type 0 where
   pub content : is_content joined
   pub left : below x joined

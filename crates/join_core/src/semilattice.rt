@@ -26,13 +26,17 @@ pub trait Join {
     /// Refused for want of memory alone. A part of `other` may then have been taken in, and the call
     /// may be made again: `laws::resumed` says that it gives what this one would have given.
     fn join(&mut self, other: &Self) -> Result<(), NoMemory>
-        ensures joined { OnOk result (IsLeastAbove is_content below (content self.old) (content other.now) (content self.new)) }
-        ensures refused { OnErr result (IsTowards is_content below (content self.old) (content other.now) (content self.new)) };
+        ensures joined { OnOk result
+            (IsLeastAbove is_content below (content self.old) (content other.now) (content self.new)) }
+        ensures refused { OnErr result
+            (IsTowards is_content below (content self.old) (content other.now) (content self.new)) };
 
     /// Takes over the content of `other`, without a copy of what it holds. Otherwise as [`join`](Join::join).
     fn absorb(&mut self, other: Self) -> Result<(), NoMemory>
-        ensures joined { OnOk result (IsLeastAbove is_content below (content self.old) (content other) (content self.new)) }
-        ensures refused { OnErr result (IsTowards is_content below (content self.old) (content other) (content self.new)) };
+        ensures joined { OnOk result
+            (IsLeastAbove is_content below (content self.old) (content other) (content self.new)) }
+        ensures refused { OnErr result
+            (IsTowards is_content below (content self.old) (content other) (content self.new)) };
 
     /// Whether the content of `other` is below this one, so that joining it would change nothing.
     fn covers(&self, other: &Self) -> bool

@@ -1,5 +1,6 @@
 -- Load commands: how the bytes behind the header fall into them (mach-o/loader.h).
-use Rattle.std.specs.Prelude.{ℕ, suc, zero, Bool, true, ◌+◌, ◌*◌, List, [], ◌∷◌, ◌++◌, length, take, drop, ◌≡◌, ◌≤◌, ◌==◌, ◌&&◌, nat_le, if◌then◌else◌}
+use Rattle.std.specs.Prelude.{ℕ, suc, zero, Bool, true, ◌+◌, ◌*◌, List, [], ◌∷◌, ◌++◌, length}
+use Rattle.std.specs.Prelude.{take, drop, ◌≡◌, ◌≤◌, ◌==◌, ◌&&◌, nat_le, if◌then◌else◌}
 use Rattle.std.specs.List.{concat, AllByRecursion}
 use Rattle.macho_image.specs.Layout.{u32_at, command_bytes, ncmds}
 
@@ -40,8 +41,8 @@ pub record SegmentRecord : Type 0 where
   pub place : ℕ
   pub bytes : List ℕ
 
--- a command has its eight bytes, a segment_command_64 (72 bytes) each section_64 (80 bytes) behind it, and a uuid_command
--- and a symtab_command their twenty-four
+-- a command has its eight bytes, a segment_command_64 (72 bytes) each section_64 (80 bytes) behind it, and a
+-- uuid_command and a symtab_command their twenty-four
 pub record HasRoom (command : List ℕ) : Type 0 where
   pub long : 8 ≤ length command
   pub sections : is_segment command ≡ true → 72 + 80 * nsects command ≤ length command

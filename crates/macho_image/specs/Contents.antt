@@ -14,7 +14,12 @@ uuid_bytes command = take 16 (drop 8 command)
 -- the fields of symtab_command
 abbrev pub symtab_fields : List ℕ → Symtab
 symtab_fields command =
-    record { symoff = u32_at command 8; nsyms = u32_at command 12; stroff = u32_at command 16; strsize = u32_at command 20 }
+    record {
+      symoff = u32_at command 8;
+      nsyms = u32_at command 12;
+      stroff = u32_at command 16;
+      strsize = u32_at command 20;
+    }
 
 -- the UUID of the first LC_UUID among commands
 abbrev pub uuid_among : List (List ℕ) → Option (List ℕ)
@@ -32,7 +37,8 @@ uuid_of image = unwrap_or (uuid_among (commands image)) []
 abbrev pub symtab_of : List ℕ → Option Symtab
 symtab_of image = symtab_among (commands image)
 
--- the architecture: the high byte of cpusubtype, CPU_SUBTYPE_MASK of mach/machine.h, holds capabilities and does not count
+-- the architecture: the high byte of cpusubtype, CPU_SUBTYPE_MASK of mach/machine.h, holds capabilities and does not
+-- count
 abbrev pub arch_of : List ℕ → ℕ × ℕ
 arch_of image = (cputype image, cpusubtype image % 2 ^ 24)
 

@@ -1,10 +1,13 @@
 -- Why bytes are no image: the places of mach-o/loader.h that a thin 64-bit image has to get right.
-use Rattle.std.specs.Prelude.{ℕ, Bool, true, false, List, [], ◌∷◌, ◌++◌, length, ◌≡◌, ◌+◌, ◌*◌, ◌<◌, ◌&&◌, nat_lt, nat_eq, if◌then◌else◌, Option, Some, None, ◌⊎◌}
+use Rattle.std.specs.Prelude.{ℕ, Bool, true, false, List, [], ◌∷◌, ◌++◌, length, ◌≡◌, ◌+◌, ◌*◌, ◌<◌}
+use Rattle.std.specs.Prelude.{◌&&◌, nat_lt, nat_eq, if◌then◌else◌, Option, Some, None, ◌⊎◌}
 use Rattle.std.specs.List.{list_any, starts_with}
 use Rattle.macho_image.specs.Layout.{magic, ncmds, sizeofcmds, command_bytes}
 use Rattle.macho_image.specs.Commands.{IsFront, HasFront, is_segment, is_uuid, is_symtab, nsects}
 use Rattle.macho_image.specs.declared.fault.ImageFault.{ImageFault}
-use Rattle.macho_image.specs.declared.fault.ImageFault.TheVariants.{NotMachO64, HeaderTruncated, CommandsOutside, BadCommand, BadSegment, BadUuid, SecondUuid, BadSymtab, SecondSymtab, NoUuid, TooLarge}
+use Rattle.macho_image.specs.declared.fault.ImageFault.TheVariants.{NotMachO64, HeaderTruncated, CommandsOutside}
+use Rattle.macho_image.specs.declared.fault.ImageFault.TheVariants.{BadCommand, BadSegment, BadUuid, SecondUuid}
+use Rattle.macho_image.specs.declared.fault.ImageFault.TheVariants.{BadSymtab, SecondSymtab, NoUuid, TooLarge}
 
 -- what is wrong with mach_header_64 (32 bytes), the first that applies
 abbrev pub header_fault : List ℕ → Option ImageFault

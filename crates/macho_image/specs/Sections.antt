@@ -1,5 +1,6 @@
 -- The sections of an image, and where its text is to be loaded (mach-o/loader.h).
-use Rattle.std.specs.Prelude.{ℕ, zero, suc, Bool, List, [], ◌∷◌, ◌≡◌, ◌≤◌, ◌&&◌, ◌+◌, drop, length, Option, None, codes, slice_get, nat_eq, nat_lt, nat_le}
+use Rattle.std.specs.Prelude.{ℕ, zero, suc, Bool, List, [], ◌∷◌, ◌≡◌, ◌≤◌, ◌&&◌, ◌+◌, drop, length}
+use Rattle.std.specs.Prelude.{Option, None, codes, slice_get, nat_eq, nat_lt, nat_le}
 use Rattle.std.specs.List.{find, flat_map}
 use Rattle.std.specs.Option.{option_map}
 use Rattle.std.specs.Cmp.Lexicographic.{pointwise}
@@ -38,7 +39,8 @@ pub record IsSectionOf (image : List ℕ) (section : SectionRecord) : Type 0 whe
 -- so many of them, 80 bytes each
 unfoldable pub section_records : ℕ → ℕ → List ℕ → List SectionRecord
 section_records zero place bytes = []
-section_records (suc count) place bytes = section_record place bytes ∷ section_records count (place + 80) (drop 80 bytes)
+section_records (suc count) place bytes =
+    section_record place bytes ∷ section_records count (place + 80) (drop 80 bytes)
 
 -- the sections of a segment directly follow its segment_command_64; laws.section_places says where each one stands
 unfoldable pub sections_in : SegmentRecord → List SectionRecord

@@ -1,8 +1,10 @@
 //! What the definitions say of each other, for every list of bytes. Each law is the contract of a function
 //! that does nothing.
 
-ghost use Rattle.std.specs.Prelude.{◌≡◌, ◌+◌, ◌*◌, ◌<◌, ◌⊎◌, ℕ, List, true, Some, Contains, drop, take, length, slice_get};
-ghost use Rattle.macho_image.specs.Commands.{IsFront, SegmentRecord, first_commands, commands, is_uuid, is_symtab, nsects};
+ghost use Rattle.std.specs.Prelude.{◌≡◌, ◌+◌, ◌*◌, ◌<◌, ◌⊎◌, ℕ, List, true, Some};
+ghost use Rattle.std.specs.Prelude.{Contains, drop, take, length, slice_get};
+ghost use Rattle.macho_image.specs.Commands.{IsFront, SegmentRecord, first_commands};
+ghost use Rattle.macho_image.specs.Commands.{commands, is_uuid, is_symtab, nsects};
 ghost use Rattle.macho_image.specs.Kinds.{segments};
 ghost use Rattle.macho_image.specs.Contents.{uuid_bytes, uuid_of, symtab_fields, symtab_of};
 ghost use Rattle.macho_image.specs.Fault.{IsImageFault, IsImage};

@@ -8,8 +8,8 @@ use Rattle.macho_symbols.specs.declared.extents.Extent.{Extent}
 abbrev pub extent_of : SectionRecord → Extent
 extent_of section = record { addr = section.addr; size = section.size; place = section.place }
 
--- these are the extents of the sections that a symbol can name: nlist_64.n_sect is a byte and counts from 1; the sections
--- stand in the image at their places
+-- these are the extents of the sections that a symbol can name: nlist_64.n_sect is a byte and counts from 1; the
+-- sections stand in the image at their places
 pub record AreExtents (image : List ℕ) (extents : List Extent) : Type 0 where
   pub each : AllByRecursion (IsSectionOf image) (sections image)
   pub all : extents ≡ map extent_of (take 255 (sections image))

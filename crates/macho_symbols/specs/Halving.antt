@@ -1,5 +1,6 @@
 -- The search in an address table and its building: the words of inner functions. No contract of a public one has them.
-use Rattle.std.specs.Prelude.{ℕ, Bool, List, ◌≡◌, ◌+◌, ◌≤◌, ◌<◌, ◌==◌, ◌&&◌, ◌||◌, nat_lt, nat_le, cond, length, slice_index_or, Option, Some, None, MatchOption, Contains, ◌⊎◌}
+use Rattle.std.specs.Prelude.{ℕ, Bool, List, ◌≡◌, ◌+◌, ◌≤◌, ◌<◌, ◌==◌, ◌&&◌, ◌||◌, nat_lt, nat_le, cond}
+use Rattle.std.specs.Prelude.{length, slice_index_or, Option, Some, None, MatchOption, Contains, ◌⊎◌}
 use Rattle.std.specs.Ordering.{ordering_then, nat_cmp, bool_cmp, is_lt}
 use Rattle.std.specs.declared.cmp.Ordering.{Ordering}
 use Rattle.macho_symbols.specs.Symbols.{Tuple, candidates}
@@ -11,7 +12,8 @@ use Rattle.macho_symbols.specs.declared.extents.Extent.{Extent}
 -- the order in which rows are sorted: by section, by falling value, external before local, by the place of the name
 abbrev pub row_cmp : Candidate → Candidate → Ordering
 row_cmp c d =
-    ordering_then (nat_cmp c.sect d.sect) (ordering_then (nat_cmp d.value c.value) (ordering_then (bool_cmp d.external c.external) (nat_cmp c.strx d.strx)))
+    ordering_then (nat_cmp c.sect d.sect)
+    (ordering_then (nat_cmp d.value c.value) (ordering_then (bool_cmp d.external c.external) (nat_cmp c.strx d.strx)))
 
 -- sections rise along the rows, and in a section no value is above one before it
 abbrev pub AreSorted : List Candidate → Type 0

@@ -9,7 +9,9 @@ use Rattle.macho_symbols.specs.Symbols.{Tuple, candidates, is_in_section}
 -- the order of candidates: by greater value, external before local, by lesser name, by lesser section
 abbrev pub tuple_cmp : Tuple → Tuple → Ordering
 tuple_cmp c d =
-    ordering_then (nat_cmp d.value c.value) (ordering_then (bool_cmp d.external c.external) (ordering_then (slice_cmp nat_cmp c.name d.name) (nat_cmp c.sect d.sect)))
+    ordering_then (nat_cmp d.value c.value)
+    (ordering_then (bool_cmp d.external c.external)
+    (ordering_then (slice_cmp nat_cmp c.name d.name) (nat_cmp c.sect d.sect)))
 
 -- whether a candidate can stand for an address: not above it, and its section has it
 unfoldable pub can_stand_for : List ℕ → ℕ → Tuple → Bool

@@ -1,6 +1,7 @@
--- The first of candidates whose names may overlap in the string table, found by the places where these begin: the words of
--- inner functions. No contract of a public one has them.
-use Rattle.std.specs.Prelude.{ℕ, Bool, false, not, cond, List, ◌≡◌, ◌≢◌, ◌+◌, ◌<◌, ◌≤◌, ◌==◌, ◌&&◌, ◌||◌, nat_lt, nat_le, length, take, Option, Some, None, MatchOption}
+-- The first of candidates whose names may overlap in the string table, found by the places where these begin: the words
+-- of inner functions. No contract of a public one has them.
+use Rattle.std.specs.Prelude.{ℕ, Bool, false, not, cond, List, ◌≡◌, ◌≢◌, ◌+◌, ◌<◌, ◌≤◌, ◌==◌, ◌&&◌}
+use Rattle.std.specs.Prelude.{◌||◌, nat_lt, nat_le, length, take, Option, Some, None, MatchOption}
 use Rattle.std.specs.Ordering.{ordering_then, nat_cmp, bool_cmp, is_lt, is_eq}
 use Rattle.std.specs.declared.cmp.Ordering.{Ordering}
 use Rattle.std.specs.declared.cmp.Ordering.TheVariants.{Less}
@@ -16,7 +17,8 @@ use Rattle.macho_symbols.specs.declared.ends.Ends.{Ends}
 -- the order of candidates by value, kind and so many first bytes of their names
 abbrev pub beginning_cmp : ℕ → Tuple → Tuple → Ordering
 beginning_cmp size c d =
-    ordering_then (nat_cmp d.value c.value) (ordering_then (bool_cmp d.external c.external) (slice_cmp nat_cmp (take size c.name) (take size d.name)))
+    ordering_then (nat_cmp d.value c.value)
+    (ordering_then (bool_cmp d.external c.external) (slice_cmp nat_cmp (take size c.name) (take size d.name)))
 
 -- the order of candidates with no more of their names than so many first bytes
 abbrev pub cut_cmp : ℕ → Tuple → Tuple → Ordering
@@ -29,7 +31,8 @@ first_row strings c d = cond (is_lt (tuple_cmp (tuple_of strings d) (tuple_of st
 -- an entry that is a candidate and can stand for an address
 abbrev pub standing_in : List ℕ → ℕ → List ℕ → Option Candidate
 standing_in image address entry =
-    option_map_or (λ c. cond (can_stand_for image address (tuple_of (strings_of image) c)) (Some c) None) (row_in image entry) None
+    option_map_or (λ c. cond (can_stand_for image address (tuple_of (strings_of image) c)) (Some c) None)
+    (row_in image entry) None
 
 -- the candidates that can stand for an address, in the order of the symbol table
 unfoldable pub standing : List ℕ → ℕ → List Candidate
@@ -43,24 +46,29 @@ pub record IsFirstRow (strings : List ℕ) (among : Candidate → Type 0) (found
 -- the first of some where no more is read of names than so many first bytes
 pub record IsFirstCut (strings : List ℕ) (size : ℕ) (among : Candidate → Type 0) (found : Candidate) : Type 0 where
   pub member : among found
-  pub first : (other : Candidate) → among other → is_lt (cut_cmp size (tuple_of strings other) (tuple_of strings found)) ≡ false
+  pub first : (other : Candidate) → among other
+      → is_lt (cut_cmp size (tuple_of strings other) (tuple_of strings found)) ≡ false
 
 -- or none where there is none
 abbrev pub IsFirstCutOrNone : List ℕ → ℕ → (Candidate → Type 0) → Option Candidate → Type 0
-IsFirstCutOrNone strings size among found = MatchOption found ((c : Candidate) → among c → ⊥) (IsFirstCut strings size among)
+IsFirstCutOrNone strings size among found =
+    MatchOption found ((c : Candidate) → among c → ⊥) (IsFirstCut strings size among)
 
 -- the first so far and one more where no more is read of names than so many first bytes
 abbrev pub first_cut : List ℕ → ℕ → Option Candidate → Candidate → Option Candidate
 first_cut strings size None c = Some c
 first_cut strings size (Some b) c = Some (cond (is_lt (cut_cmp size (tuple_of strings c) (tuple_of strings b))) c b)
 
--- one of some whose name has that many bytes, which no other name goes below in them, and the first of those whose names
--- begin before a place
-pub record IsFirstBelow (strings : List ℕ) (size place : ℕ) (among : Candidate → Type 0) (found : Candidate) : Type 0 where
+-- one of some whose name has that many bytes, which no other name goes below in them, and the first of those whose
+-- names begin before a place
+pub record IsFirstBelow (strings : List ℕ) (size place : ℕ) (among : Candidate → Type 0)
+    (found : Candidate) : Type 0 where
   pub member : among found
   pub long : size ≤ length (tuple_of strings found).name
-  pub beginning : (other : Candidate) → among other → beginning_cmp size (tuple_of strings other) (tuple_of strings found) ≢ Less
-  pub first : (other : Candidate) → among other → other.strx < place → tuple_cmp (tuple_of strings other) (tuple_of strings found) ≢ Less
+  pub beginning : (other : Candidate) → among other
+      → beginning_cmp size (tuple_of strings other) (tuple_of strings found) ≢ Less
+  pub first : (other : Candidate) → among other → other.strx < place
+      → tuple_cmp (tuple_of strings other) (tuple_of strings found) ≢ Less
 
 -- whether a name begins in so many bytes from a place on
 abbrev pub begins_in : ℕ → ℕ → Candidate → Bool
@@ -69,12 +77,14 @@ begins_in start size c = nat_le start c.strx && nat_lt c.strx (start + size)
 -- whether a name begins in so many bytes from a place on, and nothing before the end of as many first bytes tells the
 -- candidate from another one
 abbrev pub is_tied : List ℕ → ℕ → ℕ → Candidate → Candidate → Bool
-is_tied strings start size best c = begins_in start size c && is_eq (beginning_cmp size (tuple_of strings c) (tuple_of strings best))
+is_tied strings start size best c =
+    begins_in start size c && is_eq (beginning_cmp size (tuple_of strings c) (tuple_of strings best))
 
--- whether a name begins elsewhere than that of another candidate, and nothing before the end of so many first bytes tells
--- the two apart
+-- whether a name begins elsewhere than that of another candidate, and nothing before the end of so many first bytes
+-- tells the two apart
 abbrev pub ties_elsewhere : List ℕ → ℕ → Candidate → Candidate → Bool
-ties_elsewhere strings size best c = not (c.strx == best.strx) && is_eq (beginning_cmp size (tuple_of strings c) (tuple_of strings best))
+ties_elsewhere strings size best c =
+    not (c.strx == best.strx) && is_eq (beginning_cmp size (tuple_of strings c) (tuple_of strings best))
 
 -- whether the name of c begins before that of d; at the same place a lesser section decides
 abbrev pub stands_before : Candidate → Candidate → Bool
@@ -87,7 +97,10 @@ stands_behind c d = nat_lt d.strx c.strx || ((c.strx == d.strx) && nat_lt c.sect
 -- the two ends of those so far and one more
 abbrev pub widened : Option Ends → Candidate → Ends
 widened None c = record { first = c; last = c }
-widened (Some e) c = record { first = cond (stands_before c e.first) c e.first; last = cond (stands_behind c e.last) c e.last }
+widened (Some e) c = record {
+  first = cond (stands_before c e.first) c e.first;
+  last = cond (stands_behind c e.last) c e.last;
+}
 
 -- the two ends of those so far that a candidate is tied with, and one more
 abbrev pub ends_with : List ℕ → ℕ → ℕ → Candidate → Option Ends → Candidate → Option Ends

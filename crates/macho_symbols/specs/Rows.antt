@@ -16,13 +16,15 @@ IsBeside r s = (r.sect ≡ s.sect) × (r.value ≡ s.value)
 
 -- sections rise along the rows, values fall in a section, and there is one row of each section and value
 abbrev pub AreFalling : List Candidate → Type 0
-AreFalling rows = (i j : ℕ) (d : Candidate) → i < j → j < length rows → Precedes (slice_index_or rows i d) (slice_index_or rows j d)
+AreFalling rows = (i j : ℕ) (d : Candidate) → i < j → j < length rows
+    → Precedes (slice_index_or rows i d) (slice_index_or rows j d)
 
 -- of each section and value that there is among some rows, the first one in the order of candidates
 pub record AreFirsts (strings : List ℕ) (rows firsts : List Candidate) : Type 0 where
   pub members : (r : Candidate) → Contains firsts r → Contains rows r
   pub each : (c : Candidate) → Contains rows c
-      → (r : Candidate) × Contains firsts r × IsBeside r c × (tuple_cmp (tuple_of strings c) (tuple_of strings r) ≢ Less)
+      → (r : Candidate) × Contains firsts r × IsBeside r c
+      × (tuple_cmp (tuple_of strings c) (tuple_of strings r) ≢ Less)
   pub falling : AreFalling firsts
 
 -- the rows tell of each section and value that candidates of an image have the first candidate

@@ -8,4 +8,5 @@ use Rattle.macho_image.specs.declared.section.Section.{Section}
 -- at each number that a byte can hold stands the section of that number, or none
 abbrev pub AreByNumber : List ℕ → List (Option Section) → Type 0
 AreByNumber image by_number =
-    (number : ℕ) → number < 256 → option_map section_view (slice_index_or by_number number None) ≡ section_of image number
+    (number : ℕ) → number < 256 → option_map section_view (slice_index_or by_number number None)
+    ≡ section_of image number

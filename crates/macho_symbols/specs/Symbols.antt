@@ -1,5 +1,6 @@
 -- The symbols of an image: its symbol table, its string table, and the entries that count (mach-o/nlist.h).
-use Rattle.std.specs.Prelude.{ℕ, zero, suc, Bool, false, List, [], ◌∷◌, ◌==◌, ◌&&◌, ◌+◌, ◌*◌, nat_lt, length, take, drop, bit_and, Option, Some, None, unwrap_or, if◌then◌else◌}
+use Rattle.std.specs.Prelude.{ℕ, zero, suc, Bool, false, List, [], ◌∷◌, ◌==◌, ◌&&◌, ◌+◌, ◌*◌, nat_lt, length}
+use Rattle.std.specs.Prelude.{take, drop, bit_and, Option, Some, None, unwrap_or, if◌then◌else◌}
 use Rattle.std.specs.List.{before_first, filter_map}
 use Rattle.std.specs.Option.{option_map_or}
 use Rattle.macho_image.specs.Contents.{symtab_of}
@@ -15,7 +16,8 @@ table_of image = unwrap_or (symtab_of image) (record { symoff = 0; nsyms = 0; st
 unfoldable pub strings_of : List ℕ → List ℕ
 strings_of image = take (table_of image).strsize (drop (table_of image).stroff image)
 
--- the name from a place of the string table, up to its first NUL or the table's end; 0, and a place past it, is the empty name
+-- the name from a place of the string table, up to its first NUL or the table's end; 0, and a place past it, is the
+-- empty name
 abbrev pub name_of : List ℕ → ℕ → List ℕ
 name_of strings place = if place == 0 then [] else before_first (λ b. b == 0) (drop place strings)
 
@@ -27,8 +29,8 @@ name_in image entry = name_of (strings_of image) (n_strx entry)
 unfoldable pub is_in_section : List ℕ → ℕ → ℕ → Bool
 is_in_section image number address = option_map_or (is_inside address) (section_of image number) false
 
--- whether an entry is a candidate: no bit of N_STAB (0xe0) is set, its N_TYPE bits (0x0e) are N_SECT (0xe), its value lies
--- in its section, and it has a name
+-- whether an entry is a candidate: no bit of N_STAB (0xe0) is set, its N_TYPE bits (0x0e) are N_SECT (0xe), its value
+-- lies in its section, and it has a name
 unfoldable pub is_candidate : List ℕ → List ℕ → Bool
 is_candidate image entry =
     (bit_and (n_type entry) 0xe0 == 0) && (bit_and (n_type entry) 0x0e == 0x0e)
@@ -44,7 +46,12 @@ pub record Tuple : Type 0 where
 -- what counts of an entry, which is external where its bit N_EXT (0x01) is set
 unfoldable pub tuple_in : List ℕ → List ℕ → Tuple
 tuple_in image entry =
-    record { value = n_value entry; external = bit_and (n_type entry) 0x01 == 1; name = name_in image entry; sect = n_sect entry }
+    record {
+      value = n_value entry;
+      external = bit_and (n_type entry) 0x01 == 1;
+      name = name_in image entry;
+      sect = n_sect entry;
+    }
 
 -- what counts of an entry, where it is a candidate
 unfoldable pub candidate_in : List ℕ → List ℕ → Option Tuple

@@ -15,7 +15,8 @@ pub record TableParts : Type 0 where
   pub nul_places : List ℕ
   pub symtab : Symtab
 
--- the table tells the first candidates, the extents of the sections, the NULs of the string table and the LC_SYMTAB of an image
+-- the table tells the first candidates, the extents of the sections, the NULs of the string table and the LC_SYMTAB of
+-- an image
 pub record IsTableOf (table : TableParts) (image : List ℕ) : Type 0 where
   pub rows : AreRows image table.rows
   pub extents : AreExtents image table.extents

@@ -22,7 +22,12 @@ tuple_of strings c = record { value = c.value; external = c.external; name = nam
 unfoldable pub row_in : List ℕ → List ℕ → Option Candidate
 row_in image entry =
     if is_candidate image entry
-    then Some (record { value = n_value entry; strx = n_strx entry; sect = n_sect entry; external = bit_and (n_type entry) 0x01 == 1 })
+    then Some (record {
+      value = n_value entry;
+      strx = n_strx entry;
+      sect = n_sect entry;
+      external = bit_and (n_type entry) 0x01 == 1;
+    })
     else None
 
 -- the candidates of an image with the places of their names, in the order of its symbol table

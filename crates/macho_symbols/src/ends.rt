@@ -2,7 +2,8 @@
 //! by place can have the least name: the names between them repeat what stands at the first.
 
 ghost use Rattle.std.specs.Prelude.{◌≡◌, ◌<◌};
-ghost use Rattle.macho_symbols.specs.Overlaps.{begins_in, is_tied, ties_elsewhere, stands_before, stands_behind, widened, ends_with, first_of_ends};
+ghost use Rattle.macho_symbols.specs.Overlaps.{begins_in, is_tied, ties_elsewhere, stands_before};
+ghost use Rattle.macho_symbols.specs.Overlaps.{stands_behind, widened, ends_with, first_of_ends};
 
 use crate::candidate::Candidate;
 

@@ -3,7 +3,8 @@
 ghost use Rattle.std.specs.Prelude.{◌≡◌, ◌<◌, true, length, Contains};
 ghost use Rattle.std.specs.List.{list_any};
 ghost use Rattle.macho_symbols.specs.Views.{tuple_of};
-ghost use Rattle.macho_symbols.specs.Overlaps.{IsFirstRow, IsFirstCutOrNone, IsFirstBelow, AreEndsOrNone, is_tied, ties_elsewhere};
+ghost use Rattle.macho_symbols.specs.Overlaps.{IsFirstRow, IsFirstCutOrNone, IsFirstBelow};
+ghost use Rattle.macho_symbols.specs.Overlaps.{AreEndsOrNone, is_tied, ties_elsewhere};
 
 use crate::candidate::Candidate;
 use crate::ends::{Ends, window_size};

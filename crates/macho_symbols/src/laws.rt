@@ -26,7 +26,8 @@ pub fn candidates_are_entries()
 
 /// A candidate lies in its section and has a name.
 pub fn candidates_are_named()
-    ensures inside { (image : List ℕ) (c : Tuple) → Contains (candidates image) c → is_in_section image c.sect c.value ≡ true }
+    ensures inside { (image : List ℕ) (c : Tuple) → Contains (candidates image) c
+        → is_in_section image c.sect c.value ≡ true }
     ensures name { (image : List ℕ) (c : Tuple) → Contains (candidates image) c → 0 < length c.name }
 {}
 

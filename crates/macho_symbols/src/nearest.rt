@@ -7,7 +7,8 @@ ghost use Rattle.macho_symbols.specs.Symbols.{strings_of};
 ghost use Rattle.macho_symbols.specs.Nearest.{can_stand_for, IsNearest};
 ghost use Rattle.macho_symbols.specs.Found.{FindsNearest};
 ghost use Rattle.macho_symbols.specs.Views.{tuple_of, found_view};
-ghost use Rattle.macho_symbols.specs.Overlaps.{standing_in, standing, first_cut, ends_with, is_tied, ties_elsewhere, IsFirstRow, IsFirstCutOrNone, IsFirstBelow, AreEndsOrNone};
+ghost use Rattle.macho_symbols.specs.Overlaps.{standing_in, standing, first_cut, ends_with, is_tied, ties_elsewhere};
+ghost use Rattle.macho_symbols.specs.Overlaps.{IsFirstRow, IsFirstCutOrNone, IsFirstBelow, AreEndsOrNone};
 
 use crate::candidate::Candidate;
 use crate::ends::{Ends, window_size};
@@ -71,7 +72,8 @@ impl<'a> Scan<'a> {
     fn ties_elsewhere(&self, address: u64, best: &Candidate, size: usize, entry: &[u8]) -> bool
         requires { 16 ≤ length entry.now }
         ensures { result
-            ≡ option_map_or (ties_elsewhere (strings_of self.now) size best.now) (standing_in self.now address entry.now) false }
+            ≡ option_map_or (ties_elsewhere (strings_of self.now) size best.now)
+            (standing_in self.now address entry.now) false }
     {
         match self.standing(address, entry) {
             Some(candidate) => candidate.ties_elsewhere(best, self.symbols.strings(), size),

@@ -1,6 +1,7 @@
 //! The candidates of an image in the order of an address table.
 
-ghost use Rattle.std.specs.Prelude.{◌≡◌, ◌+◌, ◌-◌, ◌*◌, ◌<◌, ◌^◌, ◌++◌, ℕ, List, IfOk, true, false, length, ◌≤◌, Decides, slice_index_or};
+ghost use Rattle.std.specs.Prelude.{◌≡◌, ◌+◌, ◌-◌, ◌*◌, ◌<◌, ◌^◌, ◌++◌, ℕ, List, IfOk};
+ghost use Rattle.std.specs.Prelude.{true, false, length, ◌≤◌, Decides, slice_index_or};
 ghost use Rattle.std.specs.List.Sorted.{IsPartitionPoint};
 ghost use Rattle.std.specs.Option.{option_map, option_to_list};
 ghost use Rattle.macho_symbols.specs.Symbols.{strings_of};
@@ -125,7 +126,8 @@ pub(crate) fn sorted_rows(
 /// The place of the first row that is not before those that may answer.
 fn place_of(rows: &[Candidate], number: usize, address: u64) -> usize
     requires { AreFalling rows.now }
-    ensures { IsPartitionPoint (λ r. is_before number address r ≡ true) (λ r. is_before number address r ≡ false) rows.now result }
+    ensures { IsPartitionPoint (λ r. is_before number address r ≡ true) (λ r. is_before number address r ≡ false)
+        rows.now result }
 {
     rows.partition_point(|row| row.is_before(number, address))
 }

@@ -17,8 +17,8 @@ pub type Heap = Memory<Global>;
 ///
 /// A growth is an allocation, or a block that is made larger, which counts as one growth however
 /// `B` makes it larger. A block that is made smaller, or goes back, is none. The contract of an
-/// allocator does not say when it refuses, so that the count is kept is shown by this crate's tests
-/// and by no clause.
+/// allocator does not say when it refuses, so that the count is kept is shown by cases of `rows` and
+/// by no clause.
 pub struct Memory<B: Allocator> {
     inner: B,
     growths: Rc<Cell<u64>>,
@@ -111,43 +111,5 @@ unsafe impl<B: Allocator> Allocator for Memory<B> {
         new_cap: usize,
     ) -> Result<*mut T, AllocError> {
         self.inner.shrink(ptr, len, old_cap, new_cap)
-    }
-}
-
-#[cfg(test)]
-mod tests {
-    use super::*;
-    use std::test::Fail;
-
-    #[test]
-    fn grants_its_growths_and_no_more(rt: HostRuntime) -> Result<(), Fail> {
-        // A vector of numbers has room for 4 once it has grown, and then for twice as many.
-        for (growths, room) in [(0, 0), (1, 4), (2, 8), (u64::MAX, 99)] {
-            let mut numbers = Vec::new(Heap::with_growths(rt.alloc(), growths)?);
-            for number in 0..99u64 {
-                let _ = numbers.push(number);
-            }
-            assert_eq!(rt; numbers.len(), room, "of {growths} growths");
-        }
-        Vec::new(Heap::new(rt.alloc())?).push(1u8)?;
-        Ok(())
-    }
-
-    #[test]
-    fn clones_share_what_is_left(rt: HostRuntime) -> Result<(), Fail> {
-        let heap = Heap::with_growths(rt.alloc(), 2)?;
-        let mut first = Vec::new(heap.clone()?);
-        let mut second = Vec::new(heap.clone()?);
-        first.push(1u8)?;
-        // A block that is made smaller is no growth, and one that goes back gives none back.
-        first.shrink_to_fit();
-        second.push(2u8)?;
-        drop(first);
-        let mut third = Vec::new(heap.clone()?);
-        assert!(rt; third.push(3u8).is_err());
-        heap.grant(1);
-        third.push(3u8)?;
-        assert!(rt; Vec::new(heap).push(4u8).is_err());
-        Ok(())
     }
 }

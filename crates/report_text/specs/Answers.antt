@@ -6,7 +6,8 @@ use Rattle.macho_symbols.specs.declared.found.Found.{Found}
 use Rattle.archive_core.specs.declared.lookup.Own.{Own}
 use Rattle.archive_core.specs.declared.lookup.Own.TheVariants.{NoSymbol, Symbol}
 use Rattle.archive_core.specs.declared.lookup.Answer.{Answer}
-use Rattle.archive_core.specs.declared.lookup.Answer.TheVariants.{Unknown, NoSymbol as AnswerNoSymbol, Symbol as AnswerSymbol, Conflict}
+use Rattle.archive_core.specs.declared.lookup.Answer.TheVariants.{Unknown, NoSymbol as AnswerNoSymbol}
+use Rattle.archive_core.specs.declared.lookup.Answer.TheVariants.{Symbol as AnswerSymbol, Conflict}
 use Rattle.archive_core.specs.declared.keys.Digest.{Digest}
 use Rattle.archive_words.specs.Words.{address_text, digest_text, hex_digits}
 use Rattle.report_text.specs.Report.{line}
@@ -43,4 +44,5 @@ unfoldable pub answer_lines : ℕ → Answer → List ℕ
 answer_lines address Unknown = line (address_text address ++ codes " ?")
 answer_lines address AnswerNoSymbol = line (address_text address ++ codes " -")
 answer_lines address (AnswerSymbol found) = line (address_text address ++ codes " " ++ found_text found)
-answer_lines address (Conflict owns) = line (address_text address ++ codes " !" ++ decimal (length owns.items)) ++ flat_map own_line owns.items
+answer_lines address (Conflict owns) =
+    line (address_text address ++ codes " !" ++ decimal (length owns.items)) ++ flat_map own_line owns.items

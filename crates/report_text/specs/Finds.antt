@@ -27,7 +27,8 @@ key_form_text Whole key = key_text key
 
 -- a row
 unfoldable pub find_row_text : KeyForm → FindRow → List ℕ
-find_row_text form row = key_form_text form row.key ++ codes " " ++ find_state_text row.state ++ codes " " ++ digest_text row.digest
+find_row_text form row = key_form_text form row.key ++ codes " " ++ find_state_text row.state ++ codes " "
+    ++ digest_text row.digest
 
 -- adjacent rows of one key
 pub record Group : Type 0 where
@@ -48,11 +49,13 @@ groups (row ∷ rows) = with_row row (groups rows)
 
 -- the line that tells how many slices answer, where they are several
 unfoldable pub conflict_line : KeyForm → SliceKey → ℕ → List ℕ
-conflict_line form key count = if nat_lt count 2 then [] else line (key_form_text form key ++ codes " conflict " ++ decimal count)
+conflict_line form key count =
+    if nat_lt count 2 then [] else line (key_form_text form key ++ codes " conflict " ++ decimal count)
 
 -- a line a row, and behind them the conflict
 unfoldable pub group_lines : KeyForm → Group → List ℕ
-group_lines form group = flat_map (λ row. line (find_row_text form row)) group.rows ++ conflict_line form group.key (answering_count group.rows group.key.arch)
+group_lines form group = flat_map (λ row. line (find_row_text form row)) group.rows
+    ++ conflict_line form group.key (answering_count group.rows group.key.arch)
 
 -- the lines of the groups
 unfoldable pub groups_lines : KeyForm → List FindRow → List ℕ

@@ -5,9 +5,11 @@ use Rattle.std.specs.Fmt.{decimal}
 use Rattle.archive_core.specs.declared.keys.Digest.{Digest}
 use Rattle.archive_records.specs.declared.writing.Sizes.{Sizes}
 use Rattle.archive_exchange.specs.declared.event.EventFault.{EventFault}
-use Rattle.archive_exchange.specs.declared.event.EventFault.TheVariants.{NoSite, NoMessage, NotASummary, Refused as TextRefused, File}
+use Rattle.archive_exchange.specs.declared.event.EventFault.TheVariants.{NoSite, NoMessage, NotASummary}
+use Rattle.archive_exchange.specs.declared.event.EventFault.TheVariants.{Refused as TextRefused, File}
 use Rattle.archive_exchange.specs.declared.event.Outcome.{Outcome}
-use Rattle.archive_exchange.specs.declared.event.Outcome.TheVariants.{Took, Retired, Sent, Delivered, Saved, Stopped, Refused}
+use Rattle.archive_exchange.specs.declared.event.Outcome.TheVariants.{Took, Retired, Sent, Delivered}
+use Rattle.archive_exchange.specs.declared.event.Outcome.TheVariants.{Saved, Stopped, Refused}
 use Rattle.archive_exchange.specs.declared.taken.Taken.{Taken}
 use Rattle.archive_exchange.specs.declared.taken.Taken.TheVariants.{Added, Known, Skipped}
 use Rattle.archive_words.specs.Words.{digest_text}

@@ -19,7 +19,9 @@ admit_lines rows = flat_map (λ row. line (admit_row_text row)) rows
 
 -- a retirement, and whether it is new
 abbrev pub retire_line : Bool → SliceKey → Digest → List ℕ
-retire_line changed key digest = line ((if changed then codes "retired" else codes "known") ++ codes " " ++ key_text key ++ codes " " ++ digest_text digest)
+retire_line changed key digest =
+    line ((if changed then codes "retired" else codes "known") ++ codes " " ++ key_text key ++ codes " "
+    ++ digest_text digest)
 
 -- how many records of an operations file were new, and how many were there
 abbrev pub apply_line : ℕ → ℕ → List ℕ
@@ -27,7 +29,8 @@ apply_line new known = line (codes "applied: " ++ decimal new ++ codes " new, " 
 
 -- how many entries of a summary were written, and how many bytes
 abbrev pub summary_line : Sizes → List ℕ
-summary_line sizes = line (codes "summary: " ++ decimal sizes.records ++ codes " entries, " ++ decimal sizes.bytes ++ codes " bytes")
+summary_line sizes = line (codes "summary: " ++ decimal sizes.records ++ codes " entries, " ++ decimal sizes.bytes
+    ++ codes " bytes")
 
 -- the last line of every command that writes an archive
 abbrev pub archive_line : Sizes → List ℕ

@@ -21,8 +21,10 @@ taken_text Skipped = codes "skipped"
 
 -- a slice of a file
 unfoldable pub admit_row_text : AdmitRow → List ℕ
-admit_row_text row = codes "file " ++ decimal row.file ++ codes " slice " ++ decimal row.slice ++ codes " " ++ taken_text row.taken
+admit_row_text row = codes "file " ++ decimal row.file ++ codes " slice " ++ decimal row.slice ++ codes " "
+    ++ taken_text row.taken
 
 -- how much was written
 unfoldable pub sizes_text : Sizes → List ℕ
-sizes_text sizes = codes "archive: " ++ decimal sizes.records ++ codes " records, " ++ decimal sizes.bytes ++ codes " bytes"
+sizes_text sizes = codes "archive: " ++ decimal sizes.records ++ codes " records, " ++ decimal sizes.bytes
+    ++ codes " bytes"

@@ -119,7 +119,8 @@ fn group_len(rows: &[FindRow], key: &SliceKey) -> usize
 
 // Writes a line a row.
 fn push_rows(text: &mut String<Heap>, form: KeyForm, rows: &[FindRow]) -> Result<(), NoMemory>
-    ensures { OnOk result (string_bytes text.new ≡ string_bytes text.old ++ flat_map (λ row. line (find_row_text form row)) rows.now) }
+    ensures { OnOk result (string_bytes text.new
+        ≡ string_bytes text.old ++ flat_map (λ row. line (find_row_text form row)) rows.now) }
 {
     'rows: for row in rows {
         let row = Row { form, row: *row };

@@ -9,6 +9,7 @@ use crate::faults::{CallFault, CaseFault};
 use crate::images::{tell_fat, tell_image, tell_kind, tell_named, tell_nearest, tell_slice};
 use crate::pairs::tell_pairs;
 use crate::parts::{bytes_of, number};
+use crate::streams::{Failing, tell_reading, tell_writing};
 use crate::subjects::{Act, ArchiveAct, Change, SiteAct};
 use archive_core::{Archive, PlainArchive};
 use archive_index::IndexedArchive;
@@ -31,6 +32,10 @@ pub enum Call<'t> {
     Summary,
     /// The number of the pairs, and the seed.
     Pairs(&'t str),
+    /// How a reader of std fails, and the number of bytes that are asked for at a time.
+    Reading(&'t str),
+    /// How a writer of std fails, and the number of bytes that are given at a time.
+    Writing(&'t str),
     /// What is asked, behind the name of what the call is given, if it is given something.
     OnArchive(ArchiveAct, &'t str),
     /// The name of the archive that a site has saved, the call, the name of what it is given, and what is asked.
@@ -61,6 +66,8 @@ impl<'t> Task<'t> {
             "operations" => Call::Operations,
             "summary" => Call::Summary,
             "pairs" => Call::Pairs(rest),
+            "reading" => Call::Reading(rest),
+            "writing" => Call::Writing(rest),
             "ask" => Call::OnArchive(ArchiveAct::Ask, rest),
             "take" => Call::OnArchive(ArchiveAct::Take, rest),
             "take-each" => Call::OnArchive(ArchiveAct::TakeEach, rest),
@@ -132,6 +139,14 @@ impl<'a> Desk<'a> {
                 let (pairs, seed) = first_word(words);
                 tell_pairs::<A>(self.alloc, bytes, number(pairs)?, number(seed)?, told)
             }
+            Call::Reading(words) => {
+                let (failing, size) = failing_of(words)?;
+                tell_reading(self.alloc, bytes, failing, size, told)
+            }
+            Call::Writing(words) => {
+                let (failing, size) = failing_of(words)?;
+                tell_writing(self.alloc, bytes, failing, size, told)
+            }
             Call::OnArchive(act, words) => {
                 let change = self.change(bytes, act, words)?;
                 tell_change::<A>(change, self.limits.growths, told)
@@ -187,6 +202,13 @@ impl<'a> Desk<'a> {
         }
         self.bytes(name).ok_or(CaseFault::BadLine)
     }
+}
+
+// How a stream fails, and how many bytes move at a time.
+fn failing_of(words: &str) -> Result<(Failing, usize), CaseFault> {
+    let (failing, size) = first_word(words);
+    let failing = Failing::of_word(failing).ok_or(CaseFault::BadLine)?;
+    Ok((failing, number(size)? as usize))
 }
 
 // The first word, and the rest.

@@ -16,7 +16,15 @@
 //!   either archive. A refused run leaves its report empty and OUT empty or whole; one that writes as it reads leaves a
 //!   beginning.
 //!
-//! The program, whose report stands behind `|`:
+//! Files of the system, in a folder of this run's own:
+//!
+//! - `lay NAME..` writes files in memory to the folder; `fetch NAME` reads one of the folder into memory, and tells the
+//!   number of its bytes, or that it is not there;
+//! - `link hard NEW OLD` and `link soft NEW OLD` make a link to a file of the folder;
+//! - `program WORD..` carries a command line out over files of the system, and tells the report, the fault and the
+//!   status. A word that begins with `@` names a file of the folder.
+//!
+//! The program over files in memory, whose report stands behind `|`:
 //!
 //! - `plan WORD..` tells what a command line asks for, or why it is refused; `-` stands for no words;
 //! - `run WORD..` carries a command line out, and tells the report, the length and the SHA-256 of OUT, the fault and
@@ -37,7 +45,14 @@
 //! - `whole NAME`, `operations NAME`, `summary NAME`: an archive's text, operations and a summary, read to their ends:
 //!   `2 records, 2 entries`, where the entries are those of its summary, `3 operations`, `2 entries`;
 //! - `pairs IMAGE N SEED`: N random pairs of archives, made of an image, which are merged as they come and joined as
-//!   values: the length and the SHA-256 of all that was merged.
+//!   values: the length and the SHA-256 of all that was merged;
+//! - `reading NAME FAILING N`: four pulls of N bytes from a reader of std over a file, of which the second call fails:
+//!   `moved 1` or `failed` for each, and the number of the reader's calls. FAILING is `interrupted`, `other`, `idle`
+//!   (it moves no byte) or `never`;
+//! - `writing NAME FAILING N`: a file, pushed in pieces of N bytes to a writer of std that fails so, and what that has
+//!   then;
+//! - `room N`: what memory with N growths holds: the numbers that one vector takes, and which of three vectors take
+//!   one, before and after a growth more is granted.
 //!
 //! Calls that may change an archive. Behind what each gives stand the length and the SHA-256 of the text of what is
 //! held then, of a site also of what it saved, and the answers to the questions; `questions` has the forms of QUESTION:
@@ -48,8 +63,8 @@
 //!   else `covered`; then `2 records`;
 //! - `join ARCHIVE OTHER QUESTION..`: an archive before and after it is joined with another: `2 records, all of the
 //!   other: no`;
-//! - `take-each ARCHIVE OPS QUESTION..`, `absorb ARCHIVE OTHER QUESTION..`: the same, with the operations taken together,
-//!   `2 new`, and the other archive joined by value;
+//! - `take-each ARCHIVE OPS QUESTION..`, `absorb ARCHIVE OTHER QUESTION..`: the same, with the operations taken
+//!   together, `2 new`, and the other archive joined by value;
 //! - `site HELD SAVED CALL INPUT QUESTION..`: a call of a site that saved the archive SAVED, and holds HELD beside it:
 //!   `take`, `retire` (the slice that INPUT is), `full`, `ask`, `reply`, `deliver`, `save` or `stop`; `-` stands for no
 //!   INPUT.
@@ -68,6 +83,8 @@ use crate::commands::out_of;
 use crate::desk::{Desk, Tried};
 use crate::ends::Left;
 use crate::faults::CaseFault;
+use crate::folder::Folder;
+use crate::growths::tell_room;
 use crate::limits::{Front, Limits, Sweep};
 use crate::parts::{bytes_of, number};
 use crate::store::Store;
@@ -76,6 +93,7 @@ use crate::tellings::{tell_left, tell_line_fault, tell_same};
 use command_line::{LineFault, Plan, plan};
 use memory::NoMemory;
 use std::alloc::Global;
+use std::rt::Files;
 
 // How often the next case is carried out.
 #[derive(Clone, Copy)]
@@ -95,7 +113,12 @@ struct Bench<'t> {
 }
 
 /// Carries out the cases of a text, and tells what came of each. One that cannot be carried out is passed over.
-pub fn carry_out(alloc: Global, text: &str, told: &mut String) -> Result<(), NoMemory> {
+pub fn carry_out<R: Files + AllocGlobal>(
+    alloc: Global,
+    folder: &Folder<'_, R>,
+    text: &str,
+    told: &mut String,
+) -> Result<(), NoMemory> {
     let mut bench = Bench {
         alloc,
         store: Store::new(alloc),
@@ -107,7 +130,7 @@ pub fn carry_out(alloc: Global, text: &str, told: &mut String) -> Result<(), NoM
             continue;
         }
         writeln!(told, "{line}")?;
-        if let Err(fault) = bench.read_line(line, told) {
+        if let Err(fault) = bench.read_line(line, folder, told) {
             writeln!(told, "  WRONG: not carried out, {fault:?}")?;
         }
     }
@@ -115,7 +138,12 @@ pub fn carry_out(alloc: Global, text: &str, told: &mut String) -> Result<(), NoM
 }
 
 impl<'t> Bench<'t> {
-    fn read_line(&mut self, line: &'t str, told: &mut String) -> Result<(), CaseFault> {
+    fn read_line<R: Files + AllocGlobal>(
+        &mut self,
+        line: &'t str,
+        folder: &Folder<'_, R>,
+        told: &mut String,
+    ) -> Result<(), CaseFault> {
         if line.is_empty() || line.starts_with('#') {
             return Ok(());
         }
@@ -126,6 +154,11 @@ impl<'t> Bench<'t> {
             "same" => self.compare(words, told),
             "hold" => self.hold(words),
             "each" => self.sweep(words),
+            "lay" => folder.lay(&self.store, words),
+            "fetch" => folder.fetch(&mut self.store, words, told),
+            "link" => folder.link(words),
+            "program" => folder.run(words, told),
+            "room" => Ok(tell_room(self.alloc, number(words)?, told)?),
             "plan" => self.plan(words, told),
             "run" => self.run(words, told),
             _ => self.carry(Task::of_verb(verb, words)?, None, told),

@@ -9,13 +9,15 @@ use macho_image::ImageFault;
 use macho_symbols::SymbolFault;
 use memory::NoMemory;
 use std::alloc::AllocFailed;
-use std::fmt;
+use std::{fmt, io};
 
 /// Why a case is not carried out.
 #[derive(Clone, Copy, Debug, PartialEq, Eq)]
 pub enum CaseFault {
     /// Its line has another form, or names bytes that are not there.
     BadLine,
+    /// The system refused a call on files.
+    System,
     /// Memory was wanting.
     OutOfMemory,
 }
@@ -44,6 +46,12 @@ impl From<NoMemory> for CaseFault {
 impl<T: Drop> From<AllocFailed<T>> for CaseFault {
     fn from(_refused: AllocFailed<T>) -> CaseFault {
         CaseFault::OutOfMemory
+    }
+}
+
+impl From<io::Error> for CaseFault {
+    fn from(_refused: io::Error) -> CaseFault {
+        CaseFault::System
     }
 }
 

@@ -1,11 +1,12 @@
 //! `rows`: worked rows, carried out over devices in memory.
 //!
 //! It reads cases from standard input, carries each out through the line reader and the engines of the commands, or by
-//! a call below them, and compares what comes of it with the lines behind the case. Where all is as it stands there it
-//! says so, and else it prints what came.
+//! a call below them, over memory or over files of the system, and compares what comes of it with the lines behind the
+//! case. Where all is as it stands there it says so, and else it prints what came.
 //!
 //! - `faults`: why a case is not carried out, or a call is refused;
 //! - `store`: files in memory;
+//! - `folder`: files of the system;
 //! - `parts`, `counters`, `addresses`: the bytes and the addresses that words of a case spell;
 //! - `limits`: what devices give and take, and how far a sweep goes;
 //! - `desk`: what a case goes over;
@@ -14,6 +15,7 @@
 //! - `images`, `archives`: calls that read bytes, carried out;
 //! - `questions`: what is asked of an archive;
 //! - `subjects`, `changes`: calls that may change an archive, and what they leave where memory is refused;
+//! - `streams`, `growths`: streams of std that fail, and memory that is refused;
 //! - `pairs`: random pairs of archives, merged and joined;
 //! - `calls`: calls below the commands;
 //! - `outcomes`, `sweeps`: one case at each place of a device;
@@ -31,6 +33,8 @@ mod counters;
 mod desk;
 mod ends;
 mod faults;
+mod folder;
+mod growths;
 mod images;
 mod limits;
 mod outcomes;
@@ -38,10 +42,12 @@ mod pairs;
 mod parts;
 mod questions;
 mod store;
+mod streams;
 mod subjects;
 mod sweeps;
 mod tellings;
 
+use folder::Folder;
 use std::io;
 use std::process::ExitCode;
 
@@ -75,8 +81,13 @@ fn main(rt: HostRuntime) -> ExitCode {
     let Ok(text) = io::read_to_string(rt.alloc(), rt.reader()) else {
         return ExitCode::FAILURE;
     };
+    let Ok(folder) = Folder::create(&rt) else {
+        return ExitCode::FAILURE;
+    };
     let mut told = String::new(rt.alloc());
-    let Ok(()) = cases::carry_out(rt.alloc(), &text, &mut told) else {
+    let carried_out = cases::carry_out(rt.alloc(), &folder, &text, &mut told);
+    let removed = folder.remove();
+    let (Ok(()), Ok(())) = (carried_out, removed) else {
         let _ = rt.print(&told);
         return ExitCode::FAILURE;
     };

@@ -45,8 +45,8 @@ fn tell_end(end: End, told: &mut String) -> Result<(), NoMemory> {
     }
 }
 
-// Tells a report, which is a text of ASCII, wherever it is cut.
-fn tell_report(report: &[u8], told: &mut String) -> Result<(), NoMemory> {
+/// Tells a report, which is a text of ASCII, wherever it is cut.
+pub fn tell_report(report: &[u8], told: &mut String) -> Result<(), NoMemory> {
     match str::from_utf8(report) {
         Ok(text) => tell_lines(text, told),
         Err(_) => writeln!(told, "  WRONG: a report that is no text"),

@@ -1,0 +1,125 @@
+//! Files of the system, in a folder of this run's own.
+
+use crate::ends::refused_status;
+use crate::faults::CaseFault;
+use crate::store::Store;
+use crate::tellings::{tell_line_fault, tell_report};
+use archive_commands::{Failure, Status};
+use byte_device::Grown;
+use command_line::{LineFault, Plan, plan};
+use file_commands::execute;
+use memory::{Heap, NoMemory};
+use std::os::unix::fs::symlink;
+use std::rt::Files;
+use std::{fs, io, process};
+
+/// A folder, whose files a command line names by words that begin with `@`.
+#[derive(Drop)]
+pub struct Folder<'a, R> {
+    rt: &'a R,
+    path: String,
+}
+
+impl<'a> Folder<'a, HostRuntime> {
+    /// An empty folder, which no other run has.
+    pub fn create(rt: &'a HostRuntime) -> io::Result<Self> {
+        let id = process::id(rt.process());
+        let path = format!(in rt.alloc(); "/tmp/symarch_rows_{id}")?;
+        if fs::exists(rt, &path)? {
+            fs::remove_dir_all(rt, &path)?;
+        }
+        fs::create_dir(rt, &path)?;
+        Ok(Folder { rt, path })
+    }
+}
+
+impl<'a, R: Files + AllocGlobal> Folder<'a, R> {
+    /// Removes the folder and its files.
+    pub fn remove(&self) -> io::Result<()> {
+        fs::remove_dir_all(self.rt, &self.path)
+    }
+
+    fn path_of(&self, name: &str) -> Result<String, NoMemory> {
+        let path = &self.path;
+        format!(in self.rt.alloc(); "{path}/{name}")
+    }
+
+    /// Writes files in memory to the folder.
+    pub fn lay(&self, store: &Store, names: &str) -> Result<(), CaseFault> {
+        for name in names.split(' ') {
+            fs::write(self.rt, &self.path_of(name)?, store.named(name)?)?;
+        }
+        Ok(())
+    }
+
+    /// Makes a hard or a symbolic link to a file of the folder: `hard NEW OLD`, `soft NEW OLD`.
+    pub fn link(&self, words: &str) -> Result<(), CaseFault> {
+        let (kind, names) = words.split_once(' ').ok_or(CaseFault::BadLine)?;
+        let (new, old) = names.split_once(' ').ok_or(CaseFault::BadLine)?;
+        let new = self.path_of(new)?;
+        let old = self.path_of(old)?;
+        match kind {
+            "hard" => fs::hard_link(self.rt, &old, &new)?,
+            "soft" => symlink(self.rt, &old, &new)?,
+            _ => return Err(CaseFault::BadLine),
+        }
+        Ok(())
+    }
+
+    /// Reads a file of the folder into memory, and tells the number of its bytes, or that it is not there.
+    pub fn fetch(&self, store: &mut Store, name: &str, told: &mut String) -> Result<(), CaseFault> {
+        let path = self.path_of(name)?;
+        if !fs::exists(self.rt, &path)? {
+            writeln!(told, "  not there")?;
+            return Ok(());
+        }
+        let bytes = fs::read(self.rt, &path)?;
+        let len = bytes.len();
+        writeln!(told, "  {len} bytes")?;
+        store.keep(self.rt.alloc(), name, bytes)
+    }
+
+    /// Carries a command line out over files of the folder, and tells the report, the fault and the status.
+    pub fn run(&self, words: &str, told: &mut String) -> Result<(), CaseFault> {
+        match self.planned(words) {
+            Ok(plan) => self.tell_run(&plan, told),
+            Err(fault) => Ok(tell_line_fault(&fault, told)?),
+        }
+    }
+
+    // What the words of a line ask for, which stand behind the program's name.
+    fn planned(&self, words: &str) -> Result<Plan, LineFault> {
+        let mut line = Vec::new(self.rt.alloc());
+        line.push(String::from_str(self.rt.alloc(), "symarch")?)?;
+        for word in words.split(' ') {
+            line.push(match word.strip_prefix('@') {
+                Some(name) => self.path_of(name)?,
+                None => String::from_str(self.rt.alloc(), word)?,
+            })?;
+        }
+        plan(self.rt.alloc(), &line)
+    }
+
+    fn tell_run(&self, plan: &Plan, told: &mut String) -> Result<(), CaseFault> {
+        let mut report = Grown::new(Heap::new(self.rt.alloc())?);
+        let ended = execute(self.rt, plan, &mut report);
+        tell_report(report.as_slice(), told)?;
+        tell_ended(ended, told)?;
+        Ok(())
+    }
+}
+
+// Tells how a command over files ended.
+fn tell_ended(ended: Result<Status, Failure>, told: &mut String) -> Result<(), NoMemory> {
+    match ended {
+        Ok(Status::Done) => writeln!(told, "  status 0"),
+        Ok(Status::Partial) => writeln!(told, "  status 1"),
+        Err(failure) => {
+            let status = match failure {
+                Failure::Command(fault) => refused_status(fault),
+                Failure::CannotCreate(_) => 2,
+            };
+            writeln!(told, "  {failure}\n  status {status}")
+        }
+    }
+}
