@@ -1,6 +1,6 @@
 //! A plan, carried out.
 
-use crate::queries::{find, list, name, rehearse, symbolicate};
+use crate::queries::{self, find, list, rehearse, symbolicate};
 use crate::updates::{admit, apply, delta, merge, new, retire, summary};
 use archive_commands::{Failure, Status};
 use archive_core::{ArchKey, SliceKey};
@@ -27,30 +27,19 @@ pub fn execute<R: Files + AllocGlobal, P: Sink>(
             uuid,
             arch,
             digest,
-        } => retire(rt, heap, input, out, key_of(uuid, arch), *digest, report),
+        } => retire(rt, heap, input, out, key(uuid, arch), *digest, report),
         Plan::Merge { input, out, files } => merge(rt, heap, input, out, files, report),
         Plan::Apply { input, out, ops } => apply(rt, heap, input, out, ops, report),
         Plan::Find { archive, uuid } => find(rt, heap, archive, uuid, report),
         Plan::List { archive } => list(rt, heap, archive, report),
-        Plan::Name {
-            archive,
-            name: sought,
-        } => name(rt, heap, archive, sought, report),
+        Plan::Name { archive, name } => queries::name(rt, heap, archive, name, report),
         Plan::Symbolicate {
             archive,
             uuid,
             arch,
             load,
             addresses,
-        } => symbolicate(
-            rt,
-            heap,
-            archive,
-            &key_of(uuid, arch),
-            *load,
-            addresses,
-            report,
-        ),
+        } => symbolicate(rt, heap, archive, key(uuid, arch), *load, addresses, report),
         Plan::Summary { archive, out } => summary(rt, heap, archive, out, report),
         Plan::Delta {
             archive,
@@ -62,7 +51,7 @@ pub fn execute<R: Files + AllocGlobal, P: Sink>(
 }
 
 /// The key that a line names.
-fn key_of(uuid: &Uuid, arch: &ArchKey) -> SliceKey {
+fn key(uuid: &Uuid, arch: &ArchKey) -> SliceKey {
     SliceKey {
         uuid: *uuid,
         arch: *arch,

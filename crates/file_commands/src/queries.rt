@@ -55,7 +55,7 @@ pub fn symbolicate<R: Files + AllocGlobal, P: Sink>(
     rt: &R,
     heap: Heap,
     archive: &str,
-    key: &SliceKey,
+    key: SliceKey,
     load: Option<u64>,
     addresses: &[u64],
     report: &mut P,
@@ -64,7 +64,7 @@ pub fn symbolicate<R: Files + AllocGlobal, P: Sink>(
     let status = run_symbolicate::<IndexedArchive, _, _>(
         heap,
         &mut archive,
-        key,
+        &key,
         load,
         addresses,
         report,
