@@ -43,7 +43,8 @@ pub trait Archive: Join<Content = Contents> {
         ensures { Self.content result ≡ set.empty };
 
     /// Takes an operation, and answers whether that changed the content. Refused for want of memory
-    /// alone; the operation is then dropped.
+    /// alone; the operation is then dropped, and a caller that makes the call again has kept a copy
+    /// (`Operation::copy`), or makes it again of the bytes that it came from.
     fn take(&mut self, operation: Operation) -> Result<bool, NoMemory>
         ensures taken { OnOk result (Self.content self.new ≡ with_record (Self.content self.old) (rec operation)) }
         ensures answer { IfOk result (λ changed. changed ≡ changes (Self.content self.old) (rec operation)) }
@@ -91,7 +92,9 @@ pub trait Archive: Join<Content = Contents> {
 }
 
 /// Joins an archive with another one of its type, and takes over what that holds without a copy. Refused for want of
-/// memory alone; a part of `other` may then have been taken in.
+/// memory alone; a part of `other` may then have been taken in, and `other` is dropped. A caller that makes the call again
+/// makes `other` again from where it had it, as by reading its text once more; `laws::contents_join` (`resumed`) says that
+/// this gives what the first call would have given.
 pub fn take_all<A: Archive>(archive: &mut A, other: A) -> Result<(), NoMemory>
     ensures joined { OnOk result (A.content archive.new ≡ joined (A.content archive.old) (A.content other)) }
     ensures refused { OnErr result

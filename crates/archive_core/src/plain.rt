@@ -298,11 +298,13 @@ impl PlainArchive {
 }
 
 impl Join for PlainArchive {
-    ghost use Rattle.std.specs.Prelude.{◌≡◌, true};
+    ghost use Rattle.std.specs.Prelude.{◌≡◌, true, refl};
     ghost use Rattle.std.specs.Cmp.Lexicographic.{nat_list_cmp_total};
     ghost use Rattle.std.specs.FinSet.{nat_cmp-IsAntisymmetric, slice_cmp-IsAntisymmetric};
     ghost use Rattle.join_core.proofs.Subset.{subset_reflexive, subset_transitive, subset_antisymmetric};
-    ghost use Rattle.archive_core.specs.Content.{IsContent, IsBelow};
+    ghost use Rattle.join_core.proofs.Subset.{union_members, union_left, union_right, union_least};
+    ghost use Rattle.archive_core.specs.Record.{IsRecord};
+    ghost use Rattle.archive_core.specs.Content.{IsContent, IsBelow, joined};
 
     type Content = Contents;
 
@@ -318,6 +320,19 @@ impl Join for PlainArchive {
 
     ghost antisymmetric = { λ o p _ _.
         subset_antisymmetric nat_list_cmp_total (slice_cmp-IsAntisymmetric nat_cmp-IsAntisymmetric) o p };
+
+    ghost joins = { λ o p a b. (
+      joined o p,
+      record {
+        content = record {
+          itself = refl;
+          records = union_members nat_list_cmp_total IsRecord o p a.records b.records;
+        };
+        left = union_left nat_list_cmp_total o p;
+        right = union_right nat_list_cmp_total o p;
+        least = λ q _. union_least nat_list_cmp_total o p q;
+      },
+    ) };
 
     fn join(&mut self, other: &Self) -> Result<(), NoMemory> {
         let mut missing = self.copy_missing(&other.operations)?;

@@ -27,8 +27,9 @@ fn take_in_turn<A: Archive>(
 /// Takes operations that come in any order, and answers how many of them were new; one that stands twice is new once.
 /// They are sorted once and taken in together, so that none of them shifts what is there.
 ///
-/// Refused for want of memory alone. Some of the operations may then have been taken, and the call may be made again,
-/// with all of them: `laws::taking_each_resumed` says that it gives what this one would have given.
+/// Refused for want of memory alone. Some of the operations may then have been taken, and the list is dropped. The call
+/// may be made again with all of them, which the caller reads once more from where it had them, as from their file, or
+/// has kept as copies (`Operation::copy`): `laws::taking_each_resumed` says that it gives what this one would have given.
 pub fn take_each<A: Archive + Drop>(
     archive: &mut A,
     mut operations: Vec<Operation, Heap>,

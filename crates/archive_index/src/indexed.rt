@@ -330,11 +330,12 @@ impl IndexedArchive {
 }
 
 impl Join for IndexedArchive {
-    ghost use Rattle.std.specs.Prelude.{◌≡◌, true};
+    ghost use Rattle.std.specs.Prelude.{◌≡◌, true, refl};
     ghost use Rattle.std.specs.Cmp.Lexicographic.{nat_list_cmp_total};
     ghost use Rattle.std.specs.FinSet.{nat_cmp-IsAntisymmetric, slice_cmp-IsAntisymmetric};
     ghost use Rattle.join_core.proofs.Subset.{subset_reflexive, subset_transitive, subset_antisymmetric};
-    ghost use Rattle.archive_core.specs.Content.{IsContent, IsBelow};
+    ghost use Rattle.archive_core.specs.Content.{IsContent, IsBelow, joined};
+    ghost use Rattle.archive_core.proofs.Joined.{joined as least_above};
 
     type Content = Contents;
 
@@ -350,6 +351,8 @@ impl Join for IndexedArchive {
 
     ghost antisymmetric = { λ o p _ _.
         subset_antisymmetric nat_list_cmp_total (slice_cmp-IsAntisymmetric nat_cmp-IsAntisymmetric) o p };
+
+    ghost joins = { λ o p a b. (joined o p, least_above o p (joined o p) a b refl) };
 
     fn join(&mut self, other: &Self) -> Result<(), NoMemory> {
         let mut missing = self.copy_missing(&other.operations)?;

@@ -25,6 +25,10 @@ or_cases : (a b c : Bool) → (a ≡ true → c ≡ true) → (b ≡ true → c 
 or_cases true b c f g h = f refl
 or_cases false b c f g h = g h
 
+either_has : (P : Type 0) (a b : Bool) → (a ≡ true → P) → (b ≡ true → P) → (a || b) ≡ true → P
+either_has P true b f g h = f refl
+either_has P false b f g h = g h
+
 and_parts : (a b : Bool) → (a && b) ≡ true → (a ≡ true) × (b ≡ true)
 and_parts true b h = (refl, h)
 and_parts false b h = absurd (true≢false (sym h))
@@ -48,6 +52,10 @@ module _ {K : Type 0} {R : K → K → Ordering} (o : IsTotalOrder R) where
 
   pub subset_antisymmetric : IsAntisymmetric R → (s t : FinSet R) → is_subset s t ≡ true → is_subset t s ≡ true → s ≡ t
   subset_antisymmetric same s t a b = same_set o same s t (λ q. both_ways (contains s q) (contains t q) (is_subset-contains o s t a q) (is_subset-contains o t s b q))
+
+  -- what each member of two sets has, each of their union has
+  pub union_members : (P : K → Type 0) → (s t : FinSet R) → ((q : K) → contains s q ≡ true → P q) → ((q : K) → contains t q ≡ true → P q) → (q : K) → contains (union s t) q ≡ true → P q
+  union_members P s t a b q h = either_has (P q) (contains s q) (contains t q) (a q) (b q) (sym (contains-union o s t q) ∙ h)
 
   -- and the union is the least bound
   pub union_left : (s t : FinSet R) → is_subset s (union s t) ≡ true

@@ -9,10 +9,23 @@ ghost use Rattle.std.specs.Prelude.{◌≡◌, List, length};
 ghost use Rattle.std.specs.declared.cmp.Ordering.{Ordering};
 ghost use Rattle.std.specs.Cmp.{IsTotalOrder};
 ghost use Rattle.std.specs.FinSet.{FinSet, IsAntisymmetric, len};
-ghost use Rattle.join_core.specs.Bound.{IsLeastAbove};
+ghost use Rattle.join_core.specs.Bound.{IsLeastAbove, IsTowards};
 ghost use Rattle.join_core.specs.Listing.{IsListing, listing};
 
 use crate::Join;
+
+/// Two contents have a join, and where a join of them stopped half way is below it.
+pub fn exists<J: Join>()
+    ensures joined { (x y : J.Content)
+        → J.is_content x
+        → J.is_content y
+        → (joined : J.Content) × IsLeastAbove J.is_content J.below x y joined }
+    ensures stopped { (x y mid : J.Content)
+        → J.is_content x
+        → J.is_content y
+        → IsTowards J.is_content J.below x y mid
+        → (joined : J.Content) × IsLeastAbove J.is_content J.below x y joined × J.below mid joined }
+{}
 
 /// Two contents have one join at most.
 pub fn unique<J: Join>()

@@ -32,6 +32,10 @@ pub trait Join {
             (IsTowards is_content below (content self.old) (content other.now) (content self.new)) };
 
     /// Takes over the content of `other`, without a copy of what it holds. Otherwise as [`join`](Join::join).
+    ///
+    /// A refusal drops `other`, of which a part may have been taken over. So a caller that wants to make the call again
+    /// makes `other` again from where it had it, as by reading its text once more; or it calls `join`, which leaves
+    /// `other` as it was.
     fn absorb(&mut self, other: Self) -> Result<(), NoMemory>
         ensures joined { OnOk result
             (IsLeastAbove is_content below (content self.old) (content other) (content self.new)) }
@@ -49,4 +53,10 @@ pub trait Join {
     ghost transitive: { (x y z : Self.Content) → below x y → below y z → below x z };
 
     ghost antisymmetric: { (x y : Self.Content) → is_content x → is_content y → below x y → below y x → x ≡ y };
+
+    // Each two contents have a join.
+    ghost joins: { (x y : Self.Content)
+        → is_content x
+        → is_content y
+        → (z : Self.Content) × IsLeastAbove is_content below x y z };
 }
