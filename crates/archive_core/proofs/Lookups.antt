@@ -20,7 +20,8 @@ use Rattle.archive_core.specs.Record.{rec, admission_record, retirement_record}
 use Rattle.archive_core.specs.Content.{Operations, IsContent, IsLive, IsAnswering}
 use Rattle.archive_core.specs.Find.{AreAnswering}
 use Rattle.archive_core.specs.InnerHeld.{IsHeld}
-use Rattle.archive_core.specs.InnerScan.{is_key, is_kind, is_live_kind, live_in, live_among, IsTally}
+use Rattle.archive_core.specs.Find.{is_key, is_kind}
+use Rattle.archive_core.specs.InnerScan.{is_live_kind, live_in, live_among, IsTally}
 use Rattle.archive_core.specs.Lookup.{IsOwnRow, own_row}
 use Rattle.archive_core.specs.declared.keys.Digest.{Digest}
 use Rattle.archive_core.specs.declared.keys.SliceKey.{SliceKey}

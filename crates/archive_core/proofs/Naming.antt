@@ -22,7 +22,8 @@ use Rattle.archive_core.specs.Valid.{key_of}
 use Rattle.archive_core.specs.Record.{rec, admission_record, retirement_record, IsOperation}
 use Rattle.archive_core.specs.Content.{Operations}
 use Rattle.archive_core.specs.Names.{NameRecord, key_cmp, place_cmp, name_cmp, name_row, IsNameRow, IsNames, name_view}
-use Rattle.archive_core.specs.InnerNames.{names_in, names_of, names_among}
+use Rattle.archive_core.specs.Names.{names_in}
+use Rattle.archive_core.specs.InnerNames.{names_of, names_among}
 use Rattle.archive_core.specs.Find.{arch_cmp}
 use Rattle.archive_core.specs.InnerHeld.{IsHeld}
 use Rattle.archive_core.specs.declared.names.NameRow.{NameRow}

@@ -1,9 +1,10 @@
 -- What a search for a UUID tells: the retirements and the live slices under it.
-use Rattle.std.specs.Prelude.{◌≡◌, ◌↔◌, ℕ, Bool, true, false, List, ◌==◌, ◌&&◌, if◌then◌else◌, map, count_by, Contains}
+use Rattle.std.specs.Prelude.{◌≡◌, ◌↔◌, ℕ, Bool, true, false, not, List, ◌==◌, ◌&&◌, if◌then◌else◌, map, count_by, Contains}
 use Rattle.std.specs.Ordering.{nat_cmp, on, then_cmp}
 use Rattle.std.specs.declared.cmp.Ordering.{Ordering}
 use Rattle.std.specs.Cmp.Lexicographic.{slice_cmp}
 use Rattle.std.specs.List.Sorted.{IsStrictlySortedBy}
+use Rattle.std.specs.Str.{bytes_eq}
 use Rattle.std.specs.FinSet as set
 use Rattle.sha2.specs.Sha256.{sha256}
 use Rattle.macho_image.specs.Contents.{is_dsym_image}
@@ -77,6 +78,14 @@ is_image Dsym = false
 -- two architectures are one
 abbrev pub is_arch : ArchKey → ArchKey → Bool
 is_arch a b = (a.cputype == b.cputype) && (a.subtype == b.subtype)
+
+-- two keys are one
+abbrev pub is_key : SliceKey → SliceKey → Bool
+is_key a b = bytes_eq a.uuid b.uuid && is_arch a.arch b.arch
+
+-- a slice is a companion, where one is asked for, or else is none
+abbrev pub is_kind : Bool → List ℕ → Bool
+is_kind dsym slice = if dsym then is_dsym_image slice else not (is_dsym_image slice)
 
 -- a row of a live companion of the architecture
 abbrev pub is_dsym_row : ArchKey → FindRow → Bool

@@ -1,19 +1,15 @@
--- What an archive tells of a name as it goes through its operations.
-use Rattle.std.specs.Prelude.{ℕ, List, [], map, if◌then◌else◌}
+-- What an archive tells of a name as it goes through its operations: the words of inner functions. No contract of a
+-- public one has them.
+use Rattle.std.specs.Prelude.{ℕ, List, [], if◌then◌else◌}
 use Rattle.std.specs.List.{flat_map}
 use Rattle.std.specs.FinSet as set
 use Rattle.sha2.specs.Sha256.{sha256}
-use Rattle.macho_symbols.specs.Found.{named}
 use Rattle.archive_core.specs.Valid.{key_of}
 use Rattle.archive_core.specs.Record.{retirement_record}
 use Rattle.archive_core.specs.Content.{Operations}
-use Rattle.archive_core.specs.Names.{NameRecord, name_row}
+use Rattle.archive_core.specs.Names.{NameRecord, names_in}
 use Rattle.archive_core.specs.declared.operations.Operation.{Operation}
 use Rattle.archive_core.specs.declared.operations.Operation.TheVariants.{Admit, Retire}
-
--- the rows of a name in a slice, in the order of its symbol table
-abbrev pub names_in : List ℕ → List ℕ → List NameRecord
-names_in name slice = map (name_row slice) (named slice name)
 
 -- the rows of a name in what an operation admits, unless that is retired
 abbrev pub names_of : Operations → List ℕ → Operation → List NameRecord

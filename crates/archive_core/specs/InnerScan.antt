@@ -5,11 +5,10 @@ use Rattle.std.specs.Prelude.{length, filter_map, ◌&&◌, not, if◌then◌els
 use Rattle.std.specs.Str.{bytes_eq}
 use Rattle.std.specs.FinSet as set
 use Rattle.sha2.specs.Sha256.{sha256}
-use Rattle.macho_image.specs.Contents.{is_dsym_image}
 use Rattle.archive_core.specs.Valid.{key_of}
 use Rattle.archive_core.specs.Record.{retirement_record}
 use Rattle.archive_core.specs.Content.{Operations}
-use Rattle.archive_core.specs.Find.{is_arch}
+use Rattle.archive_core.specs.Find.{is_key, is_kind}
 use Rattle.archive_core.specs.declared.keys.SliceKey.{SliceKey}
 use Rattle.archive_core.specs.declared.operations.Operation.{Operation}
 use Rattle.archive_core.specs.declared.operations.Operation.TheVariants.{Admit, Retire}
@@ -21,14 +20,6 @@ abbrev pub is_finding : Operations → List ℕ → Operation → Bool
 is_finding o uuid (Admit slice) =
     bytes_eq (key_of slice).uuid uuid && not (set.contains o (retirement_record (key_of slice) (sha256 slice)))
 is_finding o uuid (Retire key digest) = bytes_eq key.uuid uuid
-
--- two keys are one
-abbrev pub is_key : SliceKey → SliceKey → Bool
-is_key a b = bytes_eq a.uuid b.uuid && is_arch a.arch b.arch
-
--- companions, or the other slices
-abbrev pub is_kind : Bool → List ℕ → Bool
-is_kind dsym slice = if dsym then is_dsym_image slice else not (is_dsym_image slice)
 
 -- an admitted slice is live under a key, and of the kind
 unfoldable pub is_live_kind : Operations → SliceKey → Bool → List ℕ → Bool

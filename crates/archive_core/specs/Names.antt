@@ -1,5 +1,5 @@
 -- What a search for a name tells: where symbols of that name stand in live slices.
-use Rattle.std.specs.Prelude.{◌≡◌, ◌↔◌, ℕ, List, Contains}
+use Rattle.std.specs.Prelude.{◌≡◌, ◌↔◌, ℕ, List, map, Contains}
 use Rattle.std.specs.Ordering.{nat_cmp, on, then_cmp}
 use Rattle.std.specs.declared.cmp.Ordering.{Ordering}
 use Rattle.std.specs.Cmp.Lexicographic.{slice_cmp}
@@ -46,6 +46,10 @@ name_row slice found = record {
   segment = found.segment;
   section = found.section;
 }
+
+-- the rows of a name in a slice, in the order of its symbol table
+abbrev pub names_in : List ℕ → List ℕ → List NameRecord
+names_in name slice = map (name_row slice) (named slice name)
 
 -- the row of a candidate of the name in a live slice
 pub record IsNameRow (o : Operations) (name : List ℕ) (row : NameRecord) : Type 0 where

@@ -4,7 +4,8 @@ ghost use Rattle.sha2.specs.Sha256.{sha256};
 ghost use Rattle.macho_symbols.specs.Found.{FindsNearest};
 ghost use Rattle.archive_core.specs.Lookup.{IsOwn, IsOwnRow, Alone, file_address, unslid};
 ghost use Rattle.archive_core.specs.Lookup.{own_view, own_row, answer_view};
-ghost use Rattle.archive_core.specs.InnerScan.{IsTally, is_key, is_kind};
+ghost use Rattle.archive_core.specs.Find.{is_key, is_kind};
+ghost use Rattle.archive_core.specs.InnerScan.{IsTally};
 
 use crate::{Answer, Digest, Own, Slice, SliceKey, Where};
 use std::marker::Model;

@@ -5,7 +5,7 @@ ghost use Rattle.sha2.specs.Sha256.{sha256};
 ghost use Rattle.macho_symbols.specs.Views.{found_view};
 ghost use Rattle.archive_core.specs.Valid.{key_of};
 ghost use Rattle.archive_core.specs.Names.{NameRecord, key_cmp, place_cmp, name_cmp, name_row, name_view};
-ghost use Rattle.archive_core.specs.InnerNames.{names_in};
+ghost use Rattle.archive_core.specs.Names.{names_in};
 
 use crate::{Digest, Slice, SliceKey};
 use macho_symbols::Found;

@@ -39,7 +39,7 @@ content_seen o ps = ap (with_records o) (records_seen ps)
 abbrev pub listed : List (List ℕ) → Operations
 listed rs = set.from_list rs
 
-all_in : (rs : List (List ℕ)) → All IsRecord rs → (x : List ℕ) → set.contains (listed rs) x ≡ true → IsRecord x
+pub all_in : (rs : List (List ℕ)) → All IsRecord rs → (x : List ℕ) → set.contains (listed rs) x ≡ true → IsRecord x
 all_in rs all x h = All-contains IsRecord rs x all (Contains-from_any same_bytes x rs (sym (contains-from_list nat_list_cmp_total rs x) ∙ h))
 
 -- a content that gains records is one

@@ -10,6 +10,7 @@ pub mod FaultLaws
 pub mod Texts
 pub mod Scenes
 pub mod Gained
+pub mod Whole
 pub mod Magics
 pub mod Followed
 pub mod Runs

@@ -41,7 +41,7 @@ admitted_alike o images others same =
         (found.0, omega (arith, long ys, lt''), at ys found.0 r image lt'' ∙ ap admission_record found.2 ∙ sym (at xs k r [] lt') ∙ is)
 
 -- what is admitted only adds
-grows : (o : Operations) (images : List (List ℕ)) → IsBelow o (admitted o images)
+pub grows : (o : Operations) (images : List (List ℕ)) → IsBelow o (admitted o images)
 grows o images = subst (IsBelow o) (sym (taken_are_joined o (map admission_record images))) (union_left nat_list_cmp_total o (set.from_list (map admission_record images)))
 
 split : (o : Operations) (k : ℕ) (xs : List (List ℕ)) → admitted (admitted o (take k xs)) (drop k xs) ≡ admitted o xs

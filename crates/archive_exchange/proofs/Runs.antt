@@ -8,8 +8,9 @@ use Rattle.std.specs.declared.option.Option.TheVariants.{Some}
 use Rattle.std.specs.declared.result.Result.TheVariants.{Ok, Err}
 use Rattle.std.proofs.lemmas.Bool.{ltb-true, cases_lt}
 use Rattle.std.proofs.lemmas.Option.{slice_get_past}
-use Rattle.archive_core.specs.Content.{Operations}
+use Rattle.archive_core.specs.Content.{Operations, IsContent}
 use Rattle.archive_core.specs.Record.{IsRecord}
+use Rattle.archive_records.specs.Text.{written}
 use Rattle.exchange_model.specs.World.{World, Event, Take, Retire, Full, Ask, Reply, Deliver, Save, Stop, Outcome, site_of, happens, outcome, start, stepped, state, outcome_of, outcomes}
 use Rattle.exchange_model.specs.Reached.{is_accepted, senders}
 use Rattle.exchange_model.specs.Issued.{issues, AreRecords}
@@ -109,8 +110,15 @@ records_of sites events kept texts told run r issued = elim (cases_lt issued.num
   | inr ge ↦ absurd (true≢false (sym issued.accepted ∙ ap (λ o. is_accepted sites events (senders sites events issued.number) o) (slice_get_past events issued.number ge)))
 ]
 
-pub alike : (o p : Operations) → o ≡ p → AreAlike o p
-alike o p e = let P : Operations → Type 0 = λ q. AreAlike o q in subst P e (record { content = refl; bytes = refl; answers = λ key place answer. (λ h. h, λ h. h) })
+pub alike : (o p : Operations) → IsContent o → o ≡ p → AreAlike o p
+alike o p is e =
+    let P : Operations → Type 0 = λ q. AreAlike o q in
+    subst P e (record {
+      text = (written o, record { content = is; is = refl }, record { content = is; is = refl });
+      lookups = λ key place answer. (λ h. h, λ h. h);
+      finds = λ uuid rows. (λ h. h, λ h. h);
+      names = λ name rows. (λ h. h, λ h. h);
+    })
 
 -- what a site holds is what is held at its number
 pub held_at : (kept : List Keeping) (texts : List (List ℕ)) (w : World) (i : ℕ) (site : Keeping) → Shows kept texts w → slice_get kept i ≡ Some site → site.held ≡ w.held i

@@ -1,12 +1,13 @@
 -- What follows where a text was read, and where a join stopped half way.
-use Rattle.std.proofs.Common.{◌≡◌, ◌≢◌, ℕ, List, ap, ◌∙◌, subst, arith, ◌⊎◌, inl, inr}
+use Rattle.std.proofs.Common.{◌≡◌, ◌≢◌, ℕ, List, refl, ap, ◌∙◌, subst, arith, ◌⊎◌, inl, inr}
 use Rattle.std.specs.declared.option.Option.TheVariants.{Some}
 use Rattle.std.specs.declared.result.Result.{Result}
 use Rattle.std.specs.declared.result.Result.TheVariants.{Ok, Err}
 use Rattle.std.specs.Prelude.{OnErr}
 use Rattle.join_core.specs.Bound.{IsTowards}
 use Rattle.byte_device.specs.Devices.{FailedIn}
-use Rattle.archive_core.specs.Content.{Operations, IsContent, IsBelow}
+use Rattle.archive_core.specs.Content.{Operations, IsContent, IsBelow, joined}
+use Rattle.archive_core.proofs.Joined.{joined as is_join}
 use Rattle.archive_core.specs.Summary.{Entries}
 use Rattle.archive_records.specs.Entry.{AreEntries}
 use Rattle.archive_records.specs.Text.{written, summary_text}
@@ -14,7 +15,7 @@ use Rattle.archive_records.specs.Fault.{IsFault, IsSummaryFault, IsOfText}
 use Rattle.archive_records.specs.Reading.{IsOfMachine}
 use Rattle.archive_records.specs.declared.fault.RecordFault.{RecordFault}
 use Rattle.archive_records.specs.declared.fault.RecordFaultKind.TheVariants.{Device, OutOfMemory}
-use Rattle.archive_exchange.specs.Keeping.{Keeping, Says, IsArchiveText, Names, IsSummaryText, HasJoinedInPart}
+use Rattle.archive_exchange.specs.Keeping.{Keeping, Says, IsArchiveText, IsBetween, Names, IsSummaryText, HasJoinedInPart}
 
 never : FailedIn 0 0 → ⊥
 never f = elim f [ inl lt ↦ omega arith | inr le ↦ omega arith ]
@@ -58,8 +59,12 @@ pub on_err : {T E : Type 0} (P : Type 0) (r : Result T E) → P → OnErr r P
 on_err P (Ok x) p = tt
 on_err P (Err e) p = p
 
-pub towards_by : (text : List ℕ) (old : Keeping) (held : Operations) (saved : List ℕ) (new o : Operations) → record { held = held; saved = saved } ≡ old → Says text o → IsTowards IsContent IsBelow held o new
+-- where a join stopped, the content is between the old one and the join
+pub between_by : (o p mid : Operations) → IsContent o → IsContent p → IsTowards IsContent IsBelow o p mid → IsBetween o mid (joined o p)
+between_by o p mid a b way = record { content = way.content; above_old = way.above_old; below_new = way.below_join (joined o p) (is_join o p (joined o p) a b refl) }
+
+pub towards_by : (text : List ℕ) (old : Keeping) (held : Operations) (saved : List ℕ) (new o : Operations) → record { held = held; saved = saved } ≡ old → IsContent held → Says text o → IsTowards IsContent IsBelow held o new
     → (record { held = new; saved = saved } ≡ old) ⊎ HasJoinedInPart text old (record { held = new; saved = saved })
-towards_by text old held saved new o e says towards =
-    let P : Keeping → Type 0 = λ k. IsTowards IsContent IsBelow k.held o new in
-    inr (record { message = o; says = says; held = subst P e towards; saved = ap (λ (k : Keeping). k.saved) e })
+towards_by text old held saved new o e is says towards =
+    let P : Keeping → Type 0 = λ k. IsBetween k.held new (joined k.held o) in
+    inr (record { message = o; says = says; held = subst P e (between_by held o new is says.content towards); saved = ap (λ (k : Keeping). k.saved) e })

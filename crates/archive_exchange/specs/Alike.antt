@@ -1,14 +1,27 @@
--- What a run of events makes of its sites, and what it is that sites are alike.
-use Rattle.std.specs.Prelude.{◌≡◌, ◌↔◌}
+-- What it is that two contents are alike, and that sites of two runs took the same operations.
+use Rattle.std.specs.Prelude.{◌≡◌, ◌↔◌, ℕ, List, true}
+use Rattle.std.specs.FinSet as set
 use Rattle.archive_core.specs.Content.{Operations}
+use Rattle.archive_core.specs.Find.{IsFinds}
 use Rattle.archive_core.specs.Lookup.{AnswerRecord, IsAnswer}
+use Rattle.archive_core.specs.Names.{NameRecord, IsNames}
+use Rattle.archive_core.specs.declared.find.FindRow.{FindRow}
 use Rattle.archive_core.specs.declared.keys.SliceKey.{SliceKey}
 use Rattle.archive_core.specs.declared.lookup.Where.{Where}
-use Rattle.archive_records.specs.Text.{written}
+use Rattle.exchange_model.specs.World.{Event}
+use Rattle.exchange_model.specs.Reached.{reached}
+use Rattle.archive_exchange.specs.Keeping.{Says}
 
--- two contents are alike: they are the same, have the same bytes, and give the same answer to every lookup
+-- two contents are alike: one text is that of both, and each lookup, each search for a UUID and each search for a name
+-- finds in the one what it finds in the other
 pub record AreAlike (o p : Operations) : Type 0 where
-  pub content : o ≡ p
-  pub bytes : written o ≡ written p
-  pub answers : (key : SliceKey) (place : Where) (answer : AnswerRecord)
+  pub text : (bytes : List ℕ) × Says bytes o × Says bytes p
+  pub lookups : (key : SliceKey) (place : Where) (answer : AnswerRecord)
       → IsAnswer o key place answer ↔ IsAnswer p key place answer
+  pub finds : (uuid : List ℕ) (rows : List FindRow) → IsFinds o uuid rows ↔ IsFinds p uuid rows
+  pub names : (name : List ℕ) (rows : List NameRecord) → IsNames o name rows ↔ IsNames p name rows
+
+-- each operation that reached site i of the one run reached site j of the other, and the other way round
+abbrev pub TookTheSame : {F : Type 0} → ℕ → List (Event F) → ℕ → ℕ → List (Event F) → ℕ → Type 0
+TookTheSame sites events i others later j = (r : List ℕ)
+    → (set.contains (reached sites events i) r ≡ true) ↔ (set.contains (reached others later j) r ≡ true)

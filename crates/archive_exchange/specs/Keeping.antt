@@ -4,7 +4,6 @@ use Rattle.std.specs.Ordering.{nat_cmp}
 use Rattle.std.specs.Cmp.Lexicographic.{slice_cmp}
 use Rattle.std.specs.FinSet as set
 use Rattle.std.specs.Coded.{Coded, code_by, coded×, coded_list, coded_ℕ}
-use Rattle.join_core.specs.Bound.{IsTowards}
 use Rattle.archive_core.specs.Content.{Operations, IsContent, IsBelow, joined}
 use Rattle.archive_records.specs.Entry.{AreEntries}
 use Rattle.archive_records.specs.Text.{written, summary_text}
@@ -35,6 +34,17 @@ pub record Says (text : List ℕ) (o : Operations) : Type 0 where
 abbrev pub IsArchiveText : List ℕ → Type 0
 IsArchiveText text = (o : Operations) × Says text o
 
+-- a site is whole: it holds a content, and the bytes that it saved are the text of one
+pub record IsWhole (site : Keeping) : Type 0 where
+  pub held : IsContent site.held
+  pub saved : IsArchiveText site.saved
+
+-- a content on the way from an old one to a new one: above the one, and below the other
+pub record IsBetween (old mid new : Operations) : Type 0 where
+  pub content : IsContent mid
+  pub above_old : IsBelow old mid
+  pub below_new : IsBelow mid new
+
 -- why a text is not joined: it is no archive's, and this is its fault; or memory was wanted
 abbrev pub IsDeliverFault : List ℕ → DeliverFault → Type 0
 IsDeliverFault text (Refused fault) = IsFault text fault × IsOfText fault.kind × (IsArchiveText text → ⊥)
@@ -47,11 +57,12 @@ pub record HasJoined (text : List ℕ) (old new : Keeping) : Type 0 where
   pub held : new.held ≡ joined old.held message
   pub saved : new.saved ≡ old.saved
 
--- some of the text's operations may have been joined, and what is saved stayed
+-- some of the text's operations may have been joined: what is held is between the old content and the join; and what is
+-- saved stayed
 pub record HasJoinedInPart (text : List ℕ) (old new : Keeping) : Type 0 where
   pub message : Operations
   pub says : Says text message
-  pub held : IsTowards IsContent IsBelow old.held message new.held
+  pub held : IsBetween old.held new.held (joined old.held message)
   pub saved : new.saved ≡ old.saved
 
 -- the text is that of these entries

@@ -1,11 +1,11 @@
 -- The sites and the messages of a rehearsal beside a world of exchange_model, and what an event makes of them.
-use Rattle.std.specs.Prelude.{◌≡◌, ℕ, List, Some, map, slice_get, refl}
+use Rattle.std.specs.Prelude.{◌≡◌, ◌<◌, ◌^◌, ℕ, List, Some, length, map, slice_get, refl}
 use Rattle.std.specs.Coded.{Coded, code_by, coded×, coded_list, coded_ℕ}
 use Rattle.archive_core.specs.Content.{IsContent}
 use Rattle.archive_records.specs.Entry.{AreEntries}
 use Rattle.archive_records.specs.Text.{written, summary_text}
 use Rattle.exchange_model.specs.World.{World, Message, Content, Summary}
-use Rattle.archive_exchange.specs.Keeping.{Keeping, keeping_code}
+use Rattle.archive_exchange.specs.Keeping.{Keeping, keeping_code, IsWhole}
 
 -- what the sites keep, in the order of their numbers, and the texts that were sent, in their order
 pub record Scene : Type 0 where
@@ -17,6 +17,11 @@ abbrev pub scene_code : Coded Scene
 scene_code =
     code_by (List Keeping × List (List ℕ)) (coded× (coded_list keeping_code) (coded_list (coded_list coded_ℕ)))
     (λ s. (s.sites, s.messages)) (λ p. record { sites = p.0; messages = p.1 }) (λ _. refl)
+
+-- these are the sites of a rehearsal: each is whole, and a number of 32 bits counts them
+pub record AreSites (sites : List Keeping) : Type 0 where
+  pub whole : (i : ℕ) (site : Keeping) → slice_get sites i ≡ Some site → IsWhole site
+  pub number : length sites < 2 ^ 32
 
 -- the text of a message: of a content or of a summary
 abbrev pub message_text : Message → List ℕ

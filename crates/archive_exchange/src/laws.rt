@@ -74,7 +74,6 @@ pub fn taking_resumed()
 pub fn delivery_resumed()
     ensures above { (text : List ℕ) (old mid : Keeping) → HasJoinedInPart text old mid → IsBelow old.held mid.held }
     ensures below { (text : List ℕ) (old mid new : Keeping)
-        → IsContent old.held
         → HasJoinedInPart text old mid
         → HasJoined text old new
         → IsBelow mid.held new.held }

@@ -12,13 +12,15 @@
 //! - `message`, `event`: what a site sends, what happens at a site, and what is answered;
 //! - `happening`: what an event does among sites;
 //! - `world`, `running`: what a list of events leaves, and [`run`];
-//! - [`laws`]: what holds of files, and of what their taking makes.
+//! - [`laws`]: what holds of files, and of what their taking makes;
+//! - [`headline`](headline::headline): what all of it comes to, as one law.
 #![tactic(auto)]
 
 mod checking;
 mod event;
 mod fault;
 mod happening;
+pub mod headline;
 pub mod laws;
 mod message;
 mod running;

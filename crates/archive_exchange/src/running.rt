@@ -12,6 +12,7 @@ ghost use Rattle.archive_exchange.specs.Alike.{AreAlike};
 ghost use Rattle.archive_exchange.specs.InnerEvents.{HasRun};
 
 use crate::happening::happen;
+use crate::laws::one_meaning;
 use crate::{Event, Outcome, Site, TakeFault, World};
 use archive_core::Archive;
 use exchange_model::laws::{
@@ -41,6 +42,7 @@ fn rehearse<A: Archive + Drop>(
     ensures has_run { IfOk result (λ done. OfEvents events.now (λ seen.
         HasRun sites seen (length seen) done.0.sites done.0.messages done.1.items)) }
 {
+    one_meaning();
     let mut row = empty_sites(&heap, sites)?;
     let mut messages = Vec::new(heap.clone()?);
     let mut outcomes = Vec::new(heap);

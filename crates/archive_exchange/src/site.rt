@@ -7,7 +7,8 @@ ghost use Rattle.archive_core.specs.Summary.{Entries, summary, delta};
 ghost use Rattle.archive_records.specs.Text.{written, summary_text};
 ghost use Rattle.archive_exchange.specs.File.{IsAcceptedFile, IsTakeFault, admissible, parts};
 ghost use Rattle.archive_exchange.specs.Take.{admitted, taken_rows, HoldsFirstParts};
-ghost use Rattle.archive_exchange.specs.Keeping.{Says, IsArchiveText, IsDeliverFault, HasJoined, HasJoinedInPart};
+ghost use Rattle.archive_exchange.specs.Keeping.{Says, IsWhole, IsBetween};
+ghost use Rattle.archive_exchange.specs.Keeping.{IsDeliverFault, HasJoined, HasJoinedInPart};
 ghost use Rattle.archive_exchange.specs.Keeping.{Names, RepliesTo, IsReplyFault};
 
 use crate::taking::take_accepted;
@@ -89,7 +90,10 @@ fn text_of_delta<A: Archive>(
     }
 }
 
-/// A site: an archive, and the bytes that it saved, which are the text of an archive.
+/// A site: an archive, which holds a content, and the bytes that it saved, which are the text of one.
+///
+/// Each call says that of the site which it leaves (`whole`). So what want of memory leaves of `take_file` and `deliver`
+/// is between the content before the call and the one that was asked for, by their contracts alone.
 #[derive(Drop)]
 pub struct Site<A: Archive> {
     archive: A,
@@ -97,7 +101,7 @@ pub struct Site<A: Archive> {
 }
 
 impl<A: Archive> Model for Site<A> {
-    ghost use Rattle.archive_exchange.specs.Keeping.{Keeping, keeping_code, IsArchiveText};
+    ghost use Rattle.archive_exchange.specs.Keeping.{Keeping, keeping_code, IsWhole};
 
     ghost Value = { Keeping };
 
@@ -105,13 +109,14 @@ impl<A: Archive> Model for Site<A> {
 
     ghost view = { λ site. record { held = A.content site.archive; saved = site.saved.items } };
 
-    ghost invariant = { λ site. IsArchiveText site.saved.items };
+    ghost invariant = { λ site. IsWhole (record { held = A.content site.archive; saved = site.saved.items }) };
 }
 
 impl<A: Archive + Drop> Site<A> {
     /// An empty site, which has saved the empty archive.
     pub fn new(heap: Heap) -> Result<Site<A>, NoMemory>
-        ensures { IfOk result (λ site. site ≡ record { held = set.empty; saved = written set.empty }) }
+        ensures empty { IfOk result (λ site. site ≡ record { held = set.empty; saved = written set.empty }) }
+        ensures whole { IfOk result IsWhole }
     {
         let archive = A::empty(heap.clone()?);
         let saved = archive_text(heap, &archive)?;
@@ -120,7 +125,8 @@ impl<A: Archive + Drop> Site<A> {
 
     /// The archive that the site holds.
     pub fn archive(&self) -> &A
-        ensures { A.content result.now ≡ self.now.held }
+        ensures content { A.content result.now ≡ self.now.held }
+        ensures whole { IsWhole self.now }
     {
         &self.archive
     }
@@ -138,11 +144,14 @@ impl<A: Archive + Drop> Site<A> {
         ensures refused { IfErr result (IsTakeFault file.now) }
         ensures kept { IfErr result (λ fault. fault ≢ TakeFault.OutOfMemory → self.new ≡ self.old) }
         ensures stopped { OnErr result (HoldsFirstParts file.now self.old.held self.new.held) }
+        ensures between { IfErr result (λ fault. fault ≡ TakeFault.OutOfMemory
+            → IsBetween self.old.held self.new.held (admitted self.old.held (admissible file.now))) }
         ensures saved { self.new.saved ≡ self.old.saved }
+        ensures whole { IsWhole self.new }
     {
+        let heap = self.saved.allocator();
         let accepted = check_file(file)?;
-        let heap = self.saved.allocator().clone()?;
-        let rows = take_accepted(&mut self.archive, heap, &accepted)?;
+        let rows = take_accepted(&mut self.archive, heap.clone()?, &accepted)?;
         Ok(rows)
     }
 
@@ -154,6 +163,7 @@ impl<A: Archive + Drop> Site<A> {
         ensures recorded { OnOk result (IsRecord (retirement_record key digest.0)) }
         ensures saved { self.new.saved ≡ self.old.saved }
         ensures refused { OnErr result (self.new ≡ self.old) }
+        ensures whole { IsWhole self.new }
     {
         self.archive.take(Operation::Retire(key, digest))
     }
@@ -171,6 +181,7 @@ impl<A: Archive + Drop> Site<A> {
         ensures held { self.new.held ≡ self.old.held }
         ensures saved { OnOk result (self.new.saved ≡ written self.old.held) }
         ensures stopped { OnErr result ((self.new ≡ self.old) ⊎ (self.new.saved ≡ written self.old.held)) }
+        ensures whole { IsWhole self.new }
     {
         self.save()?;
         text_of_summary(self.saved.allocator().clone()?, &self.archive)
@@ -201,6 +212,7 @@ impl<A: Archive + Drop> Site<A> {
         ensures refused { IfErr result (IsDeliverFault message.now) }
         ensures kept { IfErr result (λ fault. fault ≢ DeliverFault.OutOfMemory → self.new ≡ self.old) }
         ensures stopped { OnErr result ((self.new ≡ self.old) ⊎ HasJoinedInPart message.now self.old self.new) }
+        ensures whole { IsWhole self.new }
     {
         let other: A = archive_in(self.saved.allocator().clone()?, message)?;
         take_all(&mut self.archive, other)?;
@@ -212,6 +224,7 @@ impl<A: Archive + Drop> Site<A> {
         ensures held { self.new.held ≡ self.old.held }
         ensures saved { OnOk result (self.new.saved ≡ written self.old.held) }
         ensures refused { OnErr result (self.new ≡ self.old) }
+        ensures whole { IsWhole self.new }
     {
         self.saved = archive_text(self.saved.allocator().clone()?, &self.archive)?;
         Ok(())
@@ -222,6 +235,7 @@ impl<A: Archive + Drop> Site<A> {
         ensures held { OnOk result (Says self.old.saved self.new.held) }
         ensures saved { self.new.saved ≡ self.old.saved }
         ensures refused { OnErr result (self.new ≡ self.old) }
+        ensures whole { IsWhole self.new }
     {
         let heap = self.saved.allocator().clone()?;
         // The saved bytes are an archive's text, which is refused for want of memory alone.

@@ -1,5 +1,7 @@
 //! What a rehearsal leaves.
-ghost use Rattle.std.specs.Prelude.{◌≡◌, ◌<◌, ◌^◌, Some, length, slice_get};
+ghost use Rattle.std.specs.Prelude.{◌≡◌, ◌<◌, Some, length, slice_get};
+ghost use Rattle.archive_exchange.specs.Keeping.{IsWhole};
+ghost use Rattle.archive_exchange.specs.Rehearsal.{AreSites};
 
 use crate::Site;
 use crate::message::Message;
@@ -15,8 +17,7 @@ pub struct World<A: Archive> {
 }
 
 impl<A: Archive> Model for World<A> {
-    ghost use Rattle.std.specs.Prelude.{◌<◌, ◌^◌, length};
-    ghost use Rattle.archive_exchange.specs.Rehearsal.{Scene, scene_code};
+    ghost use Rattle.archive_exchange.specs.Rehearsal.{Scene, scene_code, AreSites};
 
     ghost Value = { Scene };
 
@@ -24,13 +25,13 @@ impl<A: Archive> Model for World<A> {
 
     ghost view = { λ world. record { sites = world.sites.items; messages = world.messages.items } };
 
-    ghost invariant = { λ world. length world.sites.items < 2 ^ 32 };
+    ghost invariant = { λ world. AreSites world.sites.items };
 }
 
 impl<A: Archive> World<A> {
     /// The world of these sites and messages.
     pub(crate) fn new(sites: Vec<Site<A>, Heap>, messages: Vec<Message, Heap>) -> World<A>
-        requires { length sites.items < 2 ^ 32 }
+        requires { AreSites sites.items }
         ensures sites { result.sites ≡ sites.items }
         ensures messages { result.messages ≡ messages.items }
     {
@@ -47,7 +48,8 @@ impl<A: Archive> World<A> {
     /// The site of a number.
     pub fn site(&self, number: u32) -> &Site<A>
         requires { number < length self.now.sites }
-        ensures { slice_get self.now.sites number ≡ Some result.now }
+        ensures site { slice_get self.now.sites number ≡ Some result.now }
+        ensures whole { IsWhole result.now }
     {
         &self.sites[number as usize]
     }

@@ -19,7 +19,8 @@ use Rattle.archive_core.specs.Valid.{key_of}
 use Rattle.archive_core.specs.Record.{rec, admission, retirement_record, IsOperation}
 use Rattle.archive_core.specs.Content.{Operations}
 use Rattle.archive_core.specs.InnerHeld.{IsHeld}
-use Rattle.archive_core.specs.InnerScan.{is_key, is_live_kind, live_in, live_among}
+use Rattle.archive_core.specs.Find.{is_key}
+use Rattle.archive_core.specs.InnerScan.{is_live_kind, live_in, live_among}
 use Rattle.archive_core.specs.declared.keys.SliceKey.{SliceKey}
 use Rattle.archive_core.specs.declared.operations.Operation.{Operation}
 use Rattle.archive_core.specs.declared.operations.Operation.TheVariants.{Admit, Retire}

@@ -7,8 +7,8 @@ ghost use Rattle.macho_symbols.specs.Views.{found_view};
 ghost use Rattle.archive_core.specs.Valid.{key_of};
 ghost use Rattle.archive_core.specs.Lookup.{IsOwn, IsOwnRow, own_view, own_row};
 ghost use Rattle.archive_core.specs.Names.{name_view};
-ghost use Rattle.archive_core.specs.InnerNames.{names_in};
-ghost use Rattle.archive_core.specs.InnerScan.{is_kind};
+ghost use Rattle.archive_core.specs.Names.{names_in};
+ghost use Rattle.archive_core.specs.Find.{is_kind};
 ghost use Rattle.archive_index.specs.Tabled.{IsTabledSlice, IsDigestOf};
 ghost use Rattle.archive_index.specs.Tally.{IsTally};
 

@@ -8,12 +8,12 @@ use Rattle.std.specs.Ordering.{nat_cmp}
 use Rattle.std.specs.Cmp.Lexicographic.{slice_cmp, nat_list_cmp_total}
 use Rattle.std.specs.FinSet as set
 use Rattle.std.specs.FinSet.{contains-empty, contains-union}
-use Rattle.archive_core.specs.Content.{Operations, made, joined, IsBelow, IsMade}
+use Rattle.archive_core.specs.Content.{Operations, made, joined, IsContent, IsBelow, IsMade}
 use Rattle.archive_core.specs.Summary.{Entries, delta}
 use Rattle.exchange_model.specs.World.{Event, Take, Retire, Full, Reply, Deliver, operations_of}
 use Rattle.exchange_model.specs.Reached.{is_stop, is_of, saves, stops, is_accepted, senders, carried, message_sent, asked, given}
-use Rattle.exchange_model.specs.Issued.{IsIssued, AreIssued, issues}
-use Rattle.exchange_model.proofs.Content.{made_within, made_again, below_reflexive, below_transitive, joined_left}
+use Rattle.exchange_model.specs.Issued.{IsIssued, AreIssued, AreRecords, issues}
+use Rattle.exchange_model.proofs.Content.{made_empty, made_within, made_again, below_reflexive, below_transitive, joined_left}
 use Rattle.exchange_model.proofs.Between.{and_left, and_right, and_false}
 use Rattle.exchange_model.proofs.Steps.{holding, saving, held_next, saved_next}
 use Rattle.exchange_model.proofs.Reach.{both_by, no_stop_saves}
@@ -145,3 +145,18 @@ module _ {F : Type 0} (sites : ℕ) (events : List (Event F)) where
 
   pub saved_under_held : (n m i : ℕ) → n ≤ m → IsBelow (saving sites events n i) (holding sites events m i)
   saved_under_held n m i h = below_transitive _ _ _ (saved_stays n m i h) (saved_below_held m i)
+
+  saving_content : (n i : ℕ) → IsMade (saving sites events n i)
+  saving_content zero i = made_empty
+  saving_content (suc n) i = subst IsMade (sym (saved_next sites events n i))
+      (elim (saves sites events i n) as (λ a. IsMade (if a then holding sites events n i else saving sites events n i)) [
+        | true ↦ holding_content n i
+        | false ↦ saving_content n i
+      ])
+
+  -- where what was issued are records, what is held and saved are contents
+  pub held_content : (n i : ℕ) → AreRecords sites events → IsContent (holding sites events n i)
+  held_content n i records = record { itself = holding_content n i; records = λ r h. records r ((all_issued n i).0 r h) }
+
+  pub saved_content : (n i : ℕ) → AreRecords sites events → IsContent (saving sites events n i)
+  saved_content n i records = record { itself = saving_content n i; records = λ r h. records r ((all_issued n i).1 r h) }

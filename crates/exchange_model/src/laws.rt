@@ -7,7 +7,7 @@ ghost use Rattle.std.specs.Prelude.{◌≡◌, ◌↔◌, ◌≤◌, ℕ, suc, m
 ghost use Rattle.std.specs.Prelude.{is_none, List, length, map, take, slice_get};
 ghost use Rattle.std.specs.declared.option.Option.{Option};
 ghost use Rattle.std.specs.FinSet as set;
-ghost use Rattle.archive_core.specs.Content.{Operations, IsBelow, made, with_records};
+ghost use Rattle.archive_core.specs.Content.{Operations, IsContent, IsBelow, made, with_records};
 ghost use Rattle.exchange_model.specs.World.{World, Event, Fault, Refused, Skipped, fault_of, effect};
 ghost use Rattle.exchange_model.specs.World.{happens, answer, outcome, state, row_of, rows, records};
 ghost use Rattle.exchange_model.specs.Reached.{is_accepted, senders, message_sent, had, reaching, reached, Reaches};
@@ -93,6 +93,16 @@ pub fn issued_and_kept<F>()
     ensures below { (sites : ℕ) (events : List (Event F)) (n m i : ℕ)
         → n ≤ m
         → IsBelow ((state sites events n).saved i) ((state sites events m).held i) }
+{}
+
+/// Where what was issued are records of operations, what a site holds and has saved are contents.
+pub fn records_make_contents<F>()
+    ensures held { (sites : ℕ) (events : List (Event F)) (n i : ℕ)
+        → AreRecords sites events
+        → IsContent ((state sites events n).held i) }
+    ensures saved { (sites : ℕ) (events : List (Event F)) (n i : ℕ)
+        → AreRecords sites events
+        → IsContent ((state sites events n).saved i) }
 {}
 
 /// Where no two different issued slices have one SHA-256, no two different issued operations have one entry.

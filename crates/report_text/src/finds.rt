@@ -2,7 +2,7 @@
 ghost use Rattle.std.specs.Prelude.{◌≡◌, ◌≤◌, ◌++◌, length, IfOk, OnOk, string_bytes};
 ghost use Rattle.std.specs.List.{prefix_len, flat_map};
 ghost use Rattle.archive_core.specs.Find.{is_dsym_row, is_image_row, answering_count};
-ghost use Rattle.archive_core.specs.InnerScan.{is_key};
+ghost use Rattle.archive_core.specs.Find.{is_key};
 ghost use Rattle.report_text.specs.Report.{line};
 ghost use Rattle.report_text.specs.Finds.{conflict_line, find_row_text, groups_lines, find_lines, list_lines};
 

@@ -15,5 +15,5 @@ sites-preserved g c =
     let P : List Keeping → Type 0 = λ s. Shows s [] start in
     record {
       number = one_longer c.sites.row.items c.push.new.self.items c.in_ok-new.field-0 c.sites.counter c.in_ok-push.ensures.items c.sites.invariant.number;
-      empty = subst P (sym c.in_ok-push.ensures.items) (shown_more c.sites.row.items c.in_ok-new.field-0 c.sites.invariant.empty c.in_ok-new.ensures);
+      empty = subst P (sym c.in_ok-push.ensures.items) (shown_more c.sites.row.items c.in_ok-new.field-0 c.sites.invariant.empty c.in_ok-new.ensures.empty);
     }

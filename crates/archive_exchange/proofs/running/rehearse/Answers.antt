@@ -3,6 +3,7 @@ use Rattle.std.proofs.lemmas.Slice.Zip.{AllZip-long}
 use Rattle.archive_exchange.specs.Seen.{IsSeen}
 use Rattle.std.proofs.lemmas.Option.{slice_get_read}
 use Rattle.archive_exchange.proofs.Runs.{none_run, run_next, run_end}
+use Rattle.archive_exchange.proofs.Whole.{shown_whole}
 use Rattle.archive_exchange.proofs.running.rehearse.Goals as goal
 
 pub events-init : goal.events-init
@@ -23,3 +24,11 @@ pub returns-clause-has_run : goal.returns-clause-has_run
 returns-clause-has_run g c = λ seen are.
     let all : c.events.event-index ≡ length c.args.events.now = omega arith in
     run_end c.args.sites seen c.events.event-index _ _ _ _ _ (c.events.invariant.run seen are) (all ∙ sym (AllZip-long IsSeen c.args.events.now seen are)) c.new.ensures.sites c.new.ensures.messages
+
+pub new-requires : goal.new-requires
+new-requires g c =
+    let meant = c.one_meaning.ensures.some c.args.events.now in
+    record {
+      whole = shown_whole _ _ _ (c.events.invariant.run meant.0 meant.1).shows;
+      number = omega (arith, c.events.invariant.number);
+    }

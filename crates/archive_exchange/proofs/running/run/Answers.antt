@@ -1,14 +1,18 @@
-use Rattle.std.proofs.Common.{◌∙◌}
+use Rattle.std.proofs.Common.{suc, max, sym, ◌∙◌, subst}
+use Rattle.archive_core.specs.Content.{IsContent}
+use Rattle.exchange_model.proofs.Kept.{held_content}
 use Rattle.archive_exchange.proofs.Runs.{records_of, alike, held_at}
 use Rattle.archive_exchange.proofs.running.run.Goals as goal
 
 pub returns-clause-same_operations_same_bytes : goal.returns-clause-same_operations_same_bytes
 returns-clause-same_operations_same_bytes g c = λ seen are i site others later j at same.
-    alike _ _ (held_at _ _ _ i site (c.in_ok-done.ensures.has_run seen are).shows at ∙ c.same_reached.ensures c.args.sites others seen later i j same)
+    let shows = (c.in_ok-done.ensures.has_run seen are).shows in
+    alike _ _ (subst IsContent (sym (held_at _ _ _ i site shows at)) (shows.held i)) (held_at _ _ _ i site shows at ∙ c.same_reached.ensures c.args.sites others seen later i j same)
 
 pub returns-clause-lifted : goal.returns-clause-lifted
 returns-clause-lifted g c = λ seen are i x a r k tell ex. c.delta_lifts.ensures c.args.sites seen i x a r k (records_of c.args.sites seen _ _ _ (c.in_ok-done.ensures.has_run seen are)) tell ex
 
 pub returns-clause-agreed : goal.returns-clause-agreed
 returns-clause-agreed g c = λ seen are i j a r d b s e tell one other quiet also.
-    alike _ _ (c.answered_agree.ensures c.args.sites seen i j a r d b s e (records_of c.args.sites seen _ _ _ (c.in_ok-done.ensures.has_run seen are)) tell one other quiet also)
+    let records = records_of c.args.sites seen _ _ _ (c.in_ok-done.ensures.has_run seen are) in
+    alike _ _ (held_content c.args.sites seen (suc (max d e)) i records) (c.answered_agree.ensures c.args.sites seen i j a r d b s e records tell one other quiet also)

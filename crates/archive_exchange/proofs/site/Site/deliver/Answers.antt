@@ -1,13 +1,15 @@
-use Rattle.std.proofs.Common.{ap, ◌∙◌}
-use Rattle.archive_core.specs.Content.{joined}
+use Rattle.std.proofs.Common.{sym, ap, ◌∙◌, subst}
+use Rattle.archive_core.specs.Content.{IsContent, joined}
 use Rattle.archive_exchange.specs.Keeping.{Keeping}
 use Rattle.archive_exchange.proofs.Texts.{on_err, towards_by}
+use Rattle.archive_exchange.proofs.Gained.{content_joined}
+use Rattle.archive_exchange.proofs.Whole.{whole_as}
 use Rattle.archive_exchange.proofs.site.Site.deliver.Goals as goal
 
 pub returns-in_err-take_all-clause-stopped : goal.returns-in_err-take_all-clause-stopped
 returns-in_err-take_all-clause-stopped g c = on_err _ c.from_residual-in_err-take_all.result
     (towards_by c.args.message.now c.args.self.now (g.A.Join.content c.self.inside.archive) c.self.inside.saved.items (g.A.Join.content c.take_all.new.archive) (g.A.Join.content c.in_ok-other.other)
-    c.self.view_is c.in_ok-other.ensures.says c.in_err-take_all.ensures.refused)
+    c.self.view_is c.self.invariant.held c.in_ok-other.ensures.says c.in_err-take_all.ensures.refused)
 
 pub returns-clause-joined : goal.returns-clause-joined
 returns-clause-joined g c = record {
@@ -16,3 +18,17 @@ returns-clause-joined g c = record {
   held = c.in_ok-take_all.ensures.joined ∙ ap (λ (k : Keeping). joined k.held (g.A.Join.content c.in_ok-other.other)) c.self.view_is;
   saved = ap (λ (k : Keeping). k.saved) c.self.view_is;
 }
+
+pub invariant_of-self-2 : goal.invariant_of-self-2
+invariant_of-self-2 g c =
+    let held = g.A.Join.content c.self.inside.archive in
+    let other = g.A.Join.content c.in_ok-other.other in
+    whole_as held (g.A.Join.content c.take_all.new.archive) c.self.inside.saved.items c.self.invariant
+    (subst IsContent (sym c.in_ok-take_all.ensures.joined) (content_joined held other c.self.invariant.held c.in_ok-other.ensures.says.content))
+
+pub returns-clause-whole : goal.returns-clause-whole
+returns-clause-whole g c =
+    let held = g.A.Join.content c.self.inside.archive in
+    let other = g.A.Join.content c.in_ok-other.other in
+    whole_as held (g.A.Join.content c.take_all.new.archive) c.self.inside.saved.items c.self.invariant
+    (subst IsContent (sym c.in_ok-take_all.ensures.joined) (content_joined held other c.self.invariant.held c.in_ok-other.ensures.says.content))

@@ -1,0 +1,84 @@
+-- What a site holds stays a content, and what want of memory leaves is between two contents.
+use Rattle.std.proofs.Common.{◌≡◌, ℕ, Bool, List, [], ◌∷◌, map, take, slice_index_or, get_or, length, ◌<◌, refl, sym, subst, inl}
+use Rattle.std.specs.Prelude.{Some, slice_get, OnOk, OnErr, IfErr}
+use Rattle.std.specs.List.{All}
+use Rattle.std.specs.declared.result.Result.{Result}
+use Rattle.std.specs.declared.result.Result.TheVariants.{Ok, Err}
+use Rattle.std.proofs.lemmas.Option.{slice_get_read}
+use Rattle.std.proofs.lemmas.List.Elements.{All-map, All-take}
+use Rattle.archive_core.specs.Valid.{IsValid}
+use Rattle.archive_core.specs.Record.{IsRecord, admission_record}
+use Rattle.archive_core.specs.Content.{Operations, IsContent, with_record}
+use Rattle.exchange_model.specs.World.{World}
+use Rattle.exchange_model.proofs.Content.{below_reflexive}
+use Rattle.archive_exchange.specs.File.{IsAcceptedFile, admissible}
+use Rattle.archive_exchange.specs.Accepted.{IsAcceptedAs}
+use Rattle.archive_exchange.specs.InnerTaking.{file_of}
+use Rattle.archive_exchange.specs.declared.checking.AcceptedFile.{AcceptedFile}
+use Rattle.archive_exchange.specs.declared.checking.AcceptedFile.TheVariants.{Thin, Universal}
+use Rattle.archive_exchange.specs.Take.{admitted, HoldsFirstParts}
+use Rattle.archive_exchange.specs.Keeping.{Keeping, IsWhole, IsBetween}
+use Rattle.archive_exchange.specs.Rehearsal.{Scene, AreSites, Shows}
+use Rattle.archive_exchange.proofs.Gained.{all_in, content_gain, recorded_retire}
+use Rattle.archive_exchange.proofs.Resumed.{grows, above_old, below_asked}
+
+-- a site that holds another content, and has saved the same
+pub whole_as : (old new : Operations) (saved : List ℕ) → IsWhole (record { held = old; saved = saved }) → IsContent new → IsWhole (record { held = new; saved = saved })
+whole_as old new saved whole is = record { held = is; saved = whole.saved }
+
+-- a record more
+pub content_taken : {E : Type 0} (r : Result Bool E) (old new : Operations) (x : List ℕ) → IsContent old → IsRecord x → OnOk r (new ≡ with_record old x) → OnErr r (new ≡ old) → IsContent new
+content_taken (Ok b) old new x is recorded taken kept = subst IsContent (sym taken) (content_gain old (x ∷ []) is (recorded_retire 0 x recorded))
+content_taken (Err e) old new x is recorded taken kept = subst IsContent (sym kept) is
+
+-- images more
+content_admitted : (o : Operations) (images : List (List ℕ)) → IsContent o → All IsValid images → IsContent (admitted o images)
+content_admitted o images is valid =
+    content_gain o (map admission_record images) is
+    (all_in (map admission_record images)
+    (All-map IsRecord admission_record images (λ k d lt. inl (record { slice = slice_index_or images k d; valid = valid k d lt; is = refl }))))
+
+-- what a file was accepted as is of its bytes
+pub file_is : (file : List ℕ) (a : AcceptedFile) → IsAcceptedAs file a → file_of a ≡ file
+file_is file (Thin slice) is = is.1
+file_is file (Universal universal) is = is.1
+
+pub content_of_file : (file : List ℕ) (a : AcceptedFile) (o new : Operations) → IsContent o → IsAcceptedFile file → IsAcceptedAs file a → new ≡ admitted o (admissible (file_of a)) → IsContent new
+content_of_file file a o new is accepted as_is all =
+    let P : List ℕ → Type 0 = λ f. new ≡ admitted o (admissible f) in
+    subst IsContent (sym (subst P (file_is file a as_is) all)) (content_admitted o (admissible file) is accepted.valid)
+
+-- where it was taken in part
+parts_of : (file : List ℕ) (o mid : Operations) → IsContent o → IsAcceptedFile file → HoldsFirstParts file o mid → IsBetween o mid (admitted o (admissible file))
+parts_of file o mid is accepted part = record {
+  content = subst IsContent (sym part.content) (content_admitted o (take part.count (admissible file)) is (All-take IsValid part.count (admissible file) accepted.valid));
+  above_old = above_old file o mid part;
+  below_new = below_asked file o mid part;
+}
+
+pub between_parts : (file : List ℕ) (a : AcceptedFile) (o mid : Operations) → IsContent o → IsAcceptedFile file → IsAcceptedAs file a → HoldsFirstParts (file_of a) o mid → IsBetween o mid (admitted o (admissible file))
+between_parts file a o mid is accepted as_is part =
+    let P : List ℕ → Type 0 = λ f. HoldsFirstParts f o mid in
+    parts_of file o mid is accepted (subst P (file_is file a as_is) part)
+
+pub between_none : (o : Operations) (images : List (List ℕ)) → IsContent o → IsBetween o o (admitted o images)
+between_none o images is = record { content = is; above_old = below_reflexive o; below_new = grows o images }
+
+-- whatever the fault
+pub if_err : {T E : Type 0} (P : E → Type 0) (r : Result T E) → ((e : E) → P e) → IfErr r P
+if_err P (Ok x) all = tt
+if_err P (Err e) all = all e
+
+-- the sites of a rehearsal
+pub shown_whole : (sites : List Keeping) (texts : List (List ℕ)) (w : World) → Shows sites texts w → (i : ℕ) (site : Keeping) → slice_get sites i ≡ Some site → IsWhole site
+shown_whole sites texts w sh i site at =
+    let is = sh.each i site at in
+    record {
+      held = subst IsContent (sym is.held) (sh.held i);
+      saved = (w.saved i, record { content = sh.saved i; is = is.saved });
+    }
+
+pub read_whole : (sites : List Keeping) (texts : List (List ℕ)) (scene : Scene) (i : ℕ) (site : Keeping) → AreSites sites → record { sites = sites; messages = texts } ≡ scene → i < length scene.sites → site ≡ get_or sites i site → IsWhole site
+read_whole sites texts scene i site are view lt is =
+    let P : Scene → Type 0 = λ s. i < length s.sites in
+    are.whole i site (slice_get_read sites (length sites) i site refl (subst P (sym view) lt) is)
