@@ -1,74 +1,93 @@
 -- Inputs that are accepted are refused for their devices alone.
-use Rattle.std.proofs.Common.{◌≡◌, ◌≢◌, ℕ, zero, suc, ◌<◌, ◌^◌, List, [], ◌∷◌, Option, Some, Result, Ok, Err, refl, sym, subst, inl, inr}
+use Rattle.std.proofs.Common.{◌≡◌, ℕ, zero, suc, List, [], ◌∷◌, Option, Some, Result, Ok, Err, refl, sym, subst, inl, inr}
 use Rattle.std.specs.Prelude.{IfSome, slice_get}
 use Rattle.std.specs.List.{AllByRecursion, AllZip}
-use Rattle.std.specs.FinSet as set
 use Rattle.archive_core.specs.Content.{Operations, IsContent}
-use Rattle.archive_records.specs.Text.{written}
-use Rattle.archive_records.specs.Fault.{IsFault}
+use Rattle.archive_core.specs.Summary.{Entries}
+use Rattle.archive_core.specs.declared.operations.Operation.{Operation}
+use Rattle.archive_records.specs.Entry.{AreEntries}
+use Rattle.archive_records.specs.Reading.{Meaning, IsMeaning, IsTextOf, IsOfMachine}
+use Rattle.archive_records.specs.Text.{IsOperationsText, summary_text, written}
 use Rattle.archive_records.specs.declared.fault.RecordFault.{RecordFault}
-use Rattle.archive_records.specs.declared.fault.RecordFaultKind.{RecordFaultKind}
-use Rattle.archive_records.specs.declared.fault.RecordFaultKind.TheVariants.{BadMagic, Truncated, BadTag, TooLarge, NotAscending, BadSlice, KeyMismatch, BadCount, Trailing, Device, OutOfMemory}
+use Rattle.archive_records.specs.declared.fault.RecordFaultKind.TheVariants.{OutOfMemory as RecordOutOfMemory}
+use Rattle.archive_records.specs.declared.kind.TextKind.{TextKind}
+use Rattle.archive_records.specs.declared.kind.TextKind.TheVariants.{Archive as ArchiveFile, Operations as OperationsFile, Summary as SummaryFile}
 use Rattle.archive_commands.specs.declared.faults.CannotOpen.{CannotOpen}
 use Rattle.archive_commands.specs.declared.faults.Place.{Place}
+use Rattle.archive_commands.specs.declared.faults.Why.{Why}
+use Rattle.archive_commands.specs.declared.faults.Why.TheVariants.{Record}
 use Rattle.archive_exchange.specs.File.{IsAcceptedFile, IsTakeFault}
 use Rattle.archive_exchange.specs.declared.fault.TakeFault.{TakeFault}
 use Rattle.archive_exchange.specs.declared.fault.TakeFault.TheVariants.{OutOfMemory as TakeOutOfMemory}
-use Rattle.archive_commands.specs.declared.faults.Why.{Why}
 use Rattle.archive_commands.specs.Admit.{admit}
-use Rattle.archive_commands.specs.Inputs.{Reader, reader, IsDeviceFault, IsGiven, IsArchiveRefused, IsFileRefused}
+use Rattle.archive_commands.specs.Apply.{apply}
+use Rattle.archive_commands.specs.Delta.{delta}
+use Rattle.archive_commands.specs.Inputs.{Reader, reader, IsDeviceFault, IsGiven, IsArchiveRefused, IsFileRefused, IsTextRefused}
 
--- a kind that cannot be any other is Device
-is_device : (kind : RecordFaultKind) → (kind ≢ Device → ⊥) → kind ≡ Device
-is_device BadMagic h = absurd (h (λ (e : BadMagic ≡ Device). cc))
-is_device Truncated h = absurd (h (λ (e : Truncated ≡ Device). cc))
-is_device BadTag h = absurd (h (λ (e : BadTag ≡ Device). cc))
-is_device TooLarge h = absurd (h (λ (e : TooLarge ≡ Device). cc))
-is_device NotAscending h = absurd (h (λ (e : NotAscending ≡ Device). cc))
-is_device (BadSlice f) h = absurd (h (λ (e : BadSlice f ≡ Device). cc))
-is_device KeyMismatch h = absurd (h (λ (e : KeyMismatch ≡ Device). cc))
-is_device BadCount h = absurd (h (λ (e : BadCount ≡ Device). cc))
-is_device Trailing h = absurd (h (λ (e : Trailing ≡ Device). cc))
-is_device Device h = refl
-is_device OutOfMemory h = absurd (h (λ (e : OutOfMemory ≡ Device). cc))
+-- what is of the machine, and no want of memory, is the device's
+pub by_device : (fault : RecordFault) (why : Why) → why ≡ Record fault → (fault.kind ≡ RecordOutOfMemory → ⊥) → IsOfMachine fault.kind → IsDeviceFault why
+by_device fault why is other (inl d) = subst IsDeviceFault (sym is) d
+by_device fault why is other (inr m) = absurd (other m)
 
 known : (left : Option (List ℕ)) (bytes : List ℕ) (P : List ℕ → Type 0) → left ≡ Some bytes → IfSome left P → P bytes
 known left bytes P is p = let q : IfSome (Some bytes) P = subst (λ (l : Option (List ℕ)). IfSome l P) is p in q
 
+-- a text of some meaning
+text : {S : Type 0} (kind : TextKind) (left : S → Option (List ℕ)) (failures : S → ℕ) (old new : Result S CannotOpen) (m : Meaning kind) (bytes : List ℕ) (why : Why) → IsMeaning kind m → IsTextOf kind m bytes
+    → IsGiven (reader left failures old new) bytes → IsTextRefused kind (reader left failures old new) why → IsDeviceFault why
+text kind left failures (Err _) new m bytes why is of given refused = absurd given
+text kind left failures (Ok source) new m bytes why is of given refused =
+    let alone = known (left source) bytes (λ t. (other : Meaning kind) → IsMeaning kind other → IsTextOf kind other t → IsOfMachine refused.2.kind) given refused.5.1 in
+    by_device refused.2 why refused.3 refused.4 (alone m is of)
+
+pub archive : {R : Type 0} (input : Reader R) (o : Operations) (why : Why) → IsContent o → IsGiven input (written o) → IsArchiveRefused input why → IsDeviceFault why
+archive input o why content given refused = text ArchiveFile input.left input.failures input.old input.new o (written o) why content refl given refused
+
 -- one of these inputs, at its place
-pub at_place : {S Y : Type 0} (R : Reader S → Y → Type 0) (P : Y → Type 0) (files : List (Reader S)) (texts : List Y) (place : ℕ) (file : Reader S)
+at_place : {S Y : Type 0} (R : Reader S → Y → Type 0) (P : Y → Type 0) (files : List (Reader S)) (texts : List Y) (place : ℕ) (file : Reader S)
     → AllZip R files texts → AllByRecursion P texts → slice_get files place ≡ Some file → (text : Y) × P text × R file text
 at_place R P [] texts place file given good at = cc
 at_place R P (f ∷ files) [] place file given good at = absurd given
 at_place R P (f ∷ files) (text ∷ texts) zero file given good at = let same : f ≡ file = cc in (text, good.0, subst (λ g. R g text) same given.0)
 at_place R P (f ∷ files) (text ∷ texts) (suc place) file given good at = at_place R P files texts place file given.1 good.1 at
 
-module _ (no_fault : (o : Operations) (fault : RecordFault) → IsContent o → set.len o < 2 ^ 64 → IsFault (written o) fault → ⊥) (memory_alone : (file : List ℕ) (fault : TakeFault) → IsAcceptedFile file → IsTakeFault file fault → fault ≡ TakeOutOfMemory) where
-  archive : {R : Type 0} (left : R → Option (List ℕ)) (failures : R → ℕ) (old new : Result R CannotOpen) (o : Operations) (why : Why) → IsContent o → set.len o < 2 ^ 64
-      → IsGiven (reader left failures old new) (written o) → IsArchiveRefused (reader left failures old new) why → IsDeviceFault why
-  archive left failures (Err _) new o why content few given refused = absurd given
-  archive left failures (Ok source) new o why content few given refused =
-      subst IsDeviceFault (sym refused.1)
-      (is_device refused.0.kind (λ other. no_fault o refused.0 content few (known (left source) (written o) (λ text. IsFault text refused.0) given (refused.3 other))))
-
-  file : {S : Type 0} (left : S → Option (List ℕ)) (failures : S → ℕ) (old new : Result S CannotOpen) (text : List ℕ) (why : Why) → IsAcceptedFile text
-      → IsGiven (reader left failures old new) text → IsFileRefused (reader left failures old new) why → IsDeviceFault why
-  file left failures (Err _) new text why accepted given refused = absurd given
-  file left failures (Ok source) new text why accepted given refused =
+module _ (memory_alone : (file : List ℕ) (fault : TakeFault) → IsAcceptedFile file → IsTakeFault file fault → fault ≡ TakeOutOfMemory) where
+  file : {S : Type 0} (left : S → Option (List ℕ)) (failures : S → ℕ) (old new : Result S CannotOpen) (bytes : List ℕ) (why : Why) → IsAcceptedFile bytes
+      → IsGiven (reader left failures old new) bytes → IsFileRefused (reader left failures old new) why → IsDeviceFault why
+  file left failures (Err _) new bytes why accepted given refused = absurd given
+  file left failures (Ok source) new bytes why accepted given refused =
       elim refused [
         | inl p ↦ subst IsDeviceFault (sym p.0) tt
-        | inr p ↦ absurd (p.2 (memory_alone text p.0 accepted (known (left source) text (λ bytes. IsTakeFault bytes p.0) given p.3)))
+        | inr p ↦ absurd (p.2 (memory_alone bytes p.0 accepted (known (left source) bytes (λ b. IsTakeFault b p.0) given p.4)))
       ]
 
-  pub not_refused : {R S : Type 0} (input : Reader R) (files : List (Reader S)) (o : Operations) (texts : List (List ℕ)) (place : Place) (why : Why)
-      → IsContent o → set.len o < 2 ^ 64 → IsGiven input (written o) → AllZip IsGiven files texts → AllByRecursion IsAcceptedFile texts
+  pub admit_refused : {R S : Type 0} (input : Reader R) (files : List (Reader S)) (o : Operations) (texts : List (List ℕ)) (place : Place) (why : Why)
+      → IsContent o → IsGiven input (written o) → AllZip IsGiven files texts → AllByRecursion IsAcceptedFile texts
       → (admit input files).Refuses place why → IsDeviceFault why
-  not_refused input files o texts place why content few given files_given accepted refused =
+  admit_refused input files o texts place why content given files_given accepted refused =
       elim refused [
-        | inl p ↦ archive input.left input.failures input.old input.new o why content few given p.0.1
+        | inl p ↦ archive input o why content given p.0.1
         | inr p ↦
             let first = p.2 in
             let found = at_place IsGiven IsAcceptedFile files texts first.number first.input files_given accepted first.input_is in
             let one = first.input in
             file one.left one.failures one.old one.new found.0 why found.1 found.2 first.refused
       ]
+
+pub apply_refused : {R S : Type 0} (input : Reader R) (ops : Reader S) (o : Operations) (bytes : List ℕ) (operations : List Operation) (place : Place) (why : Why)
+    → IsContent o → IsGiven input (written o) → IsGiven ops bytes → IsOperationsText bytes operations
+    → (apply input ops).Refuses place why → IsDeviceFault why
+apply_refused input ops o bytes operations place why content given ops_given is refused =
+    elim refused [
+      | inl p ↦ archive input o why content given p.0.1
+      | inr p ↦ text OperationsFile ops.left ops.failures ops.old ops.new operations bytes why is.are is ops_given p.2.1
+    ]
+
+pub delta_refused : {R S : Type 0} (input : Reader R) (named : Reader S) (o : Operations) (entries : Entries) (place : Place) (why : Why)
+    → IsContent o → AreEntries entries → IsGiven input (written o) → IsGiven named (summary_text entries)
+    → (delta input named).Refuses place why → IsDeviceFault why
+delta_refused input named o entries place why content are given named_given refused =
+    elim refused [
+      | inl p ↦ archive input o why content given p.0.1
+      | inr p ↦ text SummaryFile named.left named.failures named.old named.new entries (summary_text entries) why are refl named_given p.2.1
+    ]

@@ -10,11 +10,10 @@ pub mod Least
 pub mod Archives
 pub mod Counts
 pub mod OperationLists
-pub mod AcceptedOperations
-pub mod AcceptedSummary
 pub mod Answered
 pub mod Viewed
 pub mod NameTold
 pub mod ListTold
+pub mod FindTold
 pub mod Rehearsed
 pub mod OneRehearsal

@@ -1,11 +1,9 @@
 -- How `merge` of one FILE ends, from what its parts did.
-use Rattle.std.proofs.Common.{◌≡◌, ℕ, List, [], ◌∷◌, length, Option, Some, Result, Ok, Err, refl, sym, ap, ◌∙◌, subst, inl, inr}
+use Rattle.std.proofs.Common.{◌≡◌, ℕ, List, [], ◌∷◌, length, Option, Some, Result, Ok, Err, refl, ap, ◌∙◌, subst, inl, inr}
 use Rattle.archive_core.specs.Content.{Operations, IsContent, joined}
 use Rattle.archive_records.specs.declared.fault.MergeCause.{MergeCause}
 use Rattle.archive_records.specs.declared.fault.MergeCause.TheVariants.{Left, Right, Write}
 use Rattle.archive_records.specs.declared.fault.MergeFault.{MergeFault}
-use Rattle.archive_records.specs.declared.fault.RecordFault.{RecordFault}
-use Rattle.archive_records.specs.declared.fault.RecordFaultKind.TheVariants.{OutOfMemory as RecordOutOfMemory}
 use Rattle.archive_records.specs.declared.writing.Sizes.{Sizes}
 use Rattle.archive_records.specs.Text.{written}
 use Rattle.archive_records.specs.Reading.{IsOfMachine}
@@ -18,12 +16,12 @@ use Rattle.archive_commands.specs.declared.faults.Place.{Place}
 use Rattle.archive_commands.specs.declared.faults.Status.{Status}
 use Rattle.archive_commands.specs.declared.faults.Status.TheVariants.{Done}
 use Rattle.archive_commands.specs.declared.faults.Why.{Why}
-use Rattle.archive_commands.specs.declared.faults.Why.TheVariants.{Record}
 use Rattle.archive_commands.specs.Ends.{Ends, MakesArchive}
 use Rattle.archive_commands.specs.Inputs.{Reader, reader, Unfailed, EachUnfailed, IsGiven, IsDeviceFault, failures_of}
 use Rattle.archive_commands.specs.Merge.{MakesMerged, merge}
 use Rattle.archive_commands.specs.MergeStreams.{EndsStreamed, EndsOfOne, EndsMerge, IsSide, IsTold}
 use Rattle.archive_commands.specs.Outputs.{Writer, writer, Takes, FailsBehind, Reports, report_of, sizes_of}
+use Rattle.archive_commands.proofs.Accepted.{by_device}
 
 module _ {R S W : Type 0} (left : Stream R) (right : Stream S) (out : Stream W) (report : Writer) where
   -- the merge was stopped
@@ -127,10 +125,6 @@ module _ {R S W : Type 0} (left : R → Option (List ℕ)) (failures : R → ℕ
       not_told h = cc
 
 -- ---- accepted inputs
-
-by_device : (fault : RecordFault) (why : Why) → why ≡ Record fault → (fault.kind ≡ RecordOutOfMemory → ⊥) → IsOfMachine fault.kind → IsDeviceFault why
-by_device fault why is other (inl d) = subst IsDeviceFault (sym is) d
-by_device fault why is other (inr m) = absurd (other m)
 
 device_side : {R S W : Type 0} (left : Stream R) (right : Stream S) (out : Stream W) (o p : Operations) (at : Place) (why : Why) (cause : MergeCause) (n : ℕ) → IsContent o → IsContent p → left.bytes left.old ≡ Some (written o) → right.bytes right.old ≡ Some (written p)
     → StopsBy left right out cause n → IsSide cause at why → IsDeviceFault why

@@ -1,13 +1,11 @@
 -- The inputs of a command: what they hold, which are refused, and why.
 use Rattle.std.specs.Prelude.{◌≡◌, ◌≢◌, ℕ, ◌+◌, List, map, take, drop, zip, Option, Some}
-use Rattle.std.specs.Prelude.{None, IfSome, Result, Ok, Err, MatchResult, slice_get, ◌⊎◌}
-use Rattle.std.specs.Io.KnownBytes.{Consumes}
+use Rattle.std.specs.Prelude.{IfSome, Result, Ok, Err, MatchResult, slice_get, ◌⊎◌}
 use Rattle.std.specs.List.{AllByRecursion}
 use Rattle.byte_device.specs.Devices.{FailedIn}
 use Rattle.archive_core.specs.Content.{Operations, IsContent}
 use Rattle.archive_records.specs.Text.{written}
-use Rattle.archive_records.specs.Fault.{IsFaultOf}
-use Rattle.archive_records.specs.Front.{IsLongestLengthOf}
+use Rattle.archive_records.specs.Reading.{Meaning, ReadsWhole}
 use Rattle.archive_records.specs.declared.fault.RecordFault.{RecordFault}
 use Rattle.archive_records.specs.declared.fault.RecordFaultKind.TheVariants.{Device, OutOfMemory as RecordOutOfMemory}
 use Rattle.archive_records.specs.declared.kind.TextKind.{TextKind}
@@ -58,11 +56,6 @@ abbrev pub failures_of : {S : Type 0} → (S → ℕ) → Result S CannotOpen �
 failures_of failures (Ok source) = failures source
 failures_of failures (Err _) = 0
 
--- the bytes that an input has left, where they are known
-abbrev pub left_of : {S : Type 0} → (S → Option (List ℕ)) → Result S CannotOpen → Option (List ℕ)
-left_of left (Ok source) = left source
-left_of left (Err _) = None
-
 -- The input's reader did not fail in the call.
 abbrev pub Unfailed : {S : Type 0} → Reader S → Type 0
 Unfailed input = failures_of input.failures input.new ≡ failures_of input.failures input.old
@@ -79,22 +72,15 @@ IsUntouched input = input.new ≡ input.old
 abbrev pub EachUntouched : {S : Type 0} → List (Reader S) → Type 0
 EachUntouched inputs = AllByRecursion IsUntouched inputs
 
--- The reader failed in the call, and the offset is the one that this relation has of the bytes that came before.
-abbrev pub FailedBehind : {S : Type 0} → (List ℕ → ℕ → Type 0) → Reader S → ℕ → Type 0
-FailedBehind IsOffsetOf input offset =
-    FailedIn (failures_of input.failures input.old) (failures_of input.failures input.new)
-    × (bytes : List ℕ) × Consumes (left_of input.left input.old) (left_of input.left input.new) bytes
-    × IsOffsetOf bytes offset
-
--- why the text of such a file is not read: it was not opened, it has this fault, or the reader failed; the offset is
--- then the length of the longest good front of what came
+-- why the text of such a file is not read: it was not opened; or reading the whole of it, which leaves it open, is
+-- refused for this fault, which is not want of memory
 abbrev pub IsTextRefused : {S : Type 0} → TextKind → Reader S → Why → Type 0
-IsTextRefused kind input why =
+IsTextRefused {S = S} kind input why =
     MatchResult input.old
-    (λ source. (fault : RecordFault) × (why ≡ Record fault) × (fault.kind ≢ RecordOutOfMemory)
-    × (fault.kind ≢ Device → IfSome (input.left source) (λ text. IsFaultOf kind text fault))
-    × (fault.kind ≡ Device → FailedBehind (IsLongestLengthOf kind) input fault.offset))
-    (λ _. why ≡ NotOpened)
+    (λ source. (after : S) × (input.new ≡ Ok after) × (fault : RecordFault) × (why ≡ Record fault)
+    × (fault.kind ≢ RecordOutOfMemory)
+    × ReadsWhole {T = Meaning kind} kind (λ meaning. meaning) input.left input.failures source after (Err fault))
+    (λ _. (why ≡ NotOpened) × IsUntouched input)
 
 -- why an archive is not read
 abbrev pub IsArchiveRefused : {S : Type 0} → Reader S → Why → Type 0
@@ -108,14 +94,14 @@ IsOpsRefused input why = IsTextRefused OperationsFile input why
 abbrev pub IsSummaryRefused : {S : Type 0} → Reader S → Why → Type 0
 IsSummaryRefused input why = IsTextRefused SummaryFile input why
 
--- why a file is not taken: it was not opened, the reader failed, or its bytes have this fault
+-- why a file is not taken: it was not opened, the reader failed, or it did not and its bytes have this fault
 abbrev pub IsFileRefused : {S : Type 0} → Reader S → Why → Type 0
 IsFileRefused input why =
     MatchResult input.old
     (λ source. ((why ≡ CannotRead) × FailedIn (input.failures source) (failures_of input.failures input.new))
-    ⊎ ((fault : TakeFault) × (why ≡ Take fault) × (fault ≢ TakeOutOfMemory)
+    ⊎ ((fault : TakeFault) × (why ≡ Take fault) × (fault ≢ TakeOutOfMemory) × Unfailed input
     × IfSome (input.left source) (λ bytes. IsTakeFault bytes fault)))
-    (λ _. why ≡ NotOpened)
+    (λ _. (why ≡ NotOpened) × IsUntouched input)
 
 -- why a script is not carried out: it was not opened, the reader failed, or it did not and this is wrong with the first
 -- faulty line of its bytes
@@ -198,3 +184,8 @@ IsDeviceFault CannotRead = Unit {0}
 IsDeviceFault (Record fault) = fault.kind ≡ Device
 IsDeviceFault (Take _) = ⊥
 IsDeviceFault (Faulty _ _) = ⊥
+
+-- An archive that is the text of a content is refused for its device alone.
+abbrev pub RefusesDevicesAlone : {R : Type 0} → (Reader R → Place → Why → Type 0) → Type 0
+RefusesDevicesAlone {R = R} Refuses = (archive : Reader R) (o : Operations) (place : Place) (why : Why) → IsContent o
+    → IsGiven archive (written o) → Refuses archive place why → IsDeviceFault why

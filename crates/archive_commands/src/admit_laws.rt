@@ -1,6 +1,6 @@
 //! What the definitions of `admit` say in the words of its user. Each law is the contract of a function that does
 //! nothing but call laws of the crates below.
-ghost use Rattle.std.specs.Prelude.{◌≡◌, ◌↔◌, ◌<◌, ◌+◌, ◌++◌, ◌^◌, ℕ, List, Some, Contains, drop, map, take, slice_get};
+ghost use Rattle.std.specs.Prelude.{◌≡◌, ◌↔◌, ◌+◌, ◌++◌, ℕ, List, Some, Contains, drop, map, take, slice_get};
 ghost use Rattle.std.specs.List.{AllByRecursion, AllZip};
 ghost use Rattle.std.specs.FinSet as set;
 ghost use Rattle.archive_core.specs.Record.{admission_record};
@@ -14,7 +14,6 @@ ghost use Rattle.archive_commands.specs.Admit.{admit, admit_rows, file_rows, ima
 ghost use Rattle.archive_commands.specs.Inputs.{IsDeviceFault, IsGiven, Reader};
 
 use archive_exchange::laws::one_take_fault;
-use archive_records::laws::text_has_no_fault;
 use byte_device::Source;
 
 /// The content that `admit` makes is IN's with the admissions of the files' images, in whatever order and however often
@@ -41,13 +40,11 @@ pub fn accepted_inputs_are_not_refused<R: Source, S: Source>()
     ensures { (input : Reader R) (files : List (Reader S)) (o : Operations) (texts : List (List ℕ)) (place : Place)
         (why : Why)
         → IsContent o
-        → set.len o < 2 ^ 64
         → IsGiven input (written o)
         → AllZip IsGiven files texts
         → AllByRecursion IsAcceptedFile texts
         → (admit input files).Refuses place why
         → IsDeviceFault why }
 {
-    text_has_no_fault();
     one_take_fault();
 }

@@ -1,6 +1,6 @@
 //! What the definitions of `apply` say in the words of its user. Each law is the contract of a function that does
 //! nothing but call other laws.
-ghost use Rattle.std.specs.Prelude.{◌≡◌, ◌↔◌, ◌<◌, ◌≤◌, ◌+◌, ◌^◌, ℕ, List, Contains, length, map};
+ghost use Rattle.std.specs.Prelude.{◌≡◌, ◌↔◌, ◌≤◌, ◌+◌, ℕ, List, Contains, length, map};
 ghost use Rattle.std.specs.FinSet as set;
 ghost use Rattle.archive_core.specs.Content.{Operations, IsContent, IsMade, made, joined, with_records};
 ghost use Rattle.archive_core.specs.Record.{rec};
@@ -11,9 +11,7 @@ ghost use Rattle.archive_commands.specs.declared.faults.Why.{Why};
 ghost use Rattle.archive_commands.specs.Apply.{apply, new_among};
 ghost use Rattle.archive_commands.specs.Inputs.{IsDeviceFault, IsGiven, Reader};
 
-use crate::admit_laws::accepted_inputs_are_not_refused;
 use archive_core::laws::takes_in_any_order;
-use archive_records::laws::operations_have_no_fault;
 use byte_device::Source;
 
 /// The content that `apply` makes is IN's with what the operations make, in whatever order and however often they
@@ -43,13 +41,9 @@ pub fn accepted_operations_are_not_refused<R: Source, S: Source>()
     ensures { (input : Reader R) (ops : Reader S) (o : Operations) (text : List ℕ) (operations : List Operation)
         (place : Place) (why : Why)
         → IsContent o
-        → set.len o < 2 ^ 64
         → IsGiven input (written o)
         → IsGiven ops text
         → IsOperationsText text operations
         → (apply input ops).Refuses place why
         → IsDeviceFault why }
-{
-    accepted_inputs_are_not_refused::<R, R>();
-    operations_have_no_fault();
-}
+{}

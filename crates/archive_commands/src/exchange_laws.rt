@@ -1,7 +1,5 @@
 //! What the definitions of `summary` and `delta` say in the words of their user. Each law is the contract of a function
 //! that does nothing but call other laws.
-ghost use Rattle.std.specs.Prelude.{◌≡◌, ◌<◌, ◌^◌};
-ghost use Rattle.std.specs.FinSet as set;
 ghost use Rattle.archive_core.specs.Content.{Operations, IsContent};
 ghost use Rattle.archive_core.specs.Summary.{Entries};
 ghost use Rattle.archive_records.specs.Entry.{AreEntries};
@@ -9,32 +7,20 @@ ghost use Rattle.archive_records.specs.Text.{summary_text, written};
 ghost use Rattle.archive_commands.specs.declared.faults.Place.{Place};
 ghost use Rattle.archive_commands.specs.declared.faults.Why.{Why};
 ghost use Rattle.archive_commands.specs.Delta.{delta};
-ghost use Rattle.archive_commands.specs.Inputs.{IsDeviceFault, IsGiven, Reader};
+ghost use Rattle.archive_commands.specs.Inputs.{IsDeviceFault, IsGiven, Reader, RefusesDevicesAlone};
 ghost use Rattle.archive_commands.specs.Summary.{summary};
 
-use crate::admit_laws::accepted_inputs_are_not_refused;
-use archive_records::laws::summary_has_no_fault;
 use byte_device::Source;
 
 /// Where ARCHIVE is the text of a content and SUMMARY that of entries, neither is refused but for its device.
 pub fn accepted_exchange_is_not_refused<R: Source, S: Source>()
-    ensures summary { (archive : Reader R) (o : Operations) (place : Place) (why : Why)
-        → IsContent o
-        → set.len o < 2 ^ 64
-        → IsGiven archive (written o)
-        → (summary archive).Refuses place why
-        → IsDeviceFault why }
+    ensures summary { RefusesDevicesAlone {R = R} (λ archive. (summary archive).Refuses) }
     ensures delta { (archive : Reader R) (named : Reader S) (o : Operations) (entries : Entries) (place : Place)
         (why : Why)
         → IsContent o
-        → set.len o < 2 ^ 64
         → AreEntries entries
-        → set.len entries < 2 ^ 64
         → IsGiven archive (written o)
         → IsGiven named (summary_text entries)
         → (delta archive named).Refuses place why
         → IsDeviceFault why }
-{
-    accepted_inputs_are_not_refused::<R, R>();
-    summary_has_no_fault();
-}
+{}

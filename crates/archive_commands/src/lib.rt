@@ -9,8 +9,9 @@
 //! - `publish`: the end of each command;
 //! - `new`, `admit`, `retire`, `merge`, `apply`, `find`, `list`, `name`, `symbolicate`, `summary`, `delta`,
 //!   `rehearse`: a command each;
-//! - [`admit_laws`], [`merge_laws`], [`apply_laws`], [`list_laws`], [`name_laws`], [`symbolicate_laws`],
-//!   [`exchange_laws`], [`rehearse_laws`]: what the definitions of the commands say in the words of their user.
+//! - [`admit_laws`], [`retire_laws`], [`merge_laws`], [`apply_laws`], [`find_laws`], [`list_laws`], [`name_laws`],
+//!   [`symbolicate_laws`], [`exchange_laws`], [`rehearse_laws`]: what the definitions of the commands say in the words
+//!   of their user.
 #![tactic(auto)]
 
 mod admit;
@@ -22,6 +23,7 @@ pub mod exchange_laws;
 mod failures;
 mod faults;
 mod find;
+pub mod find_laws;
 mod list;
 pub mod list_laws;
 mod merge;
@@ -33,6 +35,7 @@ mod publish;
 mod rehearse;
 pub mod rehearse_laws;
 mod retire;
+pub mod retire_laws;
 mod sources;
 mod summary;
 mod symbolicate;

@@ -1,8 +1,7 @@
 //! What the definitions of `merge` say in the words of its user. Each law is the contract of a function that does
 //! nothing but call other laws.
-ghost use Rattle.std.specs.Prelude.{◌≡◌, ◌↔◌, ◌<◌, ◌^◌, ◌++◌, ◌∷◌, [], ℕ, List, Contains, map, Ok, Err};
+ghost use Rattle.std.specs.Prelude.{◌≡◌, ◌↔◌, ◌++◌, ◌∷◌, [], ℕ, List, Contains, map, Ok, Err};
 ghost use Rattle.std.specs.List.{AllByRecursion, AllZip};
-ghost use Rattle.std.specs.FinSet as set;
 ghost use Rattle.archive_core.specs.Content.{Operations, IsBelow, IsContent, made, joined};
 ghost use Rattle.archive_records.specs.Text.{written};
 ghost use Rattle.archive_commands.specs.declared.faults.Place.{Place};
@@ -16,7 +15,6 @@ ghost use Rattle.archive_commands.specs.MergeStreams.{EndsOfOne};
 ghost use Rattle.archive_commands.specs.Outputs.{Writer, writer};
 ghost use Rattle.archive_commands.specs.Merge.{merge, merged, operations_of};
 
-use crate::admit_laws::accepted_inputs_are_not_refused;
 use archive_core::laws::contents_join;
 use byte_device::{Sink, Source};
 
@@ -60,17 +58,12 @@ pub fn accepted_archives_are_not_refused<R: Source, S: Source>()
     ensures { (input : Reader R) (files : List (Reader S)) (o : Operations) (contents : List Operations)
         (place : Place) (why : Why)
         → IsContent o
-        → set.len o < 2 ^ 64
         → AllByRecursion IsContent contents
-        → AllByRecursion (λ p. set.len p < 2 ^ 64) contents
         → IsGiven input (written o)
         → AllZip IsGiven files (map written contents)
         → (merge input files).Refuses place why
         → IsDeviceFault why }
-{
-    accepted_inputs_are_not_refused::<R, R>();
-    accepted_inputs_are_not_refused::<S, S>();
-}
+{}
 
 /// With one FILE `merge` writes and reports the same, where it is not stopped, as if it had read both archives first.
 pub fn both_ways_write_the_same<R: Source, S: Source, W: Sink>()

@@ -1,15 +1,20 @@
-//! What the definition of `name` says in the words of its user. The law is the contract of a function that does nothing
+//! What the definition of `name` says in the words of its user. Each law is the contract of a function that does nothing
 //! but call laws of the crates below.
 ghost use Rattle.std.specs.Prelude.{◌≡◌, ℕ, List};
 ghost use Rattle.archive_core.specs.Content.{Operations, IsContent};
 ghost use Rattle.archive_records.specs.Text.{written};
 ghost use Rattle.archive_commands.specs.declared.faults.Status.{Status};
-ghost use Rattle.archive_commands.specs.Inputs.{IsGiven, Reader};
-ghost use Rattle.archive_commands.specs.Name.{MakesNamed};
+ghost use Rattle.archive_commands.specs.Inputs.{IsGiven, Reader, RefusesDevicesAlone};
+ghost use Rattle.archive_commands.specs.Name.{MakesNamed, name};
 
 use archive_core::laws::one_find_name;
 use archive_records::laws::one_content;
 use byte_device::Source;
+
+/// Where ARCHIVE is the text of a content, it is not refused but for its device.
+pub fn accepted_archive_is_not_refused<R: Source>()
+    ensures { (sought : List ℕ) → RefusesDevicesAlone {R = R} (λ archive. (name archive sought).Refuses) }
+{}
 
 /// Two files that hold the text of one content give the same status and the same report.
 pub fn one_report<R: Source, S: Source>()

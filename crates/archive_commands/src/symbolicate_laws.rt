@@ -5,8 +5,8 @@ ghost use Rattle.archive_core.specs.Content.{Operations, IsContent};
 ghost use Rattle.archive_core.specs.declared.keys.SliceKey.{SliceKey};
 ghost use Rattle.archive_records.specs.Text.{written};
 ghost use Rattle.archive_commands.specs.declared.faults.Status.{Status};
-ghost use Rattle.archive_commands.specs.Inputs.{IsGiven, Reader};
-ghost use Rattle.archive_commands.specs.Symbolicate.{MakesAnswered, TellsAddresses};
+ghost use Rattle.archive_commands.specs.Inputs.{IsGiven, Reader, RefusesDevicesAlone};
+ghost use Rattle.archive_commands.specs.Symbolicate.{MakesAnswered, TellsAddresses, symbolicate};
 
 use archive_core::laws::one_answer;
 use archive_records::laws::one_content;
@@ -22,6 +22,12 @@ pub fn one_telling()
 {
     one_answer();
 }
+
+/// Where ARCHIVE is the text of a content, it is not refused but for its device.
+pub fn accepted_archive_is_not_refused<R: Source>()
+    ensures { (key : SliceKey) (load : Option ℕ) (addresses : List ℕ)
+        → RefusesDevicesAlone {R = R} (λ archive. (symbolicate archive key load addresses).Refuses) }
+{}
 
 /// Two files that hold the text of one content give the same status and the same report.
 pub fn one_report<R: Source, S: Source>()
