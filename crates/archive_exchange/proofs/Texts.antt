@@ -18,7 +18,7 @@ use Rattle.archive_records.specs.declared.fault.RecordFaultKind.TheVariants.{Dev
 use Rattle.archive_exchange.specs.Keeping.{Keeping, Says, IsArchiveText, IsBetween, Names, IsSummaryText, HasJoinedInPart}
 
 never : FailedIn 0 0 → ⊥
-never f = elim f [ inl lt ↦ omega arith | inr le ↦ omega arith ]
+never f = absurd cc
 
 -- why bytes in memory are refused
 pub refused_text : (rest text : List ℕ) (fault : RecordFault) → Some rest ≡ Some text → (fault.kind ≡ Device → FailedIn 0 0) → fault.kind ≢ OutOfMemory
