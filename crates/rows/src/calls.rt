@@ -146,10 +146,6 @@ impl<'a> Desk<'a> {
             Call::Whole => tell_whole::<A>(self.heap()?, &mut self.source(name)?, told),
             Call::Operations => tell_operations(self.heap()?, &mut self.source(name)?, told),
             Call::Summary => tell_summary(self.heap()?, &mut self.source(name)?, told),
-            Call::Pairs(words) => {
-                let (pairs, seed) = first_word(words);
-                tell_pairs::<A>(self.alloc, bytes, number(pairs)?, number(seed)?, told)
-            }
             Call::Reading(words) => {
                 let (failing, size) = failing_of(words)?;
                 tell_reading(self.alloc, bytes, failing, size, told)
@@ -158,20 +154,38 @@ impl<'a> Desk<'a> {
                 let (failing, size) = failing_of(words)?;
                 tell_writing(self.alloc, bytes, failing, size, told)
             }
+            _ => return self.call_on_archives::<A>(call, bytes, told),
+        })
+    }
+
+    // Makes a call on archives, or at sites.
+    fn call_on_archives<A: Archive + Drop>(
+        self,
+        call: Call<'a>,
+        bytes: &'a [u8],
+        told: &mut String,
+    ) -> Result<Result<(), CallFault>, CaseFault> {
+        Ok(match call {
+            Call::Pairs(words) => {
+                let (pairs, seed) = first_word(words);
+                tell_pairs::<A>(self.alloc, bytes, number(pairs)?, number(seed)?, told)
+            }
             Call::OnArchive(act, words) => {
                 let change = self.change(bytes, act, words)?;
                 tell_change::<A>(change, self.limits.growths, told)
-            }
-            Call::Heaps(words) => tell_heaps::<A>(self.texts(bytes, words)?, told),
-            Call::World(sites) => {
-                let script = self.script(bytes)?;
-                let sites = number(sites)? as u32;
-                tell_world::<A>(self.alloc, self.heap()?, &script, sites, told)
             }
             Call::AtSite(words) => {
                 let change = self.change_at_site(bytes, words)?;
                 tell_change::<A>(change, self.limits.growths, told)
             }
+            Call::Heaps(words) => tell_heaps::<A>(self.texts(bytes, words)?, told),
+            Call::World(sites) => {
+                let script = self.script(bytes)?;
+                let sites = u32::try_from(number(sites)?);
+                let sites = sites.ok().ok_or(CaseFault::BadLine)?;
+                tell_world::<A>(self.alloc, self.heap()?, &script, sites, told)
+            }
+            _ => return Err(CaseFault::BadLine),
         })
     }
 

@@ -21,12 +21,14 @@ pub fn first_word(line: &str) -> (&str, &str) {
 pub fn words_of(alloc: Global, line: &str) -> Result<Vec<&str>, NoMemory> {
     let has_quoted = line.contains('"');
     let mut words = Vec::new(alloc);
-    for (place, piece) in line.split('"').enumerate() {
-        if place % 2 == 1 {
+    let mut is_quoted = false;
+    for piece in line.split('"') {
+        if is_quoted {
             words.push(piece)?;
         } else {
             push_cut(&mut words, piece, has_quoted)?;
         }
+        is_quoted = !is_quoted;
     }
     Ok(words)
 }
