@@ -4,6 +4,7 @@
 
 use std::alloc::{AllocError, Allocator, Global};
 use std::cell::Cell;
+use std::mem::size_of;
 use std::rc::Rc;
 
 /// There was no memory for what was asked.
@@ -13,30 +14,41 @@ pub use std::alloc::AllocError as NoMemory;
 pub type Heap = Memory<Global>;
 
 /// A handle to the memory of `B`: it passes each call on, and refuses every growth once its
-/// growths are used up. A clone shares what is left.
+/// growths are used up, and each that asks for more bytes than are left. A clone shares what is left.
 ///
 /// A growth is an allocation, or a block that is made larger, which counts as one growth however
-/// `B` makes it larger. A block that is made smaller, or goes back, is none. The contract of an
-/// allocator does not say when it refuses, so that the count is kept is shown by cases of `rows` and
-/// by no clause.
+/// `B` makes it larger, and asks for all bytes that the block has then. A block that is made smaller, or
+/// goes back, is none, and gives no bytes back. The contract of an allocator does not say when it
+/// refuses, so that growths and bytes are counted is shown by cases of `rows` and by no clause.
 pub struct Memory<B: Allocator> {
     inner: B,
-    growths: Rc<Cell<u64>>,
+    left: Rc<Cell<Allowance>>,
+}
+
+// What is still granted.
+#[derive(Clone, Copy)]
+struct Allowance {
+    growths: u64,
+    bytes: u64,
 }
 
 impl Memory<Global> {
-    /// Memory that refuses only what `global` refuses: it has 2^64 - 1 growths. `NoMemory` where
-    /// there is no room for the count of the growths.
+    /// Memory that refuses only what `global` refuses: it has 2^64 - 1 growths, and as many bytes.
+    /// `NoMemory` where there is no room for their counts.
     pub fn new(global: Global) -> Result<Heap, NoMemory> {
         Heap::with_growths(global, u64::MAX)
     }
 
     /// Memory that grants `growths` growths, fewer where `global` refuses one, and then none.
-    /// `NoMemory` where there is no room for the count of the growths.
+    /// `NoMemory` where there is no room for the counts.
     pub fn with_growths(global: Global, growths: u64) -> Result<Heap, NoMemory> {
+        let left = Allowance {
+            growths,
+            bytes: u64::MAX,
+        };
         Ok(Memory {
             inner: global,
-            growths: Rc::new(global, Cell::new(growths))?,
+            left: Rc::new(global, Cell::new(left))?,
         })
     }
 }
@@ -44,7 +56,14 @@ impl Memory<Global> {
 impl<B: Allocator> Memory<B> {
     /// Grants `growths` growths from here on, to this handle and its clones, in place of what is left.
     pub fn grant(&self, growths: u64) {
-        self.growths.set(growths);
+        let bytes = self.left.get().bytes;
+        self.left.set(Allowance { growths, bytes });
+    }
+
+    /// Grants `bytes` bytes from here on, to this handle and its clones, in place of what is left.
+    pub fn grant_bytes(&self, bytes: u64) {
+        let growths = self.left.get().growths;
+        self.left.set(Allowance { growths, bytes });
     }
 }
 
@@ -52,27 +71,28 @@ impl<B: Allocator + Clone> Clone for Memory<B> {
     fn clone(&self) -> Result<Self, AllocError> {
         Ok(Memory {
             inner: self.inner.clone()?,
-            growths: self.growths.clone()?,
+            left: self.left.clone()?,
         })
     }
 }
 
 impl<B: Allocator> Drop for Memory<B> {
     fn drop(self) {
-        let Self {
-            inner: _,
-            growths: _,
-        } = self;
+        let Self { inner: _, left: _ } = self;
     }
 }
 
-// Whether a growth was left: it is used up now.
-fn take_growth(growths: &Rc<Cell<u64>>) -> bool {
-    let left = growths.get();
-    if left == 0 {
+// Whether a growth to so many items of a size was left: it is used up now, with its bytes.
+fn take_growth(left: &Rc<Cell<Allowance>>, items: usize, size: usize) -> bool {
+    let Allowance { growths, bytes } = left.get();
+    let asked = (items as u64).saturating_mul(size as u64);
+    if growths == 0 || asked > bytes {
         return false;
     }
-    growths.set(left - 1);
+    left.set(Allowance {
+        growths: growths - 1,
+        bytes: bytes - asked,
+    });
     true
 }
 
@@ -80,7 +100,7 @@ unsafe impl<B: Allocator> Allocator for Memory<B> {
     ghost dealloc_token = { λ memory ty ptr. B.dealloc_token memory.inner ty ptr };
 
     fn allocate(&self, size: usize, align: usize) -> Result<*mut u8, AllocError> {
-        if !take_growth(&self.growths) {
+        if !take_growth(&self.left, size, 1) {
             return Err(AllocError);
         }
         self.inner.allocate(size, align)
@@ -97,7 +117,7 @@ unsafe impl<B: Allocator> Allocator for Memory<B> {
         old_cap: usize,
         new_cap: usize,
     ) -> Result<*mut T, AllocError> {
-        if !take_growth(&self.growths) {
+        if !take_growth(&self.left, new_cap, size_of::<T>()) {
             return Err(AllocError);
         }
         self.inner.grow(ptr, len, old_cap, new_cap)

@@ -6,14 +6,19 @@ use crate::changes::tell_change;
 use crate::desk::{Desk, Tried};
 use crate::ends::{End, Left};
 use crate::faults::{CallFault, CaseFault};
+use crate::heaps::{Texts, tell_heaps};
 use crate::images::{tell_fat, tell_image, tell_kind, tell_named, tell_nearest, tell_slice};
 use crate::pairs::tell_pairs;
 use crate::parts::{bytes_of, number};
 use crate::streams::{Failing, tell_reading, tell_writing};
 use crate::subjects::{Act, ArchiveAct, Change, SiteAct};
+use crate::words::first_word;
+use crate::worlds::tell_world;
 use archive_core::{Archive, PlainArchive};
 use archive_index::IndexedArchive;
 use command_line::Plan;
+use memory::Heap;
+use rehearsal::{Script, read_script};
 
 /// A call below the commands, with the words behind the first file's name.
 #[derive(Clone, Copy)]
@@ -38,6 +43,10 @@ pub enum Call<'t> {
     Writing(&'t str),
     /// What is asked, behind the name of what the call is given, if it is given something.
     OnArchive(ArchiveAct, &'t str),
+    /// The name of another archive, and that of operations.
+    Heaps(&'t str),
+    /// The number of sites.
+    World(&'t str),
     /// The name of the archive that a site has saved, the call, the name of what it is given, and what is asked.
     AtSite(&'t str),
 }
@@ -53,7 +62,7 @@ pub enum Task<'t> {
 impl<'t> Task<'t> {
     /// The call that a verb names, over the file that the first of its words names.
     pub fn of_verb(verb: &str, words: &'t str) -> Result<Task<'t>, CaseFault> {
-        let (name, rest) = words.split_once(' ').unwrap_or((words, ""));
+        let (name, rest) = first_word(words);
         let call = match verb {
             "kind" => Call::Kind,
             "fat" => Call::Fat,
@@ -73,6 +82,8 @@ impl<'t> Task<'t> {
             "take-each" => Call::OnArchive(ArchiveAct::TakeEach, rest),
             "join" => Call::OnArchive(ArchiveAct::Join, rest),
             "absorb" => Call::OnArchive(ArchiveAct::Absorb, rest),
+            "heaps" => Call::Heaps(rest),
+            "world" => Call::World(rest),
             "site" => Call::AtSite(rest),
             _ => return Err(CaseFault::BadLine),
         };
@@ -135,10 +146,6 @@ impl<'a> Desk<'a> {
             Call::Whole => tell_whole::<A>(self.heap()?, &mut self.source(name)?, told),
             Call::Operations => tell_operations(self.heap()?, &mut self.source(name)?, told),
             Call::Summary => tell_summary(self.heap()?, &mut self.source(name)?, told),
-            Call::Pairs(words) => {
-                let (pairs, seed) = first_word(words);
-                tell_pairs::<A>(self.alloc, bytes, number(pairs)?, number(seed)?, told)
-            }
             Call::Reading(words) => {
                 let (failing, size) = failing_of(words)?;
                 tell_reading(self.alloc, bytes, failing, size, told)
@@ -146,6 +153,22 @@ impl<'a> Desk<'a> {
             Call::Writing(words) => {
                 let (failing, size) = failing_of(words)?;
                 tell_writing(self.alloc, bytes, failing, size, told)
+            }
+            _ => return self.call_on_archives::<A>(call, bytes, told),
+        })
+    }
+
+    // Makes a call on archives, or at sites.
+    fn call_on_archives<A: Archive + Drop>(
+        self,
+        call: Call<'a>,
+        bytes: &'a [u8],
+        told: &mut String,
+    ) -> Result<Result<(), CallFault>, CaseFault> {
+        Ok(match call {
+            Call::Pairs(words) => {
+                let (pairs, seed) = first_word(words);
+                tell_pairs::<A>(self.alloc, bytes, number(pairs)?, number(seed)?, told)
             }
             Call::OnArchive(act, words) => {
                 let change = self.change(bytes, act, words)?;
@@ -155,6 +178,14 @@ impl<'a> Desk<'a> {
                 let change = self.change_at_site(bytes, words)?;
                 tell_change::<A>(change, self.limits.growths, told)
             }
+            Call::Heaps(words) => tell_heaps::<A>(self.texts(bytes, words)?, told),
+            Call::World(sites) => {
+                let script = self.script(bytes)?;
+                let sites = u32::try_from(number(sites)?);
+                let sites = sites.ok().ok_or(CaseFault::BadLine)?;
+                tell_world::<A>(self.alloc, self.heap()?, &script, sites, told)
+            }
+            _ => return Err(CaseFault::BadLine),
         })
     }
 
@@ -195,6 +226,23 @@ impl<'a> Desk<'a> {
         })
     }
 
+    // Two archives and operations, of which the words say the rest.
+    fn texts(self, one: &'a [u8], words: &'a str) -> Result<Texts<'a>, CaseFault> {
+        let (other, operations) = first_word(words);
+        Ok(Texts {
+            alloc: self.alloc,
+            one,
+            other: self.given(other)?,
+            operations: self.given(operations)?,
+        })
+    }
+
+    // A script that has to be one.
+    fn script(self, text: &[u8]) -> Result<Script, CaseFault> {
+        let script = read_script(Heap::new(self.alloc)?, text);
+        script.ok().ok_or(CaseFault::BadLine)
+    }
+
     // What a call is given: the bytes of a file, or nothing.
     fn given(self, name: &str) -> Result<&'a [u8], CaseFault> {
         if name == "-" {
@@ -209,9 +257,4 @@ fn failing_of(words: &str) -> Result<(Failing, usize), CaseFault> {
     let (failing, size) = first_word(words);
     let failing = Failing::of_word(failing).ok_or(CaseFault::BadLine)?;
     Ok((failing, number(size)? as usize))
-}
-
-// The first word, and the rest.
-fn first_word(words: &str) -> (&str, &str) {
-    words.split_once(' ').unwrap_or((words, ""))
 }

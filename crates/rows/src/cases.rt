@@ -1,5 +1,5 @@
 //! The lines of cases. A case is a line, and what has to come of it stands behind it, in lines that begin with two
-//! spaces.
+//! spaces. A line is cut into words at each space; `words` has the form of a word with spaces, `"-[A b]"`.
 //!
 //! Files in memory, and what holds for the next case alone:
 //!
@@ -7,14 +7,17 @@
 //! - `file NAME PART..` keeps bytes under a name, and tells their number; `parts` has the forms of PART;
 //! - `line NAME TEXT` puts a line of text behind a file, and tells the number of its bytes;
 //! - `same NAME PART..` tells whether a file has these bytes, or where the two differ first;
-//! - `hold pieces N`: inputs give at most N bytes at a time; `hold growths N`: N growths are granted;
+//! - `hold pieces N`: inputs give at most N bytes at a time;
+//! - `hold growths N`: N growths are granted; `hold bytes N`: growths of N bytes in all are granted to a command, or to
+//!   a call that reads;
 //! - `hold out N`, `hold report N`: OUT, or the report, fails when it took N bytes;
 //! - `hold cut NAME N`: a file has its first N bytes alone; `hold read NAME N`: it fails when it gave N bytes;
 //! - `each cut NAME`, `each read NAME`, `each out`, `each report`, `each pieces N` carry the next case out at each
 //!   place, and tell places in a row that have one outcome in one line;
 //! - `each growth` carries it out with 0, 1, .. growths until none is refused, and tells how many runs met a refusal on
 //!   either archive. A refused run leaves its report empty and OUT empty or whole; one that writes as it reads leaves a
-//!   beginning.
+//!   beginning. The first run that meets none ends as with ample memory, be it with a fault of its input. Where no run
+//!   meets one, the sweep shows nothing, and is `WRONG`; that a call takes no memory is shown by `hold growths 0`.
 //!
 //! Files of the system, in a folder of this run's own:
 //!
@@ -22,7 +25,7 @@
 //!   number of its bytes, or that it is not there;
 //! - `link hard NEW OLD` and `link soft NEW OLD` make a link to a file of the folder;
 //! - `program WORD..` carries a command line out over files of the system, and tells the report, the fault and the
-//!   status. A word that begins with `@` names a file of the folder.
+//!   status. A word that begins with `@` names a file of the folder. Of `hold` it heeds `report` alone.
 //!
 //! The program over files in memory, whose report stands behind `|`:
 //!
@@ -30,7 +33,8 @@
 //! - `run WORD..` carries a command line out, and tells the report, the length and the SHA-256 of OUT, the fault and
 //!   the status. OUT is kept as a file where it took bytes.
 //!
-//! Calls below the commands. What one gives stands behind `|`, and its fault in a line of its own, `Truncated at 8`:
+//! Calls below the commands. What one gives stands behind `|`, or is `nothing`, and its fault stands in a line of its
+//! own, `Truncated at 8`:
 //!
 //! - `kind NAME`: the kind of a file;
 //! - `fat NAME`: a universal file, a line for each slice: `slice 0: 28 bytes SHA256`;
@@ -52,7 +56,14 @@
 //! - `writing NAME FAILING N`: a file, pushed in pieces of N bytes to a writer of std that fails so, and what that has
 //!   then;
 //! - `room N`: what memory with N growths holds: the numbers that one vector takes, and which of three vectors take
-//!   one, before and after a growth more is granted.
+//!   one, before and after a growth more is granted; `room-of-bytes N`: how many numbers of 8 bytes one vector takes in
+//!   memory with N bytes;
+//! - `heaps ARCHIVE OTHER OPS`: two archives, each in a memory of its own, one of which is wanting. Operations are copied
+//!   from a memory that is wanting to another one, and then to one that is wanting. The archive joins the other where its
+//!   own memory is wanting, and then where the other's is, and takes the operations; the other takes them where the
+//!   archive's is. And the same of the join by value;
+//! - `world SCRIPT N`: `run` of a script's events on N sites: their number, and the length and the SHA-256 of the text
+//!   that each site holds.
 //!
 //! Calls that may change an archive. Behind what each gives stand the length and the SHA-256 of the text of what is
 //! held then, of a site also of what it saved, and the answers to the questions; `questions` has the forms of QUESTION:
@@ -66,12 +77,12 @@
 //! - `take-each ARCHIVE OPS QUESTION..`, `absorb ARCHIVE OTHER QUESTION..`: the same, with the operations taken
 //!   together, `2 new`, and the other archive joined by value;
 //! - `site HELD SAVED CALL INPUT QUESTION..`: a call of a site that saved the archive SAVED, and holds HELD beside it:
-//!   `take`, `retire` (the slice that INPUT is), `full`, `ask`, `reply`, `deliver`, `save` or `stop`; `-` stands for no
-//!   INPUT.
+//!   `new` (an empty site in its place), `take`, `retire` (the slice that INPUT is), `full`, `ask`, `reply`, `deliver`,
+//!   `save` or `stop`; `-` stands for no INPUT.
 //!
 //! Where growths are held, those of the call alone count. Where one is refused, what is held and saved has to be what
 //! the call promises, and to answer as an archive does that is read from its text; calls that take no memory have to
-//! succeed; and the call made again has to come to what it comes to at once.
+//! succeed; and the call made again has to end as it ends at once, and to come to the same.
 //!
 //! Each case is carried out on the plain archive and on the indexed one, and has to end alike; what is told is of the
 //! first. A case that is not swept is carried out on the first with inputs in pieces of 1 byte, too, and on the second
@@ -84,12 +95,13 @@ use crate::desk::{Desk, Tried};
 use crate::ends::Left;
 use crate::faults::CaseFault;
 use crate::folder::Folder;
-use crate::growths::tell_room;
+use crate::growths::{tell_room, tell_room_of_bytes};
 use crate::limits::{Front, Limits, Sweep};
 use crate::parts::{bytes_of, number};
 use crate::store::Store;
 use crate::sweeps::{tell_growths, tell_sweep};
 use crate::tellings::{tell_left, tell_line_fault, tell_same};
+use crate::words::{first_word, words_of};
 use command_line::{LineFault, Plan, plan};
 use memory::NoMemory;
 use std::alloc::Global;
@@ -157,7 +169,8 @@ impl<'t> Bench<'t> {
             "lay" => folder.lay(&self.store, words),
             "fetch" => folder.fetch(&mut self.store, words, told),
             "link" => folder.link(words),
-            "program" => folder.run(words, told),
+            "program" => self.run_over_files(words, folder, told),
+            "room-of-bytes" => Ok(tell_room_of_bytes(self.alloc, number(words)?, told)?),
             "room" => Ok(tell_room(self.alloc, number(words)?, told)?),
             "plan" => self.plan(words, told),
             "run" => self.run(words, told),
@@ -167,7 +180,7 @@ impl<'t> Bench<'t> {
 
     // Keeps bytes under a name.
     fn keep(&mut self, words: &str, told: &mut String) -> Result<(), CaseFault> {
-        let (name, parts) = words.split_once(' ').ok_or(CaseFault::BadLine)?;
+        let (name, parts) = first_word(words);
         let bytes = bytes_of(self.alloc, &self.store, parts)?;
         let len = bytes.len();
         writeln!(told, "  {len} bytes")?;
@@ -190,7 +203,7 @@ impl<'t> Bench<'t> {
 
     // Tells whether a file has these bytes.
     fn compare(&self, words: &str, told: &mut String) -> Result<(), CaseFault> {
-        let (name, parts) = words.split_once(' ').ok_or(CaseFault::BadLine)?;
+        let (name, parts) = first_word(words);
         let bytes = bytes_of(self.alloc, &self.store, parts)?;
         tell_same(self.store.named(name)?, &bytes, told)?;
         Ok(())
@@ -211,6 +224,7 @@ impl<'t> Bench<'t> {
         match what {
             "pieces" => self.limits.pieces = number as usize,
             "growths" => self.limits.growths = number,
+            "bytes" => self.limits.bytes = number,
             "out" => self.limits.out = number as usize,
             "report" => self.limits.report = number as usize,
             _ => return Err(CaseFault::BadLine),
@@ -238,9 +252,7 @@ impl<'t> Bench<'t> {
         let mut line = Vec::new(self.alloc);
         line.push("symarch")?;
         if words != "-" {
-            for word in words.split(' ') {
-                line.push(word)?;
-            }
+            line.extend_from_slice(&words_of(self.alloc, words)?)?;
         }
         plan(self.alloc, &line)
     }
@@ -260,6 +272,18 @@ impl<'t> Bench<'t> {
             Ok(plan) => self.carry(Task::Run(&plan), out_of(&plan), told),
             Err(fault) => Ok(tell_line_fault(&fault, told)?),
         }
+    }
+
+    // Carries out a command line over files of the system, whose report may fail.
+    fn run_over_files<R: Files + AllocGlobal>(
+        &mut self,
+        words: &str,
+        folder: &Folder<'_, R>,
+        told: &mut String,
+    ) -> Result<(), CaseFault> {
+        let most = self.limits.report;
+        self.limits = Limits::AMPLE;
+        folder.run(words, most, told)
     }
 
     // Carries out a case, keeps what it left in OUT under its name, and sets what holds for the next one back.

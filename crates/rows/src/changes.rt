@@ -84,17 +84,17 @@ fn seen_before<A: Archive + Drop>(change: Change, told: &mut String) -> Result<S
     Subject::<A>::begin(&heap, change)?.see(&heap, change, told)
 }
 
-// What is seen after the call, however it ends.
+// How the call ends, and what is seen then.
 fn seen_after<A: Archive + Drop>(
     change: Change,
     growths: u64,
     told: &mut String,
-) -> Result<Seen, CallFault> {
+) -> Result<(Result<(), CallFault>, Seen), CallFault> {
     let heap = Heap::new(change.alloc)?;
     let mut subject = Subject::<A>::begin(&heap, change)?;
     let mut aside = String::new(change.alloc);
-    let _ = subject.act(&heap, change, growths, &mut aside);
-    subject.see(&heap, change, told)
+    let ended = subject.act(&heap, change, growths, &mut aside);
+    Ok((ended, subject.see(&heap, change, told)?))
 }
 
 // Tells where a refused call left what it does not promise.
@@ -103,11 +103,11 @@ fn tell_stopped<A: Archive + Drop>(
     growths: u64,
     told: &mut String,
 ) -> Result<(), CallFault> {
-    let stopped = seen_after::<A>(change, growths, told)?;
+    let (_, stopped) = seen_after::<A>(change, growths, told)?;
     tell_other_answers::<A>(&stopped, change, told)?;
     let before = seen_before::<A>(change, told)?;
     let stands = if change.act.is_done_in_parts() {
-        let whole = seen_after::<A>(change, u64::MAX, told)?;
+        let (_, whole) = seen_after::<A>(change, u64::MAX, told)?;
         is_between::<A>(change, &before, &stopped, &whole)?
     } else {
         stopped.is_as(&before)
@@ -141,9 +141,11 @@ fn tell_again<A: Archive + Drop>(
 ) -> Result<(), CallFault> {
     let mut subject = subject;
     let mut aside = String::new(change.alloc);
-    subject.act(heap, change, u64::MAX, &mut aside)?;
+    heap.grant(u64::MAX);
+    let ended = subject.act(heap, change, u64::MAX, &mut aside);
     let again = subject.see(heap, change, told)?;
-    if !again.is_as(&seen_after::<A>(change, u64::MAX, told)?) {
+    let (ended_at_once, at_once) = seen_after::<A>(change, u64::MAX, told)?;
+    if ended != ended_at_once || !again.is_as(&at_once) {
         writeln!(told, "WRONG: made again, it comes to something else")?;
     }
     Ok(())

@@ -33,9 +33,11 @@ pub struct Desk<'a> {
 }
 
 impl<'a> Desk<'a> {
-    /// Memory with the growths that are granted.
+    /// Memory with the growths and the bytes that are granted.
     pub fn heap(self) -> Result<Heap, NoMemory> {
-        Heap::with_growths(self.alloc, self.limits.growths)
+        let heap = Heap::with_growths(self.alloc, self.limits.growths)?;
+        heap.grant_bytes(self.limits.bytes);
+        Ok(heap)
     }
 
     /// Opens a file, as far as it is not cut.

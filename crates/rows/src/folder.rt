@@ -4,8 +4,9 @@ use crate::ends::refused_status;
 use crate::faults::CaseFault;
 use crate::store::Store;
 use crate::tellings::{tell_line_fault, tell_report};
+use crate::words::{first_word, words_of};
 use archive_commands::{Failure, Status};
-use byte_device::Grown;
+use byte_device::Short;
 use command_line::{LineFault, Plan, plan};
 use file_commands::execute;
 use memory::{Heap, NoMemory};
@@ -46,7 +47,7 @@ impl<'a, R: Files + AllocGlobal> Folder<'a, R> {
 
     /// Writes files in memory to the folder.
     pub fn lay(&self, store: &Store, names: &str) -> Result<(), CaseFault> {
-        for name in names.split(' ') {
+        for name in words_of(self.rt.alloc(), names)? {
             fs::write(self.rt, &self.path_of(name)?, store.named(name)?)?;
         }
         Ok(())
@@ -67,7 +68,8 @@ impl<'a, R: Files + AllocGlobal> Folder<'a, R> {
     }
 
     /// Reads a file of the folder into memory, and tells the number of its bytes, or that it is not there.
-    pub fn fetch(&self, store: &mut Store, name: &str, told: &mut String) -> Result<(), CaseFault> {
+    pub fn fetch(&self, store: &mut Store, word: &str, told: &mut String) -> Result<(), CaseFault> {
+        let (name, _) = first_word(word);
         let path = self.path_of(name)?;
         if !fs::exists(self.rt, &path)? {
             writeln!(told, "  not there")?;
@@ -79,10 +81,11 @@ impl<'a, R: Files + AllocGlobal> Folder<'a, R> {
         store.keep(self.rt.alloc(), name, bytes)
     }
 
-    /// Carries a command line out over files of the folder, and tells the report, the fault and the status.
-    pub fn run(&self, words: &str, told: &mut String) -> Result<(), CaseFault> {
+    /// Carries a command line out over files of the folder, with a report that takes so many bytes, and tells the
+    /// report, the fault and the status.
+    pub fn run(&self, words: &str, most: usize, told: &mut String) -> Result<(), CaseFault> {
         match self.planned(words) {
-            Ok(plan) => self.tell_run(&plan, told),
+            Ok(plan) => self.tell_run(&plan, most, told),
             Err(fault) => Ok(tell_line_fault(&fault, told)?),
         }
     }
@@ -91,7 +94,7 @@ impl<'a, R: Files + AllocGlobal> Folder<'a, R> {
     fn planned(&self, words: &str) -> Result<Plan, LineFault> {
         let mut line = Vec::new(self.rt.alloc());
         line.push(String::from_str(self.rt.alloc(), "symarch")?)?;
-        for word in words.split(' ') {
+        for word in words_of(self.rt.alloc(), words)? {
             line.push(match word.strip_prefix('@') {
                 Some(name) => self.path_of(name)?,
                 None => String::from_str(self.rt.alloc(), word)?,
@@ -100,8 +103,8 @@ impl<'a, R: Files + AllocGlobal> Folder<'a, R> {
         plan(self.rt.alloc(), &line)
     }
 
-    fn tell_run(&self, plan: &Plan, told: &mut String) -> Result<(), CaseFault> {
-        let mut report = Grown::new(Heap::new(self.rt.alloc())?);
+    fn tell_run(&self, plan: &Plan, most: usize, told: &mut String) -> Result<(), CaseFault> {
+        let mut report = Short::new(Heap::new(self.rt.alloc())?, most);
         let ended = execute(self.rt, plan, &mut report);
         tell_report(report.as_slice(), told)?;
         tell_ended(ended, told)?;

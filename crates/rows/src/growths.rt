@@ -1,4 +1,4 @@
-//! Growths of memory that are granted.
+//! Growths and bytes of memory that are granted.
 
 use memory::{Heap, NoMemory};
 use std::alloc::Global;
@@ -7,6 +7,13 @@ use std::alloc::Global;
 pub fn tell_room(alloc: Global, growths: u64, told: &mut String) -> Result<(), NoMemory> {
     tell_one(Heap::with_growths(alloc, growths)?, told)?;
     tell_three(Heap::with_growths(alloc, growths)?, told)
+}
+
+/// Tells what memory with so many bytes holds: one vector of numbers of 8 bytes.
+pub fn tell_room_of_bytes(alloc: Global, bytes: u64, told: &mut String) -> Result<(), NoMemory> {
+    let heap = Heap::new(alloc)?;
+    heap.grant_bytes(bytes);
+    tell_one(heap, told)
 }
 
 // How many numbers are tried.

@@ -7,7 +7,8 @@
 //! - `faults`: why a case is not carried out, or a call is refused;
 //! - `store`: files in memory;
 //! - `folder`: files of the system;
-//! - `parts`, `counters`, `addresses`: the bytes and the addresses that words of a case spell;
+//! - `words`: the words of a case;
+//! - `parts`, `counters`, `addresses`: the bytes and the addresses that they spell;
 //! - `limits`: what devices give and take, and how far a sweep goes;
 //! - `desk`: what a case goes over;
 //! - `ends`: how a case ends, and what it leaves;
@@ -16,6 +17,8 @@
 //! - `questions`: what is asked of an archive;
 //! - `subjects`, `changes`: calls that may change an archive, and what they leave where memory is refused;
 //! - `streams`, `growths`: streams of std that fail, and memory that is refused;
+//! - `heaps`: two memories, one for each of two archives;
+//! - `worlds`: events, carried out on sites;
 //! - `pairs`: random pairs of archives, merged and joined;
 //! - `calls`: calls below the commands;
 //! - `outcomes`, `sweeps`: one case at each place of a device;
@@ -35,6 +38,7 @@ mod ends;
 mod faults;
 mod folder;
 mod growths;
+mod heaps;
 mod images;
 mod limits;
 mod outcomes;
@@ -46,6 +50,8 @@ mod streams;
 mod subjects;
 mod sweeps;
 mod tellings;
+mod words;
+mod worlds;
 
 use folder::Folder;
 use std::io;

@@ -31,6 +31,8 @@ pub enum ArchiveAct {
 /// A call on a site.
 #[derive(Clone, Copy)]
 pub enum SiteAct {
+    /// An empty site in its place.
+    New,
     Take,
     /// The retirement of the slice that a file is.
     Retire,
@@ -46,6 +48,7 @@ impl SiteAct {
     /// The call that a verb names.
     pub fn of_verb(verb: &str) -> Option<SiteAct> {
         match verb {
+            "new" => Some(SiteAct::New),
             "take" => Some(SiteAct::Take),
             "retire" => Some(SiteAct::Retire),
             "full" => Some(SiteAct::Full),
@@ -78,8 +81,12 @@ impl Act<'_> {
             },
             Act::AtSite(act, _) => match act {
                 SiteAct::Take | SiteAct::Deliver | SiteAct::Ask => true,
-                SiteAct::Retire | SiteAct::Full | SiteAct::Reply | SiteAct::Save | SiteAct::Stop =>
-                    false,
+                SiteAct::New
+                | SiteAct::Retire
+                | SiteAct::Full
+                | SiteAct::Reply
+                | SiteAct::Save
+                | SiteAct::Stop => false,
             },
         }
     }
@@ -159,7 +166,7 @@ impl<A: Archive + Drop> Subject<A> {
             },
             Subject::Site { site, act } => {
                 heap.grant(growths);
-                tell_at_site(site, *act, change.input, told)
+                tell_at_site(site, *act, heap, change.input, told)
             }
         }
     }
@@ -269,10 +276,12 @@ fn tell_taking_each<A: Archive + Drop>(
 fn tell_at_site<A: Archive + Drop>(
     site: &mut Site<A>,
     act: SiteAct,
+    heap: &Heap,
     input: &[u8],
     told: &mut String,
 ) -> Result<(), CallFault> {
     match act {
+        SiteAct::New => *site = Site::new(heap.clone()?)?,
         SiteAct::Take => tell_file(site, input, told)?,
         SiteAct::Retire => {
             let slice = Slice::check(input)?;

@@ -94,8 +94,8 @@ fn add_place(groups: &mut Vec<Group>, place: usize, outcome: Outcome) -> Result<
 // How many growths are granted at most before a sweep of them gives up.
 const MOST_GROWTHS: u64 = 100_000;
 
-/// Carries out a case on either archive with each number of growths from 0 on, until it meets no refusal, and tells how
-/// many met one.
+/// Carries out a case on either archive with each number of growths from 0 on, until it meets no refusal, however it
+/// ends then, and tells how many met one. A sweep that meets none shows nothing.
 pub fn tell_growths(desk: Desk, task: Task, told: &mut String) -> Result<(), CaseFault> {
     let whole = desk.carry_out(task)?;
     for tried in Tried::BOTH {
@@ -133,7 +133,9 @@ fn tell_last_growth(
     same: bool,
     told: &mut String,
 ) -> Result<(), CaseFault> {
-    if same {
+    if growths == 0 {
+        writeln!(told, "  WRONG on {tried:?}: no growth was refused")?;
+    } else if same {
         writeln!(
             told,
             "  {tried:?}: {growths} refusals, then the same as with ample memory"

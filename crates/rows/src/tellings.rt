@@ -11,8 +11,11 @@ use sha2::{Digest as _, Sha256};
 // How many lines of a report are told at most, before their digest stands for them.
 const MOST_LINES: usize = 40;
 
-/// Tells what a case left, and how it ended.
+/// Tells what a case left, and how it ended. A call that gave no line says that.
 pub fn tell_left(left: &Left, told: &mut String) -> Result<(), NoMemory> {
+    if left.end == End::Given && left.report.is_empty() {
+        return writeln!(told, "  nothing");
+    }
     tell_report(&left.report, told)?;
     if !left.out.is_empty() {
         tell_out(&left.out, told)?;

@@ -1,5 +1,6 @@
 -- Where no growth is left it answers `Err`, and else what the inner memory answers. Assumes `Logic`.
 use Rattle.std.proofs.Common.{◌≡◌, ℕ, ◌+◌, ◌^◌, ◌<◌, Bool, true, false, List, [], ◌∷◌, Ok, Err, refl, w64, Bor}
+use lib.Dec.{lit<}
 use seplogic.Ra.Ura.{Ura}
 use mir.Syntax.{Ty, Args, Fn, a_type, dnil, dcons}
 use mir.Val.{Val, vbool, vint, vptr}
@@ -36,7 +37,7 @@ use denote.Triple.Table.{entered, cited}
 use denote.Triple.Walked.{Stays, stay_dropped, walk_of, ends_at, walked, Goes-dropped, walk_Meets}
 use Rattle.std.proofs.alloc.Calls.{Al, α, seen, Answer, answer_val, Answer-typed, Answer-Ok, Answer-err, takes_key, Takes, at_takes, Answered, Takes-goes, Takes-gives, answers}
 use Rattle.std.proofs.VecSteps.Shapes.{after}
-use Rattle.memory.proofs.Growth.{Growths, Grows, at_grows, Grows-goes, Grows-gives}
+use Rattle.memory.proofs.Growth.{Left, Grows, at_grows, Grows-goes, Grows-gives}
 use Rattle.memory.proofs.take_growth.Symbol as grow_symbol
 use Rattle.memory.proofs.take_growth.Met as grow_met
 use Rattle.memory.specs.contracts.Memory as handle
@@ -86,7 +87,7 @@ module _ (Z : Al) {M : Type 1} {𝓤 : Ura M} (𝓛 : Logic 𝓤) (at_mem : Memo
         let inner : Z.row.Denot = r.now.inner in
         let p : ℕ × ℕ = (r.ref_ptr.0, r.ref_ptr.1 + up (align (α Z)) 0) in
         let c : ℕ × ℕ = (r.ref_ptr.0, r.ref_ptr.1 + up 8 (up (align (α Z)) 0 + size (α Z))) in
-        let left : Growths.Denot = r.now.growths in
+        let left : Left.Denot = r.now.left in
         let y : (Takes Z 𝓛 at_mem run).Ghost = at_takes Z 𝓛 at_mem run κ₁ q₁ p inner n a τ in
         let none : Sq 𝓛 (‵ (flft κ₁ q₁) ∷ (‵ (flft κ₂ q₂) ⊛ ‵ ftrue) ∷ []) (prop (Post (answer_val false 0 0))) =
         suffices ! _ (ends_at 𝓛 (ended Z) (stayed Z) held bound (answer_val false 0 0) (Err (record {})) (tt, (tt, (tt, tt))) (tt, (tt, (tt, tt)))) $ nothing ! $
@@ -100,9 +101,9 @@ module _ (Z : Al) {M : Type 1} {𝓤 : Ura M} (𝓛 : Logic 𝓤) (at_mem : Memo
         enter ! 𝓣.C 𝓣.Λ (here Z) vs _ $ alloc_all ! (λ l. pass_all ! refl ((tt, tt), ((tt, record { fits = fn }), ((tt, record { fits = fa }), tt))) $
         let E : Env 𝓤 H = env (here Z).locals l in
         sets ! (addr ! (through ! refl (fld ! refl (stop !)))) refl (tt, tt) $
-        use2 𝓛 (raw ((Grows 𝓛 at_mem run).pre (at_grows 𝓛 at_mem run κ₁ q₁ c left))) (Grows-goes 𝓛 at_mem run κ₁ q₁ c left) $
-        calls_at ! (fm_of 𝓤 H 𝓛.laws 𝓣) (Grows 𝓛 at_mem run) grows (at_grows 𝓛 at_mem run κ₁ q₁ c left) (and_then ! (get ! refl) (no_more !)) (λ u.
-        use1 𝓛 (later (some (λ (granted : Bool). given (u ≡ vbool granted) (‵ (flft κ₁ q₁))))) (Grows-gives 𝓛 at_mem run κ₁ q₁ c left u) $ await ! tt $ pick ! (λ granted. learn ! (λ is_granted.
+        use2 𝓛 (raw ((Grows 𝓛 at_mem run).pre (at_grows 𝓛 at_mem run κ₁ q₁ c left n 1))) (Grows-goes 𝓛 at_mem run κ₁ q₁ c left n 1 fn (lit< tt)) $
+        calls_at ! (fm_of 𝓤 H 𝓛.laws 𝓣) (Grows 𝓛 at_mem run) grows (at_grows 𝓛 at_mem run κ₁ q₁ c left n 1) (and_then ! (get ! refl) (and_then ! (get ! refl) (and_then ! (lit ! tt) (no_more !)))) (λ u.
+        use1 𝓛 (later (some (λ (granted : Bool). given (u ≡ vbool granted) (‵ (flft κ₁ q₁))))) (Grows-gives 𝓛 at_mem run κ₁ q₁ c left n 1 u) $ await ! tt $ pick ! (λ granted. learn ! (λ is_granted.
         lands_as ! is_granted refl (tt, tt) $ sets ! (un ! (get ! refl) tt) refl (tt, tt) $ first ! $ branches ! (get ! refl)
         (λ refused. sets ! (agg ! (no_more !)) refl (tt, tt) $ sets ! (agg ! (and_then ! (lit ! tt) (and_then ! (get ! refl) (no_more !)))) refl (Answer-typed false 0 0) $
         returns_within ! Post refl (look_at ! 0 refl) $ free_all ! refl $ keep ! (0 ∷ 2 ∷ []) $ none)

@@ -6,7 +6,8 @@ use mir.Val.{Val, vbool, vint, vptr}
 use mir.MapTy.{inst_fn}
 use base.Logic.{SProp, ent, id⊢, never_e}
 use base.Fml.{Lft, Share, Fml, ftrue, flft}
-use prog.Memory.{Memory, size, align, up}
+use prog.Memory.{Memory, size, align, capped, up}
+use prog.Capped.{capped_fits}
 use prog.Routine.{Routine}
 use prog.Wp.{Env, WpFn, Tables}
 use types.Logic.{Logic}
@@ -16,13 +17,13 @@ use contract.Running.{tables, tables_of}
 use sound.WpLaws.{fm_of, WpFn-mono}
 use types.Kit.{Item, ‵, raw, ◌⊛◌, ⋆, some, later, given, at_ret, ◌$◌, ◌∵◌, !, qed, by, move, keep, use0, use1, use2, split, split3, join, pick, learn, fsplit, fjoin, suffices, await, done}
 use types.Part.{agg}
-use types.Run.{stop, fld, addr, lit, un, no_more, and_then, first, branches, skips, exec, returns, returns_within, enter}
+use types.Run.{stop, fld, addr, lit, un, size_word, no_more, and_then, first, branches, skips, exec, returns, returns_within, enter}
 use types.ByLocal.{alloc_all, pass_all, free_all, look_at, get, through, sets, lands_as, env}
 use denote.Exit.{yes}
 use denote.RattleType.{RattleType, owns}
 use denote.Ref.{shr_vals}
 use denote.Opens.{unhide}
-use denote.Param.{bounded, param}
+use denote.Param.{bounded, layout, param}
 use denote.Plain.{uint_vals, uint_Tells}
 use denote.RawPtr.{Ptr, block_ptr, null_ptr, ptr_val, rawptr_vals, rawptr_Tells}
 use denote.Builtin.{usize, RawPtr, RefOf}
@@ -38,7 +39,7 @@ use Rattle.std.specs.Allocator.{block_with_items, resized_if_ok}
 use Rattle.std.proofs.alloc.Calls.{Al, α, seen, token, Answer, answer_val, Answer-typed}
 use Rattle.std.proofs.alloc.Resizes.{Grows as Enlarges, resize_key, Resizes, at_resizes, left_by, Resizes-goes, Resizes-gives, result_of, result_own, asked, heard_all}
 use Rattle.std.proofs.VecSteps.Shapes.{after}
-use Rattle.memory.proofs.Growth.{Growths, Grows, at_grows, Grows-goes, Grows-gives}
+use Rattle.memory.proofs.Growth.{Left, Grows, at_grows, Grows-goes, Grows-gives}
 use Rattle.memory.proofs.take_growth.Symbol as grow_symbol
 use Rattle.memory.proofs.take_growth.Met as grow_met
 use Rattle.memory.specs.contracts.Memory as handle
@@ -109,7 +110,8 @@ module _ (Z : Al) (X : RattleType) {M : Type 1} {𝓤 : Ura M} (𝓛 : Logic �
         let inner : Z.row.Denot = r.now.inner in
         let p : ℕ × ℕ = (r.ref_ptr.0, r.ref_ptr.1 + up (align (α Z)) 0) in
         let c : ℕ × ℕ = (r.ref_ptr.0, r.ref_ptr.1 + up 8 (up (align (α Z)) 0 + size (α Z))) in
-        let growths : Growths.Denot = r.now.growths in
+        let counts : Left.Denot = r.now.left in
+        let s : ℕ = capped (size (layout X)) in
         let x : Ptr = block_ptr b o in
         let y : Called.Ghost = at_resizes Z X (Enlarges X) 𝓛 at_mem run κ₁ κ₃ q₁ q₃ p inner b o len old new xs in
         qed 𝓛 (entry x ∷ raw (asked 𝓛 (κ₂ ⊑ Z.row.lives) (κ₃ ⊑ X.lives) (Enlarges X len old new) (block x)) ∷ []) ∵ move ! (1 ∷ []) $
@@ -120,9 +122,9 @@ module _ (Z : Al) (X : RattleType) {M : Type 1} {𝓤 : Ura M} (𝓛 : Logic �
         enter ! 𝓣.C 𝓣.Λ (here Z X) (vs x) _ $ alloc_all ! (λ l. pass_all ! refl ((tt, tt), ((tt, tt), ((tt, record { fits = fl }), ((tt, record { fits = fo }), ((tt, record { fits = fn }), tt))))) $
         let E : Env 𝓤 H = env (here Z X).locals l in
         sets ! (addr ! (through ! refl (fld ! refl (stop !)))) refl (tt, tt) $
-        use2 𝓛 (raw ((Grows 𝓛 at_mem run).pre (at_grows 𝓛 at_mem run κ₁ q₁ c growths))) (Grows-goes 𝓛 at_mem run κ₁ q₁ c growths) $
-        calls_at ! (fm_of 𝓤 H 𝓛.laws 𝓣) (Grows 𝓛 at_mem run) grows (at_grows 𝓛 at_mem run κ₁ q₁ c growths) (and_then ! (get ! refl) (no_more !)) (λ u.
-        use1 𝓛 (later (some (λ (granted : Bool). given (u ≡ vbool granted) (‵ (flft κ₁ q₁))))) (Grows-gives 𝓛 at_mem run κ₁ q₁ c growths u) $ await ! tt $ pick ! (λ granted. learn ! (λ is_granted.
+        use2 𝓛 (raw ((Grows 𝓛 at_mem run).pre (at_grows 𝓛 at_mem run κ₁ q₁ c counts new s))) (Grows-goes 𝓛 at_mem run κ₁ q₁ c counts new s fn (capped_fits (size (layout X)))) $
+        calls_at ! (fm_of 𝓤 H 𝓛.laws 𝓣) (Grows 𝓛 at_mem run) grows (at_grows 𝓛 at_mem run κ₁ q₁ c counts new s) (and_then ! (get ! refl) (and_then ! (get ! refl) (and_then ! (size_word !) (no_more !)))) (λ u.
+        use1 𝓛 (later (some (λ (granted : Bool). given (u ≡ vbool granted) (‵ (flft κ₁ q₁))))) (Grows-gives 𝓛 at_mem run κ₁ q₁ c counts new s u) $ await ! tt $ pick ! (λ granted. learn ! (λ is_granted.
         lands_as ! is_granted refl (tt, tt) $ sets ! (un ! (get ! refl) tt) refl (tt, tt) $ first ! $ branches ! (get ! refl)
         (λ refused. sets ! (agg ! (no_more !)) refl (tt, tt) $ sets ! (agg ! (and_then ! (lit ! tt) (and_then ! (get ! refl) (no_more !)))) refl (Answer-typed false 0 0) $
         returns_within ! (Post x) refl (look_at ! 0 refl) $ free_all ! refl $ keep ! (3 ∷ 0 ∷ 4 ∷ 1 ∷ []) $ by ! (exits x false 0 0))

@@ -1,0 +1,28 @@
+//! Events, carried out on sites.
+
+use crate::archives::text_of;
+use crate::faults::CallFault;
+use crate::tellings::tell_text;
+use archive_core::Archive;
+use archive_exchange::run;
+use memory::Heap;
+use rehearsal::Script;
+use std::alloc::Global;
+
+/// Carries out the events of a script on so many sites, and tells how many there were, and what each site holds.
+pub fn tell_world<A: Archive + Drop>(
+    alloc: Global,
+    heap: Heap,
+    script: &Script,
+    sites: u32,
+    told: &mut String,
+) -> Result<(), CallFault> {
+    let (world, outcomes) = run::<A>(heap, sites, &script.events)?;
+    let events = outcomes.len();
+    writeln!(told, "{events} events")?;
+    for number in 0..world.sites() {
+        write!(told, "site {number} ")?;
+        tell_text(&text_of(alloc, world.site(number).archive())?, told)?;
+    }
+    Ok(())
+}
