@@ -32,7 +32,7 @@ below-less x y e = below_is x y ∙ ap is_lt e
 pub below-greater : (x y : List ℕ) → slice_cmp nat_cmp x y ≡ Greater → may_follow Archive y x ≡ true
 below-greater x y e = below_is y x ∙ ap is_lt (nat_list_cmp_total.antisymm y x ∙ ap ordering_reverse e)
 
-less_of : (x y : List ℕ) → may_follow Archive x y ≡ true → slice_cmp nat_cmp x y ≡ Less
+pub less_of : (x y : List ℕ) → may_follow Archive x y ≡ true → slice_cmp nat_cmp x y ≡ Less
 less_of x y p = less (slice_cmp nat_cmp x y) (sym (below_is x y) ∙ p)
 
 pub below-trans : (x y z : List ℕ) → may_follow Archive x y ≡ true → may_follow Archive y z ≡ true → may_follow Archive x z ≡ true
@@ -87,6 +87,46 @@ up_to_last low z (x ∷ xs) a c = elim (cons_cases x z xs c) [
   ]
   | inr d ↦ up_to_last x z xs a.2 d
 ]
+
+-- each is the last one, or below it
+under_last : (low z : List ℕ) (xs : List (List ℕ)) → InOrder Archive low xs → Contains xs z → (z ≡ last_of low xs) ⊎ (may_follow Archive z (last_of low xs) ≡ true)
+under_last low z [] a c = absurd (omega (arith, c.1))
+under_last low z (x ∷ xs) a c = elim (cons_cases x z xs c) [
+  | inl e ↦ subst (λ (t : List ℕ). (t ≡ last_of x xs) ⊎ (may_follow Archive t (last_of x xs) ≡ true)) e (last_above x xs a.2)
+  | inr d ↦ under_last x z xs a.2 d
+]
+
+last_or_none : (low : List ℕ) (xs : List (List ℕ)) → (low ≡ last_of low xs) ⊎ Contains xs (last_of low xs)
+last_or_none low [] = inl refl
+last_or_none low (x ∷ xs) = elim (last_or_none x xs) [
+  | inl e ↦ inr (subst (Contains (x ∷ xs)) e (here x xs))
+  | inr c ↦ inr (later x (last_of x xs) xs c)
+]
+
+up_then : (a low x : List ℕ) → (a ≡ low) ⊎ (may_follow Archive a low ≡ true) → may_follow Archive low x ≡ true → may_follow Archive a x ≡ true
+up_then a low x (inl e) b = subst (λ (t : List ℕ). may_follow Archive t x ≡ true) (sym e) b
+up_then a low x (inr c) b = below-trans a low x c b
+
+-- what is above the last of all records is above the last of some of them
+pub last_under : (out xs : List (List ℕ)) (x : List ℕ) → InOrder Archive [] out → ((z : List ℕ) → Contains xs z → Contains out z) → may_follow Archive (last_of [] out) x ≡ true → may_follow Archive (last_of [] xs) x ≡ true
+last_under out xs x a sub above = elim (last_or_none [] xs) [
+  | inl e ↦ subst (λ (t : List ℕ). may_follow Archive t x ≡ true) e (up_then [] (last_of [] out) x (last_above [] out a) above)
+  | inr c ↦ up_then (last_of [] xs) (last_of [] out) x (under_last [] (last_of [] xs) out a (sub (last_of [] xs) c)) above
+]
+
+-- the last of some of the records is not above the last of all
+pub last_within : (out xs : List (List ℕ)) → InOrder Archive [] out → ((z : List ℕ) → Contains xs z → Contains out z) → may_follow Archive (last_of [] out) (last_of [] xs) ≡ false
+last_within out xs a sub = elim (last_or_none [] xs) [
+  | inl e ↦ subst (λ (t : List ℕ). may_follow Archive (last_of [] out) t ≡ false) e (elim (last_above [] out a) [
+    | inl same ↦ subst (λ (t : List ℕ). may_follow Archive t [] ≡ false) same (below-self [])
+    | inr below ↦ below-back [] (last_of [] out) below
+  ])
+  | inr c ↦ up_to_last [] (last_of [] xs) out a (sub (last_of [] xs) c)
+]
+
+pub InOrder-front : (low : List ℕ) (xs : List (List ℕ)) (x : List ℕ) → InOrder Archive low (xs ++ x ∷ []) → InOrder Archive low xs
+InOrder-front low [] x a = tt
+InOrder-front low (y ∷ ys) x a = (a.0, a.1, InOrder-front y ys x a.2)
 
 pub InOrder-behind : (low : List ℕ) (xs ys : List (List ℕ)) → InOrder Archive low (xs ++ ys) → InOrder Archive (last_of low xs) ys
 InOrder-behind low [] ys a = a

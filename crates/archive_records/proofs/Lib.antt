@@ -25,5 +25,6 @@ pub mod Turns
 pub mod Starts
 pub mod Fronts
 pub mod Places
+pub mod Orders
 pub mod Merges
 pub mod Sides

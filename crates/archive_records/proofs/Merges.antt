@@ -1,5 +1,9 @@
 -- From the bytes that a merge took to whole inputs.
-use Rattle.std.proofs.Common.{◌≡◌, ℕ, List, [], length, Option, Some, None, Result, Ok, Err, refl, sym, ap, ◌∙◌, subst, inl, inr, ◌⊎◌}
+use Rattle.std.proofs.Common.{◌≡◌, ◌≢◌, ℕ, ◌^◌, ◌<◌, List, [], ◌∷◌, ◌++◌, length, Option, Some, None, Result, Ok, Err, refl, sym, ap, ◌∙◌, subst, arith, inl, inr, ◌⊎◌, length-append}
+use Rattle.std.specs.declared.cmp.Ordering.TheVariants.{Greater}
+use Rattle.archive_records.specs.declared.side.Ahead.TheVariants.{Held}
+use Rattle.archive_records.specs.declared.side.Side.{Side}
+use Rattle.archive_records.specs.Front.{front_length}
 use Rattle.std.specs.Prelude.{IfSome}
 use Rattle.std.specs.FinSet as set
 use Rattle.std.specs.Io.KnownBytes.{Consumes, IsAtEnd, Appends}
@@ -17,14 +21,17 @@ use Rattle.archive_records.specs.Kind.{magic}
 use Rattle.archive_records.specs.Text.{text_of, last_of, written}
 use Rattle.archive_records.specs.Fault.{IsOfText}
 use Rattle.archive_records.specs.Reading.{Blames, IsOfMachine, IsReadWhole}
-use Rattle.archive_records.specs.Reader.{HasReadAll, HasStopped, IsReadTo, Position}
+use Rattle.archive_records.specs.Reader.{HasReadAll, HasStopped, Stopped, IsReadTo, Position}
 use Rattle.archive_records.specs.Merging.{IsArchiveText, AreGoodRecords, LeftStops, RightStops, of_both, IsWrittenBefore, Stream, IsRefusedAlone, StopsBy, Merges}
-use Rattle.archive_records.specs.Turns.{StopsBeforeRecords, LeftStopped, RightStopped, WriteStopped, Leaves, BlamesBy, BlamesDevices, ByCause}
-use Rattle.archive_records.proofs.Puts.{length_written}
+use Rattle.archive_records.specs.Turns.{StopsBeforeRecords, Stands, LeftStopped, RightStopped, WriteStopped, IsFull, LeftFull, RightFull, memory_behind, first_of, Leaves, BlamesBy, BlamesDevices, ByCause}
+use Rattle.archive_records.proofs.Puts.{length_written, concat-push}
+use Rattle.archive_records.proofs.Ascending.{InOrder-front}
+use Rattle.archive_records.proofs.Turns.{first_greater, first_held}
+use Rattle.archive_records.proofs.Orders.{left_order, right_order}
 use Rattle.archive_records.proofs.Contents.{written_text}
 use Rattle.archive_records.proofs.Inputs.{archive_whole}
 use Rattle.archive_records.proofs.Fronts.{taken_of}
-use Rattle.archive_records.proofs.Places.{joins_listing, begun_nothing, no_magic, left_begun, left_place, left_first, right_begun, right_place, right_first, write_begun}
+use Rattle.archive_records.proofs.Places.{joins_listing, begun_nothing, no_magic, left_begun, left_place, left_first, right_begun, right_place, right_first, write_begun, full_begun}
 
 -- ---- one input
 
@@ -50,7 +57,23 @@ no_text a t fault e alone known x =
     let m : (o : Operations) → IsContent o → t ≡ written o → IsOfMachine fault.kind = rw e at alone in
     elim (m x.0 x.1 x.2) [ inl d ↦ known.0 d | inr d ↦ known.1 d ]
 
+-- memory was wanted for the record that a side holds
+held_stopped : (a b : Option (List ℕ)) (done : List (List ℕ)) (low : List ℕ) (s : Side) → Stands a b done low s → s.ahead ≡ Held → s.reader.count < 2 ^ 63 → Stopped Archive a b done (memory_behind (front_length done))
+held_stopped a b done low s p held few =
+    let h = (p.held held).0 in
+    record {
+      rest = s.reader.last;
+      taken = subst (λ (t : List ℕ). Consumes a b (magic ++ t)) (concat-push done s.reader.last) h.taken;
+      ordered = InOrder-front [] done s.reader.last h.ordered;
+      few = omega (arith, few, h.count_is, length-append done (s.reader.last ∷ []));
+      unended = λ known. tt;
+      stops = inl (refl, λ known. absurd (known refl));
+    }
+
 -- ---- both
+
+not_memory : (fault : RecordFault) (n : ℕ) → fault ≡ memory_behind n → IsOfText fault.kind → ⊥
+not_memory fault n is known = known.1 (ap (λ (t : RecordFault). t.kind) is)
 
 abbrev ForBoth : Option (List ℕ) → Option (List ℕ) → (List ℕ → List ℕ → List (List ℕ) → List (List ℕ) → Type 0) → Type 0
 ForBoth a1 a2 P = IfSome a1 (λ t. IfSome a2 (λ u. (lefts rights : List (List ℕ)) → AreGoodRecords t lefts → AreGoodRecords u rights → P t u lefts rights))
@@ -62,37 +85,49 @@ abbrev NoText : Option (List ℕ) → RecordFault → Type 0
 NoText a fault = IfSome a (λ text. (o : Operations) → IsContent o → text ≡ written o → IsOfMachine fault.kind)
 
 module _ (b1 b2 w0 w1 : Option (List ℕ)) (n : ℕ) where
+  full_left : (a1 a2 : Option (List ℕ)) (full : IsFull a1 b1 a2 b2 w0 w1 n) (fault : RecordFault) → first_of full.left_side full.right_side ≢ Greater → fault ≡ memory_behind (front_length full.lefts) → Stopped Archive a1 b1 full.lefts fault
+  full_left a1 a2 full fault first is =
+      subst (Stopped Archive a1 b1 full.lefts) (sym is) (held_stopped a1 b1 full.lefts (last_of [] full.out) full.left_side full.left (first_held full.left_side.ahead full.right_side.ahead _ first) full.left_few)
+
+  full_right : (a1 a2 : Option (List ℕ)) (full : IsFull a1 b1 a2 b2 w0 w1 n) (fault : RecordFault) → first_of full.left_side full.right_side ≡ Greater → fault ≡ memory_behind (front_length full.rights) → Stopped Archive a2 b2 full.rights fault
+  full_right a1 a2 full fault first is =
+      subst (Stopped Archive a2 b2 full.rights) (sym is) (held_stopped a2 b2 full.rights (last_of [] full.out) full.right_side full.right (first_greater full.left_side.ahead full.right_side.ahead _ full.left_read full.some first).0 full.right_few)
+
   -- ---- the left side stopped
 
   abbrev LeftCase : Option (List ℕ) → Option (List ℕ) → RecordFault → Type 0
-  LeftCase a1 a2 fault = ((n ≡ 0) × Appends w0 w1 [] × StopsBeforeRecords a1 b1 fault) ⊎ LeftStopped a1 b1 a2 b2 w0 w1 fault n
+  LeftCase a1 a2 fault = ((n ≡ 0) × Appends w0 w1 [] × Consumes a2 b2 [] × StopsBeforeRecords a1 b1 fault) ⊎ (LeftStopped a1 b1 a2 b2 w0 w1 fault n ⊎ LeftFull a1 b1 a2 b2 w0 w1 fault n)
 
   left_stops : (a1 a2 : Option (List ℕ)) (fault : RecordFault) → (fault.kind ≡ Truncated → IsAtEnd b1) → NoText a1 fault → LeftCase a1 a2 fault → IsOfText fault.kind → ForBoth a1 a2 LeftStops
   left_stops None a2 fault ended alone s known = tt
   left_stops (Some t) None fault ended alone s known = tt
-  left_stops (Some t) (Some u) fault ended alone (inl s) known = λ xs ys gx gy. record { faulty = no_text (Some t) t fault refl alone known; first = inl (no_magic t b1 fault known ended s.2) }
-  left_stops (Some t) (Some u) fault ended alone (inr s) known = λ xs ys gx gy. left_first t u b1 b2 w0 w1 xs ys gx gy fault n s known ended (no_text (Some t) t fault refl alone known)
+  left_stops (Some t) (Some u) fault ended alone (inl s) known = λ xs ys gx gy. record { faulty = no_text (Some t) t fault refl alone known; first = inl (no_magic t b1 fault known ended s.3) }
+  left_stops (Some t) (Some u) fault ended alone (inr (inl s)) known = λ xs ys gx gy. left_first t u b1 b2 w0 w1 xs ys gx gy fault n s known ended (no_text (Some t) t fault refl alone known)
+  left_stops (Some t) (Some u) fault ended alone (inr (inr f)) known = absurd (not_memory fault _ f.2 known)
 
   left_at : (a1 a2 : Option (List ℕ)) (fault : RecordFault) → (fault.kind ≡ Truncated → IsAtEnd b1) → LeftCase a1 a2 fault → IsOfText fault.kind → ForBoth a1 a2 (λ t u xs ys. Place w0 w1 t u xs ys (last_of [] xs) n)
   left_at None a2 fault ended s known = tt
   left_at (Some t) None fault ended s known = tt
-  left_at (Some t) (Some u) fault ended (inl s) known = λ xs ys gx gy. ([], inl (inl (no_magic t b1 fault known ended s.2), refl), s.1, s.0)
-  left_at (Some t) (Some u) fault ended (inr s) known = λ xs ys gx gy. left_place t u b1 b2 w0 w1 xs ys gx gy fault n s known ended
+  left_at (Some t) (Some u) fault ended (inl s) known = λ xs ys gx gy. ([], inl (inl (no_magic t b1 fault known ended s.3), refl), s.1, s.0)
+  left_at (Some t) (Some u) fault ended (inr (inl s)) known = λ xs ys gx gy. left_place t u b1 b2 w0 w1 xs ys gx gy fault n s known ended
+  left_at (Some t) (Some u) fault ended (inr (inr f)) known = absurd (not_memory fault _ f.2 known)
 
   left_begins : (a1 a2 : Option (List ℕ)) (fault : RecordFault) → LeftCase a1 a2 fault → ForBoth a1 a2 (λ t u xs ys. WritesFirst w0 w1 (written (of_both xs ys)) n)
   left_begins None a2 fault s = tt
   left_begins (Some t) None fault s = tt
   left_begins (Some t) (Some u) fault (inl s) = λ xs ys gx gy. begun_nothing w0 w1 (of_both xs ys) n s.0 s.1
-  left_begins (Some t) (Some u) fault (inr s) = λ xs ys gx gy. left_begun t u b1 b2 w0 w1 xs ys gx gy fault n s
+  left_begins (Some t) (Some u) fault (inr (inl s)) = λ xs ys gx gy. left_begun t u b1 b2 w0 w1 xs ys gx gy fault n s
+  left_begins (Some t) (Some u) fault (inr (inr f)) = λ xs ys gx gy. full_begun t u b1 b2 w0 w1 xs ys gx gy fault n f.0
 
   left_stopped : (a1 a2 : Option (List ℕ)) (fault : RecordFault) → LeftCase a1 a2 fault → HasStopped Archive a1 b1 fault
-  left_stopped a1 a2 fault (inl s) = before_records a1 b1 fault s.2
-  left_stopped a1 a2 fault (inr s) = inr (s.lefts, s.left)
+  left_stopped a1 a2 fault (inl s) = before_records a1 b1 fault s.3
+  left_stopped a1 a2 fault (inr (inl s)) = inr (s.lefts, s.left)
+  left_stopped a1 a2 fault (inr (inr f)) = inr (f.0.lefts, full_left a1 a2 f.0 fault f.1 f.2)
 
   -- ---- the right side did
 
   abbrev RightCase : Option (List ℕ) → Option (List ℕ) → RecordFault → Type 0
-  RightCase a1 a2 fault = ((n ≡ 0) × Appends w0 w1 [] × Consumes a1 b1 magic × StopsBeforeRecords a2 b2 fault) ⊎ RightStopped a1 b1 a2 b2 w0 w1 fault n
+  RightCase a1 a2 fault = ((n ≡ 0) × Appends w0 w1 [] × Consumes a1 b1 magic × StopsBeforeRecords a2 b2 fault) ⊎ (RightStopped a1 b1 a2 b2 w0 w1 fault n ⊎ RightFull a1 b1 a2 b2 w0 w1 fault n)
 
   right_stops : (a1 a2 : Option (List ℕ)) (fault : RecordFault) → (fault.kind ≡ Truncated → IsAtEnd b2) → NoText a2 fault → RightCase a1 a2 fault → IsOfText fault.kind → ForBoth a1 a2 RightStops
   right_stops None a2 fault ended alone s known = tt
@@ -100,23 +135,27 @@ module _ (b1 b2 w0 w1 : Option (List ℕ)) (n : ℕ) where
   right_stops (Some t) (Some u) fault ended alone (inl s) known = λ xs ys gx gy.
       let k = taken_of t magic b1 s.2 in
       record { faulty = no_text (Some u) u fault refl alone known; magic_left = (k.0, k.1); first = inl (no_magic u b2 fault known ended s.3) }
-  right_stops (Some t) (Some u) fault ended alone (inr s) known = λ xs ys gx gy. right_first t u b1 b2 w0 w1 xs ys gx gy fault n s known ended (no_text (Some u) u fault refl alone known)
+  right_stops (Some t) (Some u) fault ended alone (inr (inl s)) known = λ xs ys gx gy. right_first t u b1 b2 w0 w1 xs ys gx gy fault n s known ended (no_text (Some u) u fault refl alone known)
+  right_stops (Some t) (Some u) fault ended alone (inr (inr f)) known = absurd (not_memory fault _ f.2 known)
 
   right_at : (a1 a2 : Option (List ℕ)) (fault : RecordFault) → (fault.kind ≡ Truncated → IsAtEnd b2) → RightCase a1 a2 fault → IsOfText fault.kind → ForBoth a1 a2 (λ t u xs ys. Place w0 w1 t u xs ys (last_of [] ys) n)
   right_at None a2 fault ended s known = tt
   right_at (Some t) None fault ended s known = tt
   right_at (Some t) (Some u) fault ended (inl s) known = λ xs ys gx gy. ([], inl (inr (no_magic u b2 fault known ended s.3), refl), s.1, s.0)
-  right_at (Some t) (Some u) fault ended (inr s) known = λ xs ys gx gy. right_place t u b1 b2 w0 w1 xs ys gx gy fault n s known ended
+  right_at (Some t) (Some u) fault ended (inr (inl s)) known = λ xs ys gx gy. right_place t u b1 b2 w0 w1 xs ys gx gy fault n s known ended
+  right_at (Some t) (Some u) fault ended (inr (inr f)) known = absurd (not_memory fault _ f.2 known)
 
   right_begins : (a1 a2 : Option (List ℕ)) (fault : RecordFault) → RightCase a1 a2 fault → ForBoth a1 a2 (λ t u xs ys. WritesFirst w0 w1 (written (of_both xs ys)) n)
   right_begins None a2 fault s = tt
   right_begins (Some t) None fault s = tt
   right_begins (Some t) (Some u) fault (inl s) = λ xs ys gx gy. begun_nothing w0 w1 (of_both xs ys) n s.0 s.1
-  right_begins (Some t) (Some u) fault (inr s) = λ xs ys gx gy. right_begun t u b1 b2 w0 w1 xs ys gx gy fault n s
+  right_begins (Some t) (Some u) fault (inr (inl s)) = λ xs ys gx gy. right_begun t u b1 b2 w0 w1 xs ys gx gy fault n s
+  right_begins (Some t) (Some u) fault (inr (inr f)) = λ xs ys gx gy. full_begun t u b1 b2 w0 w1 xs ys gx gy fault n f.0
 
   right_stopped : (a1 a2 : Option (List ℕ)) (fault : RecordFault) → RightCase a1 a2 fault → HasStopped Archive a2 b2 fault
   right_stopped a1 a2 fault (inl s) = before_records a2 b2 fault s.3
-  right_stopped a1 a2 fault (inr s) = inr (s.rights, s.right)
+  right_stopped a1 a2 fault (inr (inl s)) = inr (s.rights, s.right)
+  right_stopped a1 a2 fault (inr (inr f)) = inr (f.0.rights, full_right a1 a2 f.0 fault f.1 f.2)
 
   -- ---- the writer did
 
@@ -142,6 +181,7 @@ module _ {R S W : Type 0} (left : Stream R) (right : Stream S) (out : Stream W) 
           out_unfailed = blames.2;
           stops = left_stops _ _ _ _ n _ _ fault blames.0.2 refused.1 s;
           place = left_at _ _ _ _ n _ _ fault blames.0.2 s;
+          order = left_order left right out n fault s;
         },
         left_begins _ _ _ _ n _ _ fault s,
       )
@@ -153,6 +193,7 @@ module _ {R S W : Type 0} (left : Stream R) (right : Stream S) (out : Stream W) 
           out_unfailed = blames.2;
           stops = right_stops _ _ _ _ n _ _ fault blames.1.2 refused.1 s;
           place = right_at _ _ _ _ n _ _ fault blames.1.2 s;
+          order = right_order left right out n fault s;
         },
         right_begins _ _ _ _ n _ _ fault s,
       )
@@ -172,6 +213,7 @@ module _ {R S W : Type 0} (left : Stream R) (right : Stream S) (out : Stream W) 
         p = p;
         left_is = read_whole left m.lefts m.left.reader m.left_read.0 m.left_read.1 unfailed.0;
         right_is = read_whole right m.rights m.right.reader m.right_read.0 m.right_read.1 unfailed.1;
+        few = subst (λ (n : ℕ). n < 2 ^ 63) (ap length (sym whole) ∙ length_written (joined o p)) m.few;
         written_is = record {
           written = subst (Appends (out.bytes out.old) (out.bytes out.new)) text m.gained;
           records_are = m.records ∙ ap length (sym whole) ∙ length_written (joined o p);

@@ -21,7 +21,7 @@ use Rattle.archive_records.specs.Text.{end_record, text_of, InOrder, last_of, wr
 use Rattle.archive_records.specs.Fault.{IsOfText}
 use Rattle.archive_records.specs.Front.{IsLongestFront}
 use Rattle.archive_records.specs.Merging.{HasMagic, IsArchiveText, AreGoodRecords, LeftStops, RightStops, of_both, up_to, IsWrittenBefore}
-use Rattle.archive_records.specs.Turns.{Joins, StopsBeforeRecords, LeftStopped, RightStopped, WriteStopped}
+use Rattle.archive_records.specs.Turns.{Joins, StopsBeforeRecords, LeftStopped, RightStopped, WriteStopped, IsFull}
 use Rattle.archive_records.proofs.Contents.{order, contained, containing, listing_is, members_listed, sorted-InOrder, InOrder-listing, IsContent-records, written_text}
 use Rattle.archive_records.proofs.Exact.{no_magic_fault}
 use Rattle.archive_records.proofs.Inputs.{magic_stop, grown_magic}
@@ -307,3 +307,19 @@ module _ (t u : List ℕ) (b1 b2 w0 w1 : Option (List ℕ)) (xs ys : List (List 
               let whole : text_of Archive s.out ≡ written (of_both xs ys) = sym (written_text (of_both xs ys) ∙ ap (text_of Archive) (joins_listing xs ys s.out here)) in
               record { within = omega (arith, e.2, ap length whole); gained = subst (λ (x : List ℕ). Appends w0 w1 (take n x)) whole s.gained }
         ]
+
+  -- as many records were written as there may be
+
+  module _ (s : IsFull (Some t) b1 (Some u) b2 w0 w1 n) where
+    fx : IsLongestFront Archive t xs
+    fx = front_of t xs (has_magic t (last_of [] s.out) b1 s.lefts s.left_side s.left) gx
+
+    fy : IsLongestFront Archive u ys
+    fy = front_of u ys (has_magic u (last_of [] s.out) b2 s.rights s.right_side s.right) gy
+
+    pub full_begun : WritesFirst w0 w1 (written (of_both xs ys)) n
+    full_begun =
+        let f = goes_on t (last_of [] s.out) b1 s.lefts xs s.left_side s.left fx in
+        let g = goes_on u (last_of [] s.out) b2 s.rights ys s.right_side s.right fy in
+        let m = begins s.out s.lefts s.rights f.more g.more xs ys s.joins fx.front.ordered fy.front.ordered f.is g.is f.ordered g.ordered in
+        begun_whole w0 w1 (of_both xs ys) s.out m.0 n m.1 s.written_is s.gained

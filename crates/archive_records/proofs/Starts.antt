@@ -1,8 +1,8 @@
 -- How a merge begins and ends.
-use Rattle.std.proofs.Common.{◌≡◌, ℕ, ◌+◌, List, [], ◌++◌, length, take, Option, refl, sym, ap, ◌∙◌, subst, arith, inl, inr, append_assoc, length-append}
+use Rattle.std.proofs.Common.{◌≡◌, ℕ, ◌+◌, List, [], ◌++◌, length, take, Option, refl, sym, ap, ◌∙◌, subst, arith, inl, inr, ◌⊎◌, append_assoc, length-append}
 use Rattle.std.proofs.lemmas.List.{append-nil, take-append-le}
 use Rattle.std.specs.List.{concat}
-use Rattle.std.specs.Io.KnownBytes.{Appends}
+use Rattle.std.specs.Io.KnownBytes.{Appends, Consumes}
 use Rattle.byte_device.specs.Writes.{WritesFirst}
 use Rattle.byte_device.proofs.Gains.{stopped}
 use Rattle.archive_records.specs.declared.kind.TextKind.TheVariants.{Archive}
@@ -12,7 +12,10 @@ use Rattle.archive_records.specs.declared.side.Side.{Side}
 use Rattle.archive_records.specs.Kind.{magic}
 use Rattle.archive_records.specs.Text.{end_record, text_of}
 use Rattle.archive_records.specs.Reader.{HasRead}
-use Rattle.archive_records.specs.Turns.{Stands, Joins, Merging, WriteStopped}
+use Rattle.archive_records.specs.Turns.{Stands, Joins, Merging, StopsBeforeRecords, LeftStopped, RightStopped, WriteStopped, LeftFull, RightFull, ByCause, HasStoppedMerge, Stops as MergeStops}
+use Rattle.archive_records.specs.declared.fault.MergeCause.{MergeCause}
+use Rattle.archive_records.specs.declared.fault.MergeCause.TheVariants.{Left, Right, Write}
+use Rattle.archive_records.specs.declared.fault.MergeFault.{MergeFault}
 
 stands_start : (a b : Option (List ℕ)) (side : Side) → HasRead Archive a b [] side.reader → side.ahead ≡ Unread → Stands a b [] [] side
 stands_start a b side h s = record { unread = λ _. (h, refl); held = λ t. absurd (unread_not_held (sym s ∙ t)); ended = λ t. absurd (unread_not_ended (sym s ∙ t)) }
@@ -34,6 +37,7 @@ module _ (a1 b1 a2 b2 w0 w1 : Option (List ℕ)) (left right : Side) (h : HasRea
     out = [];
     left = stands_start a1 b1 left h s;
     right = stands_start a2 b2 right k t;
+    order = λ _ n. absurd (n t);
     joins = joins_start;
     records = refl;
     bytes = omega (arith, n, ap length x_is);
@@ -77,3 +81,21 @@ stops_end a1 b1 a2 b2 w0 w1 w2 m written n p is q l r =
       within = inr (l, r, rw is s.within);
       gained = rw is s.gained;
     }
+
+-- a merge that stopped behind the magic stopped
+pub stops_later : (a1 b1 a2 b2 w0 w1 : Option (List ℕ)) (e : MergeFault) → HasStoppedMerge a1 b1 a2 b2 w0 w1 e → MergeStops a1 b1 a2 b2 w0 w1 e
+stops_later a1 b1 a2 b2 w0 w1 e h = by e.cause h
+  where
+    by : (c : MergeCause) → ByCause c
+      (λ fault. LeftStopped a1 b1 a2 b2 w0 w1 fault e.written ⊎ LeftFull a1 b1 a2 b2 w0 w1 fault e.written)
+      (λ fault. RightStopped a1 b1 a2 b2 w0 w1 fault e.written ⊎ RightFull a1 b1 a2 b2 w0 w1 fault e.written)
+      (WriteStopped a1 b1 a2 b2 w0 w1 e.written)
+      → ByCause c
+      (λ fault. ((e.written ≡ 0) × Appends w0 w1 [] × Consumes a2 b2 [] × StopsBeforeRecords a1 b1 fault)
+      ⊎ (LeftStopped a1 b1 a2 b2 w0 w1 fault e.written ⊎ LeftFull a1 b1 a2 b2 w0 w1 fault e.written))
+      (λ fault. ((e.written ≡ 0) × Appends w0 w1 [] × Consumes a1 b1 magic × StopsBeforeRecords a2 b2 fault)
+      ⊎ (RightStopped a1 b1 a2 b2 w0 w1 fault e.written ⊎ RightFull a1 b1 a2 b2 w0 w1 fault e.written))
+      (WriteStopped a1 b1 a2 b2 w0 w1 e.written)
+    by (Left fault) p = inr p
+    by (Right fault) p = inr p
+    by Write p = p

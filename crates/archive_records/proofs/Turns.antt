@@ -1,5 +1,5 @@
 -- A turn of a merge: the record that is next is written.
-use Rattle.std.proofs.Common.{◌≡◌, ◌≢◌, ℕ, ◌+◌, true, List, [], ◌∷◌, ◌++◌, length, Option, Result, Ok, Err, refl, sym, ap, ◌∙◌, subst, arith, inl, append_assoc, length-append}
+use Rattle.std.proofs.Common.{◌≡◌, ◌≢◌, ℕ, ◌+◌, ◌-◌, true, List, [], ◌∷◌, ◌++◌, length, Option, Result, Ok, Err, refl, sym, ap, ◌∙◌, subst, arith, inl, inr, ◌⊎◌, append_assoc, length-append}
 use Rattle.std.specs.Prelude.{IfErr, OnOk, MatchResult}
 use Rattle.std.specs.declared.cmp.Ordering.{Ordering}
 use Rattle.std.specs.declared.cmp.Ordering.TheVariants.{Less, Equal, Greater}
@@ -18,10 +18,14 @@ use Rattle.archive_records.specs.declared.writing.Sizes.{Sizes}
 use Rattle.archive_records.specs.Kind.{magic, may_follow}
 use Rattle.archive_records.specs.Text.{end_record, text_of, last_of}
 use Rattle.archive_records.specs.Reader.{HasRead}
-use Rattle.archive_records.specs.Turns.{Stands, Joins, Merging, WriteStopped, IsWritten, first_by, first_of}
+use Rattle.archive_records.specs.Front.{front_length}
+use Rattle.archive_records.specs.Merging.{most_records}
+use Rattle.archive_records.specs.declared.fault.MergeCause.{MergeCause}
+use Rattle.archive_records.specs.declared.fault.MergeFault.{MergeFault}
+use Rattle.archive_records.specs.Turns.{Stands, Joins, Merging, LeftStopped, RightStopped, WriteStopped, IsFull, LeftFull, RightFull, ByCause, HasStoppedMerge, IsWritten, first_by, first_of, Fits, IsRead, IsRefusedMore, memory_behind}
 use Rattle.archive_records.proofs.Puts.{bytes_same, concat-push}
 use Rattle.archive_records.proofs.Steps.{last_of-push}
-use Rattle.archive_records.proofs.Ascending.{below-less, below-greater, last_is_record}
+use Rattle.archive_records.proofs.Ascending.{below-less, below-greater, last_is_record, last_under}
 use Rattle.archive_records.proofs.Unions.{Joins-left, Joins-right, Joins-both}
 
 -- ---- which is first
@@ -40,7 +44,7 @@ first_equal Held Unread o e = absurd cc
 first_equal Ended r o e = absurd cc
 first_equal Unread r o e = absurd cc
 
-first_greater : (l r : Ahead) (o : Ordering) → l ≢ Unread → (l ≡ Ended → r ≡ Held) → first_by l r o ≡ Greater → (r ≡ Held) × (l ≡ Held → o ≡ Greater)
+pub first_greater : (l r : Ahead) (o : Ordering) → l ≢ Unread → (l ≡ Ended → r ≡ Held) → first_by l r o ≡ Greater → (r ≡ Held) × (l ≡ Held → o ≡ Greater)
 first_greater Held Held o read some e = (refl, λ _. e)
 first_greater Held Ended o read some e = absurd cc
 first_greater Held Unread o read some e = absurd cc
@@ -78,6 +82,7 @@ record Next (a1 b1 a2 b2 : Option (List ℕ)) (l r : Side) (out : List (List ℕ
   rights : List (List ℕ)
   left : Stands a1 b1 lefts (last_of [] out) l
   right : Stands a2 b2 rights (last_of [] out) r
+  order : l.ahead ≡ Unread → r.ahead ≢ Unread → may_follow Archive (last_of [] rights) (last_of [] out) ≡ true
   joins : Joins out lefts rights
 
 module _ (a1 b1 a2 b2 w0 w1 w2 : Option (List ℕ)) (m : Merge) (p : Merging a1 b1 a2 b2 w0 w1 m) where
@@ -91,6 +96,7 @@ module _ (a1 b1 a2 b2 w0 w1 w2 : Option (List ℕ)) (m : Merge) (p : Merging a1 
         rights = p.rights;
         left = wrote_own a1 b1 p.lefts p.out x m.left refl h.0;
         right = wrote_other a2 b2 p.rights p.out _ x m.right read (λ t. below-less _ _ (f.1 t)) p.right;
+        order = λ _ _. subst (λ (t : List ℕ). may_follow Archive (last_of [] p.rights) t ≡ true) (sym (last_of-push [] p.out x)) (last_under p.out p.rights x p.joins.ordered p.joins.right h.1);
         joins = Joins-left p.out p.lefts p.rights x p.joins (last_is_record [] p.lefts _ h.0.ordered) h.1;
       }
 
@@ -104,6 +110,7 @@ module _ (a1 b1 a2 b2 w0 w1 w2 : Option (List ℕ)) (m : Merge) (p : Merging a1 
         rights = p.rights ++ x ∷ [];
         left = wrote_other a1 b1 p.lefts p.out _ x m.left read (λ t. below-greater _ _ (f.1 t)) p.left;
         right = wrote_own a2 b2 p.rights p.out x m.right refl h.0;
+        order = λ t _. absurd (read t);
         joins = Joins-right p.out p.lefts p.rights x p.joins (last_is_record [] p.rights _ h.0.ordered) h.1;
       }
 
@@ -118,6 +125,7 @@ module _ (a1 b1 a2 b2 w0 w1 w2 : Option (List ℕ)) (m : Merge) (p : Merging a1 
         rights = p.rights ++ x ∷ [];
         left = wrote_own a1 b1 p.lefts p.out x m.left refl h.0;
         right = wrote_own a2 b2 p.rights p.out x m.right (bytes_same _ _ f.2) k.0;
+        order = λ _ t. absurd (t refl);
         joins = Joins-both p.out p.lefts p.rights x p.joins (last_is_record [] p.lefts _ h.0.ordered) h.1;
       }
 
@@ -130,6 +138,7 @@ module _ (a1 b1 a2 b2 w0 w1 w2 : Option (List ℕ)) (m : Merge) (p : Merging a1 
         out = p.out ++ x ∷ [];
         left = n.left;
         right = n.right;
+        order = n.order;
         joins = n.joins;
         records = omega (arith, i.records, p.records, length-append p.out (x ∷ []));
         bytes = omega (arith, i.bytes, ap length e, p.bytes, ap length (concat-push p.out x), length-append (concat p.out) x);
@@ -182,3 +191,55 @@ module _ (a1 b1 a2 b2 w0 w1 w2 : Option (List ℕ)) (m : Merge) (p : Merging a1 
             → MatchResult r (λ _. Merging a1 b1 a2 b2 w0 w2 (record { left = m.left; right = side; written = written })) (λ fault. WriteStopped a1 b1 a2 b2 w0 w2 fault.written)
         by (Ok x) i e = subst (λ (s : Side). Merging a1 b1 a2 b2 w0 w2 (record { left = m.left; right = s; written = written })) (sym i.side) (wrote m.right.reader.last m.left (unread_of m.right) m.right side written refl (next_right read some first) i)
         by (Err fault) i e = write_stops m.right.reader.last m.left (unread_of m.right) fault.written e.0 (next_right read some first) e.1 e.2
+
+-- ---- as many records were written as there may be
+
+pub first_held : (l r : Ahead) (o : Ordering) → first_by l r o ≢ Greater → l ≡ Held
+first_held Held r o n = refl
+first_held Ended r o n = absurd (n refl)
+first_held Unread r o n = absurd (n refl)
+
+-- the offset before the last record
+before_last : (a b : Option (List ℕ)) (done : List (List ℕ)) (low : List ℕ) (s : Side) → Stands a b done low s → s.ahead ≡ Held → s.reader.offset - length s.reader.last ≡ front_length done
+before_last a b done low s p held =
+    let h = (p.held held).0 in
+    omega (arith, h.offset_is, ap length (concat-push done s.reader.last), length-append (concat done) s.reader.last)
+
+module _ (a1 b1 a2 b2 w0 w1 : Option (List ℕ)) (m : Merge) (p : Merging a1 b1 a2 b2 w0 w1 m) (fits : Fits m) (read : IsRead m) (some : m.left.ahead ≡ Ended → m.right.ahead ≡ Held) where
+  is_full : (written : ℕ) → m.written.records ≡ most_records → written ≡ m.written.bytes → IsFull a1 b1 a2 b2 w0 w1 written
+  is_full written most is = record {
+    lefts = p.lefts;
+    rights = p.rights;
+    out = p.out;
+    left_side = m.left;
+    right_side = m.right;
+    left = p.left;
+    right = p.right;
+    left_read = read.left;
+    right_read = read.right;
+    left_few = fits.left_few;
+    right_few = fits.right_few;
+    some = some;
+    joins = p.joins;
+    most = sym p.records ∙ most;
+    written_is = is ∙ p.bytes;
+    gained = p.gained;
+  }
+
+  pub full_stops : (e : MergeFault) → IsRefusedMore m e → HasStoppedMerge a1 b1 a2 b2 w0 w1 e
+  unfolding is_full
+  full_stops e (most, is, inl (first, cause)) =
+      let offset = before_last a1 b1 p.lefts (last_of [] p.out) m.left p.left (first_held m.left.ahead m.right.ahead _ first) in
+      subst (λ (c : MergeCause). ByCause c
+      (λ fault. LeftStopped a1 b1 a2 b2 w0 w1 fault e.written ⊎ LeftFull a1 b1 a2 b2 w0 w1 fault e.written)
+      (λ fault. RightStopped a1 b1 a2 b2 w0 w1 fault e.written ⊎ RightFull a1 b1 a2 b2 w0 w1 fault e.written)
+      (WriteStopped a1 b1 a2 b2 w0 w1 e.written)) (sym cause)
+      (inr (is_full e.written most is, first, ap (λ (n : ℕ). memory_behind n) offset))
+  full_stops e (most, is, inr (first, cause)) =
+      let held = (first_greater m.left.ahead m.right.ahead _ read.left some first).0 in
+      let offset = before_last a2 b2 p.rights (last_of [] p.out) m.right p.right held in
+      subst (λ (c : MergeCause). ByCause c
+      (λ fault. LeftStopped a1 b1 a2 b2 w0 w1 fault e.written ⊎ LeftFull a1 b1 a2 b2 w0 w1 fault e.written)
+      (λ fault. RightStopped a1 b1 a2 b2 w0 w1 fault e.written ⊎ RightFull a1 b1 a2 b2 w0 w1 fault e.written)
+      (WriteStopped a1 b1 a2 b2 w0 w1 e.written)) (sym cause)
+      (inr (is_full e.written most is, first, ap (λ (n : ℕ). memory_behind n) offset))

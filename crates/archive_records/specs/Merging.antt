@@ -1,22 +1,24 @@
 -- A merge of two texts: what is written of two archives, and else which side stops it, and where.
-use Rattle.std.specs.Prelude.{◌≡◌, ℕ, true, not, List, [], ◌++◌, length, filter, Option, IfSome, Result, Ok, Err, ◌⊎◌}
+use Rattle.std.specs.Prelude.{◌≡◌, ℕ, ◌+◌, ◌-◌, ◌^◌, ◌<◌, true, not, List, [], ◌++◌, length, filter, Option, IfSome, Result}
+use Rattle.std.specs.Prelude.{Ok, Err, ◌⊎◌}
 use Rattle.std.specs.List.{concat}
 use Rattle.std.specs.FinSet as set
-use Rattle.std.specs.Io.KnownBytes.{Appends}
+use Rattle.std.specs.Io.KnownBytes.{Appends, Consumes, IsAtEnd}
 use Rattle.join_core.specs.Listing.{listing}
 use Rattle.byte_device.specs.Devices.{FailedIn}
 use Rattle.byte_device.specs.Writes.{WritesFirst}
 use Rattle.archive_core.specs.Content.{Operations, IsContent, joined}
 use Rattle.archive_records.specs.declared.fault.RecordFault.{RecordFault}
+use Rattle.archive_records.specs.declared.fault.RecordFaultKind.TheVariants.{Trailing, OutOfMemory}
 use Rattle.archive_records.specs.declared.fault.MergeCause.{MergeCause}
 use Rattle.archive_records.specs.declared.fault.MergeCause.TheVariants.{Left, Right, Write}
 use Rattle.archive_records.specs.declared.fault.MergeFault.{MergeFault}
 use Rattle.archive_records.specs.declared.kind.TextKind.TheVariants.{Archive}
 use Rattle.archive_records.specs.declared.writing.Sizes.{Sizes}
-use Rattle.archive_records.specs.Kind.{magic, may_follow}
-use Rattle.archive_records.specs.Text.{written, last_of}
+use Rattle.archive_records.specs.Kind.{magic, IsItem, may_follow}
+use Rattle.archive_records.specs.Text.{written, end_record, InOrder, last_of}
 use Rattle.archive_records.specs.Fault.{IsOfText}
-use Rattle.archive_records.specs.Front.{IsLongestFront}
+use Rattle.archive_records.specs.Front.{IsLongestFront, front_length}
 use Rattle.archive_records.specs.Reading.{IsReadWhole, ReadsWhole}
 use Rattle.archive_records.specs.Writing.{IsWrittenWhole}
 
@@ -105,6 +107,88 @@ ForTexts left right P =
     IfSome (left.bytes left.old) (λ t. IfSome (right.bytes right.old) (λ u.
     (lefts rights : List (List ℕ)) → AreGoodRecords t lefts → AreGoodRecords u rights → P t u lefts rights))
 
+-- ---- what was taken of the sides
+
+-- how many records an archive has at most
+abbrev pub most_records : ℕ
+most_records = 2 ^ 63 - 1
+
+-- Of the side were taken its magic, these ascending records, and these bytes behind them.
+pub record IsTaken {R : Type 0} (side : Stream R) (records : List (List ℕ)) (behind : List ℕ) : Type 0 where
+  pub taken : Consumes (side.bytes side.old) (side.bytes side.new) (magic ++ (concat records ++ behind))
+  pub ordered : InOrder Archive [] records
+
+-- what was taken behind these records of a side that was read on once this record was written: one that is above it, or
+-- the end record, and the side is at its end
+abbrev pub IsNext : {R : Type 0} → Stream R → List ℕ → List (List ℕ) → List ℕ → Type 0
+IsNext side low records next =
+    (IsItem Archive next × (may_follow Archive low next ≡ true))
+    ⊎ ((next ≡ end_record (length records)) × IsAtEnd (side.bytes side.new))
+
+-- It is the left side's turn: its last record was written last, and the right side was read on only if its own is below
+-- that one; where both are the same, or there is none yet, the left side is read first.
+abbrev pub IsTurnOfLeft : {S : Type 0} → Stream S → List (List ℕ) → List (List ℕ) → List ℕ → Type 0
+IsTurnOfLeft right lefts rights next =
+    ((last_of [] rights ≡ last_of [] lefts) × (next ≡ []))
+    ⊎ (EndsBelow rights lefts × IsNext right (last_of [] lefts) rights next)
+
+-- It is the right side's turn: its last record was written last, and the left side was read on.
+abbrev pub IsTurnOfRight : {R : Type 0} → Stream R → List (List ℕ) → List (List ℕ) → List ℕ → Type 0
+IsTurnOfRight left lefts rights next =
+    (EndsBelow rights lefts → ⊥) × IsNext left (last_of [] rights) lefts next
+
+-- As many records were written as there may be, and both sides were read on: this one has one more.
+pub record IsOneMore {R S : Type 0} (side : Stream R) (other : Stream S) (o : Operations) (others : List (List ℕ))
+    (more next : List ℕ) : Type 0 where
+  pub most : set.len o ≡ most_records
+  pub more_is : IsItem Archive more × (may_follow Archive (last_of [] (listing o)) more ≡ true)
+  pub next_is : IsNext other (last_of [] (listing o)) others next
+
+-- the offset of a fault behind these records; for bytes behind the end record, behind that too
+abbrev pub IsBehind : List (List ℕ) → RecordFault → Type 0
+IsBehind records fault =
+    (fault.offset ≡ front_length records) ⊎ ((fault.kind ≡ Trailing) × (fault.offset ≡ front_length records + 9))
+
+-- The magic and these records were written, and no more: n bytes.
+abbrev pub IsOut : {W : Type 0} → Stream W → List (List ℕ) → ℕ → Type 0
+IsOut out records n = Gains out (magic ++ concat records) × (n ≡ length (magic ++ concat records))
+
+-- Nothing was written, and no fault of a magic stands behind any byte.
+abbrev pub IsInMagic : {W : Type 0} → Stream W → RecordFault → ℕ → Type 0
+IsInMagic out fault n = (fault.offset ≡ 0) × (n ≡ 0) × Gains out []
+
+-- The left side is refused behind its magic, and these records of both were written, and no others.
+pub record IsLeftBehind {R S W : Type 0} (left : Stream R) (right : Stream S) (out : Stream W) (fault : RecordFault)
+    (n : ℕ) : Type 0 where
+  pub lefts : List (List ℕ)
+  pub rights : List (List ℕ)
+  pub left_next : List ℕ
+  pub right_next : List ℕ
+  pub left_taken : IsTaken left lefts left_next
+  pub right_taken : IsTaken right rights right_next
+  pub behind : IsBehind lefts fault
+  pub out_is : IsOut out (listing (of_both lefts rights)) n
+  pub turn : IsTurnOfLeft right lefts rights right_next
+      ⊎ ((fault.kind ≡ OutOfMemory) × IsOneMore left right (of_both lefts rights) rights left_next right_next
+      × (IsItem Archive right_next → may_follow Archive right_next left_next ≡ true → ⊥))
+
+-- The right side is.
+pub record IsRightBehind {R S W : Type 0} (left : Stream R) (right : Stream S) (out : Stream W) (fault : RecordFault)
+    (n : ℕ) : Type 0 where
+  pub lefts : List (List ℕ)
+  pub rights : List (List ℕ)
+  pub left_next : List ℕ
+  pub right_next : List ℕ
+  pub left_taken : IsTaken left lefts left_next
+  pub right_taken : IsTaken right rights right_next
+  pub behind : IsBehind rights fault
+  pub out_is : IsOut out (listing (of_both lefts rights)) n
+  pub turn : IsTurnOfRight left lefts rights left_next
+      ⊎ ((fault.kind ≡ OutOfMemory) × IsOneMore right left (of_both lefts rights) lefts right_next left_next
+      × (IsItem Archive left_next → may_follow Archive right_next left_next ≡ true))
+
+-- ---- what came of it
+
 -- The left side is refused, and, unless its device failed or memory was wanted, it is the one that stops the merge.
 pub record StopsLeft {R S W : Type 0} (left : Stream R) (right : Stream S) (out : Stream W) (fault : RecordFault)
     (n : ℕ) : Type 0 where
@@ -114,6 +198,8 @@ pub record StopsLeft {R S W : Type 0} (left : Stream R) (right : Stream S) (out 
   pub stops : IsOfText fault.kind → ForTexts left right LeftStops
   pub place : IsOfText fault.kind → ForTexts left right
       (λ t u lefts rights. IsWrittenUpTo out t u (of_both lefts rights) (last_of [] lefts) n)
+  pub order : (IsInMagic out fault n × Consumes (right.bytes right.old) (right.bytes right.new) [])
+      ⊎ IsLeftBehind left right out fault n
 
 -- The right side is.
 pub record StopsRight {R S W : Type 0} (left : Stream R) (right : Stream S) (out : Stream W) (fault : RecordFault)
@@ -124,6 +210,8 @@ pub record StopsRight {R S W : Type 0} (left : Stream R) (right : Stream S) (out
   pub stops : IsOfText fault.kind → ForTexts left right RightStops
   pub place : IsOfText fault.kind → ForTexts left right
       (λ t u lefts rights. IsWrittenUpTo out t u (of_both lefts rights) (last_of [] rights) n)
+  pub order : (IsInMagic out fault n × Consumes (left.bytes left.old) (left.bytes left.new) magic)
+      ⊎ IsRightBehind left right out fault n
 
 -- The writer failed, and no reader did.
 pub record StopsWrite {R S W : Type 0} (left : Stream R) (right : Stream S) (out : Stream W) : Type 0 where
@@ -137,13 +225,14 @@ StopsBy left right out (Left fault) n = StopsLeft left right out fault n
 StopsBy left right out (Right fault) n = StopsRight left right out fault n
 StopsBy left right out Write n = StopsWrite left right out
 
--- Both inputs are the texts of contents, and the text of their join was written.
+-- Both inputs are the texts of contents, and the text of their join was written, which has not too many records.
 pub record IsMerged {R S W : Type 0} (left : Stream R) (right : Stream S) (out : Stream W) (sizes : Sizes)
     : Type 0 where
   pub o : Operations
   pub p : Operations
   pub left_is : IsReadWhole Archive o left.bytes left.failures left.old left.new
   pub right_is : IsReadWhole Archive p right.bytes right.failures right.old right.new
+  pub few : set.len (joined o p) < 2 ^ 63
   pub written_is : IsWrittenWhole out.bytes out.failures out.old out.new (set.len (joined o p)) (written (joined o p))
       sizes
 

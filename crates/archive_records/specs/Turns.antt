@@ -9,6 +9,8 @@ use Rattle.std.specs.List.{concat, Contains}
 use Rattle.std.specs.Io.KnownBytes.{Appends, Consumes, IsAtEnd}
 use Rattle.byte_device.specs.Devices.{FailedIn}
 use Rattle.archive_records.specs.declared.fault.RecordFault.{RecordFault}
+use Rattle.archive_records.specs.declared.fault.RecordFaultKind.TheVariants.{OutOfMemory}
+use Rattle.archive_records.specs.Front.{front_length}
 use Rattle.archive_records.specs.declared.fault.MergeCause.{MergeCause}
 use Rattle.archive_records.specs.declared.fault.MergeCause.TheVariants.{Left, Right, Write}
 use Rattle.archive_records.specs.declared.fault.MergeFault.{MergeFault}
@@ -21,7 +23,7 @@ use Rattle.archive_records.specs.declared.writing.Sizes.{Sizes}
 use Rattle.archive_records.specs.Kind.{magic, may_follow}
 use Rattle.archive_records.specs.Text.{text_of, InOrder, last_of}
 use Rattle.archive_records.specs.Reading.{Blames}
-use Rattle.archive_records.specs.Merging.{Stream, IsUnfailed}
+use Rattle.archive_records.specs.Merging.{Stream, IsUnfailed, most_records}
 use Rattle.archive_records.specs.Reader.{HasRead, HasReadAll, Stopped, StopsInMagic}
 
 -- ---- one side
@@ -41,12 +43,6 @@ pub record StopsBeforeRecords (a b : Option (List ℕ)) (fault : RecordFault) : 
   pub stops : StopsInMagic Archive bytes fault.kind
   pub start : fault.offset ≡ 0
 
--- how many records are held
-abbrev pub held_by : Ahead → ℕ
-held_by Unread = 0
-held_by Held = 1
-held_by Ended = 0
-
 abbrev pub cost : Ahead → ℕ
 cost Unread = 1
 cost Held = 2
@@ -63,6 +59,19 @@ pub record IsWritten (w0 w1 : Option (List ℕ)) (before after : Sizes) (old new
   pub bytes : after.bytes ≡ before.bytes + length old.reader.last
   pub side : new ≡ record { reader = old.reader; ahead = Unread }
 
+-- ---- which is next
+
+abbrev pub first_by : Ahead → Ahead → Ordering → Ordering
+first_by Held Held o = o
+first_by Held Ended o = Less
+first_by Held Unread o = Less
+first_by Ended s o = Greater
+first_by Unread s o = Greater
+
+-- which side's record is the next to be written
+abbrev pub first_of : Side → Side → Ordering
+first_of left right = first_by left.ahead right.ahead (slice_cmp nat_cmp left.reader.last right.reader.last)
+
 -- ---- both sides
 
 -- The ascending list whose members are exactly those of both.
@@ -72,13 +81,16 @@ pub record Joins (out lefts rights : List (List ℕ)) : Type 0 where
   pub left : (r : List ℕ) → Contains lefts r → Contains out r
   pub right : (r : List ℕ) → Contains rights r → Contains out r
 
--- What was written is the magic and the join of what was read, but for what is held, which is above it.
+-- What was written is the magic and the join of what was read, but for what is held, which is above it. Where the left
+-- side is to be read on and the right one was, the right one's last record was not written last.
 pub record Merging (a1 b1 a2 b2 w0 w1 : Option (List ℕ)) (m : Merge) : Type 0 where
   pub lefts : List (List ℕ)
   pub rights : List (List ℕ)
   pub out : List (List ℕ)
   pub left : Stands a1 b1 lefts (last_of [] out) m.left
   pub right : Stands a2 b2 rights (last_of [] out) m.right
+  pub order : m.left.ahead ≡ Unread → m.right.ahead ≢ Unread
+      → may_follow Archive (last_of [] rights) (last_of [] out) ≡ true
   pub joins : Joins out lefts rights
   pub records : m.written.records ≡ length out
   pub bytes : m.written.bytes ≡ 8 + length (concat out)
@@ -93,6 +105,7 @@ pub record LeftStopped (a1 b1 a2 b2 w0 w1 : Option (List ℕ)) (fault : RecordFa
   pub left : Stopped Archive a1 b1 lefts fault
   pub last : last_of [] lefts ≡ last_of [] out
   pub right : Stands a2 b2 rights (last_of [] out) other
+  pub order : other.ahead ≢ Unread → may_follow Archive (last_of [] rights) (last_of [] out) ≡ true
   pub joins : Joins out lefts rights
   pub written_is : written ≡ 8 + length (concat out)
   pub gained : Appends w0 w1 (magic ++ concat out)
@@ -126,6 +139,43 @@ pub record WriteStopped (a1 b1 a2 b2 w0 w1 : Option (List ℕ)) (written : ℕ) 
       ⊎ ((left_side.ahead ≡ Ended) × (right_side.ahead ≡ Ended) × (written < length (text_of Archive out)))
   pub gained : Appends w0 w1 (take written (text_of Archive out))
 
+-- As many records were written as there may be, and a side holds one more.
+pub record IsFull (a1 b1 a2 b2 w0 w1 : Option (List ℕ)) (written : ℕ) : Type 0 where
+  pub lefts : List (List ℕ)
+  pub rights : List (List ℕ)
+  pub out : List (List ℕ)
+  pub left_side : Side
+  pub right_side : Side
+  pub left : Stands a1 b1 lefts (last_of [] out) left_side
+  pub right : Stands a2 b2 rights (last_of [] out) right_side
+  pub left_read : left_side.ahead ≢ Unread
+  pub right_read : right_side.ahead ≢ Unread
+  pub left_few : left_side.reader.count < 2 ^ 63
+  pub right_few : right_side.reader.count < 2 ^ 63
+  pub some : left_side.ahead ≡ Ended → right_side.ahead ≡ Held
+  pub joins : Joins out lefts rights
+  pub most : length out ≡ most_records
+  pub written_is : written ≡ 8 + length (concat out)
+  pub gained : Appends w0 w1 (magic ++ concat out)
+
+-- want of memory behind so many bytes
+abbrev pub memory_behind : ℕ → RecordFault
+memory_behind offset = record { kind = OutOfMemory; offset = offset }
+
+-- The left side's record is the next, and memory is wanted for it.
+abbrev pub LeftFull : Option (List ℕ) → Option (List ℕ) → Option (List ℕ) → Option (List ℕ)
+    → Option (List ℕ) → Option (List ℕ) → RecordFault → ℕ → Type 0
+LeftFull a1 b1 a2 b2 w0 w1 fault written =
+    (full : IsFull a1 b1 a2 b2 w0 w1 written) × (first_of full.left_side full.right_side ≢ Greater)
+    × (fault ≡ memory_behind (front_length full.lefts))
+
+-- The right side's is.
+abbrev pub RightFull : Option (List ℕ) → Option (List ℕ) → Option (List ℕ) → Option (List ℕ)
+    → Option (List ℕ) → Option (List ℕ) → RecordFault → ℕ → Type 0
+RightFull a1 b1 a2 b2 w0 w1 fault written =
+    (full : IsFull a1 b1 a2 b2 w0 w1 written) × (first_of full.left_side full.right_side ≡ Greater)
+    × (fault ≡ memory_behind (front_length full.rights))
+
 -- what is said by the cause
 abbrev pub ByCause : MergeCause → (RecordFault → Type 0) → (RecordFault → Type 0) → Type 0 → Type 0
 ByCause (Left fault) P Q T = P fault
@@ -149,18 +199,18 @@ BlamesDevices left right w0 w1 result =
 abbrev pub HasStoppedMerge : Option (List ℕ) → Option (List ℕ) → Option (List ℕ) → Option (List ℕ)
     → Option (List ℕ) → Option (List ℕ) → MergeFault → Type 0
 HasStoppedMerge a1 b1 a2 b2 w0 w1 e = ByCause e.cause
-    (λ fault. LeftStopped a1 b1 a2 b2 w0 w1 fault e.written)
-    (λ fault. RightStopped a1 b1 a2 b2 w0 w1 fault e.written)
+    (λ fault. LeftStopped a1 b1 a2 b2 w0 w1 fault e.written ⊎ LeftFull a1 b1 a2 b2 w0 w1 fault e.written)
+    (λ fault. RightStopped a1 b1 a2 b2 w0 w1 fault e.written ⊎ RightFull a1 b1 a2 b2 w0 w1 fault e.written)
     (WriteStopped a1 b1 a2 b2 w0 w1 e.written)
 
 -- how it stops at all: before the magic is written, too
 abbrev pub Stops : Option (List ℕ) → Option (List ℕ) → Option (List ℕ) → Option (List ℕ)
     → Option (List ℕ) → Option (List ℕ) → MergeFault → Type 0
 Stops a1 b1 a2 b2 w0 w1 e = ByCause e.cause
-    (λ fault. ((e.written ≡ 0) × Appends w0 w1 [] × StopsBeforeRecords a1 b1 fault)
-    ⊎ LeftStopped a1 b1 a2 b2 w0 w1 fault e.written)
+    (λ fault. ((e.written ≡ 0) × Appends w0 w1 [] × Consumes a2 b2 [] × StopsBeforeRecords a1 b1 fault)
+    ⊎ (LeftStopped a1 b1 a2 b2 w0 w1 fault e.written ⊎ LeftFull a1 b1 a2 b2 w0 w1 fault e.written))
     (λ fault. ((e.written ≡ 0) × Appends w0 w1 [] × Consumes a1 b1 magic × StopsBeforeRecords a2 b2 fault)
-    ⊎ RightStopped a1 b1 a2 b2 w0 w1 fault e.written)
+    ⊎ (RightStopped a1 b1 a2 b2 w0 w1 fault e.written ⊎ RightFull a1 b1 a2 b2 w0 w1 fault e.written))
     (WriteStopped a1 b1 a2 b2 w0 w1 e.written)
 
 -- Two whole texts were read, and the text of the join was written.
@@ -173,6 +223,7 @@ pub record MergedAll (a1 b1 a2 b2 w0 w1 : Option (List ℕ)) (sizes : Sizes) : T
   pub left_read : HasReadAll Archive a1 b1 lefts left.reader × IsAtEnd b1
   pub right_read : HasReadAll Archive a2 b2 rights right.reader × IsAtEnd b2
   pub joins : Joins out lefts rights
+  pub few : length out < 2 ^ 63
   pub gained : Appends w0 w1 (text_of Archive out)
   pub records : sizes.records ≡ length out
   pub bytes : sizes.bytes ≡ length (text_of Archive out)
@@ -183,18 +234,7 @@ abbrev pub Leaves : Option (List ℕ) → Option (List ℕ) → Option (List ℕ
 Leaves a1 b1 a2 b2 w0 w1 (Ok sizes) = MergedAll a1 b1 a2 b2 w0 w1 sizes
 Leaves a1 b1 a2 b2 w0 w1 (Err e) = Stops a1 b1 a2 b2 w0 w1 e
 
--- ---- which is next, and numbers
-
-abbrev pub first_by : Ahead → Ahead → Ordering → Ordering
-first_by Held Held o = o
-first_by Held Ended o = Less
-first_by Held Unread o = Less
-first_by Ended s o = Greater
-first_by Unread s o = Greater
-
--- which side's record is the next to be written
-abbrev pub first_of : Side → Side → Ordering
-first_of left right = first_by left.ahead right.ahead (slice_cmp nat_cmp left.reader.last right.reader.last)
+-- ---- numbers
 
 -- The numbers of a merge fit.
 pub record Fits (m : Merge) : Type 0 where
@@ -202,9 +242,20 @@ pub record Fits (m : Merge) : Type 0 where
   pub right_archive : m.right.reader.file ≡ Archive
   pub left_few : m.left.reader.count < 2 ^ 63
   pub right_few : m.right.reader.count < 2 ^ 63
-  pub tally : m.written.records + held_by m.left.ahead + held_by m.right.ahead
-      ≤ m.left.reader.count + m.right.reader.count
+  pub few : m.written.records < 2 ^ 63
   pub bytes : m.written.bytes ≤ 8 + m.written.records * 2 ^ 64
+
+-- want of memory for the record that the side holds
+abbrev pub memory_for : Side → RecordFault
+memory_for side = memory_behind (side.reader.offset - length side.reader.last)
+
+-- What is told where one record more would be written than there may be: memory is wanted by the side that it comes
+-- from, behind those before it.
+abbrev pub IsRefusedMore : Merge → MergeFault → Type 0
+IsRefusedMore m e =
+    (m.written.records ≡ most_records) × (e.written ≡ m.written.bytes)
+    × (((first_of m.left m.right ≢ Greater) × (e.cause ≡ Left (memory_for m.left)))
+    ⊎ ((first_of m.left m.right ≡ Greater) × (e.cause ≡ Right (memory_for m.right))))
 
 abbrev pub cost_of : Merge → ℕ
 cost_of m = weight m.left + weight m.right

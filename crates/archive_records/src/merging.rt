@@ -5,11 +5,12 @@ ghost use Rattle.std.specs.Prelude.{IfOk, IfErr, MatchResult, length, true, fals
 ghost use Rattle.std.specs.Io.KnownBytes.{Appends};
 ghost use Rattle.byte_device.specs.Devices.{FailedIn};
 ghost use Rattle.byte_device.specs.Writes.{WritesFirst};
-ghost use Rattle.archive_records.specs.Merging.{stream};
-ghost use Rattle.archive_records.specs.Turns.{BlamesDevices, Fits, HasStoppedMerge, IsRead, IsWritten};
+ghost use Rattle.archive_records.specs.Merging.{most_records, stream};
+ghost use Rattle.archive_records.specs.Turns.{BlamesDevices, Fits, HasStoppedMerge, IsRead, IsRefusedMore, IsWritten};
 ghost use Rattle.archive_records.specs.Turns.{Merging, WriteStopped, cost_of, first_of};
 
 use crate::fault::{MergeCause, MergeFault};
+use crate::reader::MOST;
 use crate::side::{Ahead, Side};
 use crate::writing::Sizes;
 use byte_device::{Sink, Source, WriteFault, put};
@@ -32,6 +33,22 @@ impl Merge {
             cause,
             written: self.written.bytes,
         }
+    }
+
+    /// Tests whether there may be one record more. Where there may not, memory is wanted by the side that it comes from.
+    fn test_number(&self) -> Result<(), MergeFault>
+        requires { self.now.written.records < 2 ^ 63 }
+        ensures room { OnOk result (self.now.written.records < most_records) }
+        ensures refused { IfErr result (λ e. IsRefusedMore self.now e) }
+    {
+        if self.written.records < MOST {
+            return Ok(());
+        }
+        let cause = match first(&self.left, &self.right) {
+            Ordering::Greater => MergeCause::Right(self.right.out_of_memory()),
+            Ordering::Less | Ordering::Equal => MergeCause::Left(self.left.out_of_memory()),
+        };
+        Err(self.stopped_by(cause))
     }
 
     /// Whether both texts were read to their ends.
@@ -81,6 +98,7 @@ fn write_first<W: Sink>(w: &mut W, m: &mut Merge) -> Result<(), WriteFault>
     requires read { IsRead m.old }
     requires some { m.old.left.ahead ≡ Ahead.Ended → m.old.right.ahead ≡ Ahead.Held }
     requires fits { Fits m.old }
+    requires room { m.old.written.records < most_records }
     ensures merging { (a1 b1 a2 b2 w0 : Option (List ℕ)) → Merging a1 b1 a2 b2 w0 (W.held w.old) m.old
         → MatchResult result
         (λ _. Merging a1 b1 a2 b2 w0 (W.held w.new) m.new)
@@ -143,6 +161,7 @@ fn turn<R: Source, S: Source, W: Sink>(
     ensures devices { BlamesDevices (stream R.left R.failures r1.old r1.new) (stream S.left S.failures r2.old r2.new)
         (W.failures w.old) (W.failures w.new) result }
 {
+    m.test_number()?;
     if let Err(fault) = write_first(w, m) {
         return Err(MergeFault {
             cause: MergeCause::Write,

@@ -1,6 +1,6 @@
 //! A source that is read record by record.
 
-ghost use Rattle.std.specs.Prelude.{◌≡◌, ◌<◌, ◌≤◌, ℕ, List, Option, Some, [], length};
+ghost use Rattle.std.specs.Prelude.{◌≡◌, ◌-◌, ◌<◌, ◌≤◌, ℕ, List, Option, Some, [], length};
 ghost use Rattle.std.specs.Prelude.{take, OnOk, IfOk, IfErr, IsTrue, ◌↔◌};
 ghost use Rattle.std.specs.Io.KnownBytes.{Consumes, IsAtEnd};
 ghost use Rattle.archive_records.specs.declared.kind.TextKind.{TextKind};
@@ -18,7 +18,7 @@ use std::cmp::Ordering;
 use std::marker::Model;
 
 /// How many records a file has at most.
-const MOST: u64 = 9223372036854775807;
+pub const MOST: u64 = 9223372036854775807;
 
 /// How many bytes are pulled at once, at most.
 const CHUNK: usize = 65536;
@@ -139,6 +139,13 @@ impl RecordReader {
         ensures { result ≡ self.now.offset }
     {
         self.offset
+    }
+
+    /// How many of these were read before the last record.
+    pub fn before_last(&self) -> u128
+        ensures { result ≡ self.now.offset - length self.now.last }
+    {
+        self.offset.saturating_sub(self.buffer.bytes.len() as u128)
     }
 
     /// Reads the next record over the last, or else what ends the file.

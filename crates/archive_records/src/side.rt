@@ -1,10 +1,10 @@
 //! One side of a merge.
 
-ghost use Rattle.std.specs.Prelude.{◌≡◌, ◌≢◌, ◌+◌, ◌<◌, ◌≤◌, ◌^◌, ℕ, List, Option, [], OnOk, IfOk, IfErr, MatchResult};
+ghost use Rattle.std.specs.Prelude.{◌≡◌, ◌≢◌, ◌+◌, ◌<◌, ◌≤◌, ◌^◌, ℕ, List, Option, [], OnOk, OnErr, IfOk, IfErr, MatchResult};
 ghost use Rattle.archive_records.specs.declared.kind.TextKind.TheVariants.{Archive};
 ghost use Rattle.archive_records.specs.Text.{last_of};
 ghost use Rattle.archive_records.specs.Reader.{FaultBlamesReader, HasRead, Stopped};
-ghost use Rattle.archive_records.specs.Turns.{Stands, StopsBeforeRecords, held_by, weight};
+ghost use Rattle.archive_records.specs.Turns.{Stands, StopsBeforeRecords, memory_for, weight};
 
 use crate::fault::RecordFault;
 use crate::kind::TextKind;
@@ -49,6 +49,13 @@ impl Side {
         })
     }
 
+    /// What is told where memory is wanted for the record that the side holds.
+    pub fn out_of_memory(&self) -> RecordFault
+        ensures { result ≡ memory_for self.now }
+    {
+        RecordFault::out_of_memory(self.reader.before_last())
+    }
+
     /// Reads the next record over the last, or else the end record, behind which the input ends.
     fn advance<R: Source>(&mut self, r: &mut R) -> Result<(), RecordFault>
         requires archive { self.old.reader.file ≡ Archive }
@@ -62,7 +69,6 @@ impl Side {
         ensures archive { OnOk result (self.new.reader.file ≡ Archive) }
         ensures read { OnOk result (self.new.ahead ≢ Ahead.Unread) }
         ensures few { OnOk result (self.new.reader.count < 2 ^ 63) }
-        ensures tally { OnOk result (self.old.reader.count + held_by self.new.ahead ≤ self.new.reader.count) }
         ensures less { OnOk result (weight self.new < weight self.old) }
         ensures reader { FaultBlamesReader R.left R.failures r.old r.new result }
     {
@@ -85,11 +91,10 @@ impl Side {
             → MatchResult result
             (λ _. Stands a (R.left r.new) done low self.new)
             (λ fault. Stopped Archive a (R.left r.new) done fault × (last_of [] done ≡ low)) }
+        ensures unread { OnErr result (self.old.ahead ≡ Ahead.Unread) }
         ensures archive { OnOk result (self.new.reader.file ≡ Archive) }
         ensures read { OnOk result (self.new.ahead ≢ Ahead.Unread) }
         ensures few { OnOk result (self.new.reader.count < 2 ^ 63) }
-        ensures tally { OnOk result
-            (self.old.reader.count + held_by self.new.ahead ≤ self.new.reader.count + held_by self.old.ahead) }
         ensures less { OnOk result (weight self.new ≤ weight self.old) }
         ensures reader { FaultBlamesReader R.left R.failures r.old r.new result }
     {

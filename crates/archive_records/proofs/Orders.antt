@@ -1,0 +1,241 @@
+-- What was taken of the sides of a merge where one of them stopped it.
+use Rattle.std.proofs.Common.{◌≡◌, ◌≢◌, ℕ, ◌+◌, ◌<◌, true, false, List, [], ◌∷◌, ◌++◌, length, Option, refl, sym, ap, ◌∙◌, subst, arith, inl, inr, ◌⊎◌, length-append}
+use Rattle.std.proofs.lemmas.List.{append-nil}
+use Rattle.std.proofs.lemmas.Bool.{false≢true}
+use Rattle.std.specs.declared.cmp.Ordering.{Ordering}
+use Rattle.std.specs.declared.cmp.Ordering.TheVariants.{Greater}
+use Rattle.std.specs.Ordering.{nat_cmp, ordering_reverse}
+use Rattle.std.specs.Cmp.Lexicographic.{slice_cmp, nat_list_cmp_total}
+use Rattle.std.specs.FinSet as set
+use Rattle.std.specs.List.{concat}
+use Rattle.std.specs.Io.KnownBytes.{Consumes, Appends}
+use Rattle.join_core.specs.Listing.{listing}
+use Rattle.archive_records.specs.declared.fault.RecordFaultKind.TheVariants.{OutOfMemory}
+use Rattle.archive_records.specs.declared.fault.RecordFault.{RecordFault}
+use Rattle.archive_records.specs.declared.kind.TextKind.TheVariants.{Archive}
+use Rattle.archive_records.specs.declared.side.Ahead.{Ahead}
+use Rattle.archive_records.specs.declared.side.Ahead.TheVariants.{Unread, Held, Ended}
+use Rattle.archive_records.specs.declared.side.Side.{Side}
+use Rattle.archive_records.specs.Kind.{magic, IsItem, may_follow}
+use Rattle.archive_records.specs.Text.{end_record, last_of}
+use Rattle.archive_records.specs.Front.{front_length}
+use Rattle.archive_records.specs.Reader.{Stopped, Stops}
+use Rattle.archive_records.specs.Merging.{Stream, IsTaken, IsNext, IsTurnOfLeft, IsTurnOfRight, IsOneMore, IsBehind, IsOut, IsInMagic, IsLeftBehind, IsRightBehind, EndsBelow, of_both, most_records}
+use Rattle.archive_records.specs.Turns.{Stands, Joins, StopsBeforeRecords, LeftStopped, RightStopped, IsFull, LeftFull, RightFull, first_by, memory_behind}
+use Rattle.archive_records.proofs.Puts.{concat-push, length_written}
+use Rattle.archive_records.proofs.Forms.{item-no_end}
+use Rattle.archive_records.proofs.Ends.{end-is_end}
+use Rattle.archive_records.proofs.Ascending.{less_of, below-greater, last_is_record, last_within, InOrder-front}
+use Rattle.archive_records.proofs.Places.{joins_listing}
+use Rattle.archive_records.proofs.Turns.{first_greater, first_held}
+
+-- ---- one side
+
+-- what was taken behind the records
+abbrev next_of : Ahead → List ℕ → List (List ℕ) → List ℕ
+next_of Unread x records = []
+next_of Held x records = x
+next_of Ended x records = end_record (length records)
+
+module _ {R : Type 0} (side : Stream R) (records : List (List ℕ)) (low : List ℕ) (s : Side) (p : Stands (side.bytes side.old) (side.bytes side.new) records low s) where
+  abbrev next : List ℕ
+  next = next_of s.ahead s.reader.last records
+
+  taken_by : (h : Ahead) → s.ahead ≡ h → IsTaken side records (next_of h s.reader.last records)
+  taken_by Unread e = record {
+    taken = subst (λ (t : List ℕ). Consumes (side.bytes side.old) (side.bytes side.new) (magic ++ t)) (sym (append-nil (concat records))) (p.unread e).0.taken;
+    ordered = (p.unread e).0.ordered;
+  }
+  taken_by Held e = record {
+    taken = subst (λ (t : List ℕ). Consumes (side.bytes side.old) (side.bytes side.new) (magic ++ t)) (concat-push records s.reader.last) (p.held e).0.taken;
+    ordered = InOrder-front [] records s.reader.last (p.held e).0.ordered;
+  }
+  taken_by Ended e = record { taken = (p.ended e).0.taken; ordered = (p.ended e).0.ordered }
+
+  taken_next : IsTaken side records next
+  taken_next = taken_by s.ahead refl
+
+  next_by : (h : Ahead) → s.ahead ≡ h → h ≢ Unread → IsNext side low records (next_of h s.reader.last records)
+  next_by Unread e read = absurd (read refl)
+  next_by Held e read = inl (last_is_record [] records s.reader.last (p.held e).0.ordered, (p.held e).1)
+  next_by Ended e read = inr (refl, (p.ended e).1)
+
+  next_is : s.ahead ≢ Unread → IsNext side low records next
+  next_is read = next_by s.ahead refl read
+
+  more_by : (h : Ahead) → s.ahead ≡ h → h ≡ Held → IsItem Archive (next_of h s.reader.last records) × (may_follow Archive low (next_of h s.reader.last records) ≡ true)
+  more_by Unread e held = absurd cc
+  more_by Held e held = (last_is_record [] records s.reader.last (p.held e).0.ordered, (p.held e).1)
+  more_by Ended e held = absurd cc
+
+  more_is : s.ahead ≡ Held → IsItem Archive next × (may_follow Archive low next ≡ true)
+  more_is held = more_by s.ahead refl held
+
+  -- where it was not read on, its last record is low
+  turn_by : (h : Ahead) → s.ahead ≡ h → (h ≢ Unread → may_follow Archive (last_of [] records) low ≡ true)
+      → ((last_of [] records ≡ low) × (next_of h s.reader.last records ≡ [])) ⊎ ((may_follow Archive (last_of [] records) low ≡ true) × IsNext side low records (next_of h s.reader.last records))
+  turn_by Unread e order = inl ((p.unread e).1, refl)
+  turn_by Held e order = inr (order (λ t. absurd cc), next_by Held e (λ t. absurd cc))
+  turn_by Ended e order = inr (order (λ t. absurd cc), next_by Ended e (λ t. absurd cc))
+
+  turn_is : (s.ahead ≢ Unread → may_follow Archive (last_of [] records) low ≡ true)
+      → ((last_of [] records ≡ low) × (next ≡ [])) ⊎ ((may_follow Archive (last_of [] records) low ≡ true) × IsNext side low records next)
+  turn_is order = turn_by s.ahead refl order
+
+-- no end record is a record
+end_no_item : (n : ℕ) → IsItem Archive (end_record n) → ⊥
+end_no_item n item = false≢true (sym (item-no_end Archive (end_record n) item) ∙ end-is_end n)
+
+greater_of : (x y : List ℕ) → may_follow Archive y x ≡ true → slice_cmp nat_cmp x y ≡ Greater
+greater_of x y below = nat_list_cmp_total.antisymm x y ∙ ap ordering_reverse (less_of y x below)
+
+-- which of two next records is first
+not_below : (l r : Ahead) (x y : List ℕ) (lefts rights : List (List ℕ)) → r ≢ Unread → first_by l r (slice_cmp nat_cmp x y) ≢ Greater → IsItem Archive (next_of r y rights) → may_follow Archive (next_of r y rights) (next_of l x lefts) ≡ true → ⊥
+not_below Held Held x y lefts rights read first item below = first (greater_of x y below)
+not_below Held Ended x y lefts rights read first item below = end_no_item (length rights) item
+not_below Held Unread x y lefts rights read first item below = read refl
+not_below Ended r x y lefts rights read first item below = first refl
+not_below Unread r x y lefts rights read first item below = first refl
+
+is_below : (l r : Ahead) (x y : List ℕ) (lefts rights : List (List ℕ)) → l ≢ Unread → r ≡ Held → first_by l r (slice_cmp nat_cmp x y) ≡ Greater → IsItem Archive (next_of l x lefts) → may_follow Archive (next_of r y rights) (next_of l x lefts) ≡ true
+is_below Held Held x y lefts rights read held first item = below-greater x y first
+is_below Held Ended x y lefts rights read held first item = absurd cc
+is_below Held Unread x y lefts rights read held first item = absurd cc
+is_below Ended r x y lefts rights read held first item = absurd (end_no_item (length lefts) item)
+is_below Unread r x y lefts rights read held first item = absurd (read refl)
+
+-- ---- the place
+
+behind_is : (records : List (List ℕ)) (rest : List ℕ) (fault : RecordFault) → Stops Archive records rest fault → IsBehind records fault
+behind_is records rest fault (inl s) = inl s.0
+behind_is records rest fault (inr (inl s)) = inr (s.0, s.2)
+behind_is records rest fault (inr (inr s)) = inl s.2
+
+module _ {W : Type 0} (out : Stream W) (os lefts rights : List (List ℕ)) (n : ℕ) (joins : Joins os lefts rights) where
+  out_is : n ≡ 8 + length (concat os) → Appends (out.bytes out.old) (out.bytes out.new) (magic ++ concat os) → IsOut out (listing (of_both lefts rights)) n
+  out_is is gained = subst (λ (t : List (List ℕ)). IsOut out t n) (sym (joins_listing lefts rights os joins)) (gained, omega (arith, is, length-append magic (concat os)))
+
+  most_is : length os ≡ most_records → set.len (of_both lefts rights) ≡ most_records
+  most_is most = sym (length_written (of_both lefts rights)) ∙ ap length (joins_listing lefts rights os joins) ∙ most
+
+  one_more : {R S : Type 0} (side : Stream R) (other : Stream S) (others : List (List ℕ)) (more next : List ℕ) → length os ≡ most_records → IsItem Archive more × (may_follow Archive (last_of [] os) more ≡ true) → IsNext other (last_of [] os) others next
+      → IsOneMore side other (of_both lefts rights) others more next
+  one_more side other others more next most more_is next_is =
+      let low : last_of [] os ≡ last_of [] (listing (of_both lefts rights)) = ap (last_of []) (sym (joins_listing lefts rights os joins)) in
+      record {
+        most = most_is most;
+        more_is = (more_is.0, subst (λ (t : List ℕ). may_follow Archive t more ≡ true) low more_is.1);
+        next_is = subst (λ (t : List ℕ). IsNext other t others next) low next_is;
+      }
+
+-- ---- both sides
+
+module _ {R S W : Type 0} (left : Stream R) (right : Stream S) (out : Stream W) (n : ℕ) (fault : RecordFault) where
+  abbrev a1 : Option (List ℕ)
+  a1 = left.bytes left.old
+
+  abbrev b1 : Option (List ℕ)
+  b1 = left.bytes left.new
+
+  abbrev a2 : Option (List ℕ)
+  a2 = right.bytes right.old
+
+  abbrev b2 : Option (List ℕ)
+  b2 = right.bytes right.new
+
+  abbrev w0 : Option (List ℕ)
+  w0 = out.bytes out.old
+
+  abbrev w1 : Option (List ℕ)
+  w1 = out.bytes out.new
+
+  left_behind : LeftStopped a1 b1 a2 b2 w0 w1 fault n → IsLeftBehind left right out fault n
+  left_behind s =
+      let low : last_of [] s.out ≡ last_of [] s.lefts = sym s.last in
+      let next : List ℕ = next_of s.other.ahead s.other.reader.last s.rights in
+      record {
+        lefts = s.lefts;
+        rights = s.rights;
+        left_next = s.left.rest;
+        right_next = next;
+        left_taken = record { taken = s.left.taken; ordered = s.left.ordered };
+        right_taken = taken_next right s.rights (last_of [] s.out) s.other s.right;
+        behind = behind_is s.lefts s.left.rest fault s.left.stops;
+        out_is = out_is out s.out s.lefts s.rights n s.joins s.written_is s.gained;
+        turn = inl (subst (λ (t : List ℕ). ((last_of [] s.rights ≡ t) × (next ≡ [])) ⊎ ((may_follow Archive (last_of [] s.rights) t ≡ true) × IsNext right t s.rights next)) low (turn_is right s.rights (last_of [] s.out) s.other s.right s.order));
+      }
+
+  left_full : LeftFull a1 b1 a2 b2 w0 w1 fault n → IsLeftBehind left right out fault n
+  left_full (f, first, is) =
+      let held = first_held f.left_side.ahead f.right_side.ahead _ first in
+      let low : List ℕ = last_of [] f.out in
+      let x : List ℕ = next_of f.left_side.ahead f.left_side.reader.last f.lefts in
+      let y : List ℕ = next_of f.right_side.ahead f.right_side.reader.last f.rights in
+      record {
+        lefts = f.lefts;
+        rights = f.rights;
+        left_next = x;
+        right_next = y;
+        left_taken = taken_next left f.lefts low f.left_side f.left;
+        right_taken = taken_next right f.rights low f.right_side f.right;
+        behind = inl (ap (λ (t : RecordFault). t.offset) is);
+        out_is = out_is out f.out f.lefts f.rights n f.joins f.written_is f.gained;
+        turn = inr (
+          ap (λ (t : RecordFault). t.kind) is,
+          one_more out f.out f.lefts f.rights n f.joins left right f.rights x y f.most (more_is left f.lefts low f.left_side f.left held) (next_is right f.rights low f.right_side f.right f.right_read),
+          not_below f.left_side.ahead f.right_side.ahead f.left_side.reader.last f.right_side.reader.last f.lefts f.rights f.right_read first,
+        );
+      }
+
+  right_behind : RightStopped a1 b1 a2 b2 w0 w1 fault n → IsRightBehind left right out fault n
+  right_behind s =
+      let low : last_of [] s.out ≡ last_of [] s.rights = sym s.last in
+      let next : List ℕ = next_of s.other.ahead s.other.reader.last s.lefts in
+      record {
+        lefts = s.lefts;
+        rights = s.rights;
+        left_next = next;
+        right_next = s.right.rest;
+        left_taken = taken_next left s.lefts (last_of [] s.out) s.other s.left;
+        right_taken = record { taken = s.right.taken; ordered = s.right.ordered };
+        behind = behind_is s.rights s.right.rest fault s.right.stops;
+        out_is = out_is out s.out s.lefts s.rights n s.joins s.written_is s.gained;
+        turn = inl (
+          λ below. false≢true (sym (last_within s.out s.lefts s.joins.ordered s.joins.left) ∙ subst (λ (t : List ℕ). may_follow Archive t (last_of [] s.lefts) ≡ true) s.last below),
+          subst (λ (t : List ℕ). IsNext left t s.lefts next) low (next_is left s.lefts (last_of [] s.out) s.other s.left s.read),
+        );
+      }
+
+  right_full : RightFull a1 b1 a2 b2 w0 w1 fault n → IsRightBehind left right out fault n
+  right_full (f, first, is) =
+      let held = (first_greater f.left_side.ahead f.right_side.ahead _ f.left_read f.some first).0 in
+      let low : List ℕ = last_of [] f.out in
+      let x : List ℕ = next_of f.left_side.ahead f.left_side.reader.last f.lefts in
+      let y : List ℕ = next_of f.right_side.ahead f.right_side.reader.last f.rights in
+      record {
+        lefts = f.lefts;
+        rights = f.rights;
+        left_next = x;
+        right_next = y;
+        left_taken = taken_next left f.lefts low f.left_side f.left;
+        right_taken = taken_next right f.rights low f.right_side f.right;
+        behind = inl (ap (λ (t : RecordFault). t.offset) is);
+        out_is = out_is out f.out f.lefts f.rights n f.joins f.written_is f.gained;
+        turn = inr (
+          ap (λ (t : RecordFault). t.kind) is,
+          one_more out f.out f.lefts f.rights n f.joins right left f.lefts y x f.most (more_is right f.rights low f.right_side f.right held) (next_is left f.lefts low f.left_side f.left f.left_read),
+          is_below f.left_side.ahead f.right_side.ahead f.left_side.reader.last f.right_side.reader.last f.lefts f.rights f.left_read held first,
+        );
+      }
+
+  pub left_order : ((n ≡ 0) × Appends w0 w1 [] × Consumes a2 b2 [] × StopsBeforeRecords a1 b1 fault) ⊎ (LeftStopped a1 b1 a2 b2 w0 w1 fault n ⊎ LeftFull a1 b1 a2 b2 w0 w1 fault n)
+      → (IsInMagic out fault n × Consumes a2 b2 []) ⊎ IsLeftBehind left right out fault n
+  left_order (inl s) = inl ((s.3.start, s.0, s.1), s.2)
+  left_order (inr (inl s)) = inr (left_behind s)
+  left_order (inr (inr s)) = inr (left_full s)
+
+  pub right_order : ((n ≡ 0) × Appends w0 w1 [] × Consumes a1 b1 magic × StopsBeforeRecords a2 b2 fault) ⊎ (RightStopped a1 b1 a2 b2 w0 w1 fault n ⊎ RightFull a1 b1 a2 b2 w0 w1 fault n)
+      → (IsInMagic out fault n × Consumes a1 b1 magic) ⊎ IsRightBehind left right out fault n
+  right_order (inl s) = inl ((s.3.start, s.0, s.1), s.2)
+  right_order (inr (inl s)) = inr (right_behind s)
+  right_order (inr (inr s)) = inr (right_full s)
