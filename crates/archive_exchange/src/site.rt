@@ -206,7 +206,8 @@ impl<A: Archive + Drop> Site<A> {
     /// # Errors
     ///
     /// `Refused` where the message is no archive's text, which leaves the site as it was, and `OutOfMemory`, after
-    /// which some of the message's operations may have been taken in; the call may then be made again.
+    /// which some of the message's operations may have been taken in; the call may then be made again with the message,
+    /// which the caller still has.
     pub fn deliver(&mut self, message: &[u8]) -> Result<(), DeliverFault>
         ensures joined { OnOk result (HasJoined message.now self.old self.new) }
         ensures refused { IfErr result (IsDeliverFault message.now) }
