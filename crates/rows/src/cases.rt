@@ -58,10 +58,10 @@
 //! - `room N`: what memory with N growths holds: the numbers that one vector takes, and which of three vectors take
 //!   one, before and after a growth more is granted; `room-of-bytes N`: how many numbers of 8 bytes one vector takes in
 //!   memory with N bytes;
-//! - `heaps ARCHIVE OTHER OPS`: two archives, each in a memory of its own, one of which is wanting. Operations are copied
-//!   from a memory that is wanting to another one, and then to one that is wanting. The archive joins the other where its
-//!   own memory is wanting, and then where the other's is, and takes the operations; the other takes them where the
-//!   archive's is. And the same of the join by value;
+//! - `heaps ARCHIVE OTHER OPS`: two archives, each in a memory of its own, one of which is wanting. Operations are
+//!   copied from a memory that is wanting to another one, and then to one that is wanting. The archive joins the other
+//!   where its own memory is wanting, and then where the other's is, and takes the operations; the other takes them
+//!   where the archive's is. And the same of the join by value;
 //! - `world SCRIPT N`: `run` of a script's events on N sites: their number, and the length and the SHA-256 of the text
 //!   that each site holds.
 //!
