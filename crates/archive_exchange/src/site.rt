@@ -92,7 +92,7 @@ fn text_of_delta<A: Archive>(
 
 /// A site: an archive, which holds a content, and the bytes that it saved, which are the text of one.
 ///
-/// Each call says that of the site which it leaves (`whole`). So what want of memory leaves of `take_file` and `deliver`
+/// Each call that makes or changes a site says so of the one that it leaves (`whole`). So what want of memory leaves of `take_file` and `deliver`
 /// is between the content before the call and the one that was asked for, by their contracts alone.
 #[derive(Drop)]
 pub struct Site<A: Archive> {
@@ -206,7 +206,8 @@ impl<A: Archive + Drop> Site<A> {
     /// # Errors
     ///
     /// `Refused` where the message is no archive's text, which leaves the site as it was, and `OutOfMemory`, after
-    /// which some of the message's operations may have been taken in; the call may then be made again.
+    /// which some of the message's operations may have been taken in; the call may then be made again with the message,
+    /// which the caller still has.
     pub fn deliver(&mut self, message: &[u8]) -> Result<(), DeliverFault>
         ensures joined { OnOk result (HasJoined message.now self.old self.new) }
         ensures refused { IfErr result (IsDeliverFault message.now) }

@@ -121,7 +121,8 @@ pub(crate) fn take_accepted<A: Archive>(
 /// # Errors
 ///
 /// Those of [`check_file`], which leave the archive as it was, and `OutOfMemory`, after which some first ones of the
-/// file's slices may have been taken; the call may then be made again, as `laws::taking_resumed` says.
+/// file's slices may have been taken. The vector is dropped, so a caller that makes the call again reads the file once
+/// more; `laws::taking_resumed` says what comes of it.
 pub fn take_file<A: Archive>(
     archive: &mut A,
     file: Vec<u8, Heap>,
