@@ -92,8 +92,9 @@ fn text_of_delta<A: Archive>(
 
 /// A site: an archive, which holds a content, and the bytes that it saved, which are the text of one.
 ///
-/// Each call says that of the site which it leaves (`whole`). So what want of memory leaves of `take_file` and `deliver`
-/// is between the content before the call and the one that was asked for, by their contracts alone.
+/// Each call that makes or changes a site says so of the one that it leaves (`whole`). So what want of memory leaves of
+/// `take_file` and `deliver` is between the content before the call and the one that was asked for, by their contracts
+/// alone.
 #[derive(Drop)]
 pub struct Site<A: Archive> {
     archive: A,
