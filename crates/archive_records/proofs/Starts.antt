@@ -87,15 +87,15 @@ pub stops_later : (a1 b1 a2 b2 w0 w1 : Option (List ℕ)) (e : MergeFault) → H
 stops_later a1 b1 a2 b2 w0 w1 e h = by e.cause h
   where
     by : (c : MergeCause) → ByCause c
-      (λ fault. LeftStopped a1 b1 a2 b2 w0 w1 fault e.written ⊎ LeftFull a1 b1 a2 b2 w0 w1 fault e.written)
-      (λ fault. RightStopped a1 b1 a2 b2 w0 w1 fault e.written ⊎ RightFull a1 b1 a2 b2 w0 w1 fault e.written)
-      (WriteStopped a1 b1 a2 b2 w0 w1 e.written)
-      → ByCause c
-      (λ fault. ((e.written ≡ 0) × Appends w0 w1 [] × Consumes a2 b2 [] × StopsBeforeRecords a1 b1 fault)
-      ⊎ (LeftStopped a1 b1 a2 b2 w0 w1 fault e.written ⊎ LeftFull a1 b1 a2 b2 w0 w1 fault e.written))
-      (λ fault. ((e.written ≡ 0) × Appends w0 w1 [] × Consumes a1 b1 magic × StopsBeforeRecords a2 b2 fault)
-      ⊎ (RightStopped a1 b1 a2 b2 w0 w1 fault e.written ⊎ RightFull a1 b1 a2 b2 w0 w1 fault e.written))
-      (WriteStopped a1 b1 a2 b2 w0 w1 e.written)
+        (λ fault. LeftStopped a1 b1 a2 b2 w0 w1 fault e.written ⊎ LeftFull a1 b1 a2 b2 w0 w1 fault e.written)
+        (λ fault. RightStopped a1 b1 a2 b2 w0 w1 fault e.written ⊎ RightFull a1 b1 a2 b2 w0 w1 fault e.written)
+        (WriteStopped a1 b1 a2 b2 w0 w1 e.written)
+        → ByCause c
+        (λ fault. ((e.written ≡ 0) × Appends w0 w1 [] × Consumes a2 b2 [] × StopsBeforeRecords a1 b1 fault)
+        ⊎ (LeftStopped a1 b1 a2 b2 w0 w1 fault e.written ⊎ LeftFull a1 b1 a2 b2 w0 w1 fault e.written))
+        (λ fault. ((e.written ≡ 0) × Appends w0 w1 [] × Consumes a1 b1 magic × StopsBeforeRecords a2 b2 fault)
+        ⊎ (RightStopped a1 b1 a2 b2 w0 w1 fault e.written ⊎ RightFull a1 b1 a2 b2 w0 w1 fault e.written))
+        (WriteStopped a1 b1 a2 b2 w0 w1 e.written)
     by (Left fault) p = inr p
     by (Right fault) p = inr p
     by Write p = p
