@@ -6,6 +6,9 @@ use Rattle.std.proofs.Math.Seq.{take-suc}
 use Rattle.std.specs.List.{AllByRecursion, list_all}
 use Rattle.archive_core.specs.Content.{Operations, IsContent}
 use Rattle.archive_core.specs.Lookup.{IsAnswer, answer_view}
+use Rattle.archive_core.specs.Key.{key_bytes}
+use Rattle.archive_core.specs.Part.{AreAlikeUnder}
+use Rattle.archive_core.proofs.Picked.{answer_alike}
 use Rattle.archive_core.specs.declared.keys.SliceKey.{SliceKey}
 use Rattle.archive_core.specs.declared.lookup.Answer.{Answer}
 use Rattle.report_text.specs.Answers.{answer_lines}
@@ -60,4 +63,19 @@ makes_answered archive key load addresses o status text lines content holds tell
   is_content = content;
   archive_is = holds;
   tells = subst (TellsAddresses o key load addresses status) (sym same) tells;
+}
+
+-- contents that are alike under the key tell the same
+answered_alike : (o p : Operations) (key : SliceKey) (load : Option ℕ) (rows : List Answered) → AreAlikeUnder (key_bytes key) o p → AllByRecursion (IsAnswered o key load) rows → AllByRecursion (IsAnswered p key load) rows
+answered_alike o p key load [] same all = tt
+answered_alike o p key load (row ∷ rows) same all =
+    (answer_alike o p key (place_of load row.address) (answer_view row.answer) same all.0, answered_alike o p key load rows same all.1)
+
+pub told_alike : (o p : Operations) (key : SliceKey) (load : Option ℕ) (addresses : List ℕ) (status : Status) (text : List ℕ) → AreAlikeUnder (key_bytes key) o p → TellsAddresses o key load addresses status text → TellsAddresses p key load addresses status text
+told_alike o p key load addresses status text same told = record {
+  rows = told.rows;
+  addresses_are = told.addresses_are;
+  answered = answered_alike o p key load told.rows same told.answered;
+  status_is = told.status_is;
+  text_is = told.text_is;
 }

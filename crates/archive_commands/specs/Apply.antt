@@ -1,18 +1,12 @@
 -- What `apply` makes of an archive and an operations file.
-use Rattle.std.specs.Prelude.{◌≡◌, ℕ, ◌+◌, ◌-◌, if◌then◌else◌, List, [], ◌∷◌, length, map}
-use Rattle.archive_core.specs.Content.{Operations, IsContent, with_record, with_records, changes}
+use Rattle.std.specs.Prelude.{◌≡◌, ℕ, ◌-◌, List, length, map}
+use Rattle.archive_core.specs.Content.{Operations, IsContent, with_records, new_among}
 use Rattle.archive_core.specs.Record.{rec}
 use Rattle.archive_core.specs.declared.operations.Operation.{Operation}
 use Rattle.archive_records.specs.Text.{IsOperationsText, written}
 use Rattle.report_text.specs.Report.{apply_line}
 use Rattle.archive_commands.specs.Ends.{Command, MakesArchive}
 use Rattle.archive_commands.specs.Inputs.{Reader, Gives, Holds, Unfailed, IsUntouched, IsRefusedOps, IsRefusedInOrder}
-
--- how many of the operations are new: each changes what those before it left
-unfoldable pub new_among : Operations → List Operation → ℕ
-new_among o [] = 0
-new_among o (operation ∷ rest) =
-    (if changes o (rec operation) then 1 else 0) + new_among (with_record o (rec operation)) rest
 
 -- IN is the text of a content and OPS that of operations; this is the content with their records, and this is the line
 -- that counts the new and the known ones.
@@ -24,7 +18,8 @@ pub record MakesApplied {R S : Type 0} (input : Reader R) (ops : Reader S) (cont
   pub archive : Holds input (written before)
   pub ops_are : Gives ops (λ text. IsOperationsText text operations)
   pub content_is : content ≡ with_records before (map rec operations)
-  pub lines_are : lines ≡ apply_line (new_among before operations) (length operations - new_among before operations)
+  pub lines_are : lines
+      ≡ apply_line (new_among before (map rec operations)) (length operations - new_among before (map rec operations))
 
 -- `apply`, over these inputs
 abbrev pub apply : {R S : Type 0} → Reader R → Reader S → Command

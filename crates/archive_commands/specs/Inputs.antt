@@ -1,9 +1,10 @@
 -- The inputs of a command: what they hold, which are refused, and why.
-use Rattle.std.specs.Prelude.{◌≡◌, ◌≢◌, ℕ, ◌+◌, List, map, take, drop, zip, Option, Some}
+use Rattle.std.specs.Prelude.{◌≡◌, ◌≢◌, ℕ, ◌+◌, Bool, List, map, take, drop, zip, Option, Some}
 use Rattle.std.specs.Prelude.{IfSome, Result, Ok, Err, MatchResult, slice_get, ◌⊎◌}
 use Rattle.std.specs.List.{AllByRecursion}
 use Rattle.byte_device.specs.Devices.{FailedIn}
 use Rattle.archive_core.specs.Content.{Operations, IsContent}
+use Rattle.archive_core.specs.Part.{part}
 use Rattle.archive_records.specs.Text.{written}
 use Rattle.archive_records.specs.Reading.{Meaning, ReadsWhole}
 use Rattle.archive_records.specs.declared.fault.RecordFault.{RecordFault}
@@ -116,6 +117,13 @@ IsScriptRefused input (Take _) = ⊥
 -- The input is the text of a content.
 abbrev pub IsArchive : {S : Type 0} → Reader S → Type 0
 IsArchive input = (o : Operations) × IsContent o × Holds input (written o)
+
+-- The input is the text of a content, and this is the part of it that is picked.
+pub record HoldsPart {S : Type 0} (input : Reader S) (picks : List ℕ → Bool) (o : Operations) : Type 0 where
+  pub whole : Operations
+  pub is_content : IsContent whole
+  pub text : Holds input (written whole)
+  pub kept : o ≡ part whole picks
 
 -- The input is a file whose slices are taken.
 abbrev pub IsAccepted : {S : Type 0} → Reader S → Type 0

@@ -1,17 +1,18 @@
 //! What the definitions of `apply` say in the words of its user. Each law is the contract of a function that does
 //! nothing but call other laws.
-ghost use Rattle.std.specs.Prelude.{◌≡◌, ◌↔◌, ◌≤◌, ◌+◌, ℕ, List, Contains, length, map};
+ghost use Rattle.std.specs.Prelude.{◌≡◌, ◌↔◌, ◌≤◌, ◌+◌, ℕ, List, [], ◌∷◌, Contains, if◌then◌else◌, length, map};
 ghost use Rattle.std.specs.FinSet as set;
-ghost use Rattle.archive_core.specs.Content.{Operations, IsContent, IsMade, made, joined, with_records};
+ghost use Rattle.archive_core.specs.Content.{Operations, IsContent, IsMade, made, joined, with_record, with_records};
+ghost use Rattle.archive_core.specs.Content.{changes, new_among};
 ghost use Rattle.archive_core.specs.Record.{rec};
 ghost use Rattle.archive_core.specs.declared.operations.Operation.{Operation};
 ghost use Rattle.archive_records.specs.Text.{IsOperationsText, written};
 ghost use Rattle.archive_commands.specs.declared.faults.Place.{Place};
 ghost use Rattle.archive_commands.specs.declared.faults.Why.{Why};
-ghost use Rattle.archive_commands.specs.Apply.{apply, new_among};
+ghost use Rattle.archive_commands.specs.Apply.{apply};
 ghost use Rattle.archive_commands.specs.Inputs.{IsDeviceFault, IsGiven, Reader};
 
-use archive_core::laws::takes_in_any_order;
+use archive_core::laws::{new_ones_in_turn, takes_in_any_order};
 use byte_device::Source;
 
 /// The content that `apply` makes is IN's with what the operations make, in whatever order and however often they
@@ -29,12 +30,18 @@ pub fn applied_in_any_order()
     takes_in_any_order();
 }
 
-/// OUT has as many records more than IN as operations are told to be new, and these are no more than the file has.
+/// As many operations are told to be new as change what those before them left, in the order of the file; these are no
+/// more than the file has.
 pub fn new_ones_are_counted()
-    ensures grown { (o : Operations) (operations : List Operation)
-        → set.len (with_records o (map rec operations)) ≡ set.len o + new_among o operations }
-    ensures within { (o : Operations) (operations : List Operation) → new_among o operations ≤ length operations }
-{}
+    ensures none { (o : Operations) → new_among o [] ≡ 0 }
+    ensures in_turn { (o : Operations) (operation : Operation) (rest : List Operation)
+        → new_among o (map rec (operation ∷ rest))
+        ≡ (if changes o (rec operation) then 1 else 0) + new_among (with_record o (rec operation)) (map rec rest) }
+    ensures within { (o : Operations) (operations : List Operation)
+        → new_among o (map rec operations) ≤ length operations }
+{
+    new_ones_in_turn();
+}
 
 /// Where IN is the text of a content and OPS that of operations, neither is refused but for its device.
 pub fn accepted_operations_are_not_refused<R: Source, S: Source>()

@@ -7,8 +7,9 @@ ghost use Rattle.archive_commands.specs.Outputs.{writer};
 
 use crate::faults::{CannotOpen, CommandFault, Status};
 use crate::publish::tell;
-use crate::sources::read_input;
+use crate::sources::read_input_part;
 use archive_core::{Archive, FindRow};
+use archive_records::Under;
 use byte_device::{Sink, Source};
 use memory::Heap;
 use report_text::find_lines;
@@ -40,7 +41,7 @@ pub fn run_find<A: Archive + Drop, R: Source, P: Sink>(
     ensures { EndsReport (find (reader R.left R.failures archive.old archive.new) uuid.now)
         (writer P.held P.failures report.old report.new) result }
 {
-    let archive: A = read_input(heap.clone()?, 0, archive)?;
+    let archive: A = read_input_part(heap.clone()?, 0, &Under(uuid.as_bytes()), archive)?;
     let rows = archive.find(uuid)?;
     let text = find_lines(heap, &rows)?;
     tell(status_of(&rows), &text, report)

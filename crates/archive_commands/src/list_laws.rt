@@ -1,5 +1,5 @@
-//! What the definition of `list` says in the words of its user. Each law is the contract of a function that does nothing
-//! but call laws of the crates below.
+//! What the definition of `list` says in the words of its user. Each law is the contract of a function that does
+//! nothing but call laws of the crates below.
 ghost use Rattle.std.specs.Prelude.{◌≡◌, ℕ, List};
 ghost use Rattle.archive_core.specs.Content.{Operations, IsContent};
 ghost use Rattle.archive_records.specs.Text.{written};

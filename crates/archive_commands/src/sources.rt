@@ -6,13 +6,14 @@ ghost use Rattle.archive_records.specs.Entry.{AreEntries};
 ghost use Rattle.archive_records.specs.Text.{IsOperationsText, summary_text, written};
 ghost use Rattle.rehearsal.specs.Script.{acts, script_of};
 ghost use Rattle.archive_commands.specs.declared.faults.Why.TheVariants.{Record};
-ghost use Rattle.archive_commands.specs.Inputs.{Gives, Holds, IsRefusal, IsRefusedArchive, IsRefusedFile, IsRefusedOps};
+ghost use Rattle.archive_commands.specs.Inputs.{Gives, Holds, HoldsPart, IsRefusal, IsRefusedArchive, IsRefusedFile};
+ghost use Rattle.archive_commands.specs.Inputs.{IsRefusedOps};
 ghost use Rattle.archive_commands.specs.Inputs.{IsRefusedScript, IsRefusedSummary, Unfailed, reader};
 
 use crate::faults::{CannotOpen, CommandFault, Place, Why};
 use archive_core::{Archive, Operation};
 use archive_records::{
-    RecordFault, RecordFaultKind, Summary, read_archive, read_ops, read_summary,
+    RecordFault, RecordFaultKind, Selects, Summary, read_archive, read_ops, read_part, read_summary,
 };
 use byte_device::{ReadFault, Source, read_to_end};
 use memory::Heap;
@@ -49,6 +50,31 @@ pub(crate) fn read_input<A: Archive + Drop, R: Source>(
         Err(CannotOpen) => return Err(CommandFault::Input(at, Why::CannotOpen)),
     };
     match read_archive(heap, source) {
+        Ok(archive) => Ok(archive),
+        Err(fault) => Err(refusal(at, fault)),
+    }
+}
+
+/// Reads the archive at a place among those of the words, and keeps the records that are picked.
+pub(crate) fn read_input_part<A: Archive + Drop, S: Selects, R: Source>(
+    heap: Heap,
+    place: u64,
+    select: &S,
+    input: &mut Result<R, CannotOpen>,
+) -> Result<A, CommandFault>
+    ensures kept { IfOk result (λ archive. HoldsPart (reader R.left R.failures input.old input.new)
+        (S.picked select.now) (A.content archive)) }
+    ensures unfailed { OnOk result (Unfailed (reader R.left R.failures input.old input.new)) }
+    ensures refused { IfErr result
+        (IsRefusal (IsRefusedArchive place (reader R.left R.failures input.old input.new))
+        (Unfailed (reader R.left R.failures input.old input.new))) }
+{
+    let at = Place::Archive(place);
+    let source = match input {
+        Ok(source) => source,
+        Err(CannotOpen) => return Err(CommandFault::Input(at, Why::CannotOpen)),
+    };
+    match read_part(heap, select, source) {
         Ok(archive) => Ok(archive),
         Err(fault) => Err(refusal(at, fault)),
     }

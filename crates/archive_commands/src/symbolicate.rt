@@ -8,8 +8,9 @@ ghost use Rattle.archive_commands.specs.Symbolicate.{TellsAddresses, is_symbol, 
 
 use crate::faults::{CannotOpen, CommandFault, Status};
 use crate::publish::tell;
-use crate::sources::read_input;
+use crate::sources::read_input_part;
 use archive_core::{Answer, Archive, SliceKey, Where};
+use archive_records::{Under, key_front};
 use byte_device::{Sink, Source};
 use memory::{Heap, NoMemory};
 use report_text::push_answer;
@@ -74,8 +75,8 @@ pub fn run_symbolicate<A: Archive + Drop, R: Source, P: Sink>(
     ensures { EndsReport (symbolicate (reader R.left R.failures archive.old archive.new) key.now load addresses.now)
         (writer P.held P.failures report.old report.new) result }
 {
-    let mut archive: A = read_input(heap.clone()?, 0, archive)?;
-    archive.prepare(key)?;
+    let front = key_front(key);
+    let archive: A = read_input_part(heap.clone()?, 0, &Under(&front), archive)?;
     let (status, text) = answer_each(heap, &archive, key, load, addresses)?;
     tell(status, &text, report)
 }

@@ -69,8 +69,8 @@ pub unmoved : (o p : Operations) → IsContent o → IsTowards IsContent IsBelow
 unmoved o p a = record { content = a; above_old = subset_reflexive nat_list_cmp_total o; below_join = λ z l. l.left }
 
 -- nor where no operation was
-pub none_taken : (o : Operations) (rs : List (List ℕ)) → IsTakenInPart o rs o
-none_taken o rs = record { above_old = subset_reflexive nat_list_cmp_total o; below_all = below_taken o rs }
+pub none_taken : (o : Operations) (rs : List (List ℕ)) → IsContent o → IsTakenInPart o rs o
+none_taken o rs is = record { content = is; above_old = subset_reflexive nat_list_cmp_total o; below_all = below_taken o rs }
 
 -- all of them give the same after some
 pub resumed : (o mid : Operations) (rs : List (List ℕ)) → IsTakenInPart o rs mid → with_records mid rs ≡ with_records o rs
@@ -82,11 +82,11 @@ resumed o mid rs part =
     taken_are_joined mid rs ∙ subset_antisymmetric nat_list_cmp_total bytes_same (union mid all) (union o all) left right ∙ sym (taken_are_joined o rs)
 
 -- where some of a content's operations were taken, the content is on the way
-pub taken_towards : (o p mid : Operations) (rs : List (List ℕ)) → IsContent o → IsContent p → set.from_list rs ≡ p → IsTakenInPart o rs mid → IsTowards IsContent IsBelow o p mid
-taken_towards o p mid rs a b is part =
+pub taken_towards : (o p mid : Operations) (rs : List (List ℕ)) → set.from_list rs ≡ p → IsTakenInPart o rs mid → IsTowards IsContent IsBelow o p mid
+taken_towards o p mid rs is part =
     let within : IsBelow mid (union o p) = subst (λ z. IsBelow mid z) (taken_are_joined o rs ∙ ap (union o) is) part.below_all in
     record {
-      content = content_within o p mid a b within;
+      content = part.content;
       above_old = part.above_old;
       below_join = λ z l. subset_transitive nat_list_cmp_total mid (union o p) z within (union_least nat_list_cmp_total o p z l.left l.right);
     }
@@ -106,6 +106,7 @@ gathered_joined o p both operations sorted permuted is both_is = both_is ∙ ap 
 -- and to join it in part is to take them in part
 pub gathered_in_part : (o p mid : Operations) (operations sorted : List Operation) → IsPermutation operations sorted → p ≡ with_records set.empty (map rec sorted) → IsContent o → IsContent p → IsTowards IsContent IsBelow o p mid → IsTakenInPart o (map rec operations) mid
 gathered_in_part o p mid operations sorted permuted is a b t = record {
+  content = t.content;
   above_old = t.above_old;
   below_all = subst (λ z. IsBelow mid z) (gathered_joined o p (union o p) operations sorted permuted is refl) (t.below_join (union o p) (joined o p (union o p) a b refl));
 }

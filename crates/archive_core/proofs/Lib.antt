@@ -13,3 +13,6 @@ pub mod Beginnings
 pub mod Naming
 pub mod Listed
 pub mod Parts
+pub mod Picked
+pub mod Falling
+pub mod Ranges

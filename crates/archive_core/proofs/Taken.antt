@@ -1,6 +1,6 @@
 -- What operations give that are taken one after another, and what a retirement keeps out.
 use Rattle.std.proofs.Common.{◌≡◌, ◌↔◌, ◌≤◌, ◌+◌, ℕ, List, [], ◌∷◌, Bool, true, false, cond, length, map, refl, sym, ap, ◌∙◌, subst, arith}
-use Rattle.std.specs.Prelude.{not}
+use Rattle.std.specs.Prelude.{not, if◌then◌else◌}
 use mathlib.Core.Bool.{true≢false}
 use Rattle.std.specs.Cmp.Lexicographic.{nat_list_cmp_total}
 use Rattle.std.specs.FinSet as set
@@ -10,7 +10,7 @@ use Rattle.join_core.proofs.Members.{from_list_same, inserts_are_union}
 use Rattle.join_core.proofs.Place.{insert_present, insert_changes}
 use Rattle.join_core.proofs.Subset.{subset_reflexive, subset_transitive, union_left}
 use Rattle.archive_core.specs.Record.{rec, retirement_record}
-use Rattle.archive_core.specs.Content.{Operations, made, IsBelow, with_record, with_records, changes, joined, HaveSameMembers, IsLive, IsTakenInPart}
+use Rattle.archive_core.specs.Content.{Operations, made, IsBelow, IsContent, with_record, with_records, changes, new_among, joined, HaveSameMembers, IsLive, IsTakenInPart}
 use Rattle.archive_core.specs.declared.operations.Operation.{Operation}
 use Rattle.archive_core.specs.declared.keys.SliceKey.{SliceKey}
 use Rattle.archive_core.proofs.Held.{bytes_same}
@@ -62,22 +62,48 @@ pub all_taken : (old now : Operations) (all left : List Operation) → IsUnderWa
 all_taken old now all [] way none = way.content
 all_taken old now all (x ∷ xs) way none = absurd (omega arith)
 
-pub taken_in_part : (old now new : Operations) (all left : List Operation) → IsUnderWay old now all left → new ≡ now → IsTakenInPart old (map rec all) new
-taken_in_part old now new all left way same = rw same (record {
+pub taken_in_part : (old now new : Operations) (all left : List Operation) → IsContent now → IsUnderWay old now all left → new ≡ now → IsTakenInPart old (map rec all) new
+taken_in_part old now new all left is way same = rw same (record {
+  content = is;
   above_old = way.above_old;
   below_all = subst (λ (o : Operations). IsBelow now o) way.content (below_taken now (map rec left));
 })
 
--- and has no more than that
-grown : (o : Operations) (rs : List (List ℕ)) → set.len o ≤ set.len (with_records o rs)
-grown o [] = omega arith
-grown o (r ∷ rs) = at_least (set.contains o r) (set.len-insert nat_list_cmp_total o r) (grown (with_record o r) rs)
-  where
-    at_least : (has : Bool) → set.len (with_record o r) ≡ cond has (set.len o) (set.len o + 1) → set.len (with_record o r) ≤ set.len (with_records (with_record o r) rs) → set.len o ≤ set.len (with_records (with_record o r) rs)
-    at_least true e h = omega (arith, e)
-    at_least false e h = omega (arith, e)
+-- of records no more are new than there are
+one_at_most : (changed : Bool) → (if changed then 1 else 0) ≤ 1
+one_at_most true = omega arith
+one_at_most false = omega arith
 
-pub grown_to : (o next : Operations) (rs : List (List ℕ)) → next ≡ with_records o rs → set.len o ≤ set.len next
+pub new_within : (o : Operations) (rs : List (List ℕ)) → new_among o rs ≤ length rs
+unfolding new_among
+new_within o [] = omega arith
+new_within o (r ∷ rs) =
+    let one = one_at_most (changes o r) in
+    let more = new_within (with_record o r) rs in
+    omega arith
+
+pub new_in_turn : (o : Operations) (r : List ℕ) (rs : List (List ℕ)) → new_among o (r ∷ rs) ≡ (if changes o r then 1 else 0) + new_among (with_record o r) rs
+unfolding new_among
+new_in_turn o r rs = refl
+
+pub new_of_none : (o : Operations) → new_among o [] ≡ 0
+unfolding new_among
+new_of_none o = refl
+
+-- and each new one is one more in the set
+pub grown : (o : Operations) (rs : List (List ℕ)) → set.len (with_records o rs) ≡ set.len o + new_among o rs
+unfolding new_among changes
+grown o [] = omega arith
+grown o (r ∷ rs) =
+    grown (with_record o r) rs
+    ∙ ap (λ (n : ℕ). n + new_among (with_record o r) rs) (set.len-insert nat_list_cmp_total o r)
+    ∙ by_case (set.contains o r) (set.len o) (new_among (with_record o r) rs)
+  where
+    by_case : (has : Bool) (n more : ℕ) → cond has n (n + 1) + more ≡ n + ((if not has then 1 else 0) + more)
+    by_case true n more = omega arith
+    by_case false n more = omega arith
+
+pub grown_to : (o next : Operations) (rs : List (List ℕ)) → next ≡ with_records o rs → set.len next ≡ set.len o + new_among o rs
 grown_to o next rs is = rw is (grown o rs)
 
 -- above a content that retires a slice, none has it live

@@ -1,5 +1,5 @@
 -- What an archive holds: a set of operations, the order on such sets, and what is live in one.
-use Rattle.std.specs.Prelude.{◌≡◌, ◌↔◌, ℕ, List, Bool, true, false, not, fold, Contains}
+use Rattle.std.specs.Prelude.{◌≡◌, ◌↔◌, ℕ, ◌+◌, List, [], ◌∷◌, Bool, true, false, not, if◌then◌else◌, fold, Contains}
 use Rattle.std.specs.Ordering.{nat_cmp}
 use Rattle.std.specs.Cmp.Lexicographic.{slice_cmp}
 use Rattle.std.specs.FinSet as set
@@ -43,8 +43,14 @@ changes o r = not (set.contains o r)
 abbrev pub with_records : Operations → List (List ℕ) → Operations
 with_records o rs = fold with_record o rs
 
+-- how many of the records are new: each changes what those before it left
+unfoldable pub new_among : Operations → List (List ℕ) → ℕ
+new_among o [] = 0
+new_among o (r ∷ rs) = (if changes o r then 1 else 0) + new_among (with_record o r) rs
+
 -- some of the records may have been taken: a content above the one before, and below that with all of them
 pub record IsTakenInPart (o : Operations) (rs : List (List ℕ)) (mid : Operations) : Type 0 where
+  pub content : IsContent mid
   pub above_old : IsBelow o mid
   pub below_all : IsBelow mid (with_records o rs)
 

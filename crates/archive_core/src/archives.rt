@@ -54,10 +54,6 @@ pub trait Archive: Join<Content = Contents> {
     fn holds(&self, operation: &Operation) -> bool
         ensures { result ≡ set.contains (Self.content self.now) (rec operation.now) };
 
-    /// Makes ready for many lookups of a key. No answer depends on it. Refused for want of memory alone.
-    fn prepare(&mut self, key: &SliceKey) -> Result<(), NoMemory>
-        ensures { Self.content self.new ≡ Self.content self.old };
-
     /// The retirements and the live slices under a UUID, a row for each, by `cputype` and `subtype`,
     /// then in the order of their records. Refused for want of memory alone.
     fn find(&self, uuid: &Uuid) -> Result<Vec<FindRow, Heap>, NoMemory>
@@ -92,9 +88,9 @@ pub trait Archive: Join<Content = Contents> {
 }
 
 /// Joins an archive with another one of its type, and takes over what that holds without a copy. Refused for want of
-/// memory alone; a part of `other` may then have been taken in, and `other` is dropped. A caller that makes the call again
-/// makes `other` again from where it had it, as by reading its text once more; `laws::contents_join` (`resumed`) says that
-/// this gives what the first call would have given.
+/// memory alone; a part of `other` may then have been taken in, and `other` is dropped. A caller that makes the call
+/// again makes `other` again from where it had it, as by reading its text once more; `laws::contents_join` (`resumed`)
+/// says that this gives what the first call would have given.
 pub fn take_all<A: Archive>(archive: &mut A, other: A) -> Result<(), NoMemory>
     ensures joined { OnOk result (A.content archive.new ≡ joined (A.content archive.old) (A.content other)) }
     ensures refused { OnErr result

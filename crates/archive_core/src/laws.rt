@@ -2,8 +2,8 @@
 //!
 //! Each law is the contract of a function that does nothing but call other laws, and speaks of the definitions alone: a
 //! caller that wants a law calls its function.
-ghost use Rattle.std.specs.Prelude.{◌≡◌, ◌⊎◌, ◌↔◌, ◌&&◌, ℕ, ◌+◌, List, [], ◌∷◌, ◌++◌};
-ghost use Rattle.std.specs.Prelude.{true, false, not, filter, length, slice_index_or};
+ghost use Rattle.std.specs.Prelude.{◌≡◌, ◌⊎◌, ◌↔◌, ◌&&◌, ℕ, ◌+◌, ◌≤◌, Bool, List, [], ◌∷◌, ◌++◌};
+ghost use Rattle.std.specs.Prelude.{true, false, not, if◌then◌else◌, filter, length, slice_index_or};
 ghost use Rattle.std.specs.Ordering.{nat_cmp};
 ghost use Rattle.std.specs.Cmp.Lexicographic.{slice_cmp};
 ghost use Rattle.std.specs.FinSet as set;
@@ -15,12 +15,13 @@ ghost use Rattle.archive_core.specs.Key.{IsKey, key_bytes};
 ghost use Rattle.archive_core.specs.Valid.{IsValid, IsSliceFault, key_of};
 ghost use Rattle.archive_core.specs.Record.{IsRecord, Admits, IsOperation, rec, admission_record, retirement_record};
 ghost use Rattle.archive_core.specs.Content.{Operations, made, IsMade, IsContent, IsBelow, with_record, with_records};
-ghost use Rattle.archive_core.specs.Content.{changes, joined, HaveSameMembers, IsLive, IsTakenInPart};
+ghost use Rattle.archive_core.specs.Content.{changes, new_among, joined, HaveSameMembers, IsLive, IsTakenInPart};
 ghost use Rattle.archive_core.specs.Summary.{Entries, entry, summary, delta, DigestsTell};
 ghost use Rattle.archive_core.specs.Find.{IsFinds, AreAnswering, answering_count};
 ghost use Rattle.archive_core.specs.Lists.{IsList, rows_under};
-ghost use Rattle.archive_core.specs.Lookup.{AnswerRecord, IsAnswer};
+ghost use Rattle.archive_core.specs.Lookup.{AnswerRecord, IsAnswer, IsConflict};
 ghost use Rattle.archive_core.specs.Names.{NameRecord, IsNames};
+ghost use Rattle.archive_core.specs.Part.{is_under, part, AreAlikeUnder, AreAlikeNamed};
 ghost use Rattle.join_core.specs.Listing.{IsListing, listing};
 ghost use Rattle.archive_core.specs.declared.find.FindRow.{FindRow};
 ghost use Rattle.archive_core.specs.declared.keys.SliceKey.{SliceKey};
@@ -139,9 +140,24 @@ pub fn takes_in_any_order()
         → with_records o rs ≡ joined o (made (set.from_list rs)) }
 {}
 
+/// How many records are new is counted in the order in which they come: each that changes what those before it left is
+/// one more. They are no more than there are records.
+pub fn new_ones_in_turn()
+    ensures none { (o : Operations) → new_among o [] ≡ 0 }
+    ensures in_turn { (o : Operations) (r : List ℕ) (rs : List (List ℕ))
+        → new_among o (r ∷ rs) ≡ (if changes o r then 1 else 0) + new_among (with_record o r) rs }
+    ensures within { (o : Operations) (rs : List (List ℕ)) → new_among o rs ≤ length rs }
+{}
+
+/// Each new record is one more in the content.
+pub fn new_ones_are_added()
+    ensures { (o : Operations) (rs : List (List ℕ)) → set.len (with_records o rs) ≡ set.len o + new_among o rs }
+{}
+
 /// Operations that were taken in part, and are taken again, all of them, give what all would have given at first.
 pub fn taking_each_resumed()
     ensures { (o mid : Operations) (rs : List (List ℕ))
+        → IsContent o
         → IsTakenInPart o rs mid
         → with_records mid rs ≡ with_records o rs }
 {}
@@ -285,4 +301,45 @@ pub fn one_answer()
         → answer ≡ other }
 {
     one_nearest();
+}
+
+/// A part of a content has the records of it that are picked, and is a content.
+pub fn parts_in_words()
+    ensures part { (o : Operations) (picks : List ℕ → Bool) (r : List ℕ)
+        → set.contains (part o picks) r ≡ (set.contains o r && picks r) }
+    ensures content { (o : Operations) (picks : List ℕ → Bool) → IsContent o → IsContent (part o picks) }
+    ensures alike { (o : Operations) (picks : List ℕ → Bool) (front : List ℕ)
+        → ((r : List ℕ) → is_under front r ≡ true → picks r ≡ true)
+        → AreAlikeUnder front (part o picks) o }
+{}
+
+/// The answer for a key, the rows of a UUID and those of a name depend on the records of that key, that UUID and that
+/// name alone: contents that are alike in these answer alike.
+pub fn answers_of_few_records()
+    ensures answer { (o p : Operations) (key : SliceKey) (place : Where) (answer : AnswerRecord)
+        → AreAlikeUnder (key_bytes key) o p
+        → IsAnswer o key place answer ↔ IsAnswer p key place answer }
+    ensures conflict { (o p : Operations) (key : SliceKey)
+        → AreAlikeUnder (key_bytes key) o p
+        → IsConflict o key ↔ IsConflict p key }
+    ensures find { (o p : Operations) (uuid : List ℕ) (rows : List FindRow)
+        → AreAlikeUnder uuid o p
+        → IsFinds o uuid rows ↔ IsFinds p uuid rows }
+    ensures find_name { (o p : Operations) (name : List ℕ) (rows : List NameRecord)
+        → AreAlikeNamed name o p
+        → IsNames o name rows ↔ IsNames p name rows }
+{}
+
+/// What the part of a content that has all records under a key, or under a UUID, tells of it is what the whole content
+/// tells.
+pub fn part_answers_as_the_whole()
+    ensures answer { (o : Operations) (picks : List ℕ → Bool) (key : SliceKey) (place : Where) (answer : AnswerRecord)
+        → ((r : List ℕ) → is_under (key_bytes key) r ≡ true → picks r ≡ true)
+        → IsAnswer (part o picks) key place answer ↔ IsAnswer o key place answer }
+    ensures find { (o : Operations) (picks : List ℕ → Bool) (uuid : List ℕ) (rows : List FindRow)
+        → ((r : List ℕ) → is_under uuid r ≡ true → picks r ≡ true)
+        → IsFinds (part o picks) uuid rows ↔ IsFinds o uuid rows }
+{
+    parts_in_words();
+    answers_of_few_records();
 }

@@ -18,11 +18,13 @@
 //! - `finding`: an operation beside the row that a search tells of it;
 //! - `lists`: what a list of all tells;
 //! - `live`: slices that answer under a key, and what they tell;
+//! - `range`: the operations of one kind under one key;
 //! - `plain`: an archive as a sorted list;
 //! - [`laws`]: what holds of records, contents, joins, summaries, rows and answers.
 #![tactic(auto)]
 
 mod archives;
+mod covered;
 mod faults;
 mod find;
 mod finding;
@@ -34,18 +36,18 @@ mod lookup;
 mod names;
 mod operations;
 mod plain;
+mod range;
 mod slices;
 mod taking;
 
 pub use archives::{Archive, Contents, take_all};
 pub use faults::{AdmitFault, SliceFault};
 pub use find::{FindRow, FindState};
-pub use finding::{Finding, rows_of};
 pub use keys::{ArchKey, Digest, SliceKey, compare_keys};
 pub use lists::list;
-pub use live::{answer_of_one, file_address, is_key, is_kind};
+pub use live::is_key;
 pub use lookup::{Answer, Own, Where};
-pub use names::{NameRow, put_in_order, rows_in};
+pub use names::NameRow;
 pub use operations::{Operation, Record};
 pub use plain::PlainArchive;
 pub use slices::{CheckedSlice, Slice, SliceFacts};

@@ -1,77 +1,67 @@
 //! Slices that answer under a key, and what they tell.
 ghost use Rattle.std.specs.Prelude.{◌≡◌, ◌∷◌, [], ◌++◌, ℕ, List};
-ghost use Rattle.sha2.specs.Sha256.{sha256};
-ghost use Rattle.macho_symbols.specs.Found.{FindsNearest};
+ghost use Rattle.std.specs.Option.{option_map};
+ghost use Rattle.macho_symbols.specs.Views.{found_view};
 ghost use Rattle.archive_core.specs.Lookup.{IsOwn, IsOwnRow, Alone, file_address, unslid};
 ghost use Rattle.archive_core.specs.Lookup.{own_view, own_row, answer_view};
 ghost use Rattle.archive_core.specs.Find.{is_key, is_kind};
 ghost use Rattle.archive_core.specs.InnerScan.{IsTally};
 
 use crate::{Answer, Digest, Own, Slice, SliceKey, Where};
+use macho_symbols::Found;
 use std::marker::Model;
 
-// A slice with its digest, so that it is hashed once. A contract sees it as the slice's bytes.
+// A slice that is asked. A contract sees it as the slice's bytes.
 #[derive(Drop)]
-pub(crate) struct Hashed<'a> {
+pub(crate) struct Asked<'a> {
     slice: &'a Slice,
-    digest: Digest,
 }
 
-impl<'a> Model for Hashed<'a> {
-    ghost use Rattle.std.specs.Prelude.{◌≡◌, ℕ, List};
-    ghost use Rattle.sha2.specs.Sha256.{sha256};
+impl<'a> Model for Asked<'a> {
+    ghost use Rattle.std.specs.Prelude.{ℕ, List};
 
     ghost Value = { List ℕ };
 
-    ghost view = { λ hashed. hashed.slice.now };
-
-    ghost invariant = { λ hashed. hashed.digest.0 ≡ sha256 hashed.slice.now };
+    ghost view = { λ asked. asked.slice.now };
 }
 
 // What is kept of slices as they are counted: at most one of them is asked alone.
 #[derive(Drop)]
 pub(crate) enum Tally<'a> {
     Nothing,
-    One(Hashed<'a>),
+    One(Asked<'a>),
     Several,
 }
 
-impl<'a> Hashed<'a> {
-    // The slice with its digest.
-    pub(crate) fn of(slice: &'a Slice) -> Hashed<'a>
+impl<'a> Asked<'a> {
+    // The slice.
+    pub(crate) fn of(slice: &'a Slice) -> Asked<'a>
         ensures { result ≡ slice.now }
     {
-        Hashed {
-            slice,
-            digest: slice.digest(),
-        }
-    }
-
-    // The digest.
-    pub(crate) fn digest(&self) -> Digest
-        ensures { result.0 ≡ sha256 self.now }
-    {
-        self.digest
+        Asked { slice }
     }
 
     // What the slice tells of a place.
     pub(crate) fn own(&self, place: Where) -> Own<'a>
         ensures { IsOwn self.now place (own_view result) }
     {
-        own(self.slice, place)
+        match file_address(self.slice, place) {
+            Some(address) => own_of(self.slice.nearest(address)),
+            None => Own::NoSymbol,
+        }
     }
 
     // The slice's digest and what it tells of a place.
     pub(crate) fn row(&self, place: Where) -> (Digest, Own<'a>)
         ensures { IsOwnRow place self.now (own_row result) }
     {
-        (self.digest(), self.own(place))
+        (self.slice.digest(), self.own(place))
     }
 }
 
 impl<'a> Tally<'a> {
     // The same with one slice more.
-    pub(crate) fn and(self, slice: Hashed<'a>) -> Tally<'a>
+    pub(crate) fn and(self, slice: Asked<'a>) -> Tally<'a>
         ensures { (slices : List (List ℕ)) → IsTally self.entry slices → IsTally result (slices ++ slice.entry ∷ []) }
     {
         match self {
@@ -95,21 +85,11 @@ pub fn is_kind(dsym: bool, slice: &Slice) -> bool
     slice.image().is_dsym() == dsym
 }
 
-// What a slice tells of a place.
-fn own(slice: &Slice, place: Where) -> Own<'_>
-    ensures { IsOwn slice.now place (own_view result) }
+// What a slice tells where this is the nearest symbol.
+fn own_of(found: Option<Found<'_>>) -> Own<'_>
+    ensures { own_view result ≡ option_map found_view found.entry }
 {
-    match file_address(slice, place) {
-        Some(address) => nearest(slice, address),
-        None => Own::NoSymbol,
-    }
-}
-
-// The nearest symbol of an address in a slice's file.
-fn nearest(slice: &Slice, address: u64) -> Own<'_>
-    ensures { FindsNearest slice.now address (own_view result) }
-{
-    match slice.symbols().nearest_plain(address) {
+    match found {
         Some(found) => Own::Symbol(found),
         None => Own::NoSymbol,
     }

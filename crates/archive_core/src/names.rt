@@ -1,7 +1,8 @@
 //! What a search for a name tells.
-ghost use Rattle.std.specs.Prelude.{◌≡◌, ◌↔◌, ℕ, List, map, Contains, IfOk};
+ghost use Rattle.std.specs.Prelude.{◌≡◌, ◌↔◌, ℕ, List, map, Contains, IfOk, length, nat_lt};
 ghost use Rattle.std.specs.List.Sorted.{IsStrictlySortedBy};
 ghost use Rattle.sha2.specs.Sha256.{sha256};
+ghost use Rattle.macho_symbols.specs.Found.{named};
 ghost use Rattle.macho_symbols.specs.Views.{found_view};
 ghost use Rattle.archive_core.specs.Valid.{key_of};
 ghost use Rattle.archive_core.specs.Names.{NameRecord, key_cmp, place_cmp, name_cmp, name_row, name_view};
@@ -71,17 +72,27 @@ impl<'a> NameRow<'a> {
     }
 }
 
-/// The rows of a name in a slice of this digest, in the order of its symbol table.
-pub fn rows_in<'a>(
+// Whether a symbol of the slice has the name. Not inlined, nor is `rows_in`: a scan has 16 KiB on the stack, and where
+// there is no memory for a stack that grows, the program is ended and cannot tell it.
+#[inline(never)]
+pub(crate) fn has_name(slice: &Slice, name: &[u8]) -> bool
+    ensures { result ≡ nat_lt 0 (length (named slice.now name.now)) }
+{
+    let mut names = slice.symbols().named(name);
+    names.next().is_some()
+}
+
+// The rows of a name in a slice, in the order of its symbol table.
+#[inline(never)]
+pub(crate) fn rows_in<'a>(
     heap: Heap,
     slice: &'a Slice,
-    digest: Digest,
     name: &[u8],
 ) -> Result<Vec<NameRow<'a>, Heap>, NoMemory>
-    requires { digest.0 ≡ sha256 slice.now }
     ensures { IfOk result (λ rows. map name_view rows.items ≡ names_in name.now slice.now) }
 {
     let key = slice.key();
+    let digest = slice.digest();
     slice
         .symbols()
         .named(name)
@@ -104,8 +115,8 @@ fn row_of(key: SliceKey, digest: Digest, found: Found<'_>) -> NameRow<'_>
     }
 }
 
-/// Puts rows in order, and leaves each once.
-pub fn put_in_order(rows: &mut Vec<NameRow<'_>, Heap>)
+// Puts rows in order, and leaves each once.
+pub(crate) fn put_in_order(rows: &mut Vec<NameRow<'_>, Heap>)
     ensures ascending { IsStrictlySortedBy name_cmp (map name_view rows.new.items) }
     ensures same { (row : NameRecord)
         → Contains (map name_view rows.new.items) row ↔ Contains (map name_view rows.old.items) row }

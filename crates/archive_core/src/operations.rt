@@ -51,6 +51,25 @@ impl Operation {
         }
     }
 
+    /// Builds the table of addresses of the slice that it admits, where it has none.
+    pub fn keep_table(&mut self, heap: &Heap) -> Result<(), NoMemory>
+        ensures { self.new ≡ self.old }
+    {
+        match self {
+            Operation::Admit(slice) => slice.keep_table(heap),
+            Operation::Retire(_, _) => Ok(()),
+        }
+    }
+
+    /// Keeps the digest of the slice that it admits beside its table, where it has one.
+    pub fn keep_digest(&mut self)
+        ensures { self.new ≡ self.old }
+    {
+        if let Operation::Admit(slice) = self {
+            slice.keep_digest();
+        }
+    }
+
     /// Compares the records of two operations, byte by byte, without building them.
     pub fn compare(&self, other: &Operation) -> Ordering
         ensures { result ≡ slice_cmp nat_cmp (rec self.now) (rec other.now) }

@@ -1,5 +1,6 @@
 //! An archive as a sorted list of operations.
-ghost use Rattle.std.specs.Prelude.{◌≡◌, ◌≤◌, length, map, filter, not, if◌then◌else◌, Some, None, IfOk, OnOk, OnErr};
+ghost use Rattle.std.specs.Prelude.{◌≡◌, ◌≤◌, ◌++◌, length, map, filter, not, if◌then◌else◌};
+ghost use Rattle.std.specs.Prelude.{Some, None, IfOk, OnOk, OnErr};
 ghost use Rattle.std.specs.FinSet as set;
 ghost use Rattle.std.specs.Ordering.{nat_cmp, is_lt};
 ghost use Rattle.std.specs.Cmp.Lexicographic.{slice_cmp};
@@ -7,21 +8,23 @@ ghost use Rattle.std.specs.List.{list_all, AllZip};
 ghost use Rattle.std.specs.List.Sorted.{IsPermutation, IsSortedBy, IsStrictlySortedBy, IsSearchInRange};
 ghost use Rattle.join_core.specs.InnerSearch.{IsFound};
 ghost use Rattle.sha2.specs.Sha256.{sha256};
-ghost use Rattle.archive_core.specs.Key.{IsKey};
 ghost use Rattle.archive_core.specs.Valid.{key_of};
 ghost use Rattle.archive_core.specs.Record.{rec, retirement_record};
-ghost use Rattle.archive_core.specs.Content.{IsTakenInPart, with_records};
+ghost use Rattle.archive_core.specs.Content.{IsContent, IsTakenInPart, with_records};
 ghost use Rattle.archive_core.specs.InnerHeld.{IsHeld};
 ghost use Rattle.archive_core.specs.InnerScan.{is_finding, live_in, live_among, IsTally};
 ghost use Rattle.archive_core.specs.Lookup.{IsOwnRow, IsAnswerOf, own_row, answer_view};
 ghost use Rattle.archive_core.specs.Names.{name_view};
 ghost use Rattle.archive_core.specs.InnerNames.{names_of, names_among};
 
+use crate::covered::retires;
 use crate::finding::{Finding, rows_of};
-use crate::live::{Hashed, Tally, answer_of_one, is_key, is_kind};
+use crate::live::{Asked, Tally, answer_of_one, is_key, is_kind};
+use crate::names::{has_name, put_in_order, rows_in};
+use crate::range::{Kind, is_companion, keep_digests_under, keep_each_table, under, under_uuid};
 use crate::{
     Answer, Archive, Contents, Digest, FindRow, FindState, NameRow, Operation, Own, Record, Slice,
-    SliceKey, Where, put_in_order, rows_in,
+    SliceKey, Where,
 };
 use join_core::Join;
 use memory::{Heap, NoMemory};
@@ -61,7 +64,7 @@ impl Model for PlainArchive {
 const FEW: usize = 8;
 
 // Where an operation stands among others that ascend, or where it would go.
-fn search(operations: &[Operation], operation: &Operation) -> Result<usize, usize>
+pub(crate) fn search(operations: &[Operation], operation: &Operation) -> Result<usize, usize>
     requires { IsStrictlySortedBy (slice_cmp nat_cmp) (map rec operations.now) }
     ensures bound { IsSearchInRange result (length operations.now) }
     ensures found { IsFound (slice_cmp nat_cmp) (map rec operations.now) (rec operation.now) result }
@@ -94,6 +97,84 @@ fn sort(operations: &mut Vec<Operation, Heap>)
 }
 
 impl PlainArchive {
+    /// The heap that the archive keeps.
+    pub fn heap(&self) -> &Heap {
+        self.operations.allocator()
+    }
+
+    /// Builds the tables of addresses beside the slices that have none. Nothing that is asked depends on them. Refused
+    /// for want of memory alone.
+    pub fn keep_tables(&mut self) -> Result<(), NoMemory>
+        ensures { self.new ≡ self.old }
+    {
+        let heap = self.operations.allocator().clone()?;
+        keep_each_table(&mut self.operations, &heap)
+    }
+
+    /// Whether a lookup of the key asks for digests: where a retirement of the key stands, or where two of its slices
+    /// are of one kind.
+    pub fn tells_digests(&self, key: &SliceKey) -> bool {
+        self.has_retirement(key) || self.has_several(key)
+    }
+
+    /// Keeps the digests beside the slices under a key that have tables, where a lookup of the key asks for them.
+    pub fn keep_digests(&mut self, key: &SliceKey)
+        ensures { self.new ≡ self.old }
+    {
+        if self.tells_digests(key) {
+            keep_digests_under(&mut self.operations, *key);
+        }
+    }
+
+    /// The same for each of the keys.
+    pub fn keep_digests_of(&mut self, keys: &[SliceKey])
+        ensures { self.new ≡ self.old }
+    {
+        'keys: for key in keys {
+            self.keep_digests(key);
+        }
+    }
+
+    /// The keys of the operations: those of the retirements, then those of the admissions, each once.
+    pub fn keys(&self) -> Result<Vec<SliceKey, Heap>, NoMemory> {
+        let heap = self.operations.allocator().clone()?;
+        let mut keys: Vec<SliceKey, Heap> = self
+            .operations
+            .iter()
+            .map(|operation| operation.key())
+            .collect(heap)?;
+        keys.dedup_by(|a, b| is_key(a, b));
+        Ok(keys)
+    }
+
+    // Whether a retirement of the key stands. Retirements stand first. No answer depends on it.
+    fn has_retirement(&self, key: &SliceKey) -> bool {
+        match self.operations.first() {
+            Some(Operation::Retire(_, _)) => {
+                !under(&self.operations, Kind::Retirement, *key).is_empty()
+            }
+            _ => false,
+        }
+    }
+
+    // Whether two slices of the key are of one kind, as of three some two are. What came in ascending order stands
+    // last. No answer depends on it.
+    fn has_several(&self, key: &SliceKey) -> bool {
+        let count = self.operations.len();
+        if count > 1
+            && is_key(&self.operations[count - 1].key(), key)
+            && !is_key(&self.operations[count - 2].key(), key)
+        {
+            return false;
+        }
+        let slices = under(&self.operations, Kind::Admission, *key);
+        match slices.len() {
+            0 | 1 => false,
+            2 => is_companion(&slices[0]) == is_companion(&slices[1]),
+            _ => true,
+        }
+    }
+
     // Whether the archive holds each of the operations.
     fn holds_each(&self, operations: &[Operation]) -> bool
         ensures { result ≡ list_all (λ operation. set.contains self.now (rec operation)) operations.now }
@@ -123,59 +204,52 @@ impl PlainArchive {
         }
     }
 
-    // Those operations that a search for the UUID tells, each with its row.
+    // Adds those operations that a search for the UUID tells, each with its row.
     fn gather<'a>(
         &self,
+        findings: &mut Vec<Finding<'a>, Heap>,
         operations: &'a [Operation],
         uuid: &Uuid,
-    ) -> Result<Vec<Finding<'a>, Heap>, NoMemory>
-        ensures { IfOk result (λ findings. findings.items ≡ filter (is_finding self.now uuid.now) operations.now) }
+    ) -> Result<(), NoMemory>
+        ensures { OnOk result (findings.new.items
+            ≡ findings.old.items ++ filter (is_finding self.now uuid.now) operations.now) }
     {
-        let mut findings = Vec::new(self.operations.allocator().clone()?);
         'operations: for operation in operations {
             if let Some(finding) = self.finding(operation, uuid) {
                 findings.push(finding)?;
             }
         }
-        Ok(findings)
+        Ok(())
     }
 
-    // The slice with its digest, unless a retirement covers it.
-    fn unless_retired<'a>(&self, slice: &'a Slice) -> Option<Hashed<'a>>
-        ensures { result
-            ≡ if set.contains self.now (retirement_record (key_of slice.now) (sha256 slice.now)) then None
-            else Some slice.now }
+    // Whether a retirement covers the slice. Its digest is asked for only where a retirement of its key stands.
+    fn is_retired(&self, slice: &Slice) -> bool
+        ensures { result ≡ set.contains self.now (retirement_record (key_of slice.now) (sha256 slice.now)) }
     {
-        let hashed = Hashed::of(slice);
-        if self.holds(&Operation::Retire(slice.key(), hashed.digest())) {
-            return None;
-        }
-        Some(hashed)
+        retires(&self.operations, slice)
     }
 
-    // The slice that an operation admits, where it is live under the key, and a companion or not. A
-    // slice of another key or kind is not hashed.
+    // The slice that an operation admits, where it is live under the key, and a companion or not.
     #[tactic(auto, unfolding(crate::specs::InnerScan::is_live_kind))]
-    fn live<'a>(&self, operation: &'a Operation, key: &SliceKey, dsym: bool) -> Option<Hashed<'a>>
+    fn live<'a>(&self, operation: &'a Operation, key: &SliceKey, dsym: bool) -> Option<Asked<'a>>
         ensures { result ≡ live_in self.now key.now dsym operation.now }
     {
         let Operation::Admit(slice) = operation else {
             return None;
         };
-        if !is_key(&slice.key(), key) || !is_kind(dsym, slice) {
+        if !is_key(&slice.key(), key) || !is_kind(dsym, slice) || self.is_retired(slice) {
             return None;
         }
-        self.unless_retired(slice)
+        Some(Asked::of(slice))
     }
 
     // The live slices of a key, companions or not, as far as one of them is asked alone.
-    fn tally<'a>(&self, operations: &'a [Operation], key: SliceKey, dsym: bool) -> Tally<'a>
-        ensures tally { IsTally result (live_among self.now key dsym operations.now) }
-        ensures key { IsKey key }
+    fn tally<'a>(&self, operations: &'a [Operation], key: &SliceKey, dsym: bool) -> Tally<'a>
+        ensures { IsTally result (live_among self.now key.now dsym operations.now) }
     {
         let mut tally = Tally::Nothing;
         'operations: for operation in operations {
-            if let Some(slice) = self.live(operation, &key, dsym) {
+            if let Some(slice) = self.live(operation, key, dsym) {
                 tally = tally.and(slice);
             }
         }
@@ -223,7 +297,7 @@ impl PlainArchive {
         }
     }
 
-    // The rows of a name in what an operation admits, unless that is retired.
+    // The rows of a name in what an operation admits, unless that is retired. A slice without the name is not hashed.
     fn names_of<'a>(
         &self,
         operation: &'a Operation,
@@ -235,10 +309,10 @@ impl PlainArchive {
         let Operation::Admit(slice) = operation else {
             return Ok(Vec::new(heap));
         };
-        match self.unless_retired(slice) {
-            Some(hashed) => rows_in(heap, slice, hashed.digest(), name),
-            None => Ok(Vec::new(heap)),
+        if !has_name(slice, name) || self.is_retired(slice) {
+            return Ok(Vec::new(heap));
         }
+        rows_in(heap, slice, name)
     }
 
     // The rows of a name in operations, as they come.
@@ -275,6 +349,7 @@ impl PlainArchive {
 
     // Takes operations one after another.
     fn take_in_turn(&mut self, operations: Vec<Operation, Heap>) -> Result<(), NoMemory>
+        requires { IsContent self.now }
         ensures taken { OnOk result (self.new ≡ with_records self.old (map rec operations.items)) }
         ensures refused { OnErr result (IsTakenInPart self.old (map rec operations.items) self.new) }
     {
@@ -298,13 +373,8 @@ impl PlainArchive {
 }
 
 impl Join for PlainArchive {
-    ghost use Rattle.std.specs.Prelude.{◌≡◌, true, refl};
-    ghost use Rattle.std.specs.Cmp.Lexicographic.{nat_list_cmp_total};
-    ghost use Rattle.std.specs.FinSet.{nat_cmp-IsAntisymmetric, slice_cmp-IsAntisymmetric};
-    ghost use Rattle.join_core.proofs.Subset.{subset_reflexive, subset_transitive, subset_antisymmetric};
-    ghost use Rattle.join_core.proofs.Subset.{union_members, union_left, union_right, union_least};
-    ghost use Rattle.archive_core.specs.Record.{IsRecord};
-    ghost use Rattle.archive_core.specs.Content.{IsContent, IsBelow, joined};
+    ghost use Rattle.archive_core.specs.Content.{IsContent, IsBelow};
+    ghost use Rattle.archive_core.specs.Order.{below_reflexive, below_transitive, below_antisymmetric, join_of};
 
     type Content = Contents;
 
@@ -314,25 +384,13 @@ impl Join for PlainArchive {
 
     ghost below = { IsBelow };
 
-    ghost reflexive = { subset_reflexive nat_list_cmp_total };
+    ghost reflexive = { below_reflexive };
 
-    ghost transitive = { subset_transitive nat_list_cmp_total };
+    ghost transitive = { below_transitive };
 
-    ghost antisymmetric = { λ o p _ _.
-        subset_antisymmetric nat_list_cmp_total (slice_cmp-IsAntisymmetric nat_cmp-IsAntisymmetric) o p };
+    ghost antisymmetric = { below_antisymmetric };
 
-    ghost joins = { λ o p a b. (
-      joined o p,
-      record {
-        content = record {
-          itself = refl;
-          records = union_members nat_list_cmp_total IsRecord o p a.records b.records;
-        };
-        left = union_left nat_list_cmp_total o p;
-        right = union_right nat_list_cmp_total o p;
-        least = λ q _. union_least nat_list_cmp_total o p q;
-      },
-    ) };
+    ghost joins = { join_of };
 
     fn join(&mut self, other: &Self) -> Result<(), NoMemory> {
         let mut missing = self.copy_missing(&other.operations)?;
@@ -350,7 +408,8 @@ impl Join for PlainArchive {
     }
 
     fn covers(&self, other: &Self) -> bool {
-        other.operations.len() <= self.operations.len() && self.holds_each(&other.operations)
+        let _held = &self.operations;
+        self.holds_each(&other.operations)
     }
 }
 
@@ -379,23 +438,24 @@ impl Archive for PlainArchive {
         search(&self.operations, operation).is_ok()
     }
 
-    fn prepare(&mut self, _key: &SliceKey) -> Result<(), NoMemory> {
-        Ok(())
-    }
-
     fn find(&self, uuid: &Uuid) -> Result<Vec<FindRow, Heap>, NoMemory> {
-        let mut findings = self.gather(&self.operations, uuid)?;
+        let retirements = under_uuid(&self.operations, Kind::Retirement, *uuid);
+        let admissions = under_uuid(&self.operations, Kind::Admission, *uuid);
+        let mut findings = Vec::new(self.operations.allocator().clone()?);
+        self.gather(&mut findings, retirements, uuid)?;
+        self.gather(&mut findings, admissions, uuid)?;
         findings.sort_unstable_by(|a, b| a.compare(b));
         rows_of(self.operations.allocator().clone()?, &findings)
     }
 
     fn lookup(&self, key: &SliceKey, place: Where) -> Result<Answer<'_>, NoMemory> {
-        match self.tally(&self.operations, *key, true) {
+        let admissions = under(&self.operations, Kind::Admission, *key);
+        match self.tally(admissions, key, true) {
             Tally::Nothing => {
-                let images = self.tally(&self.operations, *key, false);
-                self.answer_of(&self.operations, key, false, images, place)
+                let images = self.tally(admissions, key, false);
+                self.answer_of(admissions, key, false, images, place)
             }
-            companions => self.answer_of(&self.operations, key, true, companions, place),
+            companions => self.answer_of(admissions, key, true, companions, place),
         }
     }
 

@@ -1,12 +1,16 @@
 //! Slices: bytes that were checked, borrowed or owned.
 ghost use Rattle.std.specs.Prelude.{◌≡◌, IfOk, IfErr, OnOk};
 ghost use Rattle.sha2.specs.Sha256.{sha256};
+ghost use Rattle.std.specs.Option.{option_map};
 ghost use Rattle.macho_symbols.specs.Fault.{HasSymbols};
+ghost use Rattle.macho_symbols.specs.Found.{FindsNearest};
+ghost use Rattle.macho_symbols.specs.Views.{found_view};
+ghost use Rattle.archive_core.specs.Beside.{IsBesideOf};
 ghost use Rattle.archive_core.specs.Valid.{IsValid, IsSliceFault, IsAdmitFault, IsCheckedOf, key_of};
 
 use crate::{AdmitFault, ArchKey, Digest, SliceFault, SliceKey};
 use macho_image::{Image, Symtab};
-use macho_symbols::Symbols;
+use macho_symbols::{AddressTable, Found, Symbols};
 use memory::{Heap, NoMemory};
 use sha2::{Digest as _, Sha256};
 use std::marker::Model;
@@ -48,6 +52,15 @@ impl<'a> Model for CheckedSlice<'a> {
 pub struct Slice {
     bytes: Vec<u8, Heap>,
     facts: SliceFacts,
+    beside: Option<Box<Beside, Heap>>,
+}
+
+// What may be kept beside a slice that is asked often: its table of addresses, and then its digest. In a box of its
+// own, so that a slice without it is small.
+#[derive(Drop)]
+struct Beside {
+    table: AddressTable,
+    digest: Option<Digest>,
 }
 
 impl Model for Slice {
@@ -56,9 +69,26 @@ impl Model for Slice {
 
     ghost Value = { List ℕ };
 
+    ghost use Rattle.std.specs.Prelude.{MatchOption};
+    ghost use Rattle.archive_core.specs.Beside.{IsBesideOf};
+
     ghost view = { λ slice. slice.bytes.items };
 
-    ghost invariant = { λ slice. IsCheckedOf slice.bytes.items slice.facts };
+    ghost invariant = { λ slice.
+        IsCheckedOf slice.bytes.items slice.facts
+        × MatchOption slice.beside (Unit {0}) (λ beside. IsBesideOf slice.bytes.items beside.value) };
+}
+
+impl Beside {
+    // Keeps the digest of the slice that it is beside, where none is kept.
+    fn keep_digest(&mut self, slice: &[u8])
+        requires { IsBesideOf slice.now self.old }
+        ensures { IsBesideOf slice.now self.new }
+    {
+        if self.digest.is_none() {
+            self.digest = Some(Digest(Sha256::digest(slice)));
+        }
+    }
 }
 
 impl<'a> CheckedSlice<'a> {
@@ -111,10 +141,7 @@ impl<'a> CheckedSlice<'a> {
         ensures { IfOk result (λ slice. slice ≡ self.now) }
     {
         let bytes = Vec::from_slice(heap, self.bytes)?;
-        Ok(Slice {
-            bytes,
-            facts: self.facts,
-        })
+        Ok(Slice::of_checked(bytes, self.facts))
     }
 }
 
@@ -171,7 +198,11 @@ impl Slice {
         requires { IsCheckedOf bytes.items facts }
         ensures { result ≡ bytes.items }
     {
-        Slice { bytes, facts }
+        Slice {
+            bytes,
+            facts,
+            beside: None,
+        }
     }
 
     /// The slice, borrowed.
@@ -206,12 +237,53 @@ impl Slice {
         self.facts.key
     }
 
-    /// The SHA-256 of the bytes, computed anew by each call.
+    /// The SHA-256 of the bytes, computed anew where it is not kept.
     pub fn digest(&self) -> Digest
         ensures digest { result.0 ≡ sha256 self.now }
         ensures valid { IsValid self.now }
     {
+        if let Some(beside) = &self.beside {
+            if let Some(digest) = beside.digest {
+                return digest;
+            }
+        }
         self.lend().digest()
+    }
+
+    /// Builds the table of addresses, where there is none. Nothing that is asked of the slice depends on it.
+    pub fn keep_table(&mut self, heap: &Heap) -> Result<(), NoMemory>
+        ensures { self.new ≡ self.old }
+    {
+        if self.beside.is_some() {
+            return Ok(());
+        }
+        let table = AddressTable::build(heap.clone()?, &self.symbols())?;
+        let beside = Beside {
+            table,
+            digest: None,
+        };
+        self.beside = Some(Box::new(heap.clone()?, beside)?);
+        Ok(())
+    }
+
+    /// Keeps the digest, where there is a table and no digest is kept.
+    pub fn keep_digest(&mut self)
+        ensures { self.new ≡ self.old }
+    {
+        let Some(beside) = &mut self.beside else {
+            return;
+        };
+        beside.keep_digest(&self.bytes);
+    }
+
+    /// The nearest symbol of an address in the slice's file: out of the table, or by a scan where there is none.
+    pub fn nearest(&self, address: u64) -> Option<Found<'_>>
+        ensures { FindsNearest self.now address (option_map found_view result) }
+    {
+        match &self.beside {
+            Some(beside) => beside.table.nearest(address, &self.bytes),
+            None => self.symbols().nearest_plain(address),
+        }
     }
 
     /// The image. Takes no memory.

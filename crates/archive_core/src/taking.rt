@@ -1,8 +1,7 @@
 //! Taking many operations.
-ghost use Rattle.std.specs.Prelude.{◌≡◌, ◌+◌, map, IfOk, OnOk, OnErr};
-ghost use Rattle.std.specs.FinSet as set;
+ghost use Rattle.std.specs.Prelude.{◌≡◌, map, IfOk, OnOk, OnErr};
 ghost use Rattle.archive_core.specs.Record.{rec};
-ghost use Rattle.archive_core.specs.Content.{IsContent, IsTakenInPart, with_records};
+ghost use Rattle.archive_core.specs.Content.{IsContent, IsTakenInPart, with_records, new_among};
 
 use crate::{Archive, Operation};
 use memory::{Heap, NoMemory};
@@ -12,9 +11,10 @@ fn take_in_turn<A: Archive>(
     archive: &mut A,
     operations: Vec<Operation, Heap>,
 ) -> Result<(), NoMemory>
+    requires { IsContent (A.content archive.now) }
     ensures taken { OnOk result
         (A.content archive.new ≡ with_records (A.content archive.old) (map rec operations.items)) }
-    ensures content { IsContent (A.content archive.old) → IsContent (A.content archive.new) }
+    ensures content { IsContent (A.content archive.new) }
     ensures refused { OnErr result
         (IsTakenInPart (A.content archive.old) (map rec operations.items) (A.content archive.new)) }
 {
@@ -29,14 +29,15 @@ fn take_in_turn<A: Archive>(
 ///
 /// Refused for want of memory alone. Some of the operations may then have been taken, and the list is dropped. The call
 /// may be made again with all of them, which the caller reads once more from where it had them, as from their file, or
-/// has kept as copies (`Operation::copy`): `laws::taking_each_resumed` says that it gives what this one would have given.
+/// has kept as copies (`Operation::copy`): `laws::taking_each_resumed` says that it gives what this one would have
+/// given.
 pub fn take_each<A: Archive + Drop>(
     archive: &mut A,
     mut operations: Vec<Operation, Heap>,
 ) -> Result<u64, NoMemory>
     ensures taken { OnOk result
         (A.content archive.new ≡ with_records (A.content archive.old) (map rec operations.items)) }
-    ensures counted { IfOk result (λ new. set.len (A.content archive.new) ≡ set.len (A.content archive.old) + new) }
+    ensures counted { IfOk result (λ new. new ≡ new_among (A.content archive.old) (map rec operations.items)) }
     ensures refused { OnErr result
         (IsTakenInPart (A.content archive.old) (map rec operations.items) (A.content archive.new)) }
 {

@@ -21,17 +21,18 @@ use archive_core::laws::{contents_join, one_answer};
 use exchange_model::laws::{reaching_in_words, records_make_contents, same_reached};
 
 /// After any list of events, sites that took the same operations, in any orders, with any repeats and through any
-/// merges, write out the same bytes and answer every lookup alike: the nearest symbol as defined, a conflict or none; and
-/// merge is associative, commutative and idempotent, giving the least archive above both.
+/// merges, write out the same bytes and answer every lookup alike: the nearest symbol as defined, a conflict or none;
+/// and merge is associative, commutative and idempotent, giving the least archive above both.
 ///
-/// A clause is a phrase of that. What a site holds after a list of events is `(state sites events (length events)).held`,
-/// and [`run`](crate::run) proves that the program's sites hold it (`state`), so that its clause
+/// A clause is a phrase of that. What a site holds after a list of events is
+/// `(state sites events (length events)).held`, and [`run`](crate::run) proves that the program's sites hold it
+/// (`state`), so that its clause
 /// `same_operations_same_bytes` says the first half of them. That a site writes the bytes which `Says` names, that an
-/// archive's `lookup` gives an answer for which `IsAnswer` holds, and that a merge makes `joined`, are the contracts of
-/// `write_archive`, of `Archive::lookup`, and of `take_all`, `Site::deliver` and the command `merge`.
+/// archive's `lookup` gives an answer for which `IsAnswer` holds, and that a merge makes `joined`, are the contracts
+/// of `write_archive`, of `Archive::lookup`, and of `take_all`, `Site::deliver` and the command `merge`.
 pub fn headline<F>()
-    // After any list of events: the operations that a site took are those that an accepted event before the end gave it,
-    // a file, a retirement or a message, and that no stop took from it since.
+    // After any list of events: the operations that a site took are those that an accepted event before the end gave
+    // it, a file, a retirement or a message, and that no stop took from it since.
     ensures took { (sites : ℕ) (events : List (Event F)) (i : ℕ) (r : List ℕ)
         → (set.contains (reached sites events i) r ≡ true)
         ↔ Reaches sites events (had sites events) r i (length events) }
@@ -61,8 +62,8 @@ pub fn headline<F>()
         → IsAnswer o key place other
         → answer ≡ other }
 
-    // The nearest symbol as defined, or that there is none, where one slice answers; each slice's own, where several do;
-    // none, where none does.
+    // The nearest symbol as defined, or that there is none, where one slice answers; each slice's own, where several
+    // do; none, where none does.
     ensures nearest { (o : Operations) (key : SliceKey) (place : Where) (own : Option FoundRecord)
         → IsAnswer o key place (Alone own)
         ↔ ((slice : List ℕ) × AreAnswering o key (slice ∷ []) × IsOwn slice place own) }

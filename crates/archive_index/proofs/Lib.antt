@@ -1,3 +1,1 @@
-pub mod Lists
-pub mod Ranges
-pub mod Counted
+pub mod Reached

@@ -12,12 +12,14 @@ pub mod Longest
 pub mod Grown
 pub mod FaultKinds
 pub mod Steps
+pub mod Gathered
 pub mod Listed
 pub mod Contents
 pub mod Summarised
 pub mod Named
 pub mod Exact
 pub mod Inputs
+pub mod Kept
 pub mod Complete
 pub mod Ascending
 pub mod Unions

@@ -1,7 +1,6 @@
 -- A text that is read record by record.
-use Rattle.std.proofs.Common.{◌≡◌, ◌≢◌, ℕ, ◌+◌, ◌^◌, ◌<◌, true, List, [], ◌∷◌, ◌++◌, length, Option, Some, Result, Ok, Err, refl, sym, ap, ◌∙◌, subst, arith, inl, inr, append_assoc, length-append}
+use Rattle.std.proofs.Common.{◌≡◌, ◌≢◌, ℕ, ◌+◌, ◌^◌, ◌<◌, true, List, [], ◌∷◌, ◌++◌, length, Option, Some, Ok, refl, sym, ap, ◌∙◌, subst, arith, inl, inr, append_assoc, length-append}
 use Rattle.std.proofs.lemmas.List.{append-nil, take_all}
-use Rattle.std.specs.Prelude.{IfOk, IfErr}
 use Rattle.std.specs.List.{concat}
 use Rattle.std.specs.Io.KnownBytes.{Consumes}
 use Rattle.std.specs.Cmp.Lexicographic.{nat_list_cmp_total}
@@ -17,7 +16,7 @@ use Rattle.archive_records.specs.Fault.{next, IsUnended}
 use Rattle.archive_records.specs.declared.next.Step.{Step}
 use Rattle.archive_records.specs.declared.next.Step.TheVariants.{End, Item}
 use Rattle.archive_core.specs.declared.slices.SliceFacts.{SliceFacts}
-use Rattle.archive_records.specs.Reader.{IfEnd, IfItem, Position, Passes, Finishes, StopsAt, HasRead, HasReadAll, Stopped, HasStopped, IsEnded, Makes, MakesAll, IsReadTo}
+use Rattle.archive_records.specs.Reader.{IfEnd, IfItem, Position, Passes, Finishes, StopsAt, HasRead, HasReadAll, Stopped, IsEnded}
 use Rattle.archive_records.proofs.Puts.{concat-push, bytes_same}
 use Rattle.archive_records.proofs.Holds.{next-above}
 use Rattle.archive_records.proofs.FaultKinds.{never_trailing}
@@ -26,7 +25,6 @@ use Rattle.archive_records.proofs.Grown.{next-ok-grows}
 use Rattle.archive_records.proofs.Ends.{end-is_end, length-end_record, next_end, counted, counted_unended}
 use Rattle.archive_records.proofs.Longest.{is_end-grows}
 use Rattle.archive_records.specs.declared.kind.TextKind.{TextKind}
-use Rattle.archive_records.specs.declared.kind.TextKind.TheVariants.{Archive}
 
 pub last_of-push : (low : List ℕ) (xs : List (List ℕ)) (x : List ℕ) → last_of low (xs ++ x ∷ []) ≡ x
 last_of-push low [] x = refl
@@ -165,36 +163,3 @@ module _ (file : TextKind) (counts : end_length file ≡ Some 9) where
         unended = λ _. counted_unended file counts (end_record (length records));
         stops = inr (inr (refl, refl, h.offset_is));
       }
-
--- ---- archives
-
-pub Makes-grows : (a b c : Option (List ℕ)) (o p : Operations) (before after : Position) → Makes a b o before → Passes b c before after → p ≡ with_record o after.last → Makes a c p after
-Makes-grows a b c o p before after m passes e = record {
-  records = m.records ++ after.last ∷ [];
-  read = HasRead-grows Archive a b c m.records before after m.read passes;
-  content = e ∙ from_list-push m.records after.last o m.content;
-}
-
-pub IsReadTo-all : (a b : Option (List ℕ)) (o : Operations) (reader : Position) → MakesAll a b o reader → IsReadTo Archive a b o
-IsReadTo-all a b o reader m = record { records = m.records; few = m.read.few; taken = m.read.taken; ordered = m.read.ordered; content = m.content }
-
--- nothing stands behind the end record
-pub IsReadTo-end : (a b c : Option (List ℕ)) (o : Operations) (reader : Position) → MakesAll a b o reader → Consumes b c [] → IsReadTo Archive a c o
-IsReadTo-end a b c o reader m k = record {
-  records = m.records;
-  few = m.read.few;
-  taken = subst (Consumes a c) (append-nil (text_of Archive m.records)) (Consumes-then a b c (text_of Archive m.records) [] m.read.taken k);
-  ordered = m.read.ordered;
-  content = m.content;
-}
-
-pub Makes-start : (a b : Option (List ℕ)) (o : Operations) (reader : Position) → HasRead Archive a b [] reader → o ≡ set.empty → Makes a b o reader
-Makes-start a b o reader h e = record { records = []; read = h; content = e }
-
-pub HasStopped-start : {X : Type 0} (r : Result X RecordFault) (a b c : Option (List ℕ)) (o : Operations) (reader : Position) → Makes a b o reader → IfErr r (λ fault. (d : Option (List ℕ)) → Makes d b o reader → HasStopped Archive d c fault) → IfErr r (λ fault. HasStopped Archive a c fault)
-HasStopped-start (Ok x) a b c o reader m h = tt
-HasStopped-start (Err fault) a b c o reader m h = h a m
-
-pub MakesAll-start : {X : Type 0} (content : X → Operations) (r : Result (X × Position) RecordFault) (a b c : Option (List ℕ)) (o : Operations) (reader : Position) → Makes a b o reader → IfOk r (λ read. (d : Option (List ℕ)) → Makes d b o reader → MakesAll d c (content read.0) read.1) → IfOk r (λ read. MakesAll a c (content read.0) read.1)
-MakesAll-start content (Ok read) a b c o reader m h = h a m
-MakesAll-start content (Err fault) a b c o reader m h = tt

@@ -1,6 +1,6 @@
 -- Records that are read from a source one over the other: the words of the inner functions. No contract of a public one
 -- has them.
-use Rattle.std.specs.Prelude.{◌≡◌, ◌≢◌, ℕ, ◌+◌, ◌*◌, ◌^◌, ◌<◌, ◌≤◌, true, List, [], ◌++◌, length, take}
+use Rattle.std.specs.Prelude.{◌≡◌, ◌≢◌, ℕ, ◌+◌, ◌*◌, ◌^◌, ◌<◌, ◌≤◌, Bool, true, List, [], ◌++◌, length, take}
 use Rattle.std.specs.Prelude.{drop, map, All, Option, Some, None, Result, Ok, Err, MatchResult, ◌⊎◌}
 use Rattle.std.specs.List.{concat, AllByRecursion}
 use Rattle.std.specs.List.Sorted.{IsStrictlySortedBy}
@@ -13,6 +13,7 @@ use Rattle.archive_core.specs.declared.slices.SliceFacts.{SliceFacts}
 use Rattle.archive_core.specs.Valid.{IsCheckedOf}
 use Rattle.archive_core.specs.Record.{IsOperation, rec, Admits, Retires}
 use Rattle.archive_core.specs.Content.{Operations}
+use Rattle.archive_core.specs.Part.{part}
 use Rattle.archive_records.specs.declared.kind.TextKind.{TextKind}
 use Rattle.archive_records.specs.declared.kind.TextKind.TheVariants.{Archive, Operations as Operations_file}
 use Rattle.archive_records.specs.declared.kind.TextKind.TheVariants.{Summary as Summary_file}
@@ -25,8 +26,7 @@ use Rattle.archive_records.specs.declared.fault.RecordFaultKind.TheVariants.{Not
 use Rattle.archive_records.specs.declared.fault.RecordFaultKind.TheVariants.{KeyMismatch, BadCount, Trailing}
 use Rattle.archive_records.specs.declared.fault.RecordFaultKind.TheVariants.{Device, OutOfMemory}
 use Rattle.archive_records.specs.declared.fault.RecordFault.{RecordFault}
-use Rattle.archive_records.specs.declared.entry.Entry.{Entry}
-use Rattle.archive_records.specs.Entry.{entry_bytes, IsEntry}
+use Rattle.archive_records.specs.Entry.{IsEntry}
 use Rattle.archive_records.specs.Kind.{magic_of, IsItem, may_follow}
 use Rattle.archive_records.specs.Text.{end_record, ending, text_of, InOrder, last_of}
 use Rattle.archive_records.specs.Fault.{FailsNext, Fails, IsTrailing, IsMagicFault, IsUnended, IsOfText}
@@ -206,18 +206,6 @@ HasStopped file a b fault =
     ((bytes : List ℕ) × Consumes a b bytes × StopsInMagic file bytes fault.kind × (fault.offset ≡ 0))
     ⊎ ((records : List (List ℕ)) × Stopped file a b records fault)
 
--- The records of an archive's text that were read make the content.
-pub record Makes (a b : Option (List ℕ)) (o : Operations) (position : Position) : Type 0 where
-  pub records : List (List ℕ)
-  pub read : HasRead Archive a b records position
-  pub content : o ≡ set.from_list records
-
--- The records that were read make the content, and their end record was read.
-pub record MakesAll (a b : Option (List ℕ)) (o : Operations) (position : Position) : Type 0 where
-  pub records : List (List ℕ)
-  pub read : HasReadAll Archive a b records position
-  pub content : o ≡ set.from_list records
-
 -- The text of such a file was read, and its records or entries make the set.
 pub record IsReadTo (file : TextKind) (a b : Option (List ℕ)) (o : Operations) : Type 0 where
   pub records : List (List ℕ)
@@ -226,18 +214,39 @@ pub record IsReadTo (file : TextKind) (a b : Option (List ℕ)) (o : Operations)
   pub ordered : InOrder file [] records
   pub content : o ≡ set.from_list records
 
--- These entries of a summary's text were read, in their order.
-abbrev pub Names : Option (List ℕ) → Option (List ℕ) → List Entry → Position → Type 0
-Names a b entries position = HasRead Summary_file a b (map entry_bytes entries) position
-
--- The records of these operations were read, in their order.
-pub record Lists (a b : Option (List ℕ)) (operations : List Operation) (position : Position) : Type 0 where
-  pub read : HasRead Operations_file a b (map rec operations) position
-  pub are : All IsOperation operations
-
 -- The text of these operations was read, to the end of the input.
 pub record AreRead (a b : Option (List ℕ)) (operations : List Operation) : Type 0 where
   pub few : length operations < 2 ^ 63
   pub taken : Consumes a b (text_of Operations_file (map rec operations))
   pub at_end : IsAtEnd b
   pub are : All IsOperation operations
+
+-- These records were read, and this was made of them.
+pub record Gathers {T : Type 0} (file : TextKind) (Makes : List (List ℕ) → T → Type 0) (a b : Option (List ℕ))
+    (value : T)
+    (position : Position) : Type 0 where
+  pub records : List (List ℕ)
+  pub read : HasRead file a b records position
+  pub makes : Makes records value
+
+-- These records and what ends the file were read, and this was made of them.
+pub record GathersAll {T : Type 0} (file : TextKind) (Makes : List (List ℕ) → T → Type 0) (a b : Option (List ℕ))
+    (value : T) (position : Position) : Type 0 where
+  pub records : List (List ℕ)
+  pub read : HasReadAll file a b records position
+  pub makes : Makes records value
+
+-- The text of these records was read, and this was made of them.
+pub record IsGathered {T : Type 0} (file : TextKind) (Makes : List (List ℕ) → T → Type 0) (a b : Option (List ℕ))
+    (value : T) : Type 0 where
+  pub records : List (List ℕ)
+  pub few : length records < 2 ^ 63
+  pub taken : Consumes a b (text_of file records)
+  pub ordered : InOrder file [] records
+  pub makes : Makes records value
+
+-- The text of an archive was read, and this is the part of its content that is picked.
+pub record IsPartReadTo (a b : Option (List ℕ)) (picks : List ℕ → Bool) (o : Operations) : Type 0 where
+  pub whole : Operations
+  pub read : IsReadTo Archive a b whole
+  pub kept : o ≡ part whole picks

@@ -108,3 +108,18 @@ ReadsFront file meaning left failures old new (Err fault) =
     × (fault.kind ≢ Trailing)
     × IfSome (left old) (λ input. (m : Meaning file) (text rest : List ℕ) → IsMeaning file m → IsTextOf file m text
     → input ≡ text ++ rest → IsOfMachine fault.kind)
+
+-- The whole input is the text of one meaning, and this is what is kept of it.
+pub record IsReadInPart {R : Type 0} (file : TextKind) (Keeps : Meaning file → Type 0) (left : R → Option (List ℕ))
+    (failures : R → ℕ) (old new : R) : Type 0 where
+  pub meaning : Meaning file
+  pub whole : IsReadWhole file meaning left failures old new
+  pub kept : Keeps meaning
+
+-- What came of reading a whole input of which a part is kept. It is refused as where all is kept.
+abbrev pub ReadsInPart : {R T : Type 0} → (file : TextKind) → (T → Meaning file → Type 0) → (R → Option (List ℕ))
+    → (R → ℕ) → R → R → Result T RecordFault → Type 0
+ReadsInPart file Keeps left failures old new (Ok value) = IsReadInPart file (Keeps value) left failures old new
+ReadsInPart file Keeps left failures old new (Err fault) =
+    IsRefused file left failures old new fault
+    × IfSome (left old) (λ text. (m : Meaning file) → IsMeaning file m → IsTextOf file m text → IsOfMachine fault.kind)

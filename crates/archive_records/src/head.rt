@@ -126,13 +126,21 @@ fn lay_key(part: &mut [u8], key: &SliceKey)
     part[20..].copy_from_slice(&key.arch.subtype.to_be_bytes());
 }
 
+/// The bytes of a key, as they stand behind a record's tag.
+pub fn key_front(key: &SliceKey) -> [u8; 24]
+    ensures { result ≡ key_bytes key.now }
+{
+    let mut whole = [0; 24];
+    lay_key(&mut whole, key);
+    whole
+}
+
 /// Whether a whole record has the key.
 pub fn has_key(bytes: &[u8], key: &SliceKey) -> bool
     requires { 25 ≤ length bytes.now }
     ensures { IsTrue result ↔ (take 24 (drop 1 bytes.now) ≡ key_bytes key.now) }
 {
-    let mut whole = [0; 24];
-    lay_key(&mut whole, key);
+    let whole = key_front(key);
     &bytes[1..25] == &whole[..]
 }
 

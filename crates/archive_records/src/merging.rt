@@ -35,7 +35,8 @@ impl Merge {
         }
     }
 
-    /// Tests whether there may be one record more. Where there may not, memory is wanted by the side that it comes from.
+    /// Tests whether there may be one record more. Where there may not, memory is wanted by the side that it comes
+    /// from.
     fn test_number(&self) -> Result<(), MergeFault>
         requires { self.now.written.records < 2 ^ 63 }
         ensures room { OnOk result (self.now.written.records < most_records) }

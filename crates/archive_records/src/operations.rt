@@ -1,17 +1,16 @@
 //! Operations files that are read from a source.
 
-ghost use Rattle.std.specs.Prelude.{◌≡◌, ◌+◌, ◌∷◌, ◌++◌, ℕ, List, Option, [], OnOk, IfOk, IfErr};
+ghost use Rattle.std.specs.Prelude.{◌≡◌, ◌∷◌, ◌++◌, [], OnOk, IfOk, IfErr};
 ghost use Rattle.archive_core.specs.declared.operations.Operation.{Operation};
 ghost use Rattle.archive_core.specs.Record.{rec, IsOperation};
 ghost use Rattle.archive_records.specs.declared.kind.TextKind.TheVariants.{Operations};
 ghost use Rattle.archive_records.specs.Reading.{ReadsWhole};
-ghost use Rattle.archive_records.specs.Reader.{FaultBlamesReader, HasStopped, IsFound, Lists, AreRead};
+ghost use Rattle.archive_records.specs.Reader.{FaultBlamesReader, HasStopped, IsFound, AreRead};
 
 use crate::fault::RecordFault;
 use crate::kind::TextKind;
-use crate::next::Step;
-use crate::reader::RecordReader;
-use crate::reading::{operation_of, two_handles};
+use crate::reading::operation_of;
+use crate::records::{FromRecords, read_records};
 use archive_core::{Operation, SliceFacts};
 use byte_device::Source;
 use memory::{Heap, NoMemory};
@@ -32,49 +31,31 @@ fn push_record(
     Ok(())
 }
 
-/// Lists the operations of the records up to the end of the input.
-fn push_records<R: Source>(
-    operations: &mut Vec<Operation, Heap>,
-    heap: &Heap,
-    reader: &mut RecordReader,
-    r: &mut R,
-) -> Result<(), RecordFault>
-    requires { reader.old.file ≡ Operations }
-    ensures all { OnOk result ((a : Option (List ℕ)) → Lists a (R.left r.old) operations.old.items reader.old
-        → AreRead a (R.left r.new) operations.new.items) }
-    ensures stopped { IfErr result (λ fault. (a : Option (List ℕ))
-        → Lists a (R.left r.old) operations.old.items reader.old → HasStopped Operations a (R.left r.new) fault) }
-    ensures reader { FaultBlamesReader R.left R.failures r.old r.new result }
-{
-    'pushing: loop {
-        let offset = reader.offset();
-        let found = match reader.advance(r) {
-            Ok(Step::End) => return Ok(()),
-            Ok(Step::Item(found)) => found,
-            Err(fault) => return Err(fault),
-        };
-        if let Err(_) = push_record(operations, heap, reader.last(), found) {
-            return Err(RecordFault::out_of_memory(offset));
-        }
-    }
-}
+/// Operations, one after another.
+#[derive(Drop)]
+struct Listed(Vec<Operation, Heap>);
 
-/// Reads the operations behind the magic.
-fn list_rest<R: Source>(
-    heap: &Heap,
-    mut operations: Vec<Operation, Heap>,
-    mut reader: RecordReader,
-    r: &mut R,
-) -> Result<Vec<Operation, Heap>, RecordFault>
-    requires { reader.file ≡ Operations }
-    ensures all { IfOk result (λ read. (a : Option (List ℕ)) → Lists a (R.left r.old) operations.items reader
-        → AreRead a (R.left r.new) read.items) }
-    ensures stopped { IfErr result (λ fault. (a : Option (List ℕ)) → Lists a (R.left r.old) operations.items reader
-        → HasStopped Operations a (R.left r.new) fault) }
-    ensures reader { FaultBlamesReader R.left R.failures r.old r.new result }
-{
-    push_records(&mut operations, heap, &mut reader, r)?;
-    Ok(operations)
+impl FromRecords for Listed {
+    ghost use Rattle.std.specs.Prelude.{◌≡◌, map, All};
+    ghost use Rattle.archive_core.specs.Record.{rec, IsOperation};
+    ghost use Rattle.archive_records.specs.declared.kind.TextKind.TheVariants.{Operations};
+
+    ghost file = { Operations };
+
+    ghost makes = { λ start records now. All IsOperation now.0.items × (map rec now.0.items ≡ records) };
+
+    fn kind() -> TextKind {
+        TextKind::Operations
+    }
+
+    fn take(
+        &mut self,
+        heap: &Heap,
+        bytes: &[u8],
+        found: Option<SliceFacts>,
+    ) -> Result<(), NoMemory> {
+        push_record(&mut self.0, heap, bytes, found)
+    }
 }
 
 /// Reads a whole input as operations. What is said is of the bytes that were taken.
@@ -83,11 +64,11 @@ fn list_taken<R: Source>(heap: Heap, r: &mut R) -> Result<Vec<Operation, Heap>, 
     ensures stopped { IfErr result (λ fault. HasStopped Operations (R.left r.old) (R.left r.new) fault) }
     ensures reader { FaultBlamesReader R.left R.failures r.old r.new result }
 {
-    let Ok((kept, buffers)) = two_handles(&heap) else {
+    let Ok(kept) = heap.clone() else {
         return Err(RecordFault::out_of_memory(0));
     };
-    let reader = RecordReader::begin(buffers, TextKind::Operations, r)?;
-    list_rest(&heap, Vec::new(kept), reader, r)
+    let listed = read_records(heap, Listed(Vec::new(kept)), r)?;
+    Ok(listed.0)
 }
 
 /// Reads an operations file: the magic `MSYMOPS1`, and retirements and admissions in any order and with repeats up to

@@ -1,19 +1,18 @@
 //! Archives that are read from a source.
 
-ghost use Rattle.std.specs.Prelude.{◌≡◌, ◌≢◌, ℕ, List, Option, OnOk, IfOk, IfErr};
+ghost use Rattle.std.specs.Prelude.{◌≡◌, ◌≢◌, OnOk, IfOk, IfErr};
 ghost use Rattle.std.specs.Io.KnownBytes.{IsAtEnd};
 ghost use Rattle.archive_core.specs.Record.{rec, IsOperation};
 ghost use Rattle.archive_core.specs.Content.{with_record};
 ghost use Rattle.archive_records.specs.declared.fault.RecordFaultKind.TheVariants.{Trailing};
 ghost use Rattle.archive_records.specs.declared.kind.TextKind.TheVariants.{Archive};
 ghost use Rattle.archive_records.specs.Reading.{ReadsWhole, ReadsFront};
-ghost use Rattle.archive_records.specs.Reader.{FaultBlamesReader, HasStopped, IsFound, Makes, MakesAll, IsReadTo};
+ghost use Rattle.archive_records.specs.Reader.{FaultBlamesReader, HasStopped, IsFound, IsReadTo};
 
 use crate::fault::RecordFault;
 use crate::head::{ADMISSION_HEAD_LEN, digest_in, key_in};
 use crate::kind::TextKind;
-use crate::next::Step;
-use crate::reader::RecordReader;
+use crate::records::{FromRecords, read_records, read_text};
 use archive_core::{Archive, Operation, Slice, SliceFacts};
 use byte_device::Source;
 use memory::{Heap, NoMemory};
@@ -36,7 +35,7 @@ pub fn operation_of(
 }
 
 /// Takes the operation of a record.
-fn take_record<A: Archive>(
+pub(crate) fn take_record<A: Archive>(
     archive: &mut A,
     heap: &Heap,
     bytes: &[u8],
@@ -50,74 +49,31 @@ fn take_record<A: Archive>(
     Ok(())
 }
 
-/// Takes the records of a text up to its end record.
-fn take_records<A: Archive, R: Source>(
-    archive: &mut A,
-    heap: &Heap,
-    reader: &mut RecordReader,
-    r: &mut R,
-) -> Result<(), RecordFault>
-    requires { reader.old.file ≡ Archive }
-    ensures all { OnOk result ((a : Option (List ℕ)) → Makes a (R.left r.old) (A.content archive.old) reader.old
-        → MakesAll a (R.left r.new) (A.content archive.new) reader.new) }
-    ensures stopped { IfErr result (λ fault. (a : Option (List ℕ))
-        → Makes a (R.left r.old) (A.content archive.old) reader.old → HasStopped Archive a (R.left r.new) fault) }
-    ensures no_trailing { IfErr result (λ fault. fault.kind ≢ Trailing) }
-    ensures reader { FaultBlamesReader R.left R.failures r.old r.new result }
-{
-    'taking: loop {
-        let offset = reader.offset();
-        let found = match reader.advance(r) {
-            Ok(Step::End) => return Ok(()),
-            Ok(Step::Item(found)) => found,
-            Err(fault) => return Err(fault),
-        };
-        if let Err(_) = take_record(archive, heap, reader.last(), found) {
-            return Err(RecordFault::out_of_memory(offset));
-        }
+/// An archive that is made of its records.
+#[derive(Drop)]
+struct Whole<A>(A);
+
+impl<A: Archive> FromRecords for Whole<A> {
+    ghost use Rattle.std.specs.Prelude.{◌≡◌};
+    ghost use Rattle.std.specs.FinSet as set;
+    ghost use Rattle.archive_records.specs.declared.kind.TextKind.TheVariants.{Archive};
+
+    ghost file = { Archive };
+
+    ghost makes = { λ start records now. A.content now.0 ≡ set.from_list records };
+
+    fn kind() -> TextKind {
+        TextKind::Archive
     }
-}
 
-/// Reads the records behind the magic, and the end record.
-fn read_rest<A: Archive + Drop, R: Source>(
-    heap: &Heap,
-    mut archive: A,
-    mut reader: RecordReader,
-    r: &mut R,
-) -> Result<(A, RecordReader), RecordFault>
-    requires { reader.file ≡ Archive }
-    ensures read { IfOk result (λ read. (a : Option (List ℕ)) → Makes a (R.left r.old) (A.content archive) reader
-        → MakesAll a (R.left r.new) (A.content read.0) read.1) }
-    ensures stopped { IfErr result (λ fault. (a : Option (List ℕ)) → Makes a (R.left r.old) (A.content archive) reader
-        → HasStopped Archive a (R.left r.new) fault) }
-    ensures no_trailing { IfErr result (λ fault. fault.kind ≢ Trailing) }
-    ensures reader { FaultBlamesReader R.left R.failures r.old r.new result }
-{
-    take_records(&mut archive, heap, &mut reader, r)?;
-    Ok((archive, reader))
-}
-
-/// The heap's handle for what is kept of a text, and that for the buffers of its reader.
-pub fn two_handles(heap: &Heap) -> Result<(Heap, Heap), NoMemory> {
-    Ok((heap.clone()?, heap.clone()?))
-}
-
-/// Reads the text of an archive from the front of the input, with the reader that did so. What is said is of the bytes
-/// that were taken.
-fn read_text<A: Archive + Drop, R: Source>(
-    heap: Heap,
-    r: &mut R,
-) -> Result<(A, RecordReader), RecordFault>
-    ensures read { IfOk result (λ read. MakesAll (R.left r.old) (R.left r.new) (A.content read.0) read.1) }
-    ensures stopped { IfErr result (λ fault. HasStopped Archive (R.left r.old) (R.left r.new) fault) }
-    ensures no_trailing { IfErr result (λ fault. fault.kind ≢ Trailing) }
-    ensures reader { FaultBlamesReader R.left R.failures r.old r.new result }
-{
-    let Ok((kept, buffers)) = two_handles(&heap) else {
-        return Err(RecordFault::out_of_memory(0));
-    };
-    let reader = RecordReader::begin(buffers, TextKind::Archive, r)?;
-    read_rest(&heap, A::empty(kept), reader, r)
+    fn take(
+        &mut self,
+        heap: &Heap,
+        bytes: &[u8],
+        found: Option<SliceFacts>,
+    ) -> Result<(), NoMemory> {
+        take_record(&mut self.0, heap, bytes, found)
+    }
 }
 
 /// Reads a whole input as the text of an archive. What is said is of the bytes that were taken.
@@ -127,9 +83,11 @@ fn read_whole<A: Archive + Drop, R: Source>(heap: Heap, r: &mut R) -> Result<A, 
     ensures stopped { IfErr result (λ fault. HasStopped Archive (R.left r.old) (R.left r.new) fault) }
     ensures reader { FaultBlamesReader R.left R.failures r.old r.new result }
 {
-    let (archive, reader) = read_text(heap, r)?;
-    reader.finish(r)?;
-    Ok(archive)
+    let Ok(kept) = heap.clone() else {
+        return Err(RecordFault::out_of_memory(0));
+    };
+    let whole = read_records(heap, Whole(A::empty(kept)), r)?;
+    Ok(whole.0)
 }
 
 /// Reads the text of an archive from the front of the input. What is said is of the bytes that were taken.
@@ -139,8 +97,11 @@ fn read_first<A: Archive + Drop, R: Source>(heap: Heap, r: &mut R) -> Result<A, 
     ensures no_trailing { IfErr result (λ fault. fault.kind ≢ Trailing) }
     ensures reader { FaultBlamesReader R.left R.failures r.old r.new result }
 {
-    let (archive, _) = read_text(heap, r)?;
-    Ok(archive)
+    let Ok(kept) = heap.clone() else {
+        return Err(RecordFault::out_of_memory(0));
+    };
+    let (whole, _) = read_text(heap, Whole(A::empty(kept)), r)?;
+    Ok(whole.0)
 }
 
 /// Reads an archive: the whole input is the one text of its content. The pieces in which the reader gives its bytes

@@ -1,6 +1,7 @@
 //! One side of a merge.
 
-ghost use Rattle.std.specs.Prelude.{◌≡◌, ◌≢◌, ◌+◌, ◌<◌, ◌≤◌, ◌^◌, ℕ, List, Option, [], OnOk, OnErr, IfOk, IfErr, MatchResult};
+ghost use Rattle.std.specs.Prelude.{◌≡◌, ◌≢◌, ◌+◌, ◌<◌, ◌≤◌, ◌^◌, ℕ, List, Option, [], OnOk, OnErr, IfOk, IfErr};
+ghost use Rattle.std.specs.Prelude.{MatchResult};
 ghost use Rattle.archive_records.specs.declared.kind.TextKind.TheVariants.{Archive};
 ghost use Rattle.archive_records.specs.Text.{last_of};
 ghost use Rattle.archive_records.specs.Reader.{FaultBlamesReader, HasRead, Stopped};

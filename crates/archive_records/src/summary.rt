@@ -13,15 +13,13 @@ ghost use Rattle.archive_records.specs.Entry.{entry_bytes, AreEntries};
 ghost use Rattle.archive_records.specs.declared.kind.TextKind.TheVariants.{Summary as SummaryFile};
 ghost use Rattle.std.specs.Io.KnownBytes.{IsAtEnd};
 ghost use Rattle.archive_records.specs.Reading.{ReadsWhole};
-ghost use Rattle.archive_records.specs.Reader.{FaultBlamesReader, HasReadAll, HasStopped, IsReadTo, Names};
+ghost use Rattle.archive_records.specs.Reader.{FaultBlamesReader, HasStopped, IsReadTo};
 
 use crate::entry::{Entry, entry_in};
 use crate::fault::RecordFault;
 use crate::kind::TextKind;
-use crate::next::Step;
-use crate::reader::RecordReader;
-use crate::reading::two_handles;
-use archive_core::Archive;
+use crate::records::{FromRecords, read_records};
+use archive_core::{Archive, SliceFacts};
 use byte_device::Source;
 use memory::{Heap, NoMemory};
 use std::marker::Model;
@@ -108,65 +106,32 @@ impl Summary {
     }
 }
 
-/// Adds the entries up to the end record to the list.
-fn push_entries<R: Source>(
-    entries: &mut Vec<Entry, Heap>,
-    reader: &mut RecordReader,
-    r: &mut R,
-) -> Result<(), RecordFault>
-    requires { reader.old.file ≡ SummaryFile }
-    ensures all { OnOk result ((a : Option (List ℕ)) → Names a (R.left r.old) entries.old.items reader.old
-        → HasReadAll SummaryFile a (R.left r.new) (map entry_bytes entries.new.items) reader.new) }
-    ensures stopped { IfErr result (λ fault. (a : Option (List ℕ)) → Names a (R.left r.old) entries.old.items reader.old
-        → HasStopped SummaryFile a (R.left r.new) fault) }
-    ensures reader { FaultBlamesReader R.left R.failures r.old r.new result }
-{
-    'pushing: loop {
-        let offset = reader.offset();
-        match reader.advance(r) {
-            Ok(Step::End) => return Ok(()),
-            Ok(Step::Item(_)) => {}
-            Err(fault) => return Err(fault),
-        }
-        if let Err(_) = entries.push(entry_in(reader.last())) {
-            return Err(RecordFault::out_of_memory(offset));
-        }
+/// Entries, one after another.
+#[derive(Drop)]
+struct Named(Vec<Entry, Heap>);
+
+impl FromRecords for Named {
+    ghost use Rattle.std.specs.Prelude.{◌≡◌, map};
+    ghost use Rattle.archive_records.specs.Entry.{entry_bytes};
+    ghost use Rattle.archive_records.specs.declared.kind.TextKind.TheVariants.{Summary};
+
+    ghost file = { Summary };
+
+    ghost makes = { λ start records now. map entry_bytes now.0.items ≡ records };
+
+    fn kind() -> TextKind {
+        TextKind::Summary
     }
-}
 
-/// Reads the entries behind the magic, and the end record.
-fn read_entries<R: Source>(
-    mut entries: Vec<Entry, Heap>,
-    mut reader: RecordReader,
-    r: &mut R,
-) -> Result<(Vec<Entry, Heap>, RecordReader), RecordFault>
-    requires { reader.file ≡ SummaryFile }
-    ensures all { IfOk result (λ read. (a : Option (List ℕ)) → Names a (R.left r.old) entries.items reader
-        → HasReadAll SummaryFile a (R.left r.new) (map entry_bytes read.0.items) read.1) }
-    ensures stopped { IfErr result (λ fault. (a : Option (List ℕ)) → Names a (R.left r.old) entries.items reader
-        → HasStopped SummaryFile a (R.left r.new) fault) }
-    ensures reader { FaultBlamesReader R.left R.failures r.old r.new result }
-{
-    push_entries(&mut entries, &mut reader, r)?;
-    Ok((entries, reader))
-}
-
-/// Reads the text of a summary from the front of the input, with the reader that did so. What is said is of the bytes
-/// that were taken.
-fn read_text<R: Source>(
-    heap: Heap,
-    r: &mut R,
-) -> Result<(Vec<Entry, Heap>, RecordReader), RecordFault>
-    ensures read { IfOk result (λ read. HasReadAll SummaryFile (R.left r.old) (R.left r.new)
-        (map entry_bytes read.0.items) read.1) }
-    ensures stopped { IfErr result (λ fault. HasStopped SummaryFile (R.left r.old) (R.left r.new) fault) }
-    ensures reader { FaultBlamesReader R.left R.failures r.old r.new result }
-{
-    let Ok((kept, buffers)) = two_handles(&heap) else {
-        return Err(RecordFault::out_of_memory(0));
-    };
-    let reader = RecordReader::begin(buffers, TextKind::Summary, r)?;
-    read_entries(Vec::new(kept), reader, r)
+    fn take(
+        &mut self,
+        _heap: &Heap,
+        bytes: &[u8],
+        _found: Option<SliceFacts>,
+    ) -> Result<(), NoMemory> {
+        self.0.push(entry_in(bytes))?;
+        Ok(())
+    }
 }
 
 /// Reads a whole input as the text of a summary. What is said is of the bytes that were taken.
@@ -176,9 +141,11 @@ fn read_whole<R: Source>(heap: Heap, r: &mut R) -> Result<Summary, RecordFault>
     ensures stopped { IfErr result (λ fault. HasStopped SummaryFile (R.left r.old) (R.left r.new) fault) }
     ensures reader { FaultBlamesReader R.left R.failures r.old r.new result }
 {
-    let (entries, reader) = read_text(heap, r)?;
-    reader.finish(r)?;
-    Ok(Summary { entries })
+    let Ok(kept) = heap.clone() else {
+        return Err(RecordFault::out_of_memory(0));
+    };
+    let named = read_records(heap, Named(Vec::new(kept)), r)?;
+    Ok(Summary { entries: named.0 })
 }
 
 /// Reads a summary: the whole input is the text of one, and this is it. The pieces in which the reader gives its

@@ -3,7 +3,7 @@
 use archive_commands::{
     Failure, Status, run_find, run_list, run_name, run_rehearse, run_symbolicate,
 };
-use archive_core::SliceKey;
+use archive_core::{PlainArchive, SliceKey};
 use archive_files::open_buffered;
 use archive_index::IndexedArchive;
 use byte_device::Sink;
@@ -20,7 +20,7 @@ pub fn find<R: Files + AllocGlobal, P: Sink>(
     report: &mut P,
 ) -> Result<Status, Failure> {
     let mut archive = open_buffered(rt.alloc(), rt, archive)?;
-    let status = run_find::<IndexedArchive, _, _>(heap, &mut archive, uuid, report)?;
+    let status = run_find::<PlainArchive, _, _>(heap, &mut archive, uuid, report)?;
     Ok(status)
 }
 
@@ -32,7 +32,7 @@ pub fn list<R: Files + AllocGlobal, P: Sink>(
     report: &mut P,
 ) -> Result<Status, Failure> {
     let mut archive = open_buffered(rt.alloc(), rt, archive)?;
-    let status = run_list::<IndexedArchive, _, _>(heap, &mut archive, report)?;
+    let status = run_list::<PlainArchive, _, _>(heap, &mut archive, report)?;
     Ok(status)
 }
 
@@ -46,7 +46,7 @@ pub fn name<R: Files + AllocGlobal, P: Sink>(
 ) -> Result<Status, Failure> {
     let mut archive = open_buffered(rt.alloc(), rt, archive)?;
     let sought = sought.as_bytes();
-    let status = run_name::<IndexedArchive, _, _>(heap, &mut archive, sought, report)?;
+    let status = run_name::<PlainArchive, _, _>(heap, &mut archive, sought, report)?;
     Ok(status)
 }
 
@@ -80,6 +80,6 @@ pub fn rehearse<R: Files + AllocGlobal, P: Sink>(
     report: &mut P,
 ) -> Result<Status, Failure> {
     let mut script = open_buffered(rt.alloc(), rt, script)?;
-    let status = run_rehearse::<IndexedArchive, _, _>(heap, &mut script, report)?;
+    let status = run_rehearse::<PlainArchive, _, _>(heap, &mut script, report)?;
     Ok(status)
 }

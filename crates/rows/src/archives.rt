@@ -1,7 +1,7 @@
 //! Calls over the texts of archives, of operations and of summaries.
 
 use crate::faults::CallFault;
-use archive_core::{Archive, Operation};
+use archive_core::{Archive, Operation, Record};
 use archive_records::{
     RecordFault, Summary, read_archive, read_front, read_ops, read_summary, write_archive,
 };
@@ -92,7 +92,7 @@ fn tell_taking<A: Archive>(
 ) -> Result<(), NoMemory> {
     let before = text_of(alloc, archive)?;
     let held = archive.holds(&operation);
-    tell_operation(&operation, told)?;
+    tell_record(&operation.lend(), told)?;
     match archive.take(operation) {
         Ok(true) => writeln!(told, " new"),
         Ok(false) if held => writeln!(told, " held"),
@@ -106,15 +106,15 @@ fn tell_taking<A: Archive>(
     }
 }
 
-// Tells an operation, and does not end the line.
-fn tell_operation(operation: &Operation, told: &mut String) -> Result<(), NoMemory> {
-    match operation {
-        Operation::Admit(slice) => {
+/// Tells a record, and does not end the line.
+pub fn tell_record(record: &Record, told: &mut String) -> Result<(), NoMemory> {
+    match record {
+        Record::Admit(slice) => {
             let key = Text(slice.key());
             let digest = Spelled(slice.digest());
             write!(told, "admit {key} {digest}")
         }
-        Operation::Retire(key, digest) => {
+        Record::Retire(key, digest) => {
             let key = Text(*key);
             let digest = Spelled(*digest);
             write!(told, "retire {key} {digest}")

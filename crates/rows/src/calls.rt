@@ -10,6 +10,7 @@ use crate::heaps::{Texts, tell_heaps};
 use crate::images::{tell_fat, tell_image, tell_kind, tell_named, tell_nearest, tell_slice};
 use crate::pairs::tell_pairs;
 use crate::parts::{bytes_of, number};
+use crate::selections::{Picked, tell_part};
 use crate::streams::{Failing, tell_reading, tell_writing};
 use crate::subjects::{Act, ArchiveAct, Change, SiteAct};
 use crate::words::first_word;
@@ -33,6 +34,8 @@ pub enum Call<'t> {
     Named(&'t str),
     Front,
     Whole,
+    /// Which records are kept, and what is asked of them.
+    Part(&'t str),
     Operations,
     Summary,
     /// The number of the pairs, and the seed.
@@ -72,6 +75,7 @@ impl<'t> Task<'t> {
             "named" => Call::Named(rest),
             "front" => Call::Front,
             "whole" => Call::Whole,
+            "part" => Call::Part(rest),
             "operations" => Call::Operations,
             "summary" => Call::Summary,
             "pairs" => Call::Pairs(rest),
@@ -142,10 +146,6 @@ impl<'a> Desk<'a> {
                 let name = bytes_of(self.alloc, self.store, parts)?;
                 tell_named(bytes, &name, told)
             }
-            Call::Front => tell_front::<A>(self.heap()?, &mut self.source(name)?, told),
-            Call::Whole => tell_whole::<A>(self.heap()?, &mut self.source(name)?, told),
-            Call::Operations => tell_operations(self.heap()?, &mut self.source(name)?, told),
-            Call::Summary => tell_summary(self.heap()?, &mut self.source(name)?, told),
             Call::Reading(words) => {
                 let (failing, size) = failing_of(words)?;
                 tell_reading(self.alloc, bytes, failing, size, told)
@@ -154,7 +154,32 @@ impl<'a> Desk<'a> {
                 let (failing, size) = failing_of(words)?;
                 tell_writing(self.alloc, bytes, failing, size, told)
             }
+            Call::Front | Call::Whole | Call::Part(_) | Call::Operations | Call::Summary => {
+                return self.call_on_source::<A>(call, name, told);
+            }
             _ => return self.call_on_archives::<A>(call, bytes, told),
+        })
+    }
+
+    // Makes a call that reads a file piece by piece.
+    fn call_on_source<A: Archive + Drop>(
+        self,
+        call: Call<'a>,
+        name: &str,
+        told: &mut String,
+    ) -> Result<Result<(), CallFault>, CaseFault> {
+        Ok(match call {
+            Call::Front => tell_front::<A>(self.heap()?, &mut self.source(name)?, told),
+            Call::Whole => tell_whole::<A>(self.heap()?, &mut self.source(name)?, told),
+            Call::Part(words) => {
+                let picked = Picked::of_words(words)?;
+                let (heap, questions) = (self.heap()?, picked.questions(words));
+                let mut source = self.source(name)?;
+                tell_part::<A>(self.alloc, heap, picked, questions, &mut source, told)
+            }
+            Call::Operations => tell_operations(self.heap()?, &mut self.source(name)?, told),
+            Call::Summary => tell_summary(self.heap()?, &mut self.source(name)?, told),
+            _ => return Err(CaseFault::BadLine),
         })
     }
 

@@ -48,6 +48,9 @@
 //!   fails` where the reader fails behind them;
 //! - `whole NAME`, `operations NAME`, `summary NAME`: an archive's text, operations and a summary, read to their ends:
 //!   `2 records, 2 entries`, where the entries are those of its summary, `3 operations`, `2 entries`;
+//! - `part NAME UUID QUESTION..`, `part NAME UUID ARCH QUESTION..`: an archive's text, read to its end, of which the
+//!   records of a UUID, or of a key, are kept: each, as `admit UUID ARCH SHA256` or `retire ..`, then `2 records`, the
+//!   length and the SHA-256 of their text, and their answers. Where memory is held, it is that of the reading;
 //! - `pairs IMAGE N SEED`: N random pairs of archives, made of an image, which are merged as they come and joined as
 //!   values: the length and the SHA-256 of all that was merged;
 //! - `reading NAME FAILING N`: four pulls of N bytes from a reader of std over a file, of which the second call fails:

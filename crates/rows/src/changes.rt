@@ -2,7 +2,7 @@
 
 use crate::archives::read;
 use crate::faults::CallFault;
-use crate::questions::{prepare_keys, tell_answers, tell_needless};
+use crate::questions::{tell_answers, tell_needless};
 use crate::subjects::{Act, Change, Seen, Subject};
 use crate::tellings::tell_text;
 use archive_core::Archive;
@@ -51,18 +51,17 @@ fn tell_seen(seen: &Seen, change: Change, told: &mut String) -> Result<(), CallF
     Ok(())
 }
 
-// Tells where an archive that is read from the text of another one, and made ready for lookups, answers otherwise.
+// Tells where an archive that is read from the text of another one answers otherwise.
 fn tell_other_answers<A: Archive + Drop>(
     seen: &Seen,
     change: Change,
     told: &mut String,
 ) -> Result<(), CallFault> {
     let heap = Heap::new(change.alloc)?;
-    let mut archive: A = read(heap.clone()?, &seen.held)?;
+    let archive: A = read(heap.clone()?, &seen.held)?;
     if change.questions.is_empty() {
         return Ok(());
     }
-    prepare_keys(change.alloc, &mut archive)?;
     tell_needless(change.alloc, &heap, &archive, told)?;
     let mut answers = String::new(change.alloc);
     tell_answers(

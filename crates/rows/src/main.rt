@@ -15,6 +15,7 @@
 //! - `commands`: a plan, carried out;
 //! - `images`, `archives`: calls that read bytes, carried out;
 //! - `questions`: what is asked of an archive;
+//! - `selections`: calls that keep a part of an archive;
 //! - `subjects`, `changes`: calls that may change an archive, and what they leave where memory is refused;
 //! - `streams`, `growths`: streams of std that fail, and memory that is refused;
 //! - `heaps`: two memories, one for each of two archives;
@@ -45,6 +46,7 @@ mod outcomes;
 mod pairs;
 mod parts;
 mod questions;
+mod selections;
 mod store;
 mod streams;
 mod subjects;

@@ -67,14 +67,6 @@ fn tell_finds<A: Archive>(
     Ok(())
 }
 
-/// Makes an archive ready for lookups of each key of its records.
-pub fn prepare_keys<A: Archive>(alloc: Global, archive: &mut A) -> Result<(), NoMemory> {
-    for key in keys_of(alloc, archive)? {
-        archive.prepare(&key)?;
-    }
-    Ok(())
-}
-
 /// Tells where a lookup is refused for want of memory, and no slices are in conflict.
 pub fn tell_needless<A: Archive>(
     alloc: Global,

@@ -1,9 +1,10 @@
-use Rattle.std.proofs.Common.{◌≡◌, ◌≤◌, ◌+◌, ◌-◌, length, arith, refl}
+use Rattle.std.proofs.Common.{◌≡◌, ◌≤◌, ◌+◌, ◌-◌, length, map, arith, refl}
 use Rattle.std.proofs.lemmas.Result.{err_from_is_err_and}
 use Rattle.byte_device.proofs.Known.{Appends-none}
-use Rattle.archive_commands.specs.Apply.{new_among}
+use Rattle.archive_core.specs.Content.{new_among}
+use Rattle.archive_core.specs.Record.{rec}
 use Rattle.archive_commands.proofs.Endings.{behind_refused, published}
-use Rattle.archive_commands.proofs.Counts.{counted, makes_applied, new_within}
+use Rattle.archive_commands.proofs.Counts.{makes_applied, new_within}
 use Rattle.archive_commands.proofs.apply.run_apply.Goals as goal
 
 pub returns-in_err-operations : goal.returns-in_err-operations
@@ -16,17 +17,15 @@ pub overflow_sub-number : goal.overflow_sub-number
 overflow_sub-number g c =
     let old = g.A.Join.content c.in_ok-archive.archive in
     let operations = c.in_ok-operations.operations.items in
-    let new_is : c.in_ok-new.new ≡ new_among old operations = counted old (g.A.Join.content c.take_each.new.archive) operations c.in_ok-new.new c.in_ok-new.ensures.taken c.in_ok-new.ensures.counted in
-    let within : new_among old operations ≤ length operations = new_within old operations in
-    omega (arith, new_is)
+    let within : new_among old (map rec operations) ≤ length operations = new_within old operations in
+    omega (arith, c.in_ok-new.ensures.counted)
 
 pub returns : goal.returns
 returns g c =
     let old = g.A.Join.content c.in_ok-archive.archive in
     let operations = c.in_ok-operations.operations.items in
-    let new_is : c.in_ok-new.new ≡ new_among old operations = counted old (g.A.Join.content c.take_each.new.archive) operations c.in_ok-new.new c.in_ok-new.ensures.taken c.in_ok-new.ensures.counted in
-    let within : new_among old operations ≤ length operations = new_within old operations in
-    let known : c.len-number.result - c.in_ok-new.new + c.in_ok-new.new ≡ length operations = omega (arith, new_is) in
+    let within : new_among old (map rec operations) ≤ length operations = new_within old operations in
+    let known : c.len-number.result - c.in_ok-new.new + c.in_ok-new.new ≡ length operations = omega (arith, c.in_ok-new.ensures.counted) in
     published _ _ _ _ _ c.publish.result _ _ (c.in_ok-archive.ensures.unfailed, c.in_ok-operations.ensures.unfailed)
-    (makes_applied _ _ _ _ _ _ _ _ c.in_ok-archive.ensures.content c.in_ok-archive.ensures.text c.in_ok-operations.ensures.text c.in_ok-new.ensures.taken new_is known c.in_ok-lines.ensures)
+    (makes_applied _ _ _ _ _ _ _ _ c.in_ok-archive.ensures.content c.in_ok-archive.ensures.text c.in_ok-operations.ensures.text c.in_ok-new.ensures.taken c.in_ok-new.ensures.counted known c.in_ok-lines.ensures)
     c.publish.ensures

@@ -1,5 +1,13 @@
-use Rattle.archive_commands.proofs.Counts.{grown, new_within}
+use Rattle.std.proofs.Common.{map}
+use Rattle.archive_core.specs.Record.{rec}
+use Rattle.archive_commands.proofs.Counts.{new_within}
 use Rattle.archive_commands.proofs.apply_laws.new_ones_are_counted.Goals as goal
 
 pub returns : goal.returns
-returns c = record { grown = grown; within = new_within }
+returns c =
+    let laws = c.new_ones_in_turn.ensures in
+    record {
+      none = laws.none;
+      in_turn = λ o operation rest. laws.in_turn o (rec operation) (map rec rest);
+      within = new_within;
+    }

@@ -1,22 +1,25 @@
-use Rattle.std.proofs.Common.{◌≡◌, ◌≤◌, map, ap, ◌∙◌, arith}
+use Rattle.std.proofs.Common.{◌≡◌, ◌+◌, map, ap, ◌∙◌, arith}
 use Rattle.std.specs.FinSet as set
 use Rattle.std.proofs.lemmas.Result.{err_from_is_err_and}
-use Rattle.archive_core.specs.Content.{IsContent, with_records}
+use Rattle.archive_core.specs.Content.{IsContent, with_records, new_among}
 use Rattle.archive_core.specs.Record.{rec}
 use Rattle.archive_core.proofs.Held.{content_none}
 use Rattle.archive_core.proofs.Joined.{least_is_joined, towards_in_words, none_taken, gathered_joined, gathered_in_part}
 use Rattle.archive_core.proofs.Taken.{grown_to}
 use Rattle.archive_core.proofs.taking.take_each.Goals as goal
 
+pub take_in_turn-requires : goal.take_in_turn-requires
+take_in_turn-requires g c = rw c.empty-taken.ensures content_none
+
 pub returns-in_err-clone-clause-refused : goal.returns-in_err-clone-clause-refused
 returns-in_err-clone-clause-refused g c =
     let p = err_from_is_err_and c.from_residual.result c.from_residual.ensures.1 in
-    rw p.1 (none_taken (g.A.Join.content c.args.archive.now) (map rec c.args.operations.items))
+    rw p.1 (none_taken (g.A.Join.content c.args.archive.now) (map rec c.args.operations.items) c.len-before.ensures.content)
 
 pub returns-in_err-take_in_turn-clause-refused : goal.returns-in_err-take_in_turn-clause-refused
 returns-in_err-take_in_turn-clause-refused g c =
     let p = err_from_is_err_and c.from_residual-in_err-take_in_turn.result c.from_residual-in_err-take_in_turn.ensures.1 in
-    rw p.1 (none_taken (g.A.Join.content c.args.archive.now) (map rec c.args.operations.items))
+    rw p.1 (none_taken (g.A.Join.content c.args.archive.now) (map rec c.args.operations.items) c.len-before.ensures.content)
 
 pub returns-in_err-absorb-clause-refused : goal.returns-in_err-absorb-clause-refused
 returns-in_err-absorb-clause-refused g c =
@@ -27,7 +30,7 @@ returns-in_err-absorb-clause-refused g c =
     let new = join.content c.absorb.new.self in
     let p = err_from_is_err_and c.from_residual-in_err-absorb.result c.from_residual-in_err-absorb.ensures.1 in
     let is : gathered ≡ with_records set.empty (map rec c.sort_unstable_by.new.self.items) = c.in_ok-take_in_turn.ensures.taken ∙ ap (λ o. with_records o (map rec c.sort_unstable_by.new.self.items)) c.empty-taken.ensures in
-    let content : IsContent gathered = c.take_in_turn.ensures.content (rw c.empty-taken.ensures content_none) in
+    let content : IsContent gathered = c.take_in_turn.ensures.content in
     rw p.1 (gathered_in_part old gathered new c.args.operations.items c.sort_unstable_by.new.self.items c.sort_unstable_by.ensures.permutation is c.len-before.ensures.content content
     (towards_in_words join.is_content join.below law.is_content_is law.below_is old gathered new c.in_err-absorb.ensures.refused))
 
@@ -53,7 +56,7 @@ overflow_sub-result g c =
     let sorted = c.sort_unstable_by.new.self.items in
     let is : gathered ≡ with_records set.empty (map rec sorted) = c.in_ok-take_in_turn.ensures.taken ∙ ap (λ o. with_records o (map rec sorted)) c.empty-taken.ensures in
     let union = least_is_joined join.is_content join.below law.is_content_is law.below_is old gathered new c.in_ok-absorb.ensures.joined in
-    let more : set.len old ≤ set.len new = grown_to old new (map rec c.args.operations.items) (gathered_joined old gathered new c.args.operations.items sorted c.sort_unstable_by.ensures.permutation is union) in
+    let more : set.len new ≡ set.len old + new_among old (map rec c.args.operations.items) = grown_to old new (map rec c.args.operations.items) (gathered_joined old gathered new c.args.operations.items sorted c.sort_unstable_by.ensures.permutation is union) in
     omega (arith, c.len-before.ensures.len, c.len.ensures.len)
 
 pub returns-clause-counted : goal.returns-clause-counted
@@ -66,5 +69,5 @@ returns-clause-counted g c =
     let sorted = c.sort_unstable_by.new.self.items in
     let is : gathered ≡ with_records set.empty (map rec sorted) = c.in_ok-take_in_turn.ensures.taken ∙ ap (λ o. with_records o (map rec sorted)) c.empty-taken.ensures in
     let union = least_is_joined join.is_content join.below law.is_content_is law.below_is old gathered new c.in_ok-absorb.ensures.joined in
-    let more : set.len old ≤ set.len new = grown_to old new (map rec c.args.operations.items) (gathered_joined old gathered new c.args.operations.items sorted c.sort_unstable_by.ensures.permutation is union) in
+    let more : set.len new ≡ set.len old + new_among old (map rec c.args.operations.items) = grown_to old new (map rec c.args.operations.items) (gathered_joined old gathered new c.args.operations.items sorted c.sort_unstable_by.ensures.permutation is union) in
     omega (arith, c.len-before.ensures.len, c.len.ensures.len)

@@ -20,7 +20,7 @@ operations-preserved g c =
       can = tt;
       finite = tt;
       way = one_taken (g.A.Join.content c.args.archive.now) now next (into_iter_items c.into_iter-operation-iterator.result) left rest c.in-Some.operation at.invariant.way steps c.in_ok-take.ensures.taken;
-      content = λ was. content_with now next c.in-Some.operation (at.invariant.content was) (search rules) c.in_ok-take.ensures.taken;
+      content = content_with now next c.in-Some.operation at.invariant.content (search rules) c.in_ok-take.ensures.taken;
       long =
           let was : into_iter_len at.operation-iterator ≡ length left = at.invariant.long in
           let gone = c.in-Some.ensures.steps.1 in
@@ -33,5 +33,5 @@ returns-in_err-take-clause-refused g c =
     let p = err_from_is_err_and c.from_residual.result c.from_residual.ensures.1 in
     let old = g.A.Join.content c.args.archive.now in
     let new = g.A.Join.content c.take.new.self in
-    let part = taken_in_part old (g.A.Join.content c.operations.archive) new (into_iter_items c.into_iter-operation-iterator.result) (into_iter_items c.operations.operation-iterator) c.operations.invariant.way c.in_err-take.ensures.refused in
+    let part = taken_in_part old (g.A.Join.content c.operations.archive) new (into_iter_items c.into_iter-operation-iterator.result) (into_iter_items c.operations.operation-iterator) c.operations.invariant.content c.operations.invariant.way c.in_err-take.ensures.refused in
     rw p.1 (subst (λ (all : List Operation). IsTakenInPart old (map rec all) new) c.into_iter-operation-iterator.ensures.into_iter_gives.0 part)

@@ -9,6 +9,6 @@ invariant-operations g l = record {
   can : (goal.iterator-operations g).can_next l.operation-iterator;
   finite : (goal.iterator-operations g).is_finite l.operation-iterator;
   way : IsUnderWay (g.A.Join.content l.initial.archive) (g.A.Join.content l.archive) (into_iter_items l.initial.operation-iterator) (into_iter_items l.operation-iterator);
-  content : IsContent (g.A.Join.content l.initial.archive) → IsContent (g.A.Join.content l.archive);
+  content : IsContent (g.A.Join.content l.archive);
   long : into_iter_len l.operation-iterator ≡ length (into_iter_items l.operation-iterator);
 }

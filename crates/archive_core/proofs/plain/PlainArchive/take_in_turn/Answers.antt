@@ -4,11 +4,12 @@ use Rattle.std.proofs.lemmas.Result.{err_from_is_err_and}
 use Rattle.archive_core.specs.Content.{IsTakenInPart}
 use Rattle.archive_core.specs.Record.{rec}
 use Rattle.archive_core.specs.declared.operations.Operation.{Operation}
+use Rattle.archive_core.proofs.Held.{content_with}
 use Rattle.archive_core.proofs.Taken.{at_first, one_taken, taken_in_part}
 use Rattle.archive_core.proofs.plain.PlainArchive.take_in_turn.Goals as goal
 
 pub operations-init : goal.operations-init
-operations-init c = record { can = tt; finite = tt; way = at_first c.args.self.now _ _ refl; long = search rules }
+operations-init c = record { can = tt; finite = tt; way = at_first c.args.self.now _ _ refl; content = c.requires; long = search rules }
 
 pub operations-preserved : goal.operations-preserved
 operations-preserved c =
@@ -20,6 +21,7 @@ operations-preserved c =
       can = tt;
       finite = tt;
       way = one_taken c.args.self.now at.self c.take.new.self (into_iter_items c.into_iter-operation-iterator.result) left rest c.in-Some.operation at.invariant.way steps c.in_ok-take.ensures.taken;
+      content = content_with at.self c.take.new.self c.in-Some.operation at.invariant.content (search rules) c.in_ok-take.ensures.taken;
       long =
           let was : into_iter_len at.operation-iterator ≡ length left = at.invariant.long in
           let gone = c.in-Some.ensures.steps.1 in
@@ -30,5 +32,5 @@ operations-preserved c =
 pub returns-in_err-take-clause-refused : goal.returns-in_err-take-clause-refused
 returns-in_err-take-clause-refused c =
     let p = err_from_is_err_and c.from_residual.result c.from_residual.ensures.1 in
-    let part = taken_in_part c.args.self.now c.operations.self c.take.new.self (into_iter_items c.into_iter-operation-iterator.result) (into_iter_items c.operations.operation-iterator) c.operations.invariant.way c.in_err-take.ensures.refused in
+    let part = taken_in_part c.args.self.now c.operations.self c.take.new.self (into_iter_items c.into_iter-operation-iterator.result) (into_iter_items c.operations.operation-iterator) c.operations.invariant.content c.operations.invariant.way c.in_err-take.ensures.refused in
     rw p.1 (subst (λ (all : List Operation). IsTakenInPart c.args.self.now (map rec all) c.take.new.self) c.into_iter-operation-iterator.ensures.into_iter_gives.0 part)

@@ -1,17 +1,27 @@
-use Rattle.std.proofs.Common.{◌≡◌, map, rules, sym, subst}
+use Rattle.std.proofs.Common.{◌≡◌, ◌++◌, map, filter, rules, sym, subst, ap, ◌∙◌}
 use Rattle.std.proofs.lemmas.Fn.{always_returns_same}
 use Rattle.std.proofs.lemmas.List.Sorted.{ranks_by}
 use Rattle.std.proofs.lemmas.Result.{IfOk-weaker}
 use Rattle.std.specs.Ordering.{is_lt}
 use Rattle.archive_core.specs.Find.{find_cmp, row_of, IsFinds}
+use Rattle.archive_core.specs.InnerScan.{is_finding}
+use Rattle.archive_core.specs.InnerRange.{is_under_uuid}
+use Rattle.archive_core.specs.declared.range.Kind.TheVariants.{Retirement, Admission}
+use Rattle.archive_core.proofs.Ranges.{two_runs}
 use Rattle.archive_core.proofs.Scanned.{find_total, finds_sorted}
 use Rattle.archive_core.proofs.plain.PlainArchiveArchive.find.Goals as goal
 
 pub returns : goal.returns
 returns c =
+    let o = c.args.self.now in
+    let uuid = c.args.uuid.now in
     let operations = c.self.inside.operations.items in
     let findings = c.sort_unstable_by.new.self.items in
     let sorted = c.sort_unstable_by.ensures.sorted (λ x y. is_lt (find_cmp x y)) (ranks_by find_total (λ x. x)) (always_returns_same _ _ _ (λ a r g called. (search rules, search rules))) in
-    let permuted = rw (c.in_ok-findings.ensures, c.deref.ensures.value) at c.sort_unstable_by.ensures.permutation in
-    let finds = finds_sorted c.args.self.now c.args.uuid.now operations findings c.self.invariant c.self.view_is permuted sorted in
-    IfOk-weaker c.rows_of.result (λ rows. rows.items ≡ map row_of findings) (λ rows. IsFinds c.args.self.now c.args.uuid.now rows.items) (λ rows is. subst (IsFinds c.args.self.now c.args.uuid.now) (sym is) finds) (rw (c.deref-2.ensures.value) at c.rows_of.ensures)
+    let told = filter (is_finding o uuid) in
+    let retirements = ap told (c.under_uuid-retirements.ensures ∙ ap (filter (is_under_uuid Retirement uuid)) c.deref.ensures.value) in
+    let admissions = ap told (c.under_uuid-admissions.ensures ∙ ap (filter (is_under_uuid Admission uuid)) c.deref-2.ensures.value) in
+    let gathered = c.in_ok-gather-2.ensures ∙ (λ i. (c.in_ok-gather.ensures ∙ ap (λ l. l ++ told c.under_uuid-retirements.result.now) c.new-findings.ensures.items ∙ retirements) i ++ admissions i) ∙ two_runs o uuid operations c.self.invariant.ascending in
+    let permuted = rw gathered at c.sort_unstable_by.ensures.permutation in
+    let finds = finds_sorted o uuid operations findings c.self.invariant c.self.view_is permuted sorted in
+    IfOk-weaker c.rows_of.result (λ rows. rows.items ≡ map row_of findings) (λ rows. IsFinds o uuid rows.items) (λ rows is. subst (IsFinds o uuid) (sym is) finds) (rw (c.deref-3.ensures.value) at c.rows_of.ensures)

@@ -8,6 +8,9 @@ use Rattle.archive_core.proofs.Joined.{joined, unmoved, taken_towards}
 use Rattle.archive_core.proofs.Taken.{taken_are_joined}
 use Rattle.archive_core.proofs.plain.PlainArchiveJoin.absorb.Goals as goal
 
+pub take_in_turn-requires : goal.take_in_turn-requires
+take_in_turn-requires c = subst IsContent c.self.view_is (content_of_held c.self.inside.operations.items c.self.invariant)
+
 pub returns-then-len-min-clause-joined : goal.returns-then-len-min-clause-joined
 returns-then-len-min-clause-joined c =
     let mine = c.self.inside.operations.items in
@@ -18,11 +21,7 @@ returns-then-len-min-clause-joined c =
 
 pub returns-then-len-min-clause-refused : goal.returns-then-len-min-clause-refused
 returns-then-len-min-clause-refused c =
-    let mine = c.self.inside.operations.items in
-    let theirs = c.other.inside.operations.items in
-    let mine_is = subst IsContent c.self.view_is (content_of_held mine c.self.invariant) in
-    let theirs_is = subst IsContent c.other.view_is (content_of_held theirs c.other.invariant) in
-    on_err_weaker c.take_in_turn.result (taken_towards c.args.self.now c.args.other _ (map rec theirs) mine_is theirs_is c.other.view_is) c.take_in_turn.ensures.refused
+    on_err_weaker c.take_in_turn.result (taken_towards c.args.self.now c.args.other _ (map rec c.other.inside.operations.items) c.other.view_is) c.take_in_turn.ensures.refused
 
 pub returns-clause-joined : goal.returns-clause-joined
 returns-clause-joined c =

@@ -1,0 +1,158 @@
+-- What a part of a content answers.
+use Rattle.std.proofs.Common.{◌≡◌, ℕ, Bool, true, false, ◌&&◌, List, [], ◌∷◌, ◌++◌, length, take, refl, sym, ap, ◌∙◌, append_assoc}
+use Rattle.std.specs.Str.{bytes_eq}
+use Rattle.std.specs.FinSet as set
+use Rattle.std.specs.FinSet.{contains-retain}
+use Rattle.std.proofs.lemmas.List.{append-nil}
+use Rattle.std.proofs.lemmas.Slice.Eq.{bytes_eq-Decides}
+use Rattle.std.specs.Int.{w32, w64, to_be_bytes}
+use Rattle.sha2.specs.Sha256.{sha256}
+use Rattle.archive_core.specs.Key.{key_bytes}
+use Rattle.archive_core.specs.Valid.{key_of}
+use Rattle.archive_core.specs.Record.{admission, admission_record, retirement_record}
+use Rattle.archive_core.specs.Content.{Operations, IsContent, IsLive, IsAnswering}
+use Rattle.archive_core.specs.Find.{IsFinding, IsFinds, AreAnswering}
+use Rattle.archive_core.specs.Lookup.{AnswerRecord, IsAnswer, IsConflict}
+use Rattle.archive_core.specs.Names.{NameRecord, IsNameRow, IsNames}
+use Rattle.archive_core.specs.Part.{is_under, part, AreAlikeUnder, AreAlikeNamed}
+use Rattle.archive_core.specs.declared.find.FindRow.{FindRow}
+use Rattle.archive_core.specs.declared.keys.SliceKey.{SliceKey}
+use Rattle.archive_core.specs.declared.lookup.Where.{Where}
+use Rattle.archive_core.specs.declared.operations.Operation.{Operation}
+use Rattle.archive_core.specs.declared.operations.Operation.TheVariants.{Admit, Retire}
+use Rattle.archive_core.proofs.Held.{bytes_same}
+use Rattle.archive_core.proofs.Answering.{both}
+
+-- ---- what begins so
+
+front_of : (front rest : List ℕ) → take (length front) (front ++ rest) ≡ front
+front_of [] rest = refl
+front_of (x ∷ front) rest = ap (λ (t : List ℕ). x ∷ t) (front_of front rest)
+
+begins : (front bytes rest : List ℕ) → bytes ≡ front ++ rest → bytes_eq front (take (length front) bytes) ≡ true
+begins front bytes rest e = (bytes_eq-Decides front (take (length front) bytes)).1 (sym (ap (take (length front)) e ∙ front_of front rest))
+
+pub admission_under : (front rest slice : List ℕ) → key_bytes (key_of slice) ≡ front ++ rest → is_under front (admission_record slice) ≡ true
+unfolding is_under admission
+admission_under front rest slice e =
+    let more : List ℕ = to_be_bytes w64 (length slice) ++ slice in
+    begins front (admission slice) (rest ++ more) (ap (λ (t : List ℕ). t ++ more) e ∙ append_assoc front rest more)
+
+pub retirement_under : (front rest : List ℕ) (key : SliceKey) (digest : List ℕ) → key_bytes key ≡ front ++ rest → is_under front (retirement_record key digest) ≡ true
+unfolding is_under
+retirement_under front rest key digest e = begins front (key_bytes key ++ digest) (rest ++ digest) (ap (λ (t : List ℕ). t ++ digest) e ∙ append_assoc front rest digest)
+
+-- ---- contents that are alike there
+
+pub alike_back : (front : List ℕ) (o p : Operations) → AreAlikeUnder front o p → AreAlikeUnder front p o
+alike_back front o p same = λ r h. sym (same r h)
+
+live_alike : (front rest : List ℕ) (o p : Operations) (key : SliceKey) (slice : List ℕ) → key_bytes key ≡ front ++ rest → AreAlikeUnder front o p → IsLive o key slice → IsLive p key slice
+live_alike front rest o p key slice e same live = record {
+  admitted = sym (same (admission_record slice) (admission_under front rest slice (ap key_bytes live.under ∙ e))) ∙ live.admitted;
+  under = live.under;
+  kept = sym (same (retirement_record key (sha256 slice)) (retirement_under front rest key (sha256 slice) e)) ∙ live.kept;
+}
+
+-- ---- answers
+
+module _ (o p : Operations) (key : SliceKey) (same : AreAlikeUnder (key_bytes key) o p) where
+  whole : key_bytes key ≡ key_bytes key ++ []
+  whole = sym (append-nil (key_bytes key))
+
+  answering_alike : (slice : List ℕ) → IsAnswering o key slice → IsAnswering p key slice
+  answering_alike slice is = record {
+    live = live_alike (key_bytes key) [] o p key slice whole same is.live;
+    companions_first = λ companion live. is.companions_first companion (live_alike (key_bytes key) [] p o key companion whole (alike_back (key_bytes key) o p same) live);
+  }
+
+are_alike : (o p : Operations) (key : SliceKey) (slices : List (List ℕ)) → AreAlikeUnder (key_bytes key) o p → AreAnswering o key slices → AreAnswering p key slices
+are_alike o p key slices same is = record {
+  ascending = is.ascending;
+  exactly = λ slice. (
+    λ h. answering_alike o p key same slice ((is.exactly slice).0 h),
+    λ h. (is.exactly slice).1 (answering_alike p o key (alike_back (key_bytes key) o p same) slice h),
+  );
+}
+
+pub answer_alike : (o p : Operations) (key : SliceKey) (place : Where) (answer : AnswerRecord) → AreAlikeUnder (key_bytes key) o p → IsAnswer o key place answer → IsAnswer p key place answer
+answer_alike o p key place answer same is = record { slices = is.slices; answering = are_alike o p key is.slices same is.answering; answer_is = is.answer_is }
+
+pub conflict_alike : (o p : Operations) (key : SliceKey) → AreAlikeUnder (key_bytes key) o p → IsConflict o key → IsConflict p key
+conflict_alike o p key same is = record { slices = is.slices; answering = are_alike o p key is.slices same is.answering; several = is.several }
+
+-- ---- rows of a UUID
+
+uuid_first : (uuid : List ℕ) (key : SliceKey) → key.uuid ≡ uuid → (rest : List ℕ) × (key_bytes key ≡ uuid ++ rest)
+unfolding key_bytes
+uuid_first uuid key e =
+    let more : List ℕ = to_be_bytes w32 key.arch.cputype ++ to_be_bytes w32 key.arch.subtype in
+    (more, ap (λ (t : List ℕ). t ++ more) e)
+
+finding_alike : (o p : Operations) (uuid : List ℕ) (a : Operation) → AreAlikeUnder uuid o p → IsFinding o uuid a → IsFinding p uuid a
+finding_alike o p uuid (Admit slice) same is =
+    let first = uuid_first uuid (key_of slice) is.0 in
+    (is.0, live_alike uuid first.0 o p (key_of slice) slice first.1 same is.1)
+finding_alike o p uuid (Retire key digest) same is =
+    let first = uuid_first uuid key is.0 in
+    (is.0, sym (same (retirement_record key digest.0) (retirement_under uuid first.0 key digest.0 first.1)) ∙ is.1)
+
+pub finds_alike : (o p : Operations) (uuid : List ℕ) (rows : List FindRow) → AreAlikeUnder uuid o p → IsFinds o uuid rows → IsFinds p uuid rows
+finds_alike o p uuid rows same is = record {
+  operations = is.operations;
+  ascending = is.ascending;
+  exactly = λ a. (
+    λ h. let told = (is.exactly a).0 h in (told.0, finding_alike o p uuid a same told.1),
+    λ h. (is.exactly a).1 (h.0, finding_alike p o uuid a (alike_back uuid o p same) h.1),
+  );
+  rows_are = is.rows_are;
+}
+
+-- ---- rows of a name
+
+pub named_back : (name : List ℕ) (o p : Operations) → AreAlikeNamed name o p → AreAlikeNamed name p o
+named_back name o p same = record {
+  retirements = λ key digest. sym (same.retirements key digest);
+  admissions = λ slice found h. sym (same.admissions slice found h);
+}
+
+name_row_alike : (o p : Operations) (name : List ℕ) (row : NameRecord) → AreAlikeNamed name o p → IsNameRow o name row → IsNameRow p name row
+name_row_alike o p name row same is = record {
+  slice = is.slice;
+  valid = is.valid;
+  live = record {
+    admitted = sym (same.admissions is.slice is.found is.candidate) ∙ is.live.admitted;
+    under = is.live.under;
+    kept = sym (same.retirements (key_of is.slice) (sha256 is.slice)) ∙ is.live.kept;
+  };
+  found = is.found;
+  candidate = is.candidate;
+  row_is = is.row_is;
+}
+
+pub names_alike : (o p : Operations) (name : List ℕ) (rows : List NameRecord) → AreAlikeNamed name o p → IsNames o name rows → IsNames p name rows
+names_alike o p name rows same is = record {
+  ascending = is.ascending;
+  exactly = λ row. (
+    λ h. name_row_alike o p name row same ((is.exactly row).0 h),
+    λ h. (is.exactly row).1 (name_row_alike p o name row (named_back name o p same) h),
+  );
+}
+
+-- ---- a part
+
+pub contains_part : (o : Operations) (picks : List ℕ → Bool) (r : List ℕ) → set.contains (part o picks) r ≡ (set.contains o r && picks r)
+contains_part o picks r = contains-retain o picks r (λ x e. ap picks (sym (bytes_same r x e)))
+
+and_true : (a b : Bool) → b ≡ true → (a && b) ≡ a
+and_true true b h = h
+and_true false b h = refl
+
+pub part_alike : (o : Operations) (picks : List ℕ → Bool) (front : List ℕ) → ((r : List ℕ) → is_under front r ≡ true → picks r ≡ true) → AreAlikeUnder front (part o picks) o
+part_alike o picks front all = λ r h. contains_part o picks r ∙ and_true (set.contains o r) (picks r) (all r h)
+
+pub part_content : (o : Operations) (picks : List ℕ → Bool) → IsContent o → IsContent (part o picks)
+part_content o picks content = record {
+  itself = refl;
+  records = λ r h. content.records r (both (set.contains o r) (picks r) (sym (contains_part o picks r) ∙ h)).0;
+}

@@ -1,0 +1,207 @@
+-- The operations of one kind under one key, or under one UUID, stand together.
+use Rattle.std.proofs.Common.{◌≡◌, ℕ, Bool, true, false, cond, List, [], ◌∷◌, ◌++◌, length, map, filter, Some, None, refl, sym, ap, ◌∙◌, arith, subst, append_assoc, w32}
+use mathlib.Core.Bool.{true≢false}
+use Rattle.std.specs.declared.cmp.Ordering.{Ordering}
+use Rattle.std.specs.declared.cmp.Ordering.TheVariants.{Less, Equal, Greater}
+use Rattle.std.specs.Ordering.{nat_cmp, is_lt, is_le, is_eq, ordering_then}
+use Rattle.std.specs.Cmp.{tied_itself}
+use Rattle.std.specs.Cmp.Lexicographic.{slice_cmp, nat_list_cmp_total}
+use Rattle.std.specs.List.{AllByRecursion, Contains, cons_option}
+use Rattle.std.specs.List.Sorted.{IsStrictlySortedBy}
+use Rattle.std.specs.FinSet.{from_list, contains}
+use Rattle.std.specs.Int.{w64, to_be_bytes}
+use Rattle.std.specs.Str.{bytes_eq}
+use Rattle.std.proofs.lemmas.List.{append-nil}
+use Rattle.std.proofs.lemmas.Slice.Eq.{bytes_eq-Decides}
+use Rattle.sha2.specs.Sha256.{sha256}
+use Rattle.sha2.proofs.Facts256.{length-sha256}
+use Rattle.macho_image.proofs.Told.{uuid_of-length}
+use Rattle.archive_core.specs.Key.{IsKey, key_bytes}
+use Rattle.archive_core.specs.Valid.{key_of}
+use Rattle.archive_core.specs.Record.{rec, admission, admission_record, retirement_record, IsOperation}
+use Rattle.archive_core.specs.Content.{Operations}
+use Rattle.archive_core.specs.InnerHeld.{IsHeld}
+use Rattle.archive_core.specs.Find.{is_key}
+use Rattle.archive_core.specs.InnerScan.{is_finding, is_live_kind, live_in, live_among}
+use Rattle.archive_core.specs.declared.keys.Digest.{Digest}
+use Rattle.archive_core.specs.declared.keys.SliceKey.{SliceKey}
+use Rattle.archive_core.specs.declared.operations.Operation.{Operation}
+use Rattle.archive_core.specs.declared.operations.Operation.TheVariants.{Admit, Retire}
+use Rattle.archive_core.proofs.Compare.{slice_cmp-append, length_key_bytes}
+use Rattle.archive_core.proofs.Records.{length-key_of}
+use Rattle.archive_core.proofs.Held.{bytes_same}
+use Rattle.archive_core.proofs.Scanned.{operation_there, to_filter}
+use Rattle.archive_core.proofs.Answering.{one_arch, both}
+use Rattle.archive_core.specs.InnerRange.{front, front_of, is_under, is_under_uuid}
+use Rattle.archive_core.specs.declared.range.Kind.TheVariants.{Retirement, Admission}
+use Rattle.archive_core.specs.declared.range.Scope.{Scope}
+use Rattle.archive_core.specs.declared.range.Scope.TheVariants.{OfKey, OfUuid}
+use Rattle.archive_core.proofs.Falling.{Falls}
+
+-- the bytes of a key behind its UUID
+arch_bytes : SliceKey → List ℕ
+arch_bytes key = to_be_bytes w32 key.arch.cputype ++ to_be_bytes w32 key.arch.subtype
+
+-- the record of an operation behind its tag and key, or behind its tag and UUID
+behind : Scope → Operation → List ℕ
+behind (OfKey _) (Admit slice) = to_be_bytes w64 (length slice) ++ slice
+behind (OfKey _) (Retire key digest) = digest.0
+behind (OfUuid _) (Admit slice) = arch_bytes (key_of slice) ++ (to_be_bytes w64 (length slice) ++ slice)
+behind (OfUuid _) (Retire key digest) = arch_bytes key ++ digest.0
+
+record_parts : (scope : Scope) (a : Operation) → rec a ≡ front_of scope a ++ behind scope a
+unfolding admission key_bytes arch_bytes behind
+record_parts (OfKey _) (Admit slice) = refl
+record_parts (OfKey _) (Retire key digest) = refl
+record_parts (OfUuid _) (Admit slice) = ap (λ r. 2 ∷ r) (append_assoc (key_of slice).uuid (arch_bytes (key_of slice)) (to_be_bytes w64 (length slice) ++ slice))
+record_parts (OfUuid _) (Retire key digest) = ap (λ r. 1 ∷ r) (append_assoc key.uuid (arch_bytes key) digest.0)
+
+-- how many bytes those are that a record begins with
+front_length : Scope → ℕ
+front_length (OfKey _) = 25
+front_length (OfUuid _) = 17
+
+length_front : (scope : Scope) (a : Operation) → IsOperation a → length (front_of scope a) ≡ front_length scope
+unfolding key_of front_length
+length_front (OfKey _) (Admit slice) valid = omega (arith, length-key_of slice valid)
+length_front (OfKey _) (Retire key digest) is = omega (arith, length_key_bytes key is.0.uuid)
+length_front (OfUuid _) (Admit slice) valid = omega (arith, uuid_of-length slice valid.image)
+length_front (OfUuid _) (Retire key digest) is = omega (arith, is.0.uuid)
+
+module _ (test : Ordering → Bool) (less : test Less ≡ true) (greater : test Greater ≡ false) where
+  -- what is not above a text that passes, passes
+  passes : (x y w : List ℕ) (r s : Ordering) → slice_cmp nat_cmp x y ≡ r → slice_cmp nat_cmp y w ≡ s → (t : Ordering) → ordering_then r t ≡ Less → test s ≡ true → test (slice_cmp nat_cmp x w) ≡ true
+  passes x y w Less Less e f t h g = rw (nat_list_cmp_total.trans x y w e f) less
+  passes x y w Less Equal e f t h g = let same = bytes_same y w f in rw (← same, e) less
+  passes x y w Less Greater e f t h g = absurd (true≢false (sym g ∙ greater))
+  passes x y w Equal s e f t h g = let same = bytes_same x y e in rw (same, f) g
+  passes x y w Greater s e f t h g = cc
+
+  rises : (scope : Scope) (w : List ℕ) (a b : Operation) → IsOperation a → IsOperation b → slice_cmp nat_cmp (rec a) (rec b) ≡ Less → test (slice_cmp nat_cmp (front_of scope b) w) ≡ true → test (slice_cmp nat_cmp (front_of scope a) w) ≡ true
+  rises scope w a b is_a is_b h g =
+      passes (front_of scope a) (front_of scope b) w _ _ refl refl (slice_cmp nat_cmp (behind scope a) (behind scope b))
+      (sym (slice_cmp-append (front_of scope a) (front_of scope b) (behind scope a) (behind scope b) (length_front scope a is_a ∙ sym (length_front scope b is_b))) ∙ (λ i. slice_cmp nat_cmp (sym (record_parts scope a) i) (sym (record_parts scope b) i)) ∙ h)
+      g
+
+  -- so the test of how their records begin falls along operations that ascend
+  pub falls : (scope : Scope) (w : List ℕ) (xs : List Operation) → IsStrictlySortedBy (slice_cmp nat_cmp) (map rec xs) → AllByRecursion IsOperation xs → Falls (λ a. test (slice_cmp nat_cmp (front_of scope a) w)) xs
+  unfolding IsStrictlySortedBy Falls
+  falls scope w [] up known = tt
+  falls scope w (x ∷ xs) up known = (each xs up.0 known.1, falls scope w xs up.1 known.1)
+    where
+      each : (ys : List Operation) → AllByRecursion (λ r. slice_cmp nat_cmp (rec x) r ≡ Less) (map rec ys) → AllByRecursion IsOperation ys
+          → AllByRecursion (λ y. test (slice_cmp nat_cmp (front_of scope y) w) ≡ true → test (slice_cmp nat_cmp (front_of scope x) w) ≡ true) ys
+      each [] g known = tt
+      each (y ∷ ys) g all = (rises scope w x y known.0 all.0 g.0, each ys g.1 all.1)
+
+-- the three tests of a comparison
+pub eq_of_lt : (r : Ordering) → is_lt r ≡ true → is_eq r ≡ false
+eq_of_lt Less h = refl
+eq_of_lt Equal h = absurd (true≢false (sym h))
+eq_of_lt Greater h = refl
+
+pub eq_of_gt : (r : Ordering) → is_le r ≡ false → is_eq r ≡ false
+eq_of_gt Less h = refl
+eq_of_gt Equal h = absurd (true≢false h)
+eq_of_gt Greater h = refl
+
+pub eq_of_both : (r : Ordering) → is_lt r ≡ false → is_le r ≡ true → is_eq r ≡ true
+eq_of_both Less h g = absurd (true≢false h)
+eq_of_both Equal h g = refl
+eq_of_both Greater h g = absurd (true≢false (sym g))
+
+-- a text ties with itself
+itself : (x : List ℕ) → is_eq (slice_cmp nat_cmp x x) ≡ true
+itself x = ap is_eq (tied_itself nat_list_cmp_total x)
+
+-- where no retirement stands under a key, no slice of the key is retired
+pub none_retired : (operations : List Operation) (key : SliceKey) (slice : List ℕ) → IsHeld operations → IsKey key → filter (is_under Retirement key) operations ≡ []
+    → contains (from_list {R = slice_cmp nat_cmp} (map rec operations)) (retirement_record key (sha256 slice)) ≡ false
+none_retired operations key slice held is_key none = by (contains (from_list {R = slice_cmp nat_cmp} (map rec operations)) (retirement_record key (sha256 slice))) refl
+  where
+    nowhere : (a : Operation) → Contains [] a → ⊥
+    nowhere a (k, lt, e) = omega arith
+
+    by : (b : Bool) → contains (from_list {R = slice_cmp nat_cmp} (map rec operations)) (retirement_record key (sha256 slice)) ≡ b → b ≡ false
+    by false h = refl
+    by true h =
+        let one : Operation = Retire key (record { 0 = sha256 slice }) in
+        let there = operation_there operations one held.are (is_key, length-sha256 slice) h in
+        absurd (nowhere one (subst (λ xs. Contains xs one) none (to_filter (is_under Retirement key) operations one there (itself (front Retirement (OfKey key))))))
+
+-- the test of keys tells that they are one
+one_key : (a b : SliceKey) → is_key a b ≡ true → a ≡ b
+one_key a b h =
+    let parts = both (bytes_eq a.uuid b.uuid) _ h in
+    let uuid = (bytes_eq-Decides a.uuid b.uuid).0 parts.0 in
+    let arch = one_arch a.arch b.arch parts.1 in
+    λ i. record { uuid = uuid i; arch = arch i }
+
+-- what is live under a key is admitted under it
+under_of_live : (o : Operations) (key : SliceKey) (dsym : Bool) (slice : List ℕ) → is_live_kind o key dsym slice ≡ true → is_under Admission key (Admit slice) ≡ true
+unfolding is_live_kind
+under_of_live o key dsym slice h =
+    let same : key_of slice ≡ key = one_key (key_of slice) key (both (is_key (key_of slice) key) _ h).0 in
+    ap (λ k. is_eq (slice_cmp nat_cmp (front Admission (OfKey k)) (front Admission (OfKey key)))) same ∙ itself (front Admission (OfKey key))
+
+-- so the live slices of a key are among the admissions under it
+pub live_under : (o : Operations) (key : SliceKey) (dsym : Bool) (xs : List Operation) → live_among o key dsym (filter (is_under Admission key) xs) ≡ live_among o key dsym xs
+unfolding live_among
+live_under o key dsym [] = refl
+live_under o key dsym (x ∷ xs) = by (is_under Admission key x) refl (live_under o key dsym xs)
+  where
+    none_outside : (a : Operation) → is_under Admission key a ≡ false → live_in o key dsym a ≡ None
+    none_outside (Admit slice) h = out (is_live_kind o key dsym slice) refl
+      where
+        out : (b : Bool) → is_live_kind o key dsym slice ≡ b → cond b (Some slice) None ≡ None
+        out true t = absurd (true≢false (sym (under_of_live o key dsym slice t) ∙ h))
+        out false t = refl
+    none_outside (Retire other digest) h = refl
+
+    by : (b : Bool) → is_under Admission key x ≡ b → live_among o key dsym (filter (is_under Admission key) xs) ≡ live_among o key dsym xs
+        → live_among o key dsym (cond b (x ∷ filter (is_under Admission key) xs) (filter (is_under Admission key) xs)) ≡ live_among o key dsym (x ∷ xs)
+    by true h rest = ap (cons_option (live_in o key dsym x)) rest
+    by false h rest = rest ∙ sym (ap (λ f. cons_option f (live_among o key dsym xs)) (none_outside x h))
+
+-- what a search tells is under its UUID
+under_of_retirement : (uuid : List ℕ) (key : SliceKey) (digest : Digest) → bytes_eq key.uuid uuid ≡ true → is_under_uuid Retirement uuid (Retire key digest) ≡ true
+under_of_retirement uuid key digest h =
+    ap (λ u. is_eq (slice_cmp nat_cmp (1 ∷ u) (1 ∷ uuid))) ((bytes_eq-Decides key.uuid uuid).0 h) ∙ itself (1 ∷ uuid)
+
+under_of_admission : (o : Operations) (uuid slice : List ℕ) → is_finding o uuid (Admit slice) ≡ true → is_under_uuid Admission uuid (Admit slice) ≡ true
+under_of_admission o uuid slice h =
+    ap (λ u. is_eq (slice_cmp nat_cmp (2 ∷ u) (2 ∷ uuid))) ((bytes_eq-Decides (key_of slice).uuid uuid).0 (both (bytes_eq (key_of slice).uuid uuid) _ h).0) ∙ itself (2 ∷ uuid)
+
+-- one more in front is told where it is kept and told
+told_in_front : (test kept : Operation → Bool) (x : Operation) (xs more told : List Operation) → (test x ≡ true → kept x ≡ true)
+    → filter test xs ++ more ≡ told → filter test (cond (kept x) (x ∷ xs) xs) ++ more ≡ cond (test x) (x ∷ told) told
+told_in_front test kept x xs more told within h = by (kept x) (test x) refl refl
+  where
+    by : (k t : Bool) → kept x ≡ k → test x ≡ t → filter test (cond k (x ∷ xs) xs) ++ more ≡ cond t (x ∷ told) told
+    by true true k_is t_is = rw t_is (ap (λ l. x ∷ l) h)
+    by true false k_is t_is = rw t_is h
+    by false true k_is t_is = absurd (true≢false (sym (within t_is) ∙ k_is))
+    by false false k_is t_is = h
+
+-- no retirement stands behind an admission
+none_behind : (uuid slice : List ℕ) (xs : List Operation) → AllByRecursion (λ r. slice_cmp nat_cmp (admission_record slice) r ≡ Less) (map rec xs) → filter (is_under_uuid Retirement uuid) xs ≡ []
+none_behind uuid slice [] up = refl
+none_behind uuid slice (Admit other ∷ xs) up = none_behind uuid slice xs up.1
+none_behind uuid slice (Retire key digest ∷ xs) up = cc
+
+-- so what a search tells stands in two runs: the retirements under the UUID, and the admissions
+pub two_runs : (o : Operations) (uuid : List ℕ) (xs : List Operation) → IsStrictlySortedBy (slice_cmp nat_cmp) (map rec xs)
+    → filter (is_finding o uuid) (filter (is_under_uuid Retirement uuid) xs) ++ filter (is_finding o uuid) (filter (is_under_uuid Admission uuid) xs) ≡ filter (is_finding o uuid) xs
+unfolding IsStrictlySortedBy
+two_runs o uuid [] up = refl
+two_runs o uuid (Retire key digest ∷ xs) up =
+    told_in_front (is_finding o uuid) (is_under_uuid Retirement uuid) (Retire key digest) (filter (is_under_uuid Retirement uuid) xs) (filter (is_finding o uuid) (filter (is_under_uuid Admission uuid) xs)) (filter (is_finding o uuid) xs)
+    (under_of_retirement uuid key digest) (two_runs o uuid xs up.1)
+two_runs o uuid (Admit slice ∷ xs) up =
+    let test = is_finding o uuid in
+    let admissions = filter (is_under_uuid Admission uuid) in
+    let none = none_behind uuid slice xs up.0 in
+    let rest : filter test (admissions xs) ≡ filter test xs = sym (ap (λ l. filter test l ++ filter test (admissions xs)) none) ∙ two_runs o uuid xs up.1 in
+    ap (λ l. filter test l ++ filter test (admissions (Admit slice ∷ xs))) none
+    ∙ sym (append-nil (filter test (admissions (Admit slice ∷ xs))))
+    ∙ told_in_front test (is_under_uuid Admission uuid) (Admit slice) (admissions xs) [] (filter test xs) (under_of_admission o uuid slice) (append-nil (filter test (admissions xs)) ∙ rest)

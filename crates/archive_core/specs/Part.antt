@@ -1,0 +1,27 @@
+-- The part of a content that a question needs.
+use Rattle.std.specs.Prelude.{◌≡◌, ℕ, List, Bool, true, length, take, drop, Contains}
+use Rattle.std.specs.Str.{bytes_eq}
+use Rattle.std.specs.FinSet as set
+use Rattle.macho_symbols.specs.Found.{FoundRecord, named}
+use Rattle.archive_core.specs.declared.keys.SliceKey.{SliceKey}
+use Rattle.archive_core.specs.Record.{admission_record, retirement_record}
+use Rattle.archive_core.specs.Content.{Operations}
+
+-- the bytes behind the tag of a record begin with these: a UUID, or a key
+unfoldable pub is_under : List ℕ → List ℕ → Bool
+is_under front r = bytes_eq front (take (length front) (drop 1 r))
+
+-- the operations of a content that are picked, each by its record
+abbrev pub part : Operations → (List ℕ → Bool) → Operations
+part o picks = set.retain o picks
+
+-- the two have the same records that begin so behind their tags
+abbrev pub AreAlikeUnder : List ℕ → Operations → Operations → Type 0
+AreAlikeUnder front o p = (r : List ℕ) → is_under front r ≡ true → set.contains o r ≡ set.contains p r
+
+-- the two have the same retirements, and the same admissions of slices with a candidate of the name
+pub record AreAlikeNamed (name : List ℕ) (o p : Operations) : Type 0 where
+  pub retirements : (key : SliceKey) (digest : List ℕ)
+      → set.contains o (retirement_record key digest) ≡ set.contains p (retirement_record key digest)
+  pub admissions : (slice : List ℕ) (found : FoundRecord) → Contains (named slice name) found
+      → set.contains o (admission_record slice) ≡ set.contains p (admission_record slice)

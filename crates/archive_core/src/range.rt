@@ -1,0 +1,129 @@
+//! The operations of one kind under one key, or under one UUID.
+ghost use Rattle.std.specs.Prelude.{◌≡◌, ◌+◌, ◌≤◌, filter, length, take, drop};
+ghost use Rattle.std.specs.Ordering.{nat_cmp};
+ghost use Rattle.std.specs.Cmp.Lexicographic.{slice_cmp};
+ghost use Rattle.archive_core.specs.Key.{IsKey};
+ghost use Rattle.archive_core.specs.InnerHeld.{IsHeld};
+ghost use Rattle.archive_core.specs.InnerRange.{front, front_of, scope_bytes, bytes_within};
+ghost use Rattle.archive_core.specs.InnerRange.{is_within, is_under, is_under_uuid};
+
+use crate::live::is_kind;
+use crate::{Operation, SliceKey, compare_keys};
+use memory::{Heap, NoMemory};
+use std::cmp::Ordering;
+use uuid::Uuid;
+
+// What an operation is. Retirements stand before admissions.
+#[derive(Clone, Copy)]
+pub(crate) enum Kind {
+    Retirement,
+    Admission,
+}
+
+// Which keys are meant: one, or those of a UUID.
+#[derive(Clone, Copy)]
+enum Scope {
+    OfKey(SliceKey),
+    OfUuid(Uuid),
+}
+
+// Where the operations of a kind within a scope begin, and how many they are. They stand together, and are found by
+// halving.
+fn place_of(operations: &[Operation], kind: Kind, scope: Scope) -> (usize, usize)
+    requires { IsHeld operations.now }
+    ensures within { result.0 + result.1 ≤ length operations.now }
+    ensures range { take result.1 (drop result.0 operations.now) ≡ filter (is_within kind scope) operations.now }
+{
+    let start = operations.partition_point(|operation| compare(operation, kind, &scope).is_lt());
+    let (_, behind) = operations.split_at(start);
+    let count = behind.partition_point(|operation| compare(operation, kind, &scope).is_le());
+    (start, count)
+}
+
+// The operations of a kind within a scope.
+fn within(operations: &[Operation], kind: Kind, scope: Scope) -> &[Operation]
+    requires { IsHeld operations.now }
+    ensures { result.now ≡ filter (is_within kind scope) operations.now }
+{
+    let (start, count) = place_of(operations, kind, scope);
+    let (_, rest) = operations.split_at(start);
+    let (within, _) = rest.split_at(count);
+    within
+}
+
+// The operations of a kind under a key.
+pub(crate) fn under<'a>(operations: &'a [Operation], kind: Kind, key: SliceKey) -> &'a [Operation]
+    requires { IsHeld operations.now }
+    ensures range { result.now ≡ filter (is_under kind key) operations.now }
+    ensures key { IsKey key }
+{
+    within(operations, kind, Scope::OfKey(key))
+}
+
+// The operations of a kind under a UUID, whatever the architecture.
+pub(crate) fn under_uuid(operations: &[Operation], kind: Kind, uuid: Uuid) -> &[Operation]
+    requires { IsHeld operations.now }
+    ensures { result.now ≡ filter (is_under_uuid kind uuid) operations.now }
+{
+    within(operations, kind, Scope::OfUuid(uuid))
+}
+
+// Keeps the digests of the slices under a key that have tables.
+pub(crate) fn keep_digests_under(operations: &mut [Operation], key: SliceKey)
+    requires { IsHeld operations.old }
+    ensures { operations.new ≡ operations.old }
+{
+    let (start, count) = place_of(operations, Kind::Admission, Scope::OfKey(key));
+    let (_, rest) = operations.split_at_mut(start);
+    let (under, _) = rest.split_at_mut(count);
+    keep_each_digest(under);
+}
+
+// Keeps the digests of the slices that operations admit and that have tables.
+fn keep_each_digest(operations: &mut [Operation])
+    ensures { operations.new ≡ operations.old }
+{
+    'operations: for operation in operations {
+        operation.keep_digest();
+    }
+}
+
+// Builds the tables of the slices that operations admit, where they have none.
+pub(crate) fn keep_each_table(operations: &mut [Operation], heap: &Heap) -> Result<(), NoMemory>
+    ensures { operations.new ≡ operations.old }
+{
+    'operations: for operation in operations {
+        operation.keep_table(heap)?;
+    }
+    Ok(())
+}
+
+// Whether an operation admits a companion. No answer depends on it.
+pub(crate) fn is_companion(operation: &Operation) -> bool {
+    match operation {
+        Operation::Admit(slice) => is_kind(true, slice),
+        Operation::Retire(_, _) => false,
+    }
+}
+
+// Compares the kind and the key of an operation with a kind and a scope.
+fn compare(operation: &Operation, kind: Kind, scope: &Scope) -> Ordering
+    ensures { result ≡ slice_cmp nat_cmp (front_of scope.now operation.now) (front kind scope.now) }
+{
+    match (operation, kind) {
+        (Operation::Retire(key, _), Kind::Retirement) => compare_key(key, scope),
+        (Operation::Retire(_, _), Kind::Admission) => Ordering::Less,
+        (Operation::Admit(_), Kind::Retirement) => Ordering::Greater,
+        (Operation::Admit(slice), Kind::Admission) => compare_key(&slice.key(), scope),
+    }
+}
+
+// Compares a key, or its UUID alone, with a scope.
+fn compare_key(key: &SliceKey, scope: &Scope) -> Ordering
+    ensures { result ≡ slice_cmp nat_cmp (bytes_within scope.now key.now) (scope_bytes scope.now) }
+{
+    match scope {
+        Scope::OfKey(that) => compare_keys(key, that),
+        Scope::OfUuid(uuid) => key.uuid.as_bytes().cmp(uuid.as_bytes()),
+    }
+}

@@ -1,8 +1,0 @@
-use Rattle.std.proofs.Common.{take, ap, ◌∙◌}
-use Rattle.archive_index.proofs.range.under.Goals as goal
-
-pub returns-clause-range : goal.returns-clause-range
-returns-clause-range c =
-    c.split_at-2.ensures.front
-    ∙ ap (take c.place_of-start.result.1) c.split_at.ensures.back
-    ∙ c.place_of-start.ensures.range

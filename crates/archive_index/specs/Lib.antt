@@ -1,3 +1,0 @@
-pub mod Tabled
-pub mod Range
-pub mod Tally

@@ -1,0 +1,73 @@
+-- An archive of which a part is kept.
+use Rattle.std.proofs.Common.{◌≡◌, ℕ, Bool, true, false, ◌&&◌, ◌||◌, List, [], ◌∷◌, ◌++◌, Option, Result, Ok, Err, refl, sym, ap, ◌∙◌}
+use Rattle.std.specs.Prelude.{IfOk, IfErr, OnOk}
+use Rattle.std.specs.Io.KnownBytes.{IsAtEnd}
+use Rattle.std.specs.Ordering.{nat_cmp, eq_by_cmp}
+use Rattle.std.specs.Cmp.{Equal-is}
+use Rattle.std.specs.Cmp.Lexicographic.{slice_cmp, nat_list_cmp_total}
+use Rattle.std.specs.FinSet as set
+use Rattle.std.specs.FinSet.{same_set, contains-insert, contains-empty}
+use Rattle.archive_core.specs.Content.{Operations, with_record}
+use Rattle.archive_core.specs.Part.{part}
+use Rattle.archive_core.proofs.Picked.{contains_part}
+use Rattle.archive_records.specs.declared.fault.RecordFault.{RecordFault}
+use Rattle.archive_records.specs.declared.kind.TextKind.TheVariants.{Archive}
+use Rattle.archive_records.specs.Reading.{ReadsInPart}
+use Rattle.archive_records.specs.Reader.{FaultBlamesReader, HasStopped, IsPartReadTo}
+use Rattle.archive_records.proofs.Puts.{bytes_same}
+use Rattle.archive_records.proofs.Steps.{from_list-push}
+use Rattle.archive_records.proofs.Inputs.{archive_whole}
+
+-- ---- one record more
+
+tied : (q x : List ℕ) → eq_by_cmp (slice_cmp nat_cmp) q x ≡ true → q ≡ x
+tied q x h = bytes_same q x ((Equal-is (slice_cmp nat_cmp q x)).0 h)
+
+with_one : (records : List (List ℕ)) (x q : List ℕ) → set.contains (set.from_list {R = slice_cmp nat_cmp} (records ++ x ∷ [])) q ≡ (eq_by_cmp (slice_cmp nat_cmp) q x || set.contains (set.from_list {R = slice_cmp nat_cmp} records) q)
+with_one records x q = ap (λ (s : Operations). set.contains s q) (sym (from_list-push records x (set.from_list records) refl)) ∙ contains-insert nat_list_cmp_total (set.from_list records) x q
+
+taken_in : (a b c : Bool) → (a ≡ true → c ≡ true) → (a || (b && c)) ≡ ((a || b) && c)
+taken_in true b c h = sym (h refl)
+taken_in false b c h = refl
+
+left_out : (a b c : Bool) → (a ≡ true → c ≡ false) → (b && c) ≡ ((a || b) && c)
+left_out true true c h = refl
+left_out true false c h = sym (h refl)
+left_out false b c h = refl
+
+module _ (picks : List ℕ → Bool) (records : List (List ℕ)) (x : List ℕ) (o : Operations) (is : o ≡ part (set.from_list records) picks) where
+  old : (q : List ℕ) → set.contains o q ≡ (set.contains (set.from_list {R = slice_cmp nat_cmp} records) q && picks q)
+  old q = ap (λ (s : Operations). set.contains s q) is ∙ contains_part (set.from_list records) picks q
+
+  new : (q : List ℕ) → set.contains (part (set.from_list (records ++ x ∷ [])) picks) q ≡ ((eq_by_cmp (slice_cmp nat_cmp) q x || set.contains (set.from_list {R = slice_cmp nat_cmp} records) q) && picks q)
+  new q = contains_part (set.from_list (records ++ x ∷ [])) picks q ∙ ap (λ b. b && picks q) (with_one records x q)
+
+  pub picked_more : picks x ≡ true → (p : Operations) → p ≡ with_record o x → p ≡ part (set.from_list (records ++ x ∷ [])) picks
+  picked_more passes p e = e ∙ same_set nat_list_cmp_total bytes_same (set.insert o x) (part (set.from_list (records ++ x ∷ [])) picks) (λ q.
+      contains-insert nat_list_cmp_total o x q
+      ∙ ap (λ b. eq_by_cmp (slice_cmp nat_cmp) q x || b) (old q)
+      ∙ taken_in (eq_by_cmp (slice_cmp nat_cmp) q x) (set.contains (set.from_list {R = slice_cmp nat_cmp} records) q) (picks q) (λ h. ap picks (tied q x h) ∙ passes)
+      ∙ sym (new q))
+
+  pub unpicked_more : picks x ≡ false → o ≡ part (set.from_list (records ++ x ∷ [])) picks
+  unpicked_more fails = same_set nat_list_cmp_total bytes_same o (part (set.from_list (records ++ x ∷ [])) picks) (λ q.
+      old q
+      ∙ left_out (eq_by_cmp (slice_cmp nat_cmp) q x) (set.contains (set.from_list {R = slice_cmp nat_cmp} records) q) (picks q) (λ h. ap picks (tied q x h) ∙ fails)
+      ∙ sym (new q))
+
+-- the part of no record
+pub part_start : (picks : List ℕ → Bool) (o : Operations) → o ≡ set.empty → o ≡ part (set.from_list []) picks
+part_start picks o e = e ∙ same_set nat_list_cmp_total bytes_same set.empty (part (set.from_list []) picks) (λ q.
+    contains-empty (slice_cmp nat_cmp) q ∙ sym (contains_part set.empty picks q ∙ ap (λ b. b && picks q) (contains-empty (slice_cmp nat_cmp) q)))
+
+-- ---- the whole input
+
+pub part_whole : {R X : Type 0} (content : X → Operations) (picks : List ℕ → Bool) (left : R → Option (List ℕ)) (failures : R → ℕ) (old new : R) (r : Result X RecordFault)
+    → IfOk r (λ x. IsPartReadTo (left old) (left new) picks (content x)) → OnOk r (IsAtEnd (left new)) → IfErr r (λ fault. HasStopped Archive (left old) (left new) fault) → FaultBlamesReader left failures old new r
+    → ReadsInPart Archive (λ x o. content x ≡ part o picks) left failures old new r
+part_whole content picks left failures old new (Ok x) h end stopped blames = record {
+  meaning = h.whole;
+  whole = archive_whole {X = Operations} (λ o. o) left failures old new (Ok h.whole) h.read end tt blames;
+  kept = h.kept;
+}
+part_whole content picks left failures old new (Err fault) h end stopped blames = archive_whole {X = Operations} (λ o. o) left failures old new (Err fault) tt tt stopped blames

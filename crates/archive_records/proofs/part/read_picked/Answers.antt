@@ -1,0 +1,16 @@
+use Rattle.std.proofs.Common.{refl}
+use Rattle.std.specs.FinSet as set
+use Rattle.archive_records.proofs.Kept.{part_start}
+use Rattle.archive_records.proofs.part.read_picked.Goals as goal
+
+pub read_records-requires : goal.read_records-requires
+read_records-requires g c = (refl, part_start (g.S.Selects.picked c.args.select.now) (g.A.Join.content c.empty-archive.result) c.empty-archive.ensures)
+
+pub returns-clause-read : goal.returns-clause-read
+returns-clause-read g c =
+    let m = c.in_ok-part.ensures.read in
+    record {
+      whole = set.from_list m.records;
+      read = record { records = m.records; few = m.few; taken = m.taken; ordered = m.ordered; content = refl };
+      kept = m.makes.1;
+    }
