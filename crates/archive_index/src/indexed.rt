@@ -10,8 +10,8 @@ use uuid::Uuid;
 /// An archive as a sorted list of operations, in which each slice has its table of addresses beside it, and its digest
 /// where a lookup of its key asks for it.
 ///
-/// A table is built before its slice is taken, and moves with it; a copy that a join takes in gets its own. So a lookup
-/// scans no symbols.
+/// A table is built before its slice is taken, unless that is there, and moves with it; a copy that a join takes in gets
+/// its own. So a lookup scans no symbols.
 #[derive(Drop)]
 pub struct IndexedArchive {
     held: PlainArchive,
@@ -87,6 +87,9 @@ impl Archive for IndexedArchive {
     }
 
     fn take(&mut self, mut operation: Operation) -> Result<bool, NoMemory> {
+        if self.held.holds(&operation) {
+            return self.held.take(operation);
+        }
         let key = operation.key();
         let told = self.held.tells_digests(&key);
         operation.keep_table(self.held.heap())?;
