@@ -229,3 +229,16 @@ help_asked = refl
 command_help_asked : error_kinds (symarch (codes "admit" ∷ codes "--help" ∷ [])) ≡ kind.DisplayHelp ∷ []
 unfolding error_kinds symarch_command clap_on_literals
 command_help_asked = refl
+
+-- the version, of the program alone
+version_asked : error_kinds (symarch (codes "--version" ∷ [])) ≡ kind.DisplayVersion ∷ []
+unfolding error_kinds symarch_command clap_on_literals
+version_asked = refl
+
+short_version_asked : error_kinds (symarch (codes "-V" ∷ [])) ≡ kind.DisplayVersion ∷ []
+unfolding error_kinds symarch_command clap_on_literals
+short_version_asked = refl
+
+command_version_unknown : error_kinds (symarch (codes "new" ∷ codes "--version" ∷ [])) ≡ kind.UnknownArgument ∷ []
+unfolding error_kinds symarch_command clap_on_literals
+command_version_unknown = refl

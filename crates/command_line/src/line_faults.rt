@@ -16,7 +16,7 @@ pub enum LineFault {
     Refused(String),
     /// Memory was wanting: status 4.
     OutOfMemory,
-    /// The line asks for help, with its text: status 0.
+    /// The line asks for help or for the version, with its text: status 0.
     Help(String),
 }
 
@@ -43,9 +43,11 @@ impl<T: Drop> From<AllocFailed<T>> for LineFault {
 /// What an error of `clap` tells by its kind, which is no want of memory, and its text.
 fn told(kind: ErrorKind, text: String) -> LineFault
     ensures help { kind ≡ ErrorKind.DisplayHelp → result ≡ LineFault.Help text }
-    ensures refusal { kind ≢ ErrorKind.DisplayHelp → result ≡ LineFault.Refused text }
+    ensures version { kind ≡ ErrorKind.DisplayVersion → result ≡ LineFault.Help text }
+    ensures refusal { kind ≢ ErrorKind.DisplayHelp → kind ≢ ErrorKind.DisplayVersion
+        → result ≡ LineFault.Refused text }
 {
-    if kind == ErrorKind::DisplayHelp {
+    if kind == ErrorKind::DisplayHelp || kind == ErrorKind::DisplayVersion {
         LineFault::Help(text)
     } else {
         LineFault::Refused(text)
@@ -56,7 +58,9 @@ fn told(kind: ErrorKind, text: String) -> LineFault
 pub fn parse_fault(alloc: Global, error: &Error) -> LineFault
     ensures memory { kind_of error.now ≡ ErrorKind.OutOfMemory → result ≡ LineFault.OutOfMemory }
     ensures help { kind_of error.now ≡ ErrorKind.DisplayHelp → IsHelpUnlessMemory result }
-    ensures refusal { kind_of error.now ≢ ErrorKind.DisplayHelp → IsRefusalUnlessMemory result }
+    ensures version { kind_of error.now ≡ ErrorKind.DisplayVersion → IsHelpUnlessMemory result }
+    ensures refusal { kind_of error.now ≢ ErrorKind.DisplayHelp
+        → kind_of error.now ≢ ErrorKind.DisplayVersion → IsRefusalUnlessMemory result }
 {
     let kind = error.kind();
     if kind == ErrorKind::OutOfMemory {

@@ -34,7 +34,7 @@ fn plan_exchange_in(alloc: Global, name: &str, matches: &ArgMatches) -> Result<P
     } else if name == "rehearse" {
         plan_rehearse(alloc, matches)
     } else {
-        Err(refused(format!(in alloc; "error: no such command: {name}\n")))
+        Err(refused(format!(in alloc; "error: invalid command '{name}'\n")))
     }
 }
 
@@ -91,7 +91,10 @@ fn matched<'a, S: AsStr>(alloc: Global, words: &'a [S]) -> Result<ArgMatches<'a>
         → IfErr result (λ e. e ≡ LineFault.OutOfMemory) }
     ensures help { error_kinds (map S.text words.now) ≡ ErrorKind.DisplayHelp ∷ []
         → IsErrAnd result IsHelpUnlessMemory }
+    ensures version { error_kinds (map S.text words.now) ≡ ErrorKind.DisplayVersion ∷ []
+        → IsErrAnd result IsHelpUnlessMemory }
     ensures refusal { ¬ IsAmong ErrorKind.DisplayHelp (error_kinds (map S.text words.now))
+        → ¬ IsAmong ErrorKind.DisplayVersion (error_kinds (map S.text words.now))
         → IfErr result IsRefusalUnlessMemory }
 {
     let command = symarch_command(alloc)?;
@@ -111,7 +114,7 @@ fn named_command<'m, 'a>(matches: &'m ArgMatches<'a>) -> Option<(&'a str, &'m Ar
 
 /// Reads a command line, of which the first word is the program's name. A line that `clap` refuses
 /// has `clap`'s own text. One in which a word has another form than its name asks for has a text with
-/// the name and the word, and one in which OUT is an input a text with its path.
+/// the name, the word and the form, and one in which OUT is an input a text with its path.
 pub fn plan<S: AsStr>(alloc: Global, words: &[S]) -> Result<Plan, LineFault>
     // A plan asks for what the words ask for, by `clap`'s own definition of a command's matches.
     ensures ok { IfOk result (λ p. Some (plan_view p) ≡ line_of (map S.text words.now)) }
@@ -125,12 +128,15 @@ pub fn plan<S: AsStr>(alloc: Global, words: &[S]) -> Result<Plan, LineFault>
         → IfErr result (λ e. e ≡ LineFault.OutOfMemory) }
     ensures help { error_kinds (map S.text words.now) ≡ ErrorKind.DisplayHelp ∷ []
         → IsErrAnd result IsHelpUnlessMemory }
+    ensures version { error_kinds (map S.text words.now) ≡ ErrorKind.DisplayVersion ∷ []
+        → IsErrAnd result IsHelpUnlessMemory }
     ensures refusal { ¬ IsAmong ErrorKind.DisplayHelp (error_kinds (map S.text words.now))
+        → ¬ IsAmong ErrorKind.DisplayVersion (error_kinds (map S.text words.now))
         → IfErr result IsRefusalUnlessMemory }
 {
     let matches = matched(alloc, words)?;
     let Some((name, inner)) = named_command(&matches) else {
-        return Err(refused(String::from_str(alloc, "error: no command is named\n")));
+        return Err(refused(String::from_str(alloc, "error: missing command\n")));
     };
     plan_in(alloc, name, inner)
 }

@@ -30,7 +30,7 @@ fn check_out(alloc: Global, out: &str, input: &str, others: &[&str]) -> Result<(
 fn out_is_input(alloc: Global, path: &str) -> LineFault
     ensures { IsRefusalUnlessMemory result }
 {
-    refused(format!(in alloc; "error: OUT is an input: {path}\n"))
+    refused(format!(in alloc; "error: invalid OUT '{path}': expected a path that is no input\n"))
 }
 
 /// `new OUT`

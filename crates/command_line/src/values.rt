@@ -143,7 +143,7 @@ fn other_form(alloc: Global, id: &str, word: &str) -> LineFault
     ensures { IsRefusalUnlessMemory result }
 {
     let form = form_of(id);
-    refused(format!(in alloc; "error: {id} has another form than {form}: {word}\n"))
+    refused(format!(in alloc; "error: invalid {id} '{word}': expected {form}\n"))
 }
 
 /// The form that a name asks for, in words.
@@ -160,7 +160,7 @@ fn form_of(id: &str) -> &'static str {
 fn missing(alloc: Global, id: &str) -> LineFault
     ensures { IsRefusalUnlessMemory result }
 {
-    refused(format!(in alloc; "error: {id} is missing\n"))
+    refused(format!(in alloc; "error: missing {id}\n"))
 }
 
 /// Whether a path is one of these, as text.

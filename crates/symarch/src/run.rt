@@ -44,7 +44,7 @@ fn refuse_words<R: Eprint>(rt: &R, error: &io::Error) -> ExitCode
     if error.kind() == ErrorKind::OutOfMemory {
         fail(rt, Failure::Command(CommandFault::OutOfMemory))
     } else {
-        refuse_line(rt, "error: a word is no UTF-8 text\n")
+        refuse_line(rt, "error: invalid word: expected UTF-8 text\n")
     }
 }
 

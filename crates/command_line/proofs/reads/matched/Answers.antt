@@ -2,7 +2,7 @@ use Rattle.std.proofs.Common.{◌∙◌, ap, map, sym}
 use Rattle.clap.specs.Words.{fault_of, is_simple, is_simple_and_free, subcommand_of, takes}
 use Rattle.command_line.specs.Lines.{are_taken, error_kinds, named_command}
 use Rattle.command_line.proofs.Simple.{symarch_free, symarch_simple}
-use Rattle.command_line.proofs.ToldLemmas.{help_told, never_help, refusal_told}
+use Rattle.command_line.proofs.ToldLemmas.{help_told, never_asked, refusal_told}
 use Rattle.command_line.proofs.reads.matched.Goals as goal
 
 pub returns-in-Ok-clause-ok : goal.returns-in-Ok-clause-ok
@@ -20,7 +20,10 @@ returns-in-Ok-clause-taken g c =
     ∙ c.in-Ok.ensures.kinds (ap is_simple_and_free is ∙ symarch_free)
 
 pub returns-in-Ok-clause-help : goal.returns-in-Ok-clause-help
-returns-in-Ok-clause-help g c = λ alone. never_help _ (returns-in-Ok-clause-taken g c) alone
+returns-in-Ok-clause-help g c = λ alone. never_asked _ _ (returns-in-Ok-clause-taken g c) alone
+
+pub returns-in-Ok-clause-version : goal.returns-in-Ok-clause-version
+returns-in-Ok-clause-version g c = λ alone. never_asked _ _ (returns-in-Ok-clause-taken g c) alone
 
 pub returns-in-Err-clause-err : goal.returns-in-Err-clause-err
 unfolding are_taken
@@ -33,16 +36,25 @@ pub returns-in-Err-clause-help : goal.returns-in-Err-clause-help
 unfolding error_kinds
 returns-in-Err-clause-help g c = λ alone.
     let is = c.in_ok-command.ensures.app in
-    help_told c.in-Err.error c.parse_fault.result _
+    help_told c.in-Err.error c.parse_fault.result _ _
     (c.in-Err.ensures.kinds (ap is_simple_and_free is ∙ symarch_free))
     (ap (λ a. fault_of a (map g.S.AsStr.text c.args.words.now)) is ∙ alone)
     c.parse_fault.ensures.memory c.parse_fault.ensures.help
 
+pub returns-in-Err-clause-version : goal.returns-in-Err-clause-version
+unfolding error_kinds
+returns-in-Err-clause-version g c = λ alone.
+    let is = c.in_ok-command.ensures.app in
+    help_told c.in-Err.error c.parse_fault.result _ _
+    (c.in-Err.ensures.kinds (ap is_simple_and_free is ∙ symarch_free))
+    (ap (λ a. fault_of a (map g.S.AsStr.text c.args.words.now)) is ∙ alone)
+    c.parse_fault.ensures.memory c.parse_fault.ensures.version
+
 pub returns-in-Err-clause-refusal : goal.returns-in-Err-clause-refusal
 unfolding error_kinds
-returns-in-Err-clause-refusal g c = λ no_help.
+returns-in-Err-clause-refusal g c = λ no_help no_version.
     let is = c.in_ok-command.ensures.app in
     refusal_told c.in-Err.error c.parse_fault.result _ _
     (c.in-Err.ensures.kinds (ap is_simple_and_free is ∙ symarch_free))
-    (ap (λ a. fault_of a (map g.S.AsStr.text c.args.words.now)) is) no_help
+    (ap (λ a. fault_of a (map g.S.AsStr.text c.args.words.now)) is) no_help no_version
     c.parse_fault.ensures.memory c.parse_fault.ensures.refusal
