@@ -33,5 +33,5 @@ refusal_told e fault kinds same has is no_help no_version memory refusal =
     elim (subst (λ ks. HasKind ks e) is has) [
       | inl wants ↦ subst IsRefusalUnlessMemory (sym (memory wants)) tt
       | inr among ↦ refusal (λ is_help. no_help (subst (λ k. IsAmong k same) is_help among))
-      (λ is_version. no_version (subst (λ k. IsAmong k same) is_version among))
+          (λ is_version. no_version (subst (λ k. IsAmong k same) is_version among))
     ]
