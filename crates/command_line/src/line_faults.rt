@@ -2,7 +2,7 @@
 
 ghost use Rattle.std.specs.Prelude.{◌≡◌, ◌≢◌, MatchResult};
 ghost use Rattle.clap.specs.Words.{kind_of};
-ghost use Rattle.command_line.specs.Told.{IsHelpUnlessMemory, IsRefusalUnlessMemory};
+ghost use Rattle.command_line.specs.LineFaults.{IsHelpUnlessMemory, IsRefusalUnlessMemory};
 
 use clap::Error;
 use clap::error::ErrorKind;
@@ -40,8 +40,8 @@ impl<T: Drop> From<AllocFailed<T>> for LineFault {
     }
 }
 
-/// What an error of `clap` tells by its kind, which is no want of memory, and its text.
-fn told(kind: ErrorKind, text: String) -> LineFault
+/// The fault of a line by the kind of an error of `clap`, which is no want of memory, and by its text.
+fn asked_or_refused(kind: ErrorKind, text: String) -> LineFault
     ensures help { kind ≡ ErrorKind.DisplayHelp → result ≡ LineFault.Help text }
     ensures version { kind ≡ ErrorKind.DisplayVersion → result ≡ LineFault.Help text }
     ensures refusal { kind ≢ ErrorKind.DisplayHelp → kind ≢ ErrorKind.DisplayVersion
@@ -67,14 +67,14 @@ pub fn parse_fault(alloc: Global, error: &Error) -> LineFault
         return LineFault::OutOfMemory;
     }
     match error.to_string(alloc) {
-        Ok(text) => told(kind, text),
+        Ok(text) => asked_or_refused(kind, text),
         Err(_) => LineFault::OutOfMemory,
     }
 }
 
 /// A refusal with a text of the program's own, if there was memory for it.
 pub fn refused(text: Result<String, AllocError>) -> LineFault
-    ensures told { MatchResult text (λ t. result ≡ LineFault.Refused t)
+    ensures text { MatchResult text (λ t. result ≡ LineFault.Refused t)
         (λ _. result ≡ LineFault.OutOfMemory) }
     ensures refusal { IsRefusalUnlessMemory result }
 {

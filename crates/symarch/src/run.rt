@@ -85,12 +85,12 @@ fn refuse<R: Print + Eprint>(rt: &R, fault: LineFault) -> ExitCode
     }
 }
 
-/// Tells the text of a refused line, which begins with `error: `, with the prefix of every other fault.
+/// Prints the text of a refused line, which begins with `error: `, with the prefix of every other fault.
 fn refuse_line<R: Eprint>(rt: &R, text: &str) -> ExitCode
     ensures { exit_status result ≡ 3 }
 {
-    let told = text.strip_prefix("error: ").unwrap_or(text);
-    let _ = eprint!(rt; "symarch: {told}");
+    let fault = text.strip_prefix("error: ").unwrap_or(text);
+    let _ = eprint!(rt; "symarch: {fault}");
     ExitCode::from(BAD_LINE)
 }
 

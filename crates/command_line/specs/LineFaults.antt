@@ -1,4 +1,4 @@
--- What a line that gives no plan is told.
+-- The fault of a line that gives no plan.
 use Rattle.std.specs.Prelude.{⊤}
 use Rattle.command_line.specs.declared.line_faults.LineFault.{LineFault}
 use Rattle.command_line.specs.declared.line_faults.LineFault.TheVariants.{Refused, OutOfMemory, Help}
