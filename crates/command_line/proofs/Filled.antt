@@ -1,4 +1,4 @@
--- A walk over words that `clap` takes leaves no row without a value, where no argument may be used without one.
+-- A walk over words that `clap` accepts leaves no row without a value, where no argument may be used without one.
 use Rattle.std.proofs.Common.{◌≡◌, ◌∙◌, ◌≤◌, ◌&&◌, ◌||◌, ◌++◌, ℕ, zero, suc, Bool, true, false, not, cond, refl, sym}
 use Rattle.std.proofs.Common.{ap, ap₂, arith}
 use Rattle.std.proofs.Common.{List, [], ◌∷◌, Option, Some, None, is_some, nat_le, true≢false, drop, length, codes}

@@ -3,5 +3,5 @@ pub mod Filled
 pub mod KeptInputs
 pub mod OnWords
 pub mod Simple
-pub mod Taken
-pub mod ToldLemmas
+pub mod Accepted
+pub mod LineFaultLemmas

@@ -6,7 +6,7 @@ use Rattle.uuid.proofs.OnLiterals.{uuid_on_literals}
 use Rattle.clap.specs.declared.error.kind.ErrorKind.TheVariants as kind
 use Rattle.clap.proofs.OnLiterals.{clap_on_literals}
 use Rattle.command_line.specs.Commands.{symarch_command}
-use Rattle.command_line.specs.Lines.{admit, are_taken, error_kinds, find, is_in_order, line_of, merge, new}
+use Rattle.command_line.specs.Lines.{admit, are_accepted, error_kinds, find, is_in_order, line_of, merge, new}
 use Rattle.command_line.specs.Lines.{named_command, retire, symbolicate}
 use Rattle.archive_words.specs.Words.{address_of, arch_key, arch_of, digest_of}
 
@@ -14,17 +14,17 @@ use Rattle.archive_words.specs.Words.{address_of, arch_key, arch_of, digest_of}
 abbrev symarch : List Text → List Text
 symarch words = codes "symarch" ∷ words
 
-new_taken : are_taken (symarch (codes "new" ∷ codes "o" ∷ [])) ≡ true
-unfolding are_taken symarch_command clap_on_literals
-new_taken = refl
+new_accepted : are_accepted (symarch (codes "new" ∷ codes "o" ∷ [])) ≡ true
+unfolding are_accepted symarch_command clap_on_literals
+new_accepted = refl
 
 new_read : line_of (symarch (codes "new" ∷ codes "o" ∷ [])) ≡ Some (new (codes "o"))
 unfolding named_command symarch_command clap_on_literals
 new_read = refl
 
-admit_taken : are_taken (symarch (codes "admit" ∷ codes "i" ∷ codes "o" ∷ codes "f" ∷ [])) ≡ true
-unfolding are_taken symarch_command clap_on_literals
-admit_taken = refl
+admit_accepted : are_accepted (symarch (codes "admit" ∷ codes "i" ∷ codes "o" ∷ codes "f" ∷ [])) ≡ true
+unfolding are_accepted symarch_command clap_on_literals
+admit_accepted = refl
 
 admit_faultless : error_kinds (symarch (codes "admit" ∷ codes "i" ∷ codes "o" ∷ codes "f" ∷ [])) ≡ []
 unfolding error_kinds symarch_command clap_on_literals
@@ -36,9 +36,9 @@ unfolding named_command symarch_command clap_on_literals
 admit_read = refl
 
 -- a FILE that stands there twice stays
-repeated_taken : are_taken (symarch (codes "admit" ∷ codes "i" ∷ codes "o" ∷ codes "f" ∷ codes "f" ∷ [])) ≡ true
-unfolding are_taken symarch_command clap_on_literals
-repeated_taken = refl
+repeated_accepted : are_accepted (symarch (codes "admit" ∷ codes "i" ∷ codes "o" ∷ codes "f" ∷ codes "f" ∷ [])) ≡ true
+unfolding are_accepted symarch_command clap_on_literals
+repeated_accepted = refl
 
 repeated_read : line_of (symarch (codes "admit" ∷ codes "i" ∷ codes "o" ∷ codes "f" ∷ codes "f" ∷ []))
     ≡ Some (admit (codes "i") (codes "o") (codes "f" ∷ codes "f" ∷ []))
@@ -151,9 +151,9 @@ no_load : line_of (symarch (codes "symbolicate" ∷ codes "a" ∷ uuid_text ∷ 
 unfolding named_command symarch_command clap_on_literals uuid_on_literals
 no_load = refl
 
-load_twice : are_taken (symarch (codes "symbolicate" ∷ codes "--load" ∷ codes "1" ∷ codes "--load" ∷ codes "2"
+load_twice : are_accepted (symarch (codes "symbolicate" ∷ codes "--load" ∷ codes "1" ∷ codes "--load" ∷ codes "2"
     ∷ codes "a" ∷ uuid_text ∷ codes "arm64" ∷ codes "10" ∷ [])) ≡ false
-unfolding are_taken symarch_command clap_on_literals
+unfolding are_accepted symarch_command clap_on_literals
 load_twice = refl
 
 -- ---- forms of words
@@ -191,8 +191,8 @@ address_sign = refl
 -- ---- lines that are refused
 
 -- FILE is missing
-file_missing : are_taken (symarch (codes "admit" ∷ codes "i" ∷ codes "o" ∷ [])) ≡ false
-unfolding are_taken symarch_command clap_on_literals
+file_missing : are_accepted (symarch (codes "admit" ∷ codes "i" ∷ codes "o" ∷ [])) ≡ false
+unfolding are_accepted symarch_command clap_on_literals
 file_missing = refl
 
 file_missing_fault : error_kinds (symarch (codes "admit" ∷ codes "i" ∷ codes "o" ∷ [])) ≡ kind.MissingRequiredArgument ∷ []
@@ -200,25 +200,25 @@ unfolding error_kinds symarch_command clap_on_literals
 file_missing_fault = refl
 
 -- OUT is missing, or one word too many stands there
-out_missing : are_taken (symarch (codes "new" ∷ [])) ≡ false
-unfolding are_taken symarch_command clap_on_literals
+out_missing : are_accepted (symarch (codes "new" ∷ [])) ≡ false
+unfolding are_accepted symarch_command clap_on_literals
 out_missing = refl
 
-word_too_many : are_taken (symarch (codes "new" ∷ codes "o" ∷ codes "p" ∷ [])) ≡ false
-unfolding are_taken symarch_command clap_on_literals
+word_too_many : are_accepted (symarch (codes "new" ∷ codes "o" ∷ codes "p" ∷ [])) ≡ false
+unfolding are_accepted symarch_command clap_on_literals
 word_too_many = refl
 
 -- no command, or none of the program's, is named
-command_missing : are_taken (symarch []) ≡ false
-unfolding are_taken symarch_command clap_on_literals
+command_missing : are_accepted (symarch []) ≡ false
+unfolding are_accepted symarch_command clap_on_literals
 command_missing = refl
 
 command_missing_fault : error_kinds (symarch []) ≡ kind.MissingSubcommand ∷ []
 unfolding error_kinds symarch_command clap_on_literals
 command_missing_fault = refl
 
-command_unknown : are_taken (symarch (codes "erase" ∷ codes "o" ∷ [])) ≡ false
-unfolding are_taken symarch_command clap_on_literals
+command_unknown : are_accepted (symarch (codes "erase" ∷ codes "o" ∷ [])) ≡ false
+unfolding are_accepted symarch_command clap_on_literals
 command_unknown = refl
 
 -- help, of the program and of a command
@@ -229,3 +229,16 @@ help_asked = refl
 command_help_asked : error_kinds (symarch (codes "admit" ∷ codes "--help" ∷ [])) ≡ kind.DisplayHelp ∷ []
 unfolding error_kinds symarch_command clap_on_literals
 command_help_asked = refl
+
+-- the version, of the program alone
+version_asked : error_kinds (symarch (codes "--version" ∷ [])) ≡ kind.DisplayVersion ∷ []
+unfolding error_kinds symarch_command clap_on_literals
+version_asked = refl
+
+short_version_asked : error_kinds (symarch (codes "-V" ∷ [])) ≡ kind.DisplayVersion ∷ []
+unfolding error_kinds symarch_command clap_on_literals
+short_version_asked = refl
+
+command_version_unknown : error_kinds (symarch (codes "new" ∷ codes "--version" ∷ [])) ≡ kind.UnknownArgument ∷ []
+unfolding error_kinds symarch_command clap_on_literals
+command_version_unknown = refl

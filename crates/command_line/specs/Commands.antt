@@ -29,6 +29,10 @@ with_commands a (c ∷ cs) = with_commands (with_subcommand a c.top) cs
 abbrev pub needing_command : App → App
 needing_command a = record a { top = record a.top { subcommand_required = true } }
 
+-- it tells its version
+abbrev pub with_version : App → App
+with_version a = record a { top = record a.top { has_version = true } }
+
 -- `new OUT`
 abbrev pub new_command : App
 new_command = with_rules (new_app (codes "new")) (one_value (codes "OUT") ∷ [])
@@ -90,7 +94,7 @@ rehearse_command = with_rules (new_app (codes "rehearse")) (one_value (codes "SC
 
 -- the program's own
 unfoldable pub symarch_command : App
-symarch_command = needing_command
+symarch_command = needing_command (with_version
     (with_commands (new_app (codes "symarch")) (new_command ∷ admit_command ∷ retire_command
     ∷ merge_command ∷ apply_command ∷ find_command ∷ list_command ∷ name_command
-    ∷ symbolicate_command ∷ summary_command ∷ delta_command ∷ rehearse_command ∷ []))
+    ∷ symbolicate_command ∷ summary_command ∷ delta_command ∷ rehearse_command ∷ [])))

@@ -30,9 +30,9 @@ pub data Line : Type 0 where
 
 -- ---- the words, by `clap`'s own definitions
 
--- the program's command takes them
-unfoldable pub are_taken : List Text → Bool
-are_taken words = takes symarch_command words
+-- the program's command accepts them
+unfoldable pub are_accepted : List Text → Bool
+are_accepted words = takes symarch_command words
 
 -- the kinds of error that it gives at them
 unfoldable pub error_kinds : List Text → Kinds

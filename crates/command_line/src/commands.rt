@@ -12,6 +12,9 @@ ghost use Rattle.command_line.specs.Commands.{with_commands, with_rules};
 use clap::{Arg, ArgAction, Command};
 use std::alloc::{AllocError, Global};
 
+/// The number of the program, of which the first part is the version of the archives that it writes.
+const VERSION: &str = "1.0.0";
+
 const ARCHIVE_IN: &str = "The archive to read";
 
 const ARCHIVE_OUT: &str = "The archive to write, which is replaced if it is there";
@@ -116,7 +119,7 @@ fn new_command<'a>(alloc: Global) -> Result<Command<'a>, AllocError>
     ensures app { IfOk result (λ c. app_of c ≡ new_command) }
     ensures local { IfOk result (λ c. (out-Command c).has_globals ≡ false) }
 {
-    let command = bare_command(alloc, "new", "Writes the empty archive");
+    let command = bare_command(alloc, "new", "Write the empty archive");
     with_one_value(alloc, command, "OUT", ARCHIVE_OUT)
 }
 
@@ -125,7 +128,7 @@ fn admit_command<'a>(alloc: Global) -> Result<Command<'a>, AllocError>
     ensures app { IfOk result (λ c. app_of c ≡ admit_command) }
     ensures local { IfOk result (λ c. (out-Command c).has_globals ≡ false) }
 {
-    let command = bare_command(alloc, "admit", "Takes Mach-O images into an archive");
+    let command = bare_command(alloc, "admit", "Take Mach-O images into an archive");
     let command = with_values(alloc, command, &[("IN", ARCHIVE_IN), ("OUT", ARCHIVE_OUT)])?;
     with_several_values(alloc, command, "FILE", IMAGES)
 }
@@ -135,7 +138,7 @@ fn retire_command<'a>(alloc: Global) -> Result<Command<'a>, AllocError>
     ensures app { IfOk result (λ c. app_of c ≡ retire_command) }
     ensures local { IfOk result (λ c. (out-Command c).has_globals ≡ false) }
 {
-    let command = bare_command(alloc, "retire", "Covers a slice for good, on every site");
+    let command = bare_command(alloc, "retire", "Withdraw a slice for good, on every site");
     let values = [
         ("IN", ARCHIVE_IN),
         ("OUT", ARCHIVE_OUT),
@@ -151,7 +154,7 @@ fn merge_command<'a>(alloc: Global) -> Result<Command<'a>, AllocError>
     ensures app { IfOk result (λ c. app_of c ≡ merge_command) }
     ensures local { IfOk result (λ c. (out-Command c).has_globals ≡ false) }
 {
-    let command = bare_command(alloc, "merge", "Joins archives");
+    let command = bare_command(alloc, "merge", "Join archives");
     let command = with_values(alloc, command, &[("IN", ARCHIVE_IN), ("OUT", ARCHIVE_OUT)])?;
     with_several_values(alloc, command, "FILE", "The archives to join to it")
 }
@@ -161,7 +164,7 @@ fn apply_command<'a>(alloc: Global) -> Result<Command<'a>, AllocError>
     ensures app { IfOk result (λ c. app_of c ≡ apply_command) }
     ensures local { IfOk result (λ c. (out-Command c).has_globals ≡ false) }
 {
-    let command = bare_command(alloc, "apply", "Takes the records of an operations file");
+    let command = bare_command(alloc, "apply", "Take the records of an operations file");
     let values = [
         ("IN", ARCHIVE_IN),
         ("OUT", ARCHIVE_OUT),
@@ -175,7 +178,7 @@ fn find_command<'a>(alloc: Global) -> Result<Command<'a>, AllocError>
     ensures app { IfOk result (λ c. app_of c ≡ find_command) }
     ensures local { IfOk result (λ c. (out-Command c).has_globals ≡ false) }
 {
-    let command = bare_command(alloc, "find", "Lists what an archive has of a UUID");
+    let command = bare_command(alloc, "find", "List what an archive has of a UUID");
     let values = [("ARCHIVE", ARCHIVE_IN), ("UUID", "The UUID to look for")];
     with_values(alloc, command, &values)
 }
@@ -185,7 +188,7 @@ fn list_command<'a>(alloc: Global) -> Result<Command<'a>, AllocError>
     ensures app { IfOk result (λ c. app_of c ≡ list_command) }
     ensures local { IfOk result (λ c. (out-Command c).has_globals ≡ false) }
 {
-    let command = bare_command(alloc, "list", "Lists all that an archive has");
+    let command = bare_command(alloc, "list", "List all that an archive has");
     with_one_value(alloc, command, "ARCHIVE", ARCHIVE_IN)
 }
 
@@ -194,7 +197,7 @@ fn name_command<'a>(alloc: Global) -> Result<Command<'a>, AllocError>
     ensures app { IfOk result (λ c. app_of c ≡ name_command) }
     ensures local { IfOk result (λ c. (out-Command c).has_globals ≡ false) }
 {
-    let command = bare_command(alloc, "name", "Lists where symbols of a name stand");
+    let command = bare_command(alloc, "name", "Find a symbol by its exact name");
     with_values(
         alloc,
         command,
@@ -207,7 +210,7 @@ fn symbolicate_command<'a>(alloc: Global) -> Result<Command<'a>, AllocError>
     ensures app { IfOk result (λ c. app_of c ≡ symbolicate_command) }
     ensures local { IfOk result (λ c. (out-Command c).has_globals ≡ false) }
 {
-    let command = bare_command(alloc, "symbolicate", "Names the symbols at addresses");
+    let command = bare_command(alloc, "symbolicate", "Name the symbols at addresses");
     let values = [
         ("ARCHIVE", ARCHIVE_IN),
         ("UUID", "The UUID of the image"),
@@ -226,7 +229,7 @@ fn summary_command<'a>(alloc: Global) -> Result<Command<'a>, AllocError>
     let command = bare_command(
         alloc,
         "summary",
-        "Writes what an archive has, without its slices",
+        "Write what an archive has, without its slices",
     );
     let values = [
         ("ARCHIVE", ARCHIVE_IN),
@@ -243,7 +246,11 @@ fn delta_command<'a>(alloc: Global) -> Result<Command<'a>, AllocError>
     ensures app { IfOk result (λ c. app_of c ≡ delta_command) }
     ensures local { IfOk result (λ c. (out-Command c).has_globals ≡ false) }
 {
-    let command = bare_command(alloc, "delta", "Writes what a summary lacks of an archive");
+    let command = bare_command(
+        alloc,
+        "delta",
+        "Write the records that a summary does not name",
+    );
     let values = [
         ("ARCHIVE", ARCHIVE_IN),
         ("SUMMARY", "The summary to compare with"),
@@ -257,11 +264,7 @@ fn rehearse_command<'a>(alloc: Global) -> Result<Command<'a>, AllocError>
     ensures app { IfOk result (λ c. app_of c ≡ rehearse_command) }
     ensures local { IfOk result (λ c. (out-Command c).has_globals ≡ false) }
 {
-    let command = bare_command(
-        alloc,
-        "rehearse",
-        "Carries out events at sites that exchange",
-    );
+    let command = bare_command(alloc, "rehearse", "Carry out events at sites that exchange");
     with_one_value(alloc, command, "SCRIPT", "The script of the events")
 }
 
@@ -314,15 +317,19 @@ fn with_exchanges<'a>(alloc: Global, command: Command<'a>) -> Result<Command<'a>
     with_command(command, rehearse_command(alloc))
 }
 
-/// The program's command with its subcommands, one of which has to be named.
+/// The program's command with its subcommands, one of which has to be named, and its version.
 #[tactic(auto, unfolding(crate::specs::Commands::symarch_command))]
 pub fn symarch_command<'a>(alloc: Global) -> Result<Command<'a>, AllocError>
     ensures app { IfOk result (λ c. app_of c ≡ symarch_command) }
     ensures local { IfOk result (λ c. (out-Command c).has_globals ≡ false) }
 {
-    let command = bare_command(alloc, "symarch", "Keeps Mach-O images in archives");
+    let command = bare_command(
+        alloc,
+        "symarch",
+        "Keep Mach-O images in archives, and name the addresses of a crash",
+    );
     let command = with_updates(alloc, command)?;
     let command = with_queries(alloc, command)?;
     let command = with_exchanges(alloc, command)?;
-    Ok(command.subcommand_required(true))
+    Ok(command.version(VERSION).subcommand_required(true))
 }

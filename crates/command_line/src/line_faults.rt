@@ -2,7 +2,7 @@
 
 ghost use Rattle.std.specs.Prelude.{◌≡◌, ◌≢◌, MatchResult};
 ghost use Rattle.clap.specs.Words.{kind_of};
-ghost use Rattle.command_line.specs.Told.{IsHelpUnlessMemory, IsRefusalUnlessMemory};
+ghost use Rattle.command_line.specs.LineFaults.{IsHelpUnlessMemory, IsRefusalUnlessMemory};
 
 use clap::Error;
 use clap::error::ErrorKind;
@@ -16,7 +16,7 @@ pub enum LineFault {
     Refused(String),
     /// Memory was wanting: status 4.
     OutOfMemory,
-    /// The line asks for help, with its text: status 0.
+    /// The line asks for help or for the version, with its text: status 0.
     Help(String),
 }
 
@@ -40,12 +40,14 @@ impl<T: Drop> From<AllocFailed<T>> for LineFault {
     }
 }
 
-/// What an error of `clap` tells by its kind, which is no want of memory, and its text.
-fn told(kind: ErrorKind, text: String) -> LineFault
+/// The fault of a line by the kind of an error of `clap`, which is no want of memory, and by its text.
+fn asked_or_refused(kind: ErrorKind, text: String) -> LineFault
     ensures help { kind ≡ ErrorKind.DisplayHelp → result ≡ LineFault.Help text }
-    ensures refusal { kind ≢ ErrorKind.DisplayHelp → result ≡ LineFault.Refused text }
+    ensures version { kind ≡ ErrorKind.DisplayVersion → result ≡ LineFault.Help text }
+    ensures refusal { kind ≢ ErrorKind.DisplayHelp → kind ≢ ErrorKind.DisplayVersion
+        → result ≡ LineFault.Refused text }
 {
-    if kind == ErrorKind::DisplayHelp {
+    if kind == ErrorKind::DisplayHelp || kind == ErrorKind::DisplayVersion {
         LineFault::Help(text)
     } else {
         LineFault::Refused(text)
@@ -56,21 +58,23 @@ fn told(kind: ErrorKind, text: String) -> LineFault
 pub fn parse_fault(alloc: Global, error: &Error) -> LineFault
     ensures memory { kind_of error.now ≡ ErrorKind.OutOfMemory → result ≡ LineFault.OutOfMemory }
     ensures help { kind_of error.now ≡ ErrorKind.DisplayHelp → IsHelpUnlessMemory result }
-    ensures refusal { kind_of error.now ≢ ErrorKind.DisplayHelp → IsRefusalUnlessMemory result }
+    ensures version { kind_of error.now ≡ ErrorKind.DisplayVersion → IsHelpUnlessMemory result }
+    ensures refusal { kind_of error.now ≢ ErrorKind.DisplayHelp
+        → kind_of error.now ≢ ErrorKind.DisplayVersion → IsRefusalUnlessMemory result }
 {
     let kind = error.kind();
     if kind == ErrorKind::OutOfMemory {
         return LineFault::OutOfMemory;
     }
     match error.to_string(alloc) {
-        Ok(text) => told(kind, text),
+        Ok(text) => asked_or_refused(kind, text),
         Err(_) => LineFault::OutOfMemory,
     }
 }
 
 /// A refusal with a text of the program's own, if there was memory for it.
 pub fn refused(text: Result<String, AllocError>) -> LineFault
-    ensures told { MatchResult text (λ t. result ≡ LineFault.Refused t)
+    ensures text { MatchResult text (λ t. result ≡ LineFault.Refused t)
         (λ _. result ≡ LineFault.OutOfMemory) }
     ensures refusal { IsRefusalUnlessMemory result }
 {

@@ -4,7 +4,7 @@
 ghost use Rattle.std.specs.Prelude.{◌≡◌, IfErr, IfOk, IsSome, Some};
 ghost use Rattle.clap.specs.Words.{found_of, rows_of};
 ghost use Rattle.command_line.specs.Lines.{find_line, list_line, name_line, plan_view, rehearse_line, symbolicate_line};
-ghost use Rattle.command_line.specs.Told.{IsRefusalUnlessMemory};
+ghost use Rattle.command_line.specs.LineFaults.{IsRefusalUnlessMemory};
 
 use crate::line_faults::LineFault;
 use crate::plans::Plan;

@@ -3,9 +3,9 @@
 ghost use Rattle.std.specs.Prelude.{◌≡◌, IfErr, IfOk, IsErrAnd, IsSome, OnOk, Some, [], ◌∷◌};
 ghost use Rattle.std.specs.Prelude.{map, option_map, true};
 ghost use Rattle.clap.specs.Words.{IsAmong, found_of, rows_of, subcommand_rows_of};
-ghost use Rattle.command_line.specs.Lines.{KeepsInputs, are_taken, error_kinds, exchange_line_in, is_in_order};
+ghost use Rattle.command_line.specs.Lines.{KeepsInputs, are_accepted, error_kinds, exchange_line_in, is_in_order};
 ghost use Rattle.command_line.specs.Lines.{line_in, line_of, named_command, plan_view, query_line_in};
-ghost use Rattle.command_line.specs.Told.{IsHelpUnlessMemory, IsRefusalUnlessMemory};
+ghost use Rattle.command_line.specs.LineFaults.{IsHelpUnlessMemory, IsRefusalUnlessMemory};
 
 use crate::commands::symarch_command;
 use crate::line_faults::{LineFault, parse_fault, refused};
@@ -34,7 +34,7 @@ fn plan_exchange_in(alloc: Global, name: &str, matches: &ArgMatches) -> Result<P
     } else if name == "rehearse" {
         plan_rehearse(alloc, matches)
     } else {
-        Err(refused(format!(in alloc; "error: no such command: {name}\n")))
+        Err(refused(format!(in alloc; "error: invalid command '{name}'\n")))
     }
 }
 
@@ -84,14 +84,17 @@ fn plan_in(alloc: Global, name: &str, matches: &ArgMatches) -> Result<Plan, Line
 }
 
 /// What `clap` makes of the words.
-fn matched<'a, S: AsStr>(alloc: Global, words: &'a [S]) -> Result<ArgMatches<'a>, LineFault>
+fn matches_of<'a, S: AsStr>(alloc: Global, words: &'a [S]) -> Result<ArgMatches<'a>, LineFault>
     ensures ok { IfOk result (λ m. subcommand_rows_of m ≡ named_command (map S.text words.now)) }
-    ensures taken { OnOk result (error_kinds (map S.text words.now) ≡ []) }
-    ensures err { are_taken (map S.text words.now) ≡ true
+    ensures accepted { OnOk result (error_kinds (map S.text words.now) ≡ []) }
+    ensures err { are_accepted (map S.text words.now) ≡ true
         → IfErr result (λ e. e ≡ LineFault.OutOfMemory) }
     ensures help { error_kinds (map S.text words.now) ≡ ErrorKind.DisplayHelp ∷ []
         → IsErrAnd result IsHelpUnlessMemory }
+    ensures version { error_kinds (map S.text words.now) ≡ ErrorKind.DisplayVersion ∷ []
+        → IsErrAnd result IsHelpUnlessMemory }
     ensures refusal { ¬ IsAmong ErrorKind.DisplayHelp (error_kinds (map S.text words.now))
+        → ¬ IsAmong ErrorKind.DisplayVersion (error_kinds (map S.text words.now))
         → IfErr result IsRefusalUnlessMemory }
 {
     let command = symarch_command(alloc)?;
@@ -111,26 +114,29 @@ fn named_command<'m, 'a>(matches: &'m ArgMatches<'a>) -> Option<(&'a str, &'m Ar
 
 /// Reads a command line, of which the first word is the program's name. A line that `clap` refuses
 /// has `clap`'s own text. One in which a word has another form than its name asks for has a text with
-/// the name and the word, and one in which OUT is an input a text with its path.
+/// the name, the word and the form, and one in which OUT is an input a text with its path.
 pub fn plan<S: AsStr>(alloc: Global, words: &[S]) -> Result<Plan, LineFault>
     // A plan asks for what the words ask for, by `clap`'s own definition of a command's matches.
     ensures ok { IfOk result (λ p. Some (plan_view p) ≡ line_of (map S.text words.now)) }
-    ensures taken { OnOk result (error_kinds (map S.text words.now) ≡ []) }
+    ensures accepted { OnOk result (error_kinds (map S.text words.now) ≡ []) }
     ensures keeps_inputs { IfOk result (λ p. KeepsInputs (plan_view p)) }
 
-    // A line that `clap` takes, in which each value has its form and OUT's path is no input's, is refused for memory
+    // A line that `clap` accepts, in which each value has its form and OUT's path is no input's, is refused for memory
     // alone.
-    ensures err { are_taken (map S.text words.now) ≡ true
+    ensures err { are_accepted (map S.text words.now) ≡ true
         → is_in_order (map S.text words.now) ≡ true
         → IfErr result (λ e. e ≡ LineFault.OutOfMemory) }
     ensures help { error_kinds (map S.text words.now) ≡ ErrorKind.DisplayHelp ∷ []
         → IsErrAnd result IsHelpUnlessMemory }
+    ensures version { error_kinds (map S.text words.now) ≡ ErrorKind.DisplayVersion ∷ []
+        → IsErrAnd result IsHelpUnlessMemory }
     ensures refusal { ¬ IsAmong ErrorKind.DisplayHelp (error_kinds (map S.text words.now))
+        → ¬ IsAmong ErrorKind.DisplayVersion (error_kinds (map S.text words.now))
         → IfErr result IsRefusalUnlessMemory }
 {
-    let matches = matched(alloc, words)?;
+    let matches = matches_of(alloc, words)?;
     let Some((name, inner)) = named_command(&matches) else {
-        return Err(refused(String::from_str(alloc, "error: no command is named\n")));
+        return Err(refused(String::from_str(alloc, "error: missing command\n")));
     };
     plan_in(alloc, name, inner)
 }

@@ -4,7 +4,7 @@ ghost use Rattle.std.specs.Prelude.{◌≡◌, ◌⊎◌, ◌∷◌, IfErr, IfOk
 ghost use Rattle.clap.specs.Words.{found_of, rows_of};
 ghost use Rattle.command_line.specs.Lines.{admit_line, apply_line, delta_line, is_path_among, merge_line};
 ghost use Rattle.command_line.specs.Lines.{new_line, plan_view, retire_line, summary_line};
-ghost use Rattle.command_line.specs.Told.{IsRefusalUnlessMemory};
+ghost use Rattle.command_line.specs.LineFaults.{IsRefusalUnlessMemory};
 
 use crate::line_faults::{LineFault, refused};
 use crate::plans::Plan;
@@ -30,7 +30,7 @@ fn check_out(alloc: Global, out: &str, input: &str, others: &[&str]) -> Result<(
 fn out_is_input(alloc: Global, path: &str) -> LineFault
     ensures { IsRefusalUnlessMemory result }
 {
-    refused(format!(in alloc; "error: OUT is an input: {path}\n"))
+    refused(format!(in alloc; "error: invalid OUT '{path}': expected a path that is no input\n"))
 }
 
 /// `new OUT`

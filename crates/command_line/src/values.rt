@@ -4,7 +4,7 @@ ghost use Rattle.std.specs.Prelude.{◌≡◌, ◌⊎◌, IfErr, IfOk, None, Som
 ghost use Rattle.std.specs.Prelude.{string_bytes};
 ghost use Rattle.clap.specs.Words.{all_of, first_of, found_of, rows_of};
 ghost use Rattle.command_line.specs.Lines.{all_spelled, all_spelled_at, is_path_among, optional_at, spelled_at};
-ghost use Rattle.command_line.specs.Told.{IsRefusalUnlessMemory};
+ghost use Rattle.command_line.specs.LineFaults.{IsRefusalUnlessMemory};
 
 use crate::line_faults::{LineFault, refused};
 use archive_words::Word;
@@ -26,7 +26,7 @@ pub fn values<'m, 'a>(matches: &'m ArgMatches<'a>, id: &str) -> Option<&'m [&'a 
     matches.get_strs(id)
 }
 
-/// The value of a name that has to have one, as each line that `clap` takes gives it.
+/// The value of a name that has to have one, as each line that `clap` accepts gives it.
 pub fn one_value<'a>(
     alloc: Global,
     matches: &ArgMatches<'a>,
@@ -43,7 +43,7 @@ pub fn one_value<'a>(
     }
 }
 
-/// The values of a name that has to have some, as each line that `clap` takes gives them.
+/// The values of a name that has to have some, as each line that `clap` accepts gives them.
 pub fn several_values<'m, 'a>(
     alloc: Global,
     matches: &'m ArgMatches<'a>,
@@ -143,7 +143,7 @@ fn other_form(alloc: Global, id: &str, word: &str) -> LineFault
     ensures { IsRefusalUnlessMemory result }
 {
     let form = form_of(id);
-    refused(format!(in alloc; "error: {id} has another form than {form}: {word}\n"))
+    refused(format!(in alloc; "error: invalid {id} '{word}': expected {form}\n"))
 }
 
 /// The form that a name asks for, in words.
@@ -160,7 +160,7 @@ fn form_of(id: &str) -> &'static str {
 fn missing(alloc: Global, id: &str) -> LineFault
     ensures { IsRefusalUnlessMemory result }
 {
-    refused(format!(in alloc; "error: {id} is missing\n"))
+    refused(format!(in alloc; "error: missing {id}\n"))
 }
 
 /// Whether a path is one of these, as text.

@@ -44,7 +44,7 @@ fn refuse_words<R: Eprint>(rt: &R, error: &io::Error) -> ExitCode
     if error.kind() == ErrorKind::OutOfMemory {
         fail(rt, Failure::Command(CommandFault::OutOfMemory))
     } else {
-        refuse_line(rt, "error: a word is no UTF-8 text\n")
+        refuse_line(rt, "error: invalid word: expected UTF-8 text\n")
     }
 }
 
@@ -85,12 +85,12 @@ fn refuse<R: Print + Eprint>(rt: &R, fault: LineFault) -> ExitCode
     }
 }
 
-/// Tells the text of a refused line, which begins with `error: `, with the prefix of every other fault.
+/// Prints the text of a refused line, which begins with `error: `, with the prefix of every other fault.
 fn refuse_line<R: Eprint>(rt: &R, text: &str) -> ExitCode
     ensures { exit_status result ≡ 3 }
 {
-    let told = text.strip_prefix("error: ").unwrap_or(text);
-    let _ = eprint!(rt; "symarch: {told}");
+    let fault = text.strip_prefix("error: ").unwrap_or(text);
+    let _ = eprint!(rt; "symarch: {fault}");
     ExitCode::from(BAD_LINE)
 }
 

@@ -4,7 +4,7 @@ use Rattle.std.specs.Prelude.{option_and_then}
 use Rattle.clap.specs.Words.{Row, Text, found_of, rows_of}
 use Rattle.command_line.specs.Lines.{line_in}
 use Rattle.command_line.proofs.KeptInputs.{planned-KeepsInputs}
-use Rattle.command_line.proofs.Taken.{taken_line}
+use Rattle.command_line.proofs.Accepted.{accepted_line}
 use Rattle.command_line.proofs.reads.plan.Goals as goal
 
 -- a line that asks for something names a command
@@ -19,13 +19,13 @@ returns-clause-keeps_inputs g c =
     c.plan_in.ensures.ok
 
 pub returns-clause-err : goal.returns-clause-err
-returns-clause-err g c = λ taken ordered.
+returns-clause-err g c = λ accepted ordered.
     let named = c.in-Some.ensures ∙ c.in_ok-matches.ensures.ok in
     c.plan_in.ensures.err (subst (λ o. IsSome (option_and_then line_in o)) (sym named)
-    (taken_line (map g.S.AsStr.text c.args.words.now) taken ordered))
+    (accepted_line (map g.S.AsStr.text c.args.words.now) accepted ordered))
 
 pub returns-in_default-clause-err : goal.returns-in_default-clause-err
-returns-in_default-clause-err g c = λ taken ordered.
+returns-in_default-clause-err g c = λ accepted ordered.
     absurd (unnamed c.named_command.result (λ p. (p.0.now, rows_of (found_of p.1.now))) _
     (c.named_command.ensures ∙ c.in_ok-matches.ensures.ok) c.in_default.not-Some
-    (taken_line (map g.S.AsStr.text c.args.words.now) taken ordered))
+    (accepted_line (map g.S.AsStr.text c.args.words.now) accepted ordered))

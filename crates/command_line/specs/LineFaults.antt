@@ -1,9 +1,9 @@
--- What a line that gives no plan is told.
+-- The fault of a line that gives no plan.
 use Rattle.std.specs.Prelude.{⊤}
 use Rattle.command_line.specs.declared.line_faults.LineFault.{LineFault}
 use Rattle.command_line.specs.declared.line_faults.LineFault.TheVariants.{Refused, OutOfMemory, Help}
 
--- help, or memory was wanting
+-- help or the version, or memory was wanting
 abbrev pub IsHelpUnlessMemory : LineFault → Type 0
 IsHelpUnlessMemory (Help _) = ⊤
 IsHelpUnlessMemory OutOfMemory = ⊤

@@ -1,4 +1,4 @@
--- A line that `clap` takes names a command, with a value at each name that has to have one.
+-- A line that `clap` accepts names a command, with a value at each name that has to have one.
 use Rattle.std.proofs.Common.{◌≡◌, ◌∙◌, ◌&&◌, ◌||◌, ◌++◌, Bool, true, false, not, cond, refl, sym, ap, ap₂, subst}
 use Rattle.std.proofs.Common.{List, [], ◌∷◌, Option, Some, None, IsSome, is_some, option_map, true≢false, codes}
 use Rattle.std.proofs.Common.{if◌then◌else◌}
@@ -18,7 +18,7 @@ use Rattle.clap.proofs.SimpleLemmas.{is_nil}
 use Rattle.clap.proofs.WalkLemmas.{both}
 use Rattle.command_line.specs.Commands.{symarch_command}
 use Rattle.command_line.specs.Lines.{Line, admit, admit_line, admit_of, all_spelled, all_spelled_at, apply, apply_line}
-use Rattle.command_line.specs.Lines.{apply_of, are_taken, delta, delta_line, delta_of}
+use Rattle.command_line.specs.Lines.{apply_of, are_accepted, delta, delta_line, delta_of}
 use Rattle.command_line.specs.Lines.{find_line, find_of, has_form, have_forms, inputs_at, is_in_order, is_path_among}
 use Rattle.command_line.specs.Lines.{kept, line_in, list, list_line}
 use Rattle.command_line.specs.Lines.{line_of, merge, merge_line, merge_of, name_line, name_of, named_command, new, new_line}
@@ -464,7 +464,7 @@ line_some name rules rows o =
 is_sound : Shape → Bool
 is_sound s = is_empty s.aliases && (bytes_eq s.name (codes "help") || (want_values s.rules && asks s.name s.rules))
 
--- a program's command of which each line that is taken names a command that is sound
+-- a program's command of which each line that is accepted names a command that is sound
 record IsSound (a : App) : Type 0 where
   needs_command : a.top.subcommand_required ≡ true
   has_help : a.top.disable_help_subcommand ≡ false
@@ -539,11 +539,11 @@ built_some a words sound passes tests =
     let met = given_if a.top.subcommand_required (is_some (entered a stop)) (both _ _ valid.1).0 sound.needs_command in
     stopped_some a stop sound top.stop met parts.0 tests
 
-taken_some : (a : App) (words : List Text) → IsSound (built a) → takes a words ≡ true
+accepted_some : (a : App) (words : List Text) → IsSound (built a) → takes a words ≡ true
     → in_order (subcommand_of a words) ≡ true
     → IsSome (option_and_then line_in (subcommand_of a words))
-taken_some a words sound taken tests =
-    built_some (built a) (argument_words a words) sound (both (is_simple a) _ taken).1 tests
+accepted_some a words sound accepted tests =
+    built_some (built a) (argument_words a words) sound (both (is_simple a) _ accepted).1 tests
 
 -- ---- the program's command
 
@@ -551,7 +551,7 @@ symarch_sound : IsSound (built symarch_command)
 unfolding symarch_command is_sound asks asks_new asks_with asks_uuid asks_list asks_name asks_archive asks_script
 symarch_sound = record { needs_command = refl; has_help = refl; values = refl; commands = refl }
 
--- a line that is taken, in which each value has its form and OUT's path is no input's, asks for something
-pub taken_line : (words : List Text) → are_taken words ≡ true → is_in_order words ≡ true → IsSome (line_of words)
-unfolding are_taken named_command
-taken_line words = taken_some symarch_command words symarch_sound
+-- a line that is accepted, in which each value has its form and OUT's path is no input's, asks for something
+pub accepted_line : (words : List Text) → are_accepted words ≡ true → is_in_order words ≡ true → IsSome (line_of words)
+unfolding are_accepted named_command
+accepted_line words = accepted_some symarch_command words symarch_sound
