@@ -1,5 +1,7 @@
--- What an archive holds: a set of operations, the order on such sets, and what is live in one.
-use Rattle.std.specs.Prelude.{◌≡◌, ◌↔◌, ℕ, ◌+◌, List, [], ◌∷◌, Bool, true, false, not, if◌then◌else◌, fold, Contains}
+-- What an archive holds: operations of which none is an admission that a retirement covers, the order on such sets, and
+-- what is live in one.
+use Rattle.std.specs.Prelude.{◌≡◌, ◌↔◌, ℕ, ◌+◌, List, [], ◌∷◌, ◌++◌, Bool, true, false, not, ◌&&◌, ◌||◌, ◌==◌}
+use Rattle.std.specs.Prelude.{if◌then◌else◌, fold, take, drop, slice_index, Contains}
 use Rattle.std.specs.Ordering.{nat_cmp}
 use Rattle.std.specs.Cmp.Lexicographic.{slice_cmp}
 use Rattle.std.specs.FinSet as set
@@ -13,10 +15,27 @@ use Rattle.archive_core.specs.declared.keys.SliceKey.{SliceKey}
 abbrev pub Operations : Type 0
 Operations = set.FinSet (slice_cmp nat_cmp)
 
--- the content that a set of operations makes: the set itself. Added and retired slices only grow, as in the two-phase
--- set (INRIA RR-7506, 2P-Set)
+-- these bytes are the record of an admission: their tag is 2
+abbrev pub is_admission : List ℕ → Bool
+is_admission r = slice_index r 0 == 2
+
+-- the key of an admission and the SHA-256 of its slice, by its record: the key stands behind the tag, the slice behind
+-- 33 bytes
+unfoldable pub key_and_digest : List ℕ → List ℕ
+key_and_digest r = take 24 (drop 1 r) ++ sha256 (drop 33 r)
+
+-- the record of the retirement that covers an admission: tag 1, its key, the SHA-256 of its slice
+abbrev pub covering : List ℕ → List ℕ
+covering r = 1 ∷ key_and_digest r
+
+-- a set of operations covers an admission where the retirement that covers it is there
+abbrev pub is_covered : Operations → List ℕ → Bool
+is_covered o r = is_admission r && set.contains o (covering r)
+
+-- the content that a set of operations makes: the set without the admissions that it covers. What was retired never
+-- comes back, as in the two-phase set (INRIA RR-7506, 2P-Set), and is not kept
 abbrev pub made : Operations → Operations
-made o = o
+made o = set.retain o (λ r. not (is_covered o r))
 
 -- a set that makes itself
 abbrev pub IsMade : Operations → Type 0
@@ -27,17 +46,20 @@ pub record IsContent (o : Operations) : Type 0 where
   pub itself : IsMade o
   pub records : (r : List ℕ) → set.contains o r ≡ true → IsRecord r
 
--- the order on contents: each operation of the one is in the other
-abbrev pub IsBelow : Operations → Operations → Type 0
-IsBelow o p = set.is_subset o p ≡ true
+-- the order on contents: the retirements of the one are in the other, and each live slice of the one is live or covered
+-- in the other
+pub record IsBelow (o p : Operations) : Type 0 where
+  pub retirements : (r : List ℕ) → is_admission r ≡ false → set.contains o r ≡ true → set.contains p r ≡ true
+  pub live : (r : List ℕ) → is_admission r ≡ true → set.contains o r ≡ true → set.contains o (covering r) ≡ false
+      → (set.contains p r || set.contains p (covering r)) ≡ true
 
 -- the content after one operation was taken
 abbrev pub with_record : Operations → List ℕ → Operations
 with_record o r = made (set.insert o r)
 
--- whether taking an operation changes a content: it does where the operation is not in it
+-- whether taking an operation changes a content: it does where the operation is neither in it nor covered there
 unfoldable pub changes : Operations → List ℕ → Bool
-changes o r = not (set.contains o r)
+changes o r = not (set.contains o r || is_covered o r)
 
 -- the content after operations were taken, one after another
 abbrev pub with_records : Operations → List (List ℕ) → Operations

@@ -1,12 +1,12 @@
 -- What a summary names of a content, and the part of a content that it does not name.
-use Rattle.std.specs.Prelude.{◌≡◌, ℕ, List, ◌∷◌, ◌++◌, true, not, ◌==◌, if◌then◌else◌, map, take, drop, slice_index}
+use Rattle.std.specs.Prelude.{◌≡◌, ℕ, List, ◌∷◌, Bool, true, not, ◌||◌, if◌then◌else◌, map, drop}
 use Rattle.std.specs.Ordering.{nat_cmp}
 use Rattle.std.specs.Cmp.Lexicographic.{slice_cmp}
 use Rattle.std.specs.FinSet as set
 use Rattle.sha2.specs.Sha256.{sha256}
 use Rattle.join_core.specs.Listing.{listing}
 use Rattle.archive_core.specs.Record.{admission_record}
-use Rattle.archive_core.specs.Content.{Operations}
+use Rattle.archive_core.specs.Content.{Operations, is_admission, key_and_digest}
 
 -- a finite set of entries, in byte order
 abbrev pub Entries : Type 0
@@ -15,11 +15,16 @@ Entries = set.FinSet (slice_cmp nat_cmp)
 -- the entry of an operation, by its record: of an admission tag 2, the key and the SHA-256 of the slice, in place of
 -- its length and the slice; of a retirement its record
 unfoldable pub entry : List ℕ → List ℕ
-entry r = if slice_index r 0 == 2 then 2 ∷ (take 24 (drop 1 r) ++ sha256 (drop 33 r)) else r
+entry r = if is_admission r then 2 ∷ key_and_digest r else r
 
 -- the entries of the operations of a content
 unfoldable pub summary : Operations → Entries
 summary o = set.from_list (map entry (listing o))
+
+-- an entry is known to a content: it is that of an operation in it, or of a slice that a retirement in it covers, whose
+-- record is the entry with tag 1
+abbrev pub is_known : Operations → List ℕ → Bool
+is_known o e = set.contains (summary o) e || set.contains o (1 ∷ drop 1 e)
 
 -- the operations of a content whose entries are not among these
 unfoldable pub delta : Operations → Entries → Operations

@@ -3,7 +3,7 @@
 //! Each law is the contract of a function that does nothing but call other laws, and speaks of the definitions alone: a
 //! caller that wants a law calls its function.
 ghost use Rattle.std.specs.Prelude.{◌≡◌, ◌⊎◌, ◌↔◌, ◌&&◌, ℕ, ◌+◌, ◌≤◌, Bool, List, [], ◌∷◌, ◌++◌};
-ghost use Rattle.std.specs.Prelude.{true, false, not, if◌then◌else◌, filter, length, slice_index_or};
+ghost use Rattle.std.specs.Prelude.{true, false, not, if◌then◌else◌, filter, length, slice_index_or, Contains};
 ghost use Rattle.std.specs.Ordering.{nat_cmp};
 ghost use Rattle.std.specs.Cmp.Lexicographic.{slice_cmp};
 ghost use Rattle.std.specs.FinSet as set;
@@ -14,9 +14,10 @@ ghost use Rattle.join_core.specs.Bound.{IsLeastAbove};
 ghost use Rattle.archive_core.specs.Key.{IsKey, key_bytes};
 ghost use Rattle.archive_core.specs.Valid.{IsValid, IsSliceFault, key_of};
 ghost use Rattle.archive_core.specs.Record.{IsRecord, Admits, IsOperation, rec, admission_record, retirement_record};
-ghost use Rattle.archive_core.specs.Content.{Operations, made, IsMade, IsContent, IsBelow, with_record, with_records};
+ghost use Rattle.archive_core.specs.Content.{Operations, is_admission, is_covered, made, IsMade, IsContent, IsBelow};
+ghost use Rattle.archive_core.specs.Content.{with_record, with_records};
 ghost use Rattle.archive_core.specs.Content.{changes, new_among, joined, HaveSameMembers, IsLive, IsTakenInPart};
-ghost use Rattle.archive_core.specs.Summary.{Entries, entry, summary, delta, DigestsTell};
+ghost use Rattle.archive_core.specs.Summary.{Entries, entry, summary, is_known, delta, DigestsTell};
 ghost use Rattle.archive_core.specs.Find.{IsFinds, AreAnswering, answering_count};
 ghost use Rattle.archive_core.specs.Lists.{IsList, rows_under};
 ghost use Rattle.archive_core.specs.Lookup.{AnswerRecord, IsAnswer, IsConflict};
@@ -123,6 +124,55 @@ pub fn join_gives_union<A: Archive>()
         → both ≡ joined o p }
 {}
 
+/// The join of the contents that two sets of operations make is the content that both sets make together.
+pub fn migrate_joins()
+    ensures { (o p : Operations) → joined (made o) (made p) ≡ made (set.union o p) }
+{}
+
+/// The content that a set of operations makes has those that it does not cover. It covers the admissions of those
+/// slices of which the retirement of their key and SHA-256 is there, and no retirement. So each slice that is admitted
+/// in a content is live.
+pub fn contents_in_words()
+    ensures made { (o : Operations) (r : List ℕ)
+        → set.contains (made o) r ≡ (set.contains o r && not (is_covered o r)) }
+    ensures again { (o : Operations) → IsMade (made o) }
+    ensures content { (o : Operations) → ((r : List ℕ) → set.contains o r ≡ true → IsRecord r) → IsContent (made o) }
+    ensures admission { (o : Operations) (slice : List ℕ)
+        → IsValid slice
+        → is_covered o (admission_record slice) ≡ set.contains o (retirement_record (key_of slice) (sha256 slice)) }
+    ensures retirement { (o : Operations) (key : SliceKey) (digest : List ℕ)
+        → is_covered o (retirement_record key digest) ≡ false }
+    ensures live { (o : Operations) (slice : List ℕ)
+        → IsContent o
+        → IsValid slice
+        → set.contains o (admission_record slice) ≡ true
+        → IsLive o (key_of slice) slice }
+{}
+
+/// A content is below another just where its retirements are there, and each of its live slices is live there or
+/// covered.
+pub fn order_in_words()
+    ensures retirements { (o p : Operations) (key : SliceKey) (digest : List ℕ)
+        → IsBelow o p
+        → set.contains o (retirement_record key digest) ≡ true
+        → set.contains p (retirement_record key digest) ≡ true }
+    ensures live { (o p : Operations) (slice : List ℕ)
+        → IsContent p
+        → IsValid slice
+        → IsBelow o p
+        → IsLive o (key_of slice) slice
+        → IsLive p (key_of slice) slice ⊎ (set.contains p (retirement_record (key_of slice) (sha256 slice)) ≡ true) }
+    ensures below { (o p : Operations)
+        → IsContent o
+        → ((key : SliceKey) (digest : List ℕ)
+        → set.contains o (retirement_record key digest) ≡ true
+        → set.contains p (retirement_record key digest) ≡ true)
+        → ((slice : List ℕ)
+        → IsLive o (key_of slice) slice
+        → IsLive p (key_of slice) slice ⊎ (set.contains p (retirement_record (key_of slice) (sha256 slice)) ≡ true))
+        → IsBelow o p }
+{}
+
 /// An operation changes a content just where the content with it is another one.
 pub fn unchanged_is_the_same()
     ensures { (o : Operations) (r : List ℕ) → IsMade o → (changes o r ≡ false) ↔ (with_record o r ≡ o) }
@@ -149,9 +199,13 @@ pub fn new_ones_in_turn()
     ensures within { (o : Operations) (rs : List (List ℕ)) → new_among o rs ≤ length rs }
 {}
 
-/// Each new record is one more in the content.
-pub fn new_ones_are_added()
-    ensures { (o : Operations) (rs : List (List ℕ)) → set.len (with_records o rs) ≡ set.len o + new_among o rs }
+/// Each new admission is one more in the content. A retirement that is new is one more, too, and the slices that it
+/// covers are gone.
+pub fn new_admissions_are_added()
+    ensures { (o : Operations) (rs : List (List ℕ))
+        → IsMade o
+        → ((r : List ℕ) → Contains rs r → is_admission r ≡ true)
+        → set.len (with_records o rs) ≡ set.len o + new_among o rs }
 {}
 
 /// Operations that were taken in part, and are taken again, all of them, give what all would have given at first.
@@ -223,15 +277,16 @@ pub fn deltas_in_words()
     ensures below { (o : Operations) (s : Entries) → IsContent o → IsBelow (delta o s) o }
 {}
 
-/// A content that takes in a delta against its own summary, or against an older one whose entries it still has, is
-/// above the content that the delta was made of, where no slice of the one has the SHA-256 of a different slice of
-/// the other. Whatever the entries and the slices, it is below the join of both.
+/// A content that takes in a delta against its own summary, or against an older one, is above the content that the delta
+/// was made of, where no slice of the one has the SHA-256 of a different slice of the other. Of an older one, each entry
+/// is that of an operation that the content still has, or of a slice that it has retired since. Whatever the entries and
+/// the slices, it is below the join of both.
 pub fn delta_brings_above()
     ensures above { (o p : Operations) (s : Entries)
         → IsContent o
         → IsContent p
         → DigestsTell o p
-        → set.is_subset s (summary p) ≡ true
+        → ((e : List ℕ) → set.contains s e ≡ true → is_known p e ≡ true)
         → IsBelow o (joined p (delta o s)) }
     ensures own { (o p : Operations)
         → IsContent o
