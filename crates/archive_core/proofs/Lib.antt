@@ -1,5 +1,6 @@
 pub mod Compare
 pub mod Records
+pub mod Made
 pub mod Held
 pub mod Joined
 pub mod Merged
