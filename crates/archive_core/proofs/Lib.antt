@@ -9,6 +9,7 @@ pub mod Scanned
 pub mod Answering
 pub mod Lookups
 pub mod Entries
+pub mod Words
 pub mod Summaries
 pub mod Beginnings
 pub mod Naming
