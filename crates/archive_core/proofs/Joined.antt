@@ -63,9 +63,9 @@ resumed o mid rs is part =
     taken_are_joined mid rs part.content.itself ∙ made_antisymmetric (joined_of mid all) (joined_of o all) (made_again (union mid all)) (made_again (union o all)) left right ∙ sym (taken_are_joined o rs is)
 
 -- where some of a content's operations were taken, the content is on the way
-pub taken_towards : (o p mid : Operations) (rs : List (List ℕ)) → IsMade o → IsMade p → set.from_list rs ≡ p → IsTakenInPart o rs mid → IsTowards IsContent IsBelow o p mid
+pub taken_towards : (o p mid : Operations) (rs : List (List ℕ)) → IsContent o → IsMade p → set.from_list rs ≡ p → IsTakenInPart o rs mid → IsTowards IsContent IsBelow o p mid
 taken_towards o p mid rs a b is part =
-    let within : IsBelow mid (joined_of o p) = subst (λ z. IsBelow mid z) (taken_are_joined o rs a ∙ ap (λ s. joined_of o (made s)) is ∙ ap (joined_of o) b) part.below_all in
+    let within : IsBelow mid (joined_of o p) = subst (λ z. IsBelow mid z) (taken_are_joined o rs a.itself ∙ ap (λ s. joined_of o (made s)) is ∙ ap (joined_of o) b) part.below_all in
     record {
       content = part.content;
       above_old = part.above_old;

@@ -9,6 +9,7 @@ pub mod Scanned
 pub mod Answering
 pub mod Lookups
 pub mod Entries
+pub mod Put
 pub mod Words
 pub mod Summaries
 pub mod Beginnings
@@ -18,3 +19,4 @@ pub mod Parts
 pub mod Picked
 pub mod Falling
 pub mod Ranges
+pub mod Uncovered
