@@ -1,5 +1,5 @@
 -- What operations give that are taken in two runs, and how many retirements are new.
-use Rattle.std.proofs.Common.{◌≡◌, ◌↔◌, ℕ, ◌+◌, ◌≤◌, if◌then◌else◌, cond, Bool, true, false, ◌||◌, ◌&&◌, List, [], ◌∷◌, ◌++◌, length, map, refl, sym, ap, ◌∙◌, subst, arith}
+use Rattle.std.proofs.Common.{◌≡◌, ℕ, ◌+◌, ◌≤◌, if◌then◌else◌, cond, Bool, true, false, ◌||◌, ◌&&◌, List, [], ◌∷◌, ◌++◌, length, map, refl, sym, ap, ◌∙◌, subst, arith}
 use Rattle.std.specs.Prelude.{not}
 use mathlib.Core.Bool.{true≢false}
 use Rattle.std.specs.Ordering.{nat_cmp, eq_by_cmp}
@@ -15,10 +15,10 @@ use Rattle.std.proofs.lemmas.List.Elements.{All-from_recursion, recursion_from_A
 use Rattle.std.proofs.lemmas.List.Sorted.{IsPermutation-map, All-permutation}
 use Rattle.join_core.proofs.Merge.{from_list_permuted}
 use Rattle.archive_core.specs.Record.{rec}
-use Rattle.archive_core.specs.Content.{Operations, is_admission, covering, is_covered, made, IsMade, IsContent, IsBelow, IsTakenInPart, with_record, with_records, changes, new_among, joined}
+use Rattle.archive_core.specs.Content.{Operations, is_admission, covering, made, IsMade, IsBelow, IsTakenInPart, with_record, with_records, changes, new_among, joined}
 use Rattle.archive_core.specs.declared.operations.Operation.{Operation}
-use Rattle.archive_core.proofs.Made.{bytes_same, kept, contains_made, below_transitive}
-use Rattle.archive_core.proofs.Taken.{apart, taken_are_joined, below_taken, new_in_turn, new_of_none, new_within}
+use Rattle.archive_core.proofs.Made.{bytes_same, kept, below_transitive}
+use Rattle.archive_core.proofs.Taken.{taken_are_joined, below_taken, new_in_turn, new_of_none, new_within}
 
 -- operations one behind the other
 pub taken_append : (o : Operations) (rs ss : List (List ℕ)) → with_records o (rs ++ ss) ≡ with_records (with_records o rs) ss

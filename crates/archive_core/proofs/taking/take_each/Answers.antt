@@ -1,11 +1,10 @@
-use Rattle.std.proofs.Common.{◌≡◌, ◌+◌, ◌≤◌, ◌++◌, length, map, ap, sym, ◌∙◌, arith}
+use Rattle.std.proofs.Common.{◌+◌, map, ◌∙◌, arith}
 use Rattle.std.proofs.Math.ListN.{length-map}
 use Rattle.std.proofs.lemmas.Result.{err_from_is_err_and}
-use Rattle.archive_core.specs.Content.{new_among}
 use Rattle.archive_core.specs.Record.{rec}
 use Rattle.archive_core.proofs.Joined.{none_taken}
 use Rattle.archive_core.proofs.Taken.{new_within}
-use Rattle.archive_core.proofs.Runs.{runs_taken, runs_counted, first_in_part, rest_in_part}
+use Rattle.archive_core.proofs.Runs.{runs_counted, first_in_part, rest_in_part}
 use Rattle.archive_core.proofs.taking.take_each.Goals as goal
 
 pub returns-in_err-clone-clause-refused : goal.returns-in_err-clone-clause-refused
