@@ -13,7 +13,7 @@ use clap::{Arg, ArgAction, Command};
 use std::alloc::{AllocError, Global};
 
 /// The number of the program, of which the first part is the version of the archives that it writes.
-const VERSION: &str = "1.0.0";
+const VERSION: &str = "2.0.0";
 
 const ARCHIVE_IN: &str = "The archive to read";
 
