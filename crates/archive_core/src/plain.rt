@@ -1,5 +1,6 @@
 //! An archive as a sorted list of operations.
-ghost use Rattle.std.specs.Prelude.{◌≡◌, ◌≤◌, ◌++◌, ◌||◌, length, map, filter, IfOk, OnOk, OnErr};
+ghost use Rattle.std.specs.Prelude.{◌≡◌, ◌≤◌, ◌++◌, ◌||◌, true, not, length, map, filter, IfOk, OnOk};
+ghost use Rattle.std.specs.Prelude.{OnErr};
 ghost use Rattle.std.specs.FinSet as set;
 ghost use Rattle.std.specs.Ordering.{nat_cmp, is_lt};
 ghost use Rattle.std.specs.Cmp.Lexicographic.{slice_cmp};
@@ -181,6 +182,15 @@ impl PlainArchive {
         ensures content { IsContent self.now }
     {
         Lent::of(&self.operations)
+    }
+
+    /// Whether an operation is there, or admits a slice that a retirement covers: taking it would change nothing. A
+    /// slice is hashed only where a retirement of its key stands.
+    pub fn knows(&self, operation: &Operation) -> bool
+        ensures changes { changes self.now (rec operation.now) ≡ not result }
+        ensures same { result ≡ true → with_record self.now (rec operation.now) ≡ self.now }
+    {
+        self.lend().knows(operation)
     }
 
     // Whether the archive knows each of the operations: it is there, or covered.

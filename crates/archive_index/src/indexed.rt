@@ -87,8 +87,8 @@ impl Archive for IndexedArchive {
     }
 
     fn take(&mut self, mut operation: Operation) -> Result<bool, NoMemory> {
-        if self.held.holds(&operation) {
-            return self.held.take(operation);
+        if self.held.knows(&operation) {
+            return Ok(false);
         }
         let key = operation.key();
         let told = self.held.tells_digests(&key);
