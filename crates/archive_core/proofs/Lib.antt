@@ -9,6 +9,8 @@ pub mod Scanned
 pub mod Answering
 pub mod Lookups
 pub mod Entries
+pub mod Put
+pub mod Words
 pub mod Summaries
 pub mod Beginnings
 pub mod Naming
@@ -17,3 +19,4 @@ pub mod Parts
 pub mod Picked
 pub mod Falling
 pub mod Ranges
+pub mod Uncovered

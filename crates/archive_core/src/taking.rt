@@ -1,40 +1,57 @@
 //! Taking many operations.
-ghost use Rattle.std.specs.Prelude.{◌≡◌, map, IfOk, OnOk, OnErr};
+ghost use Rattle.std.specs.Prelude.{◌≡◌, true, map, IfOk, OnOk, OnErr};
+ghost use Rattle.std.specs.List.{list_all};
 ghost use Rattle.archive_core.specs.Record.{rec};
-ghost use Rattle.archive_core.specs.Content.{IsContent, IsTakenInPart, with_records, new_among};
+ghost use Rattle.archive_core.specs.Content.{IsContent, IsTakenInPart, is_admission, with_records, new_among};
 
 use crate::{Archive, Operation};
 use memory::{Heap, NoMemory};
 
-// Takes operations one after another, in their order.
+// Whether the operation admits a slice.
+fn is_admission(operation: &Operation) -> bool
+    ensures { result ≡ is_admission (rec operation.now) }
+{
+    match operation {
+        Operation::Admit(_) => true,
+        Operation::Retire(_, _) => false,
+    }
+}
+
+// Whether each of the operations admits a slice.
+fn are_admissions(operations: &[Operation]) -> bool
+    ensures { result ≡ list_all (λ operation. is_admission (rec operation)) operations.now }
+{
+    operations.iter().all(|operation| is_admission(operation))
+}
+
+// Takes operations one after another, in their order, and counts those that were new.
 fn take_in_turn<A: Archive>(
     archive: &mut A,
     operations: Vec<Operation, Heap>,
-) -> Result<(), NoMemory>
-    requires { IsContent (A.content archive.now) }
+) -> Result<u64, NoMemory>
     ensures taken { OnOk result
         (A.content archive.new ≡ with_records (A.content archive.old) (map rec operations.items)) }
-    ensures content { IsContent (A.content archive.new) }
+    ensures counted { IfOk result (λ new. new ≡ new_among (A.content archive.old) (map rec operations.items)) }
+    ensures content { OnOk result (IsContent (A.content archive.new)) }
     ensures refused { OnErr result
         (IsTakenInPart (A.content archive.old) (map rec operations.items) (A.content archive.new)) }
 {
+    let _before = archive.len();
+    let mut new = 0;
     'operations: for operation in operations {
-        archive.take(operation)?;
+        let changed = archive.take(operation)?;
+        new += u64::from(changed);
     }
-    Ok(())
+    Ok(new)
 }
 
-/// Takes operations that come in any order, and answers how many of them were new; one that stands twice is new once.
-/// They are sorted once and taken in together, so that none of them shifts what is there.
-///
-/// Refused for want of memory alone. Some of the operations may then have been taken, and the list is dropped. The call
-/// may be made again with all of them, which the caller reads once more from where it had them, as from their file, or
-/// has kept as copies (`Operation::copy`): `laws::taking_each_resumed` says that it gives what this one would have
-/// given.
-pub fn take_each<A: Archive + Drop>(
+// Takes admissions that come in any order. They are sorted once and taken in together, so that none of them shifts what
+// is there. None of them drops another, so as many are new as there are more afterwards.
+fn take_together<A: Archive + Drop>(
     archive: &mut A,
     mut operations: Vec<Operation, Heap>,
 ) -> Result<u64, NoMemory>
+    requires { list_all (λ operation. is_admission (rec operation)) operations.items ≡ true }
     ensures taken { OnOk result
         (A.content archive.new ≡ with_records (A.content archive.old) (map rec operations.items)) }
     ensures counted { IfOk result (λ new. new ≡ new_among (A.content archive.old) (map rec operations.items)) }
@@ -47,4 +64,28 @@ pub fn take_each<A: Archive + Drop>(
     take_in_turn(&mut taken, operations)?;
     archive.absorb(taken)?;
     Ok(archive.len() - before)
+}
+
+/// Takes operations in their order, and answers how many of them were new: each that changed what those before it left.
+/// One that stands twice is new once; a slice that comes before its retirement is new, and one behind it is not.
+/// Where all are admissions, they are sorted once and taken in together, so that none of them shifts what is there.
+///
+/// Refused for want of memory alone. Some of the operations may then have been taken, and the list is dropped. The call
+/// may be made again with all of them, which the caller reads once more from where it had them, as from their file, or
+/// has kept as copies (`Operation::copy`): `laws::taking_each_resumed` says that it gives what this one would have
+/// given.
+pub fn take_each<A: Archive + Drop>(
+    archive: &mut A,
+    operations: Vec<Operation, Heap>,
+) -> Result<u64, NoMemory>
+    ensures taken { OnOk result
+        (A.content archive.new ≡ with_records (A.content archive.old) (map rec operations.items)) }
+    ensures counted { IfOk result (λ new. new ≡ new_among (A.content archive.old) (map rec operations.items)) }
+    ensures refused { OnErr result
+        (IsTakenInPart (A.content archive.old) (map rec operations.items) (A.content archive.new)) }
+{
+    if are_admissions(&operations) {
+        return take_together(archive, operations);
+    }
+    take_in_turn(archive, operations)
 }
