@@ -11,7 +11,7 @@ use Rattle.join_core.specs.Bound.{IsLeastAbove, IsTowards}
 use Rattle.archive_core.specs.Record.{rec}
 use Rattle.archive_core.specs.Content.{Operations, made, IsMade, IsContent, IsBelow, IsTakenInPart, with_records, joined as joined_of}
 use Rattle.archive_core.specs.declared.operations.Operation.{Operation}
-use Rattle.archive_core.proofs.Made.{bytes_same, made_again, made_empty, made_antisymmetric, joined_made_right, below_reflexive, below_transitive, below_left, below_right, joined_below, joined_content}
+use Rattle.archive_core.proofs.Made.{bytes_same, made_again, made_empty, joined_made_right, below_reflexive, below_transitive, below_antisymmetric, made_antisymmetric, below_left, below_right, joined_below, joined_content}
 use Rattle.archive_core.proofs.Taken.{taken_are_joined, below_taken}
 
 -- what both make is the least above both
@@ -28,7 +28,7 @@ pub least_is_joined : (content : Operations → Type 0) (below : Operations → 
     → (o p m : Operations) → IsContent o → IsContent p → IsLeastAbove content below o p m → m ≡ joined_of o p
 least_is_joined content below content_is below_is o p m a b l =
     let both = joined_of o p in
-    made_antisymmetric m both ((content_is m).0 l.content).itself (made_again (union o p))
+    below_antisymmetric m both ((content_is m).0 l.content) (joined_content o p a b)
     ((below_is m both).0 (l.least both ((content_is both).1 (joined_content o p a b)) ((below_is o both).1 (below_left o p)) ((below_is p both).1 (below_right o p))))
     (joined_below o p m ((below_is o m).0 l.left) ((below_is p m).0 l.right))
 

@@ -110,3 +110,17 @@ made_below_made o u into = below_made (made o) u (λ r h. into r (from_made o r 
 
 pub below_subset : (o p : Operations) → ((r : List ℕ) → contains o r ≡ true → contains p r ≡ true) → IsBelow o p
 below_subset o p into = record { retirements = λ r _ h. into r h; live = λ r _ h _. or_left _ _ (into r h) }
+
+-- where the other does not hold, the one does
+left_of : (a b : Bool) → b ≡ false → (a || b) ≡ true → a ≡ true
+left_of true b n h = refl
+left_of false b n h = absurd (true≢false (sym h ∙ n))
+
+-- a set each of whose members is in another or covered there is below what that one makes
+pub below_made_known : (o u : Operations) → ((r : List ℕ) → contains o r ≡ true → (contains u r || is_covered u r) ≡ true) → IsBelow o (made u)
+below_made_known o u known = record {
+  retirements = λ r n h. kept u r n ∙ left_of _ _ (ap (λ b. b && contains u (covering r)) n) (known r h);
+  live = λ r _ h _. by_test _ (contains u (covering r))
+      (λ c. or_right _ _ (covers_same u r ∙ c))
+      (λ c. or_left _ _ (free u r c ∙ left_of _ _ (ap (λ b. is_admission r && b) c ∙ and_false (is_admission r)) (known r h)));
+}

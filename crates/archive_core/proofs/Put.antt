@@ -18,30 +18,15 @@ use Rattle.archive_core.specs.InnerHeld.{IsHeld}
 use Rattle.archive_core.specs.declared.operations.Operation.{Operation}
 use Rattle.archive_core.specs.declared.operations.Operation.TheVariants.{Admit}
 use Rattle.archive_core.proofs.Made.{bytes_same, either, contains_made, made_again, made_of_uncovered, uncovered_of_made}
-use Rattle.archive_core.proofs.Taken.{apart, still_uncovered, known_changes, new_changes, with_known}
+use Rattle.archive_core.proofs.Taken.{still_uncovered, len_with}
+pub use Rattle.archive_core.proofs.Taken.{made_with_admission}
+pub use Rattle.archive_core.proofs.Words.{covered_slice}
 use Rattle.archive_core.proofs.Held.{held_insert, records_insert, map_insert, along_insert}
 use Rattle.archive_core.proofs.Merged.{contains_left, records_filtered, are_left}
 use Rattle.archive_core.proofs.Entries.{covering_admission}
 
--- a valid slice is covered just where the retirement of its key and digest is there
-pub covered_slice : (o : Operations) (slice : List ℕ) → IsValid slice → is_covered o (admission_record slice) ≡ contains o (retirement_record (key_of slice) (sha256 slice))
-covered_slice o slice valid = ap (contains o) (covering_admission slice valid)
-
 is_tied : (q r : List ℕ) → eq_by_cmp (slice_cmp nat_cmp) q r ≡ true → q ≡ r
 is_tied q r h = bytes_same q r ((Equal-is (slice_cmp nat_cmp q r)).0 h)
-
--- an admission covers nothing
-covers_no_more : (o : Operations) (r q : List ℕ) → is_admission r ≡ true → is_covered (set.insert o r) q ≡ is_covered o q
-covers_no_more o r q a = ap (λ b. is_admission q && b) (contains-insert nat_list_cmp_total o r (covering q) ∙ ap (λ b. b || contains o (covering q)) (apart (covering q) r refl a))
-
--- so with one that is not covered a content makes itself
-pub made_with_admission : (o : Operations) (r : List ℕ) → IsMade o → is_admission r ≡ true → is_covered o r ≡ false → IsMade (set.insert o r)
-made_with_admission o r made a free = made_of_uncovered (set.insert o r) (λ q h.
-    covers_no_more o r q a
-    ∙ either (is_covered o q ≡ false) (eq_by_cmp (slice_cmp nat_cmp) q r) (contains o q)
-    (λ t. ap (is_covered o) (is_tied q r t) ∙ free)
-    (λ there. uncovered_of_made o made q there)
-    (sym (contains-insert nat_list_cmp_total o r q) ∙ h))
 
 -- an admission that is not covered goes in at its place
 pub held_admission : (operations : List Operation) (i : ℕ) (slice : List ℕ) → IsHeld operations → IsValid slice → IsPlaceFor (slice_cmp nat_cmp) (map rec operations) (admission_record slice) i
@@ -117,24 +102,6 @@ held_retirement operations i retirement held is n place =
     }
 
 -- admissions drop none, so each one that changes the content brings one member more
-len_with : (o : Operations) (r : List ℕ) → IsMade o → is_admission r ≡ true → set.len (with_record o r) ≡ set.len o + (if changes o r then 1 else 0)
-len_with o r made a = by_known (contains o r || is_covered o r) refl
-  where
-    by_known : (b : Bool) → (contains o r || is_covered o r) ≡ b → set.len (with_record o r) ≡ set.len o + (if changes o r then 1 else 0)
-    by_known true e = ap set.len (with_known o r made e) ∙ rw (known_changes o r e) (omega arith)
-    by_known false e =
-        let absent : contains o r ≡ false = or_none_left (contains o r) (is_covered o r) e in
-        let free : is_covered o r ≡ false = or_none_right (contains o r) (is_covered o r) e in
-        ap set.len (made_with_admission o r made a free) ∙ set.len-insert nat_list_cmp_total o r ∙ rw (absent, new_changes o r absent free) (omega arith)
-      where
-        or_none_left : (x y : Bool) → (x || y) ≡ false → x ≡ false
-        or_none_left true y h = absurd (true≢false h)
-        or_none_left false y h = refl
-
-        or_none_right : (x y : Bool) → (x || y) ≡ false → y ≡ false
-        or_none_right true y h = absurd (true≢false h)
-        or_none_right false y h = h
-
 first_of : (a b : Bool) → (a && b) ≡ true → (a ≡ true) × (b ≡ true)
 first_of true b h = (refl, h)
 first_of false b h = absurd (true≢false (sym h))

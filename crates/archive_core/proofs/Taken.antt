@@ -1,6 +1,6 @@
 -- What operations give that are taken one after another, and what a retirement keeps out.
-use Rattle.std.proofs.Common.{◌≡◌, ◌↔◌, ℕ, ◌+◌, ◌≤◌, if◌then◌else◌, List, [], ◌∷◌, Bool, true, false, ◌||◌, ◌&&◌, length, map, refl, sym, ap, ◌∙◌, subst, arith}
-use Rattle.std.specs.Prelude.{not, fold}
+use Rattle.std.proofs.Common.{◌≡◌, ◌↔◌, ℕ, suc, ◌+◌, ◌≤◌, if◌then◌else◌, List, [], ◌∷◌, Bool, true, false, ◌||◌, ◌&&◌, length, map, refl, sym, ap, ◌∙◌, subst, arith}
+use Rattle.std.specs.Prelude.{not, fold, Contains}
 use mathlib.Core.Bool.{true≢false}
 use Rattle.std.specs.Ordering.{nat_cmp, eq_by_cmp, is_eq}
 use Rattle.std.specs.Cmp.{Equal-is, tied_itself}
@@ -15,7 +15,7 @@ use Rattle.archive_core.specs.Record.{rec, retirement_record}
 use Rattle.archive_core.specs.Content.{Operations, is_admission, covering, is_covered, made, IsMade, IsContent, IsBelow, with_record, with_records, changes, new_among, joined, HaveSameMembers, IsLive, IsTakenInPart}
 use Rattle.archive_core.specs.declared.operations.Operation.{Operation}
 use Rattle.archive_core.specs.declared.keys.SliceKey.{SliceKey}
-use Rattle.archive_core.proofs.Made.{bytes_same, either, or_left, or_right, by_test, contains_made, IsAlike, made_alike, made_is_alike, alike_insert, joined_made_right, made_again, below_reflexive, below_transitive, below_made}
+use Rattle.archive_core.proofs.Made.{bytes_same, made_of_uncovered, uncovered_of_made, either, or_left, or_right, by_test, contains_made, IsAlike, made_alike, made_is_alike, alike_insert, joined_made_right, made_again, below_reflexive, below_transitive, below_made}
 
 -- an operation that is there, or covered there, changes nothing, and another one changes the content
 pub known_changes : (o : Operations) (r : List ℕ) → (set.contains o r || is_covered o r) ≡ true → changes o r ≡ false
@@ -150,14 +150,17 @@ pub never_live_again : (o p : Operations) (key : SliceKey) (slice : List ℕ) �
 never_live_again o p key slice retired below live = true≢false (sym (below.retirements (retirement_record key (sha256 slice)) refl retired) ∙ live.kept)
 
 -- of records no more are new than there are
+one_at_most : (changed : Bool) → (if changed then 1 else 0) ≤ 1
+one_at_most true = omega arith
+one_at_most false = omega arith
+
 pub new_within : (o : Operations) (rs : List (List ℕ)) → new_among o rs ≤ length rs
 unfolding new_among
 new_within o [] = omega arith
-new_within o (r ∷ rs) = one (changes o r) (new_within (with_record o r) rs)
-  where
-    one : (b : Bool) → new_among (with_record o r) rs ≤ length rs → (if b then 1 else 0) + new_among (with_record o r) rs ≤ length (r ∷ rs)
-    one true h = omega arith
-    one false h = omega arith
+new_within o (r ∷ rs) =
+    let one = one_at_most (changes o r) in
+    let more = new_within (with_record o r) rs in
+    omega arith
 
 pub new_in_turn : (o : Operations) (r : List ℕ) (rs : List (List ℕ)) → new_among o (r ∷ rs) ≡ (if changes o r then 1 else 0) + new_among (with_record o r) rs
 unfolding new_among
@@ -179,10 +182,7 @@ pub one_counted : (old now next : Operations) (all left rest : List Operation) (
     → more ≡ new + (if changes now (rec operation) then 1 else 0) → IsCounted old next all rest more
 one_counted old now next all left rest operation new more at is next_is more_is = record {
   way = one_taken old now next all left rest operation at.way is next_is;
-  counted =
-      let turn : new_among now (map rec left) ≡ (if changes now (rec operation) then 1 else 0) + new_among (with_record now (rec operation)) (map rec rest) =
-      ap (λ (l : List Operation). new_among now (map rec l)) is ∙ new_in_turn now (rec operation) (map rec rest) in
-      rw next_is (omega (arith, more_is, at.counted, turn));
+  counted = rw next_is (omega (arith, more_is, at.counted, ap (λ (l : List Operation). new_among now (map rec l)) is, new_in_turn now (rec operation) (map rec rest)));
 }
 
 pub all_counted : (old now : Operations) (all left : List Operation) (new : ℕ) → IsCounted old now all left new → length left ≡ 0 → new ≡ new_among old (map rec all)
@@ -194,6 +194,45 @@ pub counted_below : (old now : Operations) (all left rest : List Operation) (ope
     → new + (if changes now (rec operation) then 1 else 0) ≤ length all
 counted_below old now all left rest operation new at is =
     let most = new_within old (map rec all) in
-    let turn : new_among now (map rec left) ≡ (if changes now (rec operation) then 1 else 0) + new_among (with_record now (rec operation)) (map rec rest) =
-    ap (λ (l : List Operation). new_among now (map rec l)) is ∙ new_in_turn now (rec operation) (map rec rest) in
-    omega (arith, most, length-map all rec, at.counted, turn)
+    omega (arith, most, length-map all rec, at.counted, ap (λ (l : List Operation). new_among now (map rec l)) is, new_in_turn now (rec operation) (map rec rest))
+
+-- ---- admissions drop none
+
+-- an admission covers nothing
+covers_no_more : (o : Operations) (r q : List ℕ) → is_admission r ≡ true → is_covered (set.insert o r) q ≡ is_covered o q
+covers_no_more o r q a = ap (λ b. is_admission q && b) (contains-insert nat_list_cmp_total o r (covering q) ∙ ap (λ b. b || set.contains o (covering q)) (apart (covering q) r refl a))
+
+-- so with one that is not covered a content makes itself
+pub made_with_admission : (o : Operations) (r : List ℕ) → IsMade o → is_admission r ≡ true → is_covered o r ≡ false → IsMade (set.insert o r)
+made_with_admission o r made a free = made_of_uncovered (set.insert o r) (λ q h.
+    covers_no_more o r q a
+    ∙ either (is_covered o q ≡ false) (eq_by_cmp (slice_cmp nat_cmp) q r) (set.contains o q)
+    (λ t. ap (is_covered o) (tied_is q r t) ∙ free)
+    (λ there. uncovered_of_made o made q there)
+    (sym (contains-insert nat_list_cmp_total o r q) ∙ h))
+
+-- and each one that changes the content brings one member more
+pub len_with : (o : Operations) (r : List ℕ) → IsMade o → is_admission r ≡ true → set.len (with_record o r) ≡ set.len o + (if changes o r then 1 else 0)
+len_with o r made a = by_known (set.contains o r || is_covered o r) refl
+  where
+    or_none_left : (x y : Bool) → (x || y) ≡ false → x ≡ false
+    or_none_left true y h = absurd (true≢false h)
+    or_none_left false y h = refl
+
+    or_none_right : (x y : Bool) → (x || y) ≡ false → y ≡ false
+    or_none_right true y h = absurd (true≢false h)
+    or_none_right false y h = h
+
+    by_known : (b : Bool) → (set.contains o r || is_covered o r) ≡ b → set.len (with_record o r) ≡ set.len o + (if changes o r then 1 else 0)
+    by_known true e = ap set.len (with_known o r made e) ∙ rw (known_changes o r e) (omega arith)
+    by_known false e =
+        let absent : set.contains o r ≡ false = or_none_left (set.contains o r) (is_covered o r) e in
+        let free : is_covered o r ≡ false = or_none_right (set.contains o r) (is_covered o r) e in
+        ap set.len (made_with_admission o r made a free) ∙ set.len-insert nat_list_cmp_total o r ∙ rw (absent, new_changes o r absent free) (omega arith)
+
+pub grown : (o : Operations) (rs : List (List ℕ)) → IsMade o → ((r : List ℕ) → Contains rs r → is_admission r ≡ true) → set.len (with_records o rs) ≡ set.len o + new_among o rs
+grown o [] made all = omega (arith, new_of_none o)
+grown o (r ∷ rs) made all =
+    let one = len_with o r made (all r (0, omega arith, refl)) in
+    let rest = grown (with_record o r) rs (made_again (set.insert o r)) (λ q h. all q (suc h.0, omega (arith, h.1), h.2)) in
+    omega (arith, one, rest, new_in_turn o r rs)

@@ -1,5 +1,5 @@
 -- Where no retirement is among operations, and where none of them is covered by one.
-use Rattle.std.proofs.Common.{◌≡◌, ℕ, Bool, true, false, not, ◌||◌, ◌&&◌, cond, List, [], ◌∷◌, map, filter, drop, slice_get, Some, refl, sym, ap, ◌∙◌}
+use Rattle.std.proofs.Common.{◌≡◌, ℕ, Bool, true, false, not, ◌||◌, ◌&&◌, cond, List, [], ◌∷◌, map, filter, drop, slice_get, Some, refl, sym, ap, ◌∙◌, subst}
 use mathlib.Core.Bool.{true≢false}
 use Rattle.std.specs.declared.cmp.Ordering.TheVariants.{Less}
 use Rattle.std.specs.Ordering.{nat_cmp, eq_by_cmp, is_eq}
@@ -9,6 +9,7 @@ use Rattle.std.specs.List.{AllByRecursion, list_any, insert as insert_at}
 use Rattle.std.specs.List.Sorted.{IsStrictlySortedBy}
 use Rattle.std.specs.FinSet as set
 use Rattle.std.specs.FinSet.{contains, from_list, contains-from_list, contains-insert, contains-empty}
+use Rattle.join_core.specs.InnerSearch.{IsPlaceFor}
 use Rattle.sha2.specs.Sha256.{sha256}
 use Rattle.archive_core.specs.Key.{IsKey, key_bytes}
 use Rattle.archive_core.specs.Valid.{key_of, IsValid}
@@ -26,7 +27,7 @@ use Rattle.archive_core.proofs.Records.{same_parts, length-key_of}
 use Rattle.archive_core.proofs.Made.{bytes_same, and_false}
 use Rattle.archive_core.proofs.Held.{along_insert}
 use Rattle.archive_core.proofs.Falling.{filter_all}
-use Rattle.archive_core.proofs.Put.{covered_slice}
+use Rattle.archive_core.proofs.Put.{covered_slice, HoldsWith, held_retirement}
 
 -- behind an admission no retirement stands
 none_behind : (slice front : List ℕ) (xs : List Operation) → AllByRecursion (λ r. slice_cmp nat_cmp (admission_record slice) r ≡ Less) (map rec xs) → list_any (eq_by_cmp (slice_cmp nat_cmp) (1 ∷ front)) (map rec xs) ≡ false
@@ -106,3 +107,10 @@ unfolding only
 none_under_dropped key digest operations i is_key are none =
     filter_all (λ operation. not (is_covered (only key digest) (rec operation))) (insert_at operations i (Retire key digest))
     (along_insert (λ operation. not (is_covered (only key digest) (rec operation)) ≡ true) operations i (Retire key digest) refl (none_under key digest operations is_key are none))
+
+-- so it goes in at its place, where no slice of its key is there, and all the others stay
+pub held_where_none : (operations : List Operation) (i : ℕ) (key : SliceKey) (digest : Digest) → IsHeld operations → IsOperation (Retire key digest) → IsPlaceFor (slice_cmp nat_cmp) (map rec operations) (retirement_record key digest.0) i
+    → filter (is_under Admission key) operations ≡ [] → HoldsWith (from_list (map rec operations)) (retirement_record key digest.0) (insert_at operations i (Retire key digest))
+held_where_none operations i key digest held one place none =
+    subst (HoldsWith (from_list (map rec operations)) (retirement_record key digest.0)) (none_under_dropped key digest operations i one.0 held.are none)
+    (held_retirement operations i (Retire key digest) held one refl place)

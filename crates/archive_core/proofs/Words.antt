@@ -6,12 +6,16 @@ use Rattle.std.specs.FinSet.{contains}
 use Rattle.sha2.specs.Sha256.{sha256}
 use Rattle.archive_core.specs.Valid.{key_of, IsValid}
 use Rattle.archive_core.specs.Record.{IsRecord, admission_record, retirement_record}
-use Rattle.archive_core.specs.Content.{Operations, is_admission, covering, made, IsContent, IsBelow, IsLive}
+use Rattle.archive_core.specs.Content.{Operations, is_admission, covering, is_covered, made, IsContent, IsBelow, IsLive}
 use Rattle.archive_core.specs.declared.keys.SliceKey.{SliceKey}
 use Rattle.archive_core.proofs.Made.{either, or_left, or_right, from_made, made_again, uncovered_of_made}
 use Rattle.archive_core.proofs.Entries.{covering_admission}
-use Rattle.archive_core.proofs.Put.{covered_slice}
 
+-- a valid slice is covered just where the retirement of its key and digest is there
+pub covered_slice : (o : Operations) (slice : List ℕ) → IsValid slice → is_covered o (admission_record slice) ≡ contains o (retirement_record (key_of slice) (sha256 slice))
+covered_slice o slice valid = ap (contains o) (covering_admission slice valid)
+
+-- what a set of records makes is a content
 pub made_content : (o : Operations) → ((r : List ℕ) → contains o r ≡ true → IsRecord r) → IsContent (made o)
 made_content o records = record { itself = made_again o; records = λ r h. records r (from_made o r h) }
 

@@ -1,5 +1,5 @@
 //! Slices that retirements cover. This is the one place that tells them, and no slice that is held is one.
-ghost use Rattle.std.specs.Prelude.{◌≡◌, ◌≤◌, ◌||◌, ℕ, List, [], ◌∷◌, false, length, map, filter, not};
+ghost use Rattle.std.specs.Prelude.{◌≡◌, ◌≤◌, ◌||◌, ℕ, List, [], ◌∷◌, true, false, length, map, filter, not};
 ghost use Rattle.std.specs.FinSet as set;
 ghost use Rattle.std.specs.Ordering.{nat_cmp};
 ghost use Rattle.std.specs.Cmp.Lexicographic.{slice_cmp};
@@ -8,7 +8,10 @@ ghost use Rattle.sha2.specs.Sha256.{sha256};
 ghost use Rattle.archive_core.specs.Valid.{key_of, IsValid};
 ghost use Rattle.archive_core.specs.Record.{rec, retirement_record, IsOperation};
 ghost use Rattle.archive_core.specs.Content.{is_covered, changes};
+ghost use Rattle.archive_core.specs.Key.{IsKey};
 ghost use Rattle.archive_core.specs.InnerHeld.{IsHeld};
+ghost use Rattle.archive_core.specs.InnerRange.{is_under};
+ghost use Rattle.archive_core.specs.declared.range.Kind.TheVariants.{Admission};
 ghost use Rattle.archive_core.specs.declared.operations.Operation.TheVariants.{Retire};
 
 use crate::plain::search;
@@ -126,6 +129,15 @@ pub(crate) fn retirement(key: SliceKey, digest: Digest) -> Operation
     ensures operation { IsOperation (Retire key digest) }
 {
     Operation::Retire(key, digest)
+}
+
+// Whether no slice of a key is there, so that no retirement of the key covers one.
+pub(crate) fn has_none(operations: &[Operation], key: &SliceKey) -> bool
+    requires { IsHeld operations.now }
+    ensures none { result ≡ true → filter (is_under Admission key.now) operations.now ≡ [] }
+    ensures key { IsKey key.now }
+{
+    under(operations, Kind::Admission, *key).is_empty()
 }
 
 // Drops the slices that one retirement covers.

@@ -16,7 +16,7 @@ ghost use Rattle.archive_core.specs.Lookup.{IsOwnRow, IsAnswerOf, own_row, answe
 ghost use Rattle.archive_core.specs.Names.{name_view};
 ghost use Rattle.archive_core.specs.InnerNames.{names_of, names_among};
 
-use crate::covered::{Lent, drop_covered, drop_retired, retirement};
+use crate::covered::{Lent, drop_covered, drop_retired, has_none, retirement};
 use crate::finding::{Finding, rows_of};
 use crate::live::{Asked, Tally, answer_of_one, is_key, is_kind};
 use crate::names::{has_name, put_in_order, rows_in};
@@ -224,7 +224,7 @@ impl PlainArchive {
         match search_from_end(&self.operations, &retirement) {
             Ok(_) => Ok(false),
             Err(index) => {
-                let none = under(&self.operations, Kind::Admission, key).is_empty();
+                let none = has_none(&self.operations, &key);
                 self.operations.insert(index, retirement)?;
                 if none {
                     return Ok(true);

@@ -13,8 +13,5 @@ returns-clause-answer c =
       λ below. all ∙ below_is_known o theirs c.other.invariant (subst (λ p. IsBelow p o) (sym c.other.view_is) below),
     )
 
-pub returns-clause-this_is_content : goal.returns-clause-this_is_content
-returns-clause-this_is_content c = subst IsContent c.self.view_is (content_of_held c.self.inside.operations.items c.self.invariant)
-
 pub returns-clause-other_is_content : goal.returns-clause-other_is_content
 returns-clause-other_is_content c = subst IsContent c.other.view_is (content_of_held c.other.inside.operations.items c.other.invariant)
