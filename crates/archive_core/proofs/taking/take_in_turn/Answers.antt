@@ -2,11 +2,11 @@ use mir.Val.{bool_byte}
 use Rattle.std.proofs.Common.{Bool, true, false, refl, ◌≡◌, ◌∷◌, ◌+◌, List, length, map, ap, subst, ◌∙◌, arith, rules, if◌then◌else◌}
 use Rattle.std.specs.Vec.Iter.{into_iter_items, into_iter_len}
 use Rattle.std.proofs.lemmas.Result.{err_from_is_err_and}
-use Rattle.archive_core.specs.Content.{IsTakenInPart, changes}
+use Rattle.archive_core.specs.Content.{IsTakenInPart, changes, new_among}
 use Rattle.archive_core.specs.Record.{rec}
 use Rattle.archive_core.specs.declared.operations.Operation.{Operation}
 use Rattle.archive_core.proofs.Held.{content_with}
-use Rattle.archive_core.proofs.Taken.{one_counted, counted_below, taken_in_part}
+use Rattle.archive_core.proofs.Taken.{one_counted, all_counted, counted_below, taken_in_part}
 use Rattle.archive_core.proofs.taking.take_in_turn.Goals as goal
 
 byte_is : (b : Bool) → bool_byte b ≡ (if b then 1 else 0)
@@ -50,3 +50,14 @@ returns-in_err-changed-clause-refused g c =
     let new = g.A.Join.content c.take.new.self in
     let part = taken_in_part old (g.A.Join.content c.operations.archive) new (into_iter_items c.into_iter-operation-iterator.result) (into_iter_items c.operations.operation-iterator) c.operations.invariant.content c.operations.invariant.way.way c.in_err-changed.ensures.refused in
     rw p.1 (subst (λ (all : List Operation). IsTakenInPart old (map rec all) new) c.into_iter-operation-iterator.ensures.into_iter_gives.0 part)
+
+pub returns-clause-counted : goal.returns-clause-counted
+returns-clause-counted g c =
+    let old = g.A.Join.content c.args.archive.now in
+    let at = c.operations in
+    let all : List Operation = into_iter_items c.into_iter-operation-iterator.result in
+    let left : List Operation = into_iter_items at.operation-iterator in
+    let long : into_iter_len at.operation-iterator ≡ length left = at.invariant.long in
+    let none : length left ≡ 0 = omega (arith, long, c.in-None.ensures.steps) in
+    all_counted old (g.A.Join.content at.archive) all left at.new at.invariant.way none
+    ∙ ap (λ (l : List Operation). new_among old (map rec l)) c.into_iter-operation-iterator.ensures.into_iter_gives.0
