@@ -20,3 +20,4 @@ pub mod Picked
 pub mod Falling
 pub mod Ranges
 pub mod Uncovered
+pub mod Runs
