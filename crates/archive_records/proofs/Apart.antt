@@ -99,7 +99,7 @@ push_apart xs x a b is free = made_of_uncovered (set_of (xs ++ x ∷ [])) (λ r 
 
 -- ---- the retirements among the records
 
-abbrev same_as : List ℕ → List ℕ → Bool
+abbrev pub same_as : List ℕ → List ℕ → Bool
 same_as = eq_by_cmp order
 
 pub contains-push : (xs : List (List ℕ)) (x q : List ℕ) → contains (set_of (xs ++ x ∷ [])) q ≡ (same_as q x || contains (set_of xs) q)
@@ -111,6 +111,11 @@ retired_more Archive old new records x are k = λ r.
     k.alike r ∙ contains-insert nat_list_cmp_total (set_of old) x (1 ∷ r) ∙ ap (λ b. same_as (1 ∷ r) x || b) (are r) ∙ sym (contains-push records x (1 ∷ r))
 retired_more Operations_file old new records x are k = tt
 retired_more Summary_file old new records x are k = tt
+
+pub retired_none : (file : TextKind) (retired : List (List ℕ)) → retired ≡ [] → AreRetired file retired []
+retired_none Archive retired e = λ r. ap (λ (t : List (List ℕ)). contains (set_of t) (1 ∷ r)) e
+retired_none Operations_file retired e = tt
+retired_none Summary_file retired e = tt
 
 -- so they cover the same
 pub covered_alike : (o p : Operations) (x : List ℕ) → RetireAlike o p → is_covered o x ≡ is_covered p x

@@ -32,14 +32,14 @@ filter_same p q (x ∷ xs) h = ap (λ b. cond b (x ∷ filter p xs) (filter p xs
 
 from_filter : (p : List ℕ → Bool) (xs : List (List ℕ)) (z : List ℕ) → Contains (filter p xs) z → Contains xs z
 from_filter p [] z c = c
-from_filter p (x ∷ xs) z c = by (p x) c
+from_filter p (x ∷ xs) z c = by (p x) (λ d. from_filter p xs z d) c
   where
-    by : (b : Bool) → Contains (cond b (x ∷ filter p xs) (filter p xs)) z → Contains (x ∷ xs) z
-    by true d = elim (Contains-append_cases (x ∷ []) (filter p xs) z d) [
+    by : (b : Bool) → (Contains (filter p xs) z → Contains xs z) → Contains (cond b (x ∷ filter p xs) (filter p xs)) z → Contains (x ∷ xs) z
+    by true rest d = elim (Contains-append_cases (x ∷ []) (filter p xs) z d) [
       | inl a ↦ Contains-append_left (x ∷ []) xs z a
-      | inr b ↦ later x z xs (from_filter p xs z b)
+      | inr b ↦ later x z xs (rest b)
     ]
-    by false d = later x z xs (from_filter p xs z d)
+    by false rest d = later x z xs (rest d)
 
 filter_one : (p : List ℕ → Bool) (x : List ℕ) (b : Bool) → p x ≡ b → filter p (x ∷ []) ≡ cond b (x ∷ []) []
 filter_one p x b e = ap (λ c. cond c (x ∷ []) []) e

@@ -1,5 +1,5 @@
 -- Where a covered admission is the fault of a text.
-use Rattle.std.proofs.Common.{◌≡◌, ◌≢◌, ℕ, Bool, true, List, [], ◌++◌, refl, sym, ap, ◌∙◌, subst, inl, inr, ◌⊎◌}
+use Rattle.std.proofs.Common.{◌≡◌, ◌≢◌, ℕ, Bool, true, List, [], ◌++◌, length, refl, sym, ap, ◌∙◌, subst, inl, inr, ◌⊎◌}
 use Rattle.std.specs.List.{concat, Contains}
 use Rattle.std.specs.FinSet as set
 use Rattle.std.specs.FinSet.{contains}
@@ -15,7 +15,7 @@ use Rattle.archive_records.specs.declared.fault.RecordFaultKind.TheVariants.{Cov
 use Rattle.archive_records.specs.declared.fault.RecordFault.{RecordFault}
 use Rattle.archive_records.specs.Kind.{magic, may_follow}
 use Rattle.archive_records.specs.Text.{last_of}
-use Rattle.archive_records.specs.Fault.{IsFault, IsFaultOf, IsFaultBehind, FailsBehind, Fails, IsMagicFault, IsCoveredNext}
+use Rattle.archive_records.specs.Fault.{IsFault, IsFaultOf, IsFaultBehind, FailsNext, FailsBehind, Fails, IsMagicFault, IsCoveredNext}
 use Rattle.archive_records.specs.Front.{IsGoodFront, IsLongestFront, front_length}
 use Rattle.archive_records.specs.Reader.{set_of}
 use Rattle.archive_records.proofs.Apart.{in_set, from_set, and_first, and_second, both_true, not_covering}
@@ -32,7 +32,7 @@ trailing_apart kind e t = apart (sym e ∙ t)
     apart h = cc
 
 by_behind : (file : TextKind) (records : List (List ℕ)) (rest : List ℕ) (kind : RecordFaultKind) → kind ≡ Covered → Fails file records rest kind → FailsBehind file records rest kind
-by_behind file records rest kind e (inl f) = absurd (fails_not_covered file (last_of [] records) _ rest (subst (λ (k : RecordFaultKind). _) e f))
+by_behind file records rest kind e (inl f) = absurd (fails_not_covered file (last_of [] records) (length records) rest (subst (FailsNext file (last_of [] records) (length records) rest) e f))
 by_behind file records rest kind e (inr f) = f
 
 -- only an archive's text has such a fault

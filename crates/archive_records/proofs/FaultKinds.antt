@@ -10,7 +10,7 @@ use Rattle.archive_core.specs.declared.faults.SliceFault.{SliceFault}
 use Rattle.archive_records.specs.Layout.{head_length, body_length, record_count, largest_slice, framed, framed_by, framed_behind}
 use Rattle.archive_records.specs.Kind.{allows, may_follow}
 use Rattle.archive_records.specs.Text.{last_of}
-use Rattle.archive_records.specs.Fault.{is_end, tested, next, next_by, FailsNext, IsMagicFault, IsUnended, IsFaultBehind, IsOperationsFault, IsSummaryFault, IsOfText}
+use Rattle.archive_records.specs.Fault.{Refuses, is_end, tested, next, next_by, FailsNext, IsMagicFault, IsUnended, IsFaultBehind, IsOperationsFault, IsSummaryFault, IsOfText}
 use Rattle.archive_records.specs.declared.buffer.Buffer.{Buffer}
 use Rattle.archive_records.specs.Reading.{Blames}
 use Rattle.archive_records.specs.Reader.{bytes_so_far, seen_as, StopsInMagic}

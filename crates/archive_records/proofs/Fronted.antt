@@ -1,6 +1,6 @@
 -- What searches among the retirements find.
 use Rattle.std.proofs.Common.{◌≡◌, ℕ, zero, suc, ◌+◌, ◌<◌, ◌≤◌, Bool, true, false, ◌&&◌, ◌||◌, List, [], ◌∷◌, ◌++◌, length, get_or, take, drop, Result, Ok, Err, refl, sym, ap, ◌∙◌, subst, arith, inl, inr, ◌⊎◌, length-drop}
-use Rattle.std.proofs.lemmas.Bool.{false≢true, cases_lt}
+use Rattle.std.proofs.lemmas.Bool.{false≢true, cases_lt, eqb-true}
 use Rattle.std.proofs.lemmas.List.{take_at, length-take}
 use Rattle.sha2.specs.Sha256.{sha256}
 use Rattle.std.specs.Prelude.{is_ok}
@@ -22,7 +22,7 @@ use Rattle.archive_core.specs.Record.{IsRecord, Admits, Retires}
 use Rattle.archive_records.specs.declared.kind.TextKind.TheVariants.{Archive}
 use Rattle.archive_records.specs.Reader.{set_of, RetireAlike, Keeps}
 use Rattle.archive_records.proofs.Puts.{bytes_same}
-use Rattle.archive_records.proofs.Forms.{tag-retirement}
+use Rattle.archive_records.proofs.Forms.{long-retirement, parts-of}
 use Rattle.archive_records.proofs.Contents.{order, same_bytes}
 use Rattle.archive_records.proofs.Apart.{from_set, is_false, not_covering, same_as}
 
@@ -31,19 +31,19 @@ begins_below : (n : ℕ) (x y : List ℕ) → order x y ≡ Less → is_lt (orde
 begins_below zero x y h = refl
 begins_below (suc n) [] [] h = refl
 begins_below (suc n) [] (b ∷ bs) h = refl
-begins_below (suc n) (a ∷ as) [] h = absurd cc
-begins_below (suc n) (a ∷ as) (b ∷ bs) h = by (nat_cmp a b) refl
+begins_below (suc n) (a ∷ ass) [] h = absurd cc
+begins_below (suc n) (a ∷ ass) (b ∷ bs) h = by (nat_cmp a b) refl (begins_below n ass bs)
   where
     reversed : (o : Ordering) → nat_cmp a b ≡ o → nat_cmp b a ≡ ordering_reverse o
     reversed o e = nat_cmp_total.antisymm b a ∙ ap ordering_reverse e
 
-    by : (o : Ordering) → nat_cmp a b ≡ o → is_lt (order (b ∷ take n bs) (a ∷ take n as)) ≡ false
-    by Less e = rw (reversed Less e) refl
-    by Equal e = rw (reversed Equal e) (begins_below n as bs (rw e at h))
-    by Greater e = absurd (greater (rw e at h))
-      where
-        greater : Greater ≡ Less → ⊥
-        greater c = cc
+    greater : Greater ≡ Less → ⊥
+    greater c = cc
+
+    by : (o : Ordering) → nat_cmp a b ≡ o → (order ass bs ≡ Less → is_lt (order (take n bs) (take n ass)) ≡ false) → is_lt (order (b ∷ take n bs) (a ∷ take n ass)) ≡ false
+    by Less e rest = rw (reversed Less e) refl
+    by Equal e rest = rw (reversed Equal e) (rest (rw e at h))
+    by Greater e rest = absurd (greater (rw e at h))
 
 fronts_sorted : (n : ℕ) (xs : List (List ℕ)) → IsStrictlySortedBy order xs → IsSortedBy (λ x y. is_lt (order (take n x) (take n y))) xs
 fronts_sorted n xs h i d _ lt = begins_below n _ _ (Less-from_sorted order xs i (i + 1) d h (omega arith) lt)
@@ -69,7 +69,7 @@ front_there xs front (Err i) up le parted c e h =
 
 -- none is there that begins otherwise
 pub nothing_there : (xs : List (List ℕ)) (c : List ℕ) (b : Bool) → (contains (set_of xs) c ≡ true → b ≡ true) → b ≡ false → contains (set_of xs) c ≡ false
-nothing_there xs c b h no = is_false (contains (set_of xs) c) (λ t. false≢true (sym no ∙ h t))
+nothing_there xs c b h none = is_false (contains (set_of xs) c) (λ t. false≢true (sym none ∙ h t))
 
 -- the retirement that covers an admission begins with its key
 pub covering_front : (bytes : List ℕ) → 33 ≤ length bytes → take 25 (covering bytes) ≡ 1 ∷ take 24 (drop 1 bytes)
@@ -88,7 +88,7 @@ kept_before xs x h = sym (insert_present nat_list_cmp_total bytes_same (set_of x
 -- ---- one record more
 
 no_admission : (x : List ℕ) → get_or x 0 0 ≡ 1 → is_admission x ≡ false
-no_admission x e = is_false (is_admission x) (λ a. absurd (omega arith))
+no_admission x e = is_false (is_admission x) (λ a. absurd (omega (arith, e, eqb-true (get_or x 0 0) 2 a)))
 
 pub keeps_retirement : (old new : List (List ℕ)) (x : List ℕ) → get_or x 0 0 ≡ 1 → set_of new ≡ set.insert (set_of old) x → Keeps old new x
 keeps_retirement old new x tag is = record {
@@ -101,3 +101,12 @@ keeps_admission old x tag free = record {
   uncovered = free;
   alike = λ r. sym (contains-insert nat_list_cmp_total (set_of old) x (1 ∷ r) ∙ ap (λ b. b || contains (set_of old) (1 ∷ r)) (is_false (same_as (1 ∷ r) x) (λ e. tag (ap (λ (t : List ℕ). get_or t 0 0) (sym (same_bytes (1 ∷ r) x e))))));
 }
+
+pub retirement_length : (x : List ℕ) → IsRecord x → get_or x 0 0 ≡ 1 → length x ≡ 57
+retirement_length x (inl a) e = absurd (omega (arith, e, (parts-of x a).tag))
+retirement_length x (inr t) e = long-retirement x t
+
+-- what a search says that its result is
+pub is_there : (xs : List (List ℕ)) (x : List ℕ) (r : Result ℕ ℕ) → IsFound order xs x r → is_ok r ≡ contains (set_of xs) x
+is_there xs x (Ok i) found = sym found.present
+is_there xs x (Err i) found = sym found.absent.absent

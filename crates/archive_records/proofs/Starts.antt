@@ -41,7 +41,7 @@ module _ (a1 b1 a2 b2 w0 w1 : Option (List ℕ)) (left right : Side) (h : HasRea
     order = λ _ n. absurd (n t);
     joins = joins_start;
     records = ap length (sym kept_none);
-    bytes = n ∙ ap length x_is ∙ ap (λ (t : List (List ℕ)). 8 + length (concat t)) (sym kept_none);
+    bytes = omega (arith, n, ap length x_is, ap (λ (t : List (List ℕ)). length (concat t)) kept_none);
     gained = subst (λ (t : List (List ℕ)). Appends w0 w1 (magic ++ concat t)) (sym kept_none) (subst (Appends w0 w1) x_is p);
   }
 

@@ -7,11 +7,12 @@ use Rattle.std.specs.FinSet as set
 use Rattle.archive_core.specs.Content.{is_covered}
 use Rattle.byte_device.proofs.Known.{Consumes-then}
 use Rattle.archive_records.specs.declared.fault.RecordFaultKind.{RecordFaultKind}
-use Rattle.archive_records.specs.declared.fault.RecordFaultKind.TheVariants.{Trailing, Device, OutOfMemory, Covered}
+use Rattle.archive_records.specs.declared.fault.RecordFaultKind.TheVariants.{Truncated, Trailing, Device, OutOfMemory, Covered}
 use Rattle.archive_records.specs.declared.fault.RecordFault.{RecordFault}
 use Rattle.archive_records.specs.Kind.{magic_of, IsItem, end_length, may_follow}
 use Rattle.archive_records.specs.Text.{end_record, ending, text_of, InOrder, AreApart, last_of}
 use Rattle.archive_records.specs.Fault.{next, IsUnended, FailsNext, FailsBehind, Fails}
+use Rattle.archive_records.specs.Reading.{Blames}
 use Rattle.archive_records.specs.declared.next.Step.{Step}
 use Rattle.archive_records.specs.declared.next.Step.TheVariants.{End, Item}
 use Rattle.archive_core.specs.declared.slices.SliceFacts.{SliceFacts}
@@ -19,7 +20,7 @@ use Rattle.archive_records.specs.Reader.{IfEnd, IfItem, Position, set_of, Retire
 use Rattle.archive_records.proofs.Apart.{apart_more, retired_more, covered_alike}
 use Rattle.archive_records.proofs.Puts.{concat-push}
 use Rattle.archive_records.proofs.Holds.{next-above}
-use Rattle.archive_records.proofs.FaultKinds.{never_trailing}
+use Rattle.archive_records.proofs.FaultKinds.{never_trailing, memory_blames}
 use Rattle.archive_records.proofs.Forms.{item-no_end}
 use Rattle.archive_records.proofs.Grown.{next-ok-grows}
 use Rattle.archive_records.proofs.Ends.{end-is_end, length-end_record, next_end, counted, counted_unended}
@@ -140,6 +141,45 @@ step_passes a b before after bytes is taken item follows file count offset few k
   few = few;
   kept = subst (KeepsIn before.file before.retired after.retired) (sym is) kept;
 }
+
+-- why an item is refused by the retirements before it
+abbrev pub IsRefusedBy : Position → List ℕ → RecordFaultKind → Type 0
+IsRefusedBy before bytes kind = (kind ≡ OutOfMemory) ⊎ ((kind ≡ Covered) × (before.file ≡ Archive) × (is_covered (set_of before.retired) bytes ≡ true))
+
+pub step_refused : (a b : Option (List ℕ)) (before : Position) (bytes : List ℕ) (kind : RecordFaultKind) → Consumes a b bytes → before.count < 2 ^ 63 → IsItem before.file bytes → may_follow before.file before.last bytes ≡ true → IsRefusedBy before bytes kind
+    → StopsAt a b before (record { kind = kind; offset = before.offset })
+step_refused a b before bytes kind taken few item follows (inl e) = record {
+  rest = bytes;
+  taken = taken;
+  unended = λ known. absurd (known.1 e);
+  fails = λ known. absurd (known e);
+  offset_is = refl;
+  few = few;
+}
+step_refused a b before bytes kind taken few item follows (inr c) = record {
+  rest = bytes;
+  taken = taken;
+  unended = λ known. subst (λ (f : TextKind). IsUnended f bytes) (sym c.1) tt;
+  fails = λ known. inr (record {
+    kind_is = c.0;
+    file_is = c.1;
+    item = subst (λ (f : TextKind). IsItem f bytes) c.1 item;
+    follows = subst (λ (f : TextKind). may_follow f before.last bytes ≡ true) c.1 follows;
+    covered = c.2;
+  });
+  offset_is = refl;
+  few = few;
+}
+
+pub refused_blames : {R : Type 0} (left : R → Option (List ℕ)) (failures : R → ℕ) (old new : R) (before : Position) (bytes : List ℕ) (kind : RecordFaultKind) → failures new ≡ failures old → IsRefusedBy before bytes kind → Blames left failures old new kind
+refused_blames left failures old new before bytes kind unfailed (inl e) = subst (Blames left failures old new) (sym e) (memory_blames left failures old new unfailed)
+refused_blames left failures old new before bytes kind unfailed (inr c) = subst (Blames left failures old new) (sym c.0) ((λ e. absurd (no_device e)), (λ _. unfailed), λ e. absurd (no_end e))
+  where
+    no_device : Covered ≡ Device → ⊥
+    no_device e = cc
+
+    no_end : Covered ≡ Truncated → ⊥
+    no_end e = cc
 
 -- what comes next is never bytes too many
 pub step-never_trailing : (a b : Option (List ℕ)) (before : Position) (fault : RecordFault) → StopsAt a b before fault → fault.kind ≢ Trailing

@@ -1,5 +1,6 @@
 -- A turn of a merge: the record that is next is written.
-use Rattle.std.proofs.Common.{◌≡◌, ◌≢◌, ℕ, ◌+◌, ◌-◌, Bool, true, false, List, [], ◌∷◌, ◌++◌, length, Option, Result, Ok, Err, refl, sym, ap, ◌∙◌, subst, arith, inl, inr, ◌⊎◌, append_assoc, length-append}
+use Rattle.std.proofs.Common.{◌≡◌, ◌≢◌, ℕ, ◌+◌, ◌-◌, ◌<◌, Bool, true, false, List, [], ◌∷◌, ◌++◌, length, Option, Result, Ok, Err, refl, sym, ap, ◌∙◌, subst, arith, inl, inr, ◌⊎◌, append_assoc, length-append}
+use Rattle.std.proofs.lemmas.Bool.{false≢true}
 use Rattle.std.specs.Prelude.{IfErr, OnOk, MatchResult}
 use Rattle.std.specs.declared.cmp.Ordering.{Ordering}
 use Rattle.std.specs.declared.cmp.Ordering.TheVariants.{Less, Equal, Greater}
@@ -22,7 +23,7 @@ use Rattle.archive_records.specs.Front.{front_length}
 use Rattle.archive_records.specs.Merging.{most_records}
 use Rattle.archive_records.specs.declared.fault.MergeCause.{MergeCause}
 use Rattle.archive_records.specs.declared.fault.MergeFault.{MergeFault}
-use Rattle.archive_records.specs.Turns.{kept, TellsBy, TellsCovered, Stands, Joins, Merging, LeftStopped, RightStopped, WriteStopped, IsFull, LeftFull, RightFull, ByCause, HasStoppedMerge, IsWritten, first_by, first_of, Fits, IsRead, IsRefusedMore, memory_behind}
+use Rattle.archive_records.specs.Turns.{kept, TellsBy, TellsCovered, Stands, Joins, Merging, LeftStopped, RightStopped, WriteStopped, IsFull, LeftFull, RightFull, ByCause, HasStoppedMerge, IsWritten, cost, cost_of, first_by, first_of, Fits, IsRead, IsRefusedMore, memory_behind}
 use Rattle.archive_records.proofs.Puts.{bytes_same, concat-push}
 use Rattle.archive_records.proofs.Steps.{last_of-push}
 use Rattle.archive_records.proofs.Ascending.{below-less, below-greater, last_is_record, last_under}
@@ -54,6 +55,15 @@ first_greater Held Ended o read some e = absurd cc
 first_greater Held Unread o read some e = absurd cc
 first_greater Ended r o read some e = (some refl, λ t. absurd cc)
 first_greater Unread r o read some e = absurd (read refl)
+
+-- a record that the other side's retirements cover is not both sides'
+pub only_less : (m : Merge) (o : Ordering) → first_of m.left m.right ≡ o → (o ≡ Less) ⊎ (o ≡ Equal) → TellsCovered m.left m.right true → first_of m.left m.right ≡ Less
+only_less m o is (inl e) tells = is ∙ e
+only_less m o is (inr e) tells = absurd (false≢true (sym (subst (λ (x : Ordering). TellsBy x m.left m.right true) (is ∙ e) tells)))
+
+-- where it is passed over there is less to do
+pub less_cost : (m : Merge) → first_of m.left m.right ≡ Less → cost_of (record { left = record { reader = m.left.reader; ahead = Unread }; right = m.right; written = m.written }) < cost_of m
+less_cost m first = omega (arith, ap cost (first_less m.left.ahead m.right.ahead _ first).0)
 
 -- ---- one side
 

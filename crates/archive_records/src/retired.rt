@@ -4,7 +4,7 @@ ghost use Rattle.std.specs.Prelude.{◌≡◌, ◌≤◌, ◌∷◌, ◌⊎◌, 
 ghost use Rattle.std.specs.FinSet as set;
 ghost use Rattle.std.specs.Ordering.{nat_cmp};
 ghost use Rattle.std.specs.Cmp.Lexicographic.{slice_cmp};
-ghost use Rattle.std.specs.List.Sorted.{IsStrictlySortedBy};
+ghost use Rattle.std.specs.List.Sorted.{IsStrictlySortedBy, IsSearchInRange};
 ghost use Rattle.join_core.specs.InnerSearch.{IsFound};
 ghost use Rattle.archive_core.specs.Record.{IsRecord};
 ghost use Rattle.archive_core.specs.Content.{is_covered, covering};
@@ -12,7 +12,10 @@ ghost use Rattle.archive_records.specs.declared.fault.RecordFaultKind.TheVariant
 ghost use Rattle.archive_records.specs.Reader.{Keeps, set_of};
 
 use crate::fault::RecordFaultKind;
-use crate::head::{ADMISSION, ADMISSION_HEAD_LEN, RETIREMENT, RETIREMENT_LEN};
+use crate::head::{
+    ADMISSION, ADMISSION_HEAD_LEN, RETIREMENT, RETIREMENT_LEN, key_in, tagged_bytes,
+};
+use archive_core::Digest;
 use memory::{Heap, NoMemory};
 use sha2::{Digest as _, Sha256};
 use std::cmp::Ordering;
@@ -57,7 +60,8 @@ fn compare(a: &[u8; 57], b: &[u8; 57]) -> Ordering
 /// Whether the retirement is among these, which ascend.
 fn search(records: &[[u8; 57]], retirement: &[u8; 57]) -> Result<usize, usize>
     requires { IsStrictlySortedBy (slice_cmp nat_cmp) records.now }
-    ensures { IsFound (slice_cmp nat_cmp) records.now retirement.now result }
+    ensures found { IsFound (slice_cmp nat_cmp) records.now retirement.now result }
+    ensures within { IsSearchInRange result (length records.now) }
 {
     records.binary_search_by(|kept| compare(kept, retirement))
 }
@@ -78,10 +82,8 @@ fn covering_of(bytes: &[u8]) -> [u8; 57]
     requires { 33 ≤ length bytes.now }
     ensures { result ≡ covering bytes.now }
 {
-    let mut record = [0; RETIREMENT_LEN];
-    record[..FRONT].copy_from_slice(&front_of(bytes));
-    record[FRONT..].copy_from_slice(&Sha256::digest(&bytes[ADMISSION_HEAD_LEN..]));
-    record
+    let digest = Digest(Sha256::digest(&bytes[ADMISSION_HEAD_LEN..]));
+    tagged_bytes(RETIREMENT, &key_in(bytes), &digest)
 }
 
 /// The record of a retirement.
