@@ -9,6 +9,7 @@ use Rattle.archive_core.specs.Valid.{key_of, IsValid}
 use Rattle.archive_core.specs.Record.{admission, admission_record, retirement_record, Admits, IsRecord}
 use Rattle.archive_core.specs.declared.keys.SliceKey.{SliceKey}
 use Rattle.archive_core.proofs.Records.{same_parts, length-key_of, length-retirement_record}
+use Rattle.archive_core.specs.Content.{key_and_digest, covering}
 use Rattle.archive_core.specs.Summary.{entry}
 
 -- an admission's record up to its slice
@@ -35,10 +36,19 @@ key_at : (s : List ℕ) → IsValid s → take 24 (drop 1 (admission_record s)) 
 unfolding admission
 key_at s valid = ap (λ n. take n (key_bytes (key_of s) ++ (to_be_bytes w64 (length s) ++ s))) (sym (length-key_of s valid)) ∙ take_front (key_bytes (key_of s)) (to_be_bytes w64 (length s) ++ s)
 
+-- an admission's key and digest, read back from the record
+pub admission_parts : (s : List ℕ) → IsValid s → key_and_digest (admission_record s) ≡ key_bytes (key_of s) ++ sha256 s
+unfolding key_and_digest
+admission_parts s valid = ap (λ l. l ++ sha256 (drop 33 (admission_record s))) (key_at s valid) ∙ ap (λ l. key_bytes (key_of s) ++ sha256 l) (slice_of s valid)
+
+-- so the retirement that covers it is that of its key and digest
+pub covering_admission : (s : List ℕ) → IsValid s → covering (admission_record s) ≡ retirement_record (key_of s) (sha256 s)
+covering_admission s valid = ap (λ l. 1 ∷ l) (admission_parts s valid)
+
 -- the entries, in the words of records
 pub admission_entry : (s : List ℕ) → IsValid s → entry (admission_record s) ≡ 2 ∷ (key_bytes (key_of s) ++ sha256 s)
 unfolding entry
-admission_entry s valid = ap (λ l. 2 ∷ (l ++ sha256 (drop 33 (admission_record s)))) (key_at s valid) ∙ ap (λ l. 2 ∷ (key_bytes (key_of s) ++ sha256 l)) (slice_of s valid)
+admission_entry s valid = ap (λ l. 2 ∷ l) (admission_parts s valid)
 
 pub retirement_entry : (key : SliceKey) (digest : List ℕ) → entry (retirement_record key digest) ≡ retirement_record key digest
 unfolding entry

@@ -7,18 +7,16 @@ use Rattle.std.specs.Cmp.Lexicographic.{slice_cmp, nat_list_cmp_total}
 use Rattle.std.specs.List.{AllByRecursion, insert as insert_at}
 use Rattle.std.specs.List.Sorted.{IsStrictlySortedBy}
 use Rattle.std.specs.FinSet as set
-use Rattle.std.specs.FinSet.{from_list, contains, contains-empty, contains-insert, IsAntisymmetric, nat_cmp-IsAntisymmetric, slice_cmp-IsAntisymmetric}
+use Rattle.std.specs.FinSet.{from_list, contains, contains-empty, contains-insert}
 use Rattle.join_core.specs.InnerSearch.{IsPlaceFor}
 use Rattle.join_core.proofs.Place.{from_list_insert}
 use Rattle.archive_core.specs.Record.{rec, IsRecord, IsOperation}
-use Rattle.archive_core.specs.Content.{IsContent}
+use Rattle.archive_core.specs.Content.{IsContent, IsMade, with_record}
 use Rattle.archive_core.specs.InnerHeld.{IsHeld}
 use Rattle.archive_core.specs.declared.operations.Operation.{Operation}
 use Rattle.archive_core.proofs.Records.{record_of_operation}
-
--- byte strings that the byte order ties are one
-pub bytes_same : IsAntisymmetric (slice_cmp nat_cmp)
-bytes_same = slice_cmp-IsAntisymmetric nat_cmp-IsAntisymmetric
+use Rattle.archive_core.proofs.Made.{made_again, made_empty, from_made}
+pub use Rattle.archive_core.proofs.Made.{bytes_same}
 
 -- what holds along a list holds of each member of its set
 each_member : (P : List ℕ → Type 0) (ks : List (List ℕ)) → AllByRecursion P ks → (r : List ℕ) → contains (from_list {R = slice_cmp nat_cmp} ks) r ≡ true → P r
@@ -36,32 +34,34 @@ records_along (x ∷ xs) are = (record_of_operation x are.0, records_along xs ar
 
 -- what is held makes a content
 pub content_of_held : (operations : List Operation) → IsHeld operations → IsContent (from_list (map rec operations))
-content_of_held operations held = record { itself = refl; records = each_member IsRecord (map rec operations) (records_along operations held.are) }
+content_of_held operations held = record { itself = held.itself; records = each_member IsRecord (map rec operations) (records_along operations held.are) }
 
 -- an operation that goes in brings its record to that place
-map_insert : (xs : List Operation) (i : ℕ) (x : Operation) → map rec (insert_at xs i x) ≡ insert_at (map rec xs) i (rec x)
+pub map_insert : (xs : List Operation) (i : ℕ) (x : Operation) → map rec (insert_at xs i x) ≡ insert_at (map rec xs) i (rec x)
 map_insert [] zero x = refl
 map_insert [] (suc i) x = refl
 map_insert (y ∷ xs) zero x = refl
 map_insert (y ∷ xs) (suc i) x = ap (λ l. rec y ∷ l) (map_insert xs i x)
 
 -- a list keeps a fact of each element where one goes in that has it
-along_insert : (P : Operation → Type 0) (xs : List Operation) (i : ℕ) (x : Operation) → P x → AllByRecursion P xs → AllByRecursion P (insert_at xs i x)
+pub along_insert : (P : Operation → Type 0) (xs : List Operation) (i : ℕ) (x : Operation) → P x → AllByRecursion P xs → AllByRecursion P (insert_at xs i x)
 along_insert P [] zero x p h = (p, tt)
 along_insert P [] (suc i) x p h = (p, tt)
 along_insert P (y ∷ xs) zero x p h = (p, h)
 along_insert P (y ∷ xs) (suc i) x p h = (h.0, along_insert P xs i x p h.1)
 
--- an operation may go in at the place of its record
-pub held_insert : (operations : List Operation) (i : ℕ) (operation : Operation) → IsHeld operations → IsOperation operation → IsPlaceFor (slice_cmp nat_cmp) (map rec operations) (rec operation) i → IsHeld (insert_at operations i operation)
-held_insert operations i operation held one place = record {
+-- an operation may go in at the place of its record, where none then covers another
+pub held_insert : (operations : List Operation) (i : ℕ) (operation : Operation) → IsHeld operations → IsOperation operation → IsPlaceFor (slice_cmp nat_cmp) (map rec operations) (rec operation) i
+    → IsMade (from_list (map rec (insert_at operations i operation))) → IsHeld (insert_at operations i operation)
+held_insert operations i operation held one place made = record {
   ascending = rw (map_insert operations i operation) place.ascending;
   are = along_insert IsOperation operations i operation one held.are;
+  itself = made;
 }
 
 -- an operation that is taken leaves a content
-pub content_with : (o next : set.FinSet (slice_cmp nat_cmp)) (operation : Operation) → IsContent o → IsOperation operation → next ≡ set.insert o (rec operation) → IsContent next
-content_with o next operation content one is = rw is (record { itself = refl; records = each })
+pub content_with : (o next : set.FinSet (slice_cmp nat_cmp)) (operation : Operation) → IsContent o → IsOperation operation → next ≡ with_record o (rec operation) → IsContent next
+content_with o next operation content one is = rw is (record { itself = made_again (set.insert o (rec operation)); records = λ r h. each r (from_made (set.insert o (rec operation)) r h) })
   where
     each : (r : List ℕ) → contains (set.insert o (rec operation)) r ≡ true → IsRecord r
     each r h =
@@ -72,12 +72,12 @@ content_with o next operation content one is = rw is (record { itself = refl; re
 
 -- and no operations are a content
 pub content_none : IsContent set.empty
-content_none = record { itself = refl; records = λ r h. absurd (true≢false (sym h ∙ contains-empty (slice_cmp nat_cmp) r)) }
+content_none = record { itself = made_empty; records = λ r h. absurd (true≢false (sym h ∙ contains-empty (slice_cmp nat_cmp) r)) }
 
 -- no operations are held in order
 pub held_none : IsHeld []
 unfolding IsStrictlySortedBy
-held_none = record { ascending = tt; are = tt }
+held_none = record { ascending = tt; are = tt; itself = made_empty }
 
 -- and the content gains its record
 pub records_insert : (operations : List Operation) (i : ℕ) (operation : Operation) → from_list {R = slice_cmp nat_cmp} (map rec (insert_at operations i operation)) ≡ set.insert (from_list (map rec operations)) (rec operation)

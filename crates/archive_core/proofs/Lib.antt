@@ -1,5 +1,6 @@
 pub mod Compare
 pub mod Records
+pub mod Made
 pub mod Held
 pub mod Joined
 pub mod Merged
@@ -8,6 +9,8 @@ pub mod Scanned
 pub mod Answering
 pub mod Lookups
 pub mod Entries
+pub mod Put
+pub mod Words
 pub mod Summaries
 pub mod Beginnings
 pub mod Naming
@@ -16,3 +19,5 @@ pub mod Parts
 pub mod Picked
 pub mod Falling
 pub mod Ranges
+pub mod Uncovered
+pub mod Runs

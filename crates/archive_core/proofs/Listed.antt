@@ -1,6 +1,5 @@
 -- What a list of all tells, made of the records of an archive, and what a search tells as a part of it.
-use Rattle.std.proofs.Common.{◌≡◌, ◌<◌, ℕ, Bool, true, false, not, cond, List, [], ◌∷◌, length, map, filter, slice_index_or, get_or, refl, sym, ap, ◌∙◌, arith, subst}
-use mathlib.Core.Bool.{true≢false}
+use Rattle.std.proofs.Common.{◌≡◌, ◌<◌, ℕ, Bool, true, false, cond, List, [], ◌∷◌, length, map, filter, slice_index_or, get_or, refl, sym, ap, ◌∙◌, arith, subst}
 use Rattle.std.specs.declared.cmp.Ordering.TheVariants.{Less, Equal}
 use Rattle.std.specs.Ordering.{nat_cmp, on, ordering_then, eq_by_cmp}
 use Rattle.std.specs.Cmp.{IsTotalOrder, tied_itself, then_total}
@@ -15,23 +14,21 @@ use Rattle.std.proofs.lemmas.List.{get_or-map}
 use Rattle.std.proofs.lemmas.List.Elements.{All-from_recursion, All-get_or}
 use Rattle.std.proofs.lemmas.List.Kept.{IsStrictlySortedBy-filter}
 use Rattle.std.proofs.lemmas.Slice.Eq.{bytes_eq-Decides}
-use Rattle.sha2.specs.Sha256.{sha256}
 use Rattle.join_core.specs.Listing.{listing}
 use Rattle.join_core.proofs.Listing.{listed, listing_ascending}
 use Rattle.join_core.proofs.Merge.{along_members}
 use Rattle.join_core.proofs.Place.{len_listed}
-use Rattle.archive_core.specs.Valid.{key_of}
-use Rattle.archive_core.specs.Record.{rec, retirement_record, IsOperation, IsRecord}
+use Rattle.archive_core.specs.Record.{rec, IsOperation, IsRecord}
 use Rattle.archive_core.specs.Content.{Operations, IsContent}
 use Rattle.archive_core.specs.Find.{key_in, find_cmp, row_of, IsFinding, IsFinds}
 use Rattle.archive_core.specs.Lists.{list_cmp, IsListed, IsList, rows_under}
 use Rattle.archive_core.specs.InnerHeld.{IsHeld}
-use Rattle.archive_core.specs.InnerLists.{is_listed}
 use Rattle.archive_core.specs.declared.find.FindRow.{FindRow}
 use Rattle.archive_core.specs.declared.operations.Operation.{Operation}
 use Rattle.archive_core.specs.declared.operations.Operation.TheVariants.{Admit, Retire}
 use Rattle.archive_core.proofs.Records.{one_operation, operation_of_record}
 use Rattle.archive_core.proofs.Held.{bytes_same}
+use Rattle.archive_core.proofs.Words.{live_in_content}
 use Rattle.archive_core.proofs.Scanned.{find_total, untied, untied_records, told_sorted, in_filter, to_filter, one_with_members}
 
 -- records are those of operations
@@ -48,7 +45,8 @@ held_of o content =
     let is = listed nat_list_cmp_total bytes_same o in
     let members = along_members nat_list_cmp_total IsRecord (listing o) (λ r h. content.records r (ap (λ s. contains s r) is.same ∙ h)) in
     let all = operations_of (listing o) members in
-    (all.0, record { ascending = rw (all.2) is.ascending; are = all.1 }, ap from_list all.2 ∙ sym is.same)
+    let same : from_list (map rec all.0) ≡ o = ap from_list all.2 ∙ sym is.same in
+    (all.0, record { ascending = rw (all.2) is.ascending; are = all.1; itself = rw same content.itself }, same)
 
 -- as many operations as the content has records
 pub length_held : (operations : List Operation) (o : Operations) → IsHeld operations → from_list (map rec operations) ≡ o → length operations ≡ set.len o
@@ -68,24 +66,24 @@ list_total = then_total (on_texts (λ operation. (key_in operation).uuid)) find_
 untied_in_list : (a b : Operation) → eq_by_cmp (on rec (slice_cmp nat_cmp)) a b ≡ false → eq_by_cmp list_cmp a b ≡ false
 untied_in_list a b h = untied (slice_cmp nat_cmp (key_in a).uuid (key_in b).uuid) (find_cmp a b) (untied_records a b h)
 
--- the test of an operation of the content decides whether it is listed
-listed_by_test : (o : Operations) (a : Operation) → contains o (rec a) ≡ true → is_listed o a ≡ true → IsListed o a
-listed_by_test o (Admit slice) there h = (refl, record { admitted = there; under = refl; kept = none (contains o (retirement_record (key_of slice) (sha256 slice))) h })
-  where
-    none : (b : Bool) → not b ≡ true → b ≡ false
-    none true e = absurd (true≢false (sym e))
-    none false e = refl
-listed_by_test o (Retire key digest) there h = (refl, there)
+-- what a content has is listed
+listed_of_content : (o : Operations) (a : Operation) → IsContent o → IsOperation a → contains o (rec a) ≡ true → IsListed o a
+listed_of_content o (Admit slice) content valid there = (refl, live_in_content o slice content valid there)
+listed_of_content o (Retire key digest) content is there = (refl, there)
 
-test_of_listed : (o : Operations) (a : Operation) → IsListed o a → (contains o (rec a) ≡ true) × (is_listed o a ≡ true)
-test_of_listed o (Admit slice) h = (h.1.admitted, λ i. not (h.1.kept i))
-test_of_listed o (Retire key digest) h = (h.1, refl)
+content_of_listed : (o : Operations) (a : Operation) → IsListed o a → (contains o (rec a) ≡ true) × (true ≡ true)
+content_of_listed o (Admit slice) h = (h.1.admitted, refl)
+content_of_listed o (Retire key digest) h = (h.1, refl)
 
--- the listed operations, sorted, make the list
-pub list_sorted : (o : Operations) (operations told : List Operation) → IsHeld operations → from_list (map rec operations) ≡ o
-    → IsPermutation (filter (is_listed o) operations) told → IsSorted list_cmp told → IsList o (map row_of told)
-list_sorted o operations told held is permuted sorted =
-    let are = told_sorted o list_cmp list_total untied_in_list (is_listed o) (IsListed o) (listed_by_test o) (test_of_listed o) operations told held is permuted sorted in
+all_pass : (xs : List Operation) → filter (λ a. true) xs ≡ xs
+all_pass [] = refl
+all_pass (x ∷ xs) = ap (λ l. x ∷ l) (all_pass xs)
+
+-- the operations, sorted, make the list
+pub list_sorted : (o : Operations) (operations told : List Operation) → IsContent o → IsHeld operations → from_list (map rec operations) ≡ o
+    → IsPermutation operations told → IsSorted list_cmp told → IsList o (map row_of told)
+list_sorted o operations told content held is permuted sorted =
+    let are = told_sorted o list_cmp list_total untied_in_list (λ a. true) (IsListed o) (λ a one there _. listed_of_content o a content one there) (content_of_listed o) operations told held is (subst (λ l. IsPermutation l told) (sym (all_pass operations)) permuted) sorted in
     record { operations = told; ascending = are.ascending; exactly = are.exactly; rows_are = refl }
 
 -- a content has one list

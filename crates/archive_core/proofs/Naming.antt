@@ -1,5 +1,5 @@
 -- The rows of a name: their order, and that a scan finds them.
-use Rattle.std.proofs.Common.{◌≡◌, ◌↔◌, ℕ, ◌+◌, ◌<◌, Bool, true, false, cond, List, [], ◌∷◌, ◌++◌, length, take, map, slice_index_or, refl, sym, ap, ◌∙◌, inl, inr, arith, subst, add-one}
+use Rattle.std.proofs.Common.{◌≡◌, ◌↔◌, ℕ, ◌+◌, ◌<◌, List, [], ◌∷◌, ◌++◌, length, take, map, slice_index_or, refl, sym, ap, ◌∙◌, inl, inr, arith, subst, add-one}
 use Rattle.std.specs.declared.cmp.Ordering.{Ordering}
 use Rattle.std.specs.declared.cmp.Ordering.TheVariants.{Less, Equal}
 use Rattle.std.specs.Ordering.{nat_cmp, on, ordering_then, eq_by_cmp}
@@ -15,12 +15,10 @@ use Rattle.std.proofs.lemmas.Cmp.{eq_by_cmp_equiv}
 use Rattle.std.proofs.lemmas.Grind.{flat_map-append}
 use Rattle.std.proofs.lemmas.List.{append-nil}
 use Rattle.std.proofs.Math.Seq.{take-suc}
-use Rattle.sha2.specs.Sha256.{sha256}
 use Rattle.macho_symbols.proofs.Order.{both_equal}
 use Rattle.macho_symbols.specs.Found.{named}
-use Rattle.archive_core.specs.Valid.{key_of}
-use Rattle.archive_core.specs.Record.{rec, admission_record, retirement_record, IsOperation}
-use Rattle.archive_core.specs.Content.{Operations}
+use Rattle.archive_core.specs.Record.{rec, admission_record, IsOperation}
+use Rattle.archive_core.specs.Content.{Operations, IsContent}
 use Rattle.archive_core.specs.Names.{NameRecord, key_cmp, place_cmp, name_cmp, name_row, IsNameRow, IsNames, name_view}
 use Rattle.archive_core.specs.Names.{names_in}
 use Rattle.archive_core.specs.InnerNames.{names_of, names_among}
@@ -30,6 +28,8 @@ use Rattle.archive_core.specs.declared.names.NameRow.{NameRow}
 use Rattle.archive_core.specs.declared.operations.Operation.{Operation}
 use Rattle.archive_core.specs.declared.operations.Operation.TheVariants.{Admit, Retire}
 use Rattle.archive_core.proofs.Held.{bytes_same}
+use Rattle.archive_core.proofs.Held.{content_of_held}
+use Rattle.archive_core.proofs.Words.{live_in_content}
 use Rattle.archive_core.proofs.Scanned.{in_cons, in_front, in_rest, one_with_members, record_there, operation_there}
 
 -- the order of rows is a total order
@@ -146,47 +146,44 @@ ordered old sorted permuted up = record {
         subst (Contains (map name_view kept)) (sym (one.2 ∙ rows_same (name_view one.0) (name_view alike.1) tied)) (to_map name_view kept alike.1 (alike.0, alike.2, alike.3))
 
 -- the rows of one more operation
-module _ (o : Operations) (name : List ℕ) (operations : List Operation) (i : ℕ) (a : Operation) (lt : i < length operations) (is : a ≡ slice_index_or operations i a) where
-  pub names_more : names_among o name (take (i + 1) operations) ≡ names_among o name (take i operations) ++ names_of o name a
+module _ (name : List ℕ) (operations : List Operation) (i : ℕ) (a : Operation) (lt : i < length operations) (is : a ≡ slice_index_or operations i a) where
+  pub names_more : names_among name (take (i + 1) operations) ≡ names_among name (take i operations) ++ names_of name a
   unfolding names_among
   names_more =
-      ap (λ (n : ℕ). names_among o name (take n operations)) (add-one i)
-      ∙ ap (names_among o name) (take-suc operations i a lt ∙ ap (λ (x : Operation). take i operations ++ x ∷ []) (sym is))
-      ∙ flat_map-append (names_of o name) (take i operations) (a ∷ [])
-      ∙ ap (λ l. names_among o name (take i operations) ++ l) (append-nil (names_of o name a))
+      ap (λ (n : ℕ). names_among name (take n operations)) (add-one i)
+      ∙ ap (names_among name) (take-suc operations i a lt ∙ ap (λ (x : Operation). take i operations ++ x ∷ []) (sym is))
+      ∙ flat_map-append (names_of name) (take i operations) (a ∷ [])
+      ∙ ap (λ l. names_among name (take i operations) ++ l) (append-nil (names_of name a))
 
 -- what a scan finds are the rows of the name
 pub names_scanned : (o : Operations) (name : List ℕ) (operations : List Operation) → IsHeld operations → from_list (map rec operations) ≡ o
-    → (row : NameRecord) → Contains (names_among o name operations) row ↔ IsNameRow o name row
+    → (row : NameRecord) → Contains (names_among name operations) row ↔ IsNameRow o name row
 unfolding names_among
 names_scanned o name operations held is row = (to, back)
   where
-    told_of : (a : Operation) → Contains operations a → Contains (names_of o name a) row → IsNameRow o name row
-    told_of (Admit slice) there h = by (contains o (retirement_record (key_of slice) (sha256 slice))) refl h
-      where
-        by : (b : Bool) → contains o (retirement_record (key_of slice) (sha256 slice)) ≡ b → Contains (cond b [] (names_in name slice)) row → IsNameRow o name row
-        by true e (k, lt, g) = absurd (omega arith)
-        by false e g =
-            let one = in_map (name_row slice) (named slice name) row g in
-            record {
-              slice = slice;
-              valid = All-contains IsOperation operations (Admit slice) (All-from_recursion IsOperation operations held.are) there;
-              live = record { admitted = ap (λ s. contains s (admission_record slice)) (sym is) ∙ record_there operations (Admit slice) there; under = refl; kept = e };
-              found = one.0;
-              candidate = one.1;
-              row_is = one.2;
-            }
+    told_of : (a : Operation) → Contains operations a → Contains (names_of name a) row → IsNameRow o name row
+    told_of (Admit slice) there h =
+        let one = in_map (name_row slice) (named slice name) row h in
+        let valid = All-contains IsOperation operations (Admit slice) (All-from_recursion IsOperation operations held.are) there in
+        record {
+          slice = slice;
+          valid = valid;
+          live = live_in_content o slice (subst IsContent is (content_of_held operations held)) valid (ap (λ s. contains s (admission_record slice)) (sym is) ∙ record_there operations (Admit slice) there);
+          found = one.0;
+          candidate = one.1;
+          row_is = one.2;
+        }
     told_of (Retire key digest) there (k, lt, g) = absurd (omega arith)
 
-    to : Contains (names_among o name operations) row → IsNameRow o name row
-    to h = let one = in_flat_map (names_of o name) operations row h in told_of one.0 one.1 one.2
+    to : Contains (names_among name operations) row → IsNameRow o name row
+    to h = let one = in_flat_map (names_of name) operations row h in told_of one.0 one.1 one.2
 
-    back : IsNameRow o name row → Contains (names_among o name operations) row
+    back : IsNameRow o name row → Contains (names_among name operations) row
     back h =
         let live = h.live in
         let there = operation_there operations (Admit h.slice) held.are h.valid (ap (λ s. contains s (admission_record h.slice)) is ∙ live.admitted) in
-        let rows = subst (λ l. Contains l row) (ap (λ b. cond b [] (names_in name h.slice)) (sym live.kept)) (subst (Contains (names_in name h.slice)) (sym h.row_is) (to_map (name_row h.slice) (named h.slice name) h.found h.candidate)) in
-        to_flat_map (names_of o name) operations (Admit h.slice) row there rows
+        let rows = subst (Contains (names_in name h.slice)) (sym h.row_is) (to_map (name_row h.slice) (named h.slice name) h.found h.candidate) in
+        to_flat_map (names_of name) operations (Admit h.slice) row there rows
 
 -- a content and a name have one list of rows
 pub one_list_of_names : (o : Operations) (name : List ℕ) (rows others : List NameRecord) → IsNames o name rows → IsNames o name others → rows ≡ others
@@ -195,7 +192,7 @@ one_list_of_names o name rows others f g =
 
 -- put in order, they are what a search for the name tells
 pub names_put : (o : Operations) (name : List ℕ) (operations : List Operation) → IsHeld operations → from_list (map rec operations) ≡ o
-    → (old new : List NameRecord) → old ≡ names_among o name operations → IsStrictlySortedBy name_cmp new → ((row : NameRecord) → Contains new row ↔ Contains old row) → IsNames o name new
+    → (old new : List NameRecord) → old ≡ names_among name operations → IsStrictlySortedBy name_cmp new → ((row : NameRecord) → Contains new row ↔ Contains old row) → IsNames o name new
 names_put o name operations held is old new gathered ascending same = record {
   ascending = ascending;
   exactly = λ row.

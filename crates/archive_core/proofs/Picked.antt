@@ -20,7 +20,7 @@ use Rattle.archive_core.specs.declared.keys.SliceKey.{SliceKey}
 use Rattle.archive_core.specs.declared.lookup.Where.{Where}
 use Rattle.archive_core.specs.declared.operations.Operation.{Operation}
 use Rattle.archive_core.specs.declared.operations.Operation.TheVariants.{Admit, Retire}
-use Rattle.archive_core.proofs.Held.{bytes_same}
+use Rattle.archive_core.proofs.Made.{bytes_same, made_part}
 use Rattle.archive_core.proofs.Answering.{both}
 
 -- ---- what begins so
@@ -153,6 +153,9 @@ part_alike o picks front all = λ r h. contains_part o picks r ∙ and_true (set
 
 pub part_content : (o : Operations) (picks : List ℕ → Bool) → IsContent o → IsContent (part o picks)
 part_content o picks content = record {
-  itself = refl;
-  records = λ r h. content.records r (both (set.contains o r) (picks r) (sym (contains_part o picks r) ∙ h)).0;
+  itself = made_part (part o picks) o content.itself within;
+  records = λ r h. content.records r (within r h);
 }
+  where
+    within : (r : List ℕ) → set.contains (part o picks) r ≡ true → set.contains o r ≡ true
+    within r h = (both (set.contains o r) (picks r) (sym (contains_part o picks r) ∙ h)).0

@@ -1,10 +1,10 @@
 -- The operations of one kind under one key, or under one UUID, stand together.
-use Rattle.std.proofs.Common.{◌≡◌, ℕ, Bool, true, false, cond, List, [], ◌∷◌, ◌++◌, length, map, filter, Some, None, refl, sym, ap, ◌∙◌, arith, subst, append_assoc, w32}
+use Rattle.std.proofs.Common.{◌≡◌, ℕ, Bool, true, false, cond, List, [], ◌∷◌, ◌++◌, length, map, filter, drop, Some, None, refl, sym, ap, ◌∙◌, arith, subst, append_assoc, w32}
 use mathlib.Core.Bool.{true≢false}
 use Rattle.std.specs.declared.cmp.Ordering.{Ordering}
 use Rattle.std.specs.declared.cmp.Ordering.TheVariants.{Less, Equal, Greater}
 use Rattle.std.specs.Ordering.{nat_cmp, is_lt, is_le, is_eq, ordering_then}
-use Rattle.std.specs.Cmp.{tied_itself}
+use Rattle.std.specs.Cmp.{Equal-is, both_ways, tied_itself}
 use Rattle.std.specs.Cmp.Lexicographic.{slice_cmp, nat_list_cmp_total}
 use Rattle.std.specs.List.{AllByRecursion, Contains, cons_option}
 use Rattle.std.specs.List.Sorted.{IsStrictlySortedBy}
@@ -19,11 +19,9 @@ use Rattle.macho_image.proofs.Told.{uuid_of-length}
 use Rattle.archive_core.specs.Key.{IsKey, key_bytes}
 use Rattle.archive_core.specs.Valid.{key_of}
 use Rattle.archive_core.specs.Record.{rec, admission, admission_record, retirement_record, IsOperation}
-use Rattle.archive_core.specs.Content.{Operations}
 use Rattle.archive_core.specs.InnerHeld.{IsHeld}
 use Rattle.archive_core.specs.Find.{is_key}
 use Rattle.archive_core.specs.InnerScan.{is_finding, is_live_kind, live_in, live_among}
-use Rattle.archive_core.specs.declared.keys.Digest.{Digest}
 use Rattle.archive_core.specs.declared.keys.SliceKey.{SliceKey}
 use Rattle.archive_core.specs.declared.operations.Operation.{Operation}
 use Rattle.archive_core.specs.declared.operations.Operation.TheVariants.{Admit, Retire}
@@ -138,50 +136,41 @@ one_key a b h =
     λ i. record { uuid = uuid i; arch = arch i }
 
 -- what is live under a key is admitted under it
-under_of_live : (o : Operations) (key : SliceKey) (dsym : Bool) (slice : List ℕ) → is_live_kind o key dsym slice ≡ true → is_under Admission key (Admit slice) ≡ true
+under_of_live : (key : SliceKey) (dsym : Bool) (slice : List ℕ) → is_live_kind key dsym slice ≡ true → is_under Admission key (Admit slice) ≡ true
 unfolding is_live_kind
-under_of_live o key dsym slice h =
+under_of_live key dsym slice h =
     let same : key_of slice ≡ key = one_key (key_of slice) key (both (is_key (key_of slice) key) _ h).0 in
     ap (λ k. is_eq (slice_cmp nat_cmp (front Admission (OfKey k)) (front Admission (OfKey key)))) same ∙ itself (front Admission (OfKey key))
 
 -- so the live slices of a key are among the admissions under it
-pub live_under : (o : Operations) (key : SliceKey) (dsym : Bool) (xs : List Operation) → live_among o key dsym (filter (is_under Admission key) xs) ≡ live_among o key dsym xs
+pub live_under : (key : SliceKey) (dsym : Bool) (xs : List Operation) → live_among key dsym (filter (is_under Admission key) xs) ≡ live_among key dsym xs
 unfolding live_among
-live_under o key dsym [] = refl
-live_under o key dsym (x ∷ xs) = by (is_under Admission key x) refl (live_under o key dsym xs)
+live_under key dsym [] = refl
+live_under key dsym (x ∷ xs) = by (is_under Admission key x) refl (live_under key dsym xs)
   where
-    none_outside : (a : Operation) → is_under Admission key a ≡ false → live_in o key dsym a ≡ None
-    none_outside (Admit slice) h = out (is_live_kind o key dsym slice) refl
+    none_outside : (a : Operation) → is_under Admission key a ≡ false → live_in key dsym a ≡ None
+    none_outside (Admit slice) h = out (is_live_kind key dsym slice) refl
       where
-        out : (b : Bool) → is_live_kind o key dsym slice ≡ b → cond b (Some slice) None ≡ None
-        out true t = absurd (true≢false (sym (under_of_live o key dsym slice t) ∙ h))
+        out : (b : Bool) → is_live_kind key dsym slice ≡ b → cond b (Some slice) None ≡ None
+        out true t = absurd (true≢false (sym (under_of_live key dsym slice t) ∙ h))
         out false t = refl
     none_outside (Retire other digest) h = refl
 
-    by : (b : Bool) → is_under Admission key x ≡ b → live_among o key dsym (filter (is_under Admission key) xs) ≡ live_among o key dsym xs
-        → live_among o key dsym (cond b (x ∷ filter (is_under Admission key) xs) (filter (is_under Admission key) xs)) ≡ live_among o key dsym (x ∷ xs)
-    by true h rest = ap (cons_option (live_in o key dsym x)) rest
-    by false h rest = rest ∙ sym (ap (λ f. cons_option f (live_among o key dsym xs)) (none_outside x h))
+    by : (b : Bool) → is_under Admission key x ≡ b → live_among key dsym (filter (is_under Admission key) xs) ≡ live_among key dsym xs
+        → live_among key dsym (cond b (x ∷ filter (is_under Admission key) xs) (filter (is_under Admission key) xs)) ≡ live_among key dsym (x ∷ xs)
+    by true h rest = ap (cons_option (live_in key dsym x)) rest
+    by false h rest = rest ∙ sym (ap (λ f. cons_option f (live_among key dsym xs)) (none_outside x h))
 
--- what a search tells is under its UUID
-under_of_retirement : (uuid : List ℕ) (key : SliceKey) (digest : Digest) → bytes_eq key.uuid uuid ≡ true → is_under_uuid Retirement uuid (Retire key digest) ≡ true
-under_of_retirement uuid key digest h =
-    ap (λ u. is_eq (slice_cmp nat_cmp (1 ∷ u) (1 ∷ uuid))) ((bytes_eq-Decides key.uuid uuid).0 h) ∙ itself (1 ∷ uuid)
+-- what stands behind one tag ties just where it is the same
+same_test : (t : ℕ) (a b : List ℕ) → is_eq (slice_cmp nat_cmp (t ∷ a) (t ∷ b)) ≡ bytes_eq a b
+same_test t a b = both_ways _ _
+    (λ h. (bytes_eq-Decides a b).1 (ap (drop 1) (bytes_same (t ∷ a) (t ∷ b) ((Equal-is (slice_cmp nat_cmp (t ∷ a) (t ∷ b))).0 h))))
+    (λ h. ap (λ u. is_eq (slice_cmp nat_cmp (t ∷ u) (t ∷ b))) ((bytes_eq-Decides a b).0 h) ∙ itself (t ∷ b))
 
-under_of_admission : (o : Operations) (uuid slice : List ℕ) → is_finding o uuid (Admit slice) ≡ true → is_under_uuid Admission uuid (Admit slice) ≡ true
-under_of_admission o uuid slice h =
-    ap (λ u. is_eq (slice_cmp nat_cmp (2 ∷ u) (2 ∷ uuid))) ((bytes_eq-Decides (key_of slice).uuid uuid).0 (both (bytes_eq (key_of slice).uuid uuid) _ h).0) ∙ itself (2 ∷ uuid)
-
--- one more in front is told where it is kept and told
-told_in_front : (test kept : Operation → Bool) (x : Operation) (xs more told : List Operation) → (test x ≡ true → kept x ≡ true)
-    → filter test xs ++ more ≡ told → filter test (cond (kept x) (x ∷ xs) xs) ++ more ≡ cond (test x) (x ∷ told) told
-told_in_front test kept x xs more told within h = by (kept x) (test x) refl refl
-  where
-    by : (k t : Bool) → kept x ≡ k → test x ≡ t → filter test (cond k (x ∷ xs) xs) ++ more ≡ cond t (x ∷ told) told
-    by true true k_is t_is = rw t_is (ap (λ l. x ∷ l) h)
-    by true false k_is t_is = rw t_is h
-    by false true k_is t_is = absurd (true≢false (sym (within t_is) ∙ k_is))
-    by false false k_is t_is = h
+-- one more in front of the first run
+in_front : (b c : Bool) (x : Operation) (xs ys told : List Operation) → b ≡ c → xs ++ ys ≡ told → cond b (x ∷ xs) xs ++ ys ≡ cond c (x ∷ told) told
+in_front true c x xs ys told same h = rw (← same) (ap (λ l. x ∷ l) h)
+in_front false c x xs ys told same h = rw (← same) h
 
 -- no retirement stands behind an admission
 none_behind : (uuid slice : List ℕ) (xs : List Operation) → AllByRecursion (λ r. slice_cmp nat_cmp (admission_record slice) r ≡ Less) (map rec xs) → filter (is_under_uuid Retirement uuid) xs ≡ []
@@ -190,18 +179,18 @@ none_behind uuid slice (Admit other ∷ xs) up = none_behind uuid slice xs up.1
 none_behind uuid slice (Retire key digest ∷ xs) up = cc
 
 -- so what a search tells stands in two runs: the retirements under the UUID, and the admissions
-pub two_runs : (o : Operations) (uuid : List ℕ) (xs : List Operation) → IsStrictlySortedBy (slice_cmp nat_cmp) (map rec xs)
-    → filter (is_finding o uuid) (filter (is_under_uuid Retirement uuid) xs) ++ filter (is_finding o uuid) (filter (is_under_uuid Admission uuid) xs) ≡ filter (is_finding o uuid) xs
+pub two_runs : (uuid : List ℕ) (xs : List Operation) → IsStrictlySortedBy (slice_cmp nat_cmp) (map rec xs)
+    → filter (is_under_uuid Retirement uuid) xs ++ filter (is_under_uuid Admission uuid) xs ≡ filter (is_finding uuid) xs
 unfolding IsStrictlySortedBy
-two_runs o uuid [] up = refl
-two_runs o uuid (Retire key digest ∷ xs) up =
-    told_in_front (is_finding o uuid) (is_under_uuid Retirement uuid) (Retire key digest) (filter (is_under_uuid Retirement uuid) xs) (filter (is_finding o uuid) (filter (is_under_uuid Admission uuid) xs)) (filter (is_finding o uuid) xs)
-    (under_of_retirement uuid key digest) (two_runs o uuid xs up.1)
-two_runs o uuid (Admit slice ∷ xs) up =
-    let test = is_finding o uuid in
+two_runs uuid [] up = refl
+two_runs uuid (Retire key digest ∷ xs) up =
+    in_front (is_under_uuid Retirement uuid (Retire key digest)) (bytes_eq key.uuid uuid) (Retire key digest) (filter (is_under_uuid Retirement uuid) xs) (filter (is_under_uuid Admission uuid) xs) (filter (is_finding uuid) xs)
+    (same_test 1 key.uuid uuid) (two_runs uuid xs up.1)
+two_runs uuid (Admit slice ∷ xs) up =
     let admissions = filter (is_under_uuid Admission uuid) in
     let none = none_behind uuid slice xs up.0 in
-    let rest : filter test (admissions xs) ≡ filter test xs = sym (ap (λ l. filter test l ++ filter test (admissions xs)) none) ∙ two_runs o uuid xs up.1 in
-    ap (λ l. filter test l ++ filter test (admissions (Admit slice ∷ xs))) none
-    ∙ sym (append-nil (filter test (admissions (Admit slice ∷ xs))))
-    ∙ told_in_front test (is_under_uuid Admission uuid) (Admit slice) (admissions xs) [] (filter test xs) (under_of_admission o uuid slice) (append-nil (filter test (admissions xs)) ∙ rest)
+    let rest : admissions xs ≡ filter (is_finding uuid) xs = sym (ap (λ l. l ++ admissions xs) none) ∙ two_runs uuid xs up.1 in
+    ap (λ l. l ++ admissions (Admit slice ∷ xs)) none
+    ∙ sym (append-nil (admissions (Admit slice ∷ xs)))
+    ∙ in_front (is_under_uuid Admission uuid (Admit slice)) (bytes_eq (key_of slice).uuid uuid) (Admit slice) (admissions xs) [] (filter (is_finding uuid) xs)
+    (same_test 2 (key_of slice).uuid uuid) (append-nil (admissions xs) ∙ rest)

@@ -1,5 +1,5 @@
 -- What a plain archive tells as it goes through its operations.
-use Rattle.std.proofs.Common.{◌≡◌, ◌↔◌, ◌⊎◌, ◌+◌, ℕ, zero, suc, Bool, true, false, ◌&&◌, ◌||◌, not, cond, List, [], ◌∷◌, ◌<◌, length, take, slice_index_or, map, filter, ◌++◌, Option, Some, None, if◌then◌else◌, refl, sym, ap, ◌∙◌, inl, inr, arith, subst, add-one}
+use Rattle.std.proofs.Common.{◌≡◌, ◌↔◌, ◌⊎◌, ◌+◌, ℕ, zero, suc, Bool, true, false, ◌||◌, cond, List, [], ◌∷◌, ◌<◌, length, take, slice_index_or, map, filter, ◌++◌, Option, Some, None, if◌then◌else◌, refl, sym, ap, ◌∙◌, inl, inr, arith, subst, add-one}
 use mathlib.Core.Bool.{true≢false}
 use Rattle.std.specs.declared.cmp.Ordering.{Ordering}
 use Rattle.std.specs.declared.cmp.Ordering.TheVariants.{Less, Equal, Greater}
@@ -9,7 +9,6 @@ use Rattle.std.specs.Cmp.Lexicographic.{slice_cmp, nat_list_cmp_total, on_texts}
 use Rattle.std.specs.List.{AllByRecursion, Contains, IsDistinct, list_any}
 use Rattle.std.specs.List.Sorted.{IsSorted, IsStrictlySortedBy, IsPermutation}
 use Rattle.std.specs.FinSet.{from_list, contains, contains-from_list}
-use Rattle.std.specs.Str.{bytes_eq}
 use Rattle.std.proofs.lemmas.Slice.Eq.{bytes_eq-Decides}
 use Rattle.std.proofs.lemmas.Cmp.{eq_by_cmp_equiv}
 use Rattle.std.proofs.lemmas.List.Elements.{All-from_recursion, All-contains, All-contains_itself, All-filter, filter-append, filter_passes}
@@ -18,10 +17,9 @@ use Rattle.std.proofs.Math.Seq.{take-suc}
 use Rattle.std.proofs.lemmas.List.Kept.{IsStrictlySortedBy-filter}
 use Rattle.std.proofs.lemmas.List.Sorted.{Contains-permutation, IsPermutation-sym}
 use Rattle.std.proofs.lemmas.Map.Keys.{IsDistinct-from_sorted, IsDistinct-IsPermutation}
-use Rattle.sha2.specs.Sha256.{sha256}
 use Rattle.archive_core.specs.Valid.{key_of}
-use Rattle.archive_core.specs.Record.{rec, retirement_record, IsOperation}
-use Rattle.archive_core.specs.Content.{Operations}
+use Rattle.archive_core.specs.Record.{rec, IsOperation}
+use Rattle.archive_core.specs.Content.{Operations, IsContent}
 use Rattle.archive_core.specs.Find.{key_in, arch_cmp, find_cmp, IsFinding, row_of, IsFinds}
 use Rattle.archive_core.specs.InnerScan.{is_finding}
 use Rattle.archive_core.specs.InnerHeld.{IsHeld}
@@ -29,20 +27,22 @@ use Rattle.archive_core.specs.declared.find.FindRow.{FindRow}
 use Rattle.archive_core.specs.declared.operations.Operation.{Operation}
 use Rattle.archive_core.specs.declared.operations.Operation.TheVariants.{Admit, Retire}
 use Rattle.archive_core.proofs.Records.{one_operation}
-use Rattle.archive_core.proofs.Held.{bytes_same}
+use Rattle.archive_core.proofs.Held.{bytes_same, content_of_held}
+use Rattle.archive_core.proofs.Words.{live_in_content}
 
 -- the order of rows is a total order
 pub find_total : IsTotalOrder find_cmp
 find_total = then_total (on_total (λ operation. (key_in operation).arch) (then_total (on_total (λ arch. arch.cputype) nat_cmp_total) (on_total (λ arch. arch.subtype) nat_cmp_total))) (on_texts rec)
 
+-- the first ones, and one more
+pub front : (operations : List Operation) (i : ℕ) (a : Operation) → i < length operations → a ≡ slice_index_or operations i a → take (i + 1) operations ≡ take i operations ++ a ∷ []
+front operations i a lt is = ap (λ (n : ℕ). take n operations) (add-one i) ∙ take-suc operations i a lt ∙ ap (λ (x : Operation). take i operations ++ x ∷ []) (sym is)
+
 -- the first ones that pass a test, and one more
 module _ (test : Operation → Bool) (operations : List Operation) (i : ℕ) (a : Operation) (lt : i < length operations) (is : a ≡ slice_index_or operations i a) where
-  front : take (i + 1) operations ≡ take i operations ++ a ∷ []
-  front = ap (λ (n : ℕ). take n operations) (add-one i) ∙ take-suc operations i a lt ∙ ap (λ (x : Operation). take i operations ++ x ∷ []) (sym is)
-
   last : (passes : Bool) → test a ≡ passes → filter test (take (i + 1) operations) ≡ filter test (take i operations) ++ (if passes then a ∷ [] else [])
-  last true h = ap (filter test) front ∙ filter-append test (take i operations) (a ∷ []) ∙ ap (λ (xs : List Operation). filter test (take i operations) ++ xs) (rw h refl)
-  last false h = ap (filter test) front ∙ filter-append test (take i operations) (a ∷ []) ∙ ap (λ (xs : List Operation). filter test (take i operations) ++ xs) (rw h refl)
+  last true h = ap (filter test) (front operations i a lt is) ∙ filter-append test (take i operations) (a ∷ []) ∙ ap (λ (xs : List Operation). filter test (take i operations) ++ xs) (rw h refl)
+  last false h = ap (filter test) (front operations i a lt is) ∙ filter-append test (take i operations) (a ∷ []) ∙ ap (λ (xs : List Operation). filter test (take i operations) ++ xs) (rw h refl)
 
   passed_by : (old new : List Operation) (found : Operation) (passes : Bool) → test a ≡ passes → old ≡ filter test (take i operations)
       → (if passes then Some a else None) ≡ Some found → new ≡ old ++ found ∷ [] → new ≡ filter test (take (i + 1) operations)
@@ -221,20 +221,13 @@ operation_there operations a known is_a h = among operations known (sym (contain
             subst (Contains (x ∷ xs)) (one_operation x a all.0 is_a same) (in_front x xs)
         at false e rest more = in_rest x xs a (more rest)
 
--- the test of a told operation decides whether a search tells it, where its record is in the content
-finding_by_test : (o : Operations) (uuid : List ℕ) (a : Operation) → contains o (rec a) ≡ true → is_finding o uuid a ≡ true → IsFinding o uuid a
-finding_by_test o uuid (Admit slice) there h =
-    let parts = split (bytes_eq (key_of slice).uuid uuid) (contains o (retirement_record (key_of slice) (sha256 slice))) h in
-    ((bytes_eq-Decides (key_of slice).uuid uuid).0 parts.0, record { admitted = there; under = refl; kept = parts.1 })
-  where
-    split : (p q : Bool) → (p && not q) ≡ true → (p ≡ true) × (q ≡ false)
-    split true true g = absurd (true≢false (sym g))
-    split true false g = (refl, refl)
-    split false q g = absurd (true≢false (sym g))
-finding_by_test o uuid (Retire key digest) there h = ((bytes_eq-Decides key.uuid uuid).0 h, there)
+-- what is held under the UUID is what a search tells
+finding_by_test : (o : Operations) (uuid : List ℕ) (a : Operation) → IsContent o → IsOperation a → contains o (rec a) ≡ true → is_finding uuid a ≡ true → IsFinding o uuid a
+finding_by_test o uuid (Admit slice) content valid there h = ((bytes_eq-Decides (key_of slice).uuid uuid).0 h, live_in_content o slice content valid there)
+finding_by_test o uuid (Retire key digest) content is there h = ((bytes_eq-Decides key.uuid uuid).0 h, there)
 
-test_of_finding : (o : Operations) (uuid : List ℕ) (a : Operation) → IsFinding o uuid a → (contains o (rec a) ≡ true) × (is_finding o uuid a ≡ true)
-test_of_finding o uuid (Admit slice) h = (h.1.admitted, (λ i. (bytes_eq-Decides (key_of slice).uuid uuid).1 h.0 i && not (h.1.kept i)))
+test_of_finding : (o : Operations) (uuid : List ℕ) (a : Operation) → IsFinding o uuid a → (contains o (rec a) ≡ true) × (is_finding uuid a ≡ true)
+test_of_finding o uuid (Admit slice) h = (h.1.admitted, (bytes_eq-Decides (key_of slice).uuid uuid).1 h.0)
 test_of_finding o uuid (Retire key digest) h = (h.1, (bytes_eq-Decides key.uuid uuid).1 h.0)
 
 -- operations that are told: all that have a fact, strictly ascending
@@ -244,7 +237,7 @@ pub record AreTold (R : Operation → Operation → Ordering) (P : Operation →
 
 -- those of a content that pass a test, sorted, are told where the test decides the fact
 module _ (o : Operations) (R : Operation → Operation → Ordering) (total : IsTotalOrder R) (apart : (a b : Operation) → eq_by_cmp (on rec (slice_cmp nat_cmp)) a b ≡ false → eq_by_cmp R a b ≡ false)
-    (test : Operation → Bool) (P : Operation → Type 0) (by_test : (a : Operation) → contains o (rec a) ≡ true → test a ≡ true → P a) (of_fact : (a : Operation) → P a → (contains o (rec a) ≡ true) × (test a ≡ true)) where
+    (test : Operation → Bool) (P : Operation → Type 0) (by_test : (a : Operation) → IsOperation a → contains o (rec a) ≡ true → test a ≡ true → P a) (of_fact : (a : Operation) → P a → (contains o (rec a) ≡ true) × (test a ≡ true)) where
   pub told_sorted : (operations told : List Operation) → IsHeld operations → from_list (map rec operations) ≡ o → IsPermutation (filter test operations) told → IsSorted R told → AreTold R P told
   told_sorted operations told held is permuted sorted =
       let by_record = IsStrictlySortedBy-filter (on rec (slice_cmp nat_cmp)) test operations (ascending_by (slice_cmp nat_cmp) rec operations held.ascending) in
@@ -258,7 +251,7 @@ module _ (o : Operations) (R : Operation → Operation → Ordering) (total : Is
       to a h =
           let kept = in_filter test operations a (Contains-permutation told (filter test operations) a (IsPermutation-sym (filter test operations) told permuted) h) in (
             All-contains IsOperation operations a (All-from_recursion IsOperation operations held.are) kept.0,
-            by_test a (ap (λ s. contains s (rec a)) (sym is) ∙ record_there operations a kept.0) kept.1,
+            by_test a (All-contains IsOperation operations a (All-from_recursion IsOperation operations held.are) kept.0) (ap (λ s. contains s (rec a)) (sym is) ∙ record_there operations a kept.0) kept.1,
           )
 
       back : (a : Operation) → IsOperation a × P a → Contains told a
@@ -269,9 +262,9 @@ module _ (o : Operations) (R : Operation → Operation → Ordering) (total : Is
 
 -- the told operations of a plain archive, sorted, are those that a search tells
 pub finds_sorted : (o : Operations) (uuid : List ℕ) (operations told : List Operation) → IsHeld operations → from_list (map rec operations) ≡ o
-    → IsPermutation (filter (is_finding o uuid) operations) told → IsSorted find_cmp told → IsFinds o uuid (map row_of told)
+    → IsPermutation (filter (is_finding uuid) operations) told → IsSorted find_cmp told → IsFinds o uuid (map row_of told)
 finds_sorted o uuid operations told held is permuted sorted =
-    let are = told_sorted o find_cmp find_total untied_records (is_finding o uuid) (IsFinding o uuid) (finding_by_test o uuid) (test_of_finding o uuid) operations told held is permuted sorted in
+    let are = told_sorted o find_cmp find_total untied_records (is_finding uuid) (IsFinding o uuid) (λ a. finding_by_test o uuid a (subst IsContent is (content_of_held operations held))) (test_of_finding o uuid) operations told held is permuted sorted in
     record { operations = told; ascending = are.ascending; exactly = are.exactly; rows_are = refl }
 
 -- a content and a UUID have one list of rows

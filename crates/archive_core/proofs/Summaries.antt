@@ -1,21 +1,21 @@
 -- The members of summaries and deltas, and what a delta brings to a content.
-use Rattle.std.proofs.Common.{◌≡◌, ◌↔◌, ℕ, Bool, true, false, ◌||◌, ◌&&◌, not, List, [], ◌∷◌, map, refl, sym, ap, ◌∙◌}
+use Rattle.std.proofs.Common.{◌≡◌, ◌↔◌, ℕ, Bool, true, false, ◌||◌, ◌&&◌, not, if◌then◌else◌, List, [], ◌∷◌, map, drop, refl, sym, ap, ◌∙◌, inl, inr}
 use mathlib.Core.Bool.{true≢false}
 use Rattle.std.specs.List.{list_any, filter}
 use Rattle.std.specs.Ordering.{nat_cmp, eq_by_cmp, is_eq}
 use Rattle.std.specs.Cmp.{Equal-is, tied_itself}
 use Rattle.std.specs.Cmp.Lexicographic.{slice_cmp, nat_list_cmp_total}
 use Rattle.std.specs.FinSet as set
-use Rattle.std.specs.FinSet.{contains-from_list, contains-retain, contains-union, contains-is_subset, is_subset-contains}
+use Rattle.std.specs.FinSet.{contains-from_list, contains-retain, contains-union}
 use Rattle.join_core.specs.Listing.{listing}
 use Rattle.join_core.proofs.Listing.{any_listing}
 use Rattle.join_core.proofs.Retain.{listing_retain}
-use Rattle.join_core.proofs.Subset.{subset_transitive, union_left, union_right, union_least}
-use Rattle.archive_core.specs.Content.{Operations, IsMade, IsContent, IsBelow, joined}
-use Rattle.archive_core.specs.Summary.{Entries, entry, summary, delta, DigestsTell}
-use Rattle.archive_core.proofs.Held.{bytes_same}
+use Rattle.archive_core.specs.Record.{IsRecord}
+use Rattle.archive_core.specs.Content.{Operations, is_admission, key_and_digest, covering, is_covered, IsMade, IsContent, IsBelow, joined}
+use Rattle.archive_core.specs.Summary.{Entries, entry, summary, is_known, delta, DigestsTell}
+use Rattle.archive_core.proofs.Made.{bytes_same, either, by_test, or_left, or_right, and_left, and_right, below_subset, below_made_known, below_left, below_right, below_transitive, joined_below, made_part}
 use Rattle.archive_core.proofs.Answering.{both}
-use Rattle.archive_core.proofs.Entries.{entry_tells}
+use Rattle.archive_core.proofs.Entries.{entry_tells, retirement_entry}
 
 or_true : (a : Bool) → (a || true) ≡ true
 or_true true = refl
@@ -70,16 +70,19 @@ unfolding delta
 contains_delta o s r = contains-retain o (λ x. not (set.contains s (entry x))) r (λ x e. ap (λ y. not (set.contains s (entry y))) (sym (bytes_same r x e)))
 
 -- a delta is a part of its content
+delta_part : (o : Operations) (s : Entries) (r : List ℕ) → set.contains (delta o s) r ≡ true → set.contains o r ≡ true
+delta_part o s r h = (both (set.contains o r) (not (set.contains s (entry r))) (sym (contains_delta o s r) ∙ h)).0
+
 pub delta_below : (o : Operations) (s : Entries) → IsBelow (delta o s) o
-delta_below o s = contains-is_subset nat_list_cmp_total (delta o s) o (λ r h. (both (set.contains o r) (not (set.contains s (entry r))) (sym (contains_delta o s r) ∙ h)).0)
+delta_below o s = below_subset (delta o s) o (delta_part o s)
 
 -- and makes itself, as its content does
 pub delta_made : (o : Operations) (s : Entries) → IsMade o → IsMade (delta o s)
-delta_made o s a = refl
+delta_made o s a = made_part (delta o s) o a (delta_part o s)
 
 -- so it is a content
 pub delta_content : (o : Operations) (s : Entries) → IsContent o → IsContent (delta o s)
-delta_content o s a = record { itself = delta_made o s a.itself; records = λ r h. a.records r (is_subset-contains nat_list_cmp_total (delta o s) o (delta_below o s) r h) }
+delta_content o s a = record { itself = delta_made o s a.itself; records = λ r h. a.records r (delta_part o s r h) }
 
 -- operations of two contents that have one entry are one, where digests tell
 pub told_by_digests : (o p : Operations) (r s : List ℕ) → IsContent o → IsContent p → DigestsTell o p
@@ -93,17 +96,51 @@ named_there o p r a b tells in_o named =
     let found : (q : List ℕ) × (set.contains p q ≡ true) × (entry q ≡ entry r) = member_of_entry p (entry r) named in
     ap (set.contains p) (told_by_digests o p r found.0 a b tells in_o found.1 (sym found.2)) ∙ found.1
 
--- a content that has what a summary names, joined with the delta against that summary, is above what the delta was made of
-pub brought_above : (o p : Operations) (s : Entries) → IsContent o → IsContent p → set.is_subset s (summary p) ≡ true → DigestsTell o p → IsBelow o (joined p (delta o s))
-brought_above o p s a b has tells = contains-is_subset nat_list_cmp_total o (joined p (delta o s)) (λ r in_o.
-    contains-union nat_list_cmp_total p (delta o s) r
-    ∙ elim (set.contains s (entry r)) as (λ c. set.contains s (entry r) ≡ c → (set.contains p r || set.contains (delta o s) r) ≡ true) [
-      | true ↦ λ named. ap (λ c. c || set.contains (delta o s) r) (named_there o p r a b tells in_o (is_subset-contains nat_list_cmp_total s (summary p) has (entry r) named))
-      | false ↦ λ missing. ap (λ c. set.contains p r || c) (contains_delta o s r ∙ ap (λ c. c && not (set.contains s (entry r))) in_o ∙ ap not missing) ∙ or_true (set.contains p r)
-    ] refl)
+-- an operation whose entry is known to another content is in that content, or covered there
+entry_of_covered : (r : List ℕ) → is_admission r ≡ true → 1 ∷ drop 1 (entry r) ≡ covering r
+unfolding entry
+entry_of_covered r a = ap (λ b. 1 ∷ drop 1 (if b then 2 ∷ key_and_digest r else r)) a
+
+entry_of_retirement : (r : List ℕ) → IsRecord r → is_admission r ≡ false → 1 ∷ drop 1 (entry r) ≡ r
+entry_of_retirement r (inl admits) n = absurd (true≢false (ap is_admission (sym admits.is) ∙ n))
+entry_of_retirement r (inr retires) n =
+    ap (λ x. 1 ∷ drop 1 (entry x)) retires.is
+    ∙ ap (λ x. 1 ∷ drop 1 x) (retirement_entry retires.key retires.digest)
+    ∙ sym retires.is
+
+known_there : (o p : Operations) (r : List ℕ) → IsContent o → IsContent p → DigestsTell o p → set.contains o r ≡ true → is_known p (entry r) ≡ true → (set.contains p r || is_covered p r) ≡ true
+known_there o p r a b tells in_o known =
+    either _ (set.contains (summary p) (entry r)) (set.contains p (1 ∷ drop 1 (entry r)))
+    (λ named. or_left _ _ (named_there o p r a b tells in_o named))
+    (λ retired. by_test _ (is_admission r)
+    (λ is. or_right (set.contains p r) _ (ap (λ c. c && set.contains p (covering r)) is ∙ ap (set.contains p) (sym (entry_of_covered r is)) ∙ retired))
+    (λ no. or_left _ _ (ap (set.contains p) (sym (entry_of_retirement r (a.records r in_o) no)) ∙ retired)))
+    known
+
+-- what is in a content or covered there is so in a greater one
+known_more : (p q : Operations) (r : List ℕ) → (set.contains p r || is_covered p r) ≡ true → (set.contains (set.union p q) r || is_covered (set.union p q) r) ≡ true
+known_more p q r known =
+    let members : (x : List ℕ) → set.contains p x ≡ true → set.contains (set.union p q) x ≡ true = λ x h. contains-union nat_list_cmp_total p q x ∙ or_left _ _ h in
+    either _ (set.contains p r) (is_covered p r)
+    (λ there. or_left _ _ (members r there))
+    (λ covered. or_right (set.contains (set.union p q) r) _ (ap (λ c. c && set.contains (set.union p q) (covering r)) (and_left _ _ covered) ∙ members (covering r) (and_right _ _ covered)))
+    known
+
+-- an operation is known, or in the delta
+known_or_in_delta : (o p : Operations) (s : Entries) → IsContent o → IsContent p → DigestsTell o p → ((e : List ℕ) → set.contains s e ≡ true → is_known p e ≡ true)
+    → (r : List ℕ) → set.contains o r ≡ true → (set.contains (set.union p (delta o s)) r || is_covered (set.union p (delta o s)) r) ≡ true
+known_or_in_delta o p s a b tells has r in_o = by_test _ (set.contains s (entry r))
+    (λ named. known_more p (delta o s) r (known_there o p r a b tells in_o (has (entry r) named)))
+    (λ missing.
+    let there : set.contains (delta o s) r ≡ true = contains_delta o s r ∙ ap (λ c. c && not (set.contains s (entry r))) in_o ∙ ap not missing in
+    or_left _ _ (contains-union nat_list_cmp_total p (delta o s) r ∙ or_right _ _ there))
+
+-- a content to which each entry of a summary is known, joined with the delta against that summary, is above what the delta was made of
+pub brought_above : (o p : Operations) (s : Entries) → IsContent o → IsContent p → DigestsTell o p → ((e : List ℕ) → set.contains s e ≡ true → is_known p e ≡ true) → IsBelow o (joined p (delta o s))
+brought_above o p s a b tells has = below_made_known o (set.union p (delta o s)) (known_or_in_delta o p s a b tells has)
 
 -- and no more than that and it hold together
 pub brought_within : (o p : Operations) (s : Entries) → IsBelow (joined p (delta o s)) (joined o p)
 brought_within o p s =
-    union_least nat_list_cmp_total p (delta o s) (joined o p) (union_right nat_list_cmp_total o p)
-    (subset_transitive nat_list_cmp_total (delta o s) o (joined o p) (delta_below o s) (union_left nat_list_cmp_total o p))
+    joined_below p (delta o s) (joined o p) (below_right o p)
+    (below_transitive (delta o s) o (joined o p) (delta_below o s) (below_left o p))

@@ -1,48 +1,124 @@
 -- What operations give that are taken one after another, and what a retirement keeps out.
-use Rattle.std.proofs.Common.{◌≡◌, ◌↔◌, ◌≤◌, ◌+◌, ℕ, List, [], ◌∷◌, Bool, true, false, cond, length, map, refl, sym, ap, ◌∙◌, subst, arith}
-use Rattle.std.specs.Prelude.{not, if◌then◌else◌}
+use Rattle.std.proofs.Common.{◌≡◌, ◌↔◌, ℕ, suc, ◌+◌, ◌≤◌, if◌then◌else◌, List, [], ◌∷◌, Bool, true, false, ◌||◌, ◌&&◌, length, map, refl, sym, ap, ◌∙◌, subst, arith}
+use Rattle.std.specs.Prelude.{not, fold, Contains}
 use mathlib.Core.Bool.{true≢false}
-use Rattle.std.specs.Cmp.Lexicographic.{nat_list_cmp_total}
+use Rattle.std.specs.Ordering.{nat_cmp, eq_by_cmp, is_eq}
+use Rattle.std.specs.Cmp.{Equal-is, tied_itself}
+use Rattle.std.specs.Cmp.Lexicographic.{slice_cmp, nat_list_cmp_total}
 use Rattle.std.specs.FinSet as set
-use Rattle.std.specs.FinSet.{is_subset-contains}
+use Rattle.std.specs.FinSet.{contains-insert}
 use Rattle.sha2.specs.Sha256.{sha256}
+use Rattle.std.proofs.Math.ListN.{length-map}
 use Rattle.join_core.proofs.Members.{from_list_same, inserts_are_union}
-use Rattle.join_core.proofs.Place.{insert_present, insert_changes}
-use Rattle.join_core.proofs.Subset.{subset_reflexive, subset_transitive, union_left}
+use Rattle.join_core.proofs.Place.{insert_present}
 use Rattle.archive_core.specs.Record.{rec, retirement_record}
-use Rattle.archive_core.specs.Content.{Operations, made, IsBelow, IsContent, with_record, with_records, changes, new_among, joined, HaveSameMembers, IsLive, IsTakenInPart}
+use Rattle.archive_core.specs.Content.{Operations, is_admission, covering, is_covered, made, IsMade, IsContent, IsBelow, with_record, with_records, changes, new_among, joined, HaveSameMembers, IsLive, IsTakenInPart}
 use Rattle.archive_core.specs.declared.operations.Operation.{Operation}
 use Rattle.archive_core.specs.declared.keys.SliceKey.{SliceKey}
-use Rattle.archive_core.proofs.Held.{bytes_same}
+use Rattle.archive_core.proofs.Made.{bytes_same, made_of_uncovered, uncovered_of_made, either, or_left, or_right, by_test, contains_made, IsAlike, made_alike, made_is_alike, alike_insert, joined_made_right, made_again, below_reflexive, below_transitive, below_made}
 
--- an operation that is there changes nothing, and one that is not changes the content
-pub present_changes : (o : Operations) (r : List ℕ) → set.contains o r ≡ true → changes o r ≡ false
+-- an operation that is there, or covered there, changes nothing, and another one changes the content
+pub known_changes : (o : Operations) (r : List ℕ) → (set.contains o r || is_covered o r) ≡ true → changes o r ≡ false
 unfolding changes
-present_changes o r h = ap not h
+known_changes o r h = ap not h
 
-pub absent_changes : (o : Operations) (r : List ℕ) → set.contains o r ≡ false → changes o r ≡ true
+pub new_changes : (o : Operations) (r : List ℕ) → set.contains o r ≡ false → is_covered o r ≡ false → changes o r ≡ true
 unfolding changes
-absent_changes o r h = ap not h
+new_changes o r h k = ap (λ b. not (b || is_covered o r)) h ∙ ap not k
 
-same_by : (o : Operations) (r : List ℕ) (has : Bool) → set.contains o r ≡ has → (not has ≡ false) ↔ (with_record o r ≡ o)
-same_by o r true h = (λ _. insert_present nat_list_cmp_total bytes_same o r h, λ _. refl)
-same_by o r false h = (λ e. absurd (true≢false e), λ same. absurd (insert_changes nat_list_cmp_total bytes_same o r h same))
+tied : List ℕ → List ℕ → Bool
+tied = eq_by_cmp (slice_cmp nat_cmp)
 
-pub unchanged_same : (o : Operations) (r : List ℕ) → (changes o r ≡ false) ↔ (with_record o r ≡ o)
+tied_is : (q r : List ℕ) → eq_by_cmp (slice_cmp nat_cmp) q r ≡ true → q ≡ r
+tied_is q r h = bytes_same q r ((Equal-is (slice_cmp nat_cmp q r)).0 h)
+
+-- operations of two kinds are two
+pub apart : (q r : List ℕ) → is_admission q ≡ false → is_admission r ≡ true → eq_by_cmp (slice_cmp nat_cmp) q r ≡ false
+apart q r n a = by_test _ (eq_by_cmp (slice_cmp nat_cmp) q r) (λ t. absurd (true≢false (sym a ∙ ap is_admission (sym (tied_is q r t)) ∙ n))) (λ f. f)
+
+both_parts : (a b : Bool) → (a && b) ≡ true → (a ≡ true) × (b ≡ true)
+both_parts true b h = (refl, h)
+both_parts false b h = absurd (true≢false (sym h))
+
+-- with a covered admission a set is alike
+alike_covered : (o : Operations) (r : List ℕ) → is_covered o r ≡ true → IsAlike (set.insert o r) o
+alike_covered o r c =
+    let parts = both_parts (is_admission r) (set.contains o (covering r)) c in
+    record {
+      retirements = λ q n. contains-insert nat_list_cmp_total o r q ∙ ap (λ b. b || set.contains o q) (apart q r n parts.0);
+      live = λ q a free. by_test _ (eq_by_cmp (slice_cmp nat_cmp) q r)
+          (λ t.
+          let there : set.contains (set.insert o r) (covering q) ≡ true = contains-insert nat_list_cmp_total o r (covering q) ∙ or_right _ _ (ap (λ p. set.contains o (covering p)) (tied_is q r t) ∙ parts.1) in
+          absurd (true≢false (sym there ∙ free)))
+          (λ f. contains-insert nat_list_cmp_total o r q ∙ ap (λ b. b || set.contains o q) f);
+    }
+
+-- so an operation that is there or covered there leaves the content
+pub with_known : (o : Operations) (r : List ℕ) → IsMade o → (set.contains o r || is_covered o r) ≡ true → with_record o r ≡ o
+with_known o r is h = either (with_record o r ≡ o) (set.contains o r) (is_covered o r)
+    (λ there. ap made (insert_present nat_list_cmp_total bytes_same o r there) ∙ is)
+    (λ covered. made_alike (set.insert o r) o (alike_covered o r covered) ∙ is)
+    h
+
+-- no operation covers itself
+pub still_uncovered : (o : Operations) (r : List ℕ) → is_covered o r ≡ false → is_covered (set.insert o r) r ≡ false
+still_uncovered o r h = by_test (is_covered (set.insert o r) r ≡ false) (is_admission r)
+    (λ a.
+    ap (λ b. is_admission r && b) (contains-insert nat_list_cmp_total o r (covering r) ∙ ap (λ b. b || set.contains o (covering r)) (apart (covering r) r refl a)) ∙ h)
+    (λ n. ap (λ b. b && set.contains (set.insert o r) (covering r)) n)
+
+-- and another one is there afterwards
+pub contains_with : (o : Operations) (r : List ℕ) → is_covered o r ≡ false → set.contains (with_record o r) r ≡ true
+contains_with o r h =
+    contains_made (set.insert o r) r
+    ∙ ap (λ b. set.contains (set.insert o r) r && not b) (still_uncovered o r h)
+    ∙ ap (λ b. b && true) (contains-insert nat_list_cmp_total o r r ∙ ap (λ c. is_eq c || set.contains o r) (tied_itself nat_list_cmp_total r))
+
+same_by : (o : Operations) (r : List ℕ) (known : Bool) → IsMade o → (set.contains o r || is_covered o r) ≡ known → (not known ≡ false) ↔ (with_record o r ≡ o)
+same_by o r true is h = (λ _. with_known o r is h, λ _. refl)
+same_by o r false is h = (
+  λ e. absurd (true≢false e),
+  λ same.
+      let free : is_covered o r ≡ false = by_test _ (is_covered o r) (λ c. absurd (true≢false (sym (or_right (set.contains o r) _ c) ∙ h))) (λ c. c) in
+      absurd (true≢false (sym (or_left _ (is_covered o r) (ap (λ s. set.contains s r) (sym same) ∙ contains_with o r free)) ∙ h)),
+)
+
+pub unchanged_same : (o : Operations) (r : List ℕ) → IsMade o → (changes o r ≡ false) ↔ (with_record o r ≡ o)
 unfolding changes
-unchanged_same o r = same_by o r (set.contains o r) refl
+unchanged_same o r is = same_by o r (set.contains o r || is_covered o r) is refl
 
--- operations taken one after another give the join with what they make
-pub taken_are_joined : (o : Operations) (rs : List (List ℕ)) → with_records o rs ≡ joined o (made (set.from_list rs))
-taken_are_joined o rs = inserts_are_union nat_list_cmp_total bytes_same o rs
+-- operations taken one after another make what all together make
+with_made : (o : Operations) (rs : List (List ℕ)) → with_records (made o) rs ≡ made (fold set.insert o rs)
+with_made o [] = refl
+with_made o (r ∷ rs) =
+    ap (λ s. with_records s rs) (made_alike (set.insert (made o) r) (set.insert o r) (alike_insert (made o) o r (made_is_alike o)))
+    ∙ with_made (set.insert o r) rs
 
--- so neither their order nor repeats count
-pub taken_in_any_order : (o : Operations) (rs ss : List (List ℕ)) → HaveSameMembers rs ss → with_records o rs ≡ with_records o ss
-taken_in_any_order o rs ss same = taken_are_joined o rs ∙ ap (joined o) (from_list_same nat_list_cmp_total bytes_same rs ss same) ∙ sym (taken_are_joined o ss)
+-- so they give the join with what they make
+pub taken_are_joined : (o : Operations) (rs : List (List ℕ)) → IsMade o → with_records o rs ≡ joined o (made (set.from_list rs))
+taken_are_joined o rs is =
+    ap (λ s. with_records s rs) (sym is)
+    ∙ with_made o rs
+    ∙ ap made (inserts_are_union nat_list_cmp_total bytes_same o rs)
+    ∙ sym (joined_made_right o (set.from_list rs))
 
--- a content is below that with more operations
+-- and neither their order nor repeats count
+pub taken_in_any_order : (o : Operations) (rs ss : List (List ℕ)) → IsMade o → HaveSameMembers rs ss → with_records o rs ≡ with_records o ss
+taken_in_any_order o rs ss is same = taken_are_joined o rs is ∙ ap (λ s. joined o (made s)) (from_list_same nat_list_cmp_total bytes_same rs ss same) ∙ sym (taken_are_joined o ss is)
+
+-- what is taken is a content
+pub made_taken : (o : Operations) (rs : List (List ℕ)) → IsMade o → IsMade (with_records o rs)
+made_taken o [] is = is
+made_taken o (r ∷ rs) is = made_taken (with_record o r) rs (made_again (set.insert o r))
+
+-- a content is below that with one operation more
+pub below_with : (o : Operations) (r : List ℕ) → IsBelow o (with_record o r)
+below_with o r = below_made o (set.insert o r) (λ q h. contains-insert nat_list_cmp_total o r q ∙ or_right _ _ h)
+
+-- and with more operations
 pub below_taken : (o : Operations) (rs : List (List ℕ)) → IsBelow o (with_records o rs)
-below_taken o rs = rw (taken_are_joined o rs) (union_left nat_list_cmp_total o (made (set.from_list rs)))
+below_taken o [] = below_reflexive o
+below_taken o (r ∷ rs) = below_transitive o (with_record o r) (with_records (with_record o r) rs) (below_with o r) (below_taken (with_record o r) rs)
 
 -- Between the content at first and that after some operations, with these left: where it stands, and what the rest will make.
 pub record IsUnderWay (old now : Operations) (all left : List Operation) : Type 0 where
@@ -50,11 +126,11 @@ pub record IsUnderWay (old now : Operations) (all left : List Operation) : Type 
   pub content : with_records now (map rec left) ≡ with_records old (map rec all)
 
 pub at_first : (o : Operations) (all left : List Operation) → left ≡ all → IsUnderWay o o all left
-at_first o all left is = rw is (record { above_old = subset_reflexive nat_list_cmp_total o; content = refl })
+at_first o all left is = rw is (record { above_old = below_reflexive o; content = refl })
 
 pub one_taken : (old now next : Operations) (all left rest : List Operation) (operation : Operation) → IsUnderWay old now all left → left ≡ operation ∷ rest → next ≡ with_record now (rec operation) → IsUnderWay old next all rest
 one_taken old now next all left rest operation way is next_is = rw next_is (record {
-  above_old = subset_transitive nat_list_cmp_total old now (with_record now (rec operation)) way.above_old (below_taken now (rec operation ∷ []));
+  above_old = below_transitive old now (with_record now (rec operation)) way.above_old (below_with now (rec operation));
   content = ap (λ (l : List Operation). with_records now (map rec l)) (sym is) ∙ way.content;
 })
 
@@ -68,6 +144,10 @@ taken_in_part old now new all left is way same = rw same (record {
   above_old = way.above_old;
   below_all = subst (λ (o : Operations). IsBelow now o) way.content (below_taken now (map rec left));
 })
+
+-- above a content that retires a slice, none has it live
+pub never_live_again : (o p : Operations) (key : SliceKey) (slice : List ℕ) → set.contains o (retirement_record key (sha256 slice)) ≡ true → IsBelow o p → IsLive p key slice → ⊥
+never_live_again o p key slice retired below live = true≢false (sym (below.retirements (retirement_record key (sha256 slice)) refl retired) ∙ live.kept)
 
 -- of records no more are new than there are
 one_at_most : (changed : Bool) → (if changed then 1 else 0) ≤ 1
@@ -90,22 +170,69 @@ pub new_of_none : (o : Operations) → new_among o [] ≡ 0
 unfolding new_among
 new_of_none o = refl
 
--- and each new one is one more in the set
-pub grown : (o : Operations) (rs : List (List ℕ)) → set.len (with_records o rs) ≡ set.len o + new_among o rs
-unfolding new_among changes
-grown o [] = omega arith
-grown o (r ∷ rs) =
-    grown (with_record o r) rs
-    ∙ ap (λ (n : ℕ). n + new_among (with_record o r) rs) (set.len-insert nat_list_cmp_total o r)
-    ∙ by_case (set.contains o r) (set.len o) (new_among (with_record o r) rs)
+-- Operations under way, and how many of those that were taken changed the content.
+pub record IsCounted (old now : Operations) (all left : List Operation) (new : ℕ) : Type 0 where
+  pub way : IsUnderWay old now all left
+  pub counted : new + new_among now (map rec left) ≡ new_among old (map rec all)
+
+pub none_counted : (o : Operations) (all left : List Operation) → left ≡ all → IsCounted o o all left 0
+none_counted o all left is = record { way = at_first o all left is; counted = omega (arith, ap (λ (l : List Operation). new_among o (map rec l)) is) }
+
+pub one_counted : (old now next : Operations) (all left rest : List Operation) (operation : Operation) (new more : ℕ) → IsCounted old now all left new → left ≡ operation ∷ rest → next ≡ with_record now (rec operation)
+    → more ≡ new + (if changes now (rec operation) then 1 else 0) → IsCounted old next all rest more
+one_counted old now next all left rest operation new more at is next_is more_is = record {
+  way = one_taken old now next all left rest operation at.way is next_is;
+  counted = rw next_is (omega (arith, more_is, at.counted, ap (λ (l : List Operation). new_among now (map rec l)) is, new_in_turn now (rec operation) (map rec rest)));
+}
+
+pub all_counted : (old now : Operations) (all left : List Operation) (new : ℕ) → IsCounted old now all left new → length left ≡ 0 → new ≡ new_among old (map rec all)
+all_counted old now all [] new at none = omega (arith, at.counted, new_of_none now)
+all_counted old now all (x ∷ xs) new at none = absurd (omega arith)
+
+-- no more than there were operations
+pub counted_below : (old now : Operations) (all left rest : List Operation) (operation : Operation) (new : ℕ) → IsCounted old now all left new → left ≡ operation ∷ rest
+    → new + (if changes now (rec operation) then 1 else 0) ≤ length all
+counted_below old now all left rest operation new at is =
+    let most = new_within old (map rec all) in
+    omega (arith, most, length-map all rec, at.counted, ap (λ (l : List Operation). new_among now (map rec l)) is, new_in_turn now (rec operation) (map rec rest))
+
+-- ---- admissions drop none
+
+-- an admission covers nothing
+covers_no_more : (o : Operations) (r q : List ℕ) → is_admission r ≡ true → is_covered (set.insert o r) q ≡ is_covered o q
+covers_no_more o r q a = ap (λ b. is_admission q && b) (contains-insert nat_list_cmp_total o r (covering q) ∙ ap (λ b. b || set.contains o (covering q)) (apart (covering q) r refl a))
+
+-- so with one that is not covered a content makes itself
+pub made_with_admission : (o : Operations) (r : List ℕ) → IsMade o → is_admission r ≡ true → is_covered o r ≡ false → IsMade (set.insert o r)
+made_with_admission o r made a free = made_of_uncovered (set.insert o r) (λ q h.
+    covers_no_more o r q a
+    ∙ either (is_covered o q ≡ false) (eq_by_cmp (slice_cmp nat_cmp) q r) (set.contains o q)
+    (λ t. ap (is_covered o) (tied_is q r t) ∙ free)
+    (λ there. uncovered_of_made o made q there)
+    (sym (contains-insert nat_list_cmp_total o r q) ∙ h))
+
+-- and each one that changes the content brings one member more
+pub len_with : (o : Operations) (r : List ℕ) → IsMade o → is_admission r ≡ true → set.len (with_record o r) ≡ set.len o + (if changes o r then 1 else 0)
+len_with o r made a = by_known (set.contains o r || is_covered o r) refl
   where
-    by_case : (has : Bool) (n more : ℕ) → cond has n (n + 1) + more ≡ n + ((if not has then 1 else 0) + more)
-    by_case true n more = omega arith
-    by_case false n more = omega arith
+    or_none_left : (x y : Bool) → (x || y) ≡ false → x ≡ false
+    or_none_left true y h = absurd (true≢false h)
+    or_none_left false y h = refl
 
-pub grown_to : (o next : Operations) (rs : List (List ℕ)) → next ≡ with_records o rs → set.len next ≡ set.len o + new_among o rs
-grown_to o next rs is = rw is (grown o rs)
+    or_none_right : (x y : Bool) → (x || y) ≡ false → y ≡ false
+    or_none_right true y h = absurd (true≢false h)
+    or_none_right false y h = h
 
--- above a content that retires a slice, none has it live
-pub never_live_again : (o p : Operations) (key : SliceKey) (slice : List ℕ) → set.contains o (retirement_record key (sha256 slice)) ≡ true → IsBelow o p → IsLive p key slice → ⊥
-never_live_again o p key slice retired below live = true≢false (sym (is_subset-contains nat_list_cmp_total o p below (retirement_record key (sha256 slice)) retired) ∙ live.kept)
+    by_known : (b : Bool) → (set.contains o r || is_covered o r) ≡ b → set.len (with_record o r) ≡ set.len o + (if changes o r then 1 else 0)
+    by_known true e = ap set.len (with_known o r made e) ∙ rw (known_changes o r e) (omega arith)
+    by_known false e =
+        let absent : set.contains o r ≡ false = or_none_left (set.contains o r) (is_covered o r) e in
+        let free : is_covered o r ≡ false = or_none_right (set.contains o r) (is_covered o r) e in
+        ap set.len (made_with_admission o r made a free) ∙ set.len-insert nat_list_cmp_total o r ∙ rw (absent, new_changes o r absent free) (omega arith)
+
+pub grown : (o : Operations) (rs : List (List ℕ)) → IsMade o → ((r : List ℕ) → Contains rs r → is_admission r ≡ true) → set.len (with_records o rs) ≡ set.len o + new_among o rs
+grown o [] made all = omega (arith, new_of_none o)
+grown o (r ∷ rs) made all =
+    let one = len_with o r made (all r (0, omega arith, refl)) in
+    let rest = grown (with_record o r) rs (made_again (set.insert o r)) (λ q h. all q (suc h.0, omega (arith, h.1), h.2)) in
+    omega (arith, one, rest, new_in_turn o r rs)

@@ -96,5 +96,6 @@ pub fn take_all<A: Archive>(archive: &mut A, other: A) -> Result<(), NoMemory>
     ensures refused { OnErr result
         (IsTowards IsContent IsBelow (A.content archive.old) (A.content other) (A.content archive.new)) }
 {
+    let _lengths = (archive.len(), other.len());
     archive.absorb(other)
 }

@@ -1,19 +1,51 @@
-//! Slices that retirements cover.
-ghost use Rattle.std.specs.Prelude.{◌≡◌, map};
+//! Slices that retirements cover. This is the one place that tells them, and no slice that is held is one.
+ghost use Rattle.std.specs.Prelude.{◌≡◌, ◌≤◌, ◌||◌, ℕ, List, [], ◌∷◌, true, false, length, map, filter, not};
 ghost use Rattle.std.specs.FinSet as set;
 ghost use Rattle.std.specs.Ordering.{nat_cmp};
 ghost use Rattle.std.specs.Cmp.Lexicographic.{slice_cmp};
+ghost use Rattle.std.specs.Vec.{vec_capacity};
 ghost use Rattle.sha2.specs.Sha256.{sha256};
-ghost use Rattle.archive_core.specs.Valid.{key_of};
-ghost use Rattle.archive_core.specs.Record.{rec, retirement_record};
+ghost use Rattle.archive_core.specs.Valid.{key_of, IsValid};
+ghost use Rattle.archive_core.specs.Record.{rec, retirement_record, IsOperation};
+ghost use Rattle.archive_core.specs.Content.{is_covered, changes};
+ghost use Rattle.archive_core.specs.Key.{IsKey};
 ghost use Rattle.archive_core.specs.InnerHeld.{IsHeld};
+ghost use Rattle.archive_core.specs.InnerRange.{is_under};
+ghost use Rattle.archive_core.specs.declared.range.Kind.TheVariants.{Admission};
+ghost use Rattle.archive_core.specs.declared.operations.Operation.TheVariants.{Retire};
 
 use crate::plain::search;
 use crate::range::{Kind, under};
-use crate::{Operation, Slice};
+use crate::{Digest, Operation, Slice, SliceKey};
+use memory::Heap;
+use std::marker::Model;
+
+// The operations of an archive, lent. A contract sees them as the content that they make.
+#[derive(Drop)]
+pub(crate) struct Lent<'a> {
+    operations: &'a [Operation],
+}
+
+impl<'a> Model for Lent<'a> {
+    ghost use Rattle.std.specs.Prelude.{map};
+    ghost use Rattle.std.specs.Ordering.{nat_cmp};
+    ghost use Rattle.std.specs.Cmp.Lexicographic.{slice_cmp};
+    ghost use Rattle.std.specs.FinSet as set;
+    ghost use Rattle.std.specs.Coded.{coded_list, coded_ℕ};
+    ghost use Rattle.archive_core.specs.Record.{rec};
+    ghost use Rattle.archive_core.specs.InnerHeld.{IsHeld};
+
+    ghost Value = { set.FinSet (slice_cmp nat_cmp) };
+
+    ghost coded = { set.code (coded_list coded_ℕ) };
+
+    ghost view = { λ lent. set.from_list (map rec lent.operations.now) };
+
+    ghost invariant = { λ lent. IsHeld lent.operations.now };
+}
 
 // Whether one of the operations retires a slice. Its digest is asked for only where a retirement of its key stands.
-pub(crate) fn retires(operations: &[Operation], slice: &Slice) -> bool
+fn retires(operations: &[Operation], slice: &Slice) -> bool
     requires { IsHeld operations.now }
     ensures { result
         ≡ set.contains (set.from_list {R = slice_cmp nat_cmp} (map rec operations.now))
@@ -23,4 +55,97 @@ pub(crate) fn retires(operations: &[Operation], slice: &Slice) -> bool
         return false;
     }
     search(operations, &Operation::Retire(slice.key(), slice.digest())).is_ok()
+}
+
+impl<'a> Lent<'a> {
+    // The operations of an archive.
+    pub(crate) fn of(operations: &'a [Operation]) -> Lent<'a>
+        requires { IsHeld operations.now }
+        ensures { result ≡ set.from_list (map rec operations.now) }
+    {
+        Lent { operations }
+    }
+
+    // Whether retirements are there. They stand first.
+    fn has_retirements(&self) -> bool
+        ensures none { result ≡ false → (r : List ℕ) → is_covered self.now r ≡ false }
+    {
+        let Some(first) = self.operations.first() else {
+            return false;
+        };
+        match first {
+            Operation::Retire(_, _) => true,
+            Operation::Admit(_) => false,
+        }
+    }
+
+    // Whether a retirement covers the slice.
+    pub(crate) fn retires(&self, slice: &Slice) -> bool
+        ensures retires { result
+            ≡ set.contains self.now (retirement_record (key_of slice.now) (sha256 slice.now)) }
+        ensures valid { IsValid slice.now }
+    {
+        let _bytes = slice.bytes();
+        self.has_retirements() && retires(self.operations, slice)
+    }
+
+    // Whether a retirement covers the operation.
+    pub(crate) fn covers(&self, operation: &Operation) -> bool
+        ensures { result ≡ is_covered self.now (rec operation.now) }
+    {
+        match operation {
+            Operation::Admit(slice) => self.retires(slice),
+            Operation::Retire(_, _) => false,
+        }
+    }
+
+    // Whether the operation is there, or covered.
+    #[tactic(auto, unfolding(crate::specs::Content::changes))]
+    pub(crate) fn knows(&self, operation: &Operation) -> bool
+        ensures knows { result
+            ≡ (set.contains self.now (rec operation.now) || is_covered self.now (rec operation.now)) }
+        ensures changes { changes self.now (rec operation.now) ≡ not result }
+    {
+        search(self.operations, operation).is_ok() || self.covers(operation)
+    }
+}
+
+// Drops the operations that are covered. Where no retirement is lent, none is asked for.
+pub(crate) fn drop_covered(operations: &mut Vec<Operation, Heap>, by: &Lent<'_>)
+    ensures items { operations.new.items
+        ≡ filter (λ operation. not (is_covered by.now (rec operation))) operations.old.items }
+    ensures capacity { vec_capacity operations.new ≡ vec_capacity operations.old }
+    ensures bound { length operations.new.items ≤ length operations.old.items }
+{
+    if !by.has_retirements() {
+        return;
+    }
+    operations.retain(|operation| !by.covers(operation));
+}
+
+// The retirement of a key and a digest.
+pub(crate) fn retirement(key: SliceKey, digest: Digest) -> Operation
+    ensures retirement { result ≡ Retire key digest }
+    ensures operation { IsOperation (Retire key digest) }
+{
+    Operation::Retire(key, digest)
+}
+
+// Whether no slice of a key is there, so that no retirement of the key covers one.
+pub(crate) fn has_none(operations: &[Operation], key: &SliceKey) -> bool
+    requires { IsHeld operations.now }
+    ensures none { result ≡ true → filter (is_under Admission key.now) operations.now ≡ [] }
+    ensures key { IsKey key.now }
+{
+    under(operations, Kind::Admission, *key).is_empty()
+}
+
+// Drops the slices that one retirement covers.
+pub(crate) fn drop_retired(operations: &mut Vec<Operation, Heap>, key: SliceKey, digest: Digest)
+    ensures { operations.new.items
+        ≡ filter (λ operation. not (is_covered (set.from_list (map rec (Retire key digest ∷ []))) (rec operation)))
+        operations.old.items }
+{
+    let only = [retirement(key, digest)];
+    drop_covered(operations, &Lent::of(&only));
 }

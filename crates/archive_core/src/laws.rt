@@ -277,10 +277,10 @@ pub fn deltas_in_words()
     ensures below { (o : Operations) (s : Entries) → IsContent o → IsBelow (delta o s) o }
 {}
 
-/// A content that takes in a delta against its own summary, or against an older one, is above the content that the delta
-/// was made of, where no slice of the one has the SHA-256 of a different slice of the other. Of an older one, each entry
-/// is that of an operation that the content still has, or of a slice that it has retired since. Whatever the entries and
-/// the slices, it is below the join of both.
+/// A content that takes in a delta against its own summary, or against an older one, is above the content that the
+/// delta was made of, where no slice of the one has the SHA-256 of a different slice of the other. Of an older one,
+/// each entry is that of an operation that the content still has, or of a slice that it has retired since. Whatever the
+/// entries and the slices, it is below the join of both.
 pub fn delta_brings_above()
     ensures above { (o p : Operations) (s : Entries)
         → IsContent o

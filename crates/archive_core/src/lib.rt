@@ -1,10 +1,11 @@
 //! The content of an archive of Mach-O slices, and archives that keep one.
 //!
 //! An archive keeps a set of operations: admissions of slices and retirements. It is the two-phase
-//! set of Shapiro, Preguiça, Baquero and Zawirski (INRIA RR-7506, 2011): what was added and what was
-//! removed both only grow, what was removed never comes back, and two archives join by taking in
-//! each other's operations. In one point it differs: a retirement may come before the admission that
-//! it covers, and is kept.
+//! set of Shapiro, Preguiça, Baquero and Zawirski (INRIA RR-7506, 2011): what was removed never comes
+//! back, and two archives join by taking in each other's operations. In two points it differs. A
+//! retirement may come before the admission that it covers, and is kept. And a slice that is retired
+//! is not kept: where its retirement comes in it is dropped, with its bytes, and behind that it is not
+//! taken.
 //!
 //! - `keys`: under what a slice is kept;
 //! - `faults`: why bytes are no slice, or are not admitted;
@@ -14,6 +15,7 @@
 //! - `lookup`: what is asked of a key, and what is answered;
 //! - `names`: what a search for a name tells;
 //! - `archives`: the trait [`Archive`];
+//! - `covered`: slices that retirements cover;
 //! - `taking`: many operations at once;
 //! - `finding`: an operation beside the row that a search tells of it;
 //! - `lists`: what a list of all tells;

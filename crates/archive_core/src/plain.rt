@@ -1,30 +1,29 @@
 //! An archive as a sorted list of operations.
-ghost use Rattle.std.specs.Prelude.{◌≡◌, ◌≤◌, ◌++◌, length, map, filter, not, if◌then◌else◌};
-ghost use Rattle.std.specs.Prelude.{Some, None, IfOk, OnOk, OnErr};
+ghost use Rattle.std.specs.Prelude.{◌≡◌, ◌≤◌, ◌++◌, ◌||◌, length, map, filter, IfOk, OnOk, OnErr};
 ghost use Rattle.std.specs.FinSet as set;
 ghost use Rattle.std.specs.Ordering.{nat_cmp, is_lt};
 ghost use Rattle.std.specs.Cmp.Lexicographic.{slice_cmp};
-ghost use Rattle.std.specs.List.{list_all, AllZip};
+ghost use Rattle.std.specs.List.{list_all, AllZip, AllByRecursion};
 ghost use Rattle.std.specs.List.Sorted.{IsPermutation, IsSortedBy, IsStrictlySortedBy, IsSearchInRange};
 ghost use Rattle.join_core.specs.InnerSearch.{IsFound};
-ghost use Rattle.sha2.specs.Sha256.{sha256};
-ghost use Rattle.archive_core.specs.Valid.{key_of};
-ghost use Rattle.archive_core.specs.Record.{rec, retirement_record};
-ghost use Rattle.archive_core.specs.Content.{IsContent, IsTakenInPart, with_records};
+ghost use Rattle.archive_core.specs.Record.{rec, IsOperation};
+ghost use Rattle.archive_core.specs.Content.{IsContent, IsTakenInPart, is_covered, changes};
+ghost use Rattle.archive_core.specs.Content.{with_record, with_records, joined};
 ghost use Rattle.archive_core.specs.InnerHeld.{IsHeld};
-ghost use Rattle.archive_core.specs.InnerScan.{is_finding, live_in, live_among, IsTally};
+ghost use Rattle.archive_core.specs.InnerScan.{live_in, live_among, IsTally};
+ghost use Rattle.archive_core.specs.declared.operations.Operation.TheVariants.{Admit, Retire};
 ghost use Rattle.archive_core.specs.Lookup.{IsOwnRow, IsAnswerOf, own_row, answer_view};
 ghost use Rattle.archive_core.specs.Names.{name_view};
 ghost use Rattle.archive_core.specs.InnerNames.{names_of, names_among};
 
-use crate::covered::retires;
+use crate::covered::{Lent, drop_covered, drop_retired, has_none, retirement};
 use crate::finding::{Finding, rows_of};
 use crate::live::{Asked, Tally, answer_of_one, is_key, is_kind};
 use crate::names::{has_name, put_in_order, rows_in};
 use crate::range::{Kind, is_companion, keep_digests_under, keep_each_table, under, under_uuid};
 use crate::{
-    Answer, Archive, Contents, Digest, FindRow, FindState, NameRow, Operation, Own, Record, Slice,
-    SliceKey, Where,
+    Answer, Archive, Contents, Digest, FindRow, NameRow, Operation, Own, Record, Slice, SliceKey,
+    Where,
 };
 use join_core::Join;
 use memory::{Heap, NoMemory};
@@ -35,7 +34,8 @@ use uuid::Uuid;
 ///
 /// It is searched by halving. A `take` above the last operation only appends; any other shifts what
 /// stands behind. A join copies what is missing, before it changes anything, and merges it with what is there. What is
-/// absorbed is merged, too, or put in at its place where it is little.
+/// absorbed is merged, too, or put in at its place where it is little. A slice is hashed only where a retirement of its
+/// key is there or comes, and dropped where that covers it.
 #[derive(Drop)]
 pub struct PlainArchive {
     operations: Vec<Operation, Heap>,
@@ -96,6 +96,17 @@ fn sort(operations: &mut Vec<Operation, Heap>)
     }
 }
 
+// Sorts operations by their records, and keeps each once.
+fn order(operations: &mut Vec<Operation, Heap>)
+    ensures ascending { IsStrictlySortedBy (slice_cmp nat_cmp) (map rec operations.new.items) }
+    ensures same { set.from_list {R = slice_cmp nat_cmp} (map rec operations.new.items)
+        ≡ set.from_list (map rec operations.old.items) }
+    ensures are { AllByRecursion IsOperation operations.old.items → AllByRecursion IsOperation operations.new.items }
+{
+    sort(operations);
+    operations.dedup_by(|a, b| a.compare(b).is_eq());
+}
+
 impl PlainArchive {
     /// The heap that the archive keeps.
     pub fn heap(&self) -> &Heap {
@@ -111,13 +122,12 @@ impl PlainArchive {
         keep_each_table(&mut self.operations, &heap)
     }
 
-    /// Whether a lookup of the key asks for digests: where a retirement of the key stands, or where two of its slices
-    /// are of one kind.
+    /// Whether a lookup of the key may tell digests: where two of its slices are of one kind.
     pub fn tells_digests(&self, key: &SliceKey) -> bool {
-        self.has_retirement(key) || self.has_several(key)
+        self.has_several(key)
     }
 
-    /// Keeps the digests beside the slices under a key that have tables, where a lookup of the key asks for them.
+    /// Keeps the digests beside the slices under a key that have tables, where a lookup of the key may tell them.
     pub fn keep_digests(&mut self, key: &SliceKey)
         ensures { self.new ≡ self.old }
     {
@@ -147,16 +157,6 @@ impl PlainArchive {
         Ok(keys)
     }
 
-    // Whether a retirement of the key stands. Retirements stand first. No answer depends on it.
-    fn has_retirement(&self, key: &SliceKey) -> bool {
-        match self.operations.first() {
-            Some(Operation::Retire(_, _)) => {
-                !under(&self.operations, Kind::Retirement, *key).is_empty()
-            }
-            _ => false,
-        }
-    }
-
     // Whether two slices of the key are of one kind, as of three some two are. What came in ascending order stands
     // last. No answer depends on it.
     fn has_several(&self, key: &SliceKey) -> bool {
@@ -175,81 +175,100 @@ impl PlainArchive {
         }
     }
 
-    // Whether the archive holds each of the operations.
-    fn holds_each(&self, operations: &[Operation]) -> bool
-        ensures { result ≡ list_all (λ operation. set.contains self.now (rec operation)) operations.now }
+    // The operations, lent.
+    fn lend(&self) -> Lent<'_>
+        ensures lent { result ≡ self.now }
+        ensures content { IsContent self.now }
     {
-        operations.iter().all(|operation| self.holds(operation))
+        Lent::of(&self.operations)
     }
 
-    // The operation with its row, where a search for the UUID tells it.
-    fn finding<'a>(&self, operation: &'a Operation, uuid: &Uuid) -> Option<Finding<'a>>
-        ensures { result ≡ if is_finding self.now uuid.now operation.now then Some operation.now else None }
+    // Whether the archive knows each of the operations: it is there, or covered.
+    fn knows_each(&self, operations: &[Operation]) -> bool
+        ensures knows { result
+            ≡ list_all (λ operation. set.contains self.now (rec operation) || is_covered self.now (rec operation))
+            operations.now }
+        ensures content { IsContent self.now }
     {
-        let key = operation.key();
-        if key.uuid != *uuid {
-            return None;
+        let lent = self.lend();
+        operations.iter().all(|operation| lent.knows(operation))
+    }
+
+    // Takes an admission.
+    fn admit(&mut self, slice: Slice) -> Result<bool, NoMemory>
+        ensures taken { OnOk result (self.new ≡ with_record self.old (rec (Admit slice))) }
+        ensures answer { IfOk result (λ changed. changed ≡ changes self.old (rec (Admit slice))) }
+        ensures refused { OnErr result (self.new ≡ self.old) }
+    {
+        if self.lend().retires(&slice) {
+            return Ok(false);
         }
-        let finding = Finding::of(&operation.lend());
-        match finding.row().state {
-            FindState::Retired => Some(finding),
-            FindState::Image | FindState::Dsym => {
-                let retirement = Operation::Retire(key, finding.row().digest);
-                if self.holds(&retirement) {
-                    None
-                } else {
-                    Some(finding)
-                }
+        let admission = Operation::Admit(slice);
+        match search_from_end(&self.operations, &admission) {
+            Ok(_) => Ok(false),
+            Err(index) => {
+                self.operations.insert(index, admission)?;
+                Ok(true)
             }
         }
     }
 
-    // Adds those operations that a search for the UUID tells, each with its row.
+    // Takes a retirement. What it covers is dropped behind it, which is not refused, and is looked for only where
+    // slices of its key are there.
+    fn retire(&mut self, key: SliceKey, digest: Digest) -> Result<bool, NoMemory>
+        ensures taken { OnOk result (self.new ≡ with_record self.old (rec (Retire key digest))) }
+        ensures answer { IfOk result (λ changed. changed ≡ changes self.old (rec (Retire key digest))) }
+        ensures refused { OnErr result (self.new ≡ self.old) }
+    {
+        let retirement = retirement(key, digest);
+        match search_from_end(&self.operations, &retirement) {
+            Ok(_) => Ok(false),
+            Err(index) => {
+                let none = has_none(&self.operations, &key);
+                self.operations.insert(index, retirement)?;
+                if none {
+                    return Ok(true);
+                }
+                drop_retired(&mut self.operations, key, digest);
+                Ok(true)
+            }
+        }
+    }
+
+    // Adds operations, each with its row.
     fn gather<'a>(
-        &self,
         findings: &mut Vec<Finding<'a>, Heap>,
         operations: &'a [Operation],
-        uuid: &Uuid,
     ) -> Result<(), NoMemory>
-        ensures { OnOk result (findings.new.items
-            ≡ findings.old.items ++ filter (is_finding self.now uuid.now) operations.now) }
+        ensures { OnOk result (findings.new.items ≡ findings.old.items ++ operations.now) }
     {
         'operations: for operation in operations {
-            if let Some(finding) = self.finding(operation, uuid) {
-                findings.push(finding)?;
-            }
+            findings.push(Finding::of(&operation.lend()))?;
         }
         Ok(())
     }
 
-    // Whether a retirement covers the slice. Its digest is asked for only where a retirement of its key stands.
-    fn is_retired(&self, slice: &Slice) -> bool
-        ensures { result ≡ set.contains self.now (retirement_record (key_of slice.now) (sha256 slice.now)) }
-    {
-        retires(&self.operations, slice)
-    }
-
-    // The slice that an operation admits, where it is live under the key, and a companion or not.
+    // The slice that an operation admits, where it is under the key, and a companion or not. What is held is live.
     #[tactic(auto, unfolding(crate::specs::InnerScan::is_live_kind))]
-    fn live<'a>(&self, operation: &'a Operation, key: &SliceKey, dsym: bool) -> Option<Asked<'a>>
-        ensures { result ≡ live_in self.now key.now dsym operation.now }
+    fn live<'a>(operation: &'a Operation, key: &SliceKey, dsym: bool) -> Option<Asked<'a>>
+        ensures { result ≡ live_in key.now dsym operation.now }
     {
         let Operation::Admit(slice) = operation else {
             return None;
         };
-        if !is_key(&slice.key(), key) || !is_kind(dsym, slice) || self.is_retired(slice) {
+        if !is_key(&slice.key(), key) || !is_kind(dsym, slice) {
             return None;
         }
         Some(Asked::of(slice))
     }
 
     // The live slices of a key, companions or not, as far as one of them is asked alone.
-    fn tally<'a>(&self, operations: &'a [Operation], key: &SliceKey, dsym: bool) -> Tally<'a>
-        ensures { IsTally result (live_among self.now key.now dsym operations.now) }
+    fn tally<'a>(operations: &'a [Operation], key: &SliceKey, dsym: bool) -> Tally<'a>
+        ensures { IsTally result (live_among key.now dsym operations.now) }
     {
         let mut tally = Tally::Nothing;
         'operations: for operation in operations {
-            if let Some(slice) = self.live(operation, key, dsym) {
+            if let Some(slice) = PlainArchive::live(operation, key, dsym) {
                 tally = tally.and(slice);
             }
         }
@@ -265,11 +284,11 @@ impl PlainArchive {
         place: Where,
     ) -> Result<Vec<(Digest, Own<'a>), Heap>, NoMemory>
         ensures { IfOk result (λ rows.
-            AllZip (IsOwnRow place) (live_among self.now key.now dsym operations.now) (map own_row rows.items)) }
+            AllZip (IsOwnRow place) (live_among key.now dsym operations.now) (map own_row rows.items)) }
     {
         let mut rows = Vec::new(self.operations.allocator().clone()?);
         'operations: for operation in operations {
-            if let Some(slice) = self.live(operation, key, dsym) {
+            if let Some(slice) = PlainArchive::live(operation, key, dsym) {
                 rows.push(slice.row(place))?;
             }
         }
@@ -285,10 +304,10 @@ impl PlainArchive {
         tally: Tally<'a>,
         place: Where,
     ) -> Result<Answer<'a>, NoMemory>
-        requires { IsTally tally (live_among self.now key.now dsym operations.now) }
+        requires { IsTally tally (live_among key.now dsym operations.now) }
         ensures answer { IfOk result (λ answer.
-            IsAnswerOf place (live_among self.now key.now dsym operations.now) (answer_view answer)) }
-        ensures memory { OnErr result (2 ≤ length (live_among self.now key.now dsym operations.now)) }
+            IsAnswerOf place (live_among key.now dsym operations.now) (answer_view answer)) }
+        ensures memory { OnErr result (2 ≤ length (live_among key.now dsym operations.now)) }
     {
         match tally {
             Tally::Nothing => Ok(Answer::Unknown),
@@ -297,19 +316,19 @@ impl PlainArchive {
         }
     }
 
-    // The rows of a name in what an operation admits, unless that is retired. A slice without the name is not hashed.
+    // The rows of a name in what an operation admits. A slice without the name is not hashed.
     fn names_of<'a>(
         &self,
         operation: &'a Operation,
         name: &[u8],
     ) -> Result<Vec<NameRow<'a>, Heap>, NoMemory>
-        ensures { IfOk result (λ rows. map name_view rows.items ≡ names_of self.now name.now operation.now) }
+        ensures { IfOk result (λ rows. map name_view rows.items ≡ names_of name.now operation.now) }
     {
         let heap = self.operations.allocator().clone()?;
         let Operation::Admit(slice) = operation else {
             return Ok(Vec::new(heap));
         };
-        if !has_name(slice, name) || self.is_retired(slice) {
+        if !has_name(slice, name) {
             return Ok(Vec::new(heap));
         }
         rows_in(heap, slice, name)
@@ -321,7 +340,7 @@ impl PlainArchive {
         operations: &'a [Operation],
         name: &[u8],
     ) -> Result<Vec<NameRow<'a>, Heap>, NoMemory>
-        ensures { IfOk result (λ rows. map name_view rows.items ≡ names_among self.now name.now operations.now) }
+        ensures { IfOk result (λ rows. map name_view rows.items ≡ names_among name.now operations.now) }
     {
         let mut rows = Vec::new(self.operations.allocator().clone()?);
         'operations: for operation in operations {
@@ -331,15 +350,16 @@ impl PlainArchive {
         Ok(rows)
     }
 
-    // Copies of those operations that the archive does not hold.
+    // Copies of those operations that the archive does not know.
     fn copy_missing(&self, operations: &[Operation]) -> Result<Vec<Operation, Heap>, NoMemory>
         ensures { IfOk result (λ missing.
-            missing.items ≡ filter (λ operation. not (set.contains self.now (rec operation))) operations.now) }
+            missing.items ≡ filter (λ operation. changes self.now (rec operation)) operations.now) }
     {
         let heap = self.operations.allocator();
         let mut missing = Vec::new(heap.clone()?);
+        let lent = self.lend();
         'operations: for operation in operations {
-            if !self.holds(operation) {
+            if !lent.knows(operation) {
                 let copy = operation.copy(heap.clone()?)?;
                 missing.push(copy)?;
             }
@@ -359,15 +379,18 @@ impl PlainArchive {
         Ok(())
     }
 
-    // Takes over operations that ascend. Of two that are equal one is dropped.
-    fn merge(&mut self, mut operations: Vec<Operation, Heap>) -> Result<(), NoMemory>
-        requires { IsHeld operations.items }
-        ensures merged { OnOk result (self.new ≡ set.union self.old (set.from_list (map rec operations.items))) }
+    // Takes over the operations of another archive, together. Room is made for them first, which alone may be refused:
+    // what they cover is dropped only where they come in.
+    fn merge(&mut self, other: PlainArchive) -> Result<(), NoMemory>
+        ensures merged { OnOk result (self.new ≡ joined self.old other) }
         ensures refused { OnErr result (self.new ≡ self.old) }
     {
+        self.operations.reserve(other.operations.len())?;
+        drop_covered(&mut self.operations, &other.lend());
+        let PlainArchive { mut operations } = other;
+        drop_covered(&mut operations, &self.lend());
         self.operations.append(&mut operations)?;
-        sort(&mut self.operations);
-        self.operations.dedup_by(|a, b| a.compare(b).is_eq());
+        order(&mut self.operations);
         Ok(())
     }
 }
@@ -395,21 +418,21 @@ impl Join for PlainArchive {
     fn join(&mut self, other: &Self) -> Result<(), NoMemory> {
         let mut missing = self.copy_missing(&other.operations)?;
         self.operations.append(&mut missing)?;
-        sort(&mut self.operations);
+        drop_covered(&mut self.operations, &other.lend());
+        order(&mut self.operations);
         Ok(())
     }
 
     fn absorb(&mut self, other: Self) -> Result<(), NoMemory> {
-        let PlainArchive { operations } = other;
-        if operations.len() <= FEW.min(self.operations.len()) {
+        if other.operations.len() <= FEW.min(self.operations.len()) {
+            let PlainArchive { operations } = other;
             return self.take_in_turn(operations);
         }
-        self.merge(operations)
+        self.merge(other)
     }
 
     fn covers(&self, other: &Self) -> bool {
-        let _held = &self.operations;
-        self.holds_each(&other.operations)
+        self.knows_each(&other.operations)
     }
 }
 
@@ -425,12 +448,9 @@ impl Archive for PlainArchive {
     }
 
     fn take(&mut self, operation: Operation) -> Result<bool, NoMemory> {
-        match search_from_end(&self.operations, &operation) {
-            Ok(_) => Ok(false),
-            Err(index) => {
-                self.operations.insert(index, operation)?;
-                Ok(true)
-            }
+        match operation {
+            Operation::Admit(slice) => self.admit(slice),
+            Operation::Retire(key, digest) => self.retire(key, digest),
         }
     }
 
@@ -442,17 +462,17 @@ impl Archive for PlainArchive {
         let retirements = under_uuid(&self.operations, Kind::Retirement, *uuid);
         let admissions = under_uuid(&self.operations, Kind::Admission, *uuid);
         let mut findings = Vec::new(self.operations.allocator().clone()?);
-        self.gather(&mut findings, retirements, uuid)?;
-        self.gather(&mut findings, admissions, uuid)?;
+        PlainArchive::gather(&mut findings, retirements)?;
+        PlainArchive::gather(&mut findings, admissions)?;
         findings.sort_unstable_by(|a, b| a.compare(b));
         rows_of(self.operations.allocator().clone()?, &findings)
     }
 
     fn lookup(&self, key: &SliceKey, place: Where) -> Result<Answer<'_>, NoMemory> {
         let admissions = under(&self.operations, Kind::Admission, *key);
-        match self.tally(admissions, key, true) {
+        match PlainArchive::tally(admissions, key, true) {
             Tally::Nothing => {
-                let images = self.tally(admissions, key, false);
+                let images = PlainArchive::tally(admissions, key, false);
                 self.answer_of(admissions, key, false, images, place)
             }
             companions => self.answer_of(admissions, key, true, companions, place),

@@ -8,7 +8,7 @@ use std::marker::Model;
 use uuid::Uuid;
 
 /// An archive as a sorted list of operations, in which each slice has its table of addresses beside it, and its digest
-/// where a lookup of its key asks for it.
+/// where a lookup of its key may tell it.
 ///
 /// A table is built before its slice is taken, unless that is there, and moves with it; a copy that a join takes in gets
 /// its own. So a lookup scans no symbols.

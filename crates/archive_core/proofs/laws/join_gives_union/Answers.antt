@@ -5,4 +5,4 @@ pub returns : goal.returns
 returns g c =
     let join = g.A.Join in
     let law = g.met.A.Archive in
-    λ o p both _ _. least_is_joined join.is_content join.below law.is_content_is law.below_is o p both
+    λ o p both a b. least_is_joined join.is_content join.below law.is_content_is law.below_is o p both a b

@@ -1,6 +1,6 @@
 use Rattle.std.specs.Ordering.{nat_cmp}
 use Rattle.std.specs.Cmp.Lexicographic.{slice_cmp, nat_list_cmp_total}
-use Rattle.archive_core.proofs.Held.{bytes_same}
+use Rattle.archive_core.proofs.Made.{bytes_same}
 use Rattle.archive_core.proofs.laws.one_listing_of_records.Goals as goal
 
 pub returns-clause-listed : goal.returns-clause-listed

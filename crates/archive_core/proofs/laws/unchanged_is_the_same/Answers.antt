@@ -2,4 +2,4 @@ use Rattle.archive_core.proofs.Taken.{unchanged_same}
 use Rattle.archive_core.proofs.laws.unchanged_is_the_same.Goals as goal
 
 pub returns : goal.returns
-returns c = λ o r _. unchanged_same o r
+returns c = unchanged_same

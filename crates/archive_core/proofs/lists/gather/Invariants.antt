@@ -1,13 +1,12 @@
-use Rattle.std.proofs.Common.{◌≡◌, List, filter, map, take}
+use Rattle.std.proofs.Common.{◌≡◌, List, map, take}
 use Rattle.std.specs.FinSet.{from_list}
 use Rattle.archive_core.specs.InnerHeld.{IsHeld}
-use Rattle.archive_core.specs.InnerLists.{is_listed}
 use Rattle.archive_core.specs.Record.{rec}
 use Rattle.archive_core.specs.declared.operations.Operation.{Operation}
 use Rattle.archive_core.proofs.lists.gather.Given as goal
 
--- those that are listed among the operations so far
+-- the operations so far
 abbrev pub invariant-records : goal.invariant-records
 invariant-records g l = (operations : List Operation) → IsHeld operations
     → from_list (map rec operations) ≡ g.A.Join.content l.archive
-    → l.findings.items ≡ filter (is_listed (g.A.Join.content l.archive)) (take l.index operations)
+    → l.findings.items ≡ take l.index operations

@@ -1,73 +1,40 @@
-use Rattle.std.proofs.Common.{◌≡◌, ◌+◌, map, ap, ◌∙◌, arith}
-use Rattle.std.specs.FinSet as set
+use Rattle.std.proofs.Common.{◌+◌, map, ◌∙◌, arith}
+use Rattle.std.proofs.Math.ListN.{length-map}
 use Rattle.std.proofs.lemmas.Result.{err_from_is_err_and}
-use Rattle.archive_core.specs.Content.{IsContent, with_records, new_among}
 use Rattle.archive_core.specs.Record.{rec}
-use Rattle.archive_core.proofs.Held.{content_none}
-use Rattle.archive_core.proofs.Joined.{least_is_joined, towards_in_words, none_taken, gathered_joined, gathered_in_part}
-use Rattle.archive_core.proofs.Taken.{grown_to}
+use Rattle.archive_core.proofs.Joined.{none_taken}
+use Rattle.archive_core.proofs.Taken.{new_within}
+use Rattle.archive_core.proofs.Runs.{runs_counted, first_in_part, rest_in_part}
 use Rattle.archive_core.proofs.taking.take_each.Goals as goal
-
-pub take_in_turn-requires : goal.take_in_turn-requires
-take_in_turn-requires g c = rw c.empty-taken.ensures content_none
 
 pub returns-in_err-clone-clause-refused : goal.returns-in_err-clone-clause-refused
 returns-in_err-clone-clause-refused g c =
     let p = err_from_is_err_and c.from_residual.result c.from_residual.ensures.1 in
     rw p.1 (none_taken (g.A.Join.content c.args.archive.now) (map rec c.args.operations.items) c.len-before.ensures.content)
 
-pub returns-in_err-take_in_turn-clause-refused : goal.returns-in_err-take_in_turn-clause-refused
-returns-in_err-take_in_turn-clause-refused g c =
-    let p = err_from_is_err_and c.from_residual-in_err-take_in_turn.result c.from_residual-in_err-take_in_turn.ensures.1 in
+pub returns-in_err-first-clause-refused : goal.returns-in_err-first-clause-refused
+returns-in_err-first-clause-refused g c =
+    let p = err_from_is_err_and c.from_residual-in_err-first.result c.from_residual-in_err-first.ensures.1 in
     rw p.1 (none_taken (g.A.Join.content c.args.archive.now) (map rec c.args.operations.items) c.len-before.ensures.content)
 
-pub returns-in_err-absorb-clause-refused : goal.returns-in_err-absorb-clause-refused
-returns-in_err-absorb-clause-refused g c =
-    let join = g.A.Join in
-    let law = g.met.A.Archive in
-    let old = join.content c.args.archive.now in
-    let gathered = join.content c.take_in_turn.new.archive in
-    let new = join.content c.absorb.new.self in
-    let p = err_from_is_err_and c.from_residual-in_err-absorb.result c.from_residual-in_err-absorb.ensures.1 in
-    let is : gathered ≡ with_records set.empty (map rec c.sort_unstable_by.new.self.items) = c.in_ok-take_in_turn.ensures.taken ∙ ap (λ o. with_records o (map rec c.sort_unstable_by.new.self.items)) c.empty-taken.ensures in
-    let content : IsContent gathered = c.take_in_turn.ensures.content in
-    rw p.1 (gathered_in_part old gathered new c.args.operations.items c.sort_unstable_by.new.self.items c.sort_unstable_by.ensures.permutation is c.len-before.ensures.content content
-    (towards_in_words join.is_content join.below law.is_content_is law.below_is old gathered new c.in_err-absorb.ensures.refused))
+pub returns-in_err-new-clause-refused : goal.returns-in_err-new-clause-refused
+returns-in_err-new-clause-refused g c =
+    let p = err_from_is_err_and c.from_residual-in_err-new.result c.from_residual-in_err-new.ensures.1 in
+    rw p.1 (first_in_part (g.A.Join.content c.args.archive.now) (g.A.Join.content c.take_run.new.archive) c.in_ok-first.first.items c.first_retirements.new.rest.items c.args.operations.items (record { are = c.in_ok-first.ensures }) c.in_err-new.ensures.refused)
 
-pub returns-clause-taken : goal.returns-clause-taken
-returns-clause-taken g c =
-    let join = g.A.Join in
-    let law = g.met.A.Archive in
-    let old = join.content c.args.archive.now in
-    let gathered = join.content c.take_in_turn.new.archive in
-    let new = join.content c.absorb.new.self in
-    let sorted = c.sort_unstable_by.new.self.items in
-    let is : gathered ≡ with_records set.empty (map rec sorted) = c.in_ok-take_in_turn.ensures.taken ∙ ap (λ o. with_records o (map rec sorted)) c.empty-taken.ensures in
-    let union = least_is_joined join.is_content join.below law.is_content_is law.below_is old gathered new c.in_ok-absorb.ensures.joined in
-    gathered_joined old gathered new c.args.operations.items sorted c.sort_unstable_by.ensures.permutation is union
+pub returns-in_err-more-clause-refused : goal.returns-in_err-more-clause-refused
+returns-in_err-more-clause-refused g c =
+    let p = err_from_is_err_and c.from_residual-in_err-more.result c.from_residual-in_err-more.ensures.1 in
+    rw p.1 (rest_in_part (g.A.Join.content c.args.archive.now) (g.A.Join.content c.take_run.new.archive) (g.A.Join.content c.take_run-2.new.archive) c.in_ok-first.first.items c.first_retirements.new.rest.items c.args.operations.items (record { are = c.in_ok-first.ensures }) c.in_ok-new.ensures.taken c.in_err-more.ensures.refused)
 
-pub overflow_sub-result : goal.overflow_sub-result
-overflow_sub-result g c =
-    let join = g.A.Join in
-    let law = g.met.A.Archive in
-    let old = join.content c.args.archive.now in
-    let gathered = join.content c.take_in_turn.new.archive in
-    let new = join.content c.absorb.new.self in
-    let sorted = c.sort_unstable_by.new.self.items in
-    let is : gathered ≡ with_records set.empty (map rec sorted) = c.in_ok-take_in_turn.ensures.taken ∙ ap (λ o. with_records o (map rec sorted)) c.empty-taken.ensures in
-    let union = least_is_joined join.is_content join.below law.is_content_is law.below_is old gathered new c.in_ok-absorb.ensures.joined in
-    let more : set.len new ≡ set.len old + new_among old (map rec c.args.operations.items) = grown_to old new (map rec c.args.operations.items) (gathered_joined old gathered new c.args.operations.items sorted c.sort_unstable_by.ensures.permutation is union) in
-    omega (arith, c.len-before.ensures.len, c.len.ensures.len)
+pub overflow_add-result : goal.overflow_add-result
+overflow_add-result g c =
+    let old = g.A.Join.content c.args.archive.now in
+    let all = c.args.operations.items in
+    let counted = runs_counted old (g.A.Join.content c.take_run.new.archive) c.in_ok-first.first.items c.first_retirements.new.rest.items all (record { are = c.in_ok-first.ensures }) c.in_ok-new.ensures.taken in
+    omega (arith, counted, c.in_ok-new.ensures.counted, c.in_ok-more.ensures.counted, new_within old (map rec all), length-map all rec, c.args.operations.ok.0, c.args.operations.ok.1, c.args.operations.small)
 
 pub returns-clause-counted : goal.returns-clause-counted
 returns-clause-counted g c =
-    let join = g.A.Join in
-    let law = g.met.A.Archive in
-    let old = join.content c.args.archive.now in
-    let gathered = join.content c.take_in_turn.new.archive in
-    let new = join.content c.absorb.new.self in
-    let sorted = c.sort_unstable_by.new.self.items in
-    let is : gathered ≡ with_records set.empty (map rec sorted) = c.in_ok-take_in_turn.ensures.taken ∙ ap (λ o. with_records o (map rec sorted)) c.empty-taken.ensures in
-    let union = least_is_joined join.is_content join.below law.is_content_is law.below_is old gathered new c.in_ok-absorb.ensures.joined in
-    let more : set.len new ≡ set.len old + new_among old (map rec c.args.operations.items) = grown_to old new (map rec c.args.operations.items) (gathered_joined old gathered new c.args.operations.items sorted c.sort_unstable_by.ensures.permutation is union) in
-    omega (arith, c.len-before.ensures.len, c.len.ensures.len)
+    let counted = runs_counted (g.A.Join.content c.args.archive.now) (g.A.Join.content c.take_run.new.archive) c.in_ok-first.first.items c.first_retirements.new.rest.items c.args.operations.items (record { are = c.in_ok-first.ensures }) c.in_ok-new.ensures.taken in
+    (λ i. c.in_ok-new.ensures.counted i + c.in_ok-more.ensures.counted i) ∙ counted

@@ -15,4 +15,4 @@ operations-preserved c =
     ap (map name_view) c.in_ok-append.ensures.items
     ∙ map-append name_view c.operations.rows.items more
     ∙ (λ j. c.operations.invariant j ++ c.in_ok-more.ensures j)
-    ∙ sym (names_more c.args.self.now c.args.name.now c.args.operations.now c.operations.operation-index c.operation-item.result c.operations-test.true c.operation-item.is)
+    ∙ sym (names_more c.args.name.now c.args.operations.now c.operations.operation-index c.operation-item.result c.operations-test.true c.operation-item.is)

@@ -5,4 +5,4 @@ use Rattle.archive_core.proofs.plain.PlainArchive.gather_names.Given as goal
 
 -- the rows of the name in the operations so far
 abbrev pub invariant-operations : goal.invariant-operations
-invariant-operations l = map name_view l.rows.items ≡ names_among l.self l.name (take l.operation-index l.operations)
+invariant-operations l = map name_view l.rows.items ≡ names_among l.name (take l.operation-index l.operations)

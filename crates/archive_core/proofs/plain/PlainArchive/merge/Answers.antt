@@ -1,23 +1,23 @@
-use Rattle.std.proofs.Common.{◌∙◌, ap, map, rules}
-use Rattle.std.specs.Ordering.{nat_cmp, on, eq_by_cmp}
-use Rattle.std.specs.Cmp.Lexicographic.{slice_cmp}
-use Rattle.std.specs.FinSet as set
-use Rattle.std.proofs.lemmas.Fn.{dedup_same}
-use Rattle.archive_core.specs.Record.{rec}
-use Rattle.archive_core.proofs.Merged.{holds_deduped}
+use Rattle.std.proofs.Common.{not}
+use Rattle.archive_core.specs.Content.{is_covered}
+use Rattle.archive_core.proofs.Merged.{held_left, merged_is}
 use Rattle.archive_core.proofs.plain.PlainArchive.merge.Goals as goal
 
--- the operations of both, once they are sorted and each is there once
 pub invariant_of-self-2 : goal.invariant_of-self-2
 invariant_of-self-2 c =
-    let kept = dedup_same _ (eq_by_cmp (on rec (slice_cmp nat_cmp))) _ (λ x y b f' x' y' k. search rules) _ _ c.dedup_by.ensures.filtered in
-    let permuted = rw c.in_ok-append.ensures.items at c.sort.ensures.permutation in
-    rw kept (holds_deduped c.self.inside.operations.items c.args.operations.items c.sort.new.operations.items c.self.invariant c.requires permuted c.sort.ensures.sorted).held
+    rw (c.drop_covered.ensures.items, c.in_ok-reserve.ensures.items) (held_left (λ r. not (is_covered c.lend.result r)) c.self.inside.operations.items c.self.invariant)
+
+-- each side's operations that the other does not cover, in order
+pub invariant_of-self-3 : goal.invariant_of-self-3
+invariant_of-self-3 c =
+    let first = rw (c.in_ok-reserve.ensures.items, c.lend.ensures.lent) at c.drop_covered.ensures.items in
+    (merged_is c.self.inside.operations.items c.other.inside.operations.items c.drop_covered.new.operations.items c.drop_covered-2.new.operations.items c.append.new.self.items c.order.new.operations.items c.args.self.now c.args.other c.lend-2.result
+    c.self.invariant c.other.invariant c.self.view_is c.other.view_is first c.lend-2.ensures.lent c.drop_covered-2.ensures.items c.in_ok-append.ensures.items
+    (record { ascending = c.order.ensures.ascending; same = c.order.ensures.same; are = c.order.ensures.are })).held
 
 pub returns-clause-merged : goal.returns-clause-merged
 returns-clause-merged c =
-    let kept = dedup_same _ (eq_by_cmp (on rec (slice_cmp nat_cmp))) _ (λ x y b f' x' y' k. search rules) _ _ c.dedup_by.ensures.filtered in
-    let permuted = rw c.in_ok-append.ensures.items at c.sort.ensures.permutation in
-    ap (λ items. set.from_list {R = slice_cmp nat_cmp} (map rec items)) kept
-    ∙ (holds_deduped c.self.inside.operations.items c.args.operations.items c.sort.new.operations.items c.self.invariant c.requires permuted c.sort.ensures.sorted).members
-    ∙ ap (λ s. set.union s (set.from_list (map rec c.args.operations.items))) c.self.view_is
+    let first = rw (c.in_ok-reserve.ensures.items, c.lend.ensures.lent) at c.drop_covered.ensures.items in
+    (merged_is c.self.inside.operations.items c.other.inside.operations.items c.drop_covered.new.operations.items c.drop_covered-2.new.operations.items c.append.new.self.items c.order.new.operations.items c.args.self.now c.args.other c.lend-2.result
+    c.self.invariant c.other.invariant c.self.view_is c.other.view_is first c.lend-2.ensures.lent c.drop_covered-2.ensures.items c.in_ok-append.ensures.items
+    (record { ascending = c.order.ensures.ascending; same = c.order.ensures.same; are = c.order.ensures.are })).is

@@ -10,17 +10,16 @@ operations-init c = refl
 
 pub operations-preserved : goal.operations-preserved
 operations-preserved c =
-    let o = c.args.self.now in
     let operations = c.args.operations.now in
     let i = c.operations.operation-index in
     let a = c.operation-item.result in
-    let before = live_among o c.args.key.now c.args.dsym (take i operations) in
-    let after = live_among o c.args.key.now c.args.dsym (take (i + 1) operations) in
+    let before = live_among c.args.key.now c.args.dsym (take i operations) in
+    let after = live_among c.args.key.now c.args.dsym (take (i + 1) operations) in
     elim c.match-live.branch [
       | in-Some w ↦
-          let grown = one_more o c.args.key.now c.args.dsym operations i a c.operations-test.true c.operation-item.is c.live.result w.in-Some.slice c.live.ensures w.in-Some.is in
+          let grown = one_more c.args.key.now c.args.dsym operations i a c.operations-test.true c.operation-item.is c.live.result w.in-Some.slice c.live.ensures w.in-Some.is in
           subst (λ f. IsTally f after) (sym w.tally-is) (subst (IsTally w.and-tally.result) (sym grown) (w.and-tally.ensures before c.operations.invariant))
       | in_default w ↦
-          let same = none_more o c.args.key.now c.args.dsym operations i a c.operations-test.true c.operation-item.is c.live.result c.live.ensures w.in_default.is in
+          let same = none_more c.args.key.now c.args.dsym operations i a c.operations-test.true c.operation-item.is c.live.result c.live.ensures w.in_default.is in
           subst (λ f. IsTally f after) (sym w.tally-is) (subst (IsTally c.operations.tally) (sym same) c.operations.invariant)
     ]

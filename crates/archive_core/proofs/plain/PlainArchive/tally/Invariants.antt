@@ -4,4 +4,4 @@ use Rattle.archive_core.proofs.plain.PlainArchive.tally.Given as goal
 
 -- what is kept of the live slices among the operations so far
 abbrev pub invariant-operations : goal.invariant-operations
-invariant-operations l = IsTally l.tally (live_among l.self l.key l.dsym (take l.operation-index l.operations))
+invariant-operations l = IsTally l.tally (live_among l.key l.dsym (take l.operation-index l.operations))

@@ -4,7 +4,6 @@ use Rattle.std.proofs.lemmas.List.Sorted.{ranks_by}
 use Rattle.std.proofs.lemmas.Result.{IfOk-weaker}
 use Rattle.std.specs.Ordering.{is_lt}
 use Rattle.archive_core.specs.Find.{find_cmp, row_of, IsFinds}
-use Rattle.archive_core.specs.InnerScan.{is_finding}
 use Rattle.archive_core.specs.InnerRange.{is_under_uuid}
 use Rattle.archive_core.specs.declared.range.Kind.TheVariants.{Retirement, Admission}
 use Rattle.archive_core.proofs.Ranges.{two_runs}
@@ -18,10 +17,10 @@ returns c =
     let operations = c.self.inside.operations.items in
     let findings = c.sort_unstable_by.new.self.items in
     let sorted = c.sort_unstable_by.ensures.sorted (λ x y. is_lt (find_cmp x y)) (ranks_by find_total (λ x. x)) (always_returns_same _ _ _ (λ a r g called. (search rules, search rules))) in
-    let told = filter (is_finding o uuid) in
-    let retirements = ap told (c.under_uuid-retirements.ensures ∙ ap (filter (is_under_uuid Retirement uuid)) c.deref.ensures.value) in
-    let admissions = ap told (c.under_uuid-admissions.ensures ∙ ap (filter (is_under_uuid Admission uuid)) c.deref-2.ensures.value) in
-    let gathered = c.in_ok-gather-2.ensures ∙ (λ i. (c.in_ok-gather.ensures ∙ ap (λ l. l ++ told c.under_uuid-retirements.result.now) c.new-findings.ensures.items ∙ retirements) i ++ admissions i) ∙ two_runs o uuid operations c.self.invariant.ascending in
+    let retirements = c.under_uuid-retirements.ensures ∙ ap (filter (is_under_uuid Retirement uuid)) c.deref.ensures.value in
+    let admissions = c.under_uuid-admissions.ensures ∙ ap (filter (is_under_uuid Admission uuid)) c.deref-2.ensures.value in
+    let first = c.in_ok-gather.ensures ∙ ap (λ l. l ++ c.under_uuid-retirements.result.now) c.new-findings.ensures.items ∙ retirements in
+    let gathered = c.in_ok-gather-2.ensures ∙ (λ i. first i ++ admissions i) ∙ two_runs uuid operations c.self.invariant.ascending in
     let permuted = rw gathered at c.sort_unstable_by.ensures.permutation in
     let finds = finds_sorted o uuid operations findings c.self.invariant c.self.view_is permuted sorted in
     IfOk-weaker c.rows_of.result (λ rows. rows.items ≡ map row_of findings) (λ rows. IsFinds o uuid rows.items) (λ rows is. subst (IsFinds o uuid) (sym is) finds) (rw (c.deref-3.ensures.value) at c.rows_of.ensures)

@@ -13,44 +13,44 @@ returns-in-Nothing-clause-answer c =
     let o = c.args.self.now in
     let key = c.args.key.now in
     let operations = c.self.inside.operations.items in
-    let slices = live_among o key false operations in
+    let slices = live_among key false operations in
     let under = c.under-admissions.ensures.range ∙ ap (filter (is_under Admission key)) c.deref.ensures.value in
-    let none = sym (live_under o key true operations) ∙ ap (live_among o key true) (sym under) ∙ c.in-Nothing.ensures in
+    let none = sym (live_under key true operations) ∙ ap (live_among key true) (sym under) ∙ c.in-Nothing.ensures in
     let answering = images_answer o key operations c.self.invariant c.self.view_is c.under-admissions.ensures.key none in
     IfOk-weaker c.answer_of.result (λ answer. IsAnswerOf c.args.place slices (answer_view answer)) (λ answer. IsAnswer o key c.args.place (answer_view answer))
     (λ answer is. record { slices = slices; answering = answering; answer_is = is })
-    (rw (under, live_under o key false operations) at c.answer_of.ensures.answer)
+    (rw (under, live_under key false operations) at c.answer_of.ensures.answer)
 
 pub returns-in-Nothing-clause-memory : goal.returns-in-Nothing-clause-memory
 returns-in-Nothing-clause-memory c =
     let o = c.args.self.now in
     let key = c.args.key.now in
     let operations = c.self.inside.operations.items in
-    let slices = live_among o key false operations in
+    let slices = live_among key false operations in
     let under = c.under-admissions.ensures.range ∙ ap (filter (is_under Admission key)) c.deref.ensures.value in
-    let none = sym (live_under o key true operations) ∙ ap (live_among o key true) (sym under) ∙ c.in-Nothing.ensures in
+    let none = sym (live_under key true operations) ∙ ap (live_among key true) (sym under) ∙ c.in-Nothing.ensures in
     let answering = images_answer o key operations c.self.invariant c.self.view_is c.under-admissions.ensures.key none in
     on_err_weaker c.answer_of.result
     (λ (several : 2 ≤ length slices). record { slices = slices; answering = answering; several = several })
-    (rw (under, live_under o key false operations) at c.answer_of.ensures.memory)
+    (rw (under, live_under key false operations) at c.answer_of.ensures.memory)
 
 pub returns-in_default : goal.returns-in_default
 returns-in_default c =
     let o = c.args.self.now in
     let key = c.args.key.now in
     let operations = c.self.inside.operations.items in
-    let slices = live_among o key true operations in
+    let slices = live_among key true operations in
     let under = c.under-admissions.ensures.range ∙ ap (filter (is_under Admission key)) c.deref.ensures.value in
-    let tally = rw (under, live_under o key true operations) at c.tally.ensures in
+    let tally = rw (under, live_under key true operations) at c.tally.ensures in
     let some = some_of_tally c.tally.result slices tally c.in_default.not-Nothing in
     let answering = companions_answer o key operations c.self.invariant c.self.view_is c.under-admissions.ensures.key some in
     record {
       answer =
           IfOk-weaker c.answer_of-in_default.result (λ answer. IsAnswerOf c.args.place slices (answer_view answer)) (λ answer. IsAnswer o key c.args.place (answer_view answer))
           (λ answer is. record { slices = slices; answering = answering; answer_is = is })
-          (rw (under, live_under o key true operations) at c.answer_of-in_default.ensures.answer);
+          (rw (under, live_under key true operations) at c.answer_of-in_default.ensures.answer);
       memory =
           on_err_weaker c.answer_of-in_default.result
           (λ (several : 2 ≤ length slices). record { slices = slices; answering = answering; several = several })
-          (rw (under, live_under o key true operations) at c.answer_of-in_default.ensures.memory);
+          (rw (under, live_under key true operations) at c.answer_of-in_default.ensures.memory);
     }

@@ -1,7 +1,6 @@
 use Rattle.std.proofs.Common.{◌∙◌, ap, map, subst}
-use Rattle.std.specs.FinSet as set
 use Rattle.std.proofs.lemmas.Result.{on_ok_weaker, on_err_weaker}
-use Rattle.archive_core.specs.Content.{IsContent}
+use Rattle.archive_core.specs.Content.{IsContent, made, joined as joined_of}
 use Rattle.archive_core.specs.Record.{rec}
 use Rattle.archive_core.proofs.Held.{content_of_held}
 use Rattle.archive_core.proofs.Joined.{joined, unmoved, taken_towards}
@@ -17,19 +16,21 @@ returns-then-len-min-clause-joined c =
     let theirs = c.other.inside.operations.items in
     let mine_is = subst IsContent c.self.view_is (content_of_held mine c.self.invariant) in
     let theirs_is = subst IsContent c.other.view_is (content_of_held theirs c.other.invariant) in
-    on_ok_weaker c.take_in_turn.result (λ taken. joined c.args.self.now c.args.other _ mine_is theirs_is (taken ∙ taken_are_joined c.args.self.now (map rec theirs) ∙ ap (set.union c.args.self.now) c.other.view_is)) c.take_in_turn.ensures.taken
+    on_ok_weaker c.take_in_turn.result (λ taken. joined c.args.self.now c.args.other _ mine_is theirs_is (taken ∙ taken_are_joined c.args.self.now (map rec theirs) mine_is.itself ∙ ap (λ s. joined_of c.args.self.now (made s)) c.other.view_is ∙ ap (joined_of c.args.self.now) theirs_is.itself)) c.take_in_turn.ensures.taken
 
 pub returns-then-len-min-clause-refused : goal.returns-then-len-min-clause-refused
 returns-then-len-min-clause-refused c =
-    on_err_weaker c.take_in_turn.result (taken_towards c.args.self.now c.args.other _ (map rec c.other.inside.operations.items) c.other.view_is) c.take_in_turn.ensures.refused
-
-pub returns-clause-joined : goal.returns-clause-joined
-returns-clause-joined c =
     let mine = c.self.inside.operations.items in
     let theirs = c.other.inside.operations.items in
     let mine_is = subst IsContent c.self.view_is (content_of_held mine c.self.invariant) in
     let theirs_is = subst IsContent c.other.view_is (content_of_held theirs c.other.invariant) in
-    on_ok_weaker c.merge.result (λ merged. joined c.args.self.now c.args.other _ mine_is theirs_is (merged ∙ ap (set.union c.args.self.now) c.other.view_is)) c.merge.ensures.merged
+    on_err_weaker c.take_in_turn.result (taken_towards c.args.self.now c.args.other _ (map rec theirs) mine_is theirs_is.itself c.other.view_is) c.take_in_turn.ensures.refused
+
+pub returns-clause-joined : goal.returns-clause-joined
+returns-clause-joined c =
+    let mine_is = subst IsContent c.self.view_is (content_of_held c.self.inside.operations.items c.self.invariant) in
+    let theirs_is = subst IsContent c.other.view_is (content_of_held c.other.inside.operations.items c.other.invariant) in
+    on_ok_weaker c.merge.result (joined c.args.self.now c.args.other _ mine_is theirs_is) c.merge.ensures.merged
 
 pub returns-clause-refused : goal.returns-clause-refused
 returns-clause-refused c =

@@ -1,0 +1,116 @@
+-- Where no retirement is among operations, and where none of them is covered by one.
+use Rattle.std.proofs.Common.{◌≡◌, ℕ, Bool, true, false, not, ◌||◌, ◌&&◌, cond, List, [], ◌∷◌, map, filter, drop, slice_get, Some, refl, sym, ap, ◌∙◌, subst}
+use mathlib.Core.Bool.{true≢false}
+use Rattle.std.specs.declared.cmp.Ordering.TheVariants.{Less}
+use Rattle.std.specs.Ordering.{nat_cmp, eq_by_cmp, is_eq}
+use Rattle.std.specs.Cmp.{Equal-is, tied_itself}
+use Rattle.std.specs.Cmp.Lexicographic.{slice_cmp, nat_list_cmp_total}
+use Rattle.std.specs.List.{AllByRecursion, list_any, insert as insert_at}
+use Rattle.std.specs.List.Sorted.{IsStrictlySortedBy}
+use Rattle.std.specs.FinSet as set
+use Rattle.std.specs.FinSet.{contains, from_list, contains-from_list, contains-insert, contains-empty}
+use Rattle.join_core.specs.InnerSearch.{IsPlaceFor}
+use Rattle.sha2.specs.Sha256.{sha256}
+use Rattle.archive_core.specs.Key.{IsKey, key_bytes}
+use Rattle.archive_core.specs.Valid.{key_of, IsValid}
+use Rattle.archive_core.specs.Record.{rec, admission_record, retirement_record, IsOperation}
+use Rattle.archive_core.specs.Content.{Operations, is_admission, key_and_digest, covering, is_covered}
+use Rattle.archive_core.specs.InnerHeld.{IsHeld}
+use Rattle.archive_core.specs.InnerRange.{is_under}
+use Rattle.archive_core.specs.declared.keys.Digest.{Digest}
+use Rattle.archive_core.specs.declared.keys.SliceKey.{SliceKey}
+use Rattle.archive_core.specs.declared.operations.Operation.{Operation}
+use Rattle.archive_core.specs.declared.operations.Operation.TheVariants.{Admit, Retire}
+use Rattle.archive_core.specs.declared.range.Kind.TheVariants.{Admission}
+use Rattle.archive_core.proofs.Compare.{length_key_bytes}
+use Rattle.archive_core.proofs.Records.{same_parts, length-key_of}
+use Rattle.archive_core.proofs.Made.{bytes_same, and_false}
+use Rattle.archive_core.proofs.Held.{along_insert}
+use Rattle.archive_core.proofs.Falling.{filter_all}
+use Rattle.archive_core.proofs.Put.{covered_slice, HoldsWith, held_retirement}
+
+-- behind an admission no retirement stands
+none_behind : (slice front : List ℕ) (xs : List Operation) → AllByRecursion (λ r. slice_cmp nat_cmp (admission_record slice) r ≡ Less) (map rec xs) → list_any (eq_by_cmp (slice_cmp nat_cmp) (1 ∷ front)) (map rec xs) ≡ false
+none_behind slice front [] up = refl
+none_behind slice front (Admit other ∷ xs) up = none_behind slice front xs up.1
+none_behind slice front (Retire key digest ∷ xs) up = absurd (greater up.0)
+  where
+    greater : slice_cmp nat_cmp (admission_record slice) (retirement_record key digest.0) ≡ Less → ⊥
+    greater h = cc
+
+-- where the first of operations that ascend is no retirement, they cover nothing
+pub covers_none : (operations : List Operation) → IsHeld operations → ((key : SliceKey) (digest : Digest) → slice_get operations 0 ≡ Some (Retire key digest) → ⊥)
+    → (r : List ℕ) → is_covered (from_list (map rec operations)) r ≡ false
+unfolding IsStrictlySortedBy
+covers_none [] held h r = ap (λ b. is_admission r && b) (contains-empty (slice_cmp nat_cmp) (covering r)) ∙ and_false (is_admission r)
+covers_none (Admit slice ∷ xs) held h r =
+    ap (λ b. is_admission r && b) (contains-from_list nat_list_cmp_total (map rec (Admit slice ∷ xs)) (covering r) ∙ none_behind slice (key_and_digest r) xs held.ascending.0)
+    ∙ and_false (is_admission r)
+covers_none (Retire key digest ∷ xs) held h r = absurd (h key digest refl)
+
+-- and then nothing is dropped
+pub none_dropped : (o : Operations) (operations : List Operation) → ((r : List ℕ) → is_covered o r ≡ false) → filter (λ operation. not (is_covered o (rec operation))) operations ≡ operations
+none_dropped o operations none = filter_all (λ operation. not (is_covered o (rec operation))) operations (along operations)
+  where
+    along : (xs : List Operation) → AllByRecursion (λ operation. not (is_covered o (rec operation)) ≡ true) xs
+    along [] = tt
+    along (x ∷ xs) = (ap not (none (rec x)), along xs)
+
+tied_is : (q r : List ℕ) → eq_by_cmp (slice_cmp nat_cmp) q r ≡ true → q ≡ r
+tied_is q r h = bytes_same q r ((Equal-is (slice_cmp nat_cmp q r)).0 h)
+
+-- a retirement alone, as a set
+only : SliceKey → Digest → Operations
+only key digest = set.insert (set.empty {R = slice_cmp nat_cmp}) (retirement_record key digest.0)
+
+-- a slice of another key is not covered by it
+other_key : (key : SliceKey) (digest : Digest) (slice : List ℕ) → IsKey key → IsValid slice → is_under Admission key (Admit slice) ≡ false → is_covered (only key digest) (admission_record slice) ≡ false
+unfolding only
+other_key key digest slice is_key valid apart =
+    covered_slice (only key digest) slice valid
+    ∙ contains-insert nat_list_cmp_total (set.empty {R = slice_cmp nat_cmp}) (retirement_record key digest.0) (retirement_record (key_of slice) (sha256 slice))
+    ∙ by (eq_by_cmp (slice_cmp nat_cmp) (retirement_record (key_of slice) (sha256 slice)) (retirement_record key digest.0)) refl
+  where
+    rest : contains (set.empty {R = slice_cmp nat_cmp}) (retirement_record (key_of slice) (sha256 slice)) ≡ false
+    rest = contains-empty (slice_cmp nat_cmp) (retirement_record (key_of slice) (sha256 slice))
+
+    by : (b : Bool) → eq_by_cmp (slice_cmp nat_cmp) (retirement_record (key_of slice) (sha256 slice)) (retirement_record key digest.0) ≡ b
+        → (b || contains (set.empty {R = slice_cmp nat_cmp}) (retirement_record (key_of slice) (sha256 slice))) ≡ false
+    by false h = rest
+    by true h =
+        let same : retirement_record (key_of slice) (sha256 slice) ≡ retirement_record key digest.0 = tied_is _ _ h in
+        let keys : key_bytes (key_of slice) ≡ key_bytes key = (same_parts (key_bytes (key_of slice)) (key_bytes key) (sha256 slice) digest.0 (length-key_of slice valid ∙ sym (length_key_bytes key is_key.uuid)) (ap (drop 1) same)).0 in
+        let ties : is_eq (slice_cmp nat_cmp (2 ∷ key_bytes (key_of slice)) (2 ∷ key_bytes key)) ≡ true =
+        ap (λ k. is_eq (slice_cmp nat_cmp (2 ∷ k) (2 ∷ key_bytes key))) keys ∙ ap is_eq (tied_itself nat_list_cmp_total (2 ∷ key_bytes key)) in
+        absurd (true≢false (sym ties ∙ apart))
+
+-- so where no slice of its key is there, none of the operations is
+none_under : (key : SliceKey) (digest : Digest) (xs : List Operation) → IsKey key → AllByRecursion IsOperation xs → filter (is_under Admission key) xs ≡ []
+    → AllByRecursion (λ operation. not (is_covered (only key digest) (rec operation)) ≡ true) xs
+none_under key digest [] is_key are none = tt
+none_under key digest (Retire other d ∷ xs) is_key are none = (refl, none_under key digest xs is_key are.1 none)
+none_under key digest (Admit slice ∷ xs) is_key are none = by (is_under Admission key (Admit slice)) refl none (none_under key digest xs is_key are.1)
+  where
+    some : (l : List Operation) → Admit slice ∷ l ≡ [] → ⊥
+    some l h = cc
+
+    by : (b : Bool) → is_under Admission key (Admit slice) ≡ b → cond b (Admit slice ∷ filter (is_under Admission key) xs) (filter (is_under Admission key) xs) ≡ []
+        → (filter (is_under Admission key) xs ≡ [] → AllByRecursion (λ operation. not (is_covered (only key digest) (rec operation)) ≡ true) xs)
+        → AllByRecursion (λ operation. not (is_covered (only key digest) (rec operation)) ≡ true) (Admit slice ∷ xs)
+    by true h none rest = absurd (some _ none)
+    by false h none rest = (ap not (other_key key digest slice is_key are.0 h), rest none)
+
+-- and where the retirement goes in nothing is dropped
+pub none_under_dropped : (key : SliceKey) (digest : Digest) (operations : List Operation) (i : ℕ) → IsKey key → AllByRecursion IsOperation operations → filter (is_under Admission key) operations ≡ []
+    → filter (λ operation. not (is_covered (from_list (map rec (Retire key digest ∷ []))) (rec operation))) (insert_at operations i (Retire key digest)) ≡ insert_at operations i (Retire key digest)
+unfolding only
+none_under_dropped key digest operations i is_key are none =
+    filter_all (λ operation. not (is_covered (only key digest) (rec operation))) (insert_at operations i (Retire key digest))
+    (along_insert (λ operation. not (is_covered (only key digest) (rec operation)) ≡ true) operations i (Retire key digest) refl (none_under key digest operations is_key are none))
+
+-- so it goes in at its place, where no slice of its key is there, and all the others stay
+pub held_where_none : (operations : List Operation) (i : ℕ) (key : SliceKey) (digest : Digest) → IsHeld operations → IsOperation (Retire key digest) → IsPlaceFor (slice_cmp nat_cmp) (map rec operations) (retirement_record key digest.0) i
+    → filter (is_under Admission key) operations ≡ [] → HoldsWith (from_list (map rec operations)) (retirement_record key digest.0) (insert_at operations i (Retire key digest))
+held_where_none operations i key digest held one place none =
+    subst (HoldsWith (from_list (map rec operations)) (retirement_record key digest.0)) (none_under_dropped key digest operations i one.0 held.are none)
+    (held_retirement operations i (Retire key digest) held one refl place)

@@ -1,0 +1,83 @@
+use Rattle.std.proofs.Common.{◌≡◌, true, false, sym, ◌∙◌, ap, map, subst, refl}
+use Rattle.std.specs.Ordering.{nat_cmp}
+use Rattle.std.specs.Cmp.Lexicographic.{slice_cmp}
+use Rattle.std.specs.FinSet as set
+use Rattle.join_core.specs.InnerSearch.{IsPlaceFor}
+use Rattle.archive_core.specs.Content.{is_covered, IsMade, with_record}
+use Rattle.archive_core.specs.Record.{rec, retirement_record}
+use Rattle.archive_core.specs.declared.operations.Operation.TheVariants.{Retire}
+use Rattle.archive_core.proofs.Made.{or_left}
+use Rattle.archive_core.proofs.Put.{held_retirement}
+use Rattle.archive_core.proofs.Taken.{known_changes, new_changes, with_known}
+use Rattle.archive_core.proofs.Uncovered.{held_where_none}
+use Rattle.archive_core.proofs.plain.PlainArchive.retire.Goals as goal
+
+pub invariant_of-self-then-none : goal.invariant_of-self-then-none
+invariant_of-self-then-none c =
+    let operations = c.self.inside.operations.items in
+    let one = c.retirement-retirement.ensures.operation in
+    let place : IsPlaceFor (slice_cmp nat_cmp) (map rec operations) (retirement_record c.args.key c.args.digest.0) c.in-Err.index =
+    subst (λ x. IsPlaceFor (slice_cmp nat_cmp) (map rec operations) (rec x) c.in-Err.index) c.retirement-retirement.ensures.retirement (rw (← c.deref.ensures.value) c.in-Err.ensures.found.absent) in
+    let none = rw c.deref-in-Err.ensures.value at (c.has_none-none.ensures.none c.if-none.true) in
+    rw (c.in_ok-insert-in-Err.ensures.items, c.retirement-retirement.ensures.retirement)
+    (held_where_none operations c.in-Err.index c.args.key c.args.digest c.self.invariant one place none).held
+
+pub returns-then-none-clause-taken : goal.returns-then-none-clause-taken
+returns-then-none-clause-taken c =
+    let operations = c.self.inside.operations.items in
+    let r = retirement_record c.args.key c.args.digest.0 in
+    let one = c.retirement-retirement.ensures.operation in
+    let place : IsPlaceFor (slice_cmp nat_cmp) (map rec operations) r c.in-Err.index =
+    subst (λ x. IsPlaceFor (slice_cmp nat_cmp) (map rec operations) (rec x) c.in-Err.index) c.retirement-retirement.ensures.retirement (rw (← c.deref.ensures.value) c.in-Err.ensures.found.absent) in
+    let none = rw c.deref-in-Err.ensures.value at (c.has_none-none.ensures.none c.if-none.true) in
+    let all = held_where_none operations c.in-Err.index c.args.key c.args.digest c.self.invariant one place none in
+    rw (c.in_ok-insert-in-Err.ensures.items, c.retirement-retirement.ensures.retirement)
+    (all.is ∙ ap (λ s. with_record s r) c.self.view_is)
+
+pub returns-then-none-clause-answer : goal.returns-then-none-clause-answer
+returns-then-none-clause-answer c =
+    let o = c.args.self.now in
+    let r = retirement_record c.args.key c.args.digest.0 in
+    let absent : set.contains o r ≡ false = rw (← c.self.view_is, ← c.deref.ensures.value) (rw c.retirement-retirement.ensures.retirement at c.in-Err.ensures.found.absent.absent) in
+    sym (new_changes o r absent refl)
+
+pub invariant_of-self-in-Err : goal.invariant_of-self-in-Err
+invariant_of-self-in-Err c =
+    let operations = c.self.inside.operations.items in
+    let one = c.retirement-retirement.ensures.operation in
+    let place : IsPlaceFor (slice_cmp nat_cmp) (map rec operations) (retirement_record c.args.key c.args.digest.0) c.in-Err.index =
+    subst (λ x. IsPlaceFor (slice_cmp nat_cmp) (map rec operations) (rec x) c.in-Err.index) c.retirement-retirement.ensures.retirement (rw (← c.deref.ensures.value) c.in-Err.ensures.found.absent) in
+    rw (c.drop_retired.ensures, c.in_ok-insert-in-Err.ensures.items, c.retirement-retirement.ensures.retirement)
+    (held_retirement operations c.in-Err.index (Retire c.args.key c.args.digest) c.self.invariant one refl place).held
+
+pub returns-in-Ok-clause-taken : goal.returns-in-Ok-clause-taken
+returns-in-Ok-clause-taken c =
+    let o = c.args.self.now in
+    let r = retirement_record c.args.key c.args.digest.0 in
+    let there : set.contains o r ≡ true = rw (← c.self.view_is, ← c.deref.ensures.value) (rw c.retirement-retirement.ensures.retirement at c.in-Ok.ensures.found.present) in
+    sym (with_known o r (subst IsMade c.self.view_is c.self.invariant.itself) (or_left (set.contains o r) (is_covered o r) there))
+
+pub returns-in-Ok-clause-answer : goal.returns-in-Ok-clause-answer
+returns-in-Ok-clause-answer c =
+    let o = c.args.self.now in
+    let r = retirement_record c.args.key c.args.digest.0 in
+    let there : set.contains o r ≡ true = rw (← c.self.view_is, ← c.deref.ensures.value) (rw c.retirement-retirement.ensures.retirement at c.in-Ok.ensures.found.present) in
+    sym (known_changes o r (or_left (set.contains o r) (is_covered o r) there))
+
+pub returns-else-none-clause-taken : goal.returns-else-none-clause-taken
+returns-else-none-clause-taken c =
+    let operations = c.self.inside.operations.items in
+    let r = retirement_record c.args.key c.args.digest.0 in
+    let one = c.retirement-retirement.ensures.operation in
+    let place : IsPlaceFor (slice_cmp nat_cmp) (map rec operations) r c.in-Err.index =
+    subst (λ x. IsPlaceFor (slice_cmp nat_cmp) (map rec operations) (rec x) c.in-Err.index) c.retirement-retirement.ensures.retirement (rw (← c.deref.ensures.value) c.in-Err.ensures.found.absent) in
+    let all = held_retirement operations c.in-Err.index (Retire c.args.key c.args.digest) c.self.invariant one refl place in
+    rw (c.drop_retired.ensures, c.in_ok-insert-in-Err.ensures.items, c.retirement-retirement.ensures.retirement)
+    (all.is ∙ ap (λ s. with_record s r) c.self.view_is)
+
+pub returns-else-none-clause-answer : goal.returns-else-none-clause-answer
+returns-else-none-clause-answer c =
+    let o = c.args.self.now in
+    let r = retirement_record c.args.key c.args.digest.0 in
+    let absent : set.contains o r ≡ false = rw (← c.self.view_is, ← c.deref.ensures.value) (rw c.retirement-retirement.ensures.retirement at c.in-Err.ensures.found.absent.absent) in
+    sym (new_changes o r absent refl)
