@@ -1,6 +1,6 @@
 -- Records of an archive's text none of which another covers, and what their retirements cover.
-use Rattle.std.proofs.Common.{◌≡◌, ℕ, Bool, true, false, ◌&&◌, ◌||◌, List, [], ◌∷◌, ◌++◌, get_or, refl, sym, ap, ◌∙◌, subst, inl, inr, ◌⊎◌, append_assoc}
-use Rattle.std.proofs.lemmas.Bool.{false≢true, cases_Bool, eqb-true}
+use Rattle.std.proofs.Common.{◌≡◌, ℕ, Bool, true, false, ◌&&◌, ◌||◌, List, [], ◌∷◌, ◌++◌, refl, sym, ap, ◌∙◌, subst, inl, inr, ◌⊎◌, append_assoc}
+use Rattle.std.proofs.lemmas.Bool.{false≢true, eqb-true}
 use Rattle.std.proofs.lemmas.List.Elements.{Contains-append_left, Contains-push, Contains-push_cases}
 use Rattle.std.specs.Ordering.{eq_by_cmp}
 use Rattle.std.specs.List.{Contains}
@@ -14,10 +14,10 @@ use Rattle.archive_records.specs.declared.kind.TextKind.{TextKind}
 use Rattle.archive_records.specs.declared.kind.TextKind.TheVariants.{Archive, Operations as Operations_file, Summary as Summary_file}
 use Rattle.archive_records.specs.Kind.{may_follow}
 use Rattle.archive_records.specs.Text.{InOrder, AreApart, last_of}
-use Rattle.archive_records.specs.Reader.{set_of, RetireAlike, Keeps, KeepsIn, AreRetired}
+use Rattle.archive_records.specs.Reader.{set_of, RetireAlike, KeepsIn, AreRetired}
 use Rattle.archive_records.proofs.Puts.{bytes_same}
 use Rattle.archive_records.proofs.Ascending.{below-less, below-trans, up_to_last}
-use Rattle.archive_records.proofs.Contents.{order, contained, containing, content_is, same_bytes}
+use Rattle.archive_records.proofs.Contents.{order, contained, containing, content_is}
 
 pub in_set : (xs : List (List ℕ)) (r : List ℕ) → Contains xs r → contains (set_of xs) r ≡ true
 in_set xs r c = contains-from_list nat_list_cmp_total xs r ∙ contained xs r c

@@ -1,21 +1,17 @@
 -- What of ascending records is written: those that no retirement among them covers.
-use Rattle.std.proofs.Common.{◌≡◌, ◌≢◌, ℕ, ◌≤◌, Bool, true, false, cond, not, ◌&&◌, ◌||◌, List, [], ◌∷◌, ◌++◌, length, Option, refl, sym, ap, ◌∙◌, subst, arith, inl, inr, ◌⊎◌}
+use Rattle.std.proofs.Common.{◌≡◌, ◌≢◌, ℕ, ◌≤◌, Bool, true, false, cond, not, ◌&&◌, ◌||◌, List, [], ◌∷◌, ◌++◌, length, Option, refl, sym, ap, ◌∙◌, subst, arith, inl, inr}
 use Rattle.std.proofs.lemmas.Bool.{false≢true, cases_Bool}
 use Rattle.std.proofs.lemmas.List.{append-nil}
-use Rattle.std.proofs.lemmas.List.Elements.{Contains-append_left, Contains-append_cases, Contains-push, Contains-push_cases, filter-append}
+use Rattle.std.proofs.lemmas.List.Elements.{Contains-append_left, Contains-append_cases, Contains-push_cases, filter-append}
 use Rattle.std.specs.List.{Contains, filter}
-use Rattle.std.specs.declared.cmp.Ordering.{Ordering}
-use Rattle.std.specs.declared.cmp.Ordering.TheVariants.{Less, Equal, Greater}
-use Rattle.std.specs.Cmp.Lexicographic.{nat_list_cmp_total}
-use Rattle.std.specs.FinSet as set
 use Rattle.std.specs.FinSet.{contains}
-use Rattle.archive_core.specs.Content.{Operations, is_admission, key_and_digest, covering, is_covered}
+use Rattle.archive_core.specs.Content.{is_admission, key_and_digest, covering, is_covered}
 use Rattle.archive_core.specs.Record.{IsRecord}
 use Rattle.archive_records.specs.declared.kind.TextKind.TheVariants.{Archive}
 use Rattle.archive_records.specs.declared.side.Ahead.{Ahead}
 use Rattle.archive_records.specs.declared.side.Ahead.TheVariants.{Unread, Held, Ended}
 use Rattle.archive_records.specs.declared.side.Side.{Side}
-use Rattle.archive_records.specs.Kind.{may_follow, IsItem}
+use Rattle.archive_records.specs.Kind.{may_follow}
 use Rattle.archive_records.specs.Text.{InOrder, AreApart, last_of}
 use Rattle.archive_records.specs.Reader.{set_of}
 use Rattle.archive_records.specs.Turns.{Stands, Joins, kept}

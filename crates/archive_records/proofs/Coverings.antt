@@ -1,12 +1,10 @@
 -- Where a covered admission is the fault of a text.
-use Rattle.std.proofs.Common.{◌≡◌, ◌≢◌, ℕ, Bool, true, List, [], ◌++◌, length, refl, sym, ap, ◌∙◌, subst, inl, inr, ◌⊎◌}
+use Rattle.std.proofs.Common.{◌≡◌, ◌≢◌, ℕ, true, List, [], ◌++◌, length, refl, sym, ap, ◌∙◌, subst, inl, inr}
 use Rattle.std.specs.List.{concat, Contains}
-use Rattle.std.specs.FinSet as set
-use Rattle.std.specs.FinSet.{contains}
 use Rattle.sha2.specs.Sha256.{sha256}
 use Rattle.archive_core.specs.Valid.{IsValid, key_of}
 use Rattle.archive_core.specs.Record.{IsRecord, admission_record, retirement_record}
-use Rattle.archive_core.specs.Content.{is_admission, covering, is_covered}
+use Rattle.archive_core.specs.Content.{covering, is_covered}
 use Rattle.archive_core.proofs.Entries.{covering_admission}
 use Rattle.archive_records.specs.declared.kind.TextKind.{TextKind}
 use Rattle.archive_records.specs.declared.kind.TextKind.TheVariants.{Archive, Operations, Summary}
@@ -15,10 +13,10 @@ use Rattle.archive_records.specs.declared.fault.RecordFaultKind.TheVariants.{Cov
 use Rattle.archive_records.specs.declared.fault.RecordFault.{RecordFault}
 use Rattle.archive_records.specs.Kind.{magic, may_follow}
 use Rattle.archive_records.specs.Text.{last_of}
-use Rattle.archive_records.specs.Fault.{IsFault, IsFaultOf, IsFaultBehind, FailsNext, FailsBehind, Fails, IsMagicFault, IsCoveredNext}
+use Rattle.archive_records.specs.Fault.{IsFault, IsFaultOf, IsFaultBehind, FailsNext, FailsBehind, Fails, IsMagicFault}
 use Rattle.archive_records.specs.Front.{IsGoodFront, IsLongestFront, front_length}
 use Rattle.archive_records.specs.Reader.{set_of}
-use Rattle.archive_records.proofs.Apart.{in_set, from_set, and_first, and_second, both_true, not_covering}
+use Rattle.archive_records.proofs.Apart.{in_set, from_set, and_first, and_second, not_covering}
 use Rattle.archive_records.proofs.FaultKinds.{fails_not_covered}
 use Rattle.archive_records.proofs.Exact.{fault_longest}
 

@@ -1,5 +1,5 @@
 -- What searches among the retirements find.
-use Rattle.std.proofs.Common.{◌≡◌, ℕ, zero, suc, ◌+◌, ◌<◌, ◌≤◌, Bool, true, false, ◌&&◌, ◌||◌, List, [], ◌∷◌, ◌++◌, length, get_or, take, drop, Result, Ok, Err, refl, sym, ap, ◌∙◌, subst, arith, inl, inr, ◌⊎◌, length-drop}
+use Rattle.std.proofs.Common.{◌≡◌, ℕ, zero, suc, ◌+◌, ◌≤◌, Bool, true, false, ◌&&◌, ◌||◌, List, [], ◌∷◌, length, get_or, take, drop, Result, Ok, Err, refl, sym, ap, ◌∙◌, arith, inl, inr, length-drop}
 use Rattle.std.proofs.lemmas.Bool.{false≢true, cases_lt, eqb-true}
 use Rattle.std.proofs.lemmas.List.{take_at, length-take}
 use Rattle.sha2.specs.Sha256.{sha256}
@@ -8,23 +8,22 @@ use Rattle.std.specs.declared.cmp.Ordering.{Ordering}
 use Rattle.std.specs.declared.cmp.Ordering.TheVariants.{Less, Equal, Greater}
 use Rattle.std.specs.Ordering.{nat_cmp, is_lt, ordering_reverse}
 use Rattle.std.specs.Cmp.{tied_itself, nat_cmp_total}
-use Rattle.std.specs.Cmp.Lexicographic.{slice_cmp, nat_list_cmp_total}
+use Rattle.std.specs.Cmp.Lexicographic.{nat_list_cmp_total}
 use Rattle.std.specs.FinSet as set
 use Rattle.std.specs.FinSet.{contains, contains-insert}
-use Rattle.std.specs.List.{Contains, insert as insert_at}
+use Rattle.std.specs.List.{insert as insert_at}
 use Rattle.std.specs.List.Sorted.{IsStrictlySortedBy, IsBinarySearchResult, IsSearchInRange, IsSortedBy}
 use Rattle.std.proofs.lemmas.List.Sorted.{searchable_from_sorted}
 use Rattle.std.proofs.lemmas.Map.Keys.{Less-from_sorted}
 use Rattle.join_core.specs.InnerSearch.{IsFound}
 use Rattle.join_core.proofs.Place.{from_list_insert, insert_present}
 use Rattle.archive_core.specs.Content.{Operations, is_admission, key_and_digest, covering, is_covered}
-use Rattle.archive_core.specs.Record.{IsRecord, Admits, Retires}
-use Rattle.archive_records.specs.declared.kind.TextKind.TheVariants.{Archive}
-use Rattle.archive_records.specs.Reader.{set_of, RetireAlike, Keeps}
+use Rattle.archive_core.specs.Record.{IsRecord}
+use Rattle.archive_records.specs.Reader.{set_of, Keeps}
 use Rattle.archive_records.proofs.Puts.{bytes_same}
 use Rattle.archive_records.proofs.Forms.{long-retirement, parts-of}
 use Rattle.archive_records.proofs.Contents.{order, same_bytes}
-use Rattle.archive_records.proofs.Apart.{from_set, is_false, not_covering, same_as}
+use Rattle.archive_records.proofs.Apart.{from_set, is_false, same_as}
 
 -- what is below another does not begin with more
 begins_below : (n : ℕ) (x y : List ℕ) → order x y ≡ Less → is_lt (order (take n y) (take n x)) ≡ false

@@ -1,8 +1,7 @@
 -- What was taken of the sides of a merge where one of them stopped it.
-use Rattle.std.proofs.Common.{◌≡◌, ◌≢◌, ℕ, ◌+◌, ◌<◌, true, false, List, [], ◌∷◌, ◌++◌, length, Option, refl, sym, ap, ◌∙◌, subst, arith, inl, inr, ◌⊎◌, length-append}
+use Rattle.std.proofs.Common.{◌≡◌, ◌≢◌, ℕ, ◌+◌, true, false, List, [], ◌∷◌, ◌++◌, length, Option, refl, sym, ap, ◌∙◌, subst, arith, inl, inr, ◌⊎◌, length-append}
 use Rattle.std.proofs.lemmas.List.{append-nil}
 use Rattle.std.proofs.lemmas.Bool.{false≢true}
-use Rattle.std.specs.declared.cmp.Ordering.{Ordering}
 use Rattle.std.specs.declared.cmp.Ordering.TheVariants.{Greater}
 use Rattle.std.specs.Ordering.{nat_cmp, ordering_reverse}
 use Rattle.std.specs.Cmp.Lexicographic.{slice_cmp, nat_list_cmp_total}
@@ -10,7 +9,6 @@ use Rattle.std.specs.FinSet as set
 use Rattle.std.specs.List.{concat}
 use Rattle.std.specs.Io.KnownBytes.{Consumes, Appends}
 use Rattle.join_core.specs.Listing.{listing}
-use Rattle.archive_records.specs.declared.fault.RecordFaultKind.TheVariants.{OutOfMemory}
 use Rattle.archive_records.specs.declared.fault.RecordFault.{RecordFault}
 use Rattle.archive_records.specs.declared.kind.TextKind.TheVariants.{Archive}
 use Rattle.archive_records.specs.declared.side.Ahead.{Ahead}
@@ -18,10 +16,9 @@ use Rattle.archive_records.specs.declared.side.Ahead.TheVariants.{Unread, Held, 
 use Rattle.archive_records.specs.declared.side.Side.{Side}
 use Rattle.archive_records.specs.Kind.{magic, IsItem, may_follow}
 use Rattle.archive_records.specs.Text.{end_record, last_of}
-use Rattle.archive_records.specs.Front.{front_length}
-use Rattle.archive_records.specs.Reader.{set_of, Stopped, Stops}
-use Rattle.archive_records.specs.Merging.{Stream, IsTaken, IsNext, IsTurnOfLeft, IsTurnOfRight, IsOneMore, IsBehind, IsOut, IsInMagic, IsLeftBehind, IsRightBehind, EndsBelow, all_of, of_both, most_records}
-use Rattle.archive_records.specs.Turns.{kept, Stands, Joins, StopsBeforeRecords, LeftStopped, RightStopped, IsFull, LeftFull, RightFull, first_by, memory_behind}
+use Rattle.archive_records.specs.Reader.{set_of, Stops}
+use Rattle.archive_records.specs.Merging.{Stream, IsTaken, IsNext, IsOneMore, IsBehind, IsOut, IsInMagic, IsLeftBehind, IsRightBehind, all_of, of_both, most_records}
+use Rattle.archive_records.specs.Turns.{kept, Stands, Joins, StopsBeforeRecords, LeftStopped, RightStopped, LeftFull, RightFull, first_by}
 use Rattle.archive_records.proofs.Puts.{concat-push, length_written}
 use Rattle.archive_records.proofs.Forms.{item-no_end}
 use Rattle.archive_records.proofs.Ends.{end-is_end}

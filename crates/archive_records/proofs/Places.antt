@@ -30,7 +30,7 @@ use Rattle.archive_records.proofs.Puts.{bytes_same}
 use Rattle.archive_records.proofs.Covered.{kept_more, behind, behind_above, from_kept}
 use Rattle.archive_records.proofs.Exact.{no_magic_fault}
 use Rattle.archive_records.proofs.Inputs.{magic_stop, grown_magic}
-use Rattle.archive_records.proofs.Ascending.{below-back, below-self, all_above, up_to_last, InOrder-behind, prefix, here, later}
+use Rattle.archive_records.proofs.Ascending.{below-back, below-self, all_above, up_to_last, prefix, here, later}
 use Rattle.archive_records.proofs.Ends.{length-end_record}
 use Rattle.archive_records.proofs.Fronts.{taken_of, front_of, front_is, stopped_goes, stopped_magic, GoesOn, goes_on, has_magic}
 

@@ -3,14 +3,13 @@ use Rattle.std.proofs.Common.{◌≡◌, ◌≢◌, ℕ, ◌+◌, ◌^◌, ◌<�
 use Rattle.std.proofs.lemmas.List.{append-nil, take_all}
 use Rattle.std.specs.List.{concat}
 use Rattle.std.specs.Io.KnownBytes.{Consumes}
-use Rattle.std.specs.FinSet as set
 use Rattle.archive_core.specs.Content.{is_covered}
 use Rattle.byte_device.proofs.Known.{Consumes-then}
 use Rattle.archive_records.specs.declared.fault.RecordFaultKind.{RecordFaultKind}
 use Rattle.archive_records.specs.declared.fault.RecordFaultKind.TheVariants.{Truncated, Trailing, Device, OutOfMemory, Covered}
 use Rattle.archive_records.specs.declared.fault.RecordFault.{RecordFault}
 use Rattle.archive_records.specs.Kind.{magic_of, IsItem, end_length, may_follow}
-use Rattle.archive_records.specs.Text.{end_record, ending, text_of, InOrder, AreApart, last_of}
+use Rattle.archive_records.specs.Text.{end_record, ending, text_of, InOrder, last_of}
 use Rattle.archive_records.specs.Fault.{next, IsUnended, FailsNext, FailsBehind, Fails}
 use Rattle.archive_records.specs.Reading.{Blames}
 use Rattle.archive_records.specs.declared.next.Step.{Step}

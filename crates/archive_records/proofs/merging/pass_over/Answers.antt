@@ -1,4 +1,4 @@
-use Rattle.std.proofs.Common.{sym, ◌∙◌}
+use Rattle.std.proofs.Common.{sym}
 use Rattle.archive_records.proofs.Turns.{pass_left, pass_right, only_less, less_cost}
 use Rattle.archive_records.proofs.merging.pass_over.Goals as goal
 

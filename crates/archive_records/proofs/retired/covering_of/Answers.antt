@@ -1,6 +1,5 @@
 use Rattle.std.proofs.Common.{ℕ, List, ◌∷◌, ◌++◌, take, drop, ap, ◌∙◌}
 use Rattle.std.proofs.lemmas.List.{take_rest}
-use Rattle.sha2.specs.Sha256.{sha256}
 use Rattle.archive_core.specs.Content.{key_and_digest}
 use Rattle.archive_records.proofs.retired.covering_of.Goals as goal
 

@@ -1,4 +1,4 @@
-use Rattle.std.proofs.Common.{inl, inr, refl, ap, subst, arith, ◌∙◌, ◌+◌}
+use Rattle.std.proofs.Common.{inl, refl, ap, subst, arith, ◌∙◌, ◌+◌}
 use Rattle.std.specs.Io.KnownBytes.{Consumes}
 use Rattle.archive_records.specs.Reader.{bytes_so_far, KeepsIn}
 use Rattle.archive_records.proofs.FaultKinds.{memory_blames}

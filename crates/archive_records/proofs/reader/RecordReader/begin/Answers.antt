@@ -1,4 +1,4 @@
-use Rattle.std.proofs.Common.{[], ◌++◌, ℕ, List, refl, sym, ap, subst, ◌∙◌}
+use Rattle.std.proofs.Common.{refl, sym, subst, ◌∙◌}
 use Rattle.std.specs.Io.KnownBytes.{Consumes}
 use Rattle.std.proofs.lemmas.List.{append-nil}
 use Rattle.archive_records.specs.Kind.{magic_of}

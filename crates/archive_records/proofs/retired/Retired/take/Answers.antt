@@ -1,5 +1,5 @@
 use Rattle.std.proofs.Common.{refl, sym, inr}
-use Rattle.archive_records.proofs.Fronted.{retirement_length, keeps_retirement, keeps_admission}
+use Rattle.archive_records.proofs.Fronted.{retirement_length, keeps_admission}
 use Rattle.archive_records.proofs.Covered.{long_record}
 use Rattle.archive_records.proofs.retired.Retired.take.Goals as goal
 
