@@ -10,8 +10,9 @@ use Rattle.std.specs.Ordering.{nat_cmp}
 use Rattle.std.proofs.lemmas.List.Elements.{Contains-append_right}
 use Rattle.std.proofs.lemmas.List.Sums.{fold-append}
 use Rattle.join_core.specs.Bound.{IsLeastAbove}
-use Rattle.archive_core.specs.Content.{Operations, IsBelow, IsContent, made, joined}
-use Rattle.archive_core.proofs.Held.{bytes_same}
+use Rattle.archive_core.specs.Content.{Operations, IsBelow, IsMade, IsContent, made, joined}
+use Rattle.archive_core.proofs.Made.{bytes_same, joined_made_right}
+use Rattle.exchange_model.proofs.Content.{joined_made}
 use Rattle.archive_commands.specs.Merge.{merged, operations_of}
 
 module _
@@ -111,9 +112,21 @@ in_union s (p ∷ contents) r =
     ∙ ap (λ b. b || list_any (λ (p : Operations). set.contains p r) contents) (contains-union nat_list_cmp_total s p r)
     ∙ or_grouped (set.contains s r) (set.contains p r) (list_any (λ (p : Operations). set.contains p r) contents)
 
-pub merged_union : (o : Operations) (contents : List Operations) → merged o contents ≡ joined o (made (operations_of contents))
-merged_union o contents =
-    same_set nat_list_cmp_total bytes_same (merged o contents) (set.union o (operations_of contents))
+all_in_union : (o : Operations) (contents : List Operations) → fold set.union o contents ≡ set.union o (operations_of contents)
+all_in_union o contents =
+    same_set nat_list_cmp_total bytes_same (fold set.union o contents) (set.union o (operations_of contents))
     (λ r. in_union o contents r
     ∙ ap (λ b. set.contains o r || b) (sym (in_union set.empty contents r ∙ ap (λ b. b || list_any (λ (p : Operations). set.contains p r) contents) (contains-empty (slice_cmp nat_cmp) r)))
     ∙ sym (contains-union nat_list_cmp_total o (operations_of contents) r))
+
+-- contents joined one after another are what the operations of all make
+merged_made : (s : Operations) (contents : List Operations) → merged (made s) contents ≡ made (fold set.union s contents)
+merged_made s [] = refl
+merged_made s (p ∷ contents) = ap (λ (q : Operations). merged q contents) (joined_made s p) ∙ merged_made (set.union s p) contents
+
+pub merged_union : (o : Operations) (contents : List Operations) → IsMade o → merged o contents ≡ joined o (made (operations_of contents))
+merged_union o contents is =
+    ap (λ (q : Operations). merged q contents) (sym is)
+    ∙ merged_made o contents
+    ∙ ap made (all_in_union o contents)
+    ∙ sym (joined_made_right o (operations_of contents))

@@ -6,7 +6,7 @@ use Rattle.std.proofs.lemmas.List.{append-nil}
 use Rattle.std.proofs.lemmas.Grind.{flat_map-append}
 use Rattle.std.proofs.lemmas.List.Elements.{Contains-append_left, Contains-append_right, Contains-append_cases}
 use Rattle.archive_core.specs.Record.{admission_record}
-use Rattle.archive_core.specs.Content.{Operations, made, joined}
+use Rattle.archive_core.specs.Content.{Operations, IsMade, made, joined}
 use Rattle.archive_core.proofs.Taken.{taken_are_joined}
 use Rattle.archive_exchange.proofs.Resumed.{admitted_alike as images_alike}
 use Rattle.archive_exchange.proofs.Rows.{admitted-append}
@@ -16,8 +16,8 @@ use Rattle.report_text.specs.declared.rows.AdmitRow.{AdmitRow}
 use Rattle.archive_commands.specs.Admit.{images_of, file_rows, admit_rows}
 use Rattle.archive_commands.proofs.Files.{admit_rows-append}
 
-pub admitted_joined : (o : Operations) (images : List (List ℕ)) → admitted o images ≡ joined o (made (set.from_list (map admission_record images)))
-admitted_joined o images = taken_are_joined o (map admission_record images)
+pub admitted_joined : (o : Operations) (images : List (List ℕ)) → IsMade o → admitted o images ≡ joined o (made (set.from_list (map admission_record images)))
+admitted_joined o images is = taken_are_joined o (map admission_record images) is
 
 -- a place's successor, as it computes
 same-suc : (place : ℕ) → suc (place + 1) ≡ suc place + 1
@@ -93,7 +93,7 @@ same_images : (files others : List (List ℕ)) → ((file : List ℕ) → Contai
 same_images files others all image in_all =
     let found = in_one files image in_all in of_one others found.0 image (all found.0 found.1) found.2
 
-pub admitted_alike : (o : Operations) (files others : List (List ℕ)) → ((file : List ℕ) → Contains files file ↔ Contains others file) → admitted o (images_of files) ≡ admitted o (images_of others)
-admitted_alike o files others same =
-    images_alike o (images_of files) (images_of others)
+pub admitted_alike : (o : Operations) (files others : List (List ℕ)) → IsMade o → ((file : List ℕ) → Contains files file ↔ Contains others file) → admitted o (images_of files) ≡ admitted o (images_of others)
+admitted_alike o files others is same =
+    images_alike o (images_of files) (images_of others) is
     (λ image. (same_images files others (λ file. (same file).0) image, same_images others files (λ file. (same file).1) image))

@@ -13,7 +13,8 @@ use memory::Heap;
 use report_text::apply_line;
 
 /// Writes IN's archive to OUT with the operations of an operations file, and to the report how many of them were new
-/// and how many were there, and the sizes. IN is read first, then OPS, each to its end, before anything is written.
+/// and how many were known, there or covered by a retirement, and the sizes. IN is read first, then OPS, each to its
+/// end, before anything is written.
 ///
 /// # Errors
 ///

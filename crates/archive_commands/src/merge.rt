@@ -129,8 +129,8 @@ fn merge_one<R: Source, S: Source, W: Sink, P: Sink>(
 }
 
 /// Writes the join of IN's archive with that of each file to OUT, and its sizes to the report. With one file the two
-/// are merged as they come, in the memory of one record of each; with more the inputs are read in the order of the
-/// words, IN first, each to its end, before anything is written.
+/// are merged as they come, in the memory of their retirements and of one record of each; with more the inputs are read
+/// in the order of the words, IN first, each to its end, before anything is written.
 ///
 /// # Errors
 ///

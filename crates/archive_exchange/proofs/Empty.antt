@@ -7,13 +7,14 @@ use Rattle.std.specs.Ordering.{nat_cmp}
 use Rattle.std.specs.Cmp.Lexicographic.{slice_cmp}
 use mathlib.Core.Bool.{true≢false}
 use Rattle.archive_core.specs.Content.{IsContent}
+use Rattle.archive_core.proofs.Made.{made_empty}
 use Rattle.archive_records.specs.Text.{written}
 use Rattle.exchange_model.specs.World.{Message, start}
 use Rattle.archive_exchange.specs.Keeping.{Keeping}
 use Rattle.archive_exchange.specs.Rehearsal.{IsSound, IsSite, Shows}
 
 empty_content : IsContent set.empty
-empty_content = record { itself = refl; records = λ r h. absurd (true≢false (sym h ∙ contains-empty (slice_cmp nat_cmp) r)) }
+empty_content = record { itself = made_empty; records = λ r h. absurd (true≢false (sym h ∙ contains-empty (slice_cmp nat_cmp) r)) }
 
 no_message : (m : ℕ) (x : Message) → slice_get [] m ≡ Some x → IsSound x
 no_message m x h = cc

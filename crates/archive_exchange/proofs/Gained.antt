@@ -13,6 +13,8 @@ use Rattle.sha2.specs.Sha256.{sha256}
 use Rattle.archive_core.specs.Valid.{IsValid, key_of}
 use Rattle.archive_core.specs.Record.{IsRecord, admission_record}
 use Rattle.archive_core.specs.Content.{Operations, IsContent, with_record, with_records, changes, joined}
+use Rattle.archive_core.proofs.Made.{from_made, joined_content}
+use Rattle.archive_core.proofs.Taken.{made_taken}
 use Rattle.archive_core.proofs.Entries.{slice_of}
 use Rattle.archive_records.proofs.Contents.{same_bytes}
 use Rattle.exchange_model.specs.World as model
@@ -45,18 +47,15 @@ all_in rs all x h = All-contains IsRecord rs x all (Contains-from_any same_bytes
 -- a content that gains records is one
 pub content_gain : (o : Operations) (rs : List (List ℕ)) → IsContent o → ((x : List ℕ) → set.contains (listed rs) x ≡ true → IsRecord x) → IsContent (with_records o rs)
 content_gain o rs is all = record {
-  itself = refl;
+  itself = made_taken o rs is.itself;
   records = λ x h.
-      let e : set.contains (with_records o rs) x ≡ (set.contains o x || set.contains (listed rs) x) = ap (λ (p : Operations). set.contains p x) (taken_gain o rs is.itself) ∙ contains-union nat_list_cmp_total o (listed rs) x in
-      either (IsRecord x) (set.contains o x) (set.contains (listed rs) x) (is.records x) (all x) (sym e ∙ h);
+      let both : set.contains (set.union o (listed rs)) x ≡ true = from_made (set.union o (listed rs)) x (sym (ap (λ (p : Operations). set.contains p x) (taken_gain o rs is.itself)) ∙ h) in
+      either (IsRecord x) (set.contains o x) (set.contains (listed rs) x) (is.records x) (all x) (sym (contains-union nat_list_cmp_total o (listed rs) x) ∙ both);
 }
 
 -- two contents join to one
 pub content_joined : (o p : Operations) → IsContent o → IsContent p → IsContent (joined o p)
-content_joined o p is also = record {
-  itself = refl;
-  records = λ x h. either (IsRecord x) (set.contains o x) (set.contains p x) (is.records x) (also.records x) (sym (contains-union nat_list_cmp_total o p x) ∙ h);
-}
+content_joined o p is also = joined_content o p is also
 
 -- what an accepted file and a retirement issue are records
 pub recorded_take : (i : ℕ) (file : List ℕ) → IsAcceptedFile file → IsRecorded (model.Take i (Ok (map part_record (parts file))))

@@ -1,21 +1,19 @@
 -- What a delivery that stopped leaves, and what it makes when it is made again.
-use Rattle.std.proofs.Common.{◌≡◌, ℕ, List, refl, sym, ap, ◌∙◌, subst}
-use Rattle.std.specs.Cmp.Lexicographic.{nat_list_cmp_total}
+use Rattle.std.proofs.Common.{◌≡◌, ℕ, List, sym, ap, ◌∙◌, subst}
 use Rattle.std.specs.FinSet.{union}
-use Rattle.join_core.proofs.Subset.{subset_transitive, subset_antisymmetric, union_left, union_right, union_least}
 use Rattle.archive_core.specs.Content.{Operations, IsContent, IsBelow, joined}
-use Rattle.archive_core.proofs.Held.{bytes_same}
+use Rattle.archive_core.proofs.Made.{made_again, made_antisymmetric, below_transitive, below_left, below_right, joined_below}
 use Rattle.archive_records.proofs.Exact.{one_content}
 use Rattle.archive_exchange.specs.Keeping.{Keeping, Says, IsBetween, HasJoined, HasJoinedInPart}
 
 -- a content on the way joins to the same
 joined_again : (o p mid : Operations) → IsBetween o mid (joined o p) → joined mid p ≡ joined o p
 joined_again o p mid way =
-    subset_antisymmetric nat_list_cmp_total bytes_same (union mid p) (union o p)
-    (union_least nat_list_cmp_total mid p (union o p) way.below_new (union_right nat_list_cmp_total o p))
-    (union_least nat_list_cmp_total o p (union mid p)
-    (subset_transitive nat_list_cmp_total o mid (union mid p) way.above_old (union_left nat_list_cmp_total mid p))
-    (union_right nat_list_cmp_total mid p))
+    made_antisymmetric (joined mid p) (joined o p) (made_again (union mid p)) (made_again (union o p))
+    (joined_below mid p (joined o p) way.below_new (below_right o p))
+    (joined_below o p (joined mid p)
+    (below_transitive o mid (joined mid p) way.above_old (below_left mid p))
+    (below_right mid p))
 
 -- one text says one content
 one_message : (text : List ℕ) (o p : Operations) → Says text o → Says text p → o ≡ p

@@ -1,21 +1,18 @@
 -- What a taking that stopped leaves, and what it makes when it is asked for again.
 use Rattle.std.proofs.Common.{◌≡◌, ℕ, zero, suc, ◌<◌, List, [], ◌∷◌, ◌++◌, length, get_or, map, take, drop, refl, sym, ap, ◌∙◌, subst, arith, inl, inr}
 use Rattle.std.specs.Prelude.{◌↔◌, Contains}
-use Rattle.std.specs.FinSet as set
-use Rattle.std.specs.Cmp.Lexicographic.{nat_list_cmp_total}
 use Rattle.std.proofs.lemmas.List.{take-append-drop}
 use Rattle.std.proofs.lemmas.List.Elements.{Contains-append_left, Contains-append_right, Contains-append_cases}
-use Rattle.join_core.proofs.Subset.{union_left}
 use Rattle.archive_core.specs.Record.{admission_record}
-use Rattle.archive_core.specs.Content.{Operations, IsBelow}
-use Rattle.archive_core.proofs.Taken.{taken_are_joined, taken_in_any_order}
+use Rattle.archive_core.specs.Content.{Operations, IsMade, IsBelow}
+use Rattle.archive_core.proofs.Taken.{below_taken, taken_in_any_order}
 use Rattle.archive_exchange.specs.File.{admissible}
 use Rattle.archive_exchange.specs.Take.{admitted, HoldsFirstParts}
 use Rattle.archive_exchange.proofs.Rows.{admitted-append}
 
-pub admitted_alike : (o : Operations) (images others : List (List ℕ)) → ((image : List ℕ) → Contains images image ↔ Contains others image) → admitted o images ≡ admitted o others
-admitted_alike o images others same =
-    taken_in_any_order o (map admission_record images) (map admission_record others)
+pub admitted_alike : (o : Operations) (images others : List (List ℕ)) → IsMade o → ((image : List ℕ) → Contains images image ↔ Contains others image) → admitted o images ≡ admitted o others
+admitted_alike o images others is same =
+    taken_in_any_order o (map admission_record images) (map admission_record others) is
     (λ r. (carried images others (λ image. (same image).0) r, carried others images (λ image. (same image).1) r))
   where
     at : (xs : List (List ℕ)) (k : ℕ) (d e : List ℕ) → k < length xs → get_or (map admission_record xs) k d ≡ admission_record (get_or xs k e)
@@ -40,9 +37,9 @@ admitted_alike o images others same =
         let lt'' : found.0 < length ys = found.1 in
         (found.0, omega (arith, long ys, lt''), at ys found.0 r image lt'' ∙ ap admission_record found.2 ∙ sym (at xs k r [] lt') ∙ is)
 
--- what is admitted only adds
+-- a content is below that with images more
 pub grows : (o : Operations) (images : List (List ℕ)) → IsBelow o (admitted o images)
-grows o images = subst (IsBelow o) (sym (taken_are_joined o (map admission_record images))) (union_left nat_list_cmp_total o (set.from_list (map admission_record images)))
+grows o images = below_taken o (map admission_record images)
 
 split : (o : Operations) (k : ℕ) (xs : List (List ℕ)) → admitted (admitted o (take k xs)) (drop k xs) ≡ admitted o xs
 split o k xs = sym (admitted-append o (take k xs) (drop k xs)) ∙ ap (admitted o) (take-append-drop k xs)
@@ -63,9 +60,9 @@ in_all xs k image has =
 twice : (xs : List (List ℕ)) (k : ℕ) (image : List ℕ) → Contains (take k xs ++ xs) image → Contains xs image
 twice xs k image has = elim (Contains-append_cases (take k xs) xs image has) [ inl first ↦ in_all xs k image first | inr rest ↦ rest ]
 
-pub asked_again : (file : List ℕ) (o mid : Operations) → HoldsFirstParts file o mid → admitted mid (admissible file) ≡ admitted o (admissible file)
-asked_again file o mid part =
+pub asked_again : (file : List ℕ) (o mid : Operations) → IsMade o → HoldsFirstParts file o mid → admitted mid (admissible file) ≡ admitted o (admissible file)
+asked_again file o mid is part =
     ap (λ (p : Operations). admitted p (admissible file)) part.content
     ∙ sym (admitted-append o (take part.count (admissible file)) (admissible file))
-    ∙ admitted_alike o (take part.count (admissible file) ++ admissible file) (admissible file)
+    ∙ admitted_alike o (take part.count (admissible file) ++ admissible file) (admissible file) is
     (λ image. (twice (admissible file) part.count image, Contains-append_right (take part.count (admissible file)) (admissible file) image))

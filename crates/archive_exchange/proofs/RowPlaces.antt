@@ -1,11 +1,18 @@
 -- Which row stands where.
 use Rattle.std.proofs.Common.{◌≡◌, ℕ, zero, suc, Bool, true, false, List, [], ◌∷◌, length, take, Some, slice_get, refl, ap, ◌∙◌}
 use Rattle.std.specs.Prelude.{filter, if◌then◌else◌}
-use Rattle.archive_core.specs.Content.{Operations}
+use Rattle.std.specs.FinSet as set
+use Rattle.sha2.specs.Sha256.{sha256}
+use Rattle.archive_core.specs.Valid.{IsValid, key_of}
+use Rattle.archive_core.specs.Record.{admission_record, retirement_record}
+use Rattle.archive_core.specs.Content.{Operations, changes}
+use Rattle.archive_core.proofs.Made.{or_left, or_right}
+use Rattle.archive_core.proofs.Taken.{known_changes}
+use Rattle.archive_core.proofs.Entries.{covering_admission}
 use Rattle.archive_exchange.specs.File.{is_admissible}
 use Rattle.archive_exchange.specs.Take.{admitted, taken_of, taken_rows}
 use Rattle.archive_exchange.specs.declared.taken.Taken.{Taken}
-use Rattle.archive_exchange.specs.declared.taken.Taken.TheVariants.{Skipped}
+use Rattle.archive_exchange.specs.declared.taken.Taken.TheVariants.{Added, Known, Skipped}
 
 count_by : (n : ℕ) (here there : Taken) (rows others : List Taken) (b : Bool) → length rows ≡ n → length others ≡ n → length (if b then here ∷ rows else there ∷ others) ≡ suc n
 count_by n here there rows others true e f = ap suc e
@@ -50,3 +57,17 @@ taken_at o (x ∷ xs) zero part is begins =
     first_taken o x part (taken_rows (admitted o (x ∷ [])) xs) (taken_rows o xs) (is_admissible x) (ap is_admissible same ∙ begins) same
 taken_at o (x ∷ xs) (suc i) part is begins =
     behind o x (filter is_admissible (take i xs)) (λ p. taken_rows p xs) i (λ p. taken_of p part) (is_admissible x) (λ p. taken_at p xs i part is begins)
+
+-- a slice that is there is known
+known_by : (o : Operations) (part : List ℕ) → changes o (admission_record part) ≡ false → taken_of o part ≡ Known (key_of part) (record { 0 = sha256 part })
+unfolding taken_of
+known_by o part same = ap (λ (b : Bool). if b then Added (key_of part) (record { 0 = sha256 part }) else Known (key_of part) (record { 0 = sha256 part })) same
+
+pub there_is_known : (o : Operations) (part : List ℕ) → set.contains o (admission_record part) ≡ true → taken_of o part ≡ Known (key_of part) (record { 0 = sha256 part })
+there_is_known o part there = known_by o part (known_changes o (admission_record part) (or_left _ _ there))
+
+-- and so is one that a retirement covers
+pub covered_is_known : (o : Operations) (part : List ℕ) → IsValid part → set.contains o (retirement_record (key_of part) (sha256 part)) ≡ true
+    → taken_of o part ≡ Known (key_of part) (record { 0 = sha256 part })
+covered_is_known o part valid retired =
+    known_by o part (known_changes o (admission_record part) (or_right (set.contains o (admission_record part)) _ (ap (set.contains o) (covering_admission part valid) ∙ retired)))

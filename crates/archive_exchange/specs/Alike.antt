@@ -1,7 +1,6 @@
 -- What it is that two contents are alike, and that sites of two runs took the same operations.
-use Rattle.std.specs.Prelude.{◌≡◌, ◌↔◌, ℕ, List, true}
-use Rattle.std.specs.FinSet as set
-use Rattle.archive_core.specs.Content.{Operations}
+use Rattle.std.specs.Prelude.{◌≡◌, ◌↔◌, ℕ, List}
+use Rattle.archive_core.specs.Content.{Operations, made}
 use Rattle.archive_core.specs.Find.{IsFinds}
 use Rattle.archive_core.specs.Lookup.{AnswerRecord, IsAnswer}
 use Rattle.archive_core.specs.Names.{NameRecord, IsNames}
@@ -21,7 +20,7 @@ pub record AreAlike (o p : Operations) : Type 0 where
   pub finds : (uuid : List ℕ) (rows : List FindRow) → IsFinds o uuid rows ↔ IsFinds p uuid rows
   pub names : (name : List ℕ) (rows : List NameRecord) → IsNames o name rows ↔ IsNames p name rows
 
--- each operation that reached site i of the one run reached site j of the other, and the other way round
+-- what reached site i of the one run makes the content that what reached site j of the other makes: the same operations
+-- do, whatever slices that are retired at both reached one of them alone
 abbrev pub TookTheSame : {F : Type 0} → ℕ → List (Event F) → ℕ → ℕ → List (Event F) → ℕ → Type 0
-TookTheSame sites events i others later j = (r : List ℕ)
-    → (set.contains (reached sites events i) r ≡ true) ↔ (set.contains (reached others later j) r ≡ true)
+TookTheSame sites events i others later j = made (reached sites events i) ≡ made (reached others later j)

@@ -12,7 +12,8 @@ use Rattle.archive_exchange.specs.declared.taken.Taken.TheVariants.{Added, Known
 abbrev pub admitted : Operations → List (List ℕ) → Operations
 admitted o images = with_records o (map admission_record images)
 
--- what becomes of an image: it is added where its admission changes the content, and known where it does not
+-- what becomes of an image: it is added where its admission changes the content, and known where it does not, since it
+-- is there or a retirement covers it
 unfoldable pub taken_of : Operations → List ℕ → Taken
 taken_of o image =
     if changes o (admission_record image) then Added (key_of image) (record { 0 = sha256 image })

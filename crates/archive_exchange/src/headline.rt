@@ -37,6 +37,13 @@ pub fn headline<F>()
         → (set.contains (reached sites events i) r ≡ true)
         ↔ Reaches sites events (had sites events) r i (length events) }
 
+    // Sites that the same operations reached, in one run or in two, took the same. Those took the same, too, of which a
+    // slice reached the one alone that is retired at both.
+    ensures same_operations { (sites others : ℕ) (events later : List (Event F)) (i j : ℕ)
+        → ((r : List ℕ)
+        → (set.contains (reached sites events i) r ≡ true) ↔ (set.contains (reached others later j) r ≡ true))
+        → TookTheSame sites events i others later j }
+
     // Sites that took the same operations, in one run or in two, hold the same content.
     ensures same_content { (sites others : ℕ) (events later : List (Event F)) (i j : ℕ)
         → TookTheSame sites events i others later j

@@ -4,8 +4,11 @@
 //! definitions alone: a caller that wants a law calls its function.
 ghost use Rattle.std.specs.Prelude.{◌≡◌, ◌≢◌, ◌⊎◌, ◌↔◌, ℕ, Contains, List, Some, true};
 ghost use Rattle.std.specs.Prelude.{false, length, take, filter, slice_get};
+ghost use Rattle.std.specs.FinSet as set;
+ghost use Rattle.sha2.specs.Sha256.{sha256};
 ghost use Rattle.archive_core.specs.Content.{Operations, IsMade, IsContent, IsBelow};
-ghost use Rattle.archive_core.specs.Valid.{IsValid};
+ghost use Rattle.archive_core.specs.Record.{admission_record, retirement_record};
+ghost use Rattle.archive_core.specs.Valid.{IsValid, key_of};
 ghost use Rattle.archive_exchange.specs.File.{IsAcceptedFile, IsTakeFault, is_admissible, admissible, parts};
 ghost use Rattle.archive_exchange.specs.Keeping.{Keeping, HasJoined, HasJoinedInPart};
 ghost use Rattle.archive_exchange.specs.Take.{admitted, taken_of, taken_rows, HoldsFirstParts};
@@ -13,7 +16,7 @@ ghost use Rattle.archive_exchange.specs.Seen.{Seen, AreSeen};
 ghost use Rattle.archive_exchange.specs.declared.event.Event.{Event};
 ghost use Rattle.archive_exchange.specs.declared.fault.TakeFault.{TakeFault};
 ghost use Rattle.archive_exchange.specs.declared.fault.TakeFault.TheVariants.{OutOfMemory};
-ghost use Rattle.archive_exchange.specs.declared.taken.Taken.TheVariants.{Skipped};
+ghost use Rattle.archive_exchange.specs.declared.taken.Taken.TheVariants.{Known, Skipped};
 
 use archive_core::laws::one_slice_fault;
 use fat_slices::laws::one_fault as one_fat_fault;
@@ -29,7 +32,7 @@ pub fn one_take_fault()
 }
 
 /// There is a row a part, in the order of the file: it says of an admissible part what became of it over the old
-/// content with the admissible parts before it.
+/// content with the admissible parts before it. A slice that is there is known, and so is one that a retirement covers.
 pub fn rows_in_order()
     ensures number { (o : Operations) (file : List (List ℕ)) → length (taken_rows o file) ≡ length file }
     ensures skipped { (o : Operations) (file : List (List ℕ)) (i : ℕ) (part : List ℕ)
@@ -40,6 +43,13 @@ pub fn rows_in_order()
         → slice_get file i ≡ Some part
         → is_admissible part ≡ true
         → slice_get (taken_rows o file) i ≡ Some (taken_of (admitted o (filter is_admissible (take i file))) part) }
+    ensures there { (o : Operations) (part : List ℕ)
+        → set.contains o (admission_record part) ≡ true
+        → taken_of o part ≡ Known (key_of part) (record { 0 = sha256 part }) }
+    ensures covered { (o : Operations) (part : List ℕ)
+        → IsValid part
+        → set.contains o (retirement_record (key_of part) (sha256 part)) ≡ true
+        → taken_of o part ≡ Known (key_of part) (record { 0 = sha256 part }) }
 {}
 
 /// What images make does not rest on their order, nor on repeats.

@@ -90,7 +90,7 @@ pub fn run<A: Archive + Drop>(
     ensures saved_was_issued { IfOk result (λ _. OfEvents events.now (λ seen. (n i : ℕ)
         → AreIssued sites seen ((state sites seen n).saved i))) }
 
-    // What a site has saved only grows, and is below what it holds then and later.
+    // What a site has saved is below what it has saved later, and below what it holds then and later.
     ensures saved_grows { IfOk result (λ _. OfEvents events.now (λ seen. (n m i : ℕ)
         → n ≤ m
         → IsBelow ((state sites seen n).saved i) ((state sites seen m).saved i))) }

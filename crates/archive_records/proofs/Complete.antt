@@ -15,13 +15,15 @@ use Rattle.archive_core.specs.Content.{Operations, IsContent}
 use Rattle.archive_core.specs.Summary.{Entries}
 use Rattle.archive_records.specs.Entry.{AreEntries}
 use Rattle.archive_records.specs.declared.fault.RecordFaultKind.{RecordFaultKind}
-use Rattle.archive_records.specs.declared.fault.RecordFaultKind.TheVariants.{BadMagic, Truncated, BadSlice, KeyMismatch, Trailing}
+use Rattle.archive_records.specs.declared.fault.RecordFaultKind.TheVariants.{BadMagic, Truncated, BadSlice, KeyMismatch, Trailing, Covered}
 use Rattle.archive_records.specs.declared.fault.RecordFault.{RecordFault}
 use Rattle.archive_records.specs.Layout.{head_length, body_length, slice_length, framed}
 use Rattle.archive_records.specs.Kind.{magic_of, IsItem}
-use Rattle.archive_records.specs.Text.{ending, text_of, IsWritten, InOrder, last_of, IsOperationsText, IsSummaryText}
-use Rattle.archive_records.specs.Fault.{is_end, next, FailsNext, RefusesSlice, Refuses, IsTrailing, IsUnended, IsFault, IsOperationsFault, IsSummaryFault, IsFaultOf}
+use Rattle.archive_records.specs.Text.{ending, text_of, IsWritten, InOrder, AreApart, last_of, IsOperationsText, IsSummaryText}
+use Rattle.archive_records.specs.Fault.{is_end, next, FailsNext, FailsBehind, Fails, RefusesSlice, Refuses, IsTrailing, IsUnended, IsFault, IsOperationsFault, IsSummaryFault, IsFaultOf}
 use Rattle.archive_records.specs.Front.{front_length}
+use Rattle.archive_core.specs.Content.{is_covered}
+use Rattle.archive_records.proofs.Apart.{apart_none, push_apart}
 use Rattle.archive_records.proofs.Framed.{same_body, framed-whole}
 use Rattle.archive_records.proofs.Holds.{holds, Holds-nine, Holds-end, next-framed, next-above, next-counts, done, whole-admission}
 use Rattle.archive_records.proofs.SliceFacts.{slice_or_fault}
@@ -81,6 +83,15 @@ ended_or_not Archive rest count = inl tt
 ended_or_not Summary_file rest count = inl tt
 ended_or_not Operations_file [] count = inr refl
 ended_or_not Operations_file (x ∷ rest) count = inl (λ e. cc)
+
+-- a record that may follow is covered by none of those before, or refused for one that covers it
+apart_or_not : (file : TextKind) (records : List (List ℕ)) (rest : List ℕ) → InOrder file [] records → AreApart file records → (k : Takes file (last_of [] records) rest) → AreApart file (records ++ k.item ∷ []) ⊎ FailsBehind file records rest Covered
+apart_or_not Archive records rest a is k = elim (cases_Bool (is_covered (set.from_list records) k.item)) [
+  | inl covered ↦ inr (refl, record { item = k.item; more = k.more; whole = k.whole; is = k.is; above = k.above; covered = covered })
+  | inr free ↦ inl (push_apart records k.item a k.above is free)
+]
+apart_or_not Operations_file records rest a is k = inl tt
+apart_or_not Summary_file records rest a is k = inl tt
 
 module _ (file : TextKind) where
   -- a whole record in front of bytes is whole alone
@@ -151,46 +162,49 @@ module _ (file : TextKind) where
 
   -- a text is that of records, or has a fault
   abbrev pub Known : List ℕ → Type 0
-  Known t = ((records : List (List ℕ)) × InOrder file [] records × (t ≡ text_of file records)) ⊎ ((fault : RecordFault) × IsFaultOf file t fault)
+  Known t = ((records : List (List ℕ)) × InOrder file [] records × AreApart file records × (t ≡ text_of file records)) ⊎ ((fault : RecordFault) × IsFaultOf file t fault)
 
-  fault_known : (t : List ℕ) (records : List (List ℕ)) (rest : List ℕ) (kind : RecordFaultKind) → InOrder file [] records → t ≡ magic_of file ++ (concat records ++ rest) → IsUnended file rest → FailsNext file (last_of [] records) (length records) rest kind → Known t
-  fault_known t records rest kind ordered is u f =
-      inr (record { kind = kind; offset = front_length records }, inr (records, record { ordered = ordered; rest = rest; whole = is }, u, inl (f, refl)))
+  fault_known : (t : List ℕ) (records : List (List ℕ)) (rest : List ℕ) (kind : RecordFaultKind) → InOrder file [] records → AreApart file records → t ≡ magic_of file ++ (concat records ++ rest) → IsUnended file rest → Fails file records rest kind → Known t
+  fault_known t records rest kind ordered apart is u f =
+      inr (record { kind = kind; offset = front_length records }, inr (records, record { ordered = ordered; apart = apart; rest = rest; whole = is }, u, inl (f, refl)))
 
-  more_known : (t : List ℕ) (records : List (List ℕ)) (rest : List ℕ) → InOrder file [] records → t ≡ magic_of file ++ (concat records ++ rest) → IsUnended file rest → IsTrailing file (last_of [] records) (length records) rest → Known t
-  more_known t records rest ordered is u f =
-      inr (record { kind = Trailing; offset = front_length records + 9 }, inr (records, record { ordered = ordered; rest = rest; whole = is }, u, inr (refl, f, refl)))
+  more_known : (t : List ℕ) (records : List (List ℕ)) (rest : List ℕ) → InOrder file [] records → AreApart file records → t ≡ magic_of file ++ (concat records ++ rest) → IsUnended file rest → IsTrailing file (last_of [] records) (length records) rest → Known t
+  more_known t records rest ordered apart is u f =
+      inr (record { kind = Trailing; offset = front_length records + 9 }, inr (records, record { ordered = ordered; apart = apart; rest = rest; whole = is }, u, inr (refl, f, refl)))
 
-  all_known : (t : List ℕ) (records : List (List ℕ)) (rest : List ℕ) → InOrder file [] records → t ≡ magic_of file ++ (concat records ++ rest) → rest ≡ ending file (length records) → Known t
-  all_known t records rest ordered is end =
-      inl (records, ordered, is ∙ ap (λ (x : List ℕ). magic_of file ++ (concat records ++ x)) end)
+  all_known : (t : List ℕ) (records : List (List ℕ)) (rest : List ℕ) → InOrder file [] records → AreApart file records → t ≡ magic_of file ++ (concat records ++ rest) → rest ≡ ending file (length records) → Known t
+  all_known t records rest ordered apart is end =
+      inl (records, ordered, apart, is ∙ ap (λ (x : List ℕ). magic_of file ++ (concat records ++ x)) end)
 
   -- one record more in front of the rest, where what lies behind it is known
   goes_on : (t : List ℕ) (fuel : ℕ) (records : List (List ℕ)) (rest : List ℕ) → length rest < suc fuel → IsBytes rest → InOrder file [] records → t ≡ magic_of file ++ (concat records ++ rest)
-      → ((more : List (List ℕ)) (left : List ℕ) → length left < fuel → IsBytes left → InOrder file [] more → t ≡ magic_of file ++ (concat more ++ left) → Known t) → Takes file (last_of [] records) rest → Known t
-  goes_on t fuel records rest few fits ordered is walked k =
+      → ((more : List (List ℕ)) (left : List ℕ) → length left < fuel → IsBytes left → InOrder file [] more → AreApart file more → t ≡ magic_of file ++ (concat more ++ left) → Known t) → (k : Takes file (last_of [] records) rest) → AreApart file (records ++ k.item ∷ []) → Known t
+  goes_on t fuel records rest few fits ordered is walked k free =
       let some = (holds file k.item (length k.item) (item-framed file k.item k.is)).one in
       let shorter : length k.more < fuel = omega (arith, ap length k.whole, length-append k.item k.more) in
       let tail : drop (length k.item) rest ≡ k.more = ap (drop (length k.item)) k.whole ∙ drop_at k.item k.more (length k.item) refl in
       let more_fits : IsBytes k.more = subst IsBytes tail (IsBytes-drop (length k.item) rest fits) in
       let whole : t ≡ magic_of file ++ (concat (records ++ k.item ∷ []) ++ k.more) =
       is ∙ ap (λ (x : List ℕ). magic_of file ++ (concat records ++ x)) k.whole ∙ ap (λ (x : List ℕ). magic_of file ++ x) (sym (append_assoc (concat records) k.item k.more) ∙ ap (λ (x : List ℕ). x ++ k.more) (sym (concat-push records k.item))) in
-      walked (records ++ k.item ∷ []) k.more shorter more_fits (InOrder-push file [] records k.item ordered k.is k.above) whole
+      walked (records ++ k.item ∷ []) k.more shorter more_fits (InOrder-push file [] records k.item ordered k.is k.above) free whole
 
-  by_front : (t : List ℕ) (fuel : ℕ) (records : List (List ℕ)) (rest : List ℕ) → length rest < suc fuel → IsBytes rest → InOrder file [] records → t ≡ magic_of file ++ (concat records ++ rest)
-      → ((more : List (List ℕ)) (left : List ℕ) → length left < fuel → IsBytes left → InOrder file [] more → t ≡ magic_of file ++ (concat more ++ left) → Known t) → IsUnended file rest → Found (last_of [] records) (length records) rest → Known t
-  by_front t fuel records rest few fits ordered is walked u (inl f) = fault_known t records rest f.0 ordered is u f.1
-  by_front t fuel records rest few fits ordered is walked u (inr (inl f)) = more_known t records rest ordered is u f
-  by_front t fuel records rest few fits ordered is walked u (inr (inr (inl f))) = all_known t records rest ordered is f
-  by_front t fuel records rest few fits ordered is walked u (inr (inr (inr f))) = goes_on t fuel records rest few fits ordered is walked f
+  by_front : (t : List ℕ) (fuel : ℕ) (records : List (List ℕ)) (rest : List ℕ) → length rest < suc fuel → IsBytes rest → InOrder file [] records → AreApart file records → t ≡ magic_of file ++ (concat records ++ rest)
+      → ((more : List (List ℕ)) (left : List ℕ) → length left < fuel → IsBytes left → InOrder file [] more → AreApart file more → t ≡ magic_of file ++ (concat more ++ left) → Known t) → IsUnended file rest → Found (last_of [] records) (length records) rest → Known t
+  by_front t fuel records rest few fits ordered apart is walked u (inl f) = fault_known t records rest f.0 ordered apart is u (inl f.1)
+  by_front t fuel records rest few fits ordered apart is walked u (inr (inl f)) = more_known t records rest ordered apart is u f
+  by_front t fuel records rest few fits ordered apart is walked u (inr (inr (inl f))) = all_known t records rest ordered apart is f
+  by_front t fuel records rest few fits ordered apart is walked u (inr (inr (inr f))) = elim (apart_or_not file records rest ordered apart f) [
+    | inl free ↦ goes_on t fuel records rest few fits ordered is walked f free
+    | inr fails ↦ fault_known t records rest Covered ordered apart is u (inr fails)
+  ]
 
   -- the records in front of the rest, one after another
-  walk : (t : List ℕ) (fuel : ℕ) (records : List (List ℕ)) (rest : List ℕ) → length rest < fuel → IsBytes rest → InOrder file [] records → t ≡ magic_of file ++ (concat records ++ rest) → Known t
-  walk t zero records rest few fits ordered is = absurd (omega arith)
-  walk t (suc fuel) records rest few fits ordered is =
+  walk : (t : List ℕ) (fuel : ℕ) (records : List (List ℕ)) (rest : List ℕ) → length rest < fuel → IsBytes rest → InOrder file [] records → AreApart file records → t ≡ magic_of file ++ (concat records ++ rest) → Known t
+  walk t zero records rest few fits ordered apart is = absurd (omega arith)
+  walk t (suc fuel) records rest few fits ordered apart is =
       elim (ended_or_not file rest (length records)) [
-        | inl u ↦ by_front t fuel records rest few fits ordered is (λ more left lt f a e. walk t fuel more left lt f a e) u (found (last_of [] records) (length records) rest fits)
-        | inr end ↦ all_known t records rest ordered is end
+        | inl u ↦ by_front t fuel records rest few fits ordered apart is (λ more left lt f a p e. walk t fuel more left lt f a p e) u (found (last_of [] records) (length records) rest fits)
+        | inr end ↦ all_known t records rest ordered apart is end
       ]
 
   bad_magic : (t : List ℕ) (n : ℕ) → n ≤ 8 → n ≤ length t → take n t ≢ take n (magic_of file) → Known t
@@ -205,27 +219,27 @@ module _ (file : TextKind) where
     | inr long ↦ elim (same_or_not (take 8 t) (take 8 (magic_of file))) [
       | inl same ↦
           let whole : t ≡ magic_of file ++ drop 8 t = sym (take-append-drop 8 t) ∙ ap (λ (x : List ℕ). x ++ drop 8 t) (same ∙ take_all 8 (magic_of file) (omega (arith, length-magic file))) in
-          walk t (length (drop 8 t) + 1) [] (drop 8 t) (omega arith) (IsBytes-drop 8 t fits) tt whole
+          walk t (length (drop 8 t) + 1) [] (drop 8 t) (omega arith) (IsBytes-drop 8 t fits) tt (apart_none file) whole
       | inr other ↦ bad_magic t 8 (lit≤ tt) long other
     ]
   ]
 
 content_known : (t : List ℕ) → Known Archive t → ((o : Operations) × IsContent o × IsWritten o t) ⊎ ((fault : RecordFault) × IsFault t fault)
-content_known t (inl k) = inl (set.from_list k.0, IsContent-records k.0 k.1, text_written (set.from_list k.0) t (k.2 ∙ sym (written-records k.0 k.1)))
+content_known t (inl k) = inl (set.from_list k.0, IsContent-records k.0 k.1 k.2, text_written (set.from_list k.0) t (k.3 ∙ sym (written-records k.0 k.1)))
 content_known t (inr f) = inr f
 
 pub content_or_fault : (t : List ℕ) → IsBytes t → ((o : Operations) × IsContent o × IsWritten o t) ⊎ ((fault : RecordFault) × IsFault t fault)
 content_or_fault t fits = content_known t (text_or_fault Archive t fits)
 
 operations_known : (t : List ℕ) → Known Operations_file t → ((operations : List Operation) × IsOperationsText t operations) ⊎ ((fault : RecordFault) × IsOperationsFault t fault)
-operations_known t (inl k) = let listed = operations_in [] k.0 k.1 in inl (listed.0, IsOperationsText-text t listed.0 listed.1 (k.2 ∙ ap (text_of Operations_file) (sym listed.2)))
+operations_known t (inl k) = let listed = operations_in [] k.0 k.1 in inl (listed.0, IsOperationsText-text t listed.0 listed.1 (k.3 ∙ ap (text_of Operations_file) (sym listed.2)))
 operations_known t (inr f) = inr f
 
 pub operations_or_fault : (t : List ℕ) → IsBytes t → ((operations : List Operation) × IsOperationsText t operations) ⊎ ((fault : RecordFault) × IsOperationsFault t fault)
 operations_or_fault t fits = operations_known t (text_or_fault Operations_file t fits)
 
 summary_known : (t : List ℕ) → Known Summary_file t → ((s : Entries) × AreEntries s × IsSummaryText s t) ⊎ ((fault : RecordFault) × IsSummaryFault t fault)
-summary_known t (inl k) = inl (set.from_list k.0, AreEntries-entries k.0 k.1, text_of_summary (set.from_list k.0) t (k.2 ∙ sym (summary_text-entries k.0 k.1)))
+summary_known t (inl k) = inl (set.from_list k.0, AreEntries-entries k.0 k.1, text_of_summary (set.from_list k.0) t (k.3 ∙ sym (summary_text-entries k.0 k.1)))
 summary_known t (inr f) = inr f
 
 pub summary_or_fault : (t : List ℕ) → IsBytes t → ((s : Entries) × AreEntries s × IsSummaryText s t) ⊎ ((fault : RecordFault) × IsSummaryFault t fault)

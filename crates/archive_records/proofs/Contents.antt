@@ -13,11 +13,12 @@ use Rattle.std.proofs.lemmas.Cmp.{eq_by_cmp_equiv}
 use Rattle.std.proofs.lemmas.Map.Views.{list_any-from_Contains, Contains-from_any}
 use Rattle.join_core.specs.Listing.{listing}
 use Rattle.join_core.proofs.Listing.{listed, listing_ascending, one_listing, any_listing}
+use Rattle.archive_core.specs.Record.{IsRecord}
 use Rattle.archive_core.specs.Summary.{Entries}
 use Rattle.archive_records.specs.Entry.{AreEntries}
 use Rattle.archive_core.specs.Content.{Operations, IsContent}
 use Rattle.archive_records.specs.Kind.{magic, summary_magic, IsItem, allows, may_follow}
-use Rattle.archive_records.specs.Text.{end_record, text_of, IsWritten, written, IsSummaryText, summary_text, InOrder}
+use Rattle.archive_records.specs.Text.{end_record, text_of, IsWritten, written, IsSummaryText, summary_text, InOrder, AreApart}
 use Rattle.archive_records.proofs.Holds.{holds}
 use Rattle.archive_records.proofs.Forms.{item-framed}
 use Rattle.archive_records.proofs.Puts.{bytes_same, length_written}
@@ -116,8 +117,15 @@ sorted-entries = sorted_items Summary summary_ascends
 pub InOrder-listing : (o : Operations) → IsContent o → InOrder Archive [] (listing o)
 InOrder-listing o c = InOrder-members Archive archive_ascends o c.records
 
-pub IsContent-records : (xs : List (List ℕ)) → InOrder Archive [] xs → IsContent (set.from_list xs)
-IsContent-records xs a = record { itself = refl; records = members_are_items Archive archive_ascends xs a }
+pub IsContent-records : (xs : List (List ℕ)) → InOrder Archive [] xs → AreApart Archive xs → IsContent (set.from_list xs)
+IsContent-records xs a apart = record { itself = apart; records = members_are_items Archive archive_ascends xs a }
+
+-- the same of a set that need not make itself
+pub InOrder-set : (o : Operations) → ((r : List ℕ) → set.contains o r ≡ true → IsRecord r) → InOrder Archive [] (listing o)
+InOrder-set o are = InOrder-members Archive archive_ascends o are
+
+pub are_records : (xs : List (List ℕ)) → InOrder Archive [] xs → (r : List ℕ) → set.contains (set.from_list {R = order} xs) r ≡ true → IsRecord r
+are_records xs a = members_are_items Archive archive_ascends xs a
 
 -- and so do the entries of a summary
 pub InOrder-entries : (s : Entries) → AreEntries s → InOrder Summary [] (listing s)

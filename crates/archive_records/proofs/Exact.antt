@@ -1,22 +1,23 @@
 -- Each text has one content, or one fault.
-use Rattle.std.proofs.Common.{◌≡◌, ◌≢◌, ℕ, ◌<◌, ◌≤◌, ◌^◌, true, List, [], ◌++◌, length, get_or, take, drop, refl, sym, ap, ◌∙◌, subst, arith, inl, inr, append_assoc, length-append, lit≤}
+use Rattle.std.proofs.Common.{◌≡◌, ◌≢◌, ℕ, ◌<◌, ◌≤◌, ◌^◌, true, List, [], ◌∷◌, ◌++◌, length, get_or, take, drop, refl, sym, ap, ◌∙◌, subst, arith, inl, inr, append_assoc, length-append, lit≤}
 use Rattle.std.proofs.lemmas.List.{append-nil, take-append-le, append_cancel_left, take-take, get_or-take}
 use Rattle.std.specs.List.{concat}
 use Rattle.std.specs.FinSet as set
 use Rattle.join_core.specs.Listing.{listing}
 use Rattle.archive_core.specs.Content.{Operations, IsContent}
 use Rattle.archive_records.specs.declared.fault.RecordFaultKind.{RecordFaultKind}
-use Rattle.archive_records.specs.declared.fault.RecordFaultKind.TheVariants.{BadMagic, Truncated, BadTag, TooLarge, NotAscending, BadSlice, KeyMismatch, BadCount, Trailing, Device, OutOfMemory}
+use Rattle.archive_records.specs.declared.fault.RecordFaultKind.TheVariants.{BadMagic, Truncated, BadTag, TooLarge, NotAscending, BadSlice, KeyMismatch, BadCount, Trailing, Device, OutOfMemory, Covered}
 use Rattle.archive_records.specs.declared.fault.RecordFault.{RecordFault}
 use Rattle.archive_records.specs.Kind.{magic_of}
-use Rattle.archive_records.specs.Text.{end_record, ending, text_of, InOrder, last_of, written}
-use Rattle.archive_records.specs.Fault.{is_end, FailsNext, IsTrailing, RefusesSlice, Refuses, IsMagicFault, IsUnended, IsFaultBehind, IsFaultOf}
+use Rattle.archive_records.specs.Text.{end_record, ending, text_of, InOrder, AreApart, last_of, written}
+use Rattle.archive_records.specs.Fault.{is_end, FailsNext, IsCoveredNext, FailsBehind, Fails, IsTrailing, RefusesSlice, Refuses, IsMagicFault, IsUnended, IsFaultBehind, IsFaultOf}
 use Rattle.archive_records.specs.Front.{IsGoodFront, IsLongestFront}
 use Rattle.archive_records.proofs.SliceFacts.{no_slice_fault, one_slice_fault}
 use Rattle.archive_records.proofs.Holds.{result_is, holds}
 use Rattle.archive_records.proofs.Forms.{item-framed, refused_slice}
 use Rattle.archive_records.proofs.Grown.{kind_is, no_both, next-ok-grows}
-use Rattle.archive_records.proofs.Longest.{Takes, fault-stops, end-stops, unique, behind_magic, is_longest}
+use Rattle.archive_records.proofs.Longest.{Takes, Goes, fault-stops, end-stops, one_taken, unique, behind_magic, is_longest}
+use Rattle.archive_records.proofs.Apart.{apart_listing, covered_apart}
 use Rattle.archive_records.proofs.Ends.{is_three, length-end_record, next_end}
 use Rattle.archive_records.proofs.Contents.{InOrder-listing, written_text, content_is}
 use Rattle.archive_records.specs.declared.kind.TextKind.{TextKind}
@@ -35,6 +36,7 @@ refused_tag r BadCount f = absurd f
 refused_tag r Trailing f = absurd f
 refused_tag r Device f = absurd f
 refused_tag r OutOfMemory f = absurd f
+refused_tag r Covered f = absurd f
 
 one_refusal : (r : List ℕ) (j k : RecordFaultKind) → RefusesSlice r j → RefusesSlice r k → j ≡ k
 one_refusal r (BadSlice f) (BadSlice g) a b = let e = one_slice_fault (drop 33 r) f g a.1 b.1 in λ i. BadSlice (e i)
@@ -50,6 +52,7 @@ one_refusal r BadCount k a b = absurd a
 one_refusal r Trailing k a b = absurd a
 one_refusal r Device k a b = absurd a
 one_refusal r OutOfMemory k a b = absurd a
+one_refusal r Covered k a b = absurd a
 one_refusal r j BadMagic a b = absurd b
 one_refusal r j Truncated a b = absurd b
 one_refusal r j BadTag a b = absurd b
@@ -59,6 +62,7 @@ one_refusal r j BadCount a b = absurd b
 one_refusal r j Trailing a b = absurd b
 one_refusal r j Device a b = absurd b
 one_refusal r j OutOfMemory a b = absurd b
+one_refusal r j Covered a b = absurd b
 
 fault_eq : (f g : RecordFault) → f.kind ≡ g.kind → f.offset ≡ g.offset → f ≡ g
 fault_eq f g k o = λ i. record { kind = k i; offset = o i }
@@ -99,6 +103,29 @@ no_fails Archive low n more kind few alone unended (inr f) =
     let same : get_or (take f.0 (end_record n ++ more)) 0 0 ≡ get_or (end_record n ++ more) 0 0 = get_or-take f.0 (end_record n ++ more) 0 0 (omega arith) in
     omega (arith, is_three (end_record n ++ more) (end_more n more))
 
+-- what is covered stands there
+takes_covered : (records : List (List ℕ)) (rest : List ℕ) → IsCoveredNext records rest → Takes Archive (last_of [] records) rest
+takes_covered records rest c = record { item = c.item; more = c.more; whole = c.whole; is = c.is; above = c.above }
+
+covered_behind : (file : TextKind) (records : List (List ℕ)) (rest : List ℕ) (kind : RecordFaultKind) → FailsBehind file records rest kind → Takes file (last_of [] records) rest
+covered_behind Archive records rest kind f = takes_covered records rest f.1
+covered_behind Operations_file records rest kind f = absurd f
+covered_behind Summary_file records rest kind f = absurd f
+
+covered_kind : (file : TextKind) (records : List (List ℕ)) (rest : List ℕ) (kind : RecordFaultKind) → FailsBehind file records rest kind → kind ≡ Covered
+covered_kind Archive records rest kind f = f.0
+covered_kind Operations_file records rest kind f = absurd f
+covered_kind Summary_file records rest kind f = absurd f
+
+-- and no good front goes on with it
+covered_stops : (file : TextKind) (records : List (List ℕ)) (rest : List ℕ) (kind : RecordFaultKind) → FailsBehind file records rest kind → Goes file records rest → ⊥
+unfolding takes_covered
+covered_stops Archive records rest kind f g =
+    let same : f.1.item ≡ g.next.item = one_taken Archive (last_of [] records) rest (takes_covered records rest f.1) g.next in
+    covered_apart records f.1.item (subst (λ (x : List ℕ). AreApart Archive (records ++ x ∷ [])) (sym same) g.apart) f.1.covered
+covered_stops Operations_file records rest kind f g = absurd f
+covered_stops Summary_file records rest kind f g = absurd f
+
 module _ (file : TextKind) where
   -- ---- the magic
 
@@ -114,6 +141,7 @@ module _ (file : TextKind) where
   no_magic_fault t rest Trailing e b = b
   no_magic_fault t rest Device e b = b
   no_magic_fault t rest OutOfMemory e b = b
+  no_magic_fault t rest Covered e b = b
 
   one_magic_fault : (t : List ℕ) (j k : RecordFaultKind) → IsMagicFault file t j → IsMagicFault file t k → j ≡ k
   one_magic_fault t BadMagic BadMagic a b = refl
@@ -129,6 +157,7 @@ module _ (file : TextKind) where
   one_magic_fault t Trailing k a b = absurd a
   one_magic_fault t Device k a b = absurd a
   one_magic_fault t OutOfMemory k a b = absurd a
+  one_magic_fault t Covered k a b = absurd a
   one_magic_fault t j BadTag a b = absurd b
   one_magic_fault t j TooLarge a b = absurd b
   one_magic_fault t j NotAscending a b = absurd b
@@ -138,12 +167,17 @@ module _ (file : TextKind) where
   one_magic_fault t j Trailing a b = absurd b
   one_magic_fault t j Device a b = absurd b
   one_magic_fault t j OutOfMemory a b = absurd b
+  one_magic_fault t j Covered a b = absurd b
 
   -- ---- what stops behind a good front
 
-  behind_stops : (records : List (List ℕ)) (rest : List ℕ) (fault : RecordFault) → IsFaultBehind file records rest fault → Takes file (last_of [] records) rest → ⊥
-  behind_stops records rest fault (inl f) = fault-stops file (last_of [] records) (length records) rest fault.kind f.0
-  behind_stops records rest fault (inr t) = end-stops file (last_of [] records) rest t.1.end
+  pub fails_stop : (records : List (List ℕ)) (rest : List ℕ) (kind : RecordFaultKind) → Fails file records rest kind → Goes file records rest → ⊥
+  fails_stop records rest kind (inl f) g = fault-stops file (last_of [] records) (length records) rest kind f g.next
+  fails_stop records rest kind (inr f) g = covered_stops file records rest kind f g
+
+  behind_stops : (records : List (List ℕ)) (rest : List ℕ) (fault : RecordFault) → IsFaultBehind file records rest fault → Goes file records rest → ⊥
+  behind_stops records rest fault (inl f) g = fails_stop records rest fault.kind f.0 g
+  behind_stops records rest fault (inr t) g = end-stops file (last_of [] records) rest t.1.end g.next
 
   -- a fault behind a good front stands at the end of the longest
   pub fault_longest : (text : List ℕ) (records : List (List ℕ)) (front : IsGoodFront file text records) (fault : RecordFault) → IsFaultBehind file records front.rest fault → IsLongestFront file text records
@@ -165,10 +199,20 @@ module _ (file : TextKind) where
       let same : get_or (take a.0 rest) 0 0 ≡ get_or rest 0 0 = get_or-take a.0 rest 0 0 (omega arith) in
       omega (arith, is_three rest t.end)
 
+  same_fails : (records : List (List ℕ)) (rest : List ℕ) (j k : RecordFaultKind) → Fails file records rest j → Fails file records rest k → j ≡ k
+  same_fails records rest j k (inl a) (inl b) = same_kind (last_of [] records) (length records) rest j k a b
+  same_fails records rest j k (inl a) (inr b) = absurd (fault-stops file (last_of [] records) (length records) rest j a (covered_behind file records rest k b))
+  same_fails records rest j k (inr a) (inl b) = absurd (fault-stops file (last_of [] records) (length records) rest k b (covered_behind file records rest j a))
+  same_fails records rest j k (inr a) (inr b) = covered_kind file records rest j a ∙ sym (covered_kind file records rest k b)
+
+  fails_and_more : (records : List (List ℕ)) (rest : List ℕ) (kind : RecordFaultKind) → Fails file records rest kind → IsTrailing file (last_of [] records) (length records) rest → ⊥
+  fails_and_more records rest kind (inl a) t = no_fault_and_more (last_of [] records) (length records) rest kind a t
+  fails_and_more records rest kind (inr a) t = end-stops file (last_of [] records) rest t.end (covered_behind file records rest kind a)
+
   one_behind : (records : List (List ℕ)) (rest : List ℕ) (f g : RecordFault) → IsFaultBehind file records rest f → IsFaultBehind file records rest g → f ≡ g
-  one_behind records rest f g (inl a) (inl b) = fault_eq f g (same_kind (last_of [] records) (length records) rest f.kind g.kind a.0 b.0) (a.1 ∙ sym b.1)
-  one_behind records rest f g (inl a) (inr b) = absurd (no_fault_and_more (last_of [] records) (length records) rest f.kind a.0 b.1)
-  one_behind records rest f g (inr a) (inl b) = absurd (no_fault_and_more (last_of [] records) (length records) rest g.kind b.0 a.1)
+  one_behind records rest f g (inl a) (inl b) = fault_eq f g (same_fails records rest f.kind g.kind a.0 b.0) (a.1 ∙ sym b.1)
+  one_behind records rest f g (inl a) (inr b) = absurd (fails_and_more records rest f.kind a.0 b.1)
+  one_behind records rest f g (inr a) (inl b) = absurd (fails_and_more records rest g.kind b.0 a.1)
   one_behind records rest f g (inr a) (inr b) = fault_eq f g (a.0 ∙ sym b.0) (a.2 ∙ sym b.2)
 
   pub one_fault : (t : List ℕ) (f g : RecordFault) → IsFaultOf file t f → IsFaultOf file t g → f ≡ g
@@ -176,46 +220,51 @@ module _ (file : TextKind) where
   one_fault t f g (inl a) (inr b) = absurd (no_magic_fault t (concat b.0 ++ b.1.rest) f.kind b.1.whole a.0)
   one_fault t f g (inr a) (inl b) = absurd (no_magic_fault t (concat a.0 ++ a.1.rest) g.kind a.1.whole b.0)
   one_fault t f g (inr a) (inr b) =
-      let same = unique file a.0 b.0 [] a.1.rest b.1.rest a.1.ordered b.1.ordered (behind_magic file t (concat a.0 ++ a.1.rest) (concat b.0 ++ b.1.rest) a.1.whole b.1.whole) (behind_stops a.0 a.1.rest f a.3) (behind_stops b.0 b.1.rest g b.3) in
+      let same = unique file a.0 b.0 a.1.rest b.1.rest a.1.ordered a.1.apart b.1.ordered b.1.apart (behind_magic file t (concat a.0 ++ a.1.rest) (concat b.0 ++ b.1.rest) a.1.whole b.1.whole) (behind_stops a.0 a.1.rest f a.3) (behind_stops b.0 b.1.rest g b.3) in
       let here : IsFaultBehind file b.0 b.1.rest f = subst (λ (x : List ℕ). IsFaultBehind file b.0 x f) same.1 (subst (λ (x : List (List ℕ)). IsFaultBehind file x a.1.rest f) same.0 a.3) in
       one_behind b.0 b.1.rest f g here b.3
 
   -- ---- a text, and what stands behind it
 
-  module _ (t : List ℕ) (xs : List (List ℕ)) (more : List ℕ) (ordered : InOrder file [] xs) (text : t ≡ text_of file xs ++ more) (alone : file ≡ Operations_file → more ≡ []) where
+  module _ (t : List ℕ) (xs : List (List ℕ)) (more : List ℕ) (ordered : InOrder file [] xs) (apart : AreApart file xs) (text : t ≡ text_of file xs ++ more) (alone : file ≡ Operations_file → more ≡ []) where
     whole : t ≡ magic_of file ++ (concat xs ++ (ending file (length xs) ++ more))
     whole = text ∙ append_assoc (magic_of file) (concat xs ++ ending file (length xs)) more ∙ ap (λ (x : List ℕ). magic_of file ++ x) (append_assoc (concat xs) (ending file (length xs)) more)
 
-    same_front : (records : List (List ℕ)) (front : IsGoodFront file t records) → (Takes file (last_of [] records) front.rest → ⊥) → (records ≡ xs) × (front.rest ≡ ending file (length xs) ++ more)
+    same_front : (records : List (List ℕ)) (front : IsGoodFront file t records) → (Goes file records front.rest → ⊥) → (records ≡ xs) × (front.rest ≡ ending file (length xs) ++ more)
     same_front records front stop =
-        unique file records xs [] front.rest (ending file (length xs) ++ more) front.ordered ordered (behind_magic file t (concat records ++ front.rest) (concat xs ++ (ending file (length xs) ++ more)) front.whole whole) stop
-        (ending_stops file (last_of [] xs) (length xs) more alone)
+        unique file records xs front.rest (ending file (length xs) ++ more) front.ordered front.apart ordered apart (behind_magic file t (concat records ++ front.rest) (concat xs ++ (ending file (length xs) ++ more)) front.whole whole) stop
+        (λ g. ending_stops file (last_of [] xs) (length xs) more alone g.next)
 
     pub no_fault_behind : (records : List (List ℕ)) (front : IsGoodFront file t records) (fault : RecordFault) → (file ≢ Operations_file → length records ≡ length xs → length xs < 2 ^ 64) → (fault.kind ≡ Trailing → more ≡ []) → IsUnended file front.rest → IsFaultBehind file records front.rest fault → ⊥
-    no_fault_behind records front fault few all unended (inl f) =
-        let same = same_front records front (behind_stops records front.rest fault (inl f)) in
-        let here = subst (λ (r : List ℕ). FailsNext file (last_of [] xs) (length xs) r fault.kind) same.1 (subst (λ (x : List (List ℕ)). FailsNext file (last_of [] x) (length x) front.rest fault.kind) same.0 f.0) in
+    no_fault_behind records front fault few all unended (inl (inr c, o)) =
+        let same = same_front records front (behind_stops records front.rest fault (inl (inr c, o))) in
+        let here : Takes file (last_of [] xs) (ending file (length xs) ++ more) = subst (λ (r : List ℕ). Takes file (last_of [] xs) r) same.1 (subst (λ (x : List (List ℕ)). Takes file (last_of [] x) front.rest) same.0 (covered_behind file records front.rest fault.kind c)) in
+        ending_stops file (last_of [] xs) (length xs) more alone here
+    no_fault_behind records front fault few all unended (inl (inl f, o)) =
+        let same = same_front records front (behind_stops records front.rest fault (inl (inl f, o))) in
+        let here = subst (λ (r : List ℕ). FailsNext file (last_of [] xs) (length xs) r fault.kind) same.1 (subst (λ (x : List (List ℕ)). FailsNext file (last_of [] x) (length x) front.rest fault.kind) same.0 f) in
         no_fails file (last_of [] xs) (length xs) more fault.kind (λ counts. few counts (ap length same.0)) alone (subst (IsUnended file) same.1 unended) here
     no_fault_behind records front fault few all unended (inr f) =
         let same = same_front records front (behind_stops records front.rest fault (inr f)) in
         omega (arith, f.1.more, ap length same.1, length-append (ending file (length xs)) more, ap length (all f.0), length-ending file (length xs))
 
     -- whatever follows them, no other records begin it
-    pub same_records : (ys : List (List ℕ)) (left : List ℕ) → InOrder file [] ys → (file ≡ Operations_file → left ≡ []) → t ≡ text_of file ys ++ left → (ys ≡ xs) × (left ≡ more)
-    same_records ys left a last e =
+    pub same_records : (ys : List (List ℕ)) (left : List ℕ) → InOrder file [] ys → AreApart file ys → (file ≡ Operations_file → left ≡ []) → t ≡ text_of file ys ++ left → (ys ≡ xs) × (left ≡ more)
+    same_records ys left a aa last e =
         let front : IsGoodFront file t ys = record {
           ordered = a;
+          apart = aa;
           rest = ending file (length ys) ++ left;
           whole = e ∙ append_assoc (magic_of file) (concat ys ++ ending file (length ys)) left ∙ ap (λ (x : List ℕ). magic_of file ++ x) (append_assoc (concat ys) (ending file (length ys)) left);
         } in
-        let same = same_front ys front (ending_stops file (last_of [] ys) (length ys) left last) in
+        let same = same_front ys front (λ g. ending_stops file (last_of [] ys) (length ys) left last g.next) in
         let tail : ending file (length ys) ++ left ≡ ending file (length ys) ++ more = same.1 ∙ ap (λ (x : List (List ℕ)). ending file (length x) ++ more) (sym same.0) in
         (same.0, append_cancel_left (ending file (length ys)) left more tail)
 
   -- a text has no fault
-  pub no_fault : (t : List ℕ) (xs : List (List ℕ)) → InOrder file [] xs → t ≡ text_of file xs → (fault : RecordFault) → length xs < 2 ^ 64 → IsFaultOf file t fault → ⊥
-  no_fault t xs ordered text fault few (inl m) = no_magic_fault t (concat xs ++ ending file (length xs)) fault.kind text m.0
-  no_fault t xs ordered text fault few (inr f) = no_fault_behind t xs [] ordered (text ∙ sym (append-nil (text_of file xs))) (λ _. refl) f.0 f.1 fault (λ _ _. few) (λ _. refl) f.2 f.3
+  pub no_fault : (t : List ℕ) (xs : List (List ℕ)) → InOrder file [] xs → AreApart file xs → t ≡ text_of file xs → (fault : RecordFault) → length xs < 2 ^ 64 → IsFaultOf file t fault → ⊥
+  no_fault t xs ordered apart text fault few (inl m) = no_magic_fault t (concat xs ++ ending file (length xs)) fault.kind text m.0
+  no_fault t xs ordered apart text fault few (inr f) = no_fault_behind t xs [] ordered apart (text ∙ sym (append-nil (text_of file xs))) (λ _. refl) f.0 f.1 fault (λ _ _. few) (λ _. refl) f.2 f.3
 
 -- ---- contents
 
@@ -223,7 +272,7 @@ module _ (file : TextKind) where
 pub one_front : (t : List ℕ) (o p : Operations) (m n : List ℕ) → IsContent o → IsContent p → t ≡ written o ++ m → t ≡ written p ++ n → (o ≡ p) × (m ≡ n)
 one_front t o p m n c d e f =
     let other : t ≡ text_of Archive (listing p) ++ n = f ∙ ap (λ (x : List ℕ). x ++ n) (written_text p) in
-    let same = same_records Archive t (listing p) n (InOrder-listing p d) other (λ h. absurd cc) (listing o) m (InOrder-listing o c) (λ h. absurd cc) (e ∙ ap (λ (x : List ℕ). x ++ m) (written_text o)) in
+    let same = same_records Archive t (listing p) n (InOrder-listing p d) (apart_listing p d) other (λ h. absurd cc) (listing o) m (InOrder-listing o c) (apart_listing o c) (λ h. absurd cc) (e ∙ ap (λ (x : List ℕ). x ++ m) (written_text o)) in
     (content_is o ∙ ap set.from_list same.0 ∙ sym (content_is p), same.1)
 
 pub one_content : (o p : Operations) → IsContent o → IsContent p → written o ≡ written p → o ≡ p

@@ -4,13 +4,13 @@ use Rattle.std.proofs.lemmas.Bool.{cases_Bool, false≢true}
 use Rattle.archive_records.specs.declared.kind.TextKind.{TextKind}
 use Rattle.archive_records.specs.declared.kind.TextKind.TheVariants.{Archive, Operations, Summary}
 use Rattle.archive_records.specs.declared.fault.RecordFaultKind.{RecordFaultKind}
-use Rattle.archive_records.specs.declared.fault.RecordFaultKind.TheVariants.{BadMagic, Truncated, BadTag, TooLarge, NotAscending, BadSlice, KeyMismatch, BadCount, Trailing, Device, OutOfMemory}
+use Rattle.archive_records.specs.declared.fault.RecordFaultKind.TheVariants.{BadMagic, Truncated, BadTag, TooLarge, NotAscending, BadSlice, KeyMismatch, BadCount, Trailing, Device, OutOfMemory, Covered}
 use Rattle.archive_records.specs.declared.fault.RecordFault.{RecordFault}
 use Rattle.archive_core.specs.declared.faults.SliceFault.{SliceFault}
 use Rattle.archive_records.specs.Layout.{head_length, body_length, record_count, largest_slice, framed, framed_by, framed_behind}
 use Rattle.archive_records.specs.Kind.{allows, may_follow}
 use Rattle.archive_records.specs.Text.{last_of}
-use Rattle.archive_records.specs.Fault.{is_end, tested, next, next_by, FailsNext, IsMagicFault, IsUnended, IsFaultBehind, IsOperationsFault, IsSummaryFault, IsOfText}
+use Rattle.archive_records.specs.Fault.{Refuses, is_end, tested, next, next_by, FailsNext, IsMagicFault, IsUnended, IsFaultBehind, IsOperationsFault, IsSummaryFault, IsOfText}
 use Rattle.archive_records.specs.declared.buffer.Buffer.{Buffer}
 use Rattle.archive_records.specs.Reading.{Blames}
 use Rattle.archive_records.specs.Reader.{bytes_so_far, seen_as, StopsInMagic}
@@ -112,6 +112,43 @@ fails_not_trailing file low count rest (inl e) =
 pub never_trailing : (file : TextKind) (low : List ℕ) (count : ℕ) (rest : List ℕ) (kind : RecordFaultKind) → FailsNext file low count rest (seen_as kind) → kind ≢ Trailing
 never_trailing file low count rest kind f t = fails_not_trailing file low count rest (subst (λ (k : RecordFaultKind). FailsNext file low count rest (seen_as k)) t f)
 
+-- nor is that a record is covered told by the tests that know the last record alone
+refused_not_covered : (file : TextKind) (bytes : List ℕ) → Refuses file bytes Covered → ⊥
+refused_not_covered Archive bytes f = f
+refused_not_covered Operations bytes f = f
+refused_not_covered Summary bytes f = f
+
+form_not_covered : (kind : RecordFaultKind) → kind ≡ Covered → (kind ≡ Truncated) ⊎ (kind ≡ BadTag) ⊎ (kind ≡ TooLarge) → ⊥
+form_not_covered kind t (inl e) = apart (sym e ∙ t)
+  where
+    apart : Truncated ≡ Covered → ⊥
+    apart h = cc
+form_not_covered kind t (inr (inl e)) = apart (sym e ∙ t)
+  where
+    apart : BadTag ≡ Covered → ⊥
+    apart h = cc
+form_not_covered kind t (inr (inr e)) = apart (sym e ∙ t)
+  where
+    apart : TooLarge ≡ Covered → ⊥
+    apart h = cc
+
+pub fails_not_covered : (file : TextKind) (low : List ℕ) (count : ℕ) (rest : List ℕ) → FailsNext file low count rest Covered → ⊥
+fails_not_covered file low count rest (inr f) = refused_not_covered file (take f.0 rest) f.2
+fails_not_covered file low count rest (inl e) =
+    elim (next_kind file low count rest Covered e) [
+      | inl form ↦ form_not_covered Covered refl form
+      | inr whole ↦ elim whole.2 [
+        | inl count' ↦ bad_count count'.1
+        | inr order ↦ not_ascending order.1
+      ]
+    ]
+  where
+    bad_count : Covered ≡ BadCount → ⊥
+    bad_count h = cc
+
+    not_ascending : Covered ≡ NotAscending → ⊥
+    not_ascending h = cc
+
 pub magic_never_trailing : (file : TextKind) (bytes : List ℕ) (kind : RecordFaultKind) → StopsInMagic file bytes kind → kind ≢ Trailing
 magic_never_trailing file bytes kind s t = none (subst (StopsInMagic file bytes) t s)
   where
@@ -140,6 +177,7 @@ as_itself (BadSlice fault) known = refl
 as_itself KeyMismatch known = refl
 as_itself BadCount known = refl
 as_itself Trailing known = refl
+as_itself Covered known = refl
 
 -- where nothing is left, a part is all that is missing
 empty_fails : (file : TextKind) (low : List ℕ) (count : ℕ) (kind : RecordFaultKind) → FailsNext file low count [] kind → kind ≡ Truncated
@@ -220,7 +258,8 @@ operations_faults text fault (inl m) = magic_fault text fault.kind m.0
 operations_faults text fault (inr f) = behind f.0 f.1.rest f.3
   where
     behind : (records : List (List ℕ)) (rest : List ℕ) → IsFaultBehind Operations records rest fault → (fault.kind ≢ NotAscending) × (fault.kind ≢ BadCount) × (fault.kind ≢ Trailing)
-    behind records rest (inl b) = operations_fail (last_of [] records) (length records) rest fault.kind b.0
+    behind records rest (inl (inl b, o)) = operations_fail (last_of [] records) (length records) rest fault.kind b
+    behind records rest (inl (inr b, o)) = absurd b
     behind records rest (inr t) = absurd (no_end rest 9 (next-framed Operations (last_of [] records) (length records) rest 9 t.1.whole) (is_three rest t.1.end))
 
 -- ---- a summary
@@ -338,7 +377,8 @@ never_large text fault (inl m) e = subst (IsMagicFault Summary text) e m.0
 never_large text fault (inr f) e = behind f.3
   where
     behind : IsFaultBehind Summary f.0 f.1.rest fault → ⊥
-    behind (inl b) = not_large (last_of [] f.0) (length f.0) f.1.rest (subst (FailsNext Summary (last_of [] f.0) (length f.0) f.1.rest) e b.0)
+    behind (inl (inl b, o)) = not_large (last_of [] f.0) (length f.0) f.1.rest (subst (FailsNext Summary (last_of [] f.0) (length f.0) f.1.rest) e b)
+    behind (inl (inr b, o)) = b
     behind (inr t) = (trailing_other fault.kind t.0).0 e
 
 pub never_slice : (text : List ℕ) (fault : RecordFault) (why : SliceFault) → IsSummaryFault text fault → fault.kind ≢ BadSlice why
@@ -346,7 +386,8 @@ never_slice text fault why (inl m) e = subst (IsMagicFault Summary text) e m.0
 never_slice text fault why (inr f) e = behind f.3
   where
     behind : IsFaultBehind Summary f.0 f.1.rest fault → ⊥
-    behind (inl b) = no_slice why (subst IsBeforeSlice e (before_slice (last_of [] f.0) (length f.0) f.1.rest fault.kind b.0))
+    behind (inl (inl b, o)) = no_slice why (subst IsBeforeSlice e (before_slice (last_of [] f.0) (length f.0) f.1.rest fault.kind b))
+    behind (inl (inr b, o)) = b
     behind (inr t) = (trailing_other fault.kind t.0).1 why e
 
 pub never_key : (text : List ℕ) (fault : RecordFault) → IsSummaryFault text fault → fault.kind ≢ KeyMismatch
@@ -354,7 +395,8 @@ never_key text fault (inl m) e = subst (IsMagicFault Summary text) e m.0
 never_key text fault (inr f) e = behind f.3
   where
     behind : IsFaultBehind Summary f.0 f.1.rest fault → ⊥
-    behind (inl b) = no_key (subst IsBeforeSlice e (before_slice (last_of [] f.0) (length f.0) f.1.rest fault.kind b.0))
+    behind (inl (inl b, o)) = no_key (subst IsBeforeSlice e (before_slice (last_of [] f.0) (length f.0) f.1.rest fault.kind b))
+    behind (inl (inr b, o)) = b
     behind (inr t) = (trailing_other fault.kind t.0).2 e
 
 -- want of memory says that the reader did not fail

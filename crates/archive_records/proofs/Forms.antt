@@ -12,7 +12,7 @@ use Rattle.archive_core.specs.declared.slices.SliceFacts.{SliceFacts}
 use Rattle.archive_core.proofs.Compare.{length_key_bytes}
 use Rattle.archive_core.proofs.Records.{length-key_of}
 use Rattle.archive_records.specs.declared.fault.RecordFaultKind.{RecordFaultKind}
-use Rattle.archive_records.specs.declared.fault.RecordFaultKind.TheVariants.{BadMagic, Truncated, BadTag, TooLarge, NotAscending, BadSlice, KeyMismatch, BadCount, Trailing, Device, OutOfMemory}
+use Rattle.archive_records.specs.declared.fault.RecordFaultKind.TheVariants.{BadMagic, Truncated, BadTag, TooLarge, NotAscending, BadSlice, KeyMismatch, BadCount, Trailing, Device, OutOfMemory, Covered}
 use Rattle.archive_records.specs.Layout.{head_length, slice_length, admission_body, body_length, framed}
 use Rattle.archive_records.specs.Kind.{IsItem, admission_length}
 use Rattle.archive_records.specs.Entry.{IsEntry}
@@ -105,6 +105,7 @@ record-slice r BadCount i f = f
 record-slice r Trailing i f = f
 record-slice r Device i f = f
 record-slice r OutOfMemory i f = f
+record-slice r Covered i f = f
 
 cons_both : (a b : ℕ) (xs ys : List ℕ) → a ≡ b → xs ≡ ys → a ∷ xs ≡ b ∷ ys
 cons_both a b xs ys p q = cc

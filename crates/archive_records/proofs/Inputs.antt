@@ -14,22 +14,23 @@ use Rattle.archive_core.specs.Content.{Operations, IsContent}
 use Rattle.archive_core.specs.Summary.{Entries}
 use Rattle.archive_records.specs.Entry.{AreEntries}
 use Rattle.archive_records.specs.declared.fault.RecordFaultKind.{RecordFaultKind}
-use Rattle.archive_records.specs.declared.fault.RecordFaultKind.TheVariants.{BadMagic, Truncated, BadTag, TooLarge, NotAscending, BadSlice, KeyMismatch, BadCount, Trailing, Device, OutOfMemory}
+use Rattle.archive_records.specs.declared.fault.RecordFaultKind.TheVariants.{BadMagic, Truncated, BadTag, TooLarge, NotAscending, BadSlice, KeyMismatch, BadCount, Trailing, Device, OutOfMemory, Covered}
 use Rattle.archive_records.specs.declared.fault.RecordFault.{RecordFault}
 use Rattle.archive_records.specs.Kind.{magic_of}
-use Rattle.archive_records.specs.Text.{ending, text_of, InOrder, last_of, written, summary_text, IsOperationsText}
-use Rattle.archive_records.specs.Fault.{is_end, IsMagicFault, IsFaultBehind, IsUnended, IsOperationsFault, IsSummaryFault, IsFaultOf, IsOfText}
+use Rattle.archive_records.specs.Text.{ending, text_of, InOrder, AreApart, last_of, written, summary_text, IsOperationsText}
+use Rattle.archive_records.specs.Fault.{is_end, FailsBehind, Fails, IsMagicFault, IsFaultBehind, IsUnended, IsOperationsFault, IsSummaryFault, IsFaultOf, IsOfText}
 use Rattle.archive_records.specs.Front.{IsGoodFront, IsFrontLengthOf, IsLongestLengthOf, front_length}
 use Rattle.archive_records.specs.Reading.{Blames, StandsBehind, IsRefused, IsOfMachine, ReadsWhole, ReadsFront}
 use Rattle.archive_records.specs.Reader.{FaultBlamesReader, seen_as, StopsInMagic, Stops, HasStopped, IsReadTo, AreRead}
 use Rattle.archive_records.proofs.Grown.{Fails-grows, IsTrailing-grows}
-use Rattle.archive_records.proofs.Longest.{Takes, fault-stops, end-stops, is_longest}
+use Rattle.archive_records.proofs.Longest.{Goes, end-stops, is_longest}
+use Rattle.archive_records.proofs.Apart.{apart_listing}
 use Rattle.archive_records.proofs.Puts.{bytes_same, length_written}
 use Rattle.archive_records.proofs.Ends.{end-is_end}
 use Rattle.archive_records.proofs.Contents.{sorted-InOrder, sorted-entries, IsContent-records, written-records, written_text, InOrder-listing, InOrder-entries, AreEntries-entries, summary_text_is, summary_text-entries, content_is as set_is}
 use Rattle.archive_records.proofs.FaultKinds.{as_itself}
 use Rattle.archive_records.proofs.Listed.{InOrder-operations, IsOperationsText-text, text_is, one_list}
-use Rattle.archive_records.proofs.Exact.{no_magic_fault, no_fault, no_fault_behind, same_records, one_front}
+use Rattle.archive_records.proofs.Exact.{fails_stop, no_magic_fault, no_fault, no_fault_behind, same_records, one_front}
 use Rattle.archive_records.specs.declared.kind.TextKind.{TextKind}
 use Rattle.archive_records.specs.declared.kind.TextKind.TheVariants.{Archive, Operations as Operations_file, Summary as Summary_file}
 
@@ -45,6 +46,7 @@ of_text (BadSlice fault) = inl ((λ e. cc), λ e. cc)
 of_text KeyMismatch = inl ((λ e. cc), λ e. cc)
 of_text BadCount = inl ((λ e. cc), λ e. cc)
 of_text Trailing = inl ((λ e. cc), λ e. cc)
+of_text Covered = inl ((λ e. cc), λ e. cc)
 
 part_or_not : (kind : RecordFaultKind) → (kind ≡ Truncated) ⊎ (kind ≢ Truncated)
 part_or_not Truncated = inl refl
@@ -58,6 +60,7 @@ part_or_not BadCount = inr (λ e. cc)
 part_or_not Trailing = inr (λ e. cc)
 part_or_not Device = inr (λ e. cc)
 part_or_not OutOfMemory = inr (λ e. cc)
+part_or_not Covered = inr (λ e. cc)
 
 -- ---- the text of an archive that was read
 
@@ -65,7 +68,7 @@ pub IsReadTo-taken : (a b : Option (List ℕ)) (o : Operations) → IsReadTo Arc
 IsReadTo-taken a b o r = subst (Consumes a b) (sym (ap written r.content ∙ written-records r.records r.ordered)) r.taken
 
 pub IsReadTo-content : (a b : Option (List ℕ)) (o : Operations) → IsReadTo Archive a b o → IsContent o
-IsReadTo-content a b o r = subst IsContent (sym r.content) (IsContent-records r.records r.ordered)
+IsReadTo-content a b o r = subst IsContent (sym r.content) (IsContent-records r.records r.ordered r.apart)
 
 pub IsReadTo-few : (a b : Option (List ℕ)) (o : Operations) → IsReadTo Archive a b o → set.len o < 2 ^ 63
 IsReadTo-few a b o r =
@@ -101,6 +104,7 @@ IsMagicFault-grows file bytes more BadCount p b = b
 IsMagicFault-grows file bytes more Trailing p b = b
 IsMagicFault-grows file bytes more Device p b = b
 IsMagicFault-grows file bytes more OutOfMemory p b = b
+IsMagicFault-grows file bytes more Covered p b = b
 
 device_memory : Device ≡ OutOfMemory → ⊥
 device_memory h = cc
@@ -111,9 +115,25 @@ trailing_device h = cc
 trailing_memory : Trailing ≡ OutOfMemory → ⊥
 trailing_memory h = cc
 
+covered_grows : (file : TextKind) (records : List (List ℕ)) (rest more : List ℕ) (kind : RecordFaultKind) → FailsBehind file records rest kind → FailsBehind file records (rest ++ more) kind
+covered_grows Archive records rest more kind f = (f.0, record {
+  item = f.1.item;
+  more = f.1.more ++ more;
+  whole = ap (λ (x : List ℕ). x ++ more) f.1.whole ∙ append_assoc f.1.item f.1.more more;
+  is = f.1.is;
+  above = f.1.above;
+  covered = f.1.covered;
+})
+covered_grows Operations_file records rest more kind f = f
+covered_grows Summary_file records rest more kind f = f
+
 module _ (file : TextKind) where
+  fails_grow : (records : List (List ℕ)) (rest more : List ℕ) (kind : RecordFaultKind) → kind ≢ Truncated → Fails file records rest kind → Fails file records (rest ++ more) kind
+  fails_grow records rest more kind p (inl f) = inl (Fails-grows file (last_of [] records) (length records) rest more kind p f)
+  fails_grow records rest more kind p (inr f) = inr (covered_grows file records rest more kind f)
+
   behind_grows : (records : List (List ℕ)) (rest more : List ℕ) (fault : RecordFault) → fault.kind ≢ Truncated → IsFaultBehind file records rest fault → IsFaultBehind file records (rest ++ more) fault
-  behind_grows records rest more fault p (inl f) = inl (Fails-grows file (last_of [] records) (length records) rest more fault.kind p f.0, f.1)
+  behind_grows records rest more fault p (inl f) = inl (fails_grow records rest more fault.kind p f.0, f.1)
   behind_grows records rest more fault p (inr f) = inr (f.0, IsTrailing-grows file (last_of [] records) (length records) rest more f.1, f.2)
 
   pub magic_stop : (bytes : List ℕ) (kind : RecordFaultKind) → IsOfText kind → StopsInMagic file bytes kind → IsMagicFault file bytes kind
@@ -155,7 +175,7 @@ module _ (file : TextKind) where
       let records = s.0 in
       let rest = s.1.rest in
       let whole : t ≡ magic_of file ++ (concat records ++ (rest ++ ys)) = s.1.taken ∙ append_assoc (magic_of file) (concat records ++ rest) ys ∙ ap (λ (x : List ℕ). magic_of file ++ x) (append_assoc (concat records) rest ys) in
-      inr (records, record { ordered = s.1.ordered; rest = rest ++ ys; whole = whole }, s.1.few, unended_grows file rest ys (s.1.unended known), grown_behind records rest ys fault ended (record_stop records rest fault known s.1.stops))
+      inr (records, record { ordered = s.1.ordered; apart = s.1.apart; rest = rest ++ ys; whole = whole }, s.1.few, unended_grows file rest ys (s.1.unended known), grown_behind records rest ys fault ended (record_stop records rest fault known s.1.stops))
 
   few_fault : (t : List ℕ) (fault : RecordFault) → FewFault t fault → IsFaultOf file t fault
   unfolding FewFault
@@ -168,19 +188,19 @@ module _ (file : TextKind) where
   HasStopped-fault (Some t) b fault s ended known = few_fault t fault (stopped_few t b fault s ended known)
 
   -- a text is not refused
-  not_refused : (t : List ℕ) (xs : List (List ℕ)) (more : List ℕ) (fault : RecordFault) → InOrder file [] xs → t ≡ text_of file xs ++ more → (file ≡ Operations_file → more ≡ []) → (fault.kind ≡ Trailing → more ≡ []) → FewFault t fault → ⊥
+  not_refused : (t : List ℕ) (xs : List (List ℕ)) (more : List ℕ) (fault : RecordFault) → InOrder file [] xs → AreApart file xs → t ≡ text_of file xs ++ more → (file ≡ Operations_file → more ≡ []) → (fault.kind ≡ Trailing → more ≡ []) → FewFault t fault → ⊥
   unfolding FewFault
-  not_refused t xs more fault ordered e alone all (inl m) =
+  not_refused t xs more fault ordered apart e alone all (inl m) =
       no_magic_fault file t ((concat xs ++ ending file (length xs)) ++ more) fault.kind (e ∙ append_assoc (magic_of file) (concat xs ++ ending file (length xs)) more) m.0
-  not_refused t xs more fault ordered e alone all (inr f) =
+  not_refused t xs more fault ordered apart e alone all (inr f) =
       let few = f.2 in
-      no_fault_behind file t xs more ordered e alone f.0 f.1 fault (λ _ same. omega arith) all f.3 f.4
+      no_fault_behind file t xs more ordered apart e alone f.0 f.1 fault (λ _ same. omega arith) all f.3 f.4
 
-  pub machine_alone : (t : List ℕ) (b : Option (List ℕ)) (xs : List (List ℕ)) (more : List ℕ) (fault : RecordFault) → HasStopped file (Some t) b fault → (fault.kind ≡ Truncated → IsAtEnd b) → InOrder file [] xs → t ≡ text_of file xs ++ more
+  pub machine_alone : (t : List ℕ) (b : Option (List ℕ)) (xs : List (List ℕ)) (more : List ℕ) (fault : RecordFault) → HasStopped file (Some t) b fault → (fault.kind ≡ Truncated → IsAtEnd b) → InOrder file [] xs → AreApart file xs → t ≡ text_of file xs ++ more
       → (file ≡ Operations_file → more ≡ []) → (fault.kind ≡ Trailing → more ≡ []) → (fault.kind ≡ Device) ⊎ (fault.kind ≡ OutOfMemory)
-  machine_alone t b xs more fault s ended ordered e alone all =
+  machine_alone t b xs more fault s ended ordered apart e alone all =
       elim (of_text fault.kind) [
-        | inl known ↦ absurd (not_refused t xs more fault ordered e alone all (stopped_few t b fault s ended known))
+        | inl known ↦ absurd (not_refused t xs more fault ordered apart e alone all (stopped_few t b fault s ended known))
         | inr machine ↦ machine
       ]
 
@@ -191,12 +211,12 @@ module _ (file : TextKind) where
   device_magic bytes kind e (inr (inl d)) = d.1
   device_magic bytes kind e (inr (inr d)) = d.1
 
-  device_stops : (records : List (List ℕ)) (rest : List ℕ) (fault : RecordFault) → fault.kind ≡ Device → Stops file records rest fault → Takes file (last_of [] records) rest → ⊥
-  device_stops records rest fault e (inl f) =
+  device_stops : (records : List (List ℕ)) (rest : List ℕ) (fault : RecordFault) → fault.kind ≡ Device → Stops file records rest fault → Goes file records rest → ⊥
+  device_stops records rest fault e (inl f) g =
       let known : fault.kind ≢ OutOfMemory = λ o. device_memory (sym e ∙ o) in
-      fault-stops file (last_of [] records) (length records) rest (seen_as fault.kind) (f.1 known)
-  device_stops records rest fault e (inr (inl t)) = end-stops file (last_of [] records) rest t.1.end
-  device_stops records rest fault e (inr (inr d)) = end-stops file (last_of [] records) rest (subst (λ (x : List ℕ). is_end x ≡ true) (sym d.1) (end-is_end (length records)))
+      fails_stop file records rest (seen_as fault.kind) (f.1 known) g
+  device_stops records rest fault e (inr (inl t)) g = end-stops file (last_of [] records) rest t.1.end g.next
+  device_stops records rest fault e (inr (inr d)) g = end-stops file (last_of [] records) rest (subst (λ (x : List ℕ). is_end x ≡ true) (sym d.1) (end-is_end (length records))) g.next
 
   device_offset : (records : List (List ℕ)) (rest : List ℕ) (fault : RecordFault) → fault.kind ≡ Device → Stops file records rest fault → fault.offset ≡ front_length records
   device_offset records rest fault e (inl f) = f.0
@@ -209,7 +229,7 @@ module _ (file : TextKind) where
       let records = s.0 in
       let rest = s.1.rest in
       let bytes : List ℕ = magic_of file ++ (concat records ++ rest) in
-      let front : IsGoodFront file bytes records = record { ordered = s.1.ordered; rest = rest; whole = refl } in
+      let front : IsGoodFront file bytes records = record { ordered = s.1.ordered; apart = s.1.apart; rest = rest; whole = refl } in
       (bytes, s.1.taken, inr (records, is_longest file bytes records front (device_stops records rest fault e s.1.stops), device_offset records rest fault e s.1.stops))
 
   -- ---- want of memory
@@ -230,7 +250,7 @@ module _ (file : TextKind) where
       let records = s.0 in
       let rest = s.1.rest in
       let bytes : List ℕ = magic_of file ++ (concat records ++ rest) in
-      let front : IsGoodFront file bytes records = record { ordered = s.1.ordered; rest = rest; whole = refl } in
+      let front : IsGoodFront file bytes records = record { ordered = s.1.ordered; apart = s.1.apart; rest = rest; whole = refl } in
       (bytes, s.1.taken, inr (records, front, memory_offset records rest fault e s.1.stops))
 
   pub is_refused : {R : Type 0} (left : R → Option (List ℕ)) (failures : R → ℕ) (old new : R) (fault : RecordFault) → HasStopped file (left old) (left new) fault → Blames left failures old new fault.kind → IsRefused file left failures old new fault
@@ -252,7 +272,7 @@ front_alone t (Some ys) o p rest h content is =
 
 front_machine : (t : List ℕ) (b : Option (List ℕ)) (fault : RecordFault) (p : Operations) (rest : List ℕ) → HasStopped Archive (Some t) b fault → (fault.kind ≡ Truncated → IsAtEnd b) → (fault.kind ≡ Trailing → rest ≡ []) → IsContent p → t ≡ written p ++ rest → IsOfMachine fault.kind
 front_machine t b fault p rest stopped ended all content is =
-    machine_alone Archive t b (listing p) rest fault stopped ended (InOrder-listing p content) (is ∙ ap (λ (x : List ℕ). x ++ rest) (written_text p)) (λ h. absurd cc) all
+    machine_alone Archive t b (listing p) rest fault stopped ended (InOrder-listing p content) (apart_listing p content) (is ∙ ap (λ (x : List ℕ). x ++ rest) (written_text p)) (λ h. absurd cc) all
 
 whole_alone : (a b : Option (List ℕ)) (o : Operations) → IsReadTo Archive a b o → IfSome a (λ t. (p : Operations) → IsContent p → t ≡ written p → o ≡ p)
 whole_alone None b o h = tt
@@ -302,7 +322,7 @@ archive_front content left failures old new (Err fault) h stopped other blames =
 pub one_operations : (t : List ℕ) (xs ys : List Operation) → IsOperationsText t xs → IsOperationsText t ys → xs ≡ ys
 one_operations t xs ys p q =
     let nil = append-nil (text_of Operations_file (map rec ys)) in
-    let same = same_records Operations_file t (map rec ys) [] (InOrder-operations [] ys q.are) (text_is t ys q ∙ sym nil) (λ _. refl) (map rec xs) [] (InOrder-operations [] xs p.are) (λ _. refl) (text_is t xs p ∙ sym (append-nil (text_of Operations_file (map rec xs)))) in
+    let same = same_records Operations_file t (map rec ys) [] (InOrder-operations [] ys q.are) tt (text_is t ys q ∙ sym nil) (λ _. refl) (map rec xs) [] (InOrder-operations [] xs p.are) tt (λ _. refl) (text_is t xs p ∙ sym (append-nil (text_of Operations_file (map rec xs)))) in
     one_list xs ys p.are q.are same.0
 
 operations_text : (a b : Option (List ℕ)) (xs : List Operation) → AreRead a b xs → IfSome a (λ t. IsOperationsText t xs)
@@ -319,7 +339,7 @@ operations_alone (Some t) b xs h = λ ys _ text. one_operations t xs ys (operati
 operations_machine : (a b : Option (List ℕ)) (fault : RecordFault) → HasStopped Operations_file a b fault → (fault.kind ≡ Truncated → IsAtEnd b) → IfSome a (λ t. (ys : List Operation) → All IsOperation ys → IsOperationsText t ys → IsOfMachine fault.kind)
 operations_machine None b fault stopped ended = tt
 operations_machine (Some t) b fault stopped ended = λ ys _ text.
-    machine_alone Operations_file t b (map rec ys) [] fault stopped ended (InOrder-operations [] ys text.are) (text_is t ys text ∙ sym (append-nil (text_of Operations_file (map rec ys)))) (λ _. refl) (λ _. refl)
+    machine_alone Operations_file t b (map rec ys) [] fault stopped ended (InOrder-operations [] ys text.are) tt (text_is t ys text ∙ sym (append-nil (text_of Operations_file (map rec ys)))) (λ _. refl) (λ _. refl)
 
 pub operations_whole : {R X : Type 0} (items : X → List Operation) (left : R → Option (List ℕ)) (failures : R → ℕ) (old new : R) (r : Result X RecordFault)
     → IfOk r (λ x. AreRead (left old) (left new) (items x)) → IfErr r (λ fault. HasStopped Operations_file (left old) (left new) fault) → FaultBlamesReader left failures old new r
@@ -339,7 +359,7 @@ pub operations_no_fault : (t : List ℕ) (xs : List Operation) (fault : RecordFa
 operations_no_fault t xs fault p (inl m) = no_magic_fault Operations_file t (concat (map rec xs)) fault.kind p.whole m.0
 operations_no_fault t xs fault p (inr f) =
     let nil = append-nil (text_of Operations_file (map rec xs)) in
-    no_fault_behind Operations_file t (map rec xs) [] (InOrder-operations [] xs p.are) (text_is t xs p ∙ sym nil) (λ _. refl) f.0 f.1 fault (λ counts. absurd (counts refl)) (λ _. refl) f.2 f.3
+    no_fault_behind Operations_file t (map rec xs) [] (InOrder-operations [] xs p.are) tt (text_is t xs p ∙ sym nil) (λ _. refl) f.0 f.1 fault (λ counts. absurd (counts refl)) (λ _. refl) f.2 f.3
 
 -- ---- a summary that is read
 
@@ -359,8 +379,8 @@ IsReadTo-few_entries a b s r =
 pub one_summary : (s t : Entries) → AreEntries s → AreEntries t → summary_text s ≡ summary_text t → s ≡ t
 one_summary s t p q e =
     let nil = append-nil (text_of Summary_file (listing t)) in
-    let same = same_records Summary_file (summary_text t) (listing t) [] (InOrder-entries t q) (summary_text_is t ∙ sym nil) (λ h. absurd (no_operations h))
-    (listing s) [] (InOrder-entries s p) (λ h. absurd (no_operations h)) (sym e ∙ summary_text_is s ∙ sym (append-nil (text_of Summary_file (listing s)))) in
+    let same = same_records Summary_file (summary_text t) (listing t) [] (InOrder-entries t q) tt (summary_text_is t ∙ sym nil) (λ h. absurd (no_operations h))
+    (listing s) [] (InOrder-entries s p) tt (λ h. absurd (no_operations h)) (sym e ∙ summary_text_is s ∙ sym (append-nil (text_of Summary_file (listing s)))) in
     set_is s ∙ ap set.from_list same.0 ∙ sym (set_is t)
   where
     no_operations : Summary_file ≡ Operations_file → ⊥
@@ -373,7 +393,7 @@ summary_alone (Some text) b s h end = λ t q is. one_summary s t (IsReadTo-entri
 summary_machine : (a b : Option (List ℕ)) (fault : RecordFault) → HasStopped Summary_file a b fault → (fault.kind ≡ Truncated → IsAtEnd b) → IfSome a (λ text. (t : Entries) → AreEntries t → text ≡ summary_text t → IsOfMachine fault.kind)
 summary_machine None b fault stopped ended = tt
 summary_machine (Some text) b fault stopped ended = λ t q is.
-    machine_alone Summary_file text b (listing t) [] fault stopped ended (InOrder-entries t q) (is ∙ summary_text_is t ∙ sym (append-nil (text_of Summary_file (listing t)))) (λ _. refl) (λ _. refl)
+    machine_alone Summary_file text b (listing t) [] fault stopped ended (InOrder-entries t q) tt (is ∙ summary_text_is t ∙ sym (append-nil (text_of Summary_file (listing t)))) (λ _. refl) (λ _. refl)
 
 pub summary_whole : {R X : Type 0} (content : X → Entries) (left : R → Option (List ℕ)) (failures : R → ℕ) (old new : R) (r : Result X RecordFault)
     → IfOk r (λ x. IsReadTo Summary_file (left old) (left new) (content x)) → OnOk r (IsAtEnd (left new)) → IfErr r (λ fault. HasStopped Summary_file (left old) (left new) fault) → FaultBlamesReader left failures old new r
@@ -390,4 +410,4 @@ summary_whole content left failures old new (Err fault) h end stopped blames = (
 
 -- and it has no fault
 pub summary_no_fault : (s : Entries) (fault : RecordFault) → AreEntries s → set.len s < 2 ^ 64 → IsSummaryFault (summary_text s) fault → ⊥
-summary_no_fault s fault are few f = no_fault Summary_file (summary_text s) (listing s) (InOrder-entries s are) (summary_text_is s) fault (omega (arith, length_written s)) f
+summary_no_fault s fault are few f = no_fault Summary_file (summary_text s) (listing s) (InOrder-entries s are) tt (summary_text_is s) fault (omega (arith, length_written s)) f

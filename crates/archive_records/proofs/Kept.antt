@@ -12,10 +12,11 @@ use Rattle.archive_core.specs.Part.{part}
 use Rattle.archive_core.proofs.Picked.{contains_part}
 use Rattle.archive_records.specs.declared.fault.RecordFault.{RecordFault}
 use Rattle.archive_records.specs.declared.kind.TextKind.TheVariants.{Archive}
+use Rattle.archive_records.specs.Text.{AreApart}
 use Rattle.archive_records.specs.Reading.{ReadsInPart}
 use Rattle.archive_records.specs.Reader.{FaultBlamesReader, HasStopped, IsPartReadTo}
 use Rattle.archive_records.proofs.Puts.{bytes_same}
-use Rattle.archive_records.proofs.Steps.{from_list-push}
+use Rattle.archive_records.proofs.Apart.{contains-push, part-push}
 use Rattle.archive_records.proofs.Inputs.{archive_whole}
 
 -- ---- one record more
@@ -24,7 +25,11 @@ tied : (q x : List ℕ) → eq_by_cmp (slice_cmp nat_cmp) q x ≡ true → q ≡
 tied q x h = bytes_same q x ((Equal-is (slice_cmp nat_cmp q x)).0 h)
 
 with_one : (records : List (List ℕ)) (x q : List ℕ) → set.contains (set.from_list {R = slice_cmp nat_cmp} (records ++ x ∷ [])) q ≡ (eq_by_cmp (slice_cmp nat_cmp) q x || set.contains (set.from_list {R = slice_cmp nat_cmp} records) q)
-with_one records x q = ap (λ (s : Operations). set.contains s q) (sym (from_list-push records x (set.from_list records) refl)) ∙ contains-insert nat_list_cmp_total (set.from_list records) x q
+with_one records x q = contains-push records x q
+
+within : (a b : Bool) → (a && b) ≡ true → a ≡ true
+within true b h = refl
+within false b h = h
 
 taken_in : (a b c : Bool) → (a ≡ true → c ≡ true) → (a || (b && c)) ≡ ((a || b) && c)
 taken_in true b c h = sym (h refl)
@@ -42,8 +47,8 @@ module _ (picks : List ℕ → Bool) (records : List (List ℕ)) (x : List ℕ) 
   new : (q : List ℕ) → set.contains (part (set.from_list (records ++ x ∷ [])) picks) q ≡ ((eq_by_cmp (slice_cmp nat_cmp) q x || set.contains (set.from_list {R = slice_cmp nat_cmp} records) q) && picks q)
   new q = contains_part (set.from_list (records ++ x ∷ [])) picks q ∙ ap (λ b. b && picks q) (with_one records x q)
 
-  pub picked_more : picks x ≡ true → (p : Operations) → p ≡ with_record o x → p ≡ part (set.from_list (records ++ x ∷ [])) picks
-  picked_more passes p e = e ∙ same_set nat_list_cmp_total bytes_same (set.insert o x) (part (set.from_list (records ++ x ∷ [])) picks) (λ q.
+  pub picked_more : picks x ≡ true → AreApart Archive (records ++ x ∷ []) → (p : Operations) → p ≡ with_record o x → p ≡ part (set.from_list (records ++ x ∷ [])) picks
+  picked_more passes apart p e = e ∙ part-push records x o (λ r h. within (set.contains (set.from_list {R = slice_cmp nat_cmp} records) r) (picks r) (sym (old r) ∙ h)) apart ∙ same_set nat_list_cmp_total bytes_same (set.insert o x) (part (set.from_list (records ++ x ∷ [])) picks) (λ q.
       contains-insert nat_list_cmp_total o x q
       ∙ ap (λ b. eq_by_cmp (slice_cmp nat_cmp) q x || b) (old q)
       ∙ taken_in (eq_by_cmp (slice_cmp nat_cmp) q x) (set.contains (set.from_list {R = slice_cmp nat_cmp} records) q) (picks q) (λ h. ap picks (tied q x h) ∙ passes)

@@ -8,7 +8,9 @@ pub mod Laid
 pub mod Above
 pub mod Tested
 pub mod Ends
+pub mod Apart
 pub mod Longest
+pub mod Fronted
 pub mod Grown
 pub mod FaultKinds
 pub mod Steps
@@ -18,11 +20,13 @@ pub mod Contents
 pub mod Summarised
 pub mod Named
 pub mod Exact
+pub mod Coverings
 pub mod Inputs
 pub mod Kept
 pub mod Complete
 pub mod Ascending
 pub mod Unions
+pub mod Covered
 pub mod Turns
 pub mod Starts
 pub mod Fronts

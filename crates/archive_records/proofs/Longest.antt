@@ -7,9 +7,10 @@ use Rattle.std.specs.List.{concat}
 use Rattle.archive_records.specs.declared.fault.RecordFaultKind.{RecordFaultKind}
 use Rattle.archive_records.specs.Layout.{head_length, body_length, framed}
 use Rattle.archive_records.specs.Kind.{magic_of, IsItem, may_follow}
-use Rattle.archive_records.specs.Text.{InOrder, last_of}
+use Rattle.archive_records.specs.Text.{InOrder, AreApart, last_of}
 use Rattle.archive_records.specs.Fault.{is_end, tested, next, FailsNext, Refuses}
 use Rattle.archive_records.specs.Front.{IsGoodFront, IsLongestFront}
+use Rattle.archive_records.proofs.Apart.{apart_part}
 use Rattle.archive_records.proofs.Framed.{same_body, framed-whole}
 use Rattle.archive_records.proofs.Holds.{holds, done, result_is, next-is}
 use Rattle.archive_records.proofs.Forms.{item-framed, item-no_end, item-refused}
@@ -93,41 +94,63 @@ module _ (file : TextKind) where
   same_length x y a b p q e =
       result_is (length x) (length y) (sym (framed-grows x a (length x) (item-framed file x p)) ∙ ap (framed file) e ∙ framed-grows y b (length y) (item-framed file y q))
 
-  -- A front at whose end no record stands is the longest: every other front begins it.
-  pub longest : (xs ys : List (List ℕ)) (low r s : List ℕ) → InOrder file low xs → InOrder file low ys → concat xs ++ r ≡ concat ys ++ s → (Takes (last_of low xs) r → ⊥) → Before xs ys r s
-  longest xs [] low r s a b e stop = record { more = xs; records = refl; rest = sym e }
-  longest [] (y ∷ ys) low r s a b e stop =
-      absurd (stop (record { item = y; more = concat ys ++ s; whole = e ∙ append_assoc y (concat ys) s; is = b.0; above = b.1 }))
-  longest (x ∷ xs) (y ∷ ys) low r s a b e stop =
+  -- A front at whose end no record stands that the other goes on with is the longest.
+  longest_by : (xs ys : List (List ℕ)) (low r s : List ℕ) → InOrder file low xs → InOrder file low ys → concat xs ++ r ≡ concat ys ++ s → ((k : Takes (last_of low xs) r) (more : List (List ℕ)) → ys ≡ xs ++ k.item ∷ more → ⊥) → Before xs ys r s
+  longest_by xs [] low r s a b e stop = record { more = xs; records = refl; rest = sym e }
+  longest_by [] (y ∷ ys) low r s a b e stop =
+      absurd (stop (record { item = y; more = concat ys ++ s; whole = e ∙ append_assoc y (concat ys) s; is = b.0; above = b.1 }) ys refl)
+  longest_by (x ∷ xs) (y ∷ ys) low r s a b e stop =
       let e' : x ++ (concat xs ++ r) ≡ y ++ (concat ys ++ s) = sym (append_assoc x (concat xs) r) ∙ e ∙ append_assoc y (concat ys) s in
       let both = same_item x y (concat xs ++ r) (concat ys ++ s) (same_length x y (concat xs ++ r) (concat ys ++ s) a.0 b.0 e') e' in
       let rest : InOrder file x ys = subst (λ (t : List ℕ). InOrder file t ys) (sym both.0) b.2 in
-      let n = longest xs ys x r s a.2 rest both.1 stop in
+      let n = longest_by xs ys x r s a.2 rest both.1 (λ k more is. stop k more (cons_both y x ys (xs ++ k.item ∷ more) (sym both.0) is)) in
       record { more = n.more; records = cons_both x y xs (ys ++ n.more) both.0 n.records; rest = n.rest }
 
-  -- two fronts that stop are one
-  pub unique : (xs ys : List (List ℕ)) (low r s : List ℕ) → InOrder file low xs → InOrder file low ys → concat xs ++ r ≡ concat ys ++ s → (Takes (last_of low xs) r → ⊥) → (Takes (last_of low ys) s → ⊥) → (xs ≡ ys) × (r ≡ s)
-  unique [] [] low r s a b e p q = (refl, e)
-  unique (x ∷ xs) [] low r s a b e p q =
-      absurd (q (record { item = x; more = concat xs ++ r; whole = sym e ∙ append_assoc x (concat xs) r; is = a.0; above = a.1 }))
-  unique [] (y ∷ ys) low r s a b e p q =
-      absurd (p (record { item = y; more = concat ys ++ s; whole = e ∙ append_assoc y (concat ys) s; is = b.0; above = b.1 }))
-  unique (x ∷ xs) (y ∷ ys) low r s a b e p q =
+  -- two fronts neither of which goes on are one
+  unique_by : (xs ys : List (List ℕ)) (low r s : List ℕ) → InOrder file low xs → InOrder file low ys → concat xs ++ r ≡ concat ys ++ s → ((k : Takes (last_of low xs) r) (more : List (List ℕ)) → ys ≡ xs ++ k.item ∷ more → ⊥) → ((k : Takes (last_of low ys) s) (more : List (List ℕ)) → xs ≡ ys ++ k.item ∷ more → ⊥) → (xs ≡ ys) × (r ≡ s)
+  unique_by [] [] low r s a b e p q = (refl, e)
+  unique_by (x ∷ xs) [] low r s a b e p q =
+      absurd (q (record { item = x; more = concat xs ++ r; whole = sym e ∙ append_assoc x (concat xs) r; is = a.0; above = a.1 }) xs refl)
+  unique_by [] (y ∷ ys) low r s a b e p q =
+      absurd (p (record { item = y; more = concat ys ++ s; whole = e ∙ append_assoc y (concat ys) s; is = b.0; above = b.1 }) ys refl)
+  unique_by (x ∷ xs) (y ∷ ys) low r s a b e p q =
       let e' : x ++ (concat xs ++ r) ≡ y ++ (concat ys ++ s) = sym (append_assoc x (concat xs) r) ∙ e ∙ append_assoc y (concat ys) s in
       let both = same_item x y (concat xs ++ r) (concat ys ++ s) (same_length x y (concat xs ++ r) (concat ys ++ s) a.0 b.0 e') e' in
       let rest : InOrder file x ys = subst (λ (t : List ℕ). InOrder file t ys) (sym both.0) b.2 in
-      let stop : Takes (last_of x ys) s → ⊥ = subst (λ (t : List ℕ). Takes (last_of t ys) s → ⊥) (sym both.0) q in
-      let n = unique xs ys x r s a.2 rest both.1 p stop in
+      let stop : (k : Takes (last_of x ys) s) (more : List (List ℕ)) → xs ≡ ys ++ k.item ∷ more → ⊥ =
+      subst (λ (t : List ℕ). (k : Takes (last_of t ys) s) (more : List (List ℕ)) → xs ≡ ys ++ k.item ∷ more → ⊥) (sym both.0) (λ k more is. q k more (cons_both x y xs (ys ++ k.item ∷ more) both.0 is)) in
+      let n = unique_by xs ys x r s a.2 rest both.1 (λ k more is. p k more (cons_both y x ys (xs ++ k.item ∷ more) (sym both.0) is)) stop in
       (cons_both x y xs ys both.0 n.0, n.1)
+
+  -- a record stands in front of the rest that a good front may have behind these
+  pub record Goes (records : List (List ℕ)) (rest : List ℕ) : Type 0 where
+    pub next : Takes (last_of [] records) rest
+    pub apart : AreApart file (records ++ next.item ∷ [])
+
+  -- A front at whose end no such record stands is the longest: every other front begins it.
+  pub longest : (xs ys : List (List ℕ)) (r s : List ℕ) → InOrder file [] xs → InOrder file [] ys → AreApart file ys → concat xs ++ r ≡ concat ys ++ s → (Goes xs r → ⊥) → Before xs ys r s
+  longest xs ys r s a b c e stop = longest_by xs ys [] r s a b e (λ k more is. stop (record { next = k; apart = apart_part file ys xs k.item more is c }))
+
+  -- two fronts that stop are one
+  pub unique : (xs ys : List (List ℕ)) (r s : List ℕ) → InOrder file [] xs → AreApart file xs → InOrder file [] ys → AreApart file ys → concat xs ++ r ≡ concat ys ++ s → (Goes xs r → ⊥) → (Goes ys s → ⊥) → (xs ≡ ys) × (r ≡ s)
+  unique xs ys r s a aa b bb e p q = unique_by xs ys [] r s a b e
+      (λ k more is. p (record { next = k; apart = apart_part file ys xs k.item more is bb }))
+      (λ k more is. q (record { next = k; apart = apart_part file xs ys k.item more is aa }))
+
+  -- a record that is covered stands alone in front of the rest
+  pub one_taken : (low bytes : List ℕ) (k t : Takes low bytes) → k.item ≡ t.item
+  one_taken low bytes k t =
+      let e : k.item ++ k.more ≡ t.item ++ t.more = sym k.whole ∙ t.whole in
+      (same_item k.item t.item k.more t.more (same_length k.item t.item k.more t.more k.is t.is e) e).0
 
   pub behind_magic : (t : List ℕ) (a b : List ℕ) → t ≡ magic_of file ++ a → t ≡ magic_of file ++ b → a ≡ b
   behind_magic t a b p q = append_cancel_left (magic_of file) a b (sym p ∙ q)
 
   -- the longest good front, by what stands at its end
-  pub is_longest : (text : List ℕ) (records : List (List ℕ)) (f : IsGoodFront file text records) → (Takes (last_of [] records) f.rest → ⊥) → IsLongestFront file text records
+  pub is_longest : (text : List ℕ) (records : List (List ℕ)) (f : IsGoodFront file text records) → (Goes records f.rest → ⊥) → IsLongestFront file text records
   is_longest text records f stop = record {
     front = f;
     longest = λ others g.
-        let b = longest records others [] f.rest g.rest f.ordered g.ordered (behind_magic text (concat records ++ f.rest) (concat others ++ g.rest) f.whole g.whole) stop in
+        let b = longest records others f.rest g.rest f.ordered g.ordered g.apart (behind_magic text (concat records ++ f.rest) (concat others ++ g.rest) f.whole g.whole) stop in
         omega (arith, ap length (ap concat b.records ∙ concat-append others b.more), length-append (concat others) (concat b.more));
   }

@@ -23,15 +23,16 @@ use Rattle.archive_records.specs.Fault.{IsOfText}
 use Rattle.archive_records.specs.Reading.{Blames, IsOfMachine, IsReadWhole}
 use Rattle.archive_records.specs.Reader.{HasReadAll, HasStopped, Stopped, IsReadTo, Position}
 use Rattle.archive_records.specs.Merging.{IsArchiveText, AreGoodRecords, LeftStops, RightStops, of_both, IsWrittenBefore, Stream, IsRefusedAlone, StopsBy, Merges}
-use Rattle.archive_records.specs.Turns.{StopsBeforeRecords, Stands, LeftStopped, RightStopped, WriteStopped, IsFull, LeftFull, RightFull, memory_behind, first_of, Leaves, BlamesBy, BlamesDevices, ByCause}
+use Rattle.archive_records.specs.Turns.{kept, StopsBeforeRecords, Stands, LeftStopped, RightStopped, WriteStopped, IsFull, LeftFull, RightFull, memory_behind, first_of, Leaves, BlamesBy, BlamesDevices, ByCause}
 use Rattle.archive_records.proofs.Puts.{length_written, concat-push}
 use Rattle.archive_records.proofs.Ascending.{InOrder-front}
 use Rattle.archive_records.proofs.Turns.{first_greater, first_held}
+use Rattle.archive_records.proofs.Apart.{apart_front}
 use Rattle.archive_records.proofs.Orders.{left_order, right_order}
 use Rattle.archive_records.proofs.Contents.{written_text}
 use Rattle.archive_records.proofs.Inputs.{archive_whole}
 use Rattle.archive_records.proofs.Fronts.{taken_of}
-use Rattle.archive_records.proofs.Places.{joins_listing, begun_nothing, no_magic, left_begun, left_place, left_first, right_begun, right_place, right_first, write_begun, full_begun}
+use Rattle.archive_records.proofs.Places.{kept_listing, begun_nothing, no_magic, left_begun, left_place, left_first, right_begun, right_place, right_first, write_begun, full_begun}
 
 -- ---- one input
 
@@ -39,7 +40,7 @@ abbrev itself : Operations → Operations
 itself o = o
 
 read_to : (a b : Option (List ℕ)) (records : List (List ℕ)) (position : Position) → HasReadAll Archive a b records position → IsReadTo Archive a b (set.from_list records)
-read_to a b records position h = record { records = records; few = h.few; taken = h.taken; ordered = h.ordered; content = refl }
+read_to a b records position h = record { records = records; few = h.few; taken = h.taken; ordered = h.ordered; apart = h.apart; content = refl }
 
 read_whole : {R : Type 0} (input : Stream R) (records : List (List ℕ)) (position : Position) → HasReadAll Archive (input.bytes input.old) (input.bytes input.new) records position → IsAtEnd (input.bytes input.new) → input.failures input.new ≡ input.failures input.old
     → IsReadWhole Archive (set.from_list records) input.bytes input.failures input.old input.new
@@ -65,6 +66,7 @@ held_stopped a b done low s p held few =
       rest = s.reader.last;
       taken = subst (λ (t : List ℕ). Consumes a b (magic ++ t)) (concat-push done s.reader.last) h.taken;
       ordered = InOrder-front [] done s.reader.last h.ordered;
+      apart = apart_front Archive done (s.reader.last ∷ []) h.apart;
       few = omega (arith, few, h.count_is, length-append done (s.reader.last ∷ []));
       unended = λ known. tt;
       stops = inl (refl, λ known. absurd (known refl));
@@ -206,8 +208,8 @@ module _ {R S W : Type 0} (left : Stream R) (right : Stream S) (out : Stream W) 
   merges (Ok sizes) m unfailed =
       let o : Operations = set.from_list m.lefts in
       let p : Operations = set.from_list m.rights in
-      let whole : listing (joined o p) ≡ m.out = joins_listing m.lefts m.rights m.out m.joins in
-      let text : text_of Archive m.out ≡ written (joined o p) = sym (written_text (joined o p) ∙ ap (text_of Archive) whole) in
+      let whole : listing (joined o p) ≡ kept m.out = kept_listing m.lefts m.rights m.out m.joins in
+      let text : text_of Archive (kept m.out) ≡ written (joined o p) = sym (written_text (joined o p) ∙ ap (text_of Archive) whole) in
       record {
         o = o;
         p = p;

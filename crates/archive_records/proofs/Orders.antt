@@ -1,8 +1,7 @@
 -- What was taken of the sides of a merge where one of them stopped it.
-use Rattle.std.proofs.Common.{◌≡◌, ◌≢◌, ℕ, ◌+◌, ◌<◌, true, false, List, [], ◌∷◌, ◌++◌, length, Option, refl, sym, ap, ◌∙◌, subst, arith, inl, inr, ◌⊎◌, length-append}
+use Rattle.std.proofs.Common.{◌≡◌, ◌≢◌, ℕ, ◌+◌, true, false, List, [], ◌∷◌, ◌++◌, length, Option, refl, sym, ap, ◌∙◌, subst, arith, inl, inr, ◌⊎◌, length-append}
 use Rattle.std.proofs.lemmas.List.{append-nil}
 use Rattle.std.proofs.lemmas.Bool.{false≢true}
-use Rattle.std.specs.declared.cmp.Ordering.{Ordering}
 use Rattle.std.specs.declared.cmp.Ordering.TheVariants.{Greater}
 use Rattle.std.specs.Ordering.{nat_cmp, ordering_reverse}
 use Rattle.std.specs.Cmp.Lexicographic.{slice_cmp, nat_list_cmp_total}
@@ -10,7 +9,6 @@ use Rattle.std.specs.FinSet as set
 use Rattle.std.specs.List.{concat}
 use Rattle.std.specs.Io.KnownBytes.{Consumes, Appends}
 use Rattle.join_core.specs.Listing.{listing}
-use Rattle.archive_records.specs.declared.fault.RecordFaultKind.TheVariants.{OutOfMemory}
 use Rattle.archive_records.specs.declared.fault.RecordFault.{RecordFault}
 use Rattle.archive_records.specs.declared.kind.TextKind.TheVariants.{Archive}
 use Rattle.archive_records.specs.declared.side.Ahead.{Ahead}
@@ -18,15 +16,16 @@ use Rattle.archive_records.specs.declared.side.Ahead.TheVariants.{Unread, Held, 
 use Rattle.archive_records.specs.declared.side.Side.{Side}
 use Rattle.archive_records.specs.Kind.{magic, IsItem, may_follow}
 use Rattle.archive_records.specs.Text.{end_record, last_of}
-use Rattle.archive_records.specs.Front.{front_length}
-use Rattle.archive_records.specs.Reader.{Stopped, Stops}
-use Rattle.archive_records.specs.Merging.{Stream, IsTaken, IsNext, IsTurnOfLeft, IsTurnOfRight, IsOneMore, IsBehind, IsOut, IsInMagic, IsLeftBehind, IsRightBehind, EndsBelow, of_both, most_records}
-use Rattle.archive_records.specs.Turns.{Stands, Joins, StopsBeforeRecords, LeftStopped, RightStopped, IsFull, LeftFull, RightFull, first_by, memory_behind}
+use Rattle.archive_records.specs.Reader.{set_of, Stops}
+use Rattle.archive_records.specs.Merging.{Stream, IsTaken, IsNext, IsOneMore, IsBehind, IsOut, IsInMagic, IsLeftBehind, IsRightBehind, all_of, of_both, most_records}
+use Rattle.archive_records.specs.Turns.{kept, Stands, Joins, StopsBeforeRecords, LeftStopped, RightStopped, LeftFull, RightFull, first_by}
 use Rattle.archive_records.proofs.Puts.{concat-push, length_written}
 use Rattle.archive_records.proofs.Forms.{item-no_end}
 use Rattle.archive_records.proofs.Ends.{end-is_end}
 use Rattle.archive_records.proofs.Ascending.{less_of, below-greater, last_is_record, last_within, InOrder-front}
-use Rattle.archive_records.proofs.Places.{joins_listing}
+use Rattle.archive_records.proofs.Places.{joins_listing, kept_listing, all_is}
+use Rattle.archive_records.proofs.Apart.{apart_front}
+use Rattle.archive_core.specs.Content.{Operations, is_covered}
 use Rattle.archive_records.proofs.Turns.{first_greater, first_held}
 
 -- ---- one side
@@ -45,12 +44,14 @@ module _ {R : Type 0} (side : Stream R) (records : List (List ℕ)) (low : List 
   taken_by Unread e = record {
     taken = subst (λ (t : List ℕ). Consumes (side.bytes side.old) (side.bytes side.new) (magic ++ t)) (sym (append-nil (concat records))) (p.unread e).0.taken;
     ordered = (p.unread e).0.ordered;
+    apart = (p.unread e).0.apart;
   }
   taken_by Held e = record {
     taken = subst (λ (t : List ℕ). Consumes (side.bytes side.old) (side.bytes side.new) (magic ++ t)) (concat-push records s.reader.last) (p.held e).0.taken;
     ordered = InOrder-front [] records s.reader.last (p.held e).0.ordered;
+    apart = apart_front Archive records (s.reader.last ∷ []) (p.held e).0.apart;
   }
-  taken_by Ended e = record { taken = (p.ended e).0.taken; ordered = (p.ended e).0.ordered }
+  taken_by Ended e = record { taken = (p.ended e).0.taken; ordered = (p.ended e).0.ordered; apart = (p.ended e).0.apart }
 
   taken_next : IsTaken side records next
   taken_next = taken_by s.ahead refl
@@ -111,20 +112,27 @@ behind_is records rest fault (inl s) = inl s.0
 behind_is records rest fault (inr (inl s)) = inr (s.0, s.2)
 behind_is records rest fault (inr (inr s)) = inl s.2
 
+-- a held record that is not covered
+free_by : (h : Ahead) (o : Operations) (x : List ℕ) (records : List (List ℕ)) → h ≡ Held → is_covered o x ≡ false → is_covered o (next_of h x records) ≡ false
+free_by Unread o x records held free = absurd cc
+free_by Held o x records held free = free
+free_by Ended o x records held free = absurd cc
+
 module _ {W : Type 0} (out : Stream W) (os lefts rights : List (List ℕ)) (n : ℕ) (joins : Joins os lefts rights) where
-  out_is : n ≡ 8 + length (concat os) → Appends (out.bytes out.old) (out.bytes out.new) (magic ++ concat os) → IsOut out (listing (of_both lefts rights)) n
-  out_is is gained = subst (λ (t : List (List ℕ)). IsOut out t n) (sym (joins_listing lefts rights os joins)) (gained, omega (arith, is, length-append magic (concat os)))
+  out_is : n ≡ 8 + length (concat (kept os)) → Appends (out.bytes out.old) (out.bytes out.new) (magic ++ concat (kept os)) → IsOut out (listing (of_both lefts rights)) n
+  out_is is gained = subst (λ (t : List (List ℕ)). IsOut out t n) (sym (kept_listing lefts rights os joins)) (gained, omega (arith, is, length-append magic (concat (kept os))))
 
-  most_is : length os ≡ most_records → set.len (of_both lefts rights) ≡ most_records
-  most_is most = sym (length_written (of_both lefts rights)) ∙ ap length (joins_listing lefts rights os joins) ∙ most
+  most_is : length (kept os) ≡ most_records → set.len (of_both lefts rights) ≡ most_records
+  most_is most = sym (length_written (of_both lefts rights)) ∙ ap length (kept_listing lefts rights os joins) ∙ most
 
-  one_more : {R S : Type 0} (side : Stream R) (other : Stream S) (others : List (List ℕ)) (more next : List ℕ) → length os ≡ most_records → IsItem Archive more × (may_follow Archive (last_of [] os) more ≡ true) → IsNext other (last_of [] os) others next
-      → IsOneMore side other (of_both lefts rights) others more next
-  one_more side other others more next most more_is next_is =
-      let low : last_of [] os ≡ last_of [] (listing (of_both lefts rights)) = ap (last_of []) (sym (joins_listing lefts rights os joins)) in
+  one_more : {R S : Type 0} (side : Stream R) (other : Stream S) (others : List (List ℕ)) (more next : List ℕ) → length (kept os) ≡ most_records → IsItem Archive more × (may_follow Archive (last_of [] os) more ≡ true) → is_covered (set_of os) more ≡ false → IsNext other (last_of [] os) others next
+      → IsOneMore side other (of_both lefts rights) (all_of lefts rights) others more next
+  one_more side other others more next most more_is free next_is =
+      let low : last_of [] os ≡ last_of [] (listing (all_of lefts rights)) = ap (last_of []) (sym (joins_listing lefts rights os joins)) in
       record {
         most = most_is most;
         more_is = (more_is.0, subst (λ (t : List ℕ). may_follow Archive t more ≡ true) low more_is.1);
+        uncovered = subst (λ (o : Operations). is_covered o more ≡ false) (sym (all_is lefts rights os joins)) free;
         next_is = subst (λ (t : List ℕ). IsNext other t others next) low next_is;
       }
 
@@ -158,7 +166,7 @@ module _ {R S W : Type 0} (left : Stream R) (right : Stream S) (out : Stream W) 
         rights = s.rights;
         left_next = s.left.rest;
         right_next = next;
-        left_taken = record { taken = s.left.taken; ordered = s.left.ordered };
+        left_taken = record { taken = s.left.taken; ordered = s.left.ordered; apart = s.left.apart };
         right_taken = taken_next right s.rights (last_of [] s.out) s.other s.right;
         behind = behind_is s.lefts s.left.rest fault s.left.stops;
         out_is = out_is out s.out s.lefts s.rights n s.joins s.written_is s.gained;
@@ -182,7 +190,7 @@ module _ {R S W : Type 0} (left : Stream R) (right : Stream S) (out : Stream W) 
         out_is = out_is out f.out f.lefts f.rights n f.joins f.written_is f.gained;
         turn = inr (
           ap (λ (t : RecordFault). t.kind) is,
-          one_more out f.out f.lefts f.rights n f.joins left right f.rights x y f.most (more_is left f.lefts low f.left_side f.left held) (next_is right f.rights low f.right_side f.right f.right_read),
+          one_more out f.out f.lefts f.rights n f.joins left right f.rights x y f.most (more_is left f.lefts low f.left_side f.left held) (free_by f.left_side.ahead (set_of f.out) f.left_side.reader.last f.lefts held (f.left_kept first)) (next_is right f.rights low f.right_side f.right f.right_read),
           not_below f.left_side.ahead f.right_side.ahead f.left_side.reader.last f.right_side.reader.last f.lefts f.rights f.right_read first,
         );
       }
@@ -197,7 +205,7 @@ module _ {R S W : Type 0} (left : Stream R) (right : Stream S) (out : Stream W) 
         left_next = next;
         right_next = s.right.rest;
         left_taken = taken_next left s.lefts (last_of [] s.out) s.other s.left;
-        right_taken = record { taken = s.right.taken; ordered = s.right.ordered };
+        right_taken = record { taken = s.right.taken; ordered = s.right.ordered; apart = s.right.apart };
         behind = behind_is s.rights s.right.rest fault s.right.stops;
         out_is = out_is out s.out s.lefts s.rights n s.joins s.written_is s.gained;
         turn = inl (
@@ -223,7 +231,7 @@ module _ {R S W : Type 0} (left : Stream R) (right : Stream S) (out : Stream W) 
         out_is = out_is out f.out f.lefts f.rights n f.joins f.written_is f.gained;
         turn = inr (
           ap (λ (t : RecordFault). t.kind) is,
-          one_more out f.out f.lefts f.rights n f.joins right left f.lefts y x f.most (more_is right f.rights low f.right_side f.right held) (next_is left f.lefts low f.left_side f.left f.left_read),
+          one_more out f.out f.lefts f.rights n f.joins right left f.lefts y x f.most (more_is right f.rights low f.right_side f.right held) (free_by f.right_side.ahead (set_of f.out) f.right_side.reader.last f.rights held (f.right_kept first)) (next_is left f.lefts low f.left_side f.left f.left_read),
           is_below f.left_side.ahead f.right_side.ahead f.left_side.reader.last f.right_side.reader.last f.lefts f.rights f.left_read held first,
         );
       }

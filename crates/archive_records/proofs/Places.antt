@@ -4,15 +4,17 @@ use Rattle.std.proofs.lemmas.List.{append-nil, take_at, take-append-le}
 use Rattle.std.proofs.lemmas.List.Folds.{concat-append}
 use Rattle.std.proofs.lemmas.List.Elements.{Contains-append_left, Contains-append_cases, filter-append}
 use Rattle.std.proofs.lemmas.Bool.{false≢true}
-use Rattle.std.specs.List.{concat, Contains}
+use Rattle.std.specs.List.{concat, Contains, filter}
 use Rattle.std.specs.FinSet as set
 use Rattle.std.specs.FinSet.{contains-from_list, contains-union}
 use Rattle.std.specs.Cmp.Lexicographic.{nat_list_cmp_total}
 use Rattle.std.specs.Io.KnownBytes.{IsAtEnd, Appends}
 use Rattle.join_core.specs.Listing.{listing}
 use Rattle.byte_device.specs.Writes.{WritesFirst}
-use Rattle.archive_core.specs.Content.{Operations, IsContent}
-use Rattle.archive_core.proofs.Joined.{joined as is_joined}
+use Rattle.join_core.proofs.Subset.{union_members}
+use Rattle.join_core.proofs.Retain.{listing_retain}
+use Rattle.archive_core.specs.Record.{IsRecord}
+use Rattle.archive_core.specs.Content.{Operations, is_covered}
 use Rattle.archive_records.specs.declared.fault.RecordFaultKind.TheVariants.{Truncated}
 use Rattle.archive_records.specs.declared.fault.RecordFault.{RecordFault}
 use Rattle.archive_records.specs.declared.kind.TextKind.TheVariants.{Archive}
@@ -20,12 +22,15 @@ use Rattle.archive_records.specs.Kind.{magic, may_follow}
 use Rattle.archive_records.specs.Text.{end_record, text_of, InOrder, last_of, written}
 use Rattle.archive_records.specs.Fault.{IsOfText}
 use Rattle.archive_records.specs.Front.{IsLongestFront}
-use Rattle.archive_records.specs.Merging.{HasMagic, IsArchiveText, AreGoodRecords, LeftStops, RightStops, of_both, up_to, IsWrittenBefore}
-use Rattle.archive_records.specs.Turns.{Joins, StopsBeforeRecords, LeftStopped, RightStopped, WriteStopped, IsFull}
-use Rattle.archive_records.proofs.Contents.{order, contained, containing, listing_is, members_listed, sorted-InOrder, InOrder-listing, IsContent-records, written_text}
+use Rattle.archive_records.specs.Merging.{HasMagic, IsArchiveText, AreGoodRecords, LeftStops, RightStops, all_of, of_both, up_to, IsWrittenBefore}
+use Rattle.archive_records.specs.Turns.{kept, Joins, StopsBeforeRecords, LeftStopped, RightStopped, WriteStopped, IsFull}
+use Rattle.archive_records.proofs.Contents.{order, contained, containing, listing_is, members_listed, sorted-InOrder, InOrder-set, are_records, content_is, written_text}
+use Rattle.archive_records.specs.Reader.{set_of}
+use Rattle.archive_records.proofs.Puts.{bytes_same}
+use Rattle.archive_records.proofs.Covered.{kept_more, behind, behind_above, from_kept}
 use Rattle.archive_records.proofs.Exact.{no_magic_fault}
 use Rattle.archive_records.proofs.Inputs.{magic_stop, grown_magic}
-use Rattle.archive_records.proofs.Ascending.{below-back, below-self, all_above, up_to_last, InOrder-behind, prefix, here, later}
+use Rattle.archive_records.proofs.Ascending.{below-back, below-self, all_above, up_to_last, prefix, here, later}
 use Rattle.archive_records.proofs.Ends.{length-end_record}
 use Rattle.archive_records.proofs.Fronts.{taken_of, front_of, front_is, stopped_goes, stopped_magic, GoesOn, goes_on, has_magic}
 
@@ -46,35 +51,43 @@ member_of : (xs : List (List ℕ)) (r : List ℕ) → Contains xs r ↔ (set.con
 member_of xs r = (λ c. contains-from_list nat_list_cmp_total xs r ∙ contained xs r c, λ e. containing xs r (sym (contains-from_list nat_list_cmp_total xs r) ∙ e))
 
 module _ (xs ys : List (List ℕ)) where
-  member_left : (r : List ℕ) → Contains xs r → set.contains (of_both xs ys) r ≡ true
+  member_left : (r : List ℕ) → Contains xs r → set.contains (all_of xs ys) r ≡ true
   member_left r c = contains-union nat_list_cmp_total (set.from_list xs) (set.from_list ys) r ∙ or_left _ _ ((member_of xs r).0 c)
 
-  member_right : (r : List ℕ) → Contains ys r → set.contains (of_both xs ys) r ≡ true
+  member_right : (r : List ℕ) → Contains ys r → set.contains (all_of xs ys) r ≡ true
   member_right r c = contains-union nat_list_cmp_total (set.from_list xs) (set.from_list ys) r ∙ or_right _ _ ((member_of ys r).0 c)
 
-  member_from : (r : List ℕ) → set.contains (of_both xs ys) r ≡ true → Contains xs r ⊎ Contains ys r
+  member_from : (r : List ℕ) → set.contains (all_of xs ys) r ≡ true → Contains xs r ⊎ Contains ys r
   member_from r e = elim (or_cases _ _ (sym (contains-union nat_list_cmp_total (set.from_list xs) (set.from_list ys) r) ∙ e)) [
     | inl a ↦ inl ((member_of xs r).1 a)
     | inr b ↦ inr ((member_of ys r).1 b)
   ]
 
-  pub content_of_both : InOrder Archive [] xs → InOrder Archive [] ys → IsContent (of_both xs ys)
-  content_of_both a b = (is_joined (set.from_list xs) (set.from_list ys) (of_both xs ys) (IsContent-records xs a) (IsContent-records ys b) refl).content
-
-  -- its records are the join of both
-  pub listing_joins : InOrder Archive [] xs → InOrder Archive [] ys → Joins (listing (of_both xs ys)) xs ys
+  -- the records of both are the join of both
+  pub listing_joins : InOrder Archive [] xs → InOrder Archive [] ys → Joins (listing (all_of xs ys)) xs ys
   listing_joins a b = record {
-    ordered = InOrder-listing (of_both xs ys) (content_of_both a b);
-    from = λ r c. member_from r ((members_listed (of_both xs ys) r).0 c);
-    left = λ r c. (members_listed (of_both xs ys) r).1 (member_left r c);
-    right = λ r c. (members_listed (of_both xs ys) r).1 (member_right r c);
+    ordered = InOrder-set (all_of xs ys) (union_members nat_list_cmp_total IsRecord (set.from_list xs) (set.from_list ys) (are_records xs a) (are_records ys b));
+    from = λ r c. member_from r ((members_listed (all_of xs ys) r).0 c);
+    left = λ r c. (members_listed (all_of xs ys) r).1 (member_left r c);
+    right = λ r c. (members_listed (all_of xs ys) r).1 (member_right r c);
   }
 
-  pub joins_listing : (out : List (List ℕ)) → Joins out xs ys → listing (of_both xs ys) ≡ out
-  joins_listing out j = listing_is (of_both xs ys) out (sorted-InOrder [] out j.ordered).1 (λ r. (
+  pub joins_listing : (out : List (List ℕ)) → Joins out xs ys → listing (all_of xs ys) ≡ out
+  joins_listing out j = listing_is (all_of xs ys) out (sorted-InOrder [] out j.ordered).1 (λ r. (
     λ c. elim (j.from r c) [ inl l ↦ member_left r l | inr m ↦ member_right r m ],
     λ e. elim (member_from r e) [ inl l ↦ j.left r l | inr m ↦ j.right r m ],
   ))
+
+  pub all_is : (out : List (List ℕ)) → Joins out xs ys → all_of xs ys ≡ set_of out
+  all_is out j = content_is (all_of xs ys) ∙ ap set_of (joins_listing out j)
+
+  -- those of the content that they make are those that are not covered
+  pub kept_listing : (out : List (List ℕ)) → Joins out xs ys → listing (of_both xs ys) ≡ kept out
+  unfolding kept
+  kept_listing out j =
+      listing_retain nat_list_cmp_total bytes_same (λ r. not (is_covered (all_of xs ys) r)) (all_of xs ys)
+      ∙ ap (λ (t : List (List ℕ)). filter (λ r. not (is_covered (all_of xs ys) r)) t) (joins_listing out j)
+      ∙ ap (λ (s : Operations). filter (λ r. not (is_covered s r)) out) (all_is out j)
 
 -- ---- what was written begins it
 
@@ -96,11 +109,19 @@ module _ (out lefts rights m1 m2 us : List (List ℕ)) (j : Joins out lefts righ
 at_fronts : (us xs ys xs' ys' : List (List ℕ)) → xs ≡ xs' → ys ≡ ys' → Joins us xs ys → Joins us xs' ys'
 at_fronts us xs ys xs' ys' p q j = subst (λ (t : List (List ℕ)). Joins us t ys') p (subst (λ (t : List (List ℕ)). Joins us xs t) q j)
 
+-- what stands behind what was written is above it
+abbrev pub IsAbove : List ℕ → List (List ℕ) → Type 0
+IsAbove low more = (z : List ℕ) → Contains more z → may_follow Archive low z ≡ true
+
 -- the records of the content begin with those that were written
 pub begins : (out lefts rights m1 m2 xs ys : List (List ℕ)) → Joins out lefts rights → InOrder Archive [] xs → InOrder Archive [] ys → xs ≡ lefts ++ m1 → ys ≡ rights ++ m2 → InOrder Archive (last_of [] out) m1 → InOrder Archive (last_of [] out) m2
-    → (more : List (List ℕ)) × (listing (of_both xs ys) ≡ out ++ more)
+    → (more : List (List ℕ)) × (listing (of_both xs ys) ≡ kept out ++ more) × IsAbove (last_of [] out) more
 begins out lefts rights m1 m2 xs ys j a b e f a1 a2 =
-    begins_union out lefts rights m1 m2 (listing (of_both xs ys)) j a1 a2 (at_fronts (listing (of_both xs ys)) xs ys (lefts ++ m1) (rights ++ m2) e f (listing_joins xs ys a b))
+    let us : List (List ℕ) = listing (all_of xs ys) in
+    let joins : Joins us xs ys = listing_joins xs ys a b in
+    let n : (more : List (List ℕ)) × (us ≡ out ++ more) = begins_union out lefts rights m1 m2 us j a1 a2 (at_fronts us xs ys (lefts ++ m1) (rights ++ m2) e f joins) in
+    let up : InOrder Archive [] (out ++ n.0) = subst (InOrder Archive []) n.1 joins.ordered in
+    (behind out n.0 up j.ordered, kept_listing xs ys us joins ∙ ap kept n.1 ∙ kept_more out n.0 up j.ordered, behind_above out n.0 up j.ordered)
 
 -- those up to low
 up_to-all : (low : List ℕ) (xs : List (List ℕ)) → ((z : List ℕ) → Contains xs z → may_follow Archive low z ≡ false) → up_to low xs ≡ xs
@@ -111,13 +132,12 @@ up_to-none : (low : List ℕ) (xs : List (List ℕ)) → ((z : List ℕ) → Con
 up_to-none low [] h = refl
 up_to-none low (x ∷ xs) h = ap (λ b. cond (not b) (x ∷ up_to low xs) (up_to low xs)) (h x (here x xs)) ∙ up_to-none low xs (λ z c. h z (later x z xs c))
 
-up_to_is : (out more us : List (List ℕ)) → us ≡ out ++ more → InOrder Archive [] us → InOrder Archive [] out → up_to (last_of [] out) us ≡ out
-up_to_is out more us e a b =
+up_to_is : (out more us : List (List ℕ)) → us ≡ kept out ++ more → InOrder Archive [] out → IsAbove (last_of [] out) more → up_to (last_of [] out) us ≡ kept out
+up_to_is out more us e b above =
     let low : List ℕ = last_of [] out in
-    let above : InOrder Archive low more = InOrder-behind [] out more (subst (InOrder Archive []) e a) in
-    ap (up_to low) e ∙ filter-append (λ r. not (may_follow Archive low r)) out more
-    ∙ ap (λ (t : List (List ℕ)). t ++ up_to low more) (up_to-all low out (λ z c. up_to_last [] z out b c))
-    ∙ ap (λ (t : List (List ℕ)). out ++ t) (up_to-none low more (λ z c. all_above low z more above c)) ∙ append-nil out
+    ap (up_to low) e ∙ filter-append (λ r. not (may_follow Archive low r)) (kept out) more
+    ∙ ap (λ (t : List (List ℕ)). t ++ up_to low more) (up_to-all low (kept out) (λ z c. up_to_last [] z out b (from_kept out z c)))
+    ∙ ap (λ (t : List (List ℕ)). kept out ++ t) (up_to-none low more above) ∙ append-nil (kept out)
 
 -- ---- beginnings of its text
 
@@ -167,22 +187,22 @@ no_magic t b fault known ended s m =
 record IsPlace (t u : List ℕ) (w0 w1 : Option (List ℕ)) (xs ys : List (List ℕ)) (n : ℕ) (low : List ℕ) : Type 0 where
   out : List (List ℕ)
   more : List (List ℕ)
-  is : listing (of_both xs ys) ≡ out ++ more
+  is : listing (of_both xs ys) ≡ kept out ++ more
+  above : IsAbove (last_of [] out) more
   magic_left : HasMagic t
   magic_right : HasMagic u
   low_is : low ≡ last_of [] out
   ordered : InOrder Archive [] out
-  content : IsContent (of_both xs ys)
-  count : n ≡ 8 + length (concat out)
-  gained : Appends w0 w1 (magic ++ concat out)
+  count : n ≡ 8 + length (concat (kept out))
+  gained : Appends w0 w1 (magic ++ concat (kept out))
 
 place_written : (t u : List ℕ) (w0 w1 : Option (List ℕ)) (xs ys : List (List ℕ)) (n : ℕ) (low : List ℕ) → IsPlace t u w0 w1 xs ys n low → (bytes : List ℕ) × IsWrittenBefore t u (of_both xs ys) low bytes × Appends w0 w1 bytes × (n ≡ length bytes)
 place_written t u w0 w1 xs ys n low p =
-    let whole : up_to low (listing (of_both xs ys)) ≡ p.out = ap (λ (x : List ℕ). up_to x (listing (of_both xs ys))) p.low_is ∙ up_to_is p.out p.more (listing (of_both xs ys)) p.is (InOrder-listing (of_both xs ys) p.content) p.ordered in (
-      magic ++ concat p.out,
+    let whole : up_to low (listing (of_both xs ys)) ≡ kept p.out = ap (λ (x : List ℕ). up_to x (listing (of_both xs ys))) p.low_is ∙ up_to_is p.out p.more (listing (of_both xs ys)) p.is p.ordered p.above in (
+      magic ++ concat (kept p.out),
       inr (p.magic_left, p.magic_right, ap (λ (x : List (List ℕ)). magic ++ concat x) (sym whole)),
       p.gained,
-      omega (arith, p.count, length-append magic (concat p.out)),
+      omega (arith, p.count, length-append magic (concat (kept p.out))),
     )
 
 module _ (t u : List ℕ) (b1 b2 w0 w1 : Option (List ℕ)) (xs ys : List (List ℕ)) (gx : AreGoodRecords t xs) (gy : AreGoodRecords u ys) (fault : RecordFault) (n : ℕ) where
@@ -198,13 +218,13 @@ module _ (t u : List ℕ) (b1 b2 w0 w1 : Option (List ℕ)) (xs ys : List (List 
     gy' : GoesOn u (last_of [] s.out) s.rights ys s.other.ahead
     gy' = goes_on u (last_of [] s.out) b2 s.rights ys s.other s.right ly
 
-    left_more : (more : List (List ℕ)) × (listing (of_both xs ys) ≡ s.out ++ more)
+    left_more : (more : List (List ℕ)) × (listing (of_both xs ys) ≡ kept s.out ++ more) × IsAbove (last_of [] s.out) more
     left_more =
         let f = stopped_goes t b1 s.lefts xs fault s.left lx in
         begins s.out s.lefts s.rights f.0 gy'.more xs ys s.joins lx.front.ordered ly.front.ordered f.1 gy'.is (subst (λ (x : List ℕ). InOrder Archive x f.0) s.last f.2) gy'.ordered
 
     pub left_begun : WritesFirst w0 w1 (written (of_both xs ys)) n
-    left_begun = begun_whole w0 w1 (of_both xs ys) s.out left_more.0 n left_more.1 s.written_is s.gained
+    left_begun = begun_whole w0 w1 (of_both xs ys) (kept s.out) left_more.0 n left_more.1 s.written_is s.gained
 
     module _ (known : IsOfText fault.kind) (ended : fault.kind ≡ Truncated → IsAtEnd b1) where
       low_left : last_of [] xs ≡ last_of [] s.out
@@ -215,11 +235,11 @@ module _ (t u : List ℕ) (b1 b2 w0 w1 : Option (List ℕ)) (xs ys : List (List 
         out = s.out;
         more = left_more.0;
         is = left_more.1;
+        above = left_more.2;
         magic_left = stopped_magic t b1 s.lefts fault s.left;
         magic_right = has_magic u (last_of [] s.out) b2 s.rights s.other s.right;
         low_is = low_left;
         ordered = s.joins.ordered;
-        content = content_of_both xs ys lx.front.ordered ly.front.ordered;
         count = s.written_is;
         gained = s.gained;
       })
@@ -249,13 +269,13 @@ module _ (t u : List ℕ) (b1 b2 w0 w1 : Option (List ℕ)) (xs ys : List (List 
     gx' : GoesOn t (last_of [] s.out) s.lefts xs s.other.ahead
     gx' = goes_on t (last_of [] s.out) b1 s.lefts xs s.other s.left rx
 
-    right_more : (more : List (List ℕ)) × (listing (of_both xs ys) ≡ s.out ++ more)
+    right_more : (more : List (List ℕ)) × (listing (of_both xs ys) ≡ kept s.out ++ more) × IsAbove (last_of [] s.out) more
     right_more =
         let f = stopped_goes u b2 s.rights ys fault s.right ry in
         begins s.out s.lefts s.rights gx'.more f.0 xs ys s.joins rx.front.ordered ry.front.ordered gx'.is f.1 gx'.ordered (subst (λ (x : List ℕ). InOrder Archive x f.0) s.last f.2)
 
     pub right_begun : WritesFirst w0 w1 (written (of_both xs ys)) n
-    right_begun = begun_whole w0 w1 (of_both xs ys) s.out right_more.0 n right_more.1 s.written_is s.gained
+    right_begun = begun_whole w0 w1 (of_both xs ys) (kept s.out) right_more.0 n right_more.1 s.written_is s.gained
 
     module _ (known : IsOfText fault.kind) (ended : fault.kind ≡ Truncated → IsAtEnd b2) where
       low_right : last_of [] ys ≡ last_of [] s.out
@@ -266,11 +286,11 @@ module _ (t u : List ℕ) (b1 b2 w0 w1 : Option (List ℕ)) (xs ys : List (List 
         out = s.out;
         more = right_more.0;
         is = right_more.1;
+        above = right_more.2;
         magic_left = has_magic t (last_of [] s.out) b1 s.lefts s.other s.left;
         magic_right = stopped_magic u b2 s.rights fault s.right;
         low_is = low_right;
         ordered = s.joins.ordered;
-        content = content_of_both xs ys rx.front.ordered ry.front.ordered;
         count = s.written_is;
         gained = s.gained;
       })
@@ -301,10 +321,10 @@ module _ (t u : List ℕ) (b1 b2 w0 w1 : Option (List ℕ)) (xs ys : List (List 
         let g = goes_on u (last_of [] s.out) b2 s.rights ys s.right_side s.right wy in
         let m = begins s.out s.lefts s.rights f.more g.more xs ys s.joins wx.front.ordered wy.front.ordered f.is g.is f.ordered g.ordered in
         elim s.within [
-          | inl lt ↦ begun_part w0 w1 (of_both xs ys) s.out m.0 n m.1 lt s.gained
+          | inl lt ↦ begun_part w0 w1 (of_both xs ys) (kept s.out) m.0 n m.1 lt s.gained
           | inr e ↦
               let here : Joins s.out xs ys = at_fronts s.out s.lefts s.rights xs ys (sym (f.ended e.0)) (sym (g.ended e.1)) s.joins in
-              let whole : text_of Archive s.out ≡ written (of_both xs ys) = sym (written_text (of_both xs ys) ∙ ap (text_of Archive) (joins_listing xs ys s.out here)) in
+              let whole : text_of Archive (kept s.out) ≡ written (of_both xs ys) = sym (written_text (of_both xs ys) ∙ ap (text_of Archive) (kept_listing xs ys s.out here)) in
               record { within = omega (arith, e.2, ap length whole); gained = subst (λ (x : List ℕ). Appends w0 w1 (take n x)) whole s.gained }
         ]
 
@@ -322,4 +342,4 @@ module _ (t u : List ℕ) (b1 b2 w0 w1 : Option (List ℕ)) (xs ys : List (List 
         let f = goes_on t (last_of [] s.out) b1 s.lefts xs s.left_side s.left fx in
         let g = goes_on u (last_of [] s.out) b2 s.rights ys s.right_side s.right fy in
         let m = begins s.out s.lefts s.rights f.more g.more xs ys s.joins fx.front.ordered fy.front.ordered f.is g.is f.ordered g.ordered in
-        begun_whole w0 w1 (of_both xs ys) s.out m.0 n m.1 s.written_is s.gained
+        begun_whole w0 w1 (of_both xs ys) (kept s.out) m.0 n m.1 s.written_is s.gained

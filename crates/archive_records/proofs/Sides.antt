@@ -16,6 +16,7 @@ use Rattle.archive_records.specs.Front.{IsLongestFront}
 use Rattle.archive_records.specs.Merging.{HasMagic, IsArchiveText, AreGoodRecords, EndsBelow, LeftStops, RightStops, of_both}
 use Rattle.archive_records.proofs.Forms.{IsBytes}
 use Rattle.archive_records.proofs.Ends.{end-is_end}
+use Rattle.archive_records.proofs.Apart.{apart_listing}
 use Rattle.archive_records.proofs.Longest.{is_longest, end-stops}
 use Rattle.archive_records.proofs.Contents.{InOrder-listing, written_text, content_is, one_text}
 use Rattle.archive_records.proofs.Exact.{no_magic_fault, fault_longest}
@@ -28,8 +29,8 @@ use Rattle.archive_records.proofs.Fronts.{front_magic, whole_front, archive_text
 pub good_text : (o : Operations) → IsContent o → AreGoodRecords (written o) (listing o)
 good_text o c =
     let records : List (List ℕ) = listing o in
-    inl (is_longest Archive (written o) records (record { ordered = InOrder-listing o c; rest = end_record (length records); whole = written_text o })
-    (end-stops Archive (last_of [] records) (end_record (length records)) (end-is_end (length records))))
+    inl (is_longest Archive (written o) records (record { ordered = InOrder-listing o c; apart = apart_listing o c; rest = end_record (length records); whole = written_text o })
+    (λ g. end-stops Archive (last_of [] records) (end_record (length records)) (end-is_end (length records)) g.next))
 
 by_text : (text : List ℕ) → ((o : Operations) × IsContent o × IsWritten o text) ⊎ ((fault : RecordFault) × IsFault text fault) → (records : List (List ℕ)) × AreGoodRecords text records
 by_text text (inl c) = (listing c.0, subst (λ (t : List ℕ). AreGoodRecords t (listing c.0)) (sym (one_text c.0 text c.2)) (good_text c.0 c.1))
@@ -48,11 +49,11 @@ text_magic t x = (concat (listing x.0) ++ end_record (length (listing x.0)), x.2
 text_is : (t : List ℕ) (xs : List (List ℕ)) → IsLongestFront Archive t xs → IsArchiveText t → t ≡ text_of Archive xs
 text_is t xs l x =
     let whole : t ≡ text_of Archive (listing x.0) = x.2 ∙ written_text x.0 in
-    whole ∙ ap (text_of Archive) (sym (whole_front t (listing x.0) xs (InOrder-listing x.0 x.1) whole l))
+    whole ∙ ap (text_of Archive) (sym (whole_front t (listing x.0) xs (InOrder-listing x.0 x.1) (apart_listing x.0 x.1) whole l))
 
 text_or_not : (t : List ℕ) (xs : List (List ℕ)) → IsLongestFront Archive t xs → IsArchiveText t ⊎ (IsArchiveText t → ⊥)
 text_or_not t xs l = elim (same_or_not t (text_of Archive xs)) [
-  | inl same ↦ inl (archive_text t xs l.front.ordered same)
+  | inl same ↦ inl (archive_text t xs l.front.ordered l.front.apart same)
   | inr other ↦ inr (λ x. other (text_is t xs l x))
 ]
 

@@ -12,7 +12,8 @@ use Rattle.archive_records.specs.declared.side.Side.{Side}
 use Rattle.archive_records.specs.Kind.{magic}
 use Rattle.archive_records.specs.Text.{end_record, text_of}
 use Rattle.archive_records.specs.Reader.{HasRead}
-use Rattle.archive_records.specs.Turns.{Stands, Joins, Merging, StopsBeforeRecords, LeftStopped, RightStopped, WriteStopped, LeftFull, RightFull, ByCause, HasStoppedMerge, Stops as MergeStops}
+use Rattle.archive_records.proofs.Covered.{kept_none}
+use Rattle.archive_records.specs.Turns.{kept, Stands, Joins, Merging, StopsBeforeRecords, LeftStopped, RightStopped, WriteStopped, LeftFull, RightFull, ByCause, HasStoppedMerge, Stops as MergeStops}
 use Rattle.archive_records.specs.declared.fault.MergeCause.{MergeCause}
 use Rattle.archive_records.specs.declared.fault.MergeCause.TheVariants.{Left, Right, Write}
 use Rattle.archive_records.specs.declared.fault.MergeFault.{MergeFault}
@@ -39,9 +40,9 @@ module _ (a1 b1 a2 b2 w0 w1 : Option (List ℕ)) (left right : Side) (h : HasRea
     right = stands_start a2 b2 right k t;
     order = λ _ n. absurd (n t);
     joins = joins_start;
-    records = refl;
-    bytes = omega (arith, n, ap length x_is);
-    gained = subst (Appends w0 w1) x_is p;
+    records = ap length (sym kept_none);
+    bytes = omega (arith, n, ap length x_is, ap (λ (t : List (List ℕ)). length (concat t)) kept_none);
+    gained = subst (λ (t : List (List ℕ)). Appends w0 w1 (magic ++ concat t)) (sym kept_none) (subst (Appends w0 w1) x_is p);
   }
 
   pub stops_start : (written n : ℕ) → written ≡ 0 + n → WritesFirst w0 w1 x n → WriteStopped a1 b1 a2 b2 w0 w1 written
@@ -59,16 +60,17 @@ module _ (a1 b1 a2 b2 w0 w1 : Option (List ℕ)) (left right : Side) (h : HasRea
         left = stands_start a1 b1 left h s;
         right = stands_start a2 b2 right k t;
         joins = joins_start;
-        within = inl (omega arith);
-        gained = rw (e, same) p.gained;
+        within = inl (omega (arith, ap (λ (t : List (List ℕ)). length (concat t)) kept_none));
+        gained = subst (λ (t : List (List ℕ)). Appends w0 w1 (take written (text_of Archive t))) (sym kept_none) (rw (e, same) p.gained);
       }
 
 pub stops_end : (a1 b1 a2 b2 w0 w1 w2 : Option (List ℕ)) (m : Merge) (written n : ℕ) → Merging a1 b1 a2 b2 w0 w1 m → written ≡ m.written.bytes + n → WritesFirst w1 w2 (end_record m.written.records) n → m.left.ahead ≡ Ended → m.right.ahead ≡ Ended → WriteStopped a1 b1 a2 b2 w0 w2 written
 stops_end a1 b1 a2 b2 w0 w1 w2 m written n p is q l r =
+    let out : List (List ℕ) = kept p.out in
     let end : List ℕ = end_record m.written.records in
-    let end_is : end ≡ end_record (length p.out) = ap end_record p.records in
-    let text : text_of Archive p.out ≡ (magic ++ concat p.out) ++ (end ++ []) = sym (append_assoc magic (concat p.out) (end_record (length p.out))) ∙ ap (λ (t : List ℕ). (magic ++ concat p.out) ++ t) (sym end_is ∙ sym (append-nil end)) in
-    let s = stopped w0 w1 w2 (magic ++ concat p.out) end [] (text_of Archive p.out) m.written.bytes n (p.bytes ∙ sym (length-append magic (concat p.out))) text p.gained q in
+    let end_is : end ≡ end_record (length out) = ap end_record p.records in
+    let text : text_of Archive out ≡ (magic ++ concat out) ++ (end ++ []) = sym (append_assoc magic (concat out) (end_record (length out))) ∙ ap (λ (t : List ℕ). (magic ++ concat out) ++ t) (sym end_is ∙ sym (append-nil end)) in
+    let s = stopped w0 w1 w2 (magic ++ concat out) end [] (text_of Archive out) m.written.bytes n (p.bytes ∙ sym (length-append magic (concat out))) text p.gained q in
     record {
       lefts = p.lefts;
       rights = p.rights;

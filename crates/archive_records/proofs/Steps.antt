@@ -1,30 +1,31 @@
 -- A text that is read record by record.
-use Rattle.std.proofs.Common.{◌≡◌, ◌≢◌, ℕ, ◌+◌, ◌^◌, ◌<◌, true, List, [], ◌∷◌, ◌++◌, length, Option, Some, Ok, refl, sym, ap, ◌∙◌, subst, arith, inl, inr, append_assoc, length-append}
+use Rattle.std.proofs.Common.{◌≡◌, ◌≢◌, ℕ, ◌+◌, ◌^◌, ◌<◌, true, List, [], ◌∷◌, ◌++◌, length, Option, Some, Ok, refl, sym, ap, ◌∙◌, subst, arith, inl, inr, ◌⊎◌, append_assoc, length-append}
 use Rattle.std.proofs.lemmas.List.{append-nil, take_all}
 use Rattle.std.specs.List.{concat}
 use Rattle.std.specs.Io.KnownBytes.{Consumes}
-use Rattle.std.specs.Cmp.Lexicographic.{nat_list_cmp_total}
-use Rattle.std.specs.FinSet as set
-use Rattle.std.specs.FinSet.{from_list_push}
-use Rattle.archive_core.specs.Content.{Operations, with_record}
+use Rattle.archive_core.specs.Content.{is_covered}
 use Rattle.byte_device.proofs.Known.{Consumes-then}
-use Rattle.archive_records.specs.declared.fault.RecordFaultKind.TheVariants.{Trailing, Device, OutOfMemory}
+use Rattle.archive_records.specs.declared.fault.RecordFaultKind.{RecordFaultKind}
+use Rattle.archive_records.specs.declared.fault.RecordFaultKind.TheVariants.{Truncated, Trailing, Device, OutOfMemory, Covered}
 use Rattle.archive_records.specs.declared.fault.RecordFault.{RecordFault}
 use Rattle.archive_records.specs.Kind.{magic_of, IsItem, end_length, may_follow}
 use Rattle.archive_records.specs.Text.{end_record, ending, text_of, InOrder, last_of}
-use Rattle.archive_records.specs.Fault.{next, IsUnended}
+use Rattle.archive_records.specs.Fault.{next, IsUnended, FailsNext, FailsBehind, Fails}
+use Rattle.archive_records.specs.Reading.{Blames}
 use Rattle.archive_records.specs.declared.next.Step.{Step}
 use Rattle.archive_records.specs.declared.next.Step.TheVariants.{End, Item}
 use Rattle.archive_core.specs.declared.slices.SliceFacts.{SliceFacts}
-use Rattle.archive_records.specs.Reader.{IfEnd, IfItem, Position, Passes, Finishes, StopsAt, HasRead, HasReadAll, Stopped, IsEnded}
-use Rattle.archive_records.proofs.Puts.{concat-push, bytes_same}
+use Rattle.archive_records.specs.Reader.{IfEnd, IfItem, Position, set_of, RetireAlike, KeepsIn, AreRetired, IsCoveredThere, Passes, Finishes, StopsAt, HasRead, HasReadAll, Stopped, IsEnded, seen_as}
+use Rattle.archive_records.proofs.Apart.{apart_more, retired_more, covered_alike}
+use Rattle.archive_records.proofs.Puts.{concat-push}
 use Rattle.archive_records.proofs.Holds.{next-above}
-use Rattle.archive_records.proofs.FaultKinds.{never_trailing}
+use Rattle.archive_records.proofs.FaultKinds.{never_trailing, memory_blames}
 use Rattle.archive_records.proofs.Forms.{item-no_end}
 use Rattle.archive_records.proofs.Grown.{next-ok-grows}
 use Rattle.archive_records.proofs.Ends.{end-is_end, length-end_record, next_end, counted, counted_unended}
 use Rattle.archive_records.proofs.Longest.{is_end-grows}
 use Rattle.archive_records.specs.declared.kind.TextKind.{TextKind}
+use Rattle.archive_records.specs.declared.kind.TextKind.TheVariants.{Archive}
 
 pub last_of-push : (low : List ℕ) (xs : List (List ℕ)) (x : List ℕ) → last_of low (xs ++ x ∷ []) ≡ x
 last_of-push low [] x = refl
@@ -32,10 +33,6 @@ last_of-push low (y ∷ ys) x = last_of-push y ys x
 
 taken_more : (a b c : Option (List ℕ)) (x y z : List ℕ) → Consumes a b (x ++ y) → Consumes b c z → Consumes a c (x ++ (y ++ z))
 taken_more a b c x y z p q = subst (Consumes a c) (append_assoc x y z) (Consumes-then a b c (x ++ y) z p q)
-
--- the set of the records, with one more
-pub from_list-push : (records : List (List ℕ)) (x : List ℕ) (o : Operations) → o ≡ set.from_list records → with_record o x ≡ set.from_list (records ++ x ∷ [])
-from_list-push records x o e = ap (λ (s : Operations). set.insert s x) e ∙ sym (from_list_push nat_list_cmp_total bytes_same records x)
 
 module _ (file : TextKind) where
   pub InOrder-push : (low : List ℕ) (xs : List (List ℕ)) (x : List ℕ) → InOrder file low xs → IsItem file x → may_follow file (last_of low xs) x ≡ true → InOrder file low (xs ++ x ∷ [])
@@ -50,13 +47,16 @@ module _ (file : TextKind) where
   HasRead-grows a b c records before after h p =
       let bytes = after.last in
       let follows : may_follow file (last_of [] records) bytes ≡ true = rw (← h.last_is, ← h.file_is) p.follows in
+      let kept : KeepsIn file before.retired after.retired bytes = subst (λ (f : TextKind). KeepsIn f before.retired after.retired bytes) h.file_is p.kept in
       record {
         file_is = p.file_is ∙ h.file_is;
         taken = subst (λ (t : List ℕ). Consumes a c (magic_of file ++ t)) (sym (concat-push records bytes)) (taken_more a b c (magic_of file) (concat records) bytes h.taken p.taken);
         ordered = InOrder-push [] records bytes h.ordered (subst (λ (f : TextKind). IsItem f bytes) h.file_is p.item) follows;
+        apart = apart_more file before.retired after.retired records bytes h.ordered follows h.apart h.retired_are kept;
         last_is = sym (last_of-push [] records bytes);
         count_is = omega (arith, p.count_is, h.count_is, length-append records (bytes ∷ []));
         offset_is = omega (arith, p.offset_is, h.offset_is, ap length (concat-push records bytes), length-append (concat records) bytes);
+        retired_are = retired_more file before.retired after.retired records bytes h.retired_are kept;
       }
 
   -- what ends the file was read
@@ -66,9 +66,11 @@ module _ (file : TextKind) where
       record {
         taken = subst (λ (t : List ℕ). Consumes a c (magic_of file ++ (concat records ++ t))) whole (taken_more a b c (magic_of file) (concat records) (ending before.file before.count) h.taken e.taken);
         ordered = h.ordered;
+        apart = h.apart;
         few = omega (arith, h.count_is, e.few);
         ended = subst (λ (f : TextKind). IsEnded f c) h.file_is e.ended;
         offset_is = e.offset_is ∙ h.offset_is;
+        retired_are = subst (λ (t : List (List ℕ)). AreRetired file t records) (sym e.retired_is) h.retired_are;
       }
 
   -- want of memory where the record that was read is taken
@@ -77,10 +79,32 @@ module _ (file : TextKind) where
     rest = after.last;
     taken = taken_more a b c (magic_of file) (concat records) after.last h.taken p.taken;
     ordered = h.ordered;
+    apart = h.apart;
     few = omega (arith, h.count_is, p.count_is, p.few);
     unended = λ known. absurd (known.1 refl);
     stops = inl (h.offset_is, λ known. absurd (known refl));
   }
+
+  -- what is covered is covered by one of the records
+  covered_behind : (a b : Option (List ℕ)) (records : List (List ℕ)) (before : Position) (rest : List ℕ) (kind : RecordFaultKind) → HasRead file a b records before → IsCoveredThere before rest kind → FailsBehind file records rest (seen_as kind)
+  covered_behind a b records before rest kind h c =
+      let is : Archive ≡ file = sym c.file_is ∙ h.file_is in
+      let alike : RetireAlike (set_of before.retired) (set_of records) = subst (λ (f : TextKind). AreRetired f before.retired records) (sym is) h.retired_are in
+      subst (λ (f : TextKind). FailsBehind f records rest (seen_as kind)) is (
+        ap seen_as c.kind_is,
+        record {
+          item = rest;
+          more = [];
+          whole = sym (append-nil rest);
+          is = c.item;
+          above = subst (λ (t : List ℕ). may_follow Archive t rest ≡ true) h.last_is c.follows;
+          covered = sym (covered_alike (set_of before.retired) (set_of records) rest alike) ∙ c.covered;
+        },
+      )
+
+  fails_there : (a b : Option (List ℕ)) (records : List (List ℕ)) (before : Position) (rest : List ℕ) (kind : RecordFaultKind) → HasRead file a b records before → FailsNext before.file before.last before.count rest (seen_as kind) ⊎ IsCoveredThere before rest kind → Fails file records rest (seen_as kind)
+  fails_there a b records before rest kind h (inl f) = inl (rw (← h.last_is, ← h.count_is, ← h.file_is) f)
+  fails_there a b records before rest kind h (inr c) = inr (covered_behind a b records before rest kind h c)
 
   -- a test failed behind the records, or memory ran out there
   pub Stopped-fails : (a b c : Option (List ℕ)) (records : List (List ℕ)) (before : Position) (fault : RecordFault) → HasRead file a b records before → StopsAt b c before fault → Stopped file a c records fault
@@ -88,9 +112,10 @@ module _ (file : TextKind) where
     rest = s.rest;
     taken = taken_more a b c (magic_of file) (concat records) s.rest h.taken s.taken;
     ordered = h.ordered;
+    apart = h.apart;
     few = omega (arith, h.count_is, s.few);
     unended = λ known. subst (λ (f : TextKind). IsUnended f s.rest) h.file_is (s.unended known);
-    stops = inl (s.offset_is ∙ h.offset_is, λ known. rw (← h.file_is, ← h.last_is, ← h.count_is) (s.fails known));
+    stops = inl (s.offset_is ∙ h.offset_is, λ known. fails_there a b records before s.rest fault.kind h (s.fails known));
   }
 
 -- what holds at the end, and of an item, may be said in other words
@@ -104,8 +129,8 @@ IfItem-then (Item found) p f = f found p
 
 -- a step, by what it read over the last record
 pub step_passes : (a b : Option (List ℕ)) (before after : Position) (bytes : List ℕ) → after.last ≡ bytes → Consumes a b bytes → IsItem before.file bytes → may_follow before.file before.last bytes ≡ true
-    → after.file ≡ before.file → after.count ≡ before.count + 1 → after.offset ≡ before.offset + length after.last → after.count < 2 ^ 63 → Passes a b before after
-step_passes a b before after bytes is taken item follows file count offset few = record {
+    → after.file ≡ before.file → after.count ≡ before.count + 1 → after.offset ≡ before.offset + length after.last → after.count < 2 ^ 63 → KeepsIn before.file before.retired after.retired bytes → Passes a b before after
+step_passes a b before after bytes is taken item follows file count offset few kept = record {
   taken = subst (Consumes a b) (sym is) taken;
   item = subst (IsItem before.file) (sym is) item;
   follows = subst (λ (t : List ℕ). may_follow before.file before.last t ≡ true) (sym is) follows;
@@ -113,14 +138,60 @@ step_passes a b before after bytes is taken item follows file count offset few =
   count_is = count;
   offset_is = offset;
   few = few;
+  kept = subst (KeepsIn before.file before.retired after.retired) (sym is) kept;
 }
+
+-- why an item is refused by the retirements before it
+abbrev pub IsRefusedBy : Position → List ℕ → RecordFaultKind → Type 0
+IsRefusedBy before bytes kind = (kind ≡ OutOfMemory) ⊎ ((kind ≡ Covered) × (before.file ≡ Archive) × (is_covered (set_of before.retired) bytes ≡ true))
+
+pub step_refused : (a b : Option (List ℕ)) (before : Position) (bytes : List ℕ) (kind : RecordFaultKind) → Consumes a b bytes → before.count < 2 ^ 63 → IsItem before.file bytes → may_follow before.file before.last bytes ≡ true → IsRefusedBy before bytes kind
+    → StopsAt a b before (record { kind = kind; offset = before.offset })
+step_refused a b before bytes kind taken few item follows (inl e) = record {
+  rest = bytes;
+  taken = taken;
+  unended = λ known. absurd (known.1 e);
+  fails = λ known. absurd (known e);
+  offset_is = refl;
+  few = few;
+}
+step_refused a b before bytes kind taken few item follows (inr c) = record {
+  rest = bytes;
+  taken = taken;
+  unended = λ known. subst (λ (f : TextKind). IsUnended f bytes) (sym c.1) tt;
+  fails = λ known. inr (record {
+    kind_is = c.0;
+    file_is = c.1;
+    item = subst (λ (f : TextKind). IsItem f bytes) c.1 item;
+    follows = subst (λ (f : TextKind). may_follow f before.last bytes ≡ true) c.1 follows;
+    covered = c.2;
+  });
+  offset_is = refl;
+  few = few;
+}
+
+pub refused_blames : {R : Type 0} (left : R → Option (List ℕ)) (failures : R → ℕ) (old new : R) (before : Position) (bytes : List ℕ) (kind : RecordFaultKind) → failures new ≡ failures old → IsRefusedBy before bytes kind → Blames left failures old new kind
+refused_blames left failures old new before bytes kind unfailed (inl e) = subst (Blames left failures old new) (sym e) (memory_blames left failures old new unfailed)
+refused_blames left failures old new before bytes kind unfailed (inr c) = subst (Blames left failures old new) (sym c.0) ((λ e. absurd (no_device e)), (λ _. unfailed), λ e. absurd (no_end e))
+  where
+    no_device : Covered ≡ Device → ⊥
+    no_device e = cc
+
+    no_end : Covered ≡ Truncated → ⊥
+    no_end e = cc
 
 -- what comes next is never bytes too many
 pub step-never_trailing : (a b : Option (List ℕ)) (before : Position) (fault : RecordFault) → StopsAt a b before fault → fault.kind ≢ Trailing
-step-never_trailing a b before fault s trailing = never_trailing before.file before.last before.count s.rest fault.kind (s.fails (λ memory. apart (sym trailing ∙ memory))) trailing
+step-never_trailing a b before fault s trailing = elim (s.fails (λ memory. no_memory (sym trailing ∙ memory))) [
+  | inl f ↦ never_trailing before.file before.last before.count s.rest fault.kind f trailing
+  | inr c ↦ no_cover (sym trailing ∙ c.kind_is)
+]
   where
-    apart : Trailing ≡ OutOfMemory → ⊥
-    apart h = cc
+    no_memory : Trailing ≡ OutOfMemory → ⊥
+    no_memory h = cc
+
+    no_cover : Trailing ≡ Covered → ⊥
+    no_cover h = cc
 
 -- ---- behind an end record
 
@@ -138,6 +209,7 @@ module _ (file : TextKind) (counts : end_length file ≡ Some 9) where
         rest = end ++ x ∷ [];
         taken = subst (λ (t : List ℕ). Consumes a c (magic_of file ++ t)) (append_assoc (concat records) end (x ∷ [])) (taken_more a b c (magic_of file) (concat records ++ end) (x ∷ []) (taken_all a b records h.taken) k);
         ordered = h.ordered;
+        apart = h.apart;
         few = few;
         unended = λ _. counted_unended file counts (end ++ x ∷ []);
         stops = inr (inl (
@@ -159,6 +231,7 @@ module _ (file : TextKind) (counts : end_length file ≡ Some 9) where
         rest = end_record (length records);
         taken = subst (Consumes a c) (append-nil whole) (Consumes-then a b c whole [] (taken_all a b records h.taken) k);
         ordered = h.ordered;
+        apart = h.apart;
         few = h.few;
         unended = λ _. counted_unended file counts (end_record (length records));
         stops = inr (inr (refl, refl, h.offset_is));

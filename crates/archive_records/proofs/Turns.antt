@@ -1,5 +1,6 @@
 -- A turn of a merge: the record that is next is written.
-use Rattle.std.proofs.Common.{◌≡◌, ◌≢◌, ℕ, ◌+◌, ◌-◌, true, List, [], ◌∷◌, ◌++◌, length, Option, Result, Ok, Err, refl, sym, ap, ◌∙◌, subst, arith, inl, inr, ◌⊎◌, append_assoc, length-append}
+use Rattle.std.proofs.Common.{◌≡◌, ◌≢◌, ℕ, ◌+◌, ◌-◌, ◌<◌, Bool, true, false, List, [], ◌∷◌, ◌++◌, length, Option, Result, Ok, Err, refl, sym, ap, ◌∙◌, subst, arith, inl, inr, ◌⊎◌, append_assoc, length-append}
+use Rattle.std.proofs.lemmas.Bool.{false≢true}
 use Rattle.std.specs.Prelude.{IfErr, OnOk, MatchResult}
 use Rattle.std.specs.declared.cmp.Ordering.{Ordering}
 use Rattle.std.specs.declared.cmp.Ordering.TheVariants.{Less, Equal, Greater}
@@ -22,11 +23,15 @@ use Rattle.archive_records.specs.Front.{front_length}
 use Rattle.archive_records.specs.Merging.{most_records}
 use Rattle.archive_records.specs.declared.fault.MergeCause.{MergeCause}
 use Rattle.archive_records.specs.declared.fault.MergeFault.{MergeFault}
-use Rattle.archive_records.specs.Turns.{Stands, Joins, Merging, LeftStopped, RightStopped, WriteStopped, IsFull, LeftFull, RightFull, ByCause, HasStoppedMerge, IsWritten, first_by, first_of, Fits, IsRead, IsRefusedMore, memory_behind}
+use Rattle.archive_records.specs.Turns.{kept, TellsBy, TellsCovered, Stands, Joins, Merging, LeftStopped, RightStopped, WriteStopped, IsFull, LeftFull, RightFull, ByCause, HasStoppedMerge, IsWritten, cost, cost_of, first_by, first_of, Fits, IsRead, IsRefusedMore, memory_behind}
 use Rattle.archive_records.proofs.Puts.{bytes_same, concat-push}
 use Rattle.archive_records.proofs.Steps.{last_of-push}
 use Rattle.archive_records.proofs.Ascending.{below-less, below-greater, last_is_record, last_under}
-use Rattle.archive_records.proofs.Unions.{Joins-left, Joins-right, Joins-both}
+use Rattle.archive_core.specs.Content.{is_covered}
+use Rattle.archive_records.specs.Reader.{set_of}
+use Rattle.archive_records.specs.Text.{AreApart}
+use Rattle.archive_records.proofs.Covered.{kept_push, kept_pass, long_record, covered_self, by_other, by_none}
+use Rattle.archive_records.proofs.Unions.{Joins-left, Joins-right, Joins-both, Joins-swap}
 
 -- ---- which is first
 
@@ -50,6 +55,15 @@ first_greater Held Ended o read some e = absurd cc
 first_greater Held Unread o read some e = absurd cc
 first_greater Ended r o read some e = (some refl, λ t. absurd cc)
 first_greater Unread r o read some e = absurd (read refl)
+
+-- a record that the other side's retirements cover is not both sides'
+pub only_less : (m : Merge) (o : Ordering) → first_of m.left m.right ≡ o → (o ≡ Less) ⊎ (o ≡ Equal) → TellsCovered m.left m.right true → first_of m.left m.right ≡ Less
+only_less m o is (inl e) tells = is ∙ e
+only_less m o is (inr e) tells = absurd (false≢true (sym (subst (λ (x : Ordering). TellsBy x m.left m.right true) (is ∙ e) tells)))
+
+-- where it is passed over there is less to do
+pub less_cost : (m : Merge) → first_of m.left m.right ≡ Less → cost_of (record { left = record { reader = m.left.reader; ahead = Unread }; right = m.right; written = m.written }) < cost_of m
+less_cost m first = omega (arith, ap cost (first_less m.left.ahead m.right.ahead _ first).0)
 
 -- ---- one side
 
@@ -129,9 +143,36 @@ module _ (a1 b1 a2 b2 w0 w1 w2 : Option (List ℕ)) (m : Merge) (p : Merging a1 
         joins = Joins-both p.out p.lefts p.rights x p.joins (last_is_record [] p.lefts _ h.0.ordered) h.1;
       }
 
-  wrote : (x : List ℕ) (left right old new : Side) (written : Sizes) → x ≡ old.reader.last → Next a1 b1 a2 b2 left right (p.out ++ x ∷ []) → IsWritten w1 w2 m.written written old new → Merging a1 b1 a2 b2 w0 w2 (record { left = left; right = right; written = written })
-  wrote x left right old new written e n i =
+  -- whether a retirement of the other side covers the record
+  less_covered : m.right.ahead ≢ Unread → first_of m.left m.right ≡ Less → (b : Bool) → TellsCovered m.left m.right b → is_covered (set_of (p.out ++ m.left.reader.last ∷ [])) m.left.reader.last ≡ b
+  less_covered read first b tells =
+      let x = m.left.reader.last in
+      let f = first_less m.left.ahead m.right.ahead _ first in
+      let h = (p.left.held f.0).0 in
+      let told : TellsBy Less m.left m.right b = subst (λ (o : Ordering). TellsBy o m.left m.right b) first tells in
+      by_other p.out p.lefts p.rights x p.joins h.apart a2 b2 (last_of [] p.out) m.right p.right read (λ t. below-less _ _ (f.1 t)) ∙ sym (told (long_record x (last_is_record [] p.lefts x h.ordered)))
+
+  greater_covered : m.left.ahead ≢ Unread → (m.left.ahead ≡ Ended → m.right.ahead ≡ Held) → first_of m.left m.right ≡ Greater → (b : Bool) → TellsCovered m.left m.right b → is_covered (set_of (p.out ++ m.right.reader.last ∷ [])) m.right.reader.last ≡ b
+  greater_covered read some first b tells =
+      let x = m.right.reader.last in
+      let f = first_greater m.left.ahead m.right.ahead _ read some first in
+      let h = (p.right.held f.0).0 in
+      let told : TellsBy Greater m.left m.right b = subst (λ (o : Ordering). TellsBy o m.left m.right b) first tells in
+      by_other p.out p.rights p.lefts x (Joins-swap p.out p.lefts p.rights p.joins) h.apart a1 b1 (last_of [] p.out) m.left p.left read (λ t. below-greater _ _ (f.1 t)) ∙ sym (told (long_record x (last_is_record [] p.rights x h.ordered)))
+
+  both_free : first_of m.left m.right ≡ Equal → is_covered (set_of (p.out ++ m.left.reader.last ∷ [])) m.left.reader.last ≡ false
+  both_free first =
+      let x = m.left.reader.last in
+      let f = first_equal m.left.ahead m.right.ahead _ first in
+      let h = (p.left.held f.0).0 in
+      let k = (p.right.held f.1).0 in
+      by_none p.out p.lefts p.rights x p.joins h.apart (subst (λ (y : List ℕ). AreApart Archive (p.rights ++ y ∷ [])) (sym (bytes_same _ _ f.2)) k.apart)
+
+  wrote : (x : List ℕ) (left right old new : Side) (written : Sizes) → x ≡ old.reader.last → is_covered (set_of (p.out ++ x ∷ [])) x ≡ false → Next a1 b1 a2 b2 left right (p.out ++ x ∷ []) → IsWritten w1 w2 m.written written old new → Merging a1 b1 a2 b2 w0 w2 (record { left = left; right = right; written = written })
+  wrote x left right old new written e free n i =
       let gained : Appends w1 w2 x = subst (Appends w1 w2) (sym e) i.gained in
+      let grown : kept (p.out ++ x ∷ []) ≡ kept p.out ++ x ∷ [] = kept_push p.out x n.joins.ordered free in
+      let bytes : concat (kept (p.out ++ x ∷ [])) ≡ concat (kept p.out) ++ x = ap concat grown ∙ concat-push (kept p.out) x in
       record {
         lefts = n.lefts;
         rights = n.rights;
@@ -140,16 +181,43 @@ module _ (a1 b1 a2 b2 w0 w1 w2 : Option (List ℕ)) (m : Merge) (p : Merging a1 
         right = n.right;
         order = n.order;
         joins = n.joins;
-        records = omega (arith, i.records, p.records, length-append p.out (x ∷ []));
-        bytes = omega (arith, i.bytes, ap length e, p.bytes, ap length (concat-push p.out x), length-append (concat p.out) x);
-        gained = subst (Appends w0 w2) (append_assoc magic (concat p.out) x ∙ ap (λ (t : List ℕ). magic ++ t) (sym (concat-push p.out x))) (Appends-then w0 w1 w2 (magic ++ concat p.out) x p.gained gained);
+        records = omega (arith, i.records, p.records, ap length grown, length-append (kept p.out) (x ∷ []));
+        bytes = omega (arith, i.bytes, ap length e, p.bytes, ap length bytes, length-append (concat (kept p.out)) x);
+        gained = subst (Appends w0 w2) (append_assoc magic (concat (kept p.out)) x ∙ ap (λ (t : List ℕ). magic ++ t) (sym bytes)) (Appends-then w0 w1 w2 (magic ++ concat (kept p.out)) x p.gained gained);
       }
 
-  write_stops : (x : List ℕ) (left right : Side) (written k : ℕ) → Next a1 b1 a2 b2 left right (p.out ++ x ∷ []) → written ≡ m.written.bytes + k → WritesFirst w1 w2 x k → WriteStopped a1 b1 a2 b2 w0 w2 written
-  write_stops x left right written k n is q =
-      let end : List ℕ = end_record (length (p.out ++ x ∷ [])) in
-      let text : text_of Archive (p.out ++ x ∷ []) ≡ (magic ++ concat p.out) ++ (x ++ end) = ap (λ (t : List ℕ). magic ++ t) (ap (λ (t : List ℕ). t ++ end) (concat-push p.out x) ∙ append_assoc (concat p.out) x end) ∙ sym (append_assoc magic (concat p.out) (x ++ end)) in
-      let s = stopped w0 w1 w2 (magic ++ concat p.out) x end (text_of Archive (p.out ++ x ∷ [])) m.written.bytes k (p.bytes ∙ sym (length-append magic (concat p.out))) text p.gained q in
+  -- the record is passed over
+  passed : (x : List ℕ) (left right : Side) → is_covered (set_of (p.out ++ x ∷ [])) x ≡ true → Next a1 b1 a2 b2 left right (p.out ++ x ∷ []) → Merging a1 b1 a2 b2 w0 w1 (record { left = left; right = right; written = m.written })
+  passed x left right covered n =
+      let same : kept (p.out ++ x ∷ []) ≡ kept p.out = kept_pass p.out x n.joins.ordered covered in
+      record {
+        lefts = n.lefts;
+        rights = n.rights;
+        out = p.out ++ x ∷ [];
+        left = n.left;
+        right = n.right;
+        order = n.order;
+        joins = n.joins;
+        records = p.records ∙ ap length (sym same);
+        bytes = p.bytes ∙ ap (λ (t : List (List ℕ)). 8 + length (concat t)) (sym same);
+        gained = subst (λ (t : List (List ℕ)). Appends w0 w1 (magic ++ concat t)) (sym same) p.gained;
+      }
+
+  pub pass_left : m.right.ahead ≢ Unread → first_of m.left m.right ≡ Less → TellsCovered m.left m.right true → Merging a1 b1 a2 b2 w0 w1 (record { left = unread_of m.left; right = m.right; written = m.written })
+  pass_left read first tells = passed m.left.reader.last (unread_of m.left) m.right (less_covered read first true tells) (next_left read first)
+
+  pub pass_right : m.left.ahead ≢ Unread → (m.left.ahead ≡ Ended → m.right.ahead ≡ Held) → first_of m.left m.right ≡ Greater → TellsCovered m.left m.right true → Merging a1 b1 a2 b2 w0 w1 (record { left = m.left; right = unread_of m.right; written = m.written })
+  pass_right read some first tells = passed m.right.reader.last m.left (unread_of m.right) (greater_covered read some first true tells) (next_right read some first)
+
+  write_stops : (x : List ℕ) (left right : Side) (written k : ℕ) → is_covered (set_of (p.out ++ x ∷ [])) x ≡ false → Next a1 b1 a2 b2 left right (p.out ++ x ∷ []) → written ≡ m.written.bytes + k → WritesFirst w1 w2 x k → WriteStopped a1 b1 a2 b2 w0 w2 written
+  write_stops x left right written k free n is q =
+      let before : List (List ℕ) = kept p.out in
+      let after : List (List ℕ) = kept (p.out ++ x ∷ []) in
+      let grown : after ≡ before ++ x ∷ [] = kept_push p.out x n.joins.ordered free in
+      let bytes : concat after ≡ concat before ++ x = ap concat grown ∙ concat-push before x in
+      let end : List ℕ = end_record (length after) in
+      let text : text_of Archive after ≡ (magic ++ concat before) ++ (x ++ end) = ap (λ (t : List ℕ). magic ++ t) (ap (λ (t : List ℕ). t ++ end) bytes ∙ append_assoc (concat before) x end) ∙ sym (append_assoc magic (concat before) (x ++ end)) in
+      let s = stopped w0 w1 w2 (magic ++ concat before) x end (text_of Archive after) m.written.bytes k (p.bytes ∙ sym (length-append magic (concat before))) text p.gained q in
       record {
         lefts = n.lefts;
         rights = n.rights;
@@ -159,19 +227,19 @@ module _ (a1 b1 a2 b2 w0 w1 w2 : Option (List ℕ)) (m : Merge) (p : Merging a1 
         left = n.left;
         right = n.right;
         joins = n.joins;
-        within = inl (omega (arith, is, q.within, p.bytes, ap length (concat-push p.out x), length-append (concat p.out) x));
+        within = inl (omega (arith, is, q.within, p.bytes, ap length bytes, length-append (concat before) x));
         gained = rw is s.gained;
       }
 
   module _ {X : Type 0} (r : Result X WriteFault) (written : Sizes) (side : Side) where
-    pub left_turn : m.right.ahead ≢ Unread → first_of m.left m.right ≡ Less → OnOk r (IsWritten w1 w2 m.written written m.left side) → IfErr r (λ e. (k : ℕ) × (e.written ≡ m.written.bytes + k) × WritesFirst w1 w2 m.left.reader.last k)
+    pub left_turn : m.right.ahead ≢ Unread → first_of m.left m.right ≡ Less → TellsCovered m.left m.right false → OnOk r (IsWritten w1 w2 m.written written m.left side) → IfErr r (λ e. (k : ℕ) × (e.written ≡ m.written.bytes + k) × WritesFirst w1 w2 m.left.reader.last k)
         → MatchResult r (λ _. Merging a1 b1 a2 b2 w0 w2 (record { left = side; right = m.right; written = written })) (λ fault. WriteStopped a1 b1 a2 b2 w0 w2 fault.written)
-    left_turn read first ok err = by r ok err
+    left_turn read first tells ok err = by r ok err
       where
         by : (r : Result X WriteFault) → OnOk r (IsWritten w1 w2 m.written written m.left side) → IfErr r (λ e. (k : ℕ) × (e.written ≡ m.written.bytes + k) × WritesFirst w1 w2 m.left.reader.last k)
             → MatchResult r (λ _. Merging a1 b1 a2 b2 w0 w2 (record { left = side; right = m.right; written = written })) (λ fault. WriteStopped a1 b1 a2 b2 w0 w2 fault.written)
-        by (Ok x) i e = subst (λ (s : Side). Merging a1 b1 a2 b2 w0 w2 (record { left = s; right = m.right; written = written })) (sym i.side) (wrote m.left.reader.last (unread_of m.left) m.right m.left side written refl (next_left read first) i)
-        by (Err fault) i e = write_stops m.left.reader.last (unread_of m.left) m.right fault.written e.0 (next_left read first) e.1 e.2
+        by (Ok x) i e = subst (λ (s : Side). Merging a1 b1 a2 b2 w0 w2 (record { left = s; right = m.right; written = written })) (sym i.side) (wrote m.left.reader.last (unread_of m.left) m.right m.left side written refl (less_covered read first false tells) (next_left read first) i)
+        by (Err fault) i e = write_stops m.left.reader.last (unread_of m.left) m.right fault.written e.0 (less_covered read first false tells) (next_left read first) e.1 e.2
 
     pub both_turn : first_of m.left m.right ≡ Equal → OnOk r (IsWritten w1 w2 m.written written m.left side) → IfErr r (λ e. (k : ℕ) × (e.written ≡ m.written.bytes + k) × WritesFirst w1 w2 m.left.reader.last k)
         → MatchResult r (λ _. Merging a1 b1 a2 b2 w0 w2 (record { left = side; right = unread_of m.right; written = written })) (λ fault. WriteStopped a1 b1 a2 b2 w0 w2 fault.written)
@@ -179,18 +247,18 @@ module _ (a1 b1 a2 b2 w0 w1 w2 : Option (List ℕ)) (m : Merge) (p : Merging a1 
       where
         by : (r : Result X WriteFault) → OnOk r (IsWritten w1 w2 m.written written m.left side) → IfErr r (λ e. (k : ℕ) × (e.written ≡ m.written.bytes + k) × WritesFirst w1 w2 m.left.reader.last k)
             → MatchResult r (λ _. Merging a1 b1 a2 b2 w0 w2 (record { left = side; right = unread_of m.right; written = written })) (λ fault. WriteStopped a1 b1 a2 b2 w0 w2 fault.written)
-        by (Ok x) i e = subst (λ (s : Side). Merging a1 b1 a2 b2 w0 w2 (record { left = s; right = unread_of m.right; written = written })) (sym i.side) (wrote m.left.reader.last (unread_of m.left) (unread_of m.right) m.left side written refl (next_both first) i)
-        by (Err fault) i e = write_stops m.left.reader.last (unread_of m.left) (unread_of m.right) fault.written e.0 (next_both first) e.1 e.2
+        by (Ok x) i e = subst (λ (s : Side). Merging a1 b1 a2 b2 w0 w2 (record { left = s; right = unread_of m.right; written = written })) (sym i.side) (wrote m.left.reader.last (unread_of m.left) (unread_of m.right) m.left side written refl (both_free first) (next_both first) i)
+        by (Err fault) i e = write_stops m.left.reader.last (unread_of m.left) (unread_of m.right) fault.written e.0 (both_free first) (next_both first) e.1 e.2
 
-    pub right_turn : m.left.ahead ≢ Unread → (m.left.ahead ≡ Ended → m.right.ahead ≡ Held) → first_of m.left m.right ≡ Greater → OnOk r (IsWritten w1 w2 m.written written m.right side)
+    pub right_turn : m.left.ahead ≢ Unread → (m.left.ahead ≡ Ended → m.right.ahead ≡ Held) → first_of m.left m.right ≡ Greater → TellsCovered m.left m.right false → OnOk r (IsWritten w1 w2 m.written written m.right side)
         → IfErr r (λ e. (k : ℕ) × (e.written ≡ m.written.bytes + k) × WritesFirst w1 w2 m.right.reader.last k)
         → MatchResult r (λ _. Merging a1 b1 a2 b2 w0 w2 (record { left = m.left; right = side; written = written })) (λ fault. WriteStopped a1 b1 a2 b2 w0 w2 fault.written)
-    right_turn read some first ok err = by r ok err
+    right_turn read some first tells ok err = by r ok err
       where
         by : (r : Result X WriteFault) → OnOk r (IsWritten w1 w2 m.written written m.right side) → IfErr r (λ e. (k : ℕ) × (e.written ≡ m.written.bytes + k) × WritesFirst w1 w2 m.right.reader.last k)
             → MatchResult r (λ _. Merging a1 b1 a2 b2 w0 w2 (record { left = m.left; right = side; written = written })) (λ fault. WriteStopped a1 b1 a2 b2 w0 w2 fault.written)
-        by (Ok x) i e = subst (λ (s : Side). Merging a1 b1 a2 b2 w0 w2 (record { left = m.left; right = s; written = written })) (sym i.side) (wrote m.right.reader.last m.left (unread_of m.right) m.right side written refl (next_right read some first) i)
-        by (Err fault) i e = write_stops m.right.reader.last m.left (unread_of m.right) fault.written e.0 (next_right read some first) e.1 e.2
+        by (Ok x) i e = subst (λ (s : Side). Merging a1 b1 a2 b2 w0 w2 (record { left = m.left; right = s; written = written })) (sym i.side) (wrote m.right.reader.last m.left (unread_of m.right) m.right side written refl (greater_covered read some first false tells) (next_right read some first) i)
+        by (Err fault) i e = write_stops m.right.reader.last m.left (unread_of m.right) fault.written e.0 (greater_covered read some first false tells) (next_right read some first) e.1 e.2
 
 -- ---- as many records were written as there may be
 
@@ -205,7 +273,16 @@ before_last a b done low s p held =
     let h = (p.held held).0 in
     omega (arith, h.offset_is, ap length (concat-push done s.reader.last), length-append (concat done) s.reader.last)
 
-module _ (a1 b1 a2 b2 w0 w1 : Option (List ℕ)) (m : Merge) (p : Merging a1 b1 a2 b2 w0 w1 m) (fits : Fits m) (read : IsRead m) (some : m.left.ahead ≡ Ended → m.right.ahead ≡ Held) where
+module _ (a1 b1 a2 b2 w0 w1 : Option (List ℕ)) (m : Merge) (p : Merging a1 b1 a2 b2 w0 w1 m) (fits : Fits m) (read : IsRead m) (some : m.left.ahead ≡ Ended → m.right.ahead ≡ Held) (tells : TellsCovered m.left m.right false) where
+  -- the record that is next is not covered
+  left_free : (o : Ordering) → first_of m.left m.right ≡ o → o ≢ Greater → is_covered (set_of p.out) m.left.reader.last ≡ false
+  left_free Less e n = sym (covered_self p.out m.left.reader.last) ∙ less_covered a1 b1 a2 b2 w0 w1 w1 m p read.right e false tells
+  left_free Equal e n = sym (covered_self p.out m.left.reader.last) ∙ both_free a1 b1 a2 b2 w0 w1 w1 m p e
+  left_free Greater e n = absurd (n refl)
+
+  right_free : first_of m.left m.right ≡ Greater → is_covered (set_of p.out) m.right.reader.last ≡ false
+  right_free e = sym (covered_self p.out m.right.reader.last) ∙ greater_covered a1 b1 a2 b2 w0 w1 w1 m p read.left some e false tells
+
   is_full : (written : ℕ) → m.written.records ≡ most_records → written ≡ m.written.bytes → IsFull a1 b1 a2 b2 w0 w1 written
   is_full written most is = record {
     lefts = p.lefts;
@@ -220,6 +297,8 @@ module _ (a1 b1 a2 b2 w0 w1 : Option (List ℕ)) (m : Merge) (p : Merging a1 b1 
     left_few = fits.left_few;
     right_few = fits.right_few;
     some = some;
+    left_kept = λ n. left_free (first_of m.left m.right) refl n;
+    right_kept = right_free;
     joins = p.joins;
     most = sym p.records ∙ most;
     written_is = is ∙ p.bytes;

@@ -1,7 +1,10 @@
 -- The one fault of a text that is not an archive's, or not that of operations.
 use Rattle.std.specs.Prelude.{◌≡◌, ◌≢◌, ℕ, ◌+◌, ◌<◌, ◌≤◌, Bool, true, List, [], length, take}
-use Rattle.std.specs.Prelude.{drop, slice_index, ◌==◌, if◌then◌else◌, Result, Ok, Err, ◌⊎◌}
+use Rattle.std.specs.Prelude.{drop, slice_index, ◌++◌, ◌==◌, if◌then◌else◌, Result, Ok, Err, ◌⊎◌}
 use Rattle.archive_core.specs.Key.{key_bytes}
+use Rattle.std.specs.FinSet as set
+use Rattle.archive_core.specs.Record.{IsRecord}
+use Rattle.archive_core.specs.Content.{is_covered}
 use Rattle.archive_core.specs.Valid.{IsValid, IsSliceFault, key_of}
 use Rattle.archive_records.specs.declared.kind.TextKind.{TextKind}
 use Rattle.archive_records.specs.declared.kind.TextKind.TheVariants.{Archive, Operations, Summary}
@@ -9,7 +12,7 @@ use Rattle.archive_records.specs.declared.fault.RecordFaultKind.{RecordFaultKind
 use Rattle.archive_records.specs.declared.fault.RecordFaultKind.TheVariants.{BadMagic, Truncated, BadTag, TooLarge}
 use Rattle.archive_records.specs.declared.fault.RecordFaultKind.TheVariants.{NotAscending, BadSlice}
 use Rattle.archive_records.specs.declared.fault.RecordFaultKind.TheVariants.{KeyMismatch, BadCount, Trailing}
-use Rattle.archive_records.specs.declared.fault.RecordFaultKind.TheVariants.{Device, OutOfMemory}
+use Rattle.archive_records.specs.declared.fault.RecordFaultKind.TheVariants.{Device, OutOfMemory, Covered}
 use Rattle.archive_records.specs.declared.fault.RecordFault.{RecordFault}
 use Rattle.archive_records.specs.Layout.{record_count, framed}
 use Rattle.archive_records.specs.Kind.{magic_of, may_follow}
@@ -49,6 +52,7 @@ RefusesSlice bytes BadCount = ⊥
 RefusesSlice bytes Trailing = ⊥
 RefusesSlice bytes Device = ⊥
 RefusesSlice bytes OutOfMemory = ⊥
+RefusesSlice bytes Covered = ⊥
 
 -- why a whole item is refused for what it holds; an entry is not
 abbrev pub Refuses : TextKind → List ℕ → RecordFaultKind → Type 0
@@ -62,10 +66,25 @@ FailsNext file last count rest kind =
     (next file last count rest ≡ Err kind)
     ⊎ ((n : ℕ) × (next file last count rest ≡ Ok n) × Refuses file (take n rest) kind)
 
--- The first test that fails in front of the rest, behind these records. A test that looks at all of them would come
--- last.
+-- A record stands in front of the rest that may follow these, but a retirement among them covers it.
+pub record IsCoveredNext (records : List (List ℕ)) (rest : List ℕ) : Type 0 where
+  pub item : List ℕ
+  pub more : List ℕ
+  pub whole : rest ≡ item ++ more
+  pub is : IsRecord item
+  pub above : may_follow Archive (last_of [] records) item ≡ true
+  pub covered : is_covered (set.from_list records) item ≡ true
+
+-- the test that looks at all records before, the last one: archives alone have it
+abbrev pub FailsBehind : TextKind → List (List ℕ) → List ℕ → RecordFaultKind → Type 0
+FailsBehind Archive records rest kind = (kind ≡ Covered) × IsCoveredNext records rest
+FailsBehind Operations records rest kind = ⊥
+FailsBehind Summary records rest kind = ⊥
+
+-- the first test that fails in front of the rest, behind these records
 abbrev pub Fails : TextKind → List (List ℕ) → List ℕ → RecordFaultKind → Type 0
-Fails file records rest kind = FailsNext file (last_of [] records) (length records) rest kind
+Fails file records rest kind =
+    FailsNext file (last_of [] records) (length records) rest kind ⊎ FailsBehind file records rest kind
 
 -- the end record of so many records, and bytes behind it
 pub record IsTrailing (file : TextKind) (last : List ℕ) (count : ℕ) (rest : List ℕ) : Type 0 where
@@ -86,6 +105,7 @@ IsMagicFault file text BadCount = ⊥
 IsMagicFault file text Trailing = ⊥
 IsMagicFault file text Device = ⊥
 IsMagicFault file text OutOfMemory = ⊥
+IsMagicFault file text Covered = ⊥
 
 -- what is wrong behind a good front, and where
 abbrev pub IsFaultBehind : TextKind → List (List ℕ) → List ℕ → RecordFault → Type 0

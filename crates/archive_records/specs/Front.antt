@@ -4,11 +4,12 @@ use Rattle.std.specs.List.{concat}
 use Rattle.archive_records.specs.declared.kind.TextKind.{TextKind}
 use Rattle.archive_records.specs.declared.kind.TextKind.TheVariants.{Archive}
 use Rattle.archive_records.specs.Kind.{magic_of}
-use Rattle.archive_records.specs.Text.{InOrder}
+use Rattle.archive_records.specs.Text.{InOrder, AreApart}
 
--- The text begins with the magic and these records; those of an archive strictly ascend.
+-- The text begins with the magic and these records; those of an archive strictly ascend, and none is covered.
 pub record IsGoodFront (file : TextKind) (text : List ℕ) (records : List (List ℕ)) : Type 0 where
   pub ordered : InOrder file [] records
+  pub apart : AreApart file records
   pub rest : List ℕ
   pub whole : text ≡ magic_of file ++ (concat records ++ rest)
 

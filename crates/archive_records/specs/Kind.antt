@@ -8,9 +8,9 @@ use Rattle.archive_records.specs.Entry.{IsEntry}
 use Rattle.archive_records.specs.declared.kind.TextKind.{TextKind}
 use Rattle.archive_records.specs.declared.kind.TextKind.TheVariants.{Archive, Operations, Summary}
 
--- MSYMARC1
+-- MSYMARC2
 abbrev pub magic : List ℕ
-magic = 0x4d ∷ 0x53 ∷ 0x59 ∷ 0x4d ∷ 0x41 ∷ 0x52 ∷ 0x43 ∷ 0x31 ∷ []
+magic = 0x4d ∷ 0x53 ∷ 0x59 ∷ 0x4d ∷ 0x41 ∷ 0x52 ∷ 0x43 ∷ 0x32 ∷ []
 
 -- MSYMOPS1
 abbrev pub operations_magic : List ℕ

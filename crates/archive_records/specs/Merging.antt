@@ -1,5 +1,5 @@
 -- A merge of two texts: what is written of two archives, and else which side stops it, and where.
-use Rattle.std.specs.Prelude.{◌≡◌, ℕ, ◌+◌, ◌-◌, ◌^◌, ◌<◌, true, not, List, [], ◌++◌, length, filter, Option, IfSome}
+use Rattle.std.specs.Prelude.{◌≡◌, ℕ, ◌+◌, ◌-◌, ◌^◌, ◌<◌, true, false, not, List, [], ◌++◌, length, filter, Option, IfSome}
 use Rattle.std.specs.Prelude.{Result}
 use Rattle.std.specs.Prelude.{Ok, Err, ◌⊎◌}
 use Rattle.std.specs.List.{concat}
@@ -8,7 +8,7 @@ use Rattle.std.specs.Io.KnownBytes.{Appends, Consumes, IsAtEnd}
 use Rattle.join_core.specs.Listing.{listing}
 use Rattle.byte_device.specs.Devices.{FailedIn}
 use Rattle.byte_device.specs.Writes.{WritesFirst}
-use Rattle.archive_core.specs.Content.{Operations, IsContent, joined}
+use Rattle.archive_core.specs.Content.{Operations, IsContent, is_covered, joined}
 use Rattle.archive_records.specs.declared.fault.RecordFault.{RecordFault}
 use Rattle.archive_records.specs.declared.fault.RecordFaultKind.TheVariants.{Trailing, OutOfMemory}
 use Rattle.archive_records.specs.declared.fault.MergeCause.{MergeCause}
@@ -17,7 +17,7 @@ use Rattle.archive_records.specs.declared.fault.MergeFault.{MergeFault}
 use Rattle.archive_records.specs.declared.kind.TextKind.TheVariants.{Archive}
 use Rattle.archive_records.specs.declared.writing.Sizes.{Sizes}
 use Rattle.archive_records.specs.Kind.{magic, IsItem, may_follow}
-use Rattle.archive_records.specs.Text.{written, end_record, InOrder, last_of}
+use Rattle.archive_records.specs.Text.{written, end_record, InOrder, AreApart, last_of}
 use Rattle.archive_records.specs.Fault.{IsOfText}
 use Rattle.archive_records.specs.Front.{IsLongestFront, front_length}
 use Rattle.archive_records.specs.Reading.{IsReadWhole, ReadsWhole}
@@ -54,7 +54,11 @@ pub record RightStops (left right : List ℕ) (lefts rights : List (List ℕ)) :
   pub magic_left : HasMagic left
   pub first : (HasMagic right → ⊥) ⊎ IsArchiveText left ⊎ EndsBelow rights lefts
 
--- the content that the good records of both make
+-- the set of the good records of both
+abbrev pub all_of : List (List ℕ) → List (List ℕ) → Operations
+all_of lefts rights = set.union (set.from_list lefts) (set.from_list rights)
+
+-- the content that the good records of both make: of these records, those that no retirement among them covers
 abbrev pub of_both : List (List ℕ) → List (List ℕ) → Operations
 of_both lefts rights = joined (set.from_list lefts) (set.from_list rights)
 
@@ -63,7 +67,7 @@ abbrev pub up_to : List ℕ → List (List ℕ) → List (List ℕ)
 up_to low records = filter (λ r. not (may_follow Archive low r)) records
 
 -- What is written where the side that ends with this record stops the merge: nothing if either has no magic; else the
--- magic and those of the good records of both that are not above this one.
+-- magic and those of the good records of both that are not above this one, but for what a retirement of either covers.
 abbrev pub IsWrittenBefore : List ℕ → List ℕ → Operations → List ℕ → List ℕ → Type 0
 IsWrittenBefore left right o low bytes =
     (((HasMagic left → ⊥) ⊎ (HasMagic right → ⊥)) × (bytes ≡ []))
@@ -114,36 +118,39 @@ ForTexts left right P =
 abbrev pub most_records : ℕ
 most_records = 2 ^ 63 - 1
 
--- Of the side were taken its magic, these ascending records, and these bytes behind them.
+-- Of the side were taken its magic, these ascending records, none of which another covers, and these bytes behind them.
 pub record IsTaken {R : Type 0} (side : Stream R) (records : List (List ℕ)) (behind : List ℕ) : Type 0 where
   pub taken : Consumes (side.bytes side.old) (side.bytes side.new) (magic ++ (concat records ++ behind))
   pub ordered : InOrder Archive [] records
+  pub apart : AreApart Archive records
 
--- what was taken behind these records of a side that was read on once this record was written: one that is above it, or
--- the end record, and the side is at its end
+-- what was taken behind these records of a side that was read on once this record had its turn: one that is above it, or
+-- the end record, and the side is at its end. A record that is covered has its turn where it would have been written.
 abbrev pub IsNext : {R : Type 0} → Stream R → List ℕ → List (List ℕ) → List ℕ → Type 0
 IsNext side low records next =
     (IsItem Archive next × (may_follow Archive low next ≡ true))
     ⊎ ((next ≡ end_record (length records)) × IsAtEnd (side.bytes side.new))
 
--- It is the left side's turn: its last record was written last, and the right side was read on only if its own is below
+-- It is the left side's turn: its last record had its turn last, and the right side was read on only if its own is below
 -- that one; where both are the same, or there is none yet, the left side is read first.
 abbrev pub IsTurnOfLeft : {S : Type 0} → Stream S → List (List ℕ) → List (List ℕ) → List ℕ → Type 0
 IsTurnOfLeft right lefts rights next =
     ((last_of [] rights ≡ last_of [] lefts) × (next ≡ []))
     ⊎ (EndsBelow rights lefts × IsNext right (last_of [] lefts) rights next)
 
--- It is the right side's turn: its last record was written last, and the left side was read on.
+-- It is the right side's turn: its last record had its turn last, and the left side was read on.
 abbrev pub IsTurnOfRight : {R : Type 0} → Stream R → List (List ℕ) → List (List ℕ) → List ℕ → Type 0
 IsTurnOfRight left lefts rights next =
     (EndsBelow rights lefts → ⊥) × IsNext left (last_of [] rights) lefts next
 
--- As many records were written as there may be, and both sides were read on: this one has one more.
-pub record IsOneMore {R S : Type 0} (side : Stream R) (other : Stream S) (o : Operations) (others : List (List ℕ))
+-- As many records of this content were written as there may be, and both sides were read on: this one has one more, which
+-- none of all these records covers.
+pub record IsOneMore {R S : Type 0} (side : Stream R) (other : Stream S) (o all : Operations) (others : List (List ℕ))
     (more next : List ℕ) : Type 0 where
   pub most : set.len o ≡ most_records
-  pub more_is : IsItem Archive more × (may_follow Archive (last_of [] (listing o)) more ≡ true)
-  pub next_is : IsNext other (last_of [] (listing o)) others next
+  pub more_is : IsItem Archive more × (may_follow Archive (last_of [] (listing all)) more ≡ true)
+  pub uncovered : is_covered all more ≡ false
+  pub next_is : IsNext other (last_of [] (listing all)) others next
 
 -- the offset of a fault behind these records; for bytes behind the end record, behind that too
 abbrev pub IsBehind : List (List ℕ) → RecordFault → Type 0
@@ -158,7 +165,8 @@ IsOut out records n = Gains out (magic ++ concat records) × (n ≡ length (magi
 abbrev pub IsInMagic : {W : Type 0} → Stream W → RecordFault → ℕ → Type 0
 IsInMagic out fault n = (fault.offset ≡ 0) × (n ≡ 0) × Gains out []
 
--- The left side is refused behind its magic, and these records of both were written, and no others.
+-- The left side is refused behind its magic, and of these records of both those were written that none of them covers,
+-- and no others.
 pub record IsLeftBehind {R S W : Type 0} (left : Stream R) (right : Stream S) (out : Stream W) (fault : RecordFault)
     (n : ℕ) : Type 0 where
   pub lefts : List (List ℕ)
@@ -170,7 +178,8 @@ pub record IsLeftBehind {R S W : Type 0} (left : Stream R) (right : Stream S) (o
   pub behind : IsBehind lefts fault
   pub out_is : IsOut out (listing (of_both lefts rights)) n
   pub turn : IsTurnOfLeft right lefts rights right_next
-      ⊎ ((fault.kind ≡ OutOfMemory) × IsOneMore left right (of_both lefts rights) rights left_next right_next
+      ⊎ ((fault.kind ≡ OutOfMemory) × IsOneMore left right (of_both lefts rights) (all_of lefts rights)
+      rights left_next right_next
       × (IsItem Archive right_next → may_follow Archive right_next left_next ≡ true → ⊥))
 
 -- The right side is.
@@ -185,7 +194,8 @@ pub record IsRightBehind {R S W : Type 0} (left : Stream R) (right : Stream S) (
   pub behind : IsBehind rights fault
   pub out_is : IsOut out (listing (of_both lefts rights)) n
   pub turn : IsTurnOfRight left lefts rights left_next
-      ⊎ ((fault.kind ≡ OutOfMemory) × IsOneMore right left (of_both lefts rights) lefts right_next left_next
+      ⊎ ((fault.kind ≡ OutOfMemory) × IsOneMore right left (of_both lefts rights) (all_of lefts rights)
+      lefts right_next left_next
       × (IsItem Archive left_next → may_follow Archive right_next left_next ≡ true))
 
 -- ---- what came of it

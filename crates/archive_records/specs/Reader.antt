@@ -1,7 +1,7 @@
 -- Records that are read from a source one over the other: the words of the inner functions. No contract of a public one
 -- has them.
-use Rattle.std.specs.Prelude.{◌≡◌, ◌≢◌, ℕ, ◌+◌, ◌*◌, ◌^◌, ◌<◌, ◌≤◌, Bool, true, List, [], ◌++◌, length, take}
-use Rattle.std.specs.Prelude.{drop, map, All, Option, Some, None, Result, Ok, Err, MatchResult, ◌⊎◌}
+use Rattle.std.specs.Prelude.{◌≡◌, ◌≢◌, ℕ, ◌+◌, ◌*◌, ◌^◌, ◌<◌, ◌≤◌, Bool, true, false, List, [], ◌∷◌, ◌++◌, length}
+use Rattle.std.specs.Prelude.{take, drop, map, All, Option, Some, None, Result, Ok, Err, MatchResult, ◌⊎◌}
 use Rattle.std.specs.List.{concat, AllByRecursion}
 use Rattle.std.specs.List.Sorted.{IsStrictlySortedBy}
 use Rattle.std.specs.Ordering.{nat_cmp}
@@ -11,8 +11,8 @@ use Rattle.std.specs.Io.KnownBytes.{Consumes, IsAtEnd}
 use Rattle.archive_core.specs.declared.operations.Operation.{Operation}
 use Rattle.archive_core.specs.declared.slices.SliceFacts.{SliceFacts}
 use Rattle.archive_core.specs.Valid.{IsCheckedOf}
-use Rattle.archive_core.specs.Record.{IsOperation, rec, Admits, Retires}
-use Rattle.archive_core.specs.Content.{Operations}
+use Rattle.archive_core.specs.Record.{IsOperation, rec, IsRecord, Admits, Retires}
+use Rattle.archive_core.specs.Content.{Operations, is_covered}
 use Rattle.archive_core.specs.Part.{part}
 use Rattle.archive_records.specs.declared.kind.TextKind.{TextKind}
 use Rattle.archive_records.specs.declared.kind.TextKind.TheVariants.{Archive, Operations as Operations_file}
@@ -24,11 +24,11 @@ use Rattle.archive_records.specs.declared.fault.RecordFaultKind.{RecordFaultKind
 use Rattle.archive_records.specs.declared.fault.RecordFaultKind.TheVariants.{BadMagic, Truncated, BadTag, TooLarge}
 use Rattle.archive_records.specs.declared.fault.RecordFaultKind.TheVariants.{NotAscending, BadSlice}
 use Rattle.archive_records.specs.declared.fault.RecordFaultKind.TheVariants.{KeyMismatch, BadCount, Trailing}
-use Rattle.archive_records.specs.declared.fault.RecordFaultKind.TheVariants.{Device, OutOfMemory}
+use Rattle.archive_records.specs.declared.fault.RecordFaultKind.TheVariants.{Device, OutOfMemory, Covered}
 use Rattle.archive_records.specs.declared.fault.RecordFault.{RecordFault}
 use Rattle.archive_records.specs.Entry.{IsEntry}
 use Rattle.archive_records.specs.Kind.{magic_of, IsItem, may_follow}
-use Rattle.archive_records.specs.Text.{end_record, ending, text_of, InOrder, last_of}
+use Rattle.archive_records.specs.Text.{end_record, ending, text_of, InOrder, AreApart, last_of}
 use Rattle.archive_records.specs.Fault.{FailsNext, Fails, IsTrailing, IsMagicFault, IsUnended, IsOfText}
 use Rattle.archive_records.specs.Front.{front_length}
 use Rattle.archive_records.specs.Reading.{Blames}
@@ -61,6 +61,7 @@ seen_as BadCount = BadCount
 seen_as Trailing = Trailing
 seen_as Device = Truncated
 seen_as OutOfMemory = Truncated
+seen_as Covered = Covered
 
 -- What a result says of the reader: on success it did not fail, and else what the fault says.
 abbrev pub BlamesReader : {R T : Type 0} → (R → Option (List ℕ)) → (R → ℕ) → R → R → Result T RecordFaultKind → Type 0
@@ -101,12 +102,38 @@ IfItem End holds = Unit {0}
 IfItem (Item found) holds = holds found
 
 -- Where a reader of records stands: in which kind of file, behind which last record, how many records and how many
--- bytes.
+-- bytes, and with which retirements of an archive.
 pub record Position : Type 0 where
   pub file : TextKind
   pub last : List ℕ
   pub count : ℕ
   pub offset : ℕ
+  pub retired : List (List ℕ)
+
+-- the set of these records
+abbrev pub set_of : List (List ℕ) → Operations
+set_of records = set.from_list records
+
+-- The same retirements are in both sets: their tag is 1.
+abbrev pub RetireAlike : Operations → Operations → Type 0
+RetireAlike o p = (r : List ℕ) → set.contains o (1 ∷ r) ≡ set.contains p (1 ∷ r)
+
+-- None of the retirements before it covers the record, and it was kept if it is one.
+pub record Keeps (old new : List (List ℕ)) (item : List ℕ) : Type 0 where
+  pub uncovered : is_covered (set_of old) item ≡ false
+  pub alike : RetireAlike (set_of new) (set.insert (set_of old) item)
+
+-- the same of an item of such a file; the others have no such test
+abbrev pub KeepsIn : TextKind → List (List ℕ) → List (List ℕ) → List ℕ → Type 0
+KeepsIn Archive old new item = Keeps old new item
+KeepsIn Operations_file old new item = Unit {0}
+KeepsIn Summary_file old new item = Unit {0}
+
+-- these are the retirements among the records of an archive
+abbrev pub AreRetired : TextKind → List (List ℕ) → List (List ℕ) → Type 0
+AreRetired Archive retired records = RetireAlike (set_of retired) (set_of records)
+AreRetired Operations_file retired records = Unit {0}
+AreRetired Summary_file retired records = Unit {0}
 
 -- what is kept of it: a piece has room for some bytes, and there are not too many records, nor bytes of them
 pub record Bounds (room count offset : ℕ) : Type 0 where
@@ -123,6 +150,7 @@ pub record Passes (a b : Option (List ℕ)) (before after : Position) : Type 0 w
   pub count_is : after.count ≡ before.count + 1
   pub offset_is : after.offset ≡ before.offset + length after.last
   pub few : after.count < 2 ^ 63
+  pub kept : KeepsIn before.file before.retired after.retired after.last
 
 -- a file without an end record ends with the input
 abbrev pub IsEnded : TextKind → Option (List ℕ) → Type 0
@@ -138,6 +166,15 @@ pub record Finishes (a b : Option (List ℕ)) (before after : Position) : Type 0
   pub count_is : after.count ≡ before.count
   pub offset_is : after.offset ≡ before.offset
   pub few : before.count < 2 ^ 63
+  pub retired_is : after.retired ≡ before.retired
+
+-- What came is a record that may follow, but a retirement before it covers it.
+pub record IsCoveredThere (before : Position) (rest : List ℕ) (kind : RecordFaultKind) : Type 0 where
+  pub kind_is : kind ≡ Covered
+  pub file_is : before.file ≡ Archive
+  pub item : IsRecord rest
+  pub follows : may_follow Archive before.last rest ≡ true
+  pub covered : is_covered (set_of before.retired) rest ≡ true
 
 -- What came was no item of the file that may stand there, nor what ends the file, or memory was wanted.
 pub record StopsAt (a b : Option (List ℕ)) (before : Position) (fault : RecordFault) : Type 0 where
@@ -145,6 +182,7 @@ pub record StopsAt (a b : Option (List ℕ)) (before : Position) (fault : Record
   pub taken : Consumes a b rest
   pub unended : IsOfText fault.kind → IsUnended before.file rest
   pub fails : fault.kind ≢ OutOfMemory → FailsNext before.file before.last before.count rest (seen_as fault.kind)
+      ⊎ IsCoveredThere before rest fault.kind
   pub offset_is : fault.offset ≡ before.offset
   pub few : before.count < 2 ^ 63
 
@@ -164,18 +202,22 @@ pub record HasRead (file : TextKind) (a b : Option (List ℕ)) (records : List (
   pub file_is : position.file ≡ file
   pub taken : Consumes a b (magic_of file ++ concat records)
   pub ordered : InOrder file [] records
+  pub apart : AreApart file records
   pub last_is : position.last ≡ last_of [] records
   pub count_is : position.count ≡ length records
   pub offset_is : position.offset ≡ front_length records
+  pub retired_are : AreRetired file position.retired records
 
 -- The magic, these records and what ends the file behind them were read, and nothing behind it.
 pub record HasReadAll (file : TextKind) (a b : Option (List ℕ)) (records : List (List ℕ))
     (position : Position) : Type 0 where
   pub taken : Consumes a b (text_of file records)
   pub ordered : InOrder file [] records
+  pub apart : AreApart file records
   pub few : length records < 2 ^ 63
   pub ended : IsEnded file b
   pub offset_is : position.offset ≡ front_length records
+  pub retired_are : AreRetired file position.retired records
 
 -- what came behind the records, and why reading stopped there
 abbrev pub Stops : TextKind → List (List ℕ) → List ℕ → RecordFault → Type 0
@@ -191,6 +233,7 @@ pub record Stopped (file : TextKind) (a b : Option (List ℕ)) (records : List (
   pub rest : List ℕ
   pub taken : Consumes a b (magic_of file ++ (concat records ++ rest))
   pub ordered : InOrder file [] records
+  pub apart : AreApart file records
   pub few : length records < 2 ^ 63
   pub unended : IsOfText fault.kind → IsUnended file rest
   pub stops : Stops file records rest fault
@@ -212,6 +255,7 @@ pub record IsReadTo (file : TextKind) (a b : Option (List ℕ)) (o : Operations)
   pub few : length records < 2 ^ 63
   pub taken : Consumes a b (text_of file records)
   pub ordered : InOrder file [] records
+  pub apart : AreApart file records
   pub content : o ≡ set.from_list records
 
 -- The text of these operations was read, to the end of the input.
@@ -243,6 +287,7 @@ pub record IsGathered {T : Type 0} (file : TextKind) (Makes : List (List ℕ) �
   pub few : length records < 2 ^ 63
   pub taken : Consumes a b (text_of file records)
   pub ordered : InOrder file [] records
+  pub apart : AreApart file records
   pub makes : Makes records value
 
 -- The text of an archive was read, and this is the part of its content that is picked.

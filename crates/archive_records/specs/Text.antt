@@ -9,7 +9,7 @@ use Rattle.std.specs.FinSet as set
 use Rattle.join_core.specs.Listing.{listing}
 use Rattle.archive_core.specs.declared.operations.Operation.{Operation}
 use Rattle.archive_core.specs.Record.{IsOperation, rec}
-use Rattle.archive_core.specs.Content.{Operations}
+use Rattle.archive_core.specs.Content.{Operations, IsMade}
 use Rattle.archive_core.specs.Summary.{Entries, entry}
 use Rattle.archive_records.specs.declared.kind.TextKind.{TextKind}
 use Rattle.archive_records.specs.declared.kind.TextKind.TheVariants.{Archive, Operations as Operations_file}
@@ -65,6 +65,12 @@ pub record IsOperationsText (text : List ℕ) (operations : List Operation) : Ty
 abbrev pub InOrder : TextKind → List ℕ → List (List ℕ) → Type 0
 InOrder file low [] = Unit {0}
 InOrder file low (x ∷ xs) = IsItem file x × (may_follow file low x ≡ true) × InOrder file x xs
+
+-- Of an archive the records make themselves: none is an admission that a retirement among them covers.
+abbrev pub AreApart : TextKind → List (List ℕ) → Type 0
+AreApart Archive records = IsMade (set.from_list records)
+AreApart Operations_file records = Unit {0}
+AreApart Summary_file records = Unit {0}
 
 -- the last record, or low where there is none; the empty list is below every record
 abbrev pub last_of : List ℕ → List (List ℕ) → List ℕ

@@ -1,13 +1,14 @@
 -- A merge of two streams, turn by turn: the words of the inner functions. No contract of a public one has them.
 use Rattle.std.specs.Prelude.{◌≡◌, ◌≢◌, ℕ, ◌+◌, ◌-◌, ◌*◌, ◌^◌, ◌<◌, ◌≤◌, true, List, [], ◌∷◌}
-use Rattle.std.specs.Prelude.{◌++◌, length, take, Option, Result, Ok, Err, MatchResult, ◌⊎◌}
+use Rattle.std.specs.Prelude.{◌++◌, length, take, filter, not, Bool, false, Option, Result, Ok, Err, MatchResult, ◌⊎◌}
 use Rattle.std.specs.declared.cmp.Ordering.{Ordering}
-use Rattle.std.specs.declared.cmp.Ordering.TheVariants.{Less, Greater}
+use Rattle.std.specs.declared.cmp.Ordering.TheVariants.{Less, Equal, Greater}
 use Rattle.std.specs.Ordering.{nat_cmp}
 use Rattle.std.specs.Cmp.Lexicographic.{slice_cmp}
 use Rattle.std.specs.List.{concat, Contains}
 use Rattle.std.specs.Io.KnownBytes.{Appends, Consumes, IsAtEnd}
 use Rattle.byte_device.specs.Devices.{FailedIn}
+use Rattle.archive_core.specs.Content.{is_covered}
 use Rattle.archive_records.specs.declared.fault.RecordFault.{RecordFault}
 use Rattle.archive_records.specs.declared.fault.RecordFaultKind.TheVariants.{OutOfMemory}
 use Rattle.archive_records.specs.Front.{front_length}
@@ -24,11 +25,11 @@ use Rattle.archive_records.specs.Kind.{magic, may_follow}
 use Rattle.archive_records.specs.Text.{text_of, InOrder, last_of}
 use Rattle.archive_records.specs.Reading.{Blames}
 use Rattle.archive_records.specs.Merging.{Stream, IsUnfailed, most_records}
-use Rattle.archive_records.specs.Reader.{HasRead, HasReadAll, Stopped, StopsInMagic}
+use Rattle.archive_records.specs.Reader.{set_of, HasRead, HasReadAll, Stopped, StopsInMagic}
 
 -- ---- one side
 
--- Of the side's records these were written, and the last of all that were is low: the next one is to be read; or it
+-- Of the side's records these had their turn, and the last of all that had is low: the next one is to be read; or it
 -- was, and is above low; or the text was read to its end.
 pub record Stands (a b : Option (List ℕ)) (done : List (List ℕ)) (low : List ℕ) (side : Side) : Type 0 where
   pub unread : side.ahead ≡ Unread → HasRead Archive a b done side.reader × (last_of [] done ≡ low)
@@ -72,7 +73,22 @@ first_by Unread s o = Greater
 abbrev pub first_of : Side → Side → Ordering
 first_of left right = first_by left.ahead right.ahead (slice_cmp nat_cmp left.reader.last right.reader.last)
 
+-- whether a retirement of the other side covers the record that is next
+abbrev pub TellsBy : Ordering → Side → Side → Bool → Type 0
+TellsBy Less left right b = 33 ≤ length left.reader.last → b ≡ is_covered (set_of right.reader.retired) left.reader.last
+TellsBy Equal left right b = b ≡ false
+TellsBy Greater left right b = 33 ≤ length right.reader.last
+    → b ≡ is_covered (set_of left.reader.retired) right.reader.last
+
+-- the same of two sides
+abbrev pub TellsCovered : Side → Side → Bool → Type 0
+TellsCovered left right b = TellsBy (first_of left right) left right b
+
 -- ---- both sides
+
+-- those of the records that no retirement among them covers
+unfoldable pub kept : List (List ℕ) → List (List ℕ)
+kept out = filter (λ r. not (is_covered (set_of out) r)) out
 
 -- The ascending list whose members are exactly those of both.
 pub record Joins (out lefts rights : List (List ℕ)) : Type 0 where
@@ -81,8 +97,9 @@ pub record Joins (out lefts rights : List (List ℕ)) : Type 0 where
   pub left : (r : List ℕ) → Contains lefts r → Contains out r
   pub right : (r : List ℕ) → Contains rights r → Contains out r
 
--- What was written is the magic and the join of what was read, but for what is held, which is above it. Where the left
--- side is to be read on and the right one was, the right one's last record was not written last.
+-- What was read of both, but for what is held, which is above it, ascends as `out`: that was written but for what is
+-- covered in it. Where the left side is to be read on and the right one was, the right one's last record is not the last
+-- of both.
 pub record Merging (a1 b1 a2 b2 w0 w1 : Option (List ℕ)) (m : Merge) : Type 0 where
   pub lefts : List (List ℕ)
   pub rights : List (List ℕ)
@@ -92,11 +109,12 @@ pub record Merging (a1 b1 a2 b2 w0 w1 : Option (List ℕ)) (m : Merge) : Type 0 
   pub order : m.left.ahead ≡ Unread → m.right.ahead ≢ Unread
       → may_follow Archive (last_of [] rights) (last_of [] out) ≡ true
   pub joins : Joins out lefts rights
-  pub records : m.written.records ≡ length out
-  pub bytes : m.written.bytes ≡ 8 + length (concat out)
-  pub gained : Appends w0 w1 (magic ++ concat out)
+  pub records : m.written.records ≡ length (kept out)
+  pub bytes : m.written.bytes ≡ 8 + length (concat (kept out))
+  pub gained : Appends w0 w1 (magic ++ concat (kept out))
 
--- The left side stopped it. What was written is the join of what was read, but for what the right side holds.
+-- The left side stopped it. What was written is what of both was read, but for what the right side holds and what is
+-- covered.
 pub record LeftStopped (a1 b1 a2 b2 w0 w1 : Option (List ℕ)) (fault : RecordFault) (written : ℕ) : Type 0 where
   pub lefts : List (List ℕ)
   pub rights : List (List ℕ)
@@ -107,8 +125,8 @@ pub record LeftStopped (a1 b1 a2 b2 w0 w1 : Option (List ℕ)) (fault : RecordFa
   pub right : Stands a2 b2 rights (last_of [] out) other
   pub order : other.ahead ≢ Unread → may_follow Archive (last_of [] rights) (last_of [] out) ≡ true
   pub joins : Joins out lefts rights
-  pub written_is : written ≡ 8 + length (concat out)
-  pub gained : Appends w0 w1 (magic ++ concat out)
+  pub written_is : written ≡ 8 + length (concat (kept out))
+  pub gained : Appends w0 w1 (magic ++ concat (kept out))
 
 -- The right side did, and the left one holds a record, or was read to its end.
 pub record RightStopped (a1 b1 a2 b2 w0 w1 : Option (List ℕ)) (fault : RecordFault) (written : ℕ) : Type 0 where
@@ -121,10 +139,10 @@ pub record RightStopped (a1 b1 a2 b2 w0 w1 : Option (List ℕ)) (fault : RecordF
   pub right : Stopped Archive a2 b2 rights fault
   pub last : last_of [] rights ≡ last_of [] out
   pub joins : Joins out lefts rights
-  pub written_is : written ≡ 8 + length (concat out)
-  pub gained : Appends w0 w1 (magic ++ concat out)
+  pub written_is : written ≡ 8 + length (concat (kept out))
+  pub gained : Appends w0 w1 (magic ++ concat (kept out))
 
--- The writer failed inside the text of these records, the join of what was read, but for what is held; inside its end
+-- The writer failed inside the text of what was read of both, but for what is held and what is covered; inside its end
 -- record only where both texts were read to their ends.
 pub record WriteStopped (a1 b1 a2 b2 w0 w1 : Option (List ℕ)) (written : ℕ) : Type 0 where
   pub lefts : List (List ℕ)
@@ -135,9 +153,9 @@ pub record WriteStopped (a1 b1 a2 b2 w0 w1 : Option (List ℕ)) (written : ℕ) 
   pub left : Stands a1 b1 lefts (last_of [] out) left_side
   pub right : Stands a2 b2 rights (last_of [] out) right_side
   pub joins : Joins out lefts rights
-  pub within : (written < 8 + length (concat out))
-      ⊎ ((left_side.ahead ≡ Ended) × (right_side.ahead ≡ Ended) × (written < length (text_of Archive out)))
-  pub gained : Appends w0 w1 (take written (text_of Archive out))
+  pub within : (written < 8 + length (concat (kept out)))
+      ⊎ ((left_side.ahead ≡ Ended) × (right_side.ahead ≡ Ended) × (written < length (text_of Archive (kept out))))
+  pub gained : Appends w0 w1 (take written (text_of Archive (kept out)))
 
 -- As many records were written as there may be, and a side holds one more.
 pub record IsFull (a1 b1 a2 b2 w0 w1 : Option (List ℕ)) (written : ℕ) : Type 0 where
@@ -153,10 +171,12 @@ pub record IsFull (a1 b1 a2 b2 w0 w1 : Option (List ℕ)) (written : ℕ) : Type
   pub left_few : left_side.reader.count < 2 ^ 63
   pub right_few : right_side.reader.count < 2 ^ 63
   pub some : left_side.ahead ≡ Ended → right_side.ahead ≡ Held
+  pub left_kept : first_of left_side right_side ≢ Greater → is_covered (set_of out) left_side.reader.last ≡ false
+  pub right_kept : first_of left_side right_side ≡ Greater → is_covered (set_of out) right_side.reader.last ≡ false
   pub joins : Joins out lefts rights
-  pub most : length out ≡ most_records
-  pub written_is : written ≡ 8 + length (concat out)
-  pub gained : Appends w0 w1 (magic ++ concat out)
+  pub most : length (kept out) ≡ most_records
+  pub written_is : written ≡ 8 + length (concat (kept out))
+  pub gained : Appends w0 w1 (magic ++ concat (kept out))
 
 -- want of memory behind so many bytes
 abbrev pub memory_behind : ℕ → RecordFault
@@ -223,10 +243,10 @@ pub record MergedAll (a1 b1 a2 b2 w0 w1 : Option (List ℕ)) (sizes : Sizes) : T
   pub left_read : HasReadAll Archive a1 b1 lefts left.reader × IsAtEnd b1
   pub right_read : HasReadAll Archive a2 b2 rights right.reader × IsAtEnd b2
   pub joins : Joins out lefts rights
-  pub few : length out < 2 ^ 63
-  pub gained : Appends w0 w1 (text_of Archive out)
-  pub records : sizes.records ≡ length out
-  pub bytes : sizes.bytes ≡ length (text_of Archive out)
+  pub few : length (kept out) < 2 ^ 63
+  pub gained : Appends w0 w1 (text_of Archive (kept out))
+  pub records : sizes.records ≡ length (kept out)
+  pub bytes : sizes.bytes ≡ length (text_of Archive (kept out))
 
 -- what a merge leaves
 abbrev pub Leaves : Option (List ℕ) → Option (List ℕ) → Option (List ℕ) → Option (List ℕ)

@@ -5,7 +5,7 @@ use archive_core::SliceFault;
 /// Why bytes are no text of an archive, of operations or of a summary, or why they were not read to their end.
 #[derive(Clone, Copy, Debug, PartialEq, Eq)]
 pub enum RecordFaultKind {
-    /// One of the first eight bytes is not that of the file's magic, `MSYMARC1`, `MSYMOPS1` or `MSYMSUM1`.
+    /// One of the first eight bytes is not that of the file's magic, `MSYMARC2`, `MSYMOPS1` or `MSYMSUM1`.
     BadMagic,
     /// The input ends inside the magic, inside a record, or where one must begin.
     Truncated,
@@ -27,6 +27,9 @@ pub enum RecordFaultKind {
     Device,
     /// The growth of a collection was refused, or there is one record more than 9,223,372,036,854,775,807.
     OutOfMemory,
+    /// An admission in an archive's text has the key and the digest of a retirement of the same text. Retirements stand
+    /// first.
+    Covered,
 }
 
 /// What is wrong, and where.

@@ -23,7 +23,7 @@ impl TextKind {
         ensures { result ≡ magic_of self }
     {
         match self {
-            TextKind::Archive => *b"MSYMARC1",
+            TextKind::Archive => *b"MSYMARC2",
             TextKind::Operations => *b"MSYMOPS1",
             TextKind::Summary => *b"MSYMSUM1",
         }

@@ -1,13 +1,20 @@
 //! What the definitions say of each other. Each law is a function with an empty body, and its contract the law.
 
 ghost use Rattle.std.specs.Prelude.{◌≡◌, ◌≢◌, ◌+◌, ◌<◌, ◌^◌, ◌++◌, ◌↔◌, ◌⊎◌, ℕ, List};
-ghost use Rattle.std.specs.Prelude.{[], length, take, slice_index, Some, Err};
+ghost use Rattle.std.specs.Prelude.{[], length, take, slice_index, Some, Err, Contains, true};
 ghost use Rattle.std.specs.FinSet as set;
 ghost use Rattle.byte_device.specs.Writes.{WritesFirst};
 ghost use Rattle.join_core.specs.Listing.{listing};
 ghost use Rattle.archive_core.specs.Content.{Operations, IsContent, joined};
 ghost use Rattle.archive_records.specs.declared.fault.RecordFaultKind.TheVariants.{TooLarge, NotAscending, BadSlice};
 ghost use Rattle.archive_records.specs.declared.fault.RecordFaultKind.TheVariants.{KeyMismatch, BadCount, Trailing};
+ghost use Rattle.archive_records.specs.declared.fault.RecordFaultKind.TheVariants.{Covered};
+ghost use Rattle.archive_records.specs.declared.kind.TextKind.TheVariants.{Archive};
+ghost use Rattle.sha2.specs.Sha256.{sha256};
+ghost use Rattle.std.specs.List.{concat};
+ghost use Rattle.archive_core.specs.Valid.{IsValid, key_of};
+ghost use Rattle.archive_core.specs.Record.{admission_record, retirement_record};
+ghost use Rattle.archive_records.specs.Kind.{magic, may_follow};
 ghost use Rattle.archive_core.specs.declared.faults.SliceFault.{SliceFault};
 ghost use Rattle.archive_core.specs.Summary.{Entries, summary};
 ghost use Rattle.archive_records.specs.Entry.{AreEntries};
@@ -16,8 +23,9 @@ ghost use Rattle.archive_records.specs.declared.fault.MergeFault.{MergeFault};
 ghost use Rattle.archive_core.specs.declared.operations.Operation.{Operation};
 ghost use Rattle.archive_records.specs.declared.kind.TextKind.{TextKind};
 ghost use Rattle.archive_records.specs.Text.{IsWritten, written, IsOperationsText, IsSummaryText, summary_text};
+ghost use Rattle.archive_records.specs.Text.{last_of};
 ghost use Rattle.archive_records.specs.Fault.{IsFault, IsOperationsFault, IsSummaryFault, IsFaultOf, IsMagicFault};
-ghost use Rattle.archive_records.specs.Front.{IsLongestFront, front_length};
+ghost use Rattle.archive_records.specs.Front.{IsGoodFront, IsLongestFront, front_length};
 ghost use Rattle.archive_records.specs.Merging.{AreGoodRecords, IsArchiveText, IsWrittenBefore};
 ghost use Rattle.archive_records.specs.Merging.{LeftStops, Merges, RightStops, Stream, of_both};
 
@@ -133,6 +141,29 @@ pub fn faults_of_summaries()
     ensures slice { (text : List ℕ) (fault : RecordFault) (why : SliceFault) → IsSummaryFault text fault
         → fault.kind ≢ BadSlice why }
     ensures key { (text : List ℕ) (fault : RecordFault) → IsSummaryFault text fault → fault.kind ≢ KeyMismatch }
+{}
+
+/// In no other file than an archive's text a covered slice is a fault: operations come with their retirements in any
+/// order, and a summary's entry covers none.
+pub fn covered_in_archives_alone()
+    ensures operations { (text : List ℕ) (fault : RecordFault) → IsOperationsFault text fault → fault.kind ≢ Covered }
+    ensures summaries { (text : List ℕ) (fault : RecordFault) → IsSummaryFault text fault → fault.kind ≢ Covered }
+{}
+
+/// A covered slice is admitted behind the longest good front, among whose records stands the retirement of its key and
+/// SHA-256; the fault is told where its admission begins. And it is told of each slice of which that is so behind a
+/// good front.
+pub fn covered_in_words()
+    ensures stands { (text : List ℕ) (fault : RecordFault) → IsFault text fault → fault.kind ≡ Covered
+        → (records : List (List ℕ)) × (slice : List ℕ) × (rest : List ℕ) × IsLongestFront Archive text records
+        × (IsValid slice × (text ≡ magic ++ (concat records ++ (admission_record slice ++ rest)))
+        × Contains records (retirement_record (key_of slice) (sha256 slice)))
+        × (fault.offset ≡ front_length records) }
+    ensures told { (text : List ℕ) (records : List (List ℕ)) (front : IsGoodFront Archive text records)
+        (slice rest : List ℕ) → IsValid slice → front.rest ≡ admission_record slice ++ rest
+        → may_follow Archive (last_of [] records) (admission_record slice) ≡ true
+        → Contains records (retirement_record (key_of slice) (sha256 slice))
+        → IsFault text (record { kind = Covered; offset = front_length records }) }
 {}
 
 /// A text has one longest good front, and so one list of good records.

@@ -1,10 +1,10 @@
 //! The texts of archives, summaries and deltas: written, and read back exactly, over any device; and lists of
 //! operations, read.
 //!
-//! A text is the magic `MSYMARC1`, the records of the archive's operations strictly ascending in byte order, and an
+//! A text is the magic `MSYMARC2`, the records of the archive's operations strictly ascending in byte order, and an
 //! end record with their number; all numbers are big-endian. A record is a tag, a key, and for a retirement (tag 1)
 //! the digest, for an admission (tag 2) the length of the slice in eight bytes and the slice. So a content has one
-//! text, and a text one content.
+//! text, and a text one content. A slice that is retired is in no text.
 //!
 //! An operations file is the magic `MSYMOPS1` and such records in any order, with repeats, up to the end of the input.
 //!
@@ -17,10 +17,11 @@
 //! - `writing`: [`write_archive`], [`write_summary`] and [`write_delta`];
 //! - `fault`: why a text is refused;
 //! - `kind`: what each kind of file begins with, how its records follow one another and how it ends;
-//! - `buffer`, `frame`, `next`, `reader`: one record after another, each read over the last and compared with it;
+//! - `buffer`, `frame`, `next`, `retired`, `reader`: one record after another, each read over the last and compared
+//!   with it, and with the retirements before it;
 //! - `reading`: [`read_archive`] and [`read_front`];
 //! - `operations`: [`read_ops`];
-//! - `side`, `merging`, `streams`: [`merge_streams`], in the memory of one record of each side;
+//! - `side`, `merging`, `streams`: [`merge_streams`], in the memory of one record of each side and of its retirements;
 //! - [`laws`]: what holds of texts and their faults.
 #![tactic(auto)]
 
@@ -38,6 +39,7 @@ mod part;
 mod reader;
 mod reading;
 mod records;
+mod retired;
 mod side;
 mod streams;
 mod summary;

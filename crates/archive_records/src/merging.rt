@@ -1,4 +1,5 @@
-//! A merge, turn by turn: the record that is next is written, and the side or sides that it came from are read on.
+//! A merge, turn by turn: the record that is next is written, or passed over where it is covered, and the side or sides
+//! that it came from are read on.
 
 ghost use Rattle.std.specs.Prelude.{◌≡◌, ◌+◌, ◌*◌, ◌^◌, ◌<◌, ◌≤◌, ℕ, List, Option, OnOk};
 ghost use Rattle.std.specs.Prelude.{IfOk, IfErr, MatchResult, length, true, false};
@@ -7,7 +8,7 @@ ghost use Rattle.byte_device.specs.Devices.{FailedIn};
 ghost use Rattle.byte_device.specs.Writes.{WritesFirst};
 ghost use Rattle.archive_records.specs.Merging.{most_records, stream};
 ghost use Rattle.archive_records.specs.Turns.{BlamesDevices, Fits, HasStoppedMerge, IsRead, IsRefusedMore, IsWritten};
-ghost use Rattle.archive_records.specs.Turns.{Merging, WriteStopped, cost_of, first_of};
+ghost use Rattle.archive_records.specs.Turns.{Merging, TellsCovered, WriteStopped, cost_of, first_of};
 
 use crate::fault::{MergeCause, MergeFault};
 use crate::reader::MOST;
@@ -77,6 +78,35 @@ fn first(left: &Side, right: &Side) -> Ordering
     }
 }
 
+/// Whether a retirement of the other side covers the record that is next. Its own side's does not: that would be a fault
+/// of it. All retirements stand before the admissions, so both sides' were read where an admission is next.
+fn is_covered(left: &Side, right: &Side) -> bool
+    ensures { TellsCovered left.now right.now result }
+{
+    match first(left, right) {
+        Ordering::Less => right.reader.covers(left.reader.last()),
+        Ordering::Equal => false,
+        Ordering::Greater => left.reader.covers(right.reader.last()),
+    }
+}
+
+/// Leaves the side that the record which is next comes from to be read on, as if it had been written.
+fn pass_over(m: &mut Merge)
+    requires read { IsRead m.old }
+    requires some { m.old.left.ahead ≡ Ahead.Ended → m.old.right.ahead ≡ Ahead.Held }
+    requires fits { Fits m.old }
+    requires covered { TellsCovered m.old.left m.old.right true }
+    ensures merging { (a1 b1 a2 b2 w0 w1 : Option (List ℕ)) → Merging a1 b1 a2 b2 w0 w1 m.old
+        → Merging a1 b1 a2 b2 w0 w1 m.new }
+    ensures fits { Fits m.new }
+    ensures less { cost_of m.new < cost_of m.old }
+{
+    match first(&m.left, &m.right) {
+        Ordering::Less | Ordering::Equal => m.left.ahead = Ahead::Unread,
+        Ordering::Greater => m.right.ahead = Ahead::Unread,
+    }
+}
+
 /// Writes the record that the side holds.
 fn put_held<W: Sink>(w: &mut W, written: &mut Sizes, side: &mut Side) -> Result<(), WriteFault>
     requires few { written.old.records + 1 < 2 ^ 64 }
@@ -100,6 +130,7 @@ fn write_first<W: Sink>(w: &mut W, m: &mut Merge) -> Result<(), WriteFault>
     requires some { m.old.left.ahead ≡ Ahead.Ended → m.old.right.ahead ≡ Ahead.Held }
     requires fits { Fits m.old }
     requires room { m.old.written.records < most_records }
+    requires kept { TellsCovered m.old.left m.old.right false }
     ensures merging { (a1 b1 a2 b2 w0 : Option (List ℕ)) → Merging a1 b1 a2 b2 w0 (W.held w.old) m.old
         → MatchResult result
         (λ _. Merging a1 b1 a2 b2 w0 (W.held w.new) m.new)
@@ -119,7 +150,7 @@ fn write_first<W: Sink>(w: &mut W, m: &mut Merge) -> Result<(), WriteFault>
     }
 }
 
-/// Reads on behind what was written, left first.
+/// Reads on behind what had its turn, left first.
 fn read_on<R: Source, S: Source>(r1: &mut R, r2: &mut S, m: &mut Merge) -> Result<(), MergeFault>
     requires { Fits m.old }
     ensures merging { (a1 a2 w0 w1 : Option (List ℕ)) → Merging a1 (R.left r1.old) a2 (S.left r2.old) w0 w1 m.old
@@ -141,7 +172,7 @@ fn read_on<R: Source, S: Source>(r1: &mut R, r2: &mut S, m: &mut Merge) -> Resul
     Ok(())
 }
 
-/// Writes the record that is next, and reads on.
+/// Writes the record that is next, unless the other side's retirements cover it, and reads on.
 fn turn<R: Source, S: Source, W: Sink>(
     r1: &mut R,
     r2: &mut S,
@@ -162,6 +193,10 @@ fn turn<R: Source, S: Source, W: Sink>(
     ensures devices { BlamesDevices (stream R.left R.failures r1.old r1.new) (stream S.left S.failures r2.old r2.new)
         (W.failures w.old) (W.failures w.new) result }
 {
+    if is_covered(&m.left, &m.right) {
+        pass_over(m);
+        return read_on(r1, r2, m);
+    }
     m.test_number()?;
     if let Err(fault) = write_first(w, m) {
         return Err(MergeFault {
@@ -172,7 +207,7 @@ fn turn<R: Source, S: Source, W: Sink>(
     read_on(r1, r2, m)
 }
 
-/// Writes all records behind the magic.
+/// Writes all records behind the magic, but for those that are covered.
 pub fn merge_records<R: Source, S: Source, W: Sink>(
     r1: &mut R,
     r2: &mut S,

@@ -1,17 +1,22 @@
 //! A source that is read record by record.
 
-ghost use Rattle.std.specs.Prelude.{◌≡◌, ◌-◌, ◌<◌, ◌≤◌, ℕ, List, Option, Some, [], length};
+ghost use Rattle.std.specs.Prelude.{◌≡◌, ◌-◌, ◌<◌, ◌≤◌, ℕ, List, Option, Some, [], length, ◌⊎◌, true};
 ghost use Rattle.std.specs.Prelude.{take, OnOk, IfOk, IfErr, IsTrue, ◌↔◌};
+ghost use Rattle.archive_core.specs.Content.{is_covered};
 ghost use Rattle.std.specs.Io.KnownBytes.{Consumes, IsAtEnd};
 ghost use Rattle.archive_records.specs.declared.kind.TextKind.{TextKind};
-ghost use Rattle.archive_records.specs.Kind.{magic_of, end_length};
-ghost use Rattle.archive_records.specs.Reader.{Position, Bounds, Advances, BlamesReader, FaultBlamesReader};
+ghost use Rattle.archive_records.specs.declared.kind.TextKind.TheVariants.{Archive};
+ghost use Rattle.archive_records.specs.declared.fault.RecordFaultKind.TheVariants.{Covered, OutOfMemory};
+ghost use Rattle.archive_records.specs.Kind.{magic_of, end_length, IsItem};
+ghost use Rattle.archive_records.specs.Reader.{Position, Bounds, Advances, BlamesReader, FaultBlamesReader, KeepsIn};
+ghost use Rattle.archive_records.specs.Reader.{set_of};
 ghost use Rattle.archive_records.specs.Reader.{bytes_so_far, StopsInMagic, HasRead, HasReadAll, Stopped};
 
 use crate::buffer::{Buffer, fill};
 use crate::fault::{RecordFault, RecordFaultKind};
 use crate::kind::TextKind;
 use crate::next::{Step, read_next};
+use crate::retired::Retired;
 use byte_device::{Failed, Source, is_at_end};
 use memory::{Heap, NoMemory};
 use std::cmp::Ordering;
@@ -34,12 +39,15 @@ pub struct RecordReader {
     count: u64,
     /// How many bytes were read of the magic and the records.
     offset: u128,
+    /// The retirements of an archive's text.
+    retired: Retired,
 }
 
 impl Model for RecordReader {
     ghost Value = { Position };
 
-    ghost view = { λ r. record { file = r.file; last = r.buffer.bytes.items; count = r.count; offset = r.offset } };
+    ghost view = { λ r. record { file = r.file; last = r.buffer.bytes.items; count = r.count; offset = r.offset;
+        retired = r.retired } };
 
     ghost invariant = { λ r. Bounds (length r.chunk.items) r.count r.offset };
 }
@@ -93,6 +101,19 @@ fn read_magic<R: Source>(
     }
 }
 
+/// What the retirements of an archive say of one item more: none covers it, and one more is kept.
+fn keep(file: TextKind, retired: &mut Retired, bytes: &[u8]) -> Result<(), RecordFaultKind>
+    requires { IsItem file bytes.now }
+    ensures kept { OnOk result (KeepsIn file retired.old retired.new bytes.now) }
+    ensures refused { IfErr result (λ kind. (kind ≡ OutOfMemory)
+        ⊎ ((kind ≡ Covered) × (file ≡ Archive) × (is_covered (set_of retired.old) bytes.now ≡ true))) }
+{
+    match file {
+        TextKind::Operations | TextKind::Summary => Ok(()),
+        TextKind::Archive => retired.take(bytes),
+    }
+}
+
 impl RecordReader {
     /// Reads the magic.
     pub fn begin<R: Source>(
@@ -107,6 +128,9 @@ impl RecordReader {
         ensures reader { FaultBlamesReader R.left R.failures r.old r.new result }
     {
         let Ok(mut chunk) = chunk_of(CHUNK, &heap) else {
+            return Err(RecordFault::out_of_memory(0));
+        };
+        let Ok(kept) = heap.clone() else {
             return Err(RecordFault::out_of_memory(0));
         };
         let mut buffer = Buffer {
@@ -124,6 +148,7 @@ impl RecordReader {
             chunk,
             count: 0,
             offset: 8,
+            retired: Retired::none(kept),
         })
     }
 
@@ -148,6 +173,13 @@ impl RecordReader {
         self.offset.saturating_sub(self.buffer.bytes.len() as u128)
     }
 
+    /// Whether one of the retirements that were read covers the whole record.
+    pub fn covers(&self, bytes: &[u8]) -> bool
+        ensures { 33 ≤ length bytes.now → result ≡ is_covered (set_of self.now.retired) bytes.now }
+    {
+        self.retired.covers(bytes)
+    }
+
     /// Reads the next record over the last, or else what ends the file.
     pub fn advance<R: Source>(&mut self, r: &mut R) -> Result<Step, RecordFault>
         ensures { Advances R.left R.failures r.old r.new self.old self.new result }
@@ -157,6 +189,12 @@ impl RecordReader {
             Ok(Step::Item(found)) => {
                 if self.count == MOST {
                     return Err(RecordFault::out_of_memory(self.offset));
+                }
+                if let Err(kind) = keep(self.file, &mut self.retired, &self.buffer.bytes) {
+                    return Err(RecordFault {
+                        kind,
+                        offset: self.offset,
+                    });
                 }
                 self.count += 1;
                 self.offset += self.buffer.bytes.len() as u128;

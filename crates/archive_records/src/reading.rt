@@ -110,10 +110,10 @@ fn read_first<A: Archive + Drop, R: Source>(heap: Heap, r: &mut R) -> Result<A, 
 /// # Errors
 ///
 /// Each kind of `RecordFaultKind`; within a record they are found in the order of its tests: BadTag, Truncated inside
-/// the head, TooLarge, Truncated inside the slice, NotAscending, BadSlice, KeyMismatch; for an end record Truncated,
-/// BadCount, Trailing. Truncated comes only where the reader told its end, Device where it failed, and everything
-/// else where it did not. The offset of Device is the length of the longest good front of what was read, that of
-/// OutOfMemory the length of a good front; both are 0 before the magic was read.
+/// the head, TooLarge, Truncated inside the slice, NotAscending, BadSlice, KeyMismatch, Covered; for an end record
+/// Truncated, BadCount, Trailing. Truncated comes only where the reader told its end, Device where it failed, and
+/// everything else where it did not. The offset of Device is the length of the longest good front of what was read,
+/// that of OutOfMemory the length of a good front; both are 0 before the magic was read.
 pub fn read_archive<A: Archive + Drop, R: Source>(heap: Heap, r: &mut R) -> Result<A, RecordFault>
     ensures { ReadsWhole Archive A.content R.left R.failures r.old r.new result }
 {

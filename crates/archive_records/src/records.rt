@@ -6,6 +6,7 @@ ghost use Rattle.archive_records.specs.declared.kind.TextKind.{TextKind};
 ghost use Rattle.archive_records.specs.declared.fault.RecordFaultKind.TheVariants.{Trailing};
 ghost use Rattle.archive_records.specs.Reader.{FaultBlamesReader, HasStopped, HasRead, IsFoundIn};
 ghost use Rattle.archive_records.specs.Reader.{GathersAll, IsGathered};
+ghost use Rattle.archive_records.specs.Text.{AreApart};
 
 use crate::fault::RecordFault;
 use crate::kind::TextKind;
@@ -30,8 +31,8 @@ pub trait FromRecords {
     /// Takes one record more, of which this was found out. Refused for want of memory alone.
     fn take(&mut self, heap: &Heap, bytes: &[u8], found: Option<SliceFacts>) -> Result<(), NoMemory>
         requires { IsFoundIn file bytes.now found }
-        ensures { OnOk result ((start : Self) (records : List (List ℕ)) → makes start records self.old
-            → makes start (records ++ bytes.now ∷ []) self.new) };
+        ensures { OnOk result ((start : Self) (records : List (List ℕ)) → AreApart file (records ++ bytes.now ∷ [])
+            → makes start records self.old → makes start (records ++ bytes.now ∷ []) self.new) };
 }
 
 /// Takes the records of a file up to what ends it.

@@ -17,9 +17,9 @@ use memory::Heap;
 /// What is known of the next record.
 #[derive(Clone, Copy, Debug, PartialEq, Eq)]
 pub enum Ahead {
-    /// It is to be read, over the last one, which was written.
+    /// It is to be read, over the last one, which had its turn.
     Unread,
-    /// It was read, and is to be written.
+    /// It was read, and has its turn when it is next.
     Held,
     /// There is none: the end record was read, and nothing stands behind it.
     Ended,
@@ -83,7 +83,7 @@ impl Side {
         Ok(())
     }
 
-    /// Reads on, where the last record was written.
+    /// Reads on, where the last record had its turn.
     pub fn read_on<R: Source>(&mut self, r: &mut R) -> Result<(), RecordFault>
         requires archive { self.old.reader.file ≡ Archive }
         requires few { self.old.reader.count < 2 ^ 63 }

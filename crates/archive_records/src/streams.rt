@@ -92,12 +92,14 @@ fn merge_taken<R: Source, S: Source, W: Sink>(
     finish(w, &m)
 }
 
-/// Merges two archives of any size in the memory of one record of each, and says how large what was written is. Each
-/// slice is checked, and none is copied or hashed. The pieces in which the readers give their bytes do not matter.
+/// Merges two archives of any size in the memory of one record of each and of 57 bytes for each retirement of each, and
+/// says how large what was written is. Each slice is checked, none is copied, and one is hashed where a retirement of its
+/// key was read. The pieces in which the readers give their bytes do not matter.
 ///
 /// It reads the left magic and the right one and writes the magic; then it reads the left record and the right one,
 /// writes the lesser of the two, or one of two that are equal, and reads on the side or sides that it came from, left
-/// first. An end record is read with the test that the input ends there.
+/// first. A slice that the other side retired is not written, and its side is read on as if it had been. An end record is
+/// read with the test that the input ends there.
 ///
 /// # Errors
 ///

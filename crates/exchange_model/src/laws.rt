@@ -81,7 +81,7 @@ pub fn same_reached<F>()
 {}
 
 /// What a site holds and has saved was issued: an accepted take or retirement of the list gave it. What it has saved
-/// only grows, and stays below what it holds.
+/// stays below what it saves and holds later: slices that were retired since are gone, and nothing else.
 pub fn issued_and_kept<F>()
     ensures held { (sites : ℕ) (events : List (Event F)) (n i : ℕ)
         → AreIssued sites events ((state sites events n).held i) }
@@ -114,7 +114,8 @@ pub fn digests_tell<F>()
 {}
 
 /// A delta that was made in reply to a summary of site `i`, however old, lifts it above what the replier `x` held then,
-/// whatever stopped between: event `a` asks, `r` replies, `k` delivers.
+/// whatever stopped between, and whatever slices the site has retired since it asked: event `a` asks, `r` replies, `k`
+/// delivers.
 pub fn delta_lifts<F>()
     ensures { (sites : ℕ) (events : List (Event F)) (i x a r k : ℕ)
         → AreRecords sites events

@@ -32,7 +32,7 @@ event_fault_text (NotASummary fault) = called (codes "NotASummary") (record_faul
 event_fault_text (TextRefused fault) = called (codes "Refused") (record_fault_text fault)
 event_fault_text (File fault) = called (codes "File") (take_fault_text fault)
 
--- whether a slice of a file is new, was there, or is passed over
+-- whether a slice of a file is new, was known, there or covered by a retirement, or is passed over
 abbrev pub is_added : Taken → Bool
 is_added (Added _ _) = true
 is_added (Known _ _) = false
@@ -48,7 +48,7 @@ is_skipped (Added _ _) = false
 is_skipped (Known _ _) = false
 is_skipped Skipped = true
 
--- how many slices of a file are new, were there, and are passed over
+-- how many slices of a file are new, were known, and are passed over
 unfoldable pub took_text : List Taken → List ℕ
 took_text rows =
     codes "took " ++ decimal (count_by is_added rows) ++ codes " " ++ decimal (count_by is_known rows)

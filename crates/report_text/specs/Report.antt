@@ -23,7 +23,7 @@ retire_line changed key digest =
     line ((if changed then codes "retired" else codes "known") ++ codes " " ++ key_text key ++ codes " "
     ++ digest_text digest)
 
--- how many records of an operations file were new, and how many were there
+-- how many records of an operations file were new, and how many were known: there, or covered by a retirement
 abbrev pub apply_line : ℕ → ℕ → List ℕ
 apply_line new known = line (codes "applied: " ++ decimal new ++ codes " new, " ++ decimal known ++ codes " known")
 

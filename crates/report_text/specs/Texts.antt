@@ -14,7 +14,7 @@ use Rattle.archive_records.specs.declared.fault.RecordFaultKind.TheVariants.{Bad
 use Rattle.archive_records.specs.declared.fault.RecordFaultKind.TheVariants.{TooLarge as RecordTooLarge}
 use Rattle.archive_records.specs.declared.fault.RecordFaultKind.TheVariants.{NotAscending, BadSlice}
 use Rattle.archive_records.specs.declared.fault.RecordFaultKind.TheVariants.{KeyMismatch, BadCount, Trailing}
-use Rattle.archive_records.specs.declared.fault.RecordFaultKind.TheVariants.{Device, OutOfMemory}
+use Rattle.archive_records.specs.declared.fault.RecordFaultKind.TheVariants.{Device, OutOfMemory, Covered}
 use Rattle.archive_records.specs.declared.fault.RecordFault.{RecordFault}
 use Rattle.archive_exchange.specs.declared.fault.TakeFault.{TakeFault}
 use Rattle.archive_exchange.specs.declared.fault.TakeFault.TheVariants.{Unrecognised, Fat, Slice, NothingToAdmit}
@@ -65,6 +65,7 @@ record_fault_kind_text BadCount = codes "BadCount"
 record_fault_kind_text Trailing = codes "Trailing"
 record_fault_kind_text Device = codes "Device"
 record_fault_kind_text OutOfMemory = codes "OutOfMemory"
+record_fault_kind_text Covered = codes "Covered"
 
 -- the kind, and the offset of the faulty record
 unfoldable pub record_fault_text : RecordFault → List ℕ

@@ -71,14 +71,14 @@ fn added_count(rows: &[Taken]) -> usize
     rows.iter().filter(|row| is_added(row)).count()
 }
 
-// Whether a slice was there.
+// Whether a slice was known: there, or covered by a retirement.
 fn is_known(row: &Taken) -> bool
     ensures { result ≡ is_known row.now }
 {
     matches!(row, Taken::Known(..))
 }
 
-// How many slices were there.
+// How many slices were known.
 fn known_count(rows: &[Taken]) -> usize
     ensures { result ≡ count_by is_known rows.now }
 {
@@ -99,7 +99,7 @@ fn skipped_count(rows: &[Taken]) -> usize
     rows.iter().filter(|row| is_skipped(row)).count()
 }
 
-// Writes how many slices of a file are new, were there, and are passed over.
+// Writes how many slices of a file are new, were known, and are passed over.
 #[tactic(auto, unfolding(crate::specs::Rehearsal::took_text))]
 fn push_took(text: &mut String<Heap>, rows: &[Taken]) -> Result<(), NoMemory>
     ensures { OnOk result (string_bytes text.new ≡ string_bytes text.old ++ line (took_text rows.now)) }

@@ -36,7 +36,8 @@ pub fn retire_line(
     Ok(text)
 }
 
-/// The line of `apply`: how many records of the file were new, and how many were there.
+/// The line of `apply`: how many records of the file were new, and how many were known: there, or covered by a
+/// retirement.
 pub fn apply_line(heap: Heap, new: u64, known: u64) -> Result<String<Heap>, NoMemory>
     ensures { IfOk result (λ text. string_bytes text ≡ apply_line new known) }
 {

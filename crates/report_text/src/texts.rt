@@ -113,6 +113,7 @@ impl fmt::Display for Text<RecordFaultKind> {
             RecordFaultKind::Trailing => f.write_str("Trailing"),
             RecordFaultKind::Device => f.write_str("Device"),
             RecordFaultKind::OutOfMemory => f.write_str("OutOfMemory"),
+            RecordFaultKind::Covered => f.write_str("Covered"),
         }
     }
 }

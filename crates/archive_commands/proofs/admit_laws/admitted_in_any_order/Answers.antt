@@ -3,4 +3,4 @@ use Rattle.archive_commands.proofs.Orders.{admitted_joined, admitted_alike}
 use Rattle.archive_commands.proofs.admit_laws.admitted_in_any_order.Goals as goal
 
 pub returns : goal.returns
-returns c = record { content = λ o files _. admitted_joined o (images_of files); order = λ o files others _ same. admitted_alike o files others same }
+returns c = record { content = λ o files is. admitted_joined o (images_of files) is; order = λ o files others is same. admitted_alike o files others is same }

@@ -8,5 +8,5 @@ returns c =
       order = merged_alike laws.least laws.associative laws.commutative laws.idempotent laws.resumed;
       input = input_alike laws.least laws.associative laws.commutative laws.idempotent laws.resumed;
       grouping = merged_before laws.least laws.associative laws.commutative laws.idempotent laws.resumed;
-      union = λ o contents _ _. merged_union o contents;
+      union = λ o contents is _. merged_union o contents is.itself;
     }

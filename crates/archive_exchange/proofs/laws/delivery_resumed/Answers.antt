@@ -4,6 +4,6 @@ use Rattle.archive_exchange.proofs.laws.delivery_resumed.Goals as goal
 pub returns : goal.returns
 returns c = record {
   above = λ text old mid part. above_old text old mid part;
-  below = λ text old mid new is part whole. below_asked text old mid new is part whole;
+  below = λ text old mid new part whole. below_asked text old mid new part whole;
   again = λ text old mid new is part rest. asked_again text old mid new is part rest;
 }

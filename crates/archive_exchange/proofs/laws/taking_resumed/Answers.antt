@@ -5,5 +5,5 @@ pub returns : goal.returns
 returns c = record {
   above = λ file o mid _ _ part. above_old file o mid part;
   below = λ file o mid _ _ part. below_asked file o mid part;
-  again = λ file o mid _ part. asked_again file o mid part;
+  again = λ file o mid is part. asked_again file o mid is part;
 }

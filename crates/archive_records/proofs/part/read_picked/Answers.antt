@@ -11,6 +11,6 @@ returns-clause-read g c =
     let m = c.in_ok-part.ensures.read in
     record {
       whole = set.from_list m.records;
-      read = record { records = m.records; few = m.few; taken = m.taken; ordered = m.ordered; content = refl };
+      read = record { records = m.records; few = m.few; taken = m.taken; ordered = m.ordered; apart = m.apart; content = refl };
       kept = m.makes.1;
     }

@@ -39,10 +39,11 @@ taking-preserved g c =
     record {
       gathers = λ a start.
           let m = c.taking.invariant.gathers a start in
+          let read = HasRead-grows g.T.FromRecords.file a _ _ m.records c.taking.reader c.advance.new.self m.read step.0 in
           record {
             records = m.records ++ c.advance.new.self.last ∷ [];
-            read = HasRead-grows g.T.FromRecords.file a _ _ m.records c.taking.reader c.advance.new.self m.read step.0;
-            makes = taken _ m.records m.makes;
+            read = read;
+            makes = taken _ m.records read.apart m.makes;
           };
       file = step.0.file_is ∙ c.taking.invariant.file;
       unfailed = step.1 ∙ c.taking.invariant.unfailed;

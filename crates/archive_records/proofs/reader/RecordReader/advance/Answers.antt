@@ -1,9 +1,9 @@
-use Rattle.std.proofs.Common.{refl, ap, subst, arith, ◌∙◌, ◌+◌}
+use Rattle.std.proofs.Common.{inl, refl, ap, subst, arith, ◌∙◌, ◌+◌}
 use Rattle.std.specs.Io.KnownBytes.{Consumes}
-use Rattle.archive_records.specs.Reader.{bytes_so_far}
+use Rattle.archive_records.specs.Reader.{bytes_so_far, KeepsIn}
 use Rattle.archive_records.proofs.FaultKinds.{memory_blames}
 use Rattle.archive_records.proofs.Forms.{item-found}
-use Rattle.archive_records.proofs.Steps.{step_passes}
+use Rattle.archive_records.proofs.Steps.{step_passes, step_refused, refused_blames}
 use Rattle.archive_records.proofs.reader.RecordReader.advance.Goals as goal
 
 pub returns-in-Ok-End : goal.returns-in-Ok-End
@@ -11,17 +11,29 @@ returns-in-Ok-End g c =
     let end = rw c.in-Ok-End.field-0-is at c.in-Ok-End.ensures.end in
     let ends = rw c.in-Ok-End.field-0-is at c.in-Ok-End.ensures.ends in
     let taken = subst (Consumes (g.R.Source.left c.args.r.now) (g.R.Source.left c.read_next.new.r)) end c.read_next.ensures.taken in
-    rw (← c.self.view_is) (record { taken = taken; ended = ends; file_is = refl; count_is = refl; offset_is = refl; few = c.self.invariant.few }, c.in-Ok-End.ensures.reader)
+    rw (← c.self.view_is) (record { taken = taken; ended = ends; file_is = refl; count_is = refl; offset_is = refl; few = c.self.invariant.few; retired_is = refl }, c.in-Ok-End.ensures.reader)
 
-pub returns-else-self-eq-MOST : goal.returns-else-self-eq-MOST
-returns-else-self-eq-MOST g c =
+pub returns-in_default : goal.returns-in_default
+returns-in_default g c =
     let found = rw c.in-Ok-Item.field-0-is at c.in-Ok-Item.ensures.item in
     let whole = rw c.in-Ok-Item.field-0-is at c.in-Ok-Item.ensures.whole in
     let follows = rw c.in-Ok-Item.field-0-is at c.in-Ok-Item.ensures.follows in
     let offset = ap (λ n. c.self.inside.offset + n) (c.len.ensures ∙ c.read_next.new.buffer.bytes.ok.0) in
     let few = c.self.invariant.few in
+    let kept = subst (KeepsIn c.self.inside.file c.self.inside.retired c.keep.new.retired) (c.deref.ensures.value ∙ whole) c.in_default.ensures.kept in
     rw (← c.self.view_is)
-    (step_passes _ _ _ _ (bytes_so_far c.read_next.new.buffer) whole c.read_next.ensures.taken (item-found c.self.inside.file _ c.in-Ok-Item.found found) follows refl refl offset (omega (arith, c.if-self-eq-MOST.false)), c.in-Ok-Item.ensures.reader, rw (← whole) at found)
+    (step_passes _ _ _ _ (bytes_so_far c.read_next.new.buffer) whole c.read_next.ensures.taken (item-found c.self.inside.file _ c.in-Ok-Item.found found) follows refl refl offset (omega (arith, c.if-self-eq-MOST.false)) kept, c.in-Ok-Item.ensures.reader, rw (← whole) at found)
+
+pub returns-in-Err-keep : goal.returns-in-Err-keep
+returns-in-Err-keep g c =
+    let found = rw c.in-Ok-Item.field-0-is at c.in-Ok-Item.ensures.item in
+    let whole = rw c.in-Ok-Item.field-0-is at c.in-Ok-Item.ensures.whole in
+    let follows = rw c.in-Ok-Item.field-0-is at c.in-Ok-Item.ensures.follows in
+    let refused = rw (c.deref.ensures.value, whole) at c.in-Err-keep.ensures.refused in
+    rw (← c.self.view_is) (
+      step_refused _ _ _ (bytes_so_far c.read_next.new.buffer) c.in-Err-keep.kind c.read_next.ensures.taken c.self.invariant.few (item-found c.self.inside.file _ c.in-Ok-Item.found found) follows refused,
+      refused_blames g.R.Source.left g.R.Source.failures c.args.r.now c.read_next.new.r (record { file = c.self.inside.file; last = c.self.inside.buffer.bytes.items; count = c.self.inside.count; offset = c.self.inside.offset; retired = c.self.inside.retired }) (bytes_so_far c.read_next.new.buffer) c.in-Err-keep.kind c.in-Ok-Item.ensures.reader refused,
+    )
 
 pub returns-then-self-eq-MOST : goal.returns-then-self-eq-MOST
 returns-then-self-eq-MOST g c =
@@ -33,4 +45,4 @@ returns-then-self-eq-MOST g c =
 pub returns-in-Err : goal.returns-in-Err
 returns-in-Err g c =
     rw (← c.self.view_is)
-    (record { rest = bytes_so_far c.read_next.new.buffer; taken = c.read_next.ensures.taken; unended = c.in-Err.ensures.unended; fails = λ _. c.in-Err.ensures.fails; offset_is = refl; few = c.self.invariant.few }, c.in-Err.ensures.reader)
+    (record { rest = bytes_so_far c.read_next.new.buffer; taken = c.read_next.ensures.taken; unended = c.in-Err.ensures.unended; fails = λ _. inl c.in-Err.ensures.fails; offset_is = refl; few = c.self.invariant.few }, c.in-Err.ensures.reader)

@@ -1,0 +1,88 @@
+-- Where a covered admission is the fault of a text.
+use Rattle.std.proofs.Common.{◌≡◌, ◌≢◌, ℕ, true, List, [], ◌++◌, length, refl, sym, ap, ◌∙◌, subst, inl, inr}
+use Rattle.std.specs.List.{concat, Contains}
+use Rattle.sha2.specs.Sha256.{sha256}
+use Rattle.archive_core.specs.Valid.{IsValid, key_of}
+use Rattle.archive_core.specs.Record.{IsRecord, admission_record, retirement_record}
+use Rattle.archive_core.specs.Content.{covering, is_covered}
+use Rattle.archive_core.proofs.Entries.{covering_admission}
+use Rattle.archive_records.specs.declared.kind.TextKind.{TextKind}
+use Rattle.archive_records.specs.declared.kind.TextKind.TheVariants.{Archive, Operations, Summary}
+use Rattle.archive_records.specs.declared.fault.RecordFaultKind.{RecordFaultKind}
+use Rattle.archive_records.specs.declared.fault.RecordFaultKind.TheVariants.{Covered, Trailing}
+use Rattle.archive_records.specs.declared.fault.RecordFault.{RecordFault}
+use Rattle.archive_records.specs.Kind.{magic, may_follow}
+use Rattle.archive_records.specs.Text.{last_of}
+use Rattle.archive_records.specs.Fault.{IsFault, IsFaultOf, IsFaultBehind, FailsNext, FailsBehind, Fails, IsMagicFault}
+use Rattle.archive_records.specs.Front.{IsGoodFront, IsLongestFront, front_length}
+use Rattle.archive_records.specs.Reader.{set_of}
+use Rattle.archive_records.proofs.Apart.{in_set, from_set, and_first, and_second, not_covering}
+use Rattle.archive_records.proofs.FaultKinds.{fails_not_covered}
+use Rattle.archive_records.proofs.Exact.{fault_longest}
+
+no_magic_covers : (file : TextKind) (text : List ℕ) (kind : RecordFaultKind) → kind ≡ Covered → IsMagicFault file text kind → ⊥
+no_magic_covers file text kind e m = subst (IsMagicFault file text) e m
+
+trailing_apart : (kind : RecordFaultKind) → kind ≡ Covered → kind ≡ Trailing → ⊥
+trailing_apart kind e t = apart (sym e ∙ t)
+  where
+    apart : Covered ≡ Trailing → ⊥
+    apart h = cc
+
+by_behind : (file : TextKind) (records : List (List ℕ)) (rest : List ℕ) (kind : RecordFaultKind) → kind ≡ Covered → Fails file records rest kind → FailsBehind file records rest kind
+by_behind file records rest kind e (inl f) = absurd (fails_not_covered file (last_of [] records) (length records) rest (subst (FailsNext file (last_of [] records) (length records) rest) e f))
+by_behind file records rest kind e (inr f) = f
+
+-- only an archive's text has such a fault
+behind_covered : (file : TextKind) (records : List (List ℕ)) (rest : List ℕ) (fault : RecordFault) → fault.kind ≡ Covered → IsFaultBehind file records rest fault → FailsBehind file records rest fault.kind × (fault.offset ≡ front_length records)
+behind_covered file records rest fault e (inl f) = (by_behind file records rest fault.kind e f.0, f.1)
+behind_covered file records rest fault e (inr t) = absurd (trailing_apart fault.kind e t.0)
+
+pub operations_uncovered : (text : List ℕ) (fault : RecordFault) → IsFaultOf Operations text fault → fault.kind ≢ Covered
+operations_uncovered text fault (inl m) e = no_magic_covers Operations text fault.kind e m.0
+operations_uncovered text fault (inr f) e = (behind_covered Operations f.0 f.1.rest fault e f.3).0
+
+pub summaries_uncovered : (text : List ℕ) (fault : RecordFault) → IsFaultOf Summary text fault → fault.kind ≢ Covered
+summaries_uncovered text fault (inl m) e = no_magic_covers Summary text fault.kind e m.0
+summaries_uncovered text fault (inr f) e = (behind_covered Summary f.0 f.1.rest fault e f.3).0
+
+-- ---- in words
+
+abbrev pub StandsCovered : List ℕ → List (List ℕ) → List ℕ → List ℕ → Type 0
+StandsCovered text records slice rest =
+    IsValid slice × (text ≡ magic ++ (concat records ++ (admission_record slice ++ rest))) × Contains records (retirement_record (key_of slice) (sha256 slice))
+
+-- a record that is covered admits a slice
+covered_slice : (records : List (List ℕ)) (item : List ℕ) → IsRecord item → is_covered (set_of records) item ≡ true → (slice : List ℕ) × IsValid slice × (item ≡ admission_record slice) × Contains records (retirement_record (key_of slice) (sha256 slice))
+covered_slice records item (inl a) c =
+    let at : Contains records (covering item) = from_set records (covering item) (and_second _ _ c) in
+    (a.slice, a.valid, a.is, subst (Contains records) (ap covering a.is ∙ covering_admission a.slice a.valid) at)
+covered_slice records item (inr t) c = absurd (not_covering item _ (and_first _ _ c) t.is)
+
+pub is_covered_there : (text : List ℕ) (fault : RecordFault) → IsFault text fault → fault.kind ≡ Covered
+    → (records : List (List ℕ)) × (slice : List ℕ) × (rest : List ℕ) × IsLongestFront Archive text records × StandsCovered text records slice rest × (fault.offset ≡ front_length records)
+is_covered_there text fault (inl m) e = absurd (no_magic_covers Archive text fault.kind e m.0)
+is_covered_there text fault (inr f) e =
+    let records = f.0 in
+    let behind = behind_covered Archive records f.1.rest fault e f.3 in
+    let next = behind.0.1 in
+    let found = covered_slice records next.item next.is next.covered in (
+      records,
+      found.0,
+      next.more,
+      fault_longest Archive text records f.1 fault f.3,
+      (found.1, f.1.whole ∙ ap (λ (t : List ℕ). magic ++ (concat records ++ t)) (next.whole ∙ ap (λ (t : List ℕ). t ++ next.more) found.2), found.3),
+      behind.1,
+    )
+
+pub told_covered : (text : List ℕ) (records : List (List ℕ)) (front : IsGoodFront Archive text records) (slice rest : List ℕ) → IsValid slice → front.rest ≡ admission_record slice ++ rest → may_follow Archive (last_of [] records) (admission_record slice) ≡ true
+    → Contains records (retirement_record (key_of slice) (sha256 slice)) → IsFault text (record { kind = Covered; offset = front_length records })
+told_covered text records front slice rest valid whole above there =
+    inr (records, front, tt, inl (inr (refl, record {
+      item = admission_record slice;
+      more = rest;
+      whole = whole;
+      is = inl (record { slice = slice; valid = valid; is = refl });
+      above = above;
+      covered = in_set records (covering (admission_record slice)) (subst (Contains records) (sym (covering_admission slice valid)) there);
+    }), refl))

@@ -1,0 +1,8 @@
+use Rattle.archive_records.proofs.Coverings.{operations_uncovered, summaries_uncovered}
+use Rattle.archive_records.proofs.laws.covered_in_archives_alone.Goals as goal
+
+pub returns-clause-operations : goal.returns-clause-operations
+returns-clause-operations c = operations_uncovered
+
+pub returns-clause-summaries : goal.returns-clause-summaries
+returns-clause-summaries c = summaries_uncovered
