@@ -37,8 +37,10 @@ mod live;
 mod lookup;
 mod names;
 mod operations;
+mod parting;
 mod plain;
 mod range;
+mod seen;
 mod slices;
 mod taking;
 

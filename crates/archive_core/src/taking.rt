@@ -4,6 +4,7 @@ ghost use Rattle.std.specs.List.{list_all};
 ghost use Rattle.archive_core.specs.Record.{rec};
 ghost use Rattle.archive_core.specs.Content.{IsContent, IsTakenInPart, is_admission, with_records, new_among};
 
+use crate::parting::parts_of;
 use crate::{Archive, Operation};
 use memory::{Heap, NoMemory};
 
@@ -45,11 +46,29 @@ fn take_in_turn<A: Archive>(
     Ok(new)
 }
 
-// Takes admissions that come in any order. They are sorted once and taken in together, so that none of them shifts what
-// is there. None of them drops another, so as many are new as there are more afterwards.
-fn take_together<A: Archive + Drop>(
+// Takes operations that come in any order. They are sorted once and taken in together, so that none of them shifts what
+// is there.
+fn take_sorted<A: Archive + Drop>(
     archive: &mut A,
     mut operations: Vec<Operation, Heap>,
+) -> Result<(), NoMemory>
+    ensures taken { OnOk result
+        (A.content archive.new ≡ with_records (A.content archive.old) (map rec operations.items)) }
+    ensures refused { OnErr result
+        (IsTakenInPart (A.content archive.old) (map rec operations.items) (A.content archive.new)) }
+{
+    let _before = archive.len();
+    operations.sort_unstable_by(|a, b| a.compare(b));
+    let mut taken = A::empty(operations.allocator().clone()?);
+    take_in_turn(&mut taken, operations)?;
+    archive.absorb(taken)?;
+    Ok(())
+}
+
+// Takes admissions. None of them drops another, so as many are new as there are more afterwards.
+fn take_admissions<A: Archive + Drop>(
+    archive: &mut A,
+    operations: Vec<Operation, Heap>,
 ) -> Result<u64, NoMemory>
     requires { list_all (λ operation. is_admission (rec operation)) operations.items ≡ true }
     ensures taken { OnOk result
@@ -59,16 +78,34 @@ fn take_together<A: Archive + Drop>(
         (IsTakenInPart (A.content archive.old) (map rec operations.items) (A.content archive.new)) }
 {
     let before = archive.len();
-    operations.sort_unstable_by(|a, b| a.compare(b));
-    let mut taken = A::empty(operations.allocator().clone()?);
-    take_in_turn(&mut taken, operations)?;
-    archive.absorb(taken)?;
+    take_sorted(archive, operations)?;
     Ok(archive.len() - before)
+}
+
+// Takes operations of both kinds: the admissions that no retirement before them covers, then the retirements that are
+// new. A slice that is retired behind its admission is dropped by the latter.
+fn take_parts<A: Archive + Drop>(
+    archive: &mut A,
+    operations: Vec<Operation, Heap>,
+) -> Result<u64, NoMemory>
+    ensures taken { OnOk result
+        (A.content archive.new ≡ with_records (A.content archive.old) (map rec operations.items)) }
+    ensures counted { IfOk result (λ new. new ≡ new_among (A.content archive.old) (map rec operations.items)) }
+    ensures refused { OnErr result
+        (IsTakenInPart (A.content archive.old) (map rec operations.items) (A.content archive.new)) }
+{
+    let _before = archive.len();
+    let parts = parts_of(archive, operations)?;
+    let retired = parts.retirements.len() as u64;
+    let admitted = take_admissions(archive, parts.admissions)?;
+    take_sorted(archive, parts.retirements)?;
+    Ok(admitted + retired)
 }
 
 /// Takes operations in their order, and answers how many of them were new: each that changed what those before it left.
 /// One that stands twice is new once; a slice that comes before its retirement is new, and one behind it is not.
-/// Where all are admissions, they are sorted once and taken in together, so that none of them shifts what is there.
+/// The admissions are sorted once and taken in together, and behind them the retirements, so that none of them shifts
+/// what is there.
 ///
 /// Refused for want of memory alone. Some of the operations may then have been taken, and the list is dropped. The call
 /// may be made again with all of them, which the caller reads once more from where it had them, as from their file, or
@@ -85,7 +122,7 @@ pub fn take_each<A: Archive + Drop>(
         (IsTakenInPart (A.content archive.old) (map rec operations.items) (A.content archive.new)) }
 {
     if are_admissions(&operations) {
-        return take_together(archive, operations);
+        return take_admissions(archive, operations);
     }
-    take_in_turn(archive, operations)
+    take_parts(archive, operations)
 }
