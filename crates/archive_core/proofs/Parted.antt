@@ -224,6 +224,13 @@ retirement_put old all rest admissions retirements seen x parting n absent =
           omega (arith, parting.counted, new_first now (rec x) (map rec rest), length-append retirements (x ∷ []), one, same);
     }
 
+-- in the words of the lists that are there then
+pub parting_as : (old : Operations) (all rest admissions retirements more : List Operation) (seen more_seen : Operations) (x y : Operation) → IsParting old all rest admissions (retirements ++ x ∷ []) seen
+    → more ≡ retirements ++ y ∷ [] → y ≡ x → more_seen ≡ seen → IsParting old all rest admissions more more_seen
+parting_as old all rest admissions retirements more seen more_seen x y parting more_is same seen_is =
+    let now_is : more ≡ retirements ++ x ∷ [] = more_is ∙ ap (λ (z : Operation). retirements ++ z ∷ []) same in
+    subst (λ s. IsParting old all rest admissions more s) (sym seen_is) (subst (λ (xs : List Operation). IsParting old all rest admissions xs seen) (sym now_is) parting)
+
 -- at first none came
 pub parting_first : (old : Operations) (all left : List Operation) → IsMade old → left ≡ all → IsParting old all left [] [] set.empty
 parting_first old all left is same = rw same (record {

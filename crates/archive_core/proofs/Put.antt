@@ -1,5 +1,5 @@
 -- What a plain archive keeps after one operation was taken.
-use Rattle.std.proofs.Common.{◌≡◌, ℕ, ◌+◌, if◌then◌else◌, arith, Bool, true, false, not, ◌||◌, ◌&&◌, List, [], ◌∷◌, map, filter, refl, sym, ap, ◌∙◌}
+use Rattle.std.proofs.Common.{◌≡◌, ℕ, ◌+◌, arith, Bool, true, false, not, ◌||◌, ◌&&◌, List, [], ◌∷◌, map, filter, refl, sym, ap, ◌∙◌}
 use mathlib.Core.Bool.{true≢false}
 use Rattle.std.specs.Ordering.{nat_cmp, eq_by_cmp}
 use Rattle.std.specs.Cmp.{Equal-is}
@@ -9,11 +9,10 @@ use Rattle.std.specs.List.Sorted.{IsStrictlySortedBy}
 use Rattle.std.specs.FinSet as set
 use Rattle.std.specs.FinSet.{contains, from_list, contains-insert, contains-empty, same_set}
 use Rattle.std.proofs.lemmas.List.Kept.{IsStrictlySortedBy-filter}
-use Rattle.sha2.specs.Sha256.{sha256}
 use Rattle.join_core.specs.InnerSearch.{IsPlaceFor}
-use Rattle.archive_core.specs.Valid.{key_of, IsValid}
-use Rattle.archive_core.specs.Record.{rec, admission_record, retirement_record, IsOperation}
-use Rattle.archive_core.specs.Content.{Operations, is_admission, covering, is_covered, IsMade, with_record, with_records, changes, new_among}
+use Rattle.archive_core.specs.Valid.{IsValid}
+use Rattle.archive_core.specs.Record.{rec, admission_record, IsOperation}
+use Rattle.archive_core.specs.Content.{Operations, is_admission, covering, is_covered, IsMade, with_record, with_records, new_among}
 use Rattle.archive_core.specs.InnerHeld.{IsHeld}
 use Rattle.archive_core.specs.declared.operations.Operation.{Operation}
 use Rattle.archive_core.specs.declared.operations.Operation.TheVariants.{Admit}
@@ -23,7 +22,6 @@ pub use Rattle.archive_core.proofs.Taken.{made_with_admission}
 pub use Rattle.archive_core.proofs.Words.{covered_slice}
 use Rattle.archive_core.proofs.Held.{held_insert, records_insert, map_insert, along_insert}
 use Rattle.archive_core.proofs.Merged.{contains_left, records_filtered, are_left}
-use Rattle.archive_core.proofs.Entries.{covering_admission}
 
 is_tied : (q r : List ℕ) → eq_by_cmp (slice_cmp nat_cmp) q r ≡ true → q ≡ r
 is_tied q r h = bytes_same q r ((Equal-is (slice_cmp nat_cmp q r)).0 h)

@@ -379,8 +379,8 @@ impl PlainArchive {
         Ok(())
     }
 
-    // Takes over the operations of another archive, together. Room is made for them first, which alone may be refused, so
-    // that what they cover is dropped only where they come in.
+    // Takes over the operations of another archive, together. Room is made for them first, which alone may be refused:
+    // what they cover is dropped only where they come in.
     fn merge(&mut self, other: PlainArchive) -> Result<(), NoMemory>
         ensures merged { OnOk result (self.new ≡ joined self.old other) }
         ensures refused { OnErr result (self.new ≡ self.old) }

@@ -6,7 +6,7 @@ use Rattle.archive_core.specs.InnerTaking.{IsParting}
 use Rattle.archive_core.specs.declared.operations.Operation.{Operation}
 use Rattle.archive_core.specs.declared.operations.Operation.TheVariants.{Retire}
 use Rattle.archive_core.proofs.Made.{or_left, or_right}
-use Rattle.archive_core.proofs.Parted.{retirement_passed, retirement_put, neither, not_false, not_of}
+use Rattle.archive_core.proofs.Parted.{retirement_passed, retirement_put, parting_as, neither, not_false, not_of}
 use Rattle.archive_core.proofs.parting.Parts.retire.Goals as goal
 use Rattle.archive_core.proofs.parting.Parts.retire.Goals.{then-not-first-via-then-not-first, then-not-first-via-else-not-first+then-holds}
 
@@ -30,5 +30,5 @@ returns g c all rest parting =
     let unseen : contains seen retired ≡ false = not_of (contains seen retired) (sym c.in_ok-first.ensures.first ∙ c.if-not-first.false) in
     let absent : contains old retired ≡ false = ap (λ (x : Operation). contains old (rec x)) (sym c.retirement-retirement.ensures.retirement) ∙ sym c.holds.ensures ∙ c.if-holds.false in
     let put = retirement_put old all rest c.args.self.now.admissions.items c.args.self.now.retirements.items seen (Retire c.args.key c.args.digest) parting refl (neither (contains old retired) (contains seen retired) absent unseen) in
-    subst (λ (s : Operations). IsParting old all rest c.args.self.now.admissions.items c.push.new.self.items s) (sym c.in_ok-first.ensures.seen)
-    (subst (λ (items : List Operation). IsParting old all rest c.args.self.now.admissions.items items (insert seen retired)) (sym (c.in_ok-push.ensures.items ∙ ap (λ (x : Operation). c.args.self.now.retirements.items ++ x ∷ []) c.retirement-retirement.ensures.retirement)) put)
+    parting_as old all rest c.args.self.now.admissions.items c.args.self.now.retirements.items c.push.new.self.items _ c.see.new.self (Retire c.args.key c.args.digest) c.retirement-retirement.result put
+    c.in_ok-push.ensures.items c.retirement-retirement.ensures.retirement c.in_ok-first.ensures.seen

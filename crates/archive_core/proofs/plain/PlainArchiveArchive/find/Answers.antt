@@ -4,7 +4,6 @@ use Rattle.std.proofs.lemmas.List.Sorted.{ranks_by}
 use Rattle.std.proofs.lemmas.Result.{IfOk-weaker}
 use Rattle.std.specs.Ordering.{is_lt}
 use Rattle.archive_core.specs.Find.{find_cmp, row_of, IsFinds}
-use Rattle.archive_core.specs.InnerScan.{is_finding}
 use Rattle.archive_core.specs.InnerRange.{is_under_uuid}
 use Rattle.archive_core.specs.declared.range.Kind.TheVariants.{Retirement, Admission}
 use Rattle.archive_core.proofs.Ranges.{two_runs}
