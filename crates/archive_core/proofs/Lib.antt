@@ -20,4 +20,5 @@ pub mod Picked
 pub mod Falling
 pub mod Ranges
 pub mod Uncovered
-pub mod Runs
+pub mod Parted
+pub mod Keyed

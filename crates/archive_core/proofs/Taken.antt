@@ -29,7 +29,7 @@ new_changes o r h k = ap (λ b. not (b || is_covered o r)) h ∙ ap not k
 tied : List ℕ → List ℕ → Bool
 tied = eq_by_cmp (slice_cmp nat_cmp)
 
-tied_is : (q r : List ℕ) → eq_by_cmp (slice_cmp nat_cmp) q r ≡ true → q ≡ r
+pub tied_is : (q r : List ℕ) → eq_by_cmp (slice_cmp nat_cmp) q r ≡ true → q ≡ r
 tied_is q r h = bytes_same q r ((Equal-is (slice_cmp nat_cmp q r)).0 h)
 
 -- operations of two kinds are two

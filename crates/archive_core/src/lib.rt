@@ -16,6 +16,8 @@
 //! - `names`: what a search for a name tells;
 //! - `archives`: the trait [`Archive`];
 //! - `covered`: slices that retirements cover;
+//! - `seen`: retirements that came, and the slices that they cover;
+//! - `parting`: the admissions of a list, and behind them its retirements;
 //! - `taking`: many operations at once;
 //! - `finding`: an operation beside the row that a search tells of it;
 //! - `lists`: what a list of all tells;
@@ -37,8 +39,10 @@ mod live;
 mod lookup;
 mod names;
 mod operations;
+mod parting;
 mod plain;
 mod range;
+mod seen;
 mod slices;
 mod taking;
 

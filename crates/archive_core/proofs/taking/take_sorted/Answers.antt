@@ -1,11 +1,10 @@
-use Rattle.std.proofs.Common.{◌≡◌, ◌+◌, map, ap, ◌∙◌, arith}
+use Rattle.std.proofs.Common.{◌≡◌, map, ap, ◌∙◌}
 use Rattle.std.specs.FinSet as set
 use Rattle.std.proofs.lemmas.Result.{err_from_is_err_and}
-use Rattle.archive_core.specs.Content.{with_records, new_among}
+use Rattle.archive_core.specs.Content.{with_records}
 use Rattle.archive_core.specs.Record.{rec}
 use Rattle.archive_core.proofs.Joined.{least_is_joined, towards_in_words, none_taken, gathered_joined, gathered_in_part}
-use Rattle.archive_core.proofs.Put.{len_with_admissions}
-use Rattle.archive_core.proofs.taking.take_together.Goals as goal
+use Rattle.archive_core.proofs.taking.take_sorted.Goals as goal
 
 pub returns-in_err-clone-clause-refused : goal.returns-in_err-clone-clause-refused
 returns-in_err-clone-clause-refused g c =
@@ -40,31 +39,3 @@ returns-clause-taken g c =
     let is : gathered ≡ with_records set.empty (map rec sorted) = c.in_ok-take_in_turn.ensures.taken ∙ ap (λ o. with_records o (map rec sorted)) c.empty-taken.ensures in
     let both = least_is_joined join.is_content join.below law.is_content_is law.below_is old gathered new c.len-before.ensures.content c.in_ok-take_in_turn.ensures.content c.in_ok-absorb.ensures.joined in
     gathered_joined old gathered new c.args.operations.items sorted c.len-before.ensures.content.itself c.sort_unstable_by.ensures.permutation is both
-
-pub overflow_sub-result : goal.overflow_sub-result
-overflow_sub-result g c =
-    let join = g.A.Join in
-    let law = g.met.A.Archive in
-    let old = join.content c.args.archive.now in
-    let gathered = join.content c.take_in_turn.new.archive in
-    let new = join.content c.absorb.new.self in
-    let sorted = c.sort_unstable_by.new.self.items in
-    let is : gathered ≡ with_records set.empty (map rec sorted) = c.in_ok-take_in_turn.ensures.taken ∙ ap (λ o. with_records o (map rec sorted)) c.empty-taken.ensures in
-    let both = least_is_joined join.is_content join.below law.is_content_is law.below_is old gathered new c.len-before.ensures.content c.in_ok-take_in_turn.ensures.content c.in_ok-absorb.ensures.joined in
-    let all = gathered_joined old gathered new c.args.operations.items sorted c.len-before.ensures.content.itself c.sort_unstable_by.ensures.permutation is both in
-    let more : set.len new ≡ set.len old + new_among old (map rec c.args.operations.items) = ap set.len all ∙ len_with_admissions old c.args.operations.items c.len-before.ensures.content.itself c.requires in
-    omega (arith, more, c.len-before.ensures.len, c.len.ensures.len)
-
-pub returns-clause-counted : goal.returns-clause-counted
-returns-clause-counted g c =
-    let join = g.A.Join in
-    let law = g.met.A.Archive in
-    let old = join.content c.args.archive.now in
-    let gathered = join.content c.take_in_turn.new.archive in
-    let new = join.content c.absorb.new.self in
-    let sorted = c.sort_unstable_by.new.self.items in
-    let is : gathered ≡ with_records set.empty (map rec sorted) = c.in_ok-take_in_turn.ensures.taken ∙ ap (λ o. with_records o (map rec sorted)) c.empty-taken.ensures in
-    let both = least_is_joined join.is_content join.below law.is_content_is law.below_is old gathered new c.len-before.ensures.content c.in_ok-take_in_turn.ensures.content c.in_ok-absorb.ensures.joined in
-    let all = gathered_joined old gathered new c.args.operations.items sorted c.len-before.ensures.content.itself c.sort_unstable_by.ensures.permutation is both in
-    let more : set.len new ≡ set.len old + new_among old (map rec c.args.operations.items) = ap set.len all ∙ len_with_admissions old c.args.operations.items c.len-before.ensures.content.itself c.requires in
-    omega (arith, more, c.len-before.ensures.len, c.len.ensures.len)

@@ -1,0 +1,49 @@
+-- A list of operations in two parts, and the retirements that came so far: the words of inner functions. No contract of a
+-- public one has them.
+use Rattle.std.specs.Prelude.{◌≡◌, ℕ, ◌+◌, List, ◌∷◌, true, false, ◌||◌, length, map, take, drop}
+use Rattle.std.specs.List.{list_all}
+use Rattle.std.specs.FinSet.{contains}
+use Rattle.archive_core.specs.Record.{rec}
+use Rattle.archive_core.specs.Content.{Operations, is_admission, covering, IsMade, with_records, new_among}
+use Rattle.archive_core.specs.declared.operations.Operation.{Operation}
+
+-- the key of each of these retirements is there
+pub record IsKeyed (keys retired : Operations) : Type 0 where
+  pub keyed : (r : List ℕ) → contains retired r ≡ true → contains keys (take 24 (drop 1 r)) ≡ true
+
+-- a content with admissions alone, beside one with the retirements, too, that were seen
+pub record IsBeside (old admitted now seen : Operations) : Type 0 where
+  pub made_admitted : IsMade admitted
+  pub made_now : IsMade now
+  pub same : (r : List ℕ) → is_admission r ≡ false → contains admitted r ≡ contains old r
+  pub known : (r : List ℕ) → is_admission r ≡ false → contains now r ≡ (contains old r || contains seen r)
+  pub free : (r : List ℕ) → is_admission r ≡ true → contains now (covering r) ≡ false
+      → contains now r ≡ contains admitted r
+
+-- the content with some admissions, and behind them with some retirements
+abbrev pub with_both : Operations → List Operation → List Operation → Operations
+with_both old admissions retirements = with_records (with_records old (map rec admissions)) (map rec retirements)
+
+-- Between no operations and all: what is left of them, and what came as admissions and as retirements, without those
+-- that were not new where they came.
+pub record IsParting (old : Operations) (all left admissions retirements : List Operation) (seen : Operations)
+    : Type 0 where
+  pub only : list_all (λ operation. is_admission (rec operation)) admissions ≡ true
+  pub beside : IsBeside old (with_records old (map rec admissions)) (with_both old admissions retirements) seen
+  pub content : with_records (with_both old admissions retirements) (map rec left) ≡ with_records old (map rec all)
+  pub counted : (new_among old (map rec admissions) + length retirements)
+      + new_among (with_both old admissions retirements) (map rec left) ≡ new_among old (map rec all)
+
+-- The admissions of a list and its retirements, without those that are not new where they come: they give the same
+-- content, and of the admissions as many are new.
+pub record IsParted (old : Operations) (all admissions retirements : List Operation) : Type 0 where
+  pub only : list_all (λ operation. is_admission (rec operation)) admissions ≡ true
+  pub content : with_both old admissions retirements ≡ with_records old (map rec all)
+  pub counted : new_among old (map rec admissions) + length retirements ≡ new_among old (map rec all)
+
+-- with one operation more, the parts and the retirements seen are on the way, where they were with it left
+abbrev pub IsPut : Operations → Operation → List Operation → List Operation → Operations
+    → List Operation → List Operation → Operations → Type 0
+IsPut old operation admissions retirements seen more_admissions more_retirements more_seen =
+    (all rest : List Operation) → IsParting old all (operation ∷ rest) admissions retirements seen
+    → IsParting old all rest more_admissions more_retirements more_seen

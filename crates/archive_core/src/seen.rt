@@ -1,0 +1,204 @@
+//! Retirements that came, and the slices that they cover.
+ghost use Rattle.std.specs.Prelude.{◌≡◌, not, Some, refl, IfOk, OnOk};
+ghost use Rattle.std.specs.FinSet as set;
+ghost use Rattle.std.specs.Ordering.{nat_cmp, eq_by_cmp};
+ghost use Rattle.std.specs.Cmp.{partial_equiv_from_equiv, partial_order_from_agreeing_total};
+ghost use Rattle.std.specs.Cmp.Lexicographic.{slice_cmp, nat_list_cmp_total};
+ghost use Rattle.std.proofs.lemmas.Cmp.{eq_by_cmp_equiv};
+ghost use Rattle.sha2.specs.Sha256.{sha256};
+ghost use Rattle.archive_core.specs.Key.{IsKey, key_bytes};
+ghost use Rattle.archive_core.specs.Valid.{key_of};
+ghost use Rattle.archive_core.specs.Record.{retirement_record};
+
+use crate::{Digest, Slice, SliceKey, compare_keys};
+use memory::{Heap, NoMemory};
+use std::cmp::Ordering;
+use std::collections::BTreeSet;
+use std::marker::Model;
+
+// A key, in the order of its bytes.
+#[derive(Drop)]
+struct KeyPlace {
+    key: SliceKey,
+}
+
+impl Model for KeyPlace {
+    ghost use Rattle.std.specs.Prelude.{ℕ, List};
+    ghost use Rattle.archive_core.specs.Key.{key_bytes};
+
+    ghost Value = { List ℕ };
+
+    ghost view = { λ place. key_bytes place.key };
+}
+
+impl KeyPlace {
+    // The place of a key.
+    fn of(key: SliceKey) -> KeyPlace
+        ensures place { result ≡ key_bytes key }
+        ensures key { IsKey key }
+    {
+        KeyPlace { key }
+    }
+}
+
+impl PartialEq for KeyPlace {
+    ghost eq = { eq_by_cmp (slice_cmp nat_cmp) };
+
+    ghost laws = { partial_equiv_from_equiv (eq_by_cmp_equiv nat_list_cmp_total) };
+
+    fn eq(&self, other: &KeyPlace) -> bool {
+        self.cmp(other).is_eq()
+    }
+}
+
+impl Eq for KeyPlace {
+    ghost laws = { eq_by_cmp_equiv nat_list_cmp_total };
+}
+
+impl PartialOrd for KeyPlace {
+    ghost partial_cmp = { λ a b. Some (slice_cmp nat_cmp a b) };
+
+    ghost laws = { partial_order_from_agreeing_total (slice_cmp nat_cmp) nat_list_cmp_total (λ a b. refl) (λ a b. refl) };
+
+    fn partial_cmp(&self, other: &KeyPlace) -> Option<Ordering> {
+        Some(self.cmp(other))
+    }
+}
+
+impl Ord for KeyPlace {
+    ghost cmp = { slice_cmp nat_cmp };
+
+    ghost total = { nat_list_cmp_total };
+
+    ghost matches_partial_cmp = { λ a b. refl };
+
+    ghost matches_eq = { λ a b. refl };
+
+    fn cmp(&self, other: &KeyPlace) -> Ordering {
+        compare_keys(&self.key, &other.key)
+    }
+}
+
+// A retirement, in the order of records.
+#[derive(Drop)]
+struct Retired {
+    key: SliceKey,
+    digest: Digest,
+}
+
+impl Model for Retired {
+    ghost use Rattle.std.specs.Prelude.{ℕ, List};
+    ghost use Rattle.archive_core.specs.Record.{retirement_record};
+
+    ghost Value = { List ℕ };
+
+    ghost view = { λ retired. retirement_record retired.key retired.digest.0 };
+}
+
+impl Retired {
+    // The retirement of a key and a digest.
+    fn of(key: SliceKey, digest: Digest) -> Retired
+        ensures { result ≡ retirement_record key digest.0 }
+    {
+        Retired { key, digest }
+    }
+}
+
+impl PartialEq for Retired {
+    ghost eq = { eq_by_cmp (slice_cmp nat_cmp) };
+
+    ghost laws = { partial_equiv_from_equiv (eq_by_cmp_equiv nat_list_cmp_total) };
+
+    fn eq(&self, other: &Retired) -> bool {
+        self.cmp(other).is_eq()
+    }
+}
+
+impl Eq for Retired {
+    ghost laws = { eq_by_cmp_equiv nat_list_cmp_total };
+}
+
+impl PartialOrd for Retired {
+    ghost partial_cmp = { λ a b. Some (slice_cmp nat_cmp a b) };
+
+    ghost laws = { partial_order_from_agreeing_total (slice_cmp nat_cmp) nat_list_cmp_total (λ a b. refl) (λ a b. refl) };
+
+    fn partial_cmp(&self, other: &Retired) -> Option<Ordering> {
+        Some(self.cmp(other))
+    }
+}
+
+impl Ord for Retired {
+    ghost cmp = { slice_cmp nat_cmp };
+
+    ghost total = { nat_list_cmp_total };
+
+    ghost matches_partial_cmp = { λ a b. refl };
+
+    ghost matches_eq = { λ a b. refl };
+
+    fn cmp(&self, other: &Retired) -> Ordering {
+        compare_keys(&self.key, &other.key).then(self.digest.0.cmp(&other.digest.0))
+    }
+}
+
+// The retirements that came so far, and their keys.
+#[derive(Drop)]
+pub(crate) struct Seen {
+    keys: BTreeSet<KeyPlace, Heap>,
+    retired: BTreeSet<Retired, Heap>,
+}
+
+impl Model for Seen {
+    ghost use Rattle.std.specs.Ordering.{nat_cmp};
+    ghost use Rattle.std.specs.Cmp.Lexicographic.{slice_cmp};
+    ghost use Rattle.std.specs.FinSet as set;
+    ghost use Rattle.std.specs.Coded.{coded_list, coded_ℕ};
+    ghost use Rattle.archive_core.specs.InnerTaking.{IsKeyed};
+
+    ghost Value = { set.FinSet (slice_cmp nat_cmp) };
+
+    ghost coded = { set.code (coded_list coded_ℕ) };
+
+    ghost view = { λ seen. set.from_list seen.retired.keys };
+
+    ghost invariant = { λ seen. IsKeyed (set.from_list seen.keys.keys) (set.from_list seen.retired.keys) };
+}
+
+impl Seen {
+    // No retirements.
+    pub(crate) fn none(heap: &Heap) -> Result<Seen, NoMemory>
+        ensures { IfOk result (λ seen. seen ≡ set.empty) }
+    {
+        Ok(Seen {
+            keys: BTreeSet::new(heap.clone()?),
+            retired: BTreeSet::new(heap.clone()?),
+        })
+    }
+
+    // Sees a retirement, and answers whether it is the first with its key and digest.
+    pub(crate) fn see(&mut self, key: &SliceKey, digest: &Digest) -> Result<bool, NoMemory>
+        ensures seen { OnOk result (self.new ≡ set.insert self.old (retirement_record key.now digest.now.0)) }
+        ensures first { IfOk result (λ first.
+            first ≡ not (set.contains self.old (retirement_record key.now digest.now.0))) }
+    {
+        let place = KeyPlace::of(*key);
+        let retired = Retired::of(*key, *digest);
+        self.keys.insert(place)?;
+        let first = self.retired.insert(retired)?;
+        Ok(first)
+    }
+
+    // Whether a retirement that was seen covers the slice. Its digest is asked for only where one of its key was seen.
+    pub(crate) fn covers(&self, slice: &Slice) -> bool
+        ensures { result
+            ≡ set.contains self.now (retirement_record (key_of slice.now) (sha256 slice.now)) }
+    {
+        let place = KeyPlace::of(slice.key());
+        if !self.keys.contains(&place) {
+            return false;
+        }
+        self.retired
+            .contains(&Retired::of(slice.key(), slice.digest()))
+    }
+}
