@@ -1,5 +1,5 @@
 -- Retirements that were seen, and their keys.
-use Rattle.std.proofs.Common.{◌≡◌, ℕ, List, [], ◌∷◌, ◌++◌, Bool, true, false, not, ◌||◌, length, take, drop, refl, sym, ap, ◌∙◌, subst}
+use Rattle.std.proofs.Common.{◌≡◌, ℕ, List, [], ◌∷◌, ◌++◌, Bool, true, false, ◌||◌, length, take, drop, refl, sym, ap, ◌∙◌, subst}
 use Rattle.std.specs.Prelude.{cond}
 use mathlib.Core.Bool.{true≢false}
 use Rattle.std.specs.Ordering.{nat_cmp, eq_by_cmp, is_eq}
@@ -60,15 +60,16 @@ inserted old new k each = same_set nat_list_cmp_total bytes_same _ _ (λ q.
 
 -- with its key first, a retirement is keyed
 pub keyed_insert : (keys retired : Operations) (k r : List ℕ) → IsKeyed keys retired → take 24 (drop 1 r) ≡ k → IsKeyed (set.insert keys k) (set.insert retired r)
-keyed_insert keys retired k r is key = record { keyed = λ q h.
-    contains-insert nat_list_cmp_total keys k (take 24 (drop 1 q))
-    ∙ by_test _ (eq_by_cmp (slice_cmp nat_cmp) (take 24 (drop 1 q)) k)
-    (λ t. or_left _ _ t)
-    (λ f. or_right _ _ (either (contains keys (take 24 (drop 1 q)) ≡ true) (eq_by_cmp (slice_cmp nat_cmp) q r) (contains retired q)
-    (λ t. absurd (true≢false (sym (itself q t) ∙ f)))
-    (λ there. is.keyed q there)
-    (sym (contains-insert nat_list_cmp_total retired r q) ∙ h)))
-  }
+keyed_insert keys retired k r is key = record {
+  keyed = λ q h.
+      contains-insert nat_list_cmp_total keys k (take 24 (drop 1 q))
+      ∙ by_test _ (eq_by_cmp (slice_cmp nat_cmp) (take 24 (drop 1 q)) k)
+      (λ t. or_left _ _ t)
+      (λ f. or_right _ _ (either (contains keys (take 24 (drop 1 q)) ≡ true) (eq_by_cmp (slice_cmp nat_cmp) q r) (contains retired q)
+      (λ t. absurd (true≢false (sym (itself q t) ∙ f)))
+      (λ there. is.keyed q there)
+      (sym (contains-insert nat_list_cmp_total retired r q) ∙ h)));
+}
   where
     itself : (q : List ℕ) → eq_by_cmp (slice_cmp nat_cmp) q r ≡ true → eq_by_cmp (slice_cmp nat_cmp) (take 24 (drop 1 q)) k ≡ true
     itself q t = ap (λ x. eq_by_cmp (slice_cmp nat_cmp) x k) (ap (λ x. take 24 (drop 1 x)) (tied_is q r t) ∙ key) ∙ ap is_eq (tied_itself nat_list_cmp_total k)

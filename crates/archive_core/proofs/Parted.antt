@@ -12,7 +12,7 @@ use Rattle.archive_core.specs.Content.{Operations, is_admission, covering, is_co
 use Rattle.archive_core.specs.InnerTaking.{IsBeside, IsParting, IsParted, with_both}
 use Rattle.archive_core.specs.declared.operations.Operation.{Operation}
 use Rattle.archive_core.proofs.Made.{bytes_same, by_test, or_left, or_right, kept, free, covers_same, made_again, made_alike, alike_insert, made_is_alike, below_transitive}
-use Rattle.archive_core.proofs.Taken.{known_changes, new_changes, with_known, made_taken, below_taken, apart, tied_is}
+use Rattle.archive_core.proofs.Taken.{known_changes, new_changes, with_known, below_taken, apart, tied_is}
 
 -- ---- one operation more
 
@@ -65,9 +65,6 @@ all_last test (y ∷ ys) x all one = more (test y) (list_all test ys) (list_all 
     more false b c h f = absurd (true≢false (sym h))
 
 -- ---- the two contents, side by side
-
-tied : List ℕ → List ℕ → Bool
-tied q r = eq_by_cmp (slice_cmp nat_cmp) q r
 
 -- operations of two kinds are two
 two : (q r : List ℕ) → is_admission q ≡ true → is_admission r ≡ false → eq_by_cmp (slice_cmp nat_cmp) q r ≡ false

@@ -1,5 +1,5 @@
--- A list of operations in two parts, and the retirements that came so far: the words of inner functions. No contract of a
--- public one has them.
+-- A list of operations in two parts, and the retirements that came so far: the words of inner functions. No contract of
+-- a public one has them.
 use Rattle.std.specs.Prelude.{◌≡◌, ℕ, ◌+◌, List, ◌∷◌, true, false, ◌||◌, length, map, take, drop}
 use Rattle.std.specs.List.{list_all}
 use Rattle.std.specs.FinSet.{contains}

@@ -58,7 +58,8 @@ impl Eq for KeyPlace {
 impl PartialOrd for KeyPlace {
     ghost partial_cmp = { λ a b. Some (slice_cmp nat_cmp a b) };
 
-    ghost laws = { partial_order_from_agreeing_total (slice_cmp nat_cmp) nat_list_cmp_total (λ a b. refl) (λ a b. refl) };
+    ghost laws = { partial_order_from_agreeing_total (slice_cmp nat_cmp) nat_list_cmp_total (λ _ _. refl)
+        (λ _ _. refl) };
 
     fn partial_cmp(&self, other: &KeyPlace) -> Option<Ordering> {
         Some(self.cmp(other))
@@ -121,7 +122,8 @@ impl Eq for Retired {
 impl PartialOrd for Retired {
     ghost partial_cmp = { λ a b. Some (slice_cmp nat_cmp a b) };
 
-    ghost laws = { partial_order_from_agreeing_total (slice_cmp nat_cmp) nat_list_cmp_total (λ a b. refl) (λ a b. refl) };
+    ghost laws = { partial_order_from_agreeing_total (slice_cmp nat_cmp) nat_list_cmp_total (λ _ _. refl)
+        (λ _ _. refl) };
 
     fn partial_cmp(&self, other: &Retired) -> Option<Ordering> {
         Some(self.cmp(other))

@@ -1,6 +1,5 @@
-use Rattle.std.proofs.Common.{◌≡◌, ℕ, List, refl, ap, sym, subst, ◌∙◌}
+use Rattle.std.proofs.Common.{List, refl, ap, sym, subst, ◌∙◌}
 use Rattle.std.specs.FinSet.{contains}
-use Rattle.archive_core.specs.Content.{covering}
 use Rattle.archive_core.specs.InnerTaking.{IsParting}
 use Rattle.archive_core.specs.declared.operations.Operation.{Operation}
 use Rattle.archive_core.specs.declared.operations.Operation.TheVariants.{Admit}

@@ -1,5 +1,3 @@
-use Rattle.std.proofs.Common.{◌≡◌, List, sym, ap, subst}
-use Rattle.archive_core.specs.InnerTaking.{IsPut}
 use Rattle.archive_core.proofs.Parted.{on_ok}
 use Rattle.archive_core.proofs.parting.Parts.put.Goals as goal
 

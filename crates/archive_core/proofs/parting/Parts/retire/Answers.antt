@@ -1,5 +1,5 @@
-use Rattle.std.proofs.Common.{◌≡◌, List, [], ◌∷◌, ◌++◌, true, false, ◌||◌, refl, ap, sym, subst, ◌∙◌}
-use Rattle.std.specs.FinSet.{contains, insert}
+use Rattle.std.proofs.Common.{◌≡◌, true, false, ◌||◌, refl, ap, sym, subst, ◌∙◌}
+use Rattle.std.specs.FinSet.{contains}
 use Rattle.archive_core.specs.Record.{rec}
 use Rattle.archive_core.specs.Content.{Operations}
 use Rattle.archive_core.specs.InnerTaking.{IsParting}
