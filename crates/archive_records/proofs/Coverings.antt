@@ -78,11 +78,22 @@ is_covered_there text fault (inr f) e =
 pub told_covered : (text : List ℕ) (records : List (List ℕ)) (front : IsGoodFront Archive text records) (slice rest : List ℕ) → IsValid slice → front.rest ≡ admission_record slice ++ rest → may_follow Archive (last_of [] records) (admission_record slice) ≡ true
     → Contains records (retirement_record (key_of slice) (sha256 slice)) → IsFault text (record { kind = Covered; offset = front_length records })
 told_covered text records front slice rest valid whole above there =
-    inr (records, front, tt, inl (inr (refl, record {
-      item = admission_record slice;
-      more = rest;
-      whole = whole;
-      is = inl (record { slice = slice; valid = valid; is = refl });
-      above = above;
-      covered = in_set records (covering (admission_record slice)) (subst (Contains records) (sym (covering_admission slice valid)) there);
-    }), refl))
+    inr (
+      records,
+      front,
+      tt,
+      inl (
+        inr (
+          refl,
+          record {
+            item = admission_record slice;
+            more = rest;
+            whole = whole;
+            is = inl (record { slice = slice; valid = valid; is = refl });
+            above = above;
+            covered = in_set records (covering (admission_record slice)) (subst (Contains records) (sym (covering_admission slice valid)) there);
+          },
+        ),
+        refl,
+      ),
+    )

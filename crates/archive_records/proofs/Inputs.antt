@@ -116,14 +116,17 @@ trailing_memory : Trailing ≡ OutOfMemory → ⊥
 trailing_memory h = cc
 
 covered_grows : (file : TextKind) (records : List (List ℕ)) (rest more : List ℕ) (kind : RecordFaultKind) → FailsBehind file records rest kind → FailsBehind file records (rest ++ more) kind
-covered_grows Archive records rest more kind f = (f.0, record {
-  item = f.1.item;
-  more = f.1.more ++ more;
-  whole = ap (λ (x : List ℕ). x ++ more) f.1.whole ∙ append_assoc f.1.item f.1.more more;
-  is = f.1.is;
-  above = f.1.above;
-  covered = f.1.covered;
-})
+covered_grows Archive records rest more kind f = (
+  f.0,
+  record {
+    item = f.1.item;
+    more = f.1.more ++ more;
+    whole = ap (λ (x : List ℕ). x ++ more) f.1.whole ∙ append_assoc f.1.item f.1.more more;
+    is = f.1.is;
+    above = f.1.above;
+    covered = f.1.covered;
+  },
+)
 covered_grows Operations_file records rest more kind f = f
 covered_grows Summary_file records rest more kind f = f
 

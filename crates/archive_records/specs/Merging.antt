@@ -1,7 +1,6 @@
 -- A merge of two texts: what is written of two archives, and else which side stops it, and where.
-use Rattle.std.specs.Prelude.{◌≡◌, ℕ, ◌+◌, ◌-◌, ◌^◌, ◌<◌, true, false, not, List, [], ◌++◌, length, filter, Option, IfSome}
-use Rattle.std.specs.Prelude.{Result}
-use Rattle.std.specs.Prelude.{Ok, Err, ◌⊎◌}
+use Rattle.std.specs.Prelude.{◌≡◌, ℕ, ◌+◌, ◌-◌, ◌^◌, ◌<◌, true, false, not, List, [], ◌++◌, length, filter}
+use Rattle.std.specs.Prelude.{Option, IfSome, Result, Ok, Err, ◌⊎◌}
 use Rattle.std.specs.List.{concat}
 use Rattle.std.specs.FinSet as set
 use Rattle.std.specs.Io.KnownBytes.{Appends, Consumes, IsAtEnd}
@@ -124,15 +123,15 @@ pub record IsTaken {R : Type 0} (side : Stream R) (records : List (List ℕ)) (b
   pub ordered : InOrder Archive [] records
   pub apart : AreApart Archive records
 
--- what was taken behind these records of a side that was read on once this record had its turn: one that is above it, or
--- the end record, and the side is at its end. A record that is covered has its turn where it would have been written.
+-- What was taken behind these records of a side that was read on once this record had its turn: one that is above it,
+-- or the end record, and the side is at its end. A record that is covered has its turn where it would have been written.
 abbrev pub IsNext : {R : Type 0} → Stream R → List ℕ → List (List ℕ) → List ℕ → Type 0
 IsNext side low records next =
     (IsItem Archive next × (may_follow Archive low next ≡ true))
     ⊎ ((next ≡ end_record (length records)) × IsAtEnd (side.bytes side.new))
 
--- It is the left side's turn: its last record had its turn last, and the right side was read on only if its own is below
--- that one; where both are the same, or there is none yet, the left side is read first.
+-- It is the left side's turn: its last record had its turn last, and the right side was read on only if its own is
+-- below that one; where both are the same, or there is none yet, the left side is read first.
 abbrev pub IsTurnOfLeft : {S : Type 0} → Stream S → List (List ℕ) → List (List ℕ) → List ℕ → Type 0
 IsTurnOfLeft right lefts rights next =
     ((last_of [] rights ≡ last_of [] lefts) × (next ≡ []))
@@ -143,8 +142,8 @@ abbrev pub IsTurnOfRight : {R : Type 0} → Stream R → List (List ℕ) → Lis
 IsTurnOfRight left lefts rights next =
     (EndsBelow rights lefts → ⊥) × IsNext left (last_of [] rights) lefts next
 
--- As many records of this content were written as there may be, and both sides were read on: this one has one more, which
--- none of all these records covers.
+-- As many records of this content were written as there may be, and both sides were read on: this one has one more,
+-- which none of all these records covers.
 pub record IsOneMore {R S : Type 0} (side : Stream R) (other : Stream S) (o all : Operations) (others : List (List ℕ))
     (more next : List ℕ) : Type 0 where
   pub most : set.len o ≡ most_records

@@ -98,8 +98,8 @@ pub record Joins (out lefts rights : List (List ℕ)) : Type 0 where
   pub right : (r : List ℕ) → Contains rights r → Contains out r
 
 -- What was read of both, but for what is held, which is above it, ascends as `out`: that was written but for what is
--- covered in it. Where the left side is to be read on and the right one was, the right one's last record is not the last
--- of both.
+-- covered in it. Where the left side is to be read on and the right one was, the right one's last record is not the
+-- last of both.
 pub record Merging (a1 b1 a2 b2 w0 w1 : Option (List ℕ)) (m : Merge) : Type 0 where
   pub lefts : List (List ℕ)
   pub rights : List (List ℕ)

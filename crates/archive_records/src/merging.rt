@@ -78,8 +78,8 @@ fn first(left: &Side, right: &Side) -> Ordering
     }
 }
 
-/// Whether a retirement of the other side covers the record that is next. Its own side's does not: that would be a fault
-/// of it. All retirements stand before the admissions, so both sides' were read where an admission is next.
+/// Whether a retirement of the other side covers the record that is next. Its own side's does not: that would be a
+/// fault of it. All retirements stand before the admissions, so both sides' were read where an admission is next.
 fn is_covered(left: &Side, right: &Side) -> bool
     ensures { TellsCovered left.now right.now result }
 {

@@ -98,8 +98,8 @@ fn read_picked<A: Archive + Drop, S: Selects, R: Source>(
 }
 
 /// Reads an archive, and keeps the records that are picked: the whole input is read and tested as by
-/// [`crate::read_archive`], and what is kept is a part of the content that this gives, in the memory of that part and
-/// of one record.
+/// [`crate::read_archive`], and what is kept is a part of the content that this gives, in the memory of that part, of
+/// one record and of 57 bytes for each retirement.
 ///
 /// # Errors
 ///

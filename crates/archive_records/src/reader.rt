@@ -46,8 +46,13 @@ pub struct RecordReader {
 impl Model for RecordReader {
     ghost Value = { Position };
 
-    ghost view = { λ r. record { file = r.file; last = r.buffer.bytes.items; count = r.count; offset = r.offset;
-        retired = r.retired } };
+    ghost view = { λ r. record {
+      file = r.file;
+      last = r.buffer.bytes.items;
+      count = r.count;
+      offset = r.offset;
+      retired = r.retired;
+    } };
 
     ghost invariant = { λ r. Bounds (length r.chunk.items) r.count r.offset };
 }

@@ -93,19 +93,20 @@ fn merge_taken<R: Source, S: Source, W: Sink>(
 }
 
 /// Merges two archives of any size in the memory of one record of each and of 57 bytes for each retirement of each, and
-/// says how large what was written is. Each slice is checked, none is copied, and one is hashed where a retirement of its
-/// key was read. The pieces in which the readers give their bytes do not matter.
+/// says how large what was written is. Each slice is checked, none is copied, and one is hashed where a retirement of
+/// its key was read. The pieces in which the readers give their bytes do not matter.
 ///
 /// It reads the left magic and the right one and writes the magic; then it reads the left record and the right one,
 /// writes the lesser of the two, or one of two that are equal, and reads on the side or sides that it came from, left
-/// first. A slice that the other side retired is not written, and its side is read on as if it had been. An end record is
-/// read with the test that the input ends there.
+/// first. A slice that the other side retired is not written, and its side is read on as if it had been. An end record
+/// is read with the test that the input ends there.
 ///
 /// # Errors
 ///
 /// `Left` and `Right` with the fault that [`crate::read_archive`] gives of that side alone; `Write` where the writer
 /// failed. One record more than 9,223,372,036,854,775,807 is `OutOfMemory` of the side that it comes from, left where
-/// both have it. The writer has a beginning of an archive then, `written` bytes of it, and no end record.
+/// both have it, and so is a retirement for which there is no memory. The writer has a beginning of an archive then,
+/// `written` bytes of it, and no end record.
 pub fn merge_streams<R: Source, S: Source, W: Sink>(
     heap: &Heap,
     left: &mut R,
