@@ -3,6 +3,7 @@ another number of runs than five."""
 import os
 import pathlib
 import random
+import resource
 import shutil
 import statistics
 import subprocess
@@ -57,6 +58,23 @@ def medians(*commands, out=None, status=0):
     """Runs commands in turn, and gives of each the medians of its seconds and of its peak memory."""
     rows = [[run(words, out, status) for words in commands] for _ in range(RUNS)]
     return [[statistics.median(column) for column in zip(*runs)] for runs in zip(*rows)]
+
+
+def busy(words, out):
+    """The seconds for which a command keeps a processor busy. What is at OUT is removed first."""
+    out.unlink(missing_ok=True)
+    before = resource.getrusage(resource.RUSAGE_CHILDREN)
+    ended = subprocess.run(words, stdout=subprocess.DEVNULL).returncode
+    if ended != 0:
+        sys.exit(f"{words[0]} ended with status {ended}")
+    after = resource.getrusage(resource.RUSAGE_CHILDREN)
+    return after.ru_utime - before.ru_utime + after.ru_stime - before.ru_stime
+
+
+def least_busy(*commands, out):
+    """Runs commands in turn, and gives of each the least of its busy seconds."""
+    rows = [[busy(words, out) for words in commands] for _ in range(RUNS)]
+    return [min(column) for column in zip(*rows)]
 
 
 def least(words, runs=RUNS):

@@ -118,12 +118,12 @@ def text_line(b):
 
 ONE = {"new": "out", "find": "archive uuid", "list": "archive", "name": "archive name", "summary": "archive out",
        "delta": "archive summary out", "rehearse": "script", "retire": "in out uuid arch digest",
-       "apply": "in out ops", "admit": "in out file*", "merge": "in out file*",
+       "apply": "in out ops", "admit": "in out file*", "merge": "in out file*", "migrate": "in out",
        "symbolicate": "archive uuid arch address*"}
 
 
 def plan(words):
-    if not words or words[0] not in ONE:
+    if not words or words[0] not in ONE or (words[0] == "migrate" and F.V == 1):
         raise Copy
     cmd, rest = words[0], words[1:]
     pos, load, i, raw = [], None, 0, False
@@ -310,6 +310,9 @@ class Run:
         for i, path in enumerate(p["file"], 1):
             c.join(self.archive(path, "archive %d" % i))
         return self.finish(c, [])
+
+    def cmd_migrate(self, p):
+        return self.finish(self.archive(p["in"], "archive 0"), [])
 
     def cmd_apply(self, p):
         c = self.archive(p["in"], "archive 0")

@@ -1,6 +1,7 @@
 """The formats and the content of archives, told a second time, as a check: nothing here is taken from the program.
 
-V is the version (1 or 2) of archive texts and of the content."""
+V is the version (1 or 2) of the content and of the archive texts that are written. Texts of versions up to V are read: of
+version 1 with V 2 what their retirements cover is dropped."""
 import hashlib
 import struct
 from bisect import bisect_right
@@ -16,6 +17,11 @@ def set_version(v):
 
 def magic():
     return b"MSYMARC%d" % V
+
+
+def magics():
+    """of the archive texts that are read"""
+    return [b"MSYMARC%d" % v for v in range(1, V + 1)]
 
 
 OPS = b"MSYMOPS1"
@@ -343,20 +349,23 @@ class Reader:
         self.last = None
         self.count = 0
         self.rets = set()
+        self.version = None
 
     def ended(self, at):
         return Fault("Device" if self.src.fails else "Truncated", at)
 
     def magic(self):
-        want = {"archive": magic(), "ops": OPS, "summary": SUM}[self.kind]
+        wants = {"archive": magics(), "ops": [OPS], "summary": [SUM]}[self.kind]
         got = self.src.take(8)
         if len(got) < 8 and self.src.fails:
             raise Fault("Device", 0)
-        if got != want[:len(got)]:
+        if not any(want.startswith(got) for want in wants):
             raise Fault("BadMagic", 0)
         if len(got) < 8:
             raise Fault("Truncated", 0)
         self.at = 8
+        if self.kind == "archive":
+            self.version = int(got[7:])
 
     def next(self, whole=True):
         """a record or entry, or None at the end"""
@@ -399,7 +408,7 @@ class Reader:
                 raise Fault("BadSlice(%s)" % fault, at)
             if key_of(m) != rec[1:25]:
                 raise Fault("KeyMismatch", at)
-            if V == 2 and self.kind == "archive" and covering(rec) in self.rets:
+            if self.version == 2 and covering(rec) in self.rets:
                 raise Fault("Covered", at)
         if self.kind == "archive" and tag == 1:
             self.rets.add(rec)
@@ -426,7 +435,7 @@ def read_archive(src, whole=True):
     for r in recs:
         if r[0] == 1:
             c.rets.add(r)
-        else:
+        elif V == 1 or covering(r) not in c.rets:
             c.adms[covering(r)] = r
     return c
 
@@ -493,7 +502,7 @@ def merged_by_definition(left, right):
     """what OUT has, and (side, fault) or None, by the place of a merge's fault"""
     fronts = [good_front(left), good_front(right)]
     for i, t in enumerate((left, right)):
-        if t[:8] != magic():
+        if t[:8] not in magics():
             return b"", (i, fronts[i][1])
     faulty = [(fronts[i][0][-1] if fronts[i][0] else b"", i) for i in (0, 1) if fronts[i][1]]
     recs = sorted(set(fronts[0][0]) | set(fronts[1][0]))

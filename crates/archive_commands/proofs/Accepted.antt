@@ -22,7 +22,7 @@ use Rattle.archive_exchange.specs.declared.fault.TakeFault.TheVariants.{OutOfMem
 use Rattle.archive_commands.specs.Admit.{admit}
 use Rattle.archive_commands.specs.Apply.{apply}
 use Rattle.archive_commands.specs.Delta.{delta}
-use Rattle.archive_commands.specs.Inputs.{Reader, reader, IsDeviceFault, IsGiven, IsArchiveRefused, IsFileRefused, IsTextRefused}
+use Rattle.archive_commands.specs.Inputs.{Reader, reader, IsDeviceFault, IsGiven, IsArchiveRefused, IsFileRefused, IsTextRefused, IsGivenArchive}
 
 -- what is of the machine, and no want of memory, is the device's
 pub by_device : (fault : RecordFault) (why : Why) → why ≡ Record fault → (fault.kind ≡ RecordOutOfMemory → ⊥) → IsOfMachine fault.kind → IsDeviceFault why
@@ -40,8 +40,8 @@ text kind left failures (Ok source) new m bytes why is of given refused =
     let alone = known (left source) bytes (λ t. (other : Meaning kind) → IsMeaning kind other → IsTextOf kind other t → IsOfMachine refused.2.kind) given refused.5.1 in
     by_device refused.2 why refused.3 refused.4 (alone m is of)
 
-pub archive : {R : Type 0} (input : Reader R) (o : Operations) (why : Why) → IsContent o → IsGiven input (written o) → IsArchiveRefused input why → IsDeviceFault why
-archive input o why content given refused = text ArchiveFile input.left input.failures input.old input.new o (written o) why content refl given refused
+pub archive : {R : Type 0} (input : Reader R) (o : Operations) (why : Why) → IsContent o → IsGivenArchive input o → IsArchiveRefused input why → IsDeviceFault why
+archive input o why content given refused = text ArchiveFile input.left input.failures input.old input.new o given.0 why content given.1 given.2 refused
 
 -- one of these inputs, at its place
 at_place : {S Y : Type 0} (R : Reader S → Y → Type 0) (P : Y → Type 0) (files : List (Reader S)) (texts : List Y) (place : ℕ) (file : Reader S)
@@ -62,7 +62,7 @@ module _ (memory_alone : (file : List ℕ) (fault : TakeFault) → IsAcceptedFil
       ]
 
   pub admit_refused : {R S : Type 0} (input : Reader R) (files : List (Reader S)) (o : Operations) (texts : List (List ℕ)) (place : Place) (why : Why)
-      → IsContent o → IsGiven input (written o) → AllZip IsGiven files texts → AllByRecursion IsAcceptedFile texts
+      → IsContent o → IsGivenArchive input o → AllZip IsGiven files texts → AllByRecursion IsAcceptedFile texts
       → (admit input files).Refuses place why → IsDeviceFault why
   admit_refused input files o texts place why content given files_given accepted refused =
       elim refused [
@@ -75,7 +75,7 @@ module _ (memory_alone : (file : List ℕ) (fault : TakeFault) → IsAcceptedFil
       ]
 
 pub apply_refused : {R S : Type 0} (input : Reader R) (ops : Reader S) (o : Operations) (bytes : List ℕ) (operations : List Operation) (place : Place) (why : Why)
-    → IsContent o → IsGiven input (written o) → IsGiven ops bytes → IsOperationsText bytes operations
+    → IsContent o → IsGivenArchive input o → IsGiven ops bytes → IsOperationsText bytes operations
     → (apply input ops).Refuses place why → IsDeviceFault why
 apply_refused input ops o bytes operations place why content given ops_given is refused =
     elim refused [
@@ -84,7 +84,7 @@ apply_refused input ops o bytes operations place why content given ops_given is 
     ]
 
 pub delta_refused : {R S : Type 0} (input : Reader R) (named : Reader S) (o : Operations) (entries : Entries) (place : Place) (why : Why)
-    → IsContent o → AreEntries entries → IsGiven input (written o) → IsGiven named (summary_text entries)
+    → IsContent o → AreEntries entries → IsGivenArchive input o → IsGiven named (summary_text entries)
     → (delta input named).Refuses place why → IsDeviceFault why
 delta_refused input named o entries place why content are given named_given refused =
     elim refused [

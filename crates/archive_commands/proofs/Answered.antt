@@ -14,8 +14,7 @@ use Rattle.archive_core.specs.declared.lookup.Answer.{Answer}
 use Rattle.report_text.specs.Answers.{answer_lines}
 use Rattle.archive_commands.specs.declared.faults.Status.{Status}
 use Rattle.archive_commands.specs.declared.faults.Status.TheVariants.{Done, Partial}
-use Rattle.archive_records.specs.Text.{written}
-use Rattle.archive_commands.specs.Inputs.{Reader, Holds}
+use Rattle.archive_commands.specs.Inputs.{Reader, HoldsArchive}
 use Rattle.archive_commands.specs.Symbolicate.{place_of, is_symbol, Answered, IsAnswered, answers_status, TellsAddresses, MakesAnswered}
 
 all_more : {X : Type 0} (P : X → Type 0) (xs : List X) (x : X) → AllByRecursion P xs → P x → AllByRecursion P (xs ++ x ∷ [])
@@ -57,7 +56,7 @@ pub take_more : (xs : List ℕ) (i : ℕ) → i < length xs → take (i + 1) xs 
 take_more xs i lt = ap (λ (n : ℕ). take n xs) (add-one i) ∙ take-suc xs i 0 lt
 
 pub makes_answered : {R : Type 0} (archive : Reader R) (key : SliceKey) (load : Option ℕ) (addresses : List ℕ) (o : Operations) (status : Status) (text lines : List ℕ)
-    → IsContent o → Holds archive (written o) → TellsAddresses o key load addresses status lines → text ≡ lines → MakesAnswered archive key load addresses status text
+    → IsContent o → HoldsArchive archive o → TellsAddresses o key load addresses status lines → text ≡ lines → MakesAnswered archive key load addresses status text
 makes_answered archive key load addresses o status text lines content holds tells same = record {
   content = o;
   is_content = content;

@@ -5,16 +5,16 @@ use Rattle.archive_core.specs.Content.{Operations, IsContent, with_records, new_
 use Rattle.archive_core.specs.Record.{rec}
 use Rattle.archive_core.specs.declared.operations.Operation.{Operation}
 use Rattle.archive_core.proofs.Taken.{new_within as new_records_within}
-use Rattle.archive_records.specs.Text.{IsOperationsText, written}
+use Rattle.archive_records.specs.Text.{IsOperationsText}
 use Rattle.report_text.specs.Report.{apply_line}
 use Rattle.archive_commands.specs.Apply.{MakesApplied}
-use Rattle.archive_commands.specs.Inputs.{Reader, Gives, Holds}
+use Rattle.archive_commands.specs.Inputs.{Reader, Gives, HoldsArchive}
 
 pub new_within : (o : Operations) (operations : List Operation) → new_among o (map rec operations) ≤ length operations
 new_within o operations = subst (λ (n : ℕ). new_among o (map rec operations) ≤ n) (length-map operations rec) (new_records_within o (map rec operations))
 
 pub makes_applied : {R S : Type 0} (input : Reader R) (ops : Reader S) (o new_content : Operations) (operations : List Operation) (new known : ℕ) (lines : List ℕ)
-    → IsContent o → Holds input (written o) → Gives ops (λ text. IsOperationsText text operations)
+    → IsContent o → HoldsArchive input o → Gives ops (λ text. IsOperationsText text operations)
     → new_content ≡ with_records o (map rec operations) → new ≡ new_among o (map rec operations) → known + new ≡ length operations → lines ≡ apply_line new known
     → MakesApplied input ops new_content lines
 makes_applied input ops o new_content operations new known lines content holds ops_are content_is new_is known_is lines_are = record {

@@ -11,7 +11,7 @@ use Rattle.archive_commands.specs.declared.faults.Why.{Why}
 use Rattle.report_text.specs.declared.rows.AdmitRow.{AdmitRow}
 use Rattle.archive_commands.specs.Admit.{HasTaken, MakesAdmitted}
 use Rattle.archive_commands.specs.Ends.{Ends, EndsReport, MakesArchive}
-use Rattle.archive_commands.specs.Inputs.{Reader, Holds, Unfailed, IsRefusal, IsRefusedArchive, IsRefusedInOrder}
+use Rattle.archive_commands.specs.Inputs.{Reader, Unfailed, IsRefusal, IsRefusedArchive, IsRefusedInOrder, HoldsArchive}
 use Rattle.archive_commands.specs.Outputs.{Writer, Takes, Publishes, Reports, report_of}
 
 module _ (Makes : List ℕ → List ℕ → Type 0) (Refuses : Place → Why → Type 0) (NoneFailed : Type 0) (out report : Writer) where
@@ -62,7 +62,7 @@ module _ {R : Type 0} (Makes : List ℕ → List ℕ → Type 0) (input : Reader
   first_refused OutOfMemory r untouched others o p = ((r, others), inl (o, p))
 
   -- the archive is accepted, and of the inputs behind it one is refused, or memory is wanting for them
-  pub behind_refused : (fault : CommandFault) (content : Operations) → IsContent content → Holds input (written content) → Unfailed input
+  pub behind_refused : (fault : CommandFault) (content : Operations) → IsContent content → HoldsArchive input content → Unfailed input
       → IsRefusal IsRefusedBehind OthersUnfailed fault → Takes out [] → Takes report [] → EndsInOrder (Err fault)
   behind_refused (Input place why) content is holds unfailed r o p = (inr ((content, is, holds), unfailed, r), o, p)
   behind_refused (Output _) content is holds unfailed r o p = absurd r
@@ -70,7 +70,7 @@ module _ {R : Type 0} (Makes : List ℕ → List ℕ → Type 0) (input : Reader
   behind_refused OutOfMemory content is holds unfailed r o p = ((unfailed, r), inl (o, p))
 
 pub makes_admitted : {R S : Type 0} (input : Reader R) (files : List (Reader S)) (o new : Operations) (rows rows_now : List AdmitRow) (lines : List ℕ)
-    → IsContent o → Holds input (written o) → HasTaken files o new rows → rows_now ≡ rows → lines ≡ admit_lines rows_now
+    → IsContent o → HoldsArchive input o → HasTaken files o new rows → rows_now ≡ rows → lines ≡ admit_lines rows_now
     → MakesAdmitted input files new lines
 makes_admitted input files o new rows rows_now lines content holds taken same lines_are = record {
   before = o;

@@ -3,24 +3,23 @@ use Rattle.std.proofs.Common.{◌≡◌, ◌∙◌, ℕ, List, sym, ap, subst}
 use Rattle.archive_core.specs.Content.{Operations, IsContent}
 use Rattle.archive_core.specs.Find.{IsFinds}
 use Rattle.archive_core.specs.declared.find.FindRow.{FindRow}
-use Rattle.archive_records.specs.Text.{written}
 use Rattle.report_text.specs.Finds.{find_lines}
 use Rattle.archive_commands.specs.declared.faults.Status.{Status}
 use Rattle.archive_commands.specs.Find.{MakesFound, find_status}
-use Rattle.archive_commands.specs.Inputs.{Reader, IsGiven}
-use Rattle.archive_commands.proofs.Viewed.{given_text}
+use Rattle.archive_commands.specs.Inputs.{Reader, IsGivenArchive}
+use Rattle.archive_commands.proofs.Viewed.{OneContent, given_content}
 
-module _ (one : (o p : Operations) → IsContent o → IsContent p → written o ≡ written p → o ≡ p) where
+module _ (one : OneContent) where
   -- the rows that are told of a file with the text of a content are what that content has of the UUID
   finds_of : {R : Type 0} (archive : Reader R) (o : Operations) (uuid : List ℕ) (status : Status) (text : List ℕ)
-      → IsContent o → IsGiven archive (written o) → (makes : MakesFound archive uuid status text) → IsFinds o uuid makes.rows
+      → IsContent o → IsGivenArchive archive o → (makes : MakesFound archive uuid status text) → IsFinds o uuid makes.rows
   finds_of archive o uuid status text content given makes =
-      let same = one o makes.content content makes.is_content (given_text archive.left archive.failures archive.old archive.new (written o) (written makes.content) given makes.archive_is) in
+      let same = given_content one archive.left archive.failures archive.old archive.new o makes.content content makes.is_content given makes.archive_is in
       subst (λ (p : Operations). IsFinds p uuid makes.rows) (sym same) makes.finds
 
   pub one_made : (alike : (o : Operations) (uuid : List ℕ) (rows others : List FindRow) → IsFinds o uuid rows → IsFinds o uuid others → rows ≡ others)
       → {R S : Type 0} (archive : Reader R) (other : Reader S) (o : Operations) (uuid : List ℕ) (status other_status : Status) (text other_text : List ℕ)
-      → IsContent o → IsGiven archive (written o) → IsGiven other (written o)
+      → IsContent o → IsGivenArchive archive o → IsGivenArchive other o
       → MakesFound archive uuid status text → MakesFound other uuid other_status other_text → (status ≡ other_status) × (text ≡ other_text)
   one_made alike archive other o uuid status other_status text other_text content given other_given makes other_makes =
       let rows = alike o uuid makes.rows other_makes.rows (finds_of archive o uuid status text content given makes)

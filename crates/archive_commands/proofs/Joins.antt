@@ -1,16 +1,15 @@
 -- The archives of `merge`, one more at a time.
-use Rattle.std.proofs.Common.{◌≡◌, ℕ, List, [], ◌∷◌, ◌++◌, map, refl, sym, ap, ◌∙◌, subst}
+use Rattle.std.proofs.Common.{◌≡◌, ℕ, List, [], ◌∷◌, ◌++◌, refl, sym, ap, ◌∙◌, subst}
 use Rattle.std.specs.List.{AllByRecursion, AllZip}
 use Rattle.std.proofs.lemmas.List.Sums.{fold-append}
 use Rattle.archive_core.specs.Content.{Operations, IsContent, joined}
-use Rattle.archive_records.specs.Text.{written}
-use Rattle.archive_commands.specs.Inputs.{Reader, Holds, IsArchive}
+use Rattle.archive_commands.specs.Inputs.{Reader, IsArchive, HoldsArchive}
 use Rattle.archive_commands.specs.Merge.{HasJoined, MakesMerged}
 use Rattle.archive_commands.proofs.Readers.{all_more}
 
 module _ {S : Type 0} where
   hold_more : (files : List (Reader S)) (contents : List Operations) (file : Reader S) (other : Operations)
-      → AllZip Holds files (map written contents) → Holds file (written other) → AllZip Holds (files ++ file ∷ []) (map written (contents ++ other ∷ []))
+      → AllZip HoldsArchive files contents → HoldsArchive file other → AllZip HoldsArchive (files ++ file ∷ []) (contents ++ other ∷ [])
   hold_more [] [] file other each holds = (holds, tt)
   hold_more [] (_ ∷ _) file other each holds = absurd each
   hold_more (_ ∷ _) [] file other each holds = absurd each
@@ -20,16 +19,16 @@ module _ {S : Type 0} where
   joined_none o = record { contents = []; are_contents = tt; files_are = tt; content = refl }
 
   pub joined_more : (files seen : List (Reader S)) (file : Reader S) (o mid new other : Operations)
-      → seen ≡ files ++ file ∷ [] → HasJoined files o mid → IsContent other → Holds file (written other) → new ≡ joined mid other → HasJoined seen o new
+      → seen ≡ files ++ file ∷ [] → HasJoined files o mid → IsContent other → HoldsArchive file other → new ≡ joined mid other → HasJoined seen o new
   joined_more files seen file o mid new other seen_is before content holds new_is =
       record {
         contents = before.contents ++ other ∷ [];
         are_contents = all_more IsContent before.contents other before.are_contents content;
-        files_are = subst (λ (fs : List (Reader S)). AllZip Holds fs (map written (before.contents ++ other ∷ []))) (sym seen_is) (hold_more files before.contents file other before.files_are holds);
+        files_are = subst (λ (fs : List (Reader S)). AllZip HoldsArchive fs (before.contents ++ other ∷ [])) (sym seen_is) (hold_more files before.contents file other before.files_are holds);
         content = new_is ∙ ap (λ (p : Operations). joined p other) before.content ∙ sym (fold-append joined o before.contents (other ∷ []));
       }
 
-  each_archive : (files : List (Reader S)) (contents : List Operations) → AllZip Holds files (map written contents) → AllByRecursion IsContent contents → AllByRecursion IsArchive files
+  each_archive : (files : List (Reader S)) (contents : List Operations) → AllZip HoldsArchive files contents → AllByRecursion IsContent contents → AllByRecursion IsArchive files
   each_archive [] contents hold are = tt
   each_archive (_ ∷ _) [] hold are = absurd hold
   each_archive (_ ∷ files) (o ∷ contents) hold are = ((o, are.0, hold.0), each_archive files contents hold.1 are.1)
@@ -39,7 +38,7 @@ module _ {S : Type 0} where
   joined_archives files o mid joined = each_archive files joined.contents joined.files_are joined.are_contents
 
 pub makes_merged : {R S : Type 0} (input : Reader R) (files : List (Reader S)) (o new : Operations) (lines : List ℕ)
-    → IsContent o → Holds input (written o) → HasJoined files o new → lines ≡ []
+    → IsContent o → HoldsArchive input o → HasJoined files o new → lines ≡ []
     → MakesMerged input files new lines
 makes_merged input files o new lines content holds joined lines_are = record {
   before = o;

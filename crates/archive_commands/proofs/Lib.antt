@@ -12,6 +12,7 @@ pub mod Counts
 pub mod OperationLists
 pub mod Answered
 pub mod Viewed
+pub mod Migrated
 pub mod NameTold
 pub mod ListTold
 pub mod FindTold

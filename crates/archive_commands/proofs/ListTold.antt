@@ -3,25 +3,24 @@ use Rattle.std.proofs.Common.{◌≡◌, ◌∙◌, ℕ, List, sym, ap, subst}
 use Rattle.archive_core.specs.Content.{Operations, IsContent}
 use Rattle.archive_core.specs.Lists.{IsList}
 use Rattle.archive_core.specs.declared.find.FindRow.{FindRow}
-use Rattle.archive_records.specs.Text.{written}
 use Rattle.report_text.specs.Finds.{list_lines}
 use Rattle.archive_commands.specs.declared.faults.Status.{Status}
 use Rattle.archive_commands.specs.Find.{find_status}
-use Rattle.archive_commands.specs.Inputs.{Reader, IsGiven}
+use Rattle.archive_commands.specs.Inputs.{Reader, IsGivenArchive}
 use Rattle.archive_commands.specs.List.{MakesListed}
-use Rattle.archive_commands.proofs.Viewed.{given_text}
+use Rattle.archive_commands.proofs.Viewed.{OneContent, given_content}
 
-module _ (one : (o p : Operations) → IsContent o → IsContent p → written o ≡ written p → o ≡ p) where
+module _ (one : OneContent) where
   -- the rows that are told of a file with the text of a content are the list of that content
   list_of : {R : Type 0} (archive : Reader R) (o : Operations) (status : Status) (text : List ℕ)
-      → IsContent o → IsGiven archive (written o) → (makes : MakesListed archive status text) → IsList o makes.rows
+      → IsContent o → IsGivenArchive archive o → (makes : MakesListed archive status text) → IsList o makes.rows
   list_of archive o status text content given makes =
-      let same = one o makes.content content makes.is_content (given_text archive.left archive.failures archive.old archive.new (written o) (written makes.content) given makes.archive_is) in
+      let same = given_content one archive.left archive.failures archive.old archive.new o makes.content content makes.is_content given makes.archive_is in
       subst (λ (p : Operations). IsList p makes.rows) (sym same) makes.lists
 
   pub one_made : (alike : (o : Operations) (rows others : List FindRow) → IsList o rows → IsList o others → rows ≡ others)
       → {R S : Type 0} (archive : Reader R) (other : Reader S) (o : Operations) (status other_status : Status) (text other_text : List ℕ)
-      → IsContent o → IsGiven archive (written o) → IsGiven other (written o)
+      → IsContent o → IsGivenArchive archive o → IsGivenArchive other o
       → MakesListed archive status text → MakesListed other other_status other_text → (status ≡ other_status) × (text ≡ other_text)
   one_made alike archive other o status other_status text other_text content given other_given makes other_makes =
       let rows = alike o makes.rows other_makes.rows (list_of archive o status text content given makes)

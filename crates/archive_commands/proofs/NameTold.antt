@@ -2,24 +2,23 @@
 use Rattle.std.proofs.Common.{◌≡◌, ◌∙◌, ℕ, List, sym, ap, subst}
 use Rattle.archive_core.specs.Content.{Operations, IsContent}
 use Rattle.archive_core.specs.Names.{IsNames, NameRecord}
-use Rattle.archive_records.specs.Text.{written}
 use Rattle.report_text.specs.Names.{name_lines}
 use Rattle.archive_commands.specs.declared.faults.Status.{Status}
-use Rattle.archive_commands.specs.Inputs.{Reader, IsGiven}
+use Rattle.archive_commands.specs.Inputs.{Reader, IsGivenArchive}
 use Rattle.archive_commands.specs.Name.{MakesNamed, name_status}
-use Rattle.archive_commands.proofs.Viewed.{given_text}
+use Rattle.archive_commands.proofs.Viewed.{OneContent, given_content}
 
-module _ (one : (o p : Operations) → IsContent o → IsContent p → written o ≡ written p → o ≡ p) where
+module _ (one : OneContent) where
   -- the rows that are told of a file with the text of a content are what a search of that content tells
   names_of : {R : Type 0} (archive : Reader R) (o : Operations) (sought : List ℕ) (status : Status) (text : List ℕ)
-      → IsContent o → IsGiven archive (written o) → (makes : MakesNamed archive sought status text) → IsNames o sought makes.rows
+      → IsContent o → IsGivenArchive archive o → (makes : MakesNamed archive sought status text) → IsNames o sought makes.rows
   names_of archive o sought status text content given makes =
-      let same = one o makes.content content makes.is_content (given_text archive.left archive.failures archive.old archive.new (written o) (written makes.content) given makes.archive_is) in
+      let same = given_content one archive.left archive.failures archive.old archive.new o makes.content content makes.is_content given makes.archive_is in
       subst (λ (p : Operations). IsNames p sought makes.rows) (sym same) makes.names
 
   pub one_made : (alike : (o : Operations) (name : List ℕ) (rows others : List NameRecord) → IsNames o name rows → IsNames o name others → rows ≡ others)
       → {R S : Type 0} (archive : Reader R) (other : Reader S) (o : Operations) (sought : List ℕ) (status other_status : Status) (text other_text : List ℕ)
-      → IsContent o → IsGiven archive (written o) → IsGiven other (written o)
+      → IsContent o → IsGivenArchive archive o → IsGivenArchive other o
       → MakesNamed archive sought status text → MakesNamed other sought other_status other_text → (status ≡ other_status) × (text ≡ other_text)
   one_made alike archive other o sought status other_status text other_text content given other_given makes other_makes =
       let rows = alike o sought makes.rows other_makes.rows (names_of archive o sought status text content given makes)

@@ -5,7 +5,7 @@ use Rattle.archive_records.specs.declared.fault.MergeCause.{MergeCause}
 use Rattle.archive_records.specs.declared.fault.MergeCause.TheVariants.{Left, Right, Write}
 use Rattle.archive_records.specs.declared.fault.MergeFault.{MergeFault}
 use Rattle.archive_records.specs.declared.writing.Sizes.{Sizes}
-use Rattle.archive_records.specs.Text.{written}
+use Rattle.archive_records.specs.Text.{written, IsArchiveOf}
 use Rattle.archive_records.specs.Reading.{IsOfMachine}
 use Rattle.archive_records.specs.Merging.{Stream, stream, IsMerged, Merges, StopsBy}
 use Rattle.report_text.specs.Report.{archive_line}
@@ -17,7 +17,7 @@ use Rattle.archive_commands.specs.declared.faults.Status.{Status}
 use Rattle.archive_commands.specs.declared.faults.Status.TheVariants.{Done}
 use Rattle.archive_commands.specs.declared.faults.Why.{Why}
 use Rattle.archive_commands.specs.Ends.{Ends, MakesArchive}
-use Rattle.archive_commands.specs.Inputs.{Reader, reader, Unfailed, EachUnfailed, IsGiven, IsDeviceFault, failures_of}
+use Rattle.archive_commands.specs.Inputs.{Reader, reader, Unfailed, EachUnfailed, IsDeviceFault, failures_of, IsGivenArchive}
 use Rattle.archive_commands.specs.Merge.{MakesMerged, merge}
 use Rattle.archive_commands.specs.MergeStreams.{EndsStreamed, EndsOfOne, EndsMerge, IsSide, IsTold}
 use Rattle.archive_commands.specs.Outputs.{Writer, writer, Takes, FailsBehind, Reports, report_of, sizes_of}
@@ -126,19 +126,19 @@ module _ {R S W : Type 0} (left : R → Option (List ℕ)) (failures : R → ℕ
 
 -- ---- accepted inputs
 
-device_side : {R S W : Type 0} (left : Stream R) (right : Stream S) (out : Stream W) (o p : Operations) (at : Place) (why : Why) (cause : MergeCause) (n : ℕ) → IsContent o → IsContent p → left.bytes left.old ≡ Some (written o) → right.bytes right.old ≡ Some (written p)
+device_side : {R S W : Type 0} (left : Stream R) (right : Stream S) (out : Stream W) (o p : Operations) (at : Place) (why : Why) (cause : MergeCause) (n : ℕ) (t u : List ℕ) → IsContent o → IsContent p → IsArchiveOf o t → IsArchiveOf p u → left.bytes left.old ≡ Some t → right.bytes right.old ≡ Some u
     → StopsBy left right out cause n → IsSide cause at why → IsDeviceFault why
-device_side left right out o p at why (Left fault) n co cp go gp s told =
-    let alone : (x : Operations) → IsContent x → written o ≡ written x → IsOfMachine fault.kind = rw go at s.refused.1 in
-    by_device fault why told.1 told.2 (alone o co refl)
-device_side left right out o p at why (Right fault) n co cp go gp s told =
-    let alone : (x : Operations) → IsContent x → written p ≡ written x → IsOfMachine fault.kind = rw gp at s.refused.1 in
-    by_device fault why told.1 told.2 (alone p cp refl)
-device_side left right out o p at why Write n co cp go gp s told = absurd told
+device_side left right out o p at why (Left fault) n t u co cp is_o is_p go gp s told =
+    let alone : (x : Operations) → IsContent x → IsArchiveOf x t → IsOfMachine fault.kind = rw go at s.refused.1 in
+    by_device fault why told.1 told.2 (alone o co is_o)
+device_side left right out o p at why (Right fault) n t u co cp is_o is_p go gp s told =
+    let alone : (x : Operations) → IsContent x → IsArchiveOf x u → IsOfMachine fault.kind = rw gp at s.refused.1 in
+    by_device fault why told.1 told.2 (alone p cp is_p)
+device_side left right out o p at why Write n t u co cp is_o is_p go gp s told = absurd told
 
 module _ {R S W : Type 0} (left : R → Option (List ℕ)) (failures : R → ℕ) (left2 : S → Option (List ℕ)) (failures2 : S → ℕ) (new : Result R CannotOpen) (new2 : Result S CannotOpen) (out : Stream W) (report : Writer) where
-  pub one_device : (old : Result R CannotOpen) (old2 : Result S CannotOpen) (o p : Operations) (at : Place) (why : Why) → IsContent o → IsContent p → IsGiven (reader left failures old new) (written o) → IsGiven (reader left2 failures2 old2 new2) (written p)
+  pub one_device : (old : Result R CannotOpen) (old2 : Result S CannotOpen) (o p : Operations) (at : Place) (why : Why) → IsContent o → IsContent p → IsGivenArchive (reader left failures old new) o → IsGivenArchive (reader left2 failures2 old2 new2) p
       → EndsOfOne (reader left failures old new) (reader left2 failures2 old2 new2) out report (Err (Input at why)) → IsDeviceFault why
-  one_device (Ok l) (Ok r) o p at why co cp go gp e = device_side (stream left failures l e.0) (stream left2 failures2 r e.1) out o p at why e.4.0.cause e.4.0.written co cp go gp e.4.1.0 e.4.2
-  one_device (Ok l) (Err x) o p at why co cp go gp e = absurd gp
-  one_device (Err x) old2 o p at why co cp go gp e = absurd go
+  one_device (Ok l) (Ok r) o p at why co cp go gp e = device_side (stream left failures l e.0) (stream left2 failures2 r e.1) out o p at why e.4.0.cause e.4.0.written go.0 gp.0 co cp go.1 gp.1 go.2 gp.2 e.4.1.0 e.4.2
+  one_device (Ok l) (Err x) o p at why co cp go gp e = absurd gp.2
+  one_device (Err x) old2 o p at why co cp go gp e = absurd go.2

@@ -15,14 +15,14 @@ use Rattle.archive_core.specs.declared.lookup.Own.TheVariants.{NoSymbol as Own_N
 use Rattle.archive_core.specs.declared.lookup.Answer.{Answer}
 use Rattle.archive_core.specs.declared.lookup.Answer.TheVariants.{Unknown, NoSymbol, Symbol, Conflict}
 use Rattle.archive_core.specs.declared.lookup.Where.{Where}
-use Rattle.archive_records.specs.Text.{written}
+use Rattle.archive_records.specs.Text.{IsArchiveOf}
 use Rattle.archive_words.specs.Words.{address_text, digest_text}
 use Rattle.report_text.specs.Answers.{escaped, found_text, own_text, own_line, answer_lines}
 use Rattle.report_text.specs.Report.{line}
 use Rattle.archive_commands.specs.declared.faults.CannotOpen.{CannotOpen}
 use Rattle.archive_commands.specs.declared.faults.Status.{Status}
 use Rattle.archive_commands.specs.declared.faults.Status.TheVariants.{Done, Partial}
-use Rattle.archive_commands.specs.Inputs.{Reader, reader, Holds, IsGiven}
+use Rattle.archive_commands.specs.Inputs.{Reader, reader, HoldsArchive, IsGivenArchive}
 use Rattle.archive_commands.specs.Symbolicate.{place_of, is_symbol, Answered, IsAnswered, answers_text, TellsAddresses, MakesAnswered}
 
 abbrev seen_found : FoundRecord → List ℕ
@@ -121,24 +121,29 @@ module _ (one : (o : Operations) (key : SliceKey) (place : Where) (answer other 
 known : (left : Option (List ℕ)) (bytes : List ℕ) (P : List ℕ → Type 0) → left ≡ Some bytes → IfSome left P → P bytes
 known left bytes P is p = let q : IfSome (Some bytes) P = subst (λ (l : Option (List ℕ)). IfSome l P) is p in q
 
-pub given_text : {R : Type 0} (left : R → Option (List ℕ)) (failures : R → ℕ) (old new : Result R CannotOpen) (bytes text : List ℕ) → IsGiven (reader left failures old new) bytes → Holds (reader left failures old new) text → bytes ≡ text
-given_text left failures (Ok source) new bytes text given holds = known (left source) bytes (λ b. b ≡ text) given holds
-given_text left failures (Err _) new bytes text given holds = absurd given
+-- a text gives one content only
+abbrev pub OneContent : Type 0
+OneContent = (text : List ℕ) (o p : Operations) → IsContent o → IsContent p → IsArchiveOf o text → IsArchiveOf p text → o ≡ p
+
+pub given_content : OneContent → {R : Type 0} (left : R → Option (List ℕ)) (failures : R → ℕ) (old new : Result R CannotOpen) (o p : Operations) → IsContent o → IsContent p
+    → IsGivenArchive (reader left failures old new) o → HoldsArchive (reader left failures old new) p → o ≡ p
+given_content one left failures (Ok source) new o p c d given holds = one given.0 o p c d given.1 (known (left source) given.0 (IsArchiveOf p) given.2 holds)
+given_content one left failures (Err _) new o p c d given holds = absurd given.2
 
 -- a record of an archive that has this content tells what the content tells
-made_of : (one : (o p : Operations) → IsContent o → IsContent p → written o ≡ written p → o ≡ p)
+made_of : (one : OneContent)
     {R : Type 0} (archive : Reader R) (o : Operations) (key : SliceKey) (load : Option ℕ) (addresses : List ℕ) (status : Status) (text : List ℕ)
-    → IsContent o → IsGiven archive (written o) → MakesAnswered archive key load addresses status text → TellsAddresses o key load addresses status text
+    → IsContent o → IsGivenArchive archive o → MakesAnswered archive key load addresses status text → TellsAddresses o key load addresses status text
 made_of one archive o key load addresses status text content given makes =
-    let same = one o makes.content content makes.is_content (given_text archive.left archive.failures archive.old archive.new (written o) (written makes.content) given makes.archive_is) in
+    let same = given_content one archive.left archive.failures archive.old archive.new o makes.content content makes.is_content given makes.archive_is in
     subst (λ (p : Operations). TellsAddresses p key load addresses status text) (sym same) makes.tells
 
-pub one_made : (one : (o p : Operations) → IsContent o → IsContent p → written o ≡ written p → o ≡ p)
+pub one_made : (one : OneContent)
     (told : (content : Operations) (key : SliceKey) (load : Option ℕ) (addresses : List ℕ) (status other_status : Status) (text other_text : List ℕ)
     → TellsAddresses content key load addresses status text → TellsAddresses content key load addresses other_status other_text → (status ≡ other_status) × (text ≡ other_text))
     {R S : Type 0} (archive : Reader R) (other : Reader S) (o : Operations) (key : SliceKey) (load : Option ℕ) (addresses : List ℕ)
     (status other_status : Status) (text other_text : List ℕ)
-    → IsContent o → IsGiven archive (written o) → IsGiven other (written o)
+    → IsContent o → IsGivenArchive archive o → IsGivenArchive other o
     → MakesAnswered archive key load addresses status text → MakesAnswered other key load addresses other_status other_text → (status ≡ other_status) × (text ≡ other_text)
 one_made one told archive other o key load addresses status other_status text other_text content given other_given makes other_makes =
     told o key load addresses status other_status text other_text (made_of one archive o key load addresses status text content given makes) (made_of one other o key load addresses other_status other_text content other_given other_makes)

@@ -2,7 +2,6 @@
 use Rattle.std.specs.Prelude.{◌≡◌, ℕ, ◌+◌, List, [], ◌∷◌, ◌++◌}
 use Rattle.std.specs.List.{AllByRecursion, AllZip, flat_map}
 use Rattle.archive_core.specs.Content.{Operations, IsContent}
-use Rattle.archive_records.specs.Text.{written}
 use Rattle.archive_exchange.specs.File.{parts, admissible, IsAcceptedFile}
 use Rattle.archive_exchange.specs.Take.{admitted, taken_rows}
 use Rattle.archive_exchange.specs.declared.taken.Taken.{Taken}
@@ -10,7 +9,7 @@ use Rattle.report_text.specs.Report.{admit_lines}
 use Rattle.archive_commands.specs.declared.faults.Place.TheVariants.{File}
 use Rattle.report_text.specs.declared.rows.AdmitRow.{AdmitRow}
 use Rattle.archive_commands.specs.Ends.{Command, MakesArchive}
-use Rattle.archive_commands.specs.Inputs.{Reader, Holds, Unfailed, EachUnfailed, EachUntouched, IsAccepted}
+use Rattle.archive_commands.specs.Inputs.{Reader, Holds, Unfailed, EachUnfailed, EachUntouched, IsAccepted, HoldsArchive}
 use Rattle.archive_commands.specs.Inputs.{IsFileRefused, IsFirstRefused, IsRefusedInOrder}
 
 -- the images of files: those of their parts that are one, in their order
@@ -44,7 +43,7 @@ pub record MakesAdmitted {R S : Type 0} (input : Reader R) (files : List (Reader
   pub before : Operations
   pub texts : List (List ℕ)
   pub is_content : IsContent before
-  pub archive : Holds input (written before)
+  pub archive : HoldsArchive input before
   pub files_are : AllZip Holds files texts
   pub accepted : AllByRecursion IsAcceptedFile texts
   pub content_is : content ≡ admitted before (images_of texts)

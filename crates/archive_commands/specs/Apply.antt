@@ -3,10 +3,10 @@ use Rattle.std.specs.Prelude.{◌≡◌, ℕ, ◌-◌, List, length, map}
 use Rattle.archive_core.specs.Content.{Operations, IsContent, with_records, new_among}
 use Rattle.archive_core.specs.Record.{rec}
 use Rattle.archive_core.specs.declared.operations.Operation.{Operation}
-use Rattle.archive_records.specs.Text.{IsOperationsText, written}
+use Rattle.archive_records.specs.Text.{IsOperationsText}
 use Rattle.report_text.specs.Report.{apply_line}
 use Rattle.archive_commands.specs.Ends.{Command, MakesArchive}
-use Rattle.archive_commands.specs.Inputs.{Reader, Gives, Holds, Unfailed, IsUntouched, IsRefusedOps, IsRefusedInOrder}
+use Rattle.archive_commands.specs.Inputs.{Reader, Gives, Unfailed, IsUntouched, IsRefusedOps, IsRefusedInOrder, HoldsArchive}
 
 -- IN is the text of a content and OPS that of operations; this is the content with their records, and this is the line
 -- that counts the new and the known ones.
@@ -15,7 +15,7 @@ pub record MakesApplied {R S : Type 0} (input : Reader R) (ops : Reader S) (cont
   pub before : Operations
   pub operations : List Operation
   pub is_content : IsContent before
-  pub archive : Holds input (written before)
+  pub archive : HoldsArchive input before
   pub ops_are : Gives ops (λ text. IsOperationsText text operations)
   pub content_is : content ≡ with_records before (map rec operations)
   pub lines_are : lines

@@ -4,9 +4,9 @@ use Rattle.archive_core.specs.Content.{Operations, IsContent}
 use Rattle.archive_core.specs.Summary as exchange
 use Rattle.archive_core.specs.Summary.{Entries}
 use Rattle.archive_records.specs.Entry.{AreEntries}
-use Rattle.archive_records.specs.Text.{summary_text, written}
+use Rattle.archive_records.specs.Text.{summary_text}
 use Rattle.archive_commands.specs.Ends.{Command, MakesArchive}
-use Rattle.archive_commands.specs.Inputs.{Reader, Holds, Unfailed, IsUntouched, IsRefusedSummary, IsRefusedInOrder}
+use Rattle.archive_commands.specs.Inputs.{Reader, Holds, Unfailed, IsUntouched, IsRefusedSummary, IsRefusedInOrder, HoldsArchive}
 
 -- ARCHIVE is the text of a content and SUMMARY that of entries; this is the content of the operations that they do not
 -- name, and there are no lines but the sizes.
@@ -16,7 +16,7 @@ pub record MakesDelta {R S : Type 0} (archive : Reader R) (summary : Reader S) (
   pub entries : Entries
   pub is_content : IsContent before
   pub are_entries : AreEntries entries
-  pub archive_is : Holds archive (written before)
+  pub archive_is : HoldsArchive archive before
   pub summary_is : Holds summary (summary_text entries)
   pub content_is : content ≡ exchange.delta before entries
   pub lines_are : lines ≡ []

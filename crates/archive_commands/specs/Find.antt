@@ -3,12 +3,11 @@ use Rattle.std.specs.Prelude.{◌≡◌, ℕ, List, [], ◌∷◌}
 use Rattle.archive_core.specs.Content.{Operations, IsContent}
 use Rattle.archive_core.specs.Find.{IsFinds}
 use Rattle.archive_core.specs.declared.find.FindRow.{FindRow}
-use Rattle.archive_records.specs.Text.{written}
 use Rattle.report_text.specs.Finds.{find_lines}
 use Rattle.archive_commands.specs.declared.faults.Status.{Status}
 use Rattle.archive_commands.specs.declared.faults.Status.TheVariants.{Done, Partial}
 use Rattle.archive_commands.specs.Ends.{Query}
-use Rattle.archive_commands.specs.Inputs.{Reader, Holds, Unfailed, IsRefusedArchive}
+use Rattle.archive_commands.specs.Inputs.{Reader, Unfailed, IsRefusedArchive, HoldsArchive}
 
 -- an empty answer is told by the status
 abbrev pub find_status : List FindRow → Status
@@ -20,7 +19,7 @@ pub record MakesFound {R : Type 0} (archive : Reader R) (uuid : List ℕ) (statu
   pub content : Operations
   pub rows : List FindRow
   pub is_content : IsContent content
-  pub archive_is : Holds archive (written content)
+  pub archive_is : HoldsArchive archive content
   pub finds : IsFinds content uuid rows
   pub status_is : status ≡ find_status rows
   pub text_is : text ≡ find_lines rows

@@ -5,7 +5,7 @@ use Rattle.std.specs.List.{AllByRecursion}
 use Rattle.byte_device.specs.Devices.{FailedIn}
 use Rattle.archive_core.specs.Content.{Operations, IsContent}
 use Rattle.archive_core.specs.Part.{part}
-use Rattle.archive_records.specs.Text.{written}
+use Rattle.archive_records.specs.Text.{IsArchiveOf}
 use Rattle.archive_records.specs.Reading.{Meaning, ReadsWhole}
 use Rattle.archive_records.specs.declared.fault.RecordFault.{RecordFault}
 use Rattle.archive_records.specs.declared.fault.RecordFaultKind.TheVariants.{Device, OutOfMemory as RecordOutOfMemory}
@@ -51,6 +51,10 @@ Gives input IsTrue = MatchResult input.old (λ source. IfSome (input.left source
 -- The input was opened and holds these bytes, where its own are known.
 abbrev pub Holds : {S : Type 0} → Reader S → List ℕ → Type 0
 Holds input bytes = Gives input (λ text. text ≡ bytes)
+
+-- The input was opened and is an archive's text that gives this content, where its bytes are known.
+abbrev pub HoldsArchive : {S : Type 0} → Reader S → Operations → Type 0
+HoldsArchive input o = Gives input (IsArchiveOf o)
 
 -- how often the reader of an input has failed
 abbrev pub failures_of : {S : Type 0} → (S → ℕ) → Result S CannotOpen → ℕ
@@ -114,15 +118,15 @@ IsScriptRefused input (Faulty fault line) = Unfailed input × Gives input (λ by
 IsScriptRefused input (Record _) = ⊥
 IsScriptRefused input (Take _) = ⊥
 
--- The input is the text of a content.
+-- The input is an archive's text.
 abbrev pub IsArchive : {S : Type 0} → Reader S → Type 0
-IsArchive input = (o : Operations) × IsContent o × Holds input (written o)
+IsArchive input = (o : Operations) × IsContent o × HoldsArchive input o
 
--- The input is the text of a content, and this is the part of it that is picked.
+-- The input is an archive's text, and this is the part of its content that is picked.
 pub record HoldsPart {S : Type 0} (input : Reader S) (picks : List ℕ → Bool) (o : Operations) : Type 0 where
   pub whole : Operations
   pub is_content : IsContent whole
-  pub text : Holds input (written whole)
+  pub text : HoldsArchive input whole
   pub kept : o ≡ part whole picks
 
 -- The input is a file whose slices are taken.
@@ -167,8 +171,8 @@ pub record IsFirstRefused {S : Type 0} (place_of : ℕ → Place) (IsGood : Read
   pub refused : IsRefused input why
   pub behind : EachUntouched (drop (number + 1) inputs)
 
--- The first input of a command is refused, and what is behind it is untouched; or it is the text of a content, its
--- reader does not fail, and behind it this one is refused.
+-- The first input of a command is refused, and what is behind it is untouched; or it is an archive's text, its reader
+-- does not fail, and behind it this one is refused.
 abbrev pub IsRefusedInOrder : {S : Type 0} → Reader S → Type 0 → (Place → Why → Type 0) → Place → Why → Type 0
 IsRefusedInOrder input Untouched IsRefusedBehind at why =
     (IsRefusedArchive 0 input at why × Untouched)
@@ -185,6 +189,10 @@ IsRefusal Refused Unfailed OutOfMemory = Unfailed
 abbrev pub IsGiven : {S : Type 0} → Reader S → List ℕ → Type 0
 IsGiven input bytes = MatchResult input.old (λ source. input.left source ≡ Some bytes) (λ _. ⊥)
 
+-- The input was opened, and its bytes are an archive's text that gives this content.
+abbrev pub IsGivenArchive : {S : Type 0} → Reader S → Operations → Type 0
+IsGivenArchive input o = (text : List ℕ) × IsArchiveOf o text × IsGiven input text
+
 -- the reader failed, and nothing else is wrong
 abbrev pub IsDeviceFault : Why → Type 0
 IsDeviceFault NotOpened = ⊥
@@ -193,7 +201,7 @@ IsDeviceFault (Record fault) = fault.kind ≡ Device
 IsDeviceFault (Take _) = ⊥
 IsDeviceFault (Faulty _ _) = ⊥
 
--- An archive that is the text of a content is refused for its device alone.
+-- An archive's text is refused for its device alone.
 abbrev pub RefusesDevicesAlone : {R : Type 0} → (Reader R → Place → Why → Type 0) → Type 0
 RefusesDevicesAlone {R = R} Refuses = (archive : Reader R) (o : Operations) (place : Place) (why : Why) → IsContent o
-    → IsGiven archive (written o) → Refuses archive place why → IsDeviceFault why
+    → IsGivenArchive archive o → Refuses archive place why → IsDeviceFault why

@@ -5,6 +5,7 @@ pub mod Ends
 pub mod Admit
 pub mod Retire
 pub mod Merge
+pub mod Migrate
 pub mod MergeStreams
 pub mod Apply
 pub mod Find

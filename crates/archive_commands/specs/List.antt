@@ -3,19 +3,18 @@ use Rattle.std.specs.Prelude.{◌≡◌, ℕ, List}
 use Rattle.archive_core.specs.Content.{Operations, IsContent}
 use Rattle.archive_core.specs.Lists.{IsList}
 use Rattle.archive_core.specs.declared.find.FindRow.{FindRow}
-use Rattle.archive_records.specs.Text.{written}
 use Rattle.report_text.specs.Finds.{list_lines}
 use Rattle.archive_commands.specs.declared.faults.Status.{Status}
 use Rattle.archive_commands.specs.Ends.{Query}
 use Rattle.archive_commands.specs.Find.{find_status}
-use Rattle.archive_commands.specs.Inputs.{Reader, Holds, Unfailed, IsRefusedArchive}
+use Rattle.archive_commands.specs.Inputs.{Reader, Unfailed, IsRefusedArchive, HoldsArchive}
 
 -- ARCHIVE is the text of a content; this is the status of all its rows, and these are their lines.
 pub record MakesListed {R : Type 0} (archive : Reader R) (status : Status) (text : List ℕ) : Type 0 where
   pub content : Operations
   pub rows : List FindRow
   pub is_content : IsContent content
-  pub archive_is : Holds archive (written content)
+  pub archive_is : HoldsArchive archive content
   pub lists : IsList content rows
   pub status_is : status ≡ find_status rows
   pub text_is : text ≡ list_lines rows

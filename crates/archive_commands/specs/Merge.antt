@@ -3,11 +3,10 @@ use Rattle.std.specs.Prelude.{◌≡◌, ℕ, ◌+◌, List, [], fold, map}
 use Rattle.std.specs.List.{AllByRecursion, AllZip}
 use Rattle.std.specs.FinSet as set
 use Rattle.archive_core.specs.Content.{Operations, IsContent, joined}
-use Rattle.archive_records.specs.Text.{written}
 use Rattle.archive_commands.specs.declared.faults.Place.{Place}
 use Rattle.archive_commands.specs.declared.faults.Place.TheVariants.{Archive}
 use Rattle.archive_commands.specs.Ends.{Command, MakesArchive}
-use Rattle.archive_commands.specs.Inputs.{Reader, Holds, Unfailed, EachUnfailed, EachUntouched, IsArchive}
+use Rattle.archive_commands.specs.Inputs.{Reader, Unfailed, EachUnfailed, EachUntouched, IsArchive, HoldsArchive}
 use Rattle.archive_commands.specs.Inputs.{IsArchiveRefused, IsFirstRefused, IsRefusedInOrder}
 
 -- a content with others, one joined after another
@@ -26,7 +25,7 @@ file_place number = Archive (number + 1)
 pub record HasJoined {S : Type 0} (files : List (Reader S)) (old new : Operations) : Type 0 where
   pub contents : List Operations
   pub are_contents : AllByRecursion IsContent contents
-  pub files_are : AllZip Holds files (map written contents)
+  pub files_are : AllZip HoldsArchive files contents
   pub content : new ≡ merged old contents
 
 -- IN and the files are the texts of contents; this is what their join gives, and there are no lines but the sizes.
@@ -36,8 +35,8 @@ pub record MakesMerged {R S : Type 0} (input : Reader R) (files : List (Reader S
   pub contents : List Operations
   pub is_content : IsContent before
   pub are_contents : AllByRecursion IsContent contents
-  pub archive : Holds input (written before)
-  pub files_are : AllZip Holds files (map written contents)
+  pub archive : HoldsArchive input before
+  pub files_are : AllZip HoldsArchive files contents
   pub content_is : content ≡ merged before contents
   pub lines_are : lines ≡ []
 

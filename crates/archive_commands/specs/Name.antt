@@ -2,12 +2,11 @@
 use Rattle.std.specs.Prelude.{◌≡◌, ℕ, List, [], ◌∷◌}
 use Rattle.archive_core.specs.Content.{Operations, IsContent}
 use Rattle.archive_core.specs.Names.{IsNames, NameRecord}
-use Rattle.archive_records.specs.Text.{written}
 use Rattle.report_text.specs.Names.{name_lines}
 use Rattle.archive_commands.specs.declared.faults.Status.{Status}
 use Rattle.archive_commands.specs.declared.faults.Status.TheVariants.{Done, Partial}
 use Rattle.archive_commands.specs.Ends.{Query}
-use Rattle.archive_commands.specs.Inputs.{Reader, Holds, Unfailed, IsRefusedArchive}
+use Rattle.archive_commands.specs.Inputs.{Reader, Unfailed, IsRefusedArchive, HoldsArchive}
 
 -- that no symbol has the name is told by the status
 abbrev pub name_status : List NameRecord → Status
@@ -19,7 +18,7 @@ pub record MakesNamed {R : Type 0} (archive : Reader R) (name : List ℕ) (statu
   pub content : Operations
   pub rows : List NameRecord
   pub is_content : IsContent content
-  pub archive_is : Holds archive (written content)
+  pub archive_is : HoldsArchive archive content
   pub names : IsNames content name rows
   pub status_is : status ≡ name_status rows
   pub text_is : text ≡ name_lines rows

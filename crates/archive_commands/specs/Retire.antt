@@ -4,10 +4,9 @@ use Rattle.archive_core.specs.Record.{retirement_record}
 use Rattle.archive_core.specs.Content.{Operations, IsContent, with_record, changes}
 use Rattle.archive_core.specs.declared.keys.SliceKey.{SliceKey}
 use Rattle.archive_core.specs.declared.keys.Digest.{Digest}
-use Rattle.archive_records.specs.Text.{written}
 use Rattle.report_text.specs.Report.{retire_line}
 use Rattle.archive_commands.specs.Ends.{Command, MakesArchive}
-use Rattle.archive_commands.specs.Inputs.{Reader, Holds, Unfailed, IsRefusedArchive}
+use Rattle.archive_commands.specs.Inputs.{Reader, Unfailed, IsRefusedArchive, HoldsArchive}
 
 -- IN is the text of a content; this is the content with the retirement, and this is the line that tells whether that
 -- changed it.
@@ -15,7 +14,7 @@ pub record MakesRetired {R : Type 0} (input : Reader R) (key : SliceKey) (digest
     (lines : List ℕ) : Type 0 where
   pub before : Operations
   pub is_content : IsContent before
-  pub archive : Holds input (written before)
+  pub archive : HoldsArchive input before
   pub content_is : content ≡ with_record before (retirement_record key digest.0)
   pub lines_are : lines ≡ retire_line (changes before (retirement_record key digest.0)) key digest
 

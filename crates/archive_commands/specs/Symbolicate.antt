@@ -8,12 +8,11 @@ use Rattle.archive_core.specs.declared.lookup.Answer.{Answer}
 use Rattle.archive_core.specs.declared.lookup.Answer.TheVariants.{Unknown, NoSymbol, Symbol, Conflict}
 use Rattle.archive_core.specs.declared.lookup.Where.{Where}
 use Rattle.archive_core.specs.declared.lookup.Where.TheVariants.{File, Loaded}
-use Rattle.archive_records.specs.Text.{written}
 use Rattle.report_text.specs.Answers.{answer_lines}
 use Rattle.archive_commands.specs.declared.faults.Status.{Status}
 use Rattle.archive_commands.specs.declared.faults.Status.TheVariants.{Done, Partial}
 use Rattle.archive_commands.specs.Ends.{Query}
-use Rattle.archive_commands.specs.Inputs.{Reader, Holds, Unfailed, IsRefusedArchive}
+use Rattle.archive_commands.specs.Inputs.{Reader, Unfailed, IsRefusedArchive, HoldsArchive}
 
 -- the place that an address of the words means: one of the image where it was loaded, if the words say where, and else
 -- one of its file
@@ -59,7 +58,7 @@ pub record MakesAnswered {R : Type 0} (archive : Reader R) (key : SliceKey) (loa
     (status : Status) (text : List ℕ) : Type 0 where
   pub content : Operations
   pub is_content : IsContent content
-  pub archive_is : Holds archive (written content)
+  pub archive_is : HoldsArchive archive content
   pub tells : TellsAddresses content key load addresses status text
 
 -- `symbolicate`, over this archive

@@ -5,13 +5,12 @@ ghost use Rattle.std.specs.List.{AllByRecursion, AllZip};
 ghost use Rattle.std.specs.FinSet as set;
 ghost use Rattle.archive_core.specs.Record.{admission_record};
 ghost use Rattle.archive_core.specs.Content.{Operations, IsContent, IsMade, made, joined};
-ghost use Rattle.archive_records.specs.Text.{written};
 ghost use Rattle.archive_exchange.specs.File.{parts, IsAcceptedFile};
 ghost use Rattle.archive_exchange.specs.Take.{admitted, taken_rows};
 ghost use Rattle.archive_commands.specs.declared.faults.Place.{Place};
 ghost use Rattle.archive_commands.specs.declared.faults.Why.{Why};
 ghost use Rattle.archive_commands.specs.Admit.{admit, admit_rows, file_rows, images_of};
-ghost use Rattle.archive_commands.specs.Inputs.{IsDeviceFault, IsGiven, Reader};
+ghost use Rattle.archive_commands.specs.Inputs.{IsDeviceFault, IsGiven, Reader, IsGivenArchive};
 
 use archive_exchange::laws::one_take_fault;
 use byte_device::Source;
@@ -40,7 +39,7 @@ pub fn accepted_inputs_are_not_refused<R: Source, S: Source>()
     ensures { (input : Reader R) (files : List (Reader S)) (o : Operations) (texts : List (List ℕ)) (place : Place)
         (why : Why)
         → IsContent o
-        → IsGiven input (written o)
+        → IsGivenArchive input o
         → AllZip IsGiven files texts
         → AllByRecursion IsAcceptedFile texts
         → (admit input files).Refuses place why

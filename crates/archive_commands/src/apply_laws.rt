@@ -10,7 +10,7 @@ ghost use Rattle.archive_records.specs.Text.{IsOperationsText, written};
 ghost use Rattle.archive_commands.specs.declared.faults.Place.{Place};
 ghost use Rattle.archive_commands.specs.declared.faults.Why.{Why};
 ghost use Rattle.archive_commands.specs.Apply.{apply};
-ghost use Rattle.archive_commands.specs.Inputs.{IsDeviceFault, IsGiven, Reader};
+ghost use Rattle.archive_commands.specs.Inputs.{IsDeviceFault, IsGiven, Reader, IsGivenArchive};
 
 use archive_core::laws::{new_ones_in_turn, takes_in_any_order};
 use byte_device::Source;
@@ -48,7 +48,7 @@ pub fn accepted_operations_are_not_refused<R: Source, S: Source>()
     ensures { (input : Reader R) (ops : Reader S) (o : Operations) (text : List ℕ) (operations : List Operation)
         (place : Place) (why : Why)
         → IsContent o
-        → IsGiven input (written o)
+        → IsGivenArchive input o
         → IsGiven ops text
         → IsOperationsText text operations
         → (apply input ops).Refuses place why

@@ -3,11 +3,11 @@
 ghost use Rattle.archive_core.specs.Content.{Operations, IsContent};
 ghost use Rattle.archive_core.specs.Summary.{Entries};
 ghost use Rattle.archive_records.specs.Entry.{AreEntries};
-ghost use Rattle.archive_records.specs.Text.{summary_text, written};
+ghost use Rattle.archive_records.specs.Text.{summary_text};
 ghost use Rattle.archive_commands.specs.declared.faults.Place.{Place};
 ghost use Rattle.archive_commands.specs.declared.faults.Why.{Why};
 ghost use Rattle.archive_commands.specs.Delta.{delta};
-ghost use Rattle.archive_commands.specs.Inputs.{IsDeviceFault, IsGiven, Reader, RefusesDevicesAlone};
+ghost use Rattle.archive_commands.specs.Inputs.{IsDeviceFault, IsGiven, Reader, RefusesDevicesAlone, IsGivenArchive};
 ghost use Rattle.archive_commands.specs.Summary.{summary};
 
 use byte_device::Source;
@@ -19,7 +19,7 @@ pub fn accepted_exchange_is_not_refused<R: Source, S: Source>()
         (why : Why)
         → IsContent o
         → AreEntries entries
-        → IsGiven archive (written o)
+        → IsGivenArchive archive o
         → IsGiven named (summary_text entries)
         → (delta archive named).Refuses place why
         → IsDeviceFault why }

@@ -2,10 +2,9 @@
 //! nothing but call laws of the crates below.
 ghost use Rattle.std.specs.Prelude.{◌≡◌, ℕ, List};
 ghost use Rattle.archive_core.specs.Content.{Operations, IsContent};
-ghost use Rattle.archive_records.specs.Text.{written};
 ghost use Rattle.archive_commands.specs.declared.faults.Status.{Status};
 ghost use Rattle.archive_commands.specs.Find.{MakesFound, find};
-ghost use Rattle.archive_commands.specs.Inputs.{IsGiven, Reader, RefusesDevicesAlone};
+ghost use Rattle.archive_commands.specs.Inputs.{Reader, RefusesDevicesAlone, IsGivenArchive};
 
 use archive_core::laws::one_find;
 use archive_records::laws::one_content;
@@ -21,8 +20,8 @@ pub fn one_report<R: Source, S: Source>()
     ensures { (archive : Reader R) (other : Reader S) (o : Operations) (uuid : List ℕ)
         (status other_status : Status) (text other_text : List ℕ)
         → IsContent o
-        → IsGiven archive (written o)
-        → IsGiven other (written o)
+        → IsGivenArchive archive o
+        → IsGivenArchive other o
         → MakesFound archive uuid status text
         → MakesFound other uuid other_status other_text
         → (status ≡ other_status) × (text ≡ other_text) }

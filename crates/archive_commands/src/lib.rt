@@ -7,11 +7,11 @@
 //! - `failures`: the line that the program says where it fails;
 //! - `sources`: the inputs;
 //! - `publish`: the end of each command;
-//! - `new`, `admit`, `retire`, `merge`, `apply`, `find`, `list`, `name`, `symbolicate`, `summary`, `delta`,
-//!   `rehearse`: a command each;
-//! - [`admit_laws`], [`retire_laws`], [`merge_laws`], [`apply_laws`], [`find_laws`], [`list_laws`], [`name_laws`],
-//!   [`symbolicate_laws`], [`exchange_laws`], [`rehearse_laws`]: what the definitions of the commands say in the words
-//!   of their user.
+//! - `new`, `admit`, `retire`, `merge`, `migrate`, `apply`, `find`, `list`, `name`, `symbolicate`, `summary`,
+//!   `delta`, `rehearse`: a command each;
+//! - [`admit_laws`], [`retire_laws`], [`merge_laws`], [`migrate_laws`], [`apply_laws`], [`find_laws`], [`list_laws`],
+//!   [`name_laws`], [`symbolicate_laws`], [`exchange_laws`], [`rehearse_laws`]: what the definitions of the commands say
+//!   in the words of their user.
 #![tactic(auto)]
 
 mod admit;
@@ -28,6 +28,8 @@ mod list;
 pub mod list_laws;
 mod merge;
 pub mod merge_laws;
+mod migrate;
+pub mod migrate_laws;
 mod name;
 pub mod name_laws;
 mod new;
@@ -49,6 +51,7 @@ pub use faults::{CannotCreate, CannotOpen, CommandFault, Place, Status, Why};
 pub use find::run_find;
 pub use list::run_list;
 pub use merge::run_merge;
+pub use migrate::run_migrate;
 pub use name::run_name;
 pub use new::run_new;
 pub use rehearse::run_rehearse;

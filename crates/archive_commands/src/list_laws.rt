@@ -2,9 +2,8 @@
 //! nothing but call laws of the crates below.
 ghost use Rattle.std.specs.Prelude.{◌≡◌, ℕ, List};
 ghost use Rattle.archive_core.specs.Content.{Operations, IsContent};
-ghost use Rattle.archive_records.specs.Text.{written};
 ghost use Rattle.archive_commands.specs.declared.faults.Status.{Status};
-ghost use Rattle.archive_commands.specs.Inputs.{IsGiven, Reader, RefusesDevicesAlone};
+ghost use Rattle.archive_commands.specs.Inputs.{Reader, RefusesDevicesAlone, IsGivenArchive};
 ghost use Rattle.archive_commands.specs.List.{MakesListed, list};
 
 use archive_core::laws::one_list;
@@ -21,8 +20,8 @@ pub fn one_report<R: Source, S: Source>()
     ensures { (archive : Reader R) (other : Reader S) (o : Operations)
         (status other_status : Status) (text other_text : List ℕ)
         → IsContent o
-        → IsGiven archive (written o)
-        → IsGiven other (written o)
+        → IsGivenArchive archive o
+        → IsGivenArchive other o
         → MakesListed archive status text
         → MakesListed other other_status other_text
         → (status ≡ other_status) × (text ≡ other_text) }

@@ -3,7 +3,7 @@ ghost use Rattle.std.specs.Prelude.{◌≡◌, ◌+◌, OnOk, IfErr};
 ghost use Rattle.archive_core.specs.Content.{Operations, IsContent, joined};
 ghost use Rattle.archive_records.specs.Text.{written};
 ghost use Rattle.archive_commands.specs.Ends.{Ends};
-ghost use Rattle.archive_commands.specs.Inputs.{EachUnfailed, Holds, IsArchive, IsArchiveRefused, IsFirstRefused};
+ghost use Rattle.archive_commands.specs.Inputs.{EachUnfailed, IsArchive, IsArchiveRefused, IsFirstRefused, HoldsArchive};
 ghost use Rattle.archive_commands.specs.Inputs.{IsRefusal, IsRefusedArchive, Unfailed, reader, readers};
 ghost use Rattle.archive_commands.specs.Merge.{HasJoined, file_place, merge};
 ghost use Rattle.archive_commands.specs.MergeStreams.{EndsMerge, EndsOfOne, EndsStreamed, IsTold};
@@ -28,7 +28,7 @@ fn join_file<A: Archive + Drop, S: Source>(
 ) -> Result<(), CommandFault>
     ensures joined { OnOk result ((other : Operations)
         × IsContent other
-        × Holds (reader S.left S.failures file.old file.new) (written other)
+        × HoldsArchive (reader S.left S.failures file.old file.new) other
         × (A.content archive.new ≡ joined (A.content archive.old) other)) }
     ensures unfailed { OnOk result (Unfailed (reader S.left S.failures file.old file.new)) }
     ensures refused { IfErr result (IsRefusal (IsRefusedArchive number (reader S.left S.failures file.old file.new))

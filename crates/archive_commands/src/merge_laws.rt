@@ -3,14 +3,13 @@
 ghost use Rattle.std.specs.Prelude.{◌≡◌, ◌↔◌, ◌++◌, ◌∷◌, [], ℕ, List, Contains, map, Ok, Err};
 ghost use Rattle.std.specs.List.{AllByRecursion, AllZip};
 ghost use Rattle.archive_core.specs.Content.{Operations, IsBelow, IsContent, made, joined};
-ghost use Rattle.archive_records.specs.Text.{written};
 ghost use Rattle.archive_commands.specs.declared.faults.Place.{Place};
 ghost use Rattle.archive_commands.specs.declared.faults.Why.{Why};
 ghost use Rattle.archive_commands.specs.declared.faults.CommandFault.TheVariants.{Input, Report};
 ghost use Rattle.archive_commands.specs.declared.faults.Status.{Status};
 ghost use Rattle.archive_records.specs.Merging.{Stream};
 ghost use Rattle.archive_commands.specs.Ends.{Ends};
-ghost use Rattle.archive_commands.specs.Inputs.{IsDeviceFault, IsGiven, Reader};
+ghost use Rattle.archive_commands.specs.Inputs.{IsDeviceFault, Reader, IsGivenArchive};
 ghost use Rattle.archive_commands.specs.MergeStreams.{EndsOfOne};
 ghost use Rattle.archive_commands.specs.Outputs.{Writer, writer};
 ghost use Rattle.archive_commands.specs.Merge.{merge, merged, operations_of};
@@ -59,8 +58,8 @@ pub fn accepted_archives_are_not_refused<R: Source, S: Source>()
         (place : Place) (why : Why)
         → IsContent o
         → AllByRecursion IsContent contents
-        → IsGiven input (written o)
-        → AllZip IsGiven files (map written contents)
+        → IsGivenArchive input o
+        → AllZip IsGivenArchive files contents
         → (merge input files).Refuses place why
         → IsDeviceFault why }
 {}
@@ -81,8 +80,8 @@ pub fn two_accepted_archives_are_not_refused<R: Source, S: Source, W: Sink>()
         (place : Place) (why : Why)
         → IsContent o
         → IsContent p
-        → IsGiven input (written o)
-        → IsGiven file (written p)
+        → IsGivenArchive input o
+        → IsGivenArchive file p
         → EndsOfOne input file out report (Err (Input place why))
         → IsDeviceFault why }
 {}

@@ -3,10 +3,10 @@ ghost use Rattle.std.specs.Prelude.{◌≡◌, ◌≢◌, Ok, OnOk, IfOk, IfErr}
 ghost use Rattle.archive_core.specs.Content.{IsContent};
 ghost use Rattle.archive_records.specs.declared.fault.RecordFaultKind.TheVariants.{OutOfMemory as RecordOutOfMemory};
 ghost use Rattle.archive_records.specs.Entry.{AreEntries};
-ghost use Rattle.archive_records.specs.Text.{IsOperationsText, summary_text, written};
+ghost use Rattle.archive_records.specs.Text.{IsOperationsText, summary_text};
 ghost use Rattle.rehearsal.specs.Script.{acts, script_of};
 ghost use Rattle.archive_commands.specs.declared.faults.Why.TheVariants.{Record};
-ghost use Rattle.archive_commands.specs.Inputs.{Gives, Holds, HoldsPart, IsRefusal, IsRefusedArchive, IsRefusedFile};
+ghost use Rattle.archive_commands.specs.Inputs.{Gives, Holds, HoldsPart, IsRefusal, IsRefusedArchive, IsRefusedFile, HoldsArchive};
 ghost use Rattle.archive_commands.specs.Inputs.{IsRefusedOps};
 ghost use Rattle.archive_commands.specs.Inputs.{IsRefusedScript, IsRefusedSummary, Unfailed, reader};
 
@@ -38,7 +38,7 @@ pub(crate) fn read_input<A: Archive + Drop, R: Source>(
 ) -> Result<A, CommandFault>
     ensures content { IfOk result (λ archive. IsContent (A.content archive)) }
     ensures text { IfOk result
-        (λ archive. Holds (reader R.left R.failures input.old input.new) (written (A.content archive))) }
+        (λ archive. HoldsArchive (reader R.left R.failures input.old input.new) (A.content archive)) }
     ensures unfailed { OnOk result (Unfailed (reader R.left R.failures input.old input.new)) }
     ensures refused { IfErr result
         (IsRefusal (IsRefusedArchive place (reader R.left R.failures input.old input.new))

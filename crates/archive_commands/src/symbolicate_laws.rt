@@ -3,9 +3,8 @@
 ghost use Rattle.std.specs.Prelude.{◌≡◌, ℕ, List, Option};
 ghost use Rattle.archive_core.specs.Content.{Operations, IsContent};
 ghost use Rattle.archive_core.specs.declared.keys.SliceKey.{SliceKey};
-ghost use Rattle.archive_records.specs.Text.{written};
 ghost use Rattle.archive_commands.specs.declared.faults.Status.{Status};
-ghost use Rattle.archive_commands.specs.Inputs.{IsGiven, Reader, RefusesDevicesAlone};
+ghost use Rattle.archive_commands.specs.Inputs.{Reader, RefusesDevicesAlone, IsGivenArchive};
 ghost use Rattle.archive_commands.specs.Symbolicate.{MakesAnswered, TellsAddresses, symbolicate};
 
 use archive_core::laws::one_answer;
@@ -34,8 +33,8 @@ pub fn one_report<R: Source, S: Source>()
     ensures { (archive : Reader R) (other : Reader S) (o : Operations) (key : SliceKey) (load : Option ℕ)
         (addresses : List ℕ) (status other_status : Status) (text other_text : List ℕ)
         → IsContent o
-        → IsGiven archive (written o)
-        → IsGiven other (written o)
+        → IsGivenArchive archive o
+        → IsGivenArchive other o
         → MakesAnswered archive key load addresses status text
         → MakesAnswered other key load addresses other_status other_text
         → (status ≡ other_status) × (text ≡ other_text) }

@@ -1,10 +1,10 @@
 -- Lists that a test parts, and what holds along a list.
-use Rattle.std.proofs.Common.{◌≡◌, ℕ, zero, suc, ◌==◌, Bool, true, false, List, [], ◌∷◌, ◌++◌, length, take, drop, filter, refl, sym, ap, ◌∙◌, arith}
+use Rattle.std.proofs.Common.{◌≡◌, ℕ, zero, suc, ◌+◌, ◌-◌, ◌<◌, ◌≤◌, ◌==◌, Bool, true, false, cond, get_or, List, [], ◌∷◌, ◌++◌, length, take, drop, filter, refl, sym, ap, ◌∙◌, arith}
 use Rattle.std.proofs.lemmas.Bool.Decides.{Decides-eqb}
 use Rattle.std.specs.List.{AllByRecursion, AllWithin, All}
 use Rattle.std.specs.List.Sorted.{IsPartitionedBy}
-use Rattle.std.proofs.lemmas.List.{append-nil, take-append-drop}
-use Rattle.std.proofs.lemmas.List.Elements.{filter-append, All-from_recursion}
+use Rattle.std.proofs.lemmas.List.{append-nil, take-append-drop, length-append, length-take-le}
+use Rattle.std.proofs.lemmas.List.Elements.{filter-append, filter_passes, All-from_recursion, recursion_from_All}
 use Rattle.join_core.proofs.Place.{along_take, along_drop}
 
 module _ {X : Type 0} where
@@ -64,3 +64,52 @@ module _ {X : Type 0} where
     where
       rest : All (λ x. before x ≡ false) (drop i xs)
       rest = All-from_recursion (λ x. before x ≡ false) (drop i xs) (along_drop (λ x. before x ≡ false) xs i (λ k d le lt. from k d le lt))
+
+  -- a run that is what a test keeps has nothing before it that passes, and nothing behind it
+  pub outside : (f : X → Bool) (xs : List X) (i j : ℕ) → take j (drop i xs) ≡ filter f xs → (filter f (take i xs) ≡ []) × (filter f (drop j (drop i xs)) ≡ [])
+  outside f xs i j is =
+      let front = filter f (take i xs) in
+      let middle = filter f (take j (drop i xs)) in
+      let back = filter f (drop j (drop i xs)) in
+      let parts : filter f xs ≡ front ++ (middle ++ back) =
+      ap (filter f) (sym (take-append-drop i xs)) ∙ filter-append f (take i xs) (drop i xs)
+      ∙ ap (λ l. front ++ l) (ap (filter f) (sym (take-append-drop j (drop i xs))) ∙ filter-append f (take j (drop i xs)) (drop j (drop i xs))) in
+      let same : middle ≡ filter f xs = ap (filter f) is ∙ filter_all f (filter f xs) (recursion_from_All (λ x. f x ≡ true) (filter f xs) (filter_passes f xs)) in
+      let long = simp length-append at (ap length parts) in
+      (none_long front (omega (arith, long, ap length same)), none_long back (omega (arith, long, ap length same)))
+    where
+      none_long : (l : List X) → length l ≡ 0 → l ≡ []
+      none_long [] h = refl
+      none_long (x ∷ l) h = absurd (omega arith)
+
+  pub no_shorter : (xs now ys : List X) (n : ℕ) → n ≤ length xs → now ≡ take n xs ++ ys → n ≤ length now
+  no_shorter xs now ys n within is = omega (arith, simp length-append at (ap length is), length-take-le n xs within)
+
+  -- what a test drops from the end on, down to a place: one more element stays, or is dropped
+  module _ (p : X → Bool) where
+    one_kept : (xs : List X) (i : ℕ) (x : X) → i < length xs → x ≡ get_or (take (suc i) xs ++ filter p (drop (suc i) xs)) i x → p x ≡ true
+        → take (suc i) xs ++ filter p (drop (suc i) xs) ≡ take i xs ++ filter p (drop i xs)
+    one_kept [] i x lt is t = absurd (omega arith)
+    one_kept (y ∷ ys) zero x lt is t = sym (ap (λ b. cond b (y ∷ filter p ys) (filter p ys)) (ap p (sym is) ∙ t))
+    one_kept (y ∷ ys) (suc i) x lt is t = ap (λ l. y ∷ l) (one_kept ys i x (omega arith) is t)
+
+    one_dropped : (xs : List X) (i : ℕ) (x : X) → i < length xs → x ≡ get_or (take (suc i) xs ++ filter p (drop (suc i) xs)) i x → p x ≡ false
+        → take i (take (suc i) xs ++ filter p (drop (suc i) xs)) ++ drop (suc i) (take (suc i) xs ++ filter p (drop (suc i) xs)) ≡ take i xs ++ filter p (drop i xs)
+    one_dropped [] i x lt is t = absurd (omega arith)
+    one_dropped (y ∷ ys) zero x lt is t = sym (ap (λ b. cond b (y ∷ filter p ys) (filter p ys)) (ap p (sym is) ∙ t))
+    one_dropped (y ∷ ys) (suc i) x lt is t = ap (λ l. y ∷ l) (one_dropped ys i x (omega arith) is t)
+
+    module _ (xs now : List X) (n : ℕ) (x : X) (some : 0 < n) (within : n ≤ length xs) (is : now ≡ take n xs ++ filter p (drop n xs)) (there : x ≡ get_or now (n - 1) x) where
+      at : (m : ℕ) → m ≡ suc (n - 1) → n ≡ m
+      at m e = omega (arith, e)
+
+      is_next : now ≡ take (suc (n - 1)) xs ++ filter p (drop (suc (n - 1)) xs)
+      is_next = is ∙ ap (λ m. take m xs ++ filter p (drop m xs)) (at (suc (n - 1)) refl)
+
+      pub stays : p x ≡ true → now ≡ take (n - 1) xs ++ filter p (drop (n - 1) xs)
+      stays t = is_next ∙ one_kept xs (n - 1) x (omega arith) (there ∙ ap (λ l. get_or l (n - 1) x) is_next) t
+
+      pub goes : p x ≡ false → take (n - 1) now ++ drop (n - 1 + 1) now ≡ take (n - 1) xs ++ filter p (drop (n - 1) xs)
+      goes t =
+          let next : n - 1 + 1 ≡ suc (n - 1) = omega arith in
+          ap (λ m. take (n - 1) now ++ drop m now) next ∙ ap (λ l. take (n - 1) l ++ drop (suc (n - 1)) l) is_next ∙ one_dropped xs (n - 1) x (omega arith) (there ∙ ap (λ l. get_or l (n - 1) x) is_next) t

@@ -1,4 +1,5 @@
 pub mod Compare
+pub mod Digits
 pub mod Records
 pub mod Made
 pub mod Held
@@ -22,3 +23,4 @@ pub mod Ranges
 pub mod Uncovered
 pub mod Parted
 pub mod Keyed
+pub mod Retired

@@ -65,7 +65,7 @@ skipped true x c q fails e = e ∙ (ap (λ b. x && b) (fails refl) ∙ and_false
 skipped false x c q fails e = e
 
 -- the set of the keys that pass a test
-contains_filtered : (p : List ℕ → Bool) (ks : List (List ℕ)) (q : List ℕ) → contains (from_list {R = slice_cmp nat_cmp} (filter p ks)) q ≡ (contains (from_list {R = slice_cmp nat_cmp} ks) q && p q)
+pub contains_filtered : (p : List ℕ → Bool) (ks : List (List ℕ)) (q : List ℕ) → contains (from_list {R = slice_cmp nat_cmp} (filter p ks)) q ≡ (contains (from_list {R = slice_cmp nat_cmp} ks) q && p q)
 contains_filtered p [] q = contains-empty (slice_cmp nat_cmp) q ∙ ap (λ b. b && p q) (sym (contains-empty (slice_cmp nat_cmp) q))
 contains_filtered p (k ∷ ks) q =
     let tied : eq_by_cmp (slice_cmp nat_cmp) q k ≡ true → p q ≡ p k = λ e. ap p (bytes_same q k ((Equal-is (slice_cmp nat_cmp q k)).0 e)) in

@@ -111,7 +111,7 @@ beside_admission old admitted now seen r beside a = record {
       with_free now r q c ∙ ap (λ x. eq_by_cmp (slice_cmp nat_cmp) q r || x) (beside.free q b now_free) ∙ sym (with_free admitted r q admitted_free);
 }
 
-beside_retirement : (old admitted now seen : Operations) (r : List ℕ) → IsBeside old admitted now seen → is_admission r ≡ false → IsBeside old admitted (with_record now r) (set.insert seen r)
+pub beside_retirement : (old admitted now seen : Operations) (r : List ℕ) → IsBeside old admitted now seen → is_admission r ≡ false → IsBeside old admitted (with_record now r) (set.insert seen r)
 beside_retirement old admitted now seen r beside n = record {
   made_admitted = beside.made_admitted;
   made_now = made_again (set.insert now r);

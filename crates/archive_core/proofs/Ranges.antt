@@ -1,17 +1,17 @@
 -- The operations of one kind under one key, or under one UUID, stand together.
-use Rattle.std.proofs.Common.{◌≡◌, ℕ, Bool, true, false, cond, List, [], ◌∷◌, ◌++◌, length, map, filter, drop, Some, None, refl, sym, ap, ◌∙◌, arith, subst, append_assoc, w32}
+use Rattle.std.proofs.Common.{◌≡◌, ℕ, ◌<◌, ◌≤◌, ◌-◌, ◌+◌, get_or, take, length-drop, Bool, true, false, cond, List, [], ◌∷◌, ◌++◌, length, map, filter, drop, Some, None, refl, sym, ap, ◌∙◌, arith, subst, append_assoc, w32}
 use mathlib.Core.Bool.{true≢false}
 use Rattle.std.specs.declared.cmp.Ordering.{Ordering}
 use Rattle.std.specs.declared.cmp.Ordering.TheVariants.{Less, Equal, Greater}
-use Rattle.std.specs.Ordering.{nat_cmp, is_lt, is_le, is_eq, ordering_then}
+use Rattle.std.specs.Ordering.{nat_cmp, is_lt, is_le, is_gt, is_eq, ordering_then}
 use Rattle.std.specs.Cmp.{Equal-is, both_ways, tied_itself}
 use Rattle.std.specs.Cmp.Lexicographic.{slice_cmp, nat_list_cmp_total}
-use Rattle.std.specs.List.{AllByRecursion, Contains, cons_option}
+use Rattle.std.specs.List.{AllByRecursion, AllWithin, Contains, cons_option}
 use Rattle.std.specs.List.Sorted.{IsStrictlySortedBy}
 use Rattle.std.specs.FinSet.{from_list, contains}
 use Rattle.std.specs.Int.{w64, to_be_bytes}
 use Rattle.std.specs.Str.{bytes_eq}
-use Rattle.std.proofs.lemmas.List.{append-nil}
+use Rattle.std.proofs.lemmas.List.{append-nil, get_or_default, get_or-drop}
 use Rattle.std.proofs.lemmas.Slice.Eq.{bytes_eq-Decides}
 use Rattle.sha2.specs.Sha256.{sha256}
 use Rattle.sha2.proofs.Facts256.{length-sha256}
@@ -27,14 +27,16 @@ use Rattle.archive_core.specs.declared.operations.Operation.{Operation}
 use Rattle.archive_core.specs.declared.operations.Operation.TheVariants.{Admit, Retire}
 use Rattle.archive_core.proofs.Compare.{slice_cmp-append, length_key_bytes}
 use Rattle.archive_core.proofs.Records.{length-key_of}
+use Rattle.archive_core.proofs.Made.{by_test}
 use Rattle.archive_core.proofs.Held.{bytes_same}
 use Rattle.archive_core.proofs.Scanned.{operation_there, to_filter}
 use Rattle.archive_core.proofs.Answering.{one_arch, both}
-use Rattle.archive_core.specs.InnerRange.{front, front_of, is_under, is_under_uuid}
+use Rattle.archive_core.specs.InnerRange.{front, front_of, is_within, is_under, is_under_uuid}
+use Rattle.archive_core.specs.declared.range.Kind.{Kind}
 use Rattle.archive_core.specs.declared.range.Kind.TheVariants.{Retirement, Admission}
 use Rattle.archive_core.specs.declared.range.Scope.{Scope}
 use Rattle.archive_core.specs.declared.range.Scope.TheVariants.{OfKey, OfUuid}
-use Rattle.archive_core.proofs.Falling.{Falls}
+use Rattle.archive_core.proofs.Falling.{Falls, parted, falls_drop, middle}
 
 -- the bytes of a key behind its UUID
 arch_bytes : SliceKey → List ℕ
@@ -107,6 +109,45 @@ pub eq_of_both : (r : Ordering) → is_lt r ≡ false → is_le r ≡ true → i
 eq_of_both Less h g = absurd (true≢false h)
 eq_of_both Equal h g = refl
 eq_of_both Greater h g = absurd (true≢false (sym g))
+
+gt_of_le : (r : Ordering) → is_gt r ≡ true → is_le r ≡ true → ⊥
+gt_of_le Less h g = true≢false (sym h)
+gt_of_le Equal h g = true≢false (sym h)
+gt_of_le Greater h g = true≢false (sym g)
+
+lt_of_le : (r : Ordering) → is_le r ≡ false → is_lt r ≡ false
+lt_of_le Less h = absurd (true≢false h)
+lt_of_le Equal h = refl
+lt_of_le Greater h = refl
+
+module _ (kind : Kind) (scope : Scope) (xs : List Operation) (up : IsStrictlySortedBy (slice_cmp nat_cmp) (map rec xs)) (are : AllByRecursion IsOperation xs) (i : ℕ) (within : i ≤ length xs) where
+  -- where one operation is below those of a kind within a scope, those before it are
+  pub below_place : (x : Operation) → 0 < i → x ≡ get_or xs (i - 1) x → is_lt (slice_cmp nat_cmp (front_of scope x) (front kind scope)) ≡ true
+      → AllWithin (λ a. is_lt (slice_cmp nat_cmp (front_of scope a) (front kind scope)) ≡ true) xs 0 i
+  below_place x some is lt k d low high =
+      let before = λ (a : Operation). is_lt (slice_cmp nat_cmp (front_of scope a) (front kind scope)) in
+      parted before xs (falls is_lt refl refl scope (front kind scope) xs up are) k (i - 1) d (omega arith) (omega arith)
+      (ap before (get_or_default xs (i - 1) d x (omega arith) ∙ sym is) ∙ lt)
+
+  -- and where one is above them, those behind it are
+  pub above_place : (x : Operation) → i < length xs → x ≡ get_or xs i x → is_gt (slice_cmp nat_cmp (front_of scope x) (front kind scope)) ≡ true
+      → AllWithin (λ a. is_le (slice_cmp nat_cmp (front_of scope a) (front kind scope)) ≡ false) xs i (length xs)
+  above_place x some is gt k d low high =
+      let upto = λ (a : Operation). is_le (slice_cmp nat_cmp (front_of scope a) (front kind scope)) in
+      let first : get_or xs i d ≡ x = get_or_default xs i d x some ∙ sym is in
+      by_test _ (upto (get_or xs k d))
+      (λ t. absurd (gt_of_le _ gt (ap upto (sym first) ∙ parted upto xs (falls is_le refl refl scope (front kind scope) xs up are) i k d low high t)))
+      (λ f. f)
+
+  -- so none of them is there
+  pub none_at : AllWithin (λ a. is_lt (slice_cmp nat_cmp (front_of scope a) (front kind scope)) ≡ true) xs 0 i
+      → AllWithin (λ a. is_le (slice_cmp nat_cmp (front_of scope a) (front kind scope)) ≡ false) xs i (length xs) → filter (is_within kind scope) xs ≡ []
+  none_at below above =
+      let compared = λ (a : Operation). slice_cmp nat_cmp (front_of scope a) (front kind scope) in
+      sym (middle (λ a. is_lt (compared a)) (λ a. is_le (compared a)) (λ a. is_eq (compared a)) xs i 0
+      (λ a. eq_of_lt (compared a)) (λ a. eq_of_gt (compared a)) (λ a. eq_of_both (compared a))
+      below (λ k d low high. lt_of_le _ (above k d low high)) (λ k d low high. absurd (omega arith))
+      (λ k d low high. rw (get_or-drop i xs k d) (above (i + k) d (omega arith) (omega (arith, length-drop i xs)))))
 
 -- a text ties with itself
 itself : (x : List ℕ) → is_eq (slice_cmp nat_cmp x x) ≡ true

@@ -1,15 +1,15 @@
 -- Where no retirement is among operations, and where none of them is covered by one.
-use Rattle.std.proofs.Common.{◌≡◌, ℕ, Bool, true, false, not, ◌||◌, ◌&&◌, cond, List, [], ◌∷◌, map, filter, drop, slice_get, Some, refl, sym, ap, ◌∙◌, subst}
+use Rattle.std.proofs.Common.{◌≡◌, ℕ, Bool, true, false, not, ◌||◌, ◌&&◌, cond, List, [], ◌∷◌, map, filter, take, drop, slice_get, Some, refl, sym, ap, ◌∙◌, subst}
 use mathlib.Core.Bool.{true≢false}
 use Rattle.std.specs.declared.cmp.Ordering.TheVariants.{Less}
 use Rattle.std.specs.Ordering.{nat_cmp, eq_by_cmp, is_eq}
 use Rattle.std.specs.Cmp.{Equal-is, tied_itself}
 use Rattle.std.specs.Cmp.Lexicographic.{slice_cmp, nat_list_cmp_total}
-use Rattle.std.specs.List.{AllByRecursion, list_any, insert as insert_at}
+use Rattle.std.specs.List.{AllByRecursion, All, list_any}
 use Rattle.std.specs.List.Sorted.{IsStrictlySortedBy}
+use Rattle.std.proofs.lemmas.List.Elements.{All-take, All-drop, All-from_recursion, recursion_from_All}
 use Rattle.std.specs.FinSet as set
 use Rattle.std.specs.FinSet.{contains, from_list, contains-from_list, contains-insert, contains-empty}
-use Rattle.join_core.specs.InnerSearch.{IsPlaceFor}
 use Rattle.sha2.specs.Sha256.{sha256}
 use Rattle.archive_core.specs.Key.{IsKey, key_bytes}
 use Rattle.archive_core.specs.Valid.{key_of, IsValid}
@@ -25,9 +25,8 @@ use Rattle.archive_core.specs.declared.range.Kind.TheVariants.{Admission}
 use Rattle.archive_core.proofs.Compare.{length_key_bytes}
 use Rattle.archive_core.proofs.Records.{same_parts, length-key_of}
 use Rattle.archive_core.proofs.Made.{bytes_same, and_false}
-use Rattle.archive_core.proofs.Held.{along_insert}
-use Rattle.archive_core.proofs.Falling.{filter_all}
-use Rattle.archive_core.proofs.Put.{covered_slice, HoldsWith, held_retirement}
+use Rattle.archive_core.proofs.Falling.{filter_all, outside}
+use Rattle.archive_core.proofs.Put.{covered_slice}
 
 -- behind an admission no retirement stands
 none_behind : (slice front : List ℕ) (xs : List Operation) → AllByRecursion (λ r. slice_cmp nat_cmp (admission_record slice) r ≡ Less) (map rec xs) → list_any (eq_by_cmp (slice_cmp nat_cmp) (1 ∷ front)) (map rec xs) ≡ false
@@ -100,17 +99,20 @@ none_under key digest (Admit slice ∷ xs) is_key are none = by (is_under Admiss
     by true h none rest = absurd (some _ none)
     by false h none rest = (ap not (other_key key digest slice is_key are.0 h), rest none)
 
--- and where the retirement goes in nothing is dropped
-pub none_under_dropped : (key : SliceKey) (digest : Digest) (operations : List Operation) (i : ℕ) → IsKey key → AllByRecursion IsOperation operations → filter (is_under Admission key) operations ≡ []
-    → filter (λ operation. not (is_covered (from_list (map rec (Retire key digest ∷ []))) (rec operation))) (insert_at operations i (Retire key digest)) ≡ insert_at operations i (Retire key digest)
-unfolding only
-none_under_dropped key digest operations i is_key are none =
-    filter_all (λ operation. not (is_covered (only key digest) (rec operation))) (insert_at operations i (Retire key digest))
-    (along_insert (λ operation. not (is_covered (only key digest) (rec operation)) ≡ true) operations i (Retire key digest) refl (none_under key digest operations is_key are none))
+-- whether a retirement leaves an operation
+abbrev pub left_by : SliceKey → Digest → Operation → Bool
+left_by key digest operation = not (is_covered (from_list (map rec (Retire key digest ∷ []))) (rec operation))
 
--- so it goes in at its place, where no slice of its key is there, and all the others stay
-pub held_where_none : (operations : List Operation) (i : ℕ) (key : SliceKey) (digest : Digest) → IsHeld operations → IsOperation (Retire key digest) → IsPlaceFor (slice_cmp nat_cmp) (map rec operations) (retirement_record key digest.0) i
-    → filter (is_under Admission key) operations ≡ [] → HoldsWith (from_list (map rec operations)) (retirement_record key digest.0) (insert_at operations i (Retire key digest))
-held_where_none operations i key digest held one place none =
-    subst (HoldsWith (from_list (map rec operations)) (retirement_record key digest.0)) (none_under_dropped key digest operations i one.0 held.are none)
-    (held_retirement operations i (Retire key digest) held one refl place)
+-- where none of its key is there, it leaves all
+all_left : (key : SliceKey) (digest : Digest) (xs : List Operation) → IsKey key → All IsOperation xs → filter (is_under Admission key) xs ≡ [] → filter (left_by key digest) xs ≡ xs
+unfolding only
+all_left key digest xs is_key are none = filter_all (left_by key digest) xs (none_under key digest xs is_key (recursion_from_All IsOperation xs are) none)
+
+module _ (key : SliceKey) (digest : Digest) (xs : List Operation) (i j : ℕ) (is_key : IsKey key) (are : AllByRecursion IsOperation xs) (run : take j (drop i xs) ≡ filter (is_under Admission key) xs) where
+  -- so it leaves what stands before the run of its key
+  pub front_left : filter (left_by key digest) (take i xs) ≡ take i xs
+  front_left = all_left key digest (take i xs) is_key (All-take IsOperation i xs (All-from_recursion IsOperation xs are)) (outside (is_under Admission key) xs i j run).0
+
+  -- and behind it
+  pub back_left : filter (left_by key digest) (drop j (drop i xs)) ≡ drop j (drop i xs)
+  back_left = all_left key digest (drop j (drop i xs)) is_key (All-drop IsOperation j (drop i xs) (All-drop IsOperation i xs (All-from_recursion IsOperation xs are))) (outside (is_under Admission key) xs i j run).1

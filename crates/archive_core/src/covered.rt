@@ -1,21 +1,20 @@
 //! Slices that retirements cover. This is the one place that tells them, and no slice that is held is one.
-ghost use Rattle.std.specs.Prelude.{◌≡◌, ◌≤◌, ◌||◌, ℕ, List, [], ◌∷◌, true, false, length, map, filter, not};
+ghost use Rattle.std.specs.Prelude.{◌≡◌, ◌+◌, ◌<◌, ◌≤◌, ◌||◌, ℕ, List, [], ◌∷◌, ◌++◌, true, false, length, take, drop, map, filter, not};
 ghost use Rattle.std.specs.FinSet as set;
 ghost use Rattle.std.specs.Ordering.{nat_cmp};
 ghost use Rattle.std.specs.Cmp.Lexicographic.{slice_cmp};
+ghost use Rattle.std.specs.List.{AllByRecursion};
+ghost use Rattle.std.specs.List.Sorted.{IsStrictlySortedBy};
 ghost use Rattle.std.specs.Vec.{vec_capacity};
 ghost use Rattle.sha2.specs.Sha256.{sha256};
 ghost use Rattle.archive_core.specs.Valid.{key_of, IsValid};
 ghost use Rattle.archive_core.specs.Record.{rec, retirement_record, IsOperation};
 ghost use Rattle.archive_core.specs.Content.{is_covered, changes};
-ghost use Rattle.archive_core.specs.Key.{IsKey};
 ghost use Rattle.archive_core.specs.InnerHeld.{IsHeld};
-ghost use Rattle.archive_core.specs.InnerRange.{is_under};
-ghost use Rattle.archive_core.specs.declared.range.Kind.TheVariants.{Admission};
 ghost use Rattle.archive_core.specs.declared.operations.Operation.TheVariants.{Retire};
 
 use crate::plain::search;
-use crate::range::{Kind, under};
+use crate::range::{Kind, Scope, has_retirement, place_of};
 use crate::{Digest, Operation, Slice, SliceKey};
 use memory::Heap;
 use std::marker::Model;
@@ -45,13 +44,13 @@ impl<'a> Model for Lent<'a> {
 }
 
 // Whether one of the operations retires a slice. Its digest is asked for only where a retirement of its key stands.
-fn retires(operations: &[Operation], slice: &Slice) -> bool
+fn retires(operations: &[Operation], slice: &Slice, near: &mut usize) -> bool
     requires { IsHeld operations.now }
     ensures { result
         ≡ set.contains (set.from_list {R = slice_cmp nat_cmp} (map rec operations.now))
         (retirement_record (key_of slice.now) (sha256 slice.now)) }
 {
-    if under(operations, Kind::Retirement, slice.key()).is_empty() {
+    if !has_retirement(operations, near, slice.key()) {
         return false;
     }
     search(operations, &Operation::Retire(slice.key(), slice.digest())).is_ok()
@@ -79,34 +78,34 @@ impl<'a> Lent<'a> {
         }
     }
 
-    // Whether a retirement covers the slice.
-    pub(crate) fn retires(&self, slice: &Slice) -> bool
+    // Whether a retirement covers the slice. It is looked for near the place where that of another was.
+    pub(crate) fn retires(&self, slice: &Slice, near: &mut usize) -> bool
         ensures retires { result
             ≡ set.contains self.now (retirement_record (key_of slice.now) (sha256 slice.now)) }
         ensures valid { IsValid slice.now }
     {
         let _bytes = slice.bytes();
-        self.has_retirements() && retires(self.operations, slice)
+        retires(self.operations, slice, near)
     }
 
     // Whether a retirement covers the operation.
-    pub(crate) fn covers(&self, operation: &Operation) -> bool
+    pub(crate) fn covers(&self, operation: &Operation, near: &mut usize) -> bool
         ensures { result ≡ is_covered self.now (rec operation.now) }
     {
         match operation {
-            Operation::Admit(slice) => self.retires(slice),
+            Operation::Admit(slice) => self.retires(slice, near),
             Operation::Retire(_, _) => false,
         }
     }
 
     // Whether the operation is there, or covered.
     #[tactic(auto, unfolding(crate::specs::Content::changes))]
-    pub(crate) fn knows(&self, operation: &Operation) -> bool
+    pub(crate) fn knows(&self, operation: &Operation, near: &mut usize) -> bool
         ensures knows { result
             ≡ (set.contains self.now (rec operation.now) || is_covered self.now (rec operation.now)) }
         ensures changes { changes self.now (rec operation.now) ≡ not result }
     {
-        search(self.operations, operation).is_ok() || self.covers(operation)
+        search(self.operations, operation).is_ok() || self.covers(operation, near)
     }
 }
 
@@ -120,7 +119,8 @@ pub(crate) fn drop_covered(operations: &mut Vec<Operation, Heap>, by: &Lent<'_>)
     if !by.has_retirements() {
         return;
     }
-    operations.retain(|operation| !by.covers(operation));
+    let mut near = 0;
+    operations.retain(|operation| !by.covers(operation, &mut near));
 }
 
 // The retirement of a key and a digest.
@@ -131,21 +131,30 @@ pub(crate) fn retirement(key: SliceKey, digest: Digest) -> Operation
     Operation::Retire(key, digest)
 }
 
-// Whether no slice of a key is there, so that no retirement of the key covers one.
-pub(crate) fn has_none(operations: &[Operation], key: &SliceKey) -> bool
-    requires { IsHeld operations.now }
-    ensures none { result ≡ true → filter (is_under Admission key.now) operations.now ≡ [] }
-    ensures key { IsKey key.now }
+// Drops the operation at a place.
+fn drop_at(operations: &mut Vec<Operation, Heap>, index: usize)
+    requires { index < length operations.old.items }
+    ensures { operations.new.items ≡ take index operations.old.items ++ drop (index + 1) operations.old.items }
 {
-    under(operations, Kind::Admission, *key).is_empty()
+    operations.remove(index);
 }
 
-// Drops the slices that one retirement covers.
-pub(crate) fn drop_retired(operations: &mut Vec<Operation, Heap>, key: SliceKey, digest: Digest)
+// Drops the slices that one retirement covers. They are looked for among those of its key alone.
+pub(crate) fn drop_retired(operations: &mut Vec<Operation, Heap>, key: &SliceKey, digest: &Digest)
+    requires ascending { IsStrictlySortedBy (slice_cmp nat_cmp) (map rec operations.old.items) }
+    requires are { AllByRecursion IsOperation operations.old.items }
     ensures { operations.new.items
-        ≡ filter (λ operation. not (is_covered (set.from_list (map rec (Retire key digest ∷ []))) (rec operation)))
+        ≡ filter (λ operation. not (is_covered (set.from_list (map rec (Retire key.now digest.now ∷ []))) (rec operation)))
         operations.old.items }
 {
-    let only = [retirement(key, digest)];
-    drop_covered(operations, &Lent::of(&only));
+    let only = [retirement(*key, *digest)];
+    let by = Lent::of(&only);
+    let (start, count) = place_of(operations, Kind::Admission, Scope::OfKey(*key));
+    let mut index = start + count;
+    while index > start {
+        index -= 1;
+        if by.covers(&operations[index], &mut 0) {
+            drop_at(operations, index);
+        }
+    }
 }

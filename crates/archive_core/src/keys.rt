@@ -1,8 +1,9 @@
 //! Under what a slice is kept.
-ghost use Rattle.std.specs.Prelude.{◌≡◌, length};
+ghost use Rattle.std.specs.Prelude.{◌≡◌, ◌<◌, length, All};
+ghost use Rattle.std.specs.Int.{w128, from_be_bytes};
 ghost use Rattle.std.specs.Ordering.{nat_cmp};
 ghost use Rattle.std.specs.Cmp.Lexicographic.{slice_cmp};
-ghost use Rattle.archive_core.specs.Key.{key_bytes};
+ghost use Rattle.archive_core.specs.Key.{IsKey, key_bytes};
 
 use std::cmp::Ordering;
 use uuid::Uuid;
@@ -34,28 +35,14 @@ pub fn compare_keys(a: &SliceKey, b: &SliceKey) -> Ordering
     ensures first { length (key_bytes a.now) ≡ 24 }
     ensures second { length (key_bytes b.now) ≡ 24 }
 {
-    let first = uuid_bytes(&a.uuid);
-    let second = uuid_bytes(&b.uuid);
-    first
-        .cmp(second)
-        .then(
-            a.arch
-                .cputype
-                .to_be_bytes()
-                .cmp(&b.arch.cputype.to_be_bytes()),
-        )
-        .then(
-            a.arch
-                .subtype
-                .to_be_bytes()
-                .cmp(&b.arch.subtype.to_be_bytes()),
-        )
+    numbers_of(*a).cmp(&numbers_of(*b))
 }
 
-// The bytes of a UUID, which are sixteen.
-fn uuid_bytes(uuid: &Uuid) -> &[u8]
-    ensures bytes { result.now ≡ uuid.now }
-    ensures sixteen { length result.now ≡ 16 }
+// A key as numbers. Keys are in the order of their bytes as these are in theirs, which takes fewer steps to compare.
+fn numbers_of(key: SliceKey) -> (u128, u32, u32)
+    ensures numbers { result ≡ (from_be_bytes w128 key.uuid, key.arch.cputype, key.arch.subtype) }
+    ensures key { IsKey key }
+    ensures bytes { All (λ b. b < 256) key.uuid }
 {
-    uuid.as_bytes()
+    (key.uuid.as_u128(), key.arch.cputype, key.arch.subtype)
 }

@@ -2,7 +2,7 @@
 ghost use Rattle.std.specs.Prelude.{◌≡◌, IfOk};
 ghost use Rattle.std.specs.Ordering.{nat_cmp};
 ghost use Rattle.std.specs.Cmp.Lexicographic.{slice_cmp};
-ghost use Rattle.archive_core.specs.Record.{rec, lent, operation_lent, admission};
+ghost use Rattle.archive_core.specs.Record.{rec, lent, operation_lent, admission, retirement_record};
 ghost use Rattle.archive_core.specs.Find.{key_in};
 
 use crate::keys::compare_keys;
@@ -81,9 +81,7 @@ impl Operation {
             },
             Operation::Retire(key, digest) => match other {
                 Operation::Admit(_) => Ordering::Less,
-                Operation::Retire(that, other) => {
-                    compare_keys(key, that).then(digest.0.cmp(&other.0))
-                }
+                Operation::Retire(that, other) => compare_retirements(key, digest, that, other),
             },
         }
     }
@@ -111,25 +109,42 @@ impl<'a> Record<'a> {
             },
             Record::Retire(key, digest) => match other {
                 Record::Admit(_) => Ordering::Less,
-                Record::Retire(that, other) => compare_keys(key, that).then(digest.0.cmp(&other.0)),
+                Record::Retire(that, other) => compare_retirements(key, digest, that, other),
             },
         }
     }
+}
+
+// Compares the records of two retirements.
+pub(crate) fn compare_retirements(
+    key: &SliceKey,
+    digest: &Digest,
+    that: &SliceKey,
+    other: &Digest,
+) -> Ordering
+    ensures { result
+        ≡ slice_cmp nat_cmp (retirement_record key.now digest.now.0) (retirement_record that.now other.now.0) }
+{
+    let keys = compare_keys(key, that);
+    if keys.is_ne() {
+        return keys;
+    }
+    digest.0.cmp(&other.0)
 }
 
 // Compares two admissions by what their records hold behind the tag: key, length, bytes.
 fn compare_admissions(a: &Slice, b: &Slice) -> Ordering
     ensures { result ≡ slice_cmp nat_cmp (admission a.now) (admission b.now) }
 {
+    let keys = compare_keys(&a.key(), &b.key());
+    if keys.is_ne() {
+        return keys;
+    }
     let first = a.bytes();
     let second = b.bytes();
-    let heads = compare_keys(&a.key(), &b.key()).then(
-        (first.len() as u64)
-            .to_be_bytes()
-            .cmp(&(second.len() as u64).to_be_bytes()),
-    );
-    if heads.is_ne() {
-        return heads;
+    let lengths = first.len().cmp(&second.len());
+    if lengths.is_ne() {
+        return lengths;
     }
     first.cmp(second)
 }

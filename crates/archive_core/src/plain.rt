@@ -17,7 +17,7 @@ ghost use Rattle.archive_core.specs.Lookup.{IsOwnRow, IsAnswerOf, own_row, answe
 ghost use Rattle.archive_core.specs.Names.{name_view};
 ghost use Rattle.archive_core.specs.InnerNames.{names_of, names_among};
 
-use crate::covered::{Lent, drop_covered, drop_retired, has_none, retirement};
+use crate::covered::{Lent, drop_covered, drop_retired, retirement};
 use crate::finding::{Finding, rows_of};
 use crate::live::{Asked, Tally, answer_of_one, is_key, is_kind};
 use crate::names::{has_name, put_in_order, rows_in};
@@ -40,6 +40,9 @@ use uuid::Uuid;
 #[derive(Drop)]
 pub struct PlainArchive {
     operations: Vec<Operation, Heap>,
+    // Where retirements were last looked for. No answer depends on it: slices that come in the order of their keys are
+    // found to be covered, or not, with few comparisons.
+    near: usize,
 }
 
 impl Model for PlainArchive {
@@ -98,7 +101,7 @@ fn sort(operations: &mut Vec<Operation, Heap>)
 }
 
 // Sorts operations by their records, and keeps each once.
-fn order(operations: &mut Vec<Operation, Heap>)
+pub(crate) fn order(operations: &mut Vec<Operation, Heap>)
     ensures ascending { IsStrictlySortedBy (slice_cmp nat_cmp) (map rec operations.new.items) }
     ensures same { set.from_list {R = slice_cmp nat_cmp} (map rec operations.new.items)
         ≡ set.from_list (map rec operations.old.items) }
@@ -190,7 +193,7 @@ impl PlainArchive {
         ensures changes { changes self.now (rec operation.now) ≡ not result }
         ensures same { result ≡ true → with_record self.now (rec operation.now) ≡ self.now }
     {
-        self.lend().knows(operation)
+        self.lend().knows(operation, &mut 0)
     }
 
     // Whether the archive knows each of the operations: it is there, or covered.
@@ -201,7 +204,9 @@ impl PlainArchive {
         ensures content { IsContent self.now }
     {
         let lent = self.lend();
-        operations.iter().all(|operation| lent.knows(operation))
+        operations
+            .iter()
+            .all(|operation| lent.knows(operation, &mut 0))
     }
 
     // Takes an admission.
@@ -210,7 +215,7 @@ impl PlainArchive {
         ensures answer { IfOk result (λ changed. changed ≡ changes self.old (rec (Admit slice))) }
         ensures refused { OnErr result (self.new ≡ self.old) }
     {
-        if self.lend().retires(&slice) {
+        if Lent::of(&self.operations).retires(&slice, &mut self.near) {
             return Ok(false);
         }
         let admission = Operation::Admit(slice);
@@ -223,8 +228,7 @@ impl PlainArchive {
         }
     }
 
-    // Takes a retirement. What it covers is dropped behind it, which is not refused, and is looked for only where
-    // slices of its key are there.
+    // Takes a retirement. What it covers is dropped behind it, which is not refused.
     fn retire(&mut self, key: SliceKey, digest: Digest) -> Result<bool, NoMemory>
         ensures taken { OnOk result (self.new ≡ with_record self.old (rec (Retire key digest))) }
         ensures answer { IfOk result (λ changed. changed ≡ changes self.old (rec (Retire key digest))) }
@@ -234,12 +238,8 @@ impl PlainArchive {
         match search_from_end(&self.operations, &retirement) {
             Ok(_) => Ok(false),
             Err(index) => {
-                let none = has_none(&self.operations, &key);
                 self.operations.insert(index, retirement)?;
-                if none {
-                    return Ok(true);
-                }
-                drop_retired(&mut self.operations, key, digest);
+                drop_retired(&mut self.operations, &key, &digest);
                 Ok(true)
             }
         }
@@ -368,8 +368,9 @@ impl PlainArchive {
         let heap = self.operations.allocator();
         let mut missing = Vec::new(heap.clone()?);
         let lent = self.lend();
+        let mut near = 0;
         'operations: for operation in operations {
-            if !lent.knows(operation) {
+            if !lent.knows(operation, &mut near) {
                 let copy = operation.copy(heap.clone()?)?;
                 missing.push(copy)?;
             }
@@ -397,7 +398,7 @@ impl PlainArchive {
     {
         self.operations.reserve(other.operations.len())?;
         drop_covered(&mut self.operations, &other.lend());
-        let PlainArchive { mut operations } = other;
+        let PlainArchive { mut operations, .. } = other;
         drop_covered(&mut operations, &self.lend());
         self.operations.append(&mut operations)?;
         order(&mut self.operations);
@@ -435,7 +436,7 @@ impl Join for PlainArchive {
 
     fn absorb(&mut self, other: Self) -> Result<(), NoMemory> {
         if other.operations.len() <= FEW.min(self.operations.len()) {
-            let PlainArchive { operations } = other;
+            let PlainArchive { operations, .. } = other;
             return self.take_in_turn(operations);
         }
         self.merge(other)
@@ -454,6 +455,7 @@ impl Archive for PlainArchive {
     fn empty(heap: Heap) -> Self {
         PlainArchive {
             operations: Vec::new(heap),
+            near: 0,
         }
     }
 

@@ -1,11 +1,15 @@
 //! The operations of one kind under one key, or under one UUID.
-ghost use Rattle.std.specs.Prelude.{◌≡◌, ◌+◌, ◌≤◌, filter, length, take, drop};
+ghost use Rattle.std.specs.Prelude.{◌≡◌, ◌+◌, ◌≤◌, [], true, false, map, filter, length, take, drop};
 ghost use Rattle.std.specs.Ordering.{nat_cmp};
 ghost use Rattle.std.specs.Cmp.Lexicographic.{slice_cmp};
+ghost use Rattle.std.specs.List.{AllByRecursion};
+ghost use Rattle.std.specs.List.Sorted.{IsStrictlySortedBy};
 ghost use Rattle.archive_core.specs.Key.{IsKey};
+ghost use Rattle.archive_core.specs.Record.{rec, IsOperation};
 ghost use Rattle.archive_core.specs.InnerHeld.{IsHeld};
 ghost use Rattle.archive_core.specs.InnerRange.{front, front_of, scope_bytes, bytes_within};
 ghost use Rattle.archive_core.specs.InnerRange.{is_within, is_under, is_under_uuid};
+ghost use Rattle.archive_core.specs.declared.range.Kind.TheVariants.{Retirement};
 
 use crate::live::is_kind;
 use crate::{Operation, SliceKey, compare_keys};
@@ -22,18 +26,26 @@ pub(crate) enum Kind {
 
 // Which keys are meant: one, or those of a UUID.
 #[derive(Clone, Copy)]
-enum Scope {
+pub(crate) enum Scope {
     OfKey(SliceKey),
     OfUuid(Uuid),
 }
 
-// Where the operations of a kind within a scope begin, and how many they are. They stand together, and are found by
-// halving.
-fn place_of(operations: &[Operation], kind: Kind, scope: Scope) -> (usize, usize)
-    requires { IsHeld operations.now }
+// So many places are looked at, one behind another, before the whole is halved.
+const STEPS: usize = 4;
+
+// Where the operations of a kind within a scope begin, and how many they are. They stand together. Where they would
+// stand behind all there is, that is seen at once, and else they are found by halving.
+pub(crate) fn place_of(operations: &[Operation], kind: Kind, scope: Scope) -> (usize, usize)
+    requires ascending { IsStrictlySortedBy (slice_cmp nat_cmp) (map rec operations.now) }
+    requires are { AllByRecursion IsOperation operations.now }
     ensures within { result.0 + result.1 ≤ length operations.now }
     ensures range { take result.1 (drop result.0 operations.now) ≡ filter (is_within kind scope) operations.now }
 {
+    let len = operations.len();
+    if len > 0 && compare(&operations[len - 1], kind, &scope).is_lt() {
+        return (len, 0);
+    }
     let start = operations.partition_point(|operation| compare(operation, kind, &scope).is_lt());
     let (_, behind) = operations.split_at(start);
     let count = behind.partition_point(|operation| compare(operation, kind, &scope).is_le());
@@ -58,6 +70,46 @@ pub(crate) fn under<'a>(operations: &'a [Operation], kind: Kind, key: SliceKey) 
     ensures key { IsKey key }
 {
     within(operations, kind, Scope::OfKey(key))
+}
+
+// Whether the retirements within a scope would go in at a place: what stands before it is below them, and what stands
+// from it on is above. Then none of them is there.
+fn is_gap(operations: &[Operation], place: usize, scope: &Scope) -> bool
+    requires { IsHeld operations.now }
+    ensures { result ≡ true → filter (is_within Retirement scope.now) operations.now ≡ [] }
+{
+    if place > operations.len() {
+        return false;
+    }
+    if place > 0 && !compare(&operations[place - 1], Kind::Retirement, scope).is_lt() {
+        return false;
+    }
+    if place < operations.len() && !compare(&operations[place], Kind::Retirement, scope).is_gt() {
+        return false;
+    }
+    true
+}
+
+// Whether retirements of a key are there. They are looked for from the place on where those of another key were, so that
+// keys that ascend are found with few comparisons, and else by halving.
+pub(crate) fn has_retirement(operations: &[Operation], near: &mut usize, key: SliceKey) -> bool
+    requires { IsHeld operations.now }
+    ensures none { result ≡ false → filter (is_under Retirement key) operations.now ≡ [] }
+    ensures key { IsKey key }
+{
+    let scope = Scope::OfKey(key);
+    for _ in 0..STEPS {
+        if is_gap(operations, *near, &scope) {
+            return false;
+        }
+        *near = near.saturating_add(1);
+    }
+    *near = operations.partition_point(|operation| compare(
+        operation,
+        Kind::Retirement,
+        &scope,
+    ).is_lt());
+    !is_gap(operations, *near, &scope)
 }
 
 // The operations of a kind under a UUID, whatever the architecture.

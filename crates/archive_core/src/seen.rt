@@ -10,6 +10,7 @@ ghost use Rattle.archive_core.specs.Key.{IsKey, key_bytes};
 ghost use Rattle.archive_core.specs.Valid.{key_of};
 ghost use Rattle.archive_core.specs.Record.{retirement_record};
 
+use crate::operations::compare_retirements;
 use crate::{Digest, Slice, SliceKey, compare_keys};
 use memory::{Heap, NoMemory};
 use std::cmp::Ordering;
@@ -140,7 +141,7 @@ impl Ord for Retired {
     ghost matches_eq = { λ a b. refl };
 
     fn cmp(&self, other: &Retired) -> Ordering {
-        compare_keys(&self.key, &other.key).then(self.digest.0.cmp(&other.digest.0))
+        compare_retirements(&self.key, &self.digest, &other.key, &other.digest)
     }
 }
 

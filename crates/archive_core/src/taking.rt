@@ -1,10 +1,11 @@
 //! Taking many operations.
-ghost use Rattle.std.specs.Prelude.{◌≡◌, true, map, IfOk, OnOk, OnErr};
+ghost use Rattle.std.specs.Prelude.{◌≡◌, true, not, map, IfOk, OnOk, OnErr};
 ghost use Rattle.std.specs.List.{list_all};
 ghost use Rattle.archive_core.specs.Record.{rec};
 ghost use Rattle.archive_core.specs.Content.{IsContent, IsTakenInPart, is_admission, with_records, new_among};
 
 use crate::parting::parts_of;
+use crate::plain::order;
 use crate::{Archive, Operation};
 use memory::{Heap, NoMemory};
 
@@ -23,6 +24,13 @@ fn are_admissions(operations: &[Operation]) -> bool
     ensures { result ≡ list_all (λ operation. is_admission (rec operation)) operations.now }
 {
     operations.iter().all(|operation| is_admission(operation))
+}
+
+// Whether each of the operations is a retirement.
+fn are_retirements(operations: &[Operation]) -> bool
+    ensures { result ≡ list_all (λ operation. not (is_admission (rec operation))) operations.now }
+{
+    operations.iter().all(|operation| !is_admission(operation))
 }
 
 // Takes operations one after another, in their order, and counts those that were new.
@@ -82,6 +90,26 @@ fn take_admissions<A: Archive + Drop>(
     Ok(archive.len() - before)
 }
 
+// Takes retirements. None of them is dropped, so those are new that are not held, each once.
+fn take_retirements<A: Archive + Drop>(
+    archive: &mut A,
+    mut operations: Vec<Operation, Heap>,
+) -> Result<u64, NoMemory>
+    requires { list_all (λ operation. not (is_admission (rec operation))) operations.items ≡ true }
+    ensures taken { OnOk result
+        (A.content archive.new ≡ with_records (A.content archive.old) (map rec operations.items)) }
+    ensures counted { IfOk result (λ new. new ≡ new_among (A.content archive.old) (map rec operations.items)) }
+    ensures refused { OnErr result
+        (IsTakenInPart (A.content archive.old) (map rec operations.items) (A.content archive.new)) }
+{
+    let _before = archive.len();
+    order(&mut operations);
+    operations.retain(|operation| !archive.holds(operation));
+    let new = operations.len() as u64;
+    take_sorted(archive, operations)?;
+    Ok(new)
+}
+
 // Takes operations of both kinds: the admissions that no retirement before them covers, then the retirements that are
 // new. A slice that is retired behind its admission is dropped by the latter.
 fn take_parts<A: Archive + Drop>(
@@ -123,6 +151,9 @@ pub fn take_each<A: Archive + Drop>(
 {
     if are_admissions(&operations) {
         return take_admissions(archive, operations);
+    }
+    if are_retirements(&operations) {
+        return take_retirements(archive, operations);
     }
     take_parts(archive, operations)
 }

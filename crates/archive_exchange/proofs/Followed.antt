@@ -1,5 +1,5 @@
 -- What happens at a site is what the definitions say of its event.
-use Rattle.std.proofs.Common.{◌≡◌, ◌≢◌, ℕ, ◌<◌, ◌≤◌, Bool, List, [], ◌∷◌, ◌++◌, map, length, slice_get, refl, sym, ap, ◌∙◌, subst, if◌then◌else◌, get_or}
+use Rattle.std.proofs.Common.{◌≡◌, ◌≢◌, inl, ℕ, ◌<◌, ◌≤◌, Bool, List, [], ◌∷◌, ◌++◌, map, length, slice_get, refl, sym, ap, ◌∙◌, subst, if◌then◌else◌, get_or}
 use Rattle.std.specs.Prelude.{slice_set}
 use Rattle.std.specs.declared.option.Option.{Option}
 use Rattle.std.specs.declared.option.Option.TheVariants.{None, Some}
@@ -15,7 +15,7 @@ use Rattle.archive_records.specs.declared.fault.RecordFault.{RecordFault}
 use Rattle.archive_records.specs.Text.{written, summary_text}
 use Rattle.archive_records.specs.Fault.{IsFault, IsSummaryFault}
 use Rattle.archive_records.proofs.Summarised.{AreEntries-summary}
-use Rattle.archive_records.proofs.Exact.{one_content}
+use Rattle.archive_records.proofs.Versions.{one_content}
 use Rattle.exchange_model.specs.World as model
 use Rattle.exchange_model.specs.World.{World, Event, File, Fault, Message, Content, Summary, site_of, records, fault_at_site, fault_of, effect, answer, unless, refused_or, happens, outcome, with_saved}
 use Rattle.archive_exchange.specs.File.{IsAcceptedFile, IsTakeFault, admissible, parts}
@@ -34,7 +34,7 @@ use Rattle.archive_exchange.specs.declared.event.Outcome.{Outcome}
 use Rattle.archive_exchange.specs.declared.event.Outcome.TheVariants as told
 use Rattle.archive_exchange.proofs.Scenes.{set_same, shows_held, shows_saved, shows_sent, message_at, no_message_at, IsMessage}
 use Rattle.archive_exchange.proofs.Gained.{content_gain, content_joined, recorded_take, recorded_retire, content_seen}
-use Rattle.archive_exchange.proofs.Magics.{texts_differ, not_an_archive, not_a_summary}
+use Rattle.archive_exchange.proofs.Magics.{gives_no_summary, not_an_archive, not_a_summary}
 
 -- an event of a site that is there is refused for what is at the site alone
 here : (e : Event TakeFault) (sites : List Keeping) (old : Keeping) (w : World) → slice_get sites (site_of e) ≡ Some old → fault_of (length sites) w e ≡ fault_at_site w.messages e
@@ -149,7 +149,7 @@ replied_to : (i m : ℕ) (old : Keeping) (texts later : List (List ℕ)) (text r
     → slice_get sites i ≡ Some old → Shows sites texts w → RepliesTo text old.held reply → later ≡ texts ++ reply ∷ []
     → (x : Message) → slice_get w.messages m ≡ Some x → text ≡ message_text x → IsSound x
     → Allowed (model.Reply i m) old old texts later (told.Sent (length texts)) sites w
-replied_to i m old texts later text reply sites w at sh replies is (Content o) there same sound = absurd (texts_differ o replies.named (sym same ∙ replies.names.is))
+replied_to i m old texts later text reply sites w at sh replies is (Content o) there same sound = absurd (gives_no_summary o (written o) replies.named (inl refl) (sym same ∙ replies.names.is))
 replied_to i m old texts later text reply sites w at sh replies is (Summary s) there same sound =
     let named : replies.named ≡ s = replies.alone s (record { entries = sound; is = same }) in
     let P : List (List ℕ) → Type 0 = λ t. Shows (slice_set sites i old) t (model.with_sent w (Content (delta (w.held i) (model.entries_of (model.message_or (slice_get w.messages m)))))) in
@@ -203,9 +203,9 @@ delivered_at : (i m : ℕ) (old new : Keeping) (texts : List (List ℕ)) (text :
     → slice_get sites i ≡ Some old → Shows sites texts w → HasJoined text old new
     → (x : Message) → slice_get w.messages m ≡ Some x → text ≡ message_text x → IsSound x
     → Allowed (model.Deliver i m) old new texts texts told.Delivered sites w
-delivered_at i m old new texts text sites w at sh joins (Summary s) there same sound = absurd (texts_differ joins.message s (sym joins.says.is ∙ same))
+delivered_at i m old new texts text sites w at sh joins (Summary s) there same sound = absurd (gives_no_summary joins.message text s joins.gives.is same)
 delivered_at i m old new texts text sites w at sh joins (Content o) there same sound =
-    let is : joins.message ≡ o = one_content joins.message o joins.says.content sound (sym joins.says.is ∙ same) in
+    let is : joins.message ≡ o = one_content text joins.message o joins.gives.content sound joins.gives.is (inl same) in
     let Q : Option Message → Type 0 = λ x. Shows (slice_set sites i new) texts (model.with_held w i (joined (w.held i) (model.operations_of (model.message_or x)))) in
     record {
       none = ap (λ x. model.deliver_fault {F = TakeFault} x) there;
@@ -229,7 +229,7 @@ not_delivered_at w i m text f refused (Summary s) there same sound =
       told = ap (λ g. told.Refused (fault.Refused g)) (not_an_archive s f (subst P same refused.0));
       is = ap (λ x. model.deliver_fault {F = TakeFault} x) there;
     }
-not_delivered_at w i m text f refused (Content o) there same sound = absurd (refused.2 (o, record { content = sound; is = same }))
+not_delivered_at w i m text f refused (Content o) there same sound = absurd (refused.2 (o, record { content = sound; is = inl same }))
 
 pub not_delivered : (i m : ℕ) (old : Keeping) (texts : List (List ℕ)) (text : List ℕ) (f : RecordFault) → slice_get texts m ≡ Some text → IsDeliverFault text (deliver.Refused f)
     → Follows (model.Deliver i m) old old texts texts (told.Refused (fault.Refused f))
@@ -245,7 +245,7 @@ pub stops : (i : ℕ) (old new : Keeping) (texts : List (List ℕ)) → Says old
 stops i old new texts says saved = follow_by (model.Stop i) old new texts texts told.Stopped (λ sites w at sh.
     record {
       none = refl;
-      shows = shows_held sites texts w i old new (w.saved i) at sh (one_content new.held (w.saved i) says.content (sh.saved i) (sym says.is ∙ (sh.each i old at).saved)) saved (sh.saved i);
+      shows = shows_held sites texts w i old new (w.saved i) at sh (one_content old.saved new.held (w.saved i) says.content (sh.saved i) (inl says.is) (inl (sh.each i old at).saved)) saved (sh.saved i);
       tells = refl;
     })
 

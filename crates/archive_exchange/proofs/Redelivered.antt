@@ -1,10 +1,10 @@
 -- What a delivery that stopped leaves, and what it makes when it is made again.
-use Rattle.std.proofs.Common.{◌≡◌, ℕ, List, sym, ap, ◌∙◌, subst}
+use Rattle.std.proofs.Common.{◌≡◌, ℕ, List, sym, ap, ◌∙◌, subst, inl}
 use Rattle.std.specs.FinSet.{union}
 use Rattle.archive_core.specs.Content.{Operations, IsContent, IsBelow, joined}
 use Rattle.archive_core.proofs.Made.{made_again, made_antisymmetric, below_transitive, below_left, below_right, joined_below}
-use Rattle.archive_records.proofs.Exact.{one_content}
-use Rattle.archive_exchange.specs.Keeping.{Keeping, Says, IsBetween, HasJoined, HasJoinedInPart}
+use Rattle.archive_records.proofs.Versions.{one_content}
+use Rattle.archive_exchange.specs.Keeping.{Keeping, Says, Gives, IsBetween, HasJoined, HasJoinedInPart}
 
 -- a content on the way joins to the same
 joined_again : (o p mid : Operations) → IsBetween o mid (joined o p) → joined mid p ≡ joined o p
@@ -15,25 +15,31 @@ joined_again o p mid way =
     (below_transitive o mid (joined mid p) way.above_old (below_left mid p))
     (below_right mid p))
 
--- one text says one content
-one_message : (text : List ℕ) (o p : Operations) → Says text o → Says text p → o ≡ p
-one_message text o p a b = one_content o p a.content b.content (sym a.is ∙ b.is)
+-- one text gives one content
+pub one_message : (text : List ℕ) (o p : Operations) → Gives text o → Gives text p → o ≡ p
+one_message text o p a b = one_content text o p a.content b.content a.is b.is
+
+-- what a site saved gives what it begins again with, and is written of it
+pub begun_again : (old : Keeping) (held : Operations) (saved text : List ℕ) (o : Operations) → record { held = held; saved = saved } ≡ old → (p : Operations) × Says saved p → text ≡ saved → Gives text o → Says old.saved o
+begun_again old held saved text o is says same gives =
+    let e : says.0 ≡ o = one_message text says.0 o (record { content = says.1.content; is = inl (same ∙ says.1.is) }) gives in
+    subst (λ (k : Keeping). Says k.saved o) is (subst (Says saved) e says.1)
 
 pub above_old : (text : List ℕ) (old mid : Keeping) → HasJoinedInPart text old mid → IsBelow old.held mid.held
 above_old text old mid part = part.held.above_old
 
 pub below_asked : (text : List ℕ) (old mid new : Keeping) → HasJoinedInPart text old mid → HasJoined text old new → IsBelow mid.held new.held
 below_asked text old mid new part whole =
-    subst (IsBelow mid.held) (ap (joined old.held) (one_message text part.message whole.message part.says whole.says) ∙ sym whole.held)
+    subst (IsBelow mid.held) (ap (joined old.held) (one_message text part.message whole.message part.gives whole.gives) ∙ sym whole.held)
     part.held.below_new
 
 pub asked_again : (text : List ℕ) (old mid new : Keeping) → IsContent old.held → HasJoinedInPart text old mid → HasJoined text mid new → HasJoined text old new
 asked_again text old mid new is part rest = record {
   message = part.message;
-  says = part.says;
+  gives = part.gives;
   held =
       rest.held
-      ∙ ap (joined mid.held) (one_message text rest.message part.message rest.says part.says)
+      ∙ ap (joined mid.held) (one_message text rest.message part.message rest.gives part.gives)
       ∙ joined_again old.held part.message mid.held part.held;
   saved = rest.saved ∙ part.saved;
 }

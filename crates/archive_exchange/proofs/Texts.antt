@@ -1,5 +1,5 @@
 -- What follows where a text was read, and where a join stopped half way.
-use Rattle.std.proofs.Common.{◌≡◌, ◌≢◌, ℕ, List, refl, ap, ◌∙◌, subst, arith, ◌⊎◌, inl, inr}
+use Rattle.std.proofs.Common.{◌≡◌, ◌≢◌, ℕ, List, refl, sym, ap, ◌∙◌, subst, arith, ◌⊎◌, inl, inr}
 use Rattle.std.specs.declared.option.Option.TheVariants.{Some}
 use Rattle.std.specs.declared.result.Result.{Result}
 use Rattle.std.specs.declared.result.Result.TheVariants.{Ok, Err}
@@ -10,19 +10,19 @@ use Rattle.archive_core.specs.Content.{Operations, IsContent, IsBelow, joined}
 use Rattle.archive_core.proofs.Joined.{joined as is_join}
 use Rattle.archive_core.specs.Summary.{Entries}
 use Rattle.archive_records.specs.Entry.{AreEntries}
-use Rattle.archive_records.specs.Text.{written, summary_text}
+use Rattle.archive_records.specs.Text.{IsArchiveOf, summary_text}
 use Rattle.archive_records.specs.Fault.{IsFault, IsSummaryFault, IsOfText}
 use Rattle.archive_records.specs.Reading.{IsOfMachine}
 use Rattle.archive_records.specs.declared.fault.RecordFault.{RecordFault}
 use Rattle.archive_records.specs.declared.fault.RecordFaultKind.TheVariants.{Device, OutOfMemory}
-use Rattle.archive_exchange.specs.Keeping.{Keeping, Says, IsArchiveText, IsBetween, Names, IsSummaryText, HasJoinedInPart}
+use Rattle.archive_exchange.specs.Keeping.{Keeping, Gives, IsArchiveText, IsBetween, Names, IsSummaryText, HasJoinedInPart}
 
 never : FailedIn 0 0 → ⊥
 never f = absurd cc
 
 -- why bytes in memory are refused
 pub refused_text : (rest text : List ℕ) (fault : RecordFault) → Some rest ≡ Some text → (fault.kind ≡ Device → FailedIn 0 0) → fault.kind ≢ OutOfMemory
-    → (IsOfText fault.kind → IsFault rest fault) → ((m : Operations) → IsContent m → rest ≡ written m → IsOfMachine fault.kind)
+    → (IsOfText fault.kind → IsFault rest fault) → ((m : Operations) → IsContent m → IsArchiveOf m rest → IsOfMachine fault.kind)
     → IsFault text fault × IsOfText fault.kind × (IsArchiveText text → ⊥)
 refused_text rest text fault is device memory faulty machine =
     let same : rest ≡ text = cc in
@@ -30,7 +30,7 @@ refused_text rest text fault is device memory faulty machine =
     let P : List ℕ → Type 0 = λ t. IsFault t fault in (
       subst P same (faulty of_text),
       of_text,
-      λ says. elim (machine says.0 says.1.content (same ∙ says.1.is)) [
+      λ gives. elim (machine gives.0 gives.1.content (subst (λ (t : List ℕ). IsArchiveOf gives.0 t) (sym same) gives.1.is)) [
         | inl e ↦ never (device e)
         | inr e ↦ memory e
       ],
@@ -63,8 +63,8 @@ on_err P (Err e) p = p
 pub between_by : (o p mid : Operations) → IsContent o → IsContent p → IsTowards IsContent IsBelow o p mid → IsBetween o mid (joined o p)
 between_by o p mid a b way = record { content = way.content; above_old = way.above_old; below_new = way.below_join (joined o p) (is_join o p (joined o p) a b refl) }
 
-pub towards_by : (text : List ℕ) (old : Keeping) (held : Operations) (saved : List ℕ) (new o : Operations) → record { held = held; saved = saved } ≡ old → IsContent held → Says text o → IsTowards IsContent IsBelow held o new
+pub towards_by : (text : List ℕ) (old : Keeping) (held : Operations) (saved : List ℕ) (new o : Operations) → record { held = held; saved = saved } ≡ old → IsContent held → Gives text o → IsTowards IsContent IsBelow held o new
     → (record { held = new; saved = saved } ≡ old) ⊎ HasJoinedInPart text old (record { held = new; saved = saved })
-towards_by text old held saved new o e is says towards =
+towards_by text old held saved new o e is gives towards =
     let P : Keeping → Type 0 = λ k. IsBetween k.held new (joined k.held o) in
-    inr (record { message = o; says = says; held = subst P e (between_by held o new is says.content towards); saved = ap (λ (k : Keeping). k.saved) e })
+    inr (record { message = o; gives = gives; held = subst P e (between_by held o new is gives.content towards); saved = ap (λ (k : Keeping). k.saved) e })

@@ -6,7 +6,7 @@ use Rattle.std.specs.FinSet as set
 use Rattle.std.specs.Coded.{Coded, code_by, coded×, coded_list, coded_ℕ}
 use Rattle.archive_core.specs.Content.{Operations, IsContent, IsBelow, joined}
 use Rattle.archive_records.specs.Entry.{AreEntries}
-use Rattle.archive_records.specs.Text.{written, summary_text}
+use Rattle.archive_records.specs.Text.{written, IsArchiveOf, summary_text}
 use Rattle.archive_records.specs.Fault.{IsFault, IsSummaryFault, IsOfText}
 use Rattle.archive_core.specs.Summary.{Entries, delta}
 use Rattle.archive_exchange.specs.declared.fault.DeliverFault.{DeliverFault}
@@ -25,19 +25,24 @@ keeping_code =
     code_by (set.FinSet (slice_cmp nat_cmp) × List ℕ) (coded× (set.code (coded_list coded_ℕ)) (coded_list coded_ℕ))
     (λ k. (k.held, k.saved)) (λ p. record { held = p.0; saved = p.1 }) (λ _. refl)
 
--- the text is that of this content; laws of texts say that it is that of no other
+-- the text is the one that is written of this content; laws of texts say that it is that of no other
 pub record Says (text : List ℕ) (o : Operations) : Type 0 where
   pub content : IsContent o
   pub is : text ≡ written o
 
--- the text is that of a content
-abbrev pub IsArchiveText : List ℕ → Type 0
-IsArchiveText text = (o : Operations) × Says text o
+-- the text gives this content, and laws of texts say that it gives no other: it is written of it, or of version 1
+pub record Gives (text : List ℕ) (o : Operations) : Type 0 where
+  pub content : IsContent o
+  pub is : IsArchiveOf o text
 
--- a site is whole: it holds a content, and the bytes that it saved are the text of one
+-- the text is an archive's
+abbrev pub IsArchiveText : List ℕ → Type 0
+IsArchiveText text = (o : Operations) × Gives text o
+
+-- a site is whole: it holds a content, and the bytes that it saved are the text that is written of one
 pub record IsWhole (site : Keeping) : Type 0 where
   pub held : IsContent site.held
-  pub saved : IsArchiveText site.saved
+  pub saved : (o : Operations) × Says site.saved o
 
 -- a content on the way from an old one to a new one: above the one, and below the other
 pub record IsBetween (old mid new : Operations) : Type 0 where
@@ -53,7 +58,7 @@ IsDeliverFault text OutOfMemory = Unit {0}
 -- the content of the text was joined, and what is saved stayed
 pub record HasJoined (text : List ℕ) (old new : Keeping) : Type 0 where
   pub message : Operations
-  pub says : Says text message
+  pub gives : Gives text message
   pub held : new.held ≡ joined old.held message
   pub saved : new.saved ≡ old.saved
 
@@ -61,7 +66,7 @@ pub record HasJoined (text : List ℕ) (old new : Keeping) : Type 0 where
 -- saved stayed
 pub record HasJoinedInPart (text : List ℕ) (old new : Keeping) : Type 0 where
   pub message : Operations
-  pub says : Says text message
+  pub gives : Gives text message
   pub held : IsBetween old.held new.held (joined old.held message)
   pub saved : new.saved ≡ old.saved
 

@@ -7,7 +7,7 @@ ghost use Rattle.archive_core.specs.Summary.{Entries, summary, delta};
 ghost use Rattle.archive_records.specs.Text.{written, summary_text};
 ghost use Rattle.archive_exchange.specs.File.{IsAcceptedFile, IsTakeFault, admissible, parts};
 ghost use Rattle.archive_exchange.specs.Take.{admitted, taken_rows, HoldsFirstParts};
-ghost use Rattle.archive_exchange.specs.Keeping.{Says, IsWhole, IsBetween};
+ghost use Rattle.archive_exchange.specs.Keeping.{Says, Gives, IsWhole, IsBetween};
 ghost use Rattle.archive_exchange.specs.Keeping.{IsDeliverFault, HasJoined, HasJoinedInPart};
 ghost use Rattle.archive_exchange.specs.Keeping.{Names, RepliesTo, IsReplyFault};
 
@@ -34,7 +34,7 @@ fn archive_text<A: Archive>(heap: Heap, archive: &A) -> Result<Vec<u8, Heap>, No
 
 /// The archive of a text.
 fn archive_in<A: Archive + Drop>(heap: Heap, text: &[u8]) -> Result<A, DeliverFault>
-    ensures says { IfOk result (λ archive. Says text.now (A.content archive)) }
+    ensures gives { IfOk result (λ archive. Gives text.now (A.content archive)) }
     ensures refused { IfErr result (IsDeliverFault text.now) }
 {
     let mut input = Bytes::new(text);

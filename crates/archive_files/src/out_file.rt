@@ -32,8 +32,9 @@ enum OutState<T> {
 }
 
 impl<'a, F: Files> OutFile<'a, F> {
-    /// The file at this path, which no byte was given to.
-    pub fn new(files: &'a F, path: &'a str) -> Self
+    /// The file at this path, which no byte was given to. Where it is the same regular file as one of the inputs it is
+    /// not created, since that input would be lost with OUT's first byte.
+    pub fn new(files: &'a F, path: &'a str, inputs: &[&str]) -> Self
         ensures untouched { is_untouched result.state ≡ true }
         ensures failures { result.failures ≡ 0 }
     {
@@ -41,32 +42,8 @@ impl<'a, F: Files> OutFile<'a, F> {
             files,
             path,
             state: OutState::Untouched,
-            is_input: false,
+            is_input: inputs.iter().any(|input| is_same_file(files, path, input)),
             failures: 0,
-        }
-    }
-
-    /// Spares the file of this path, an input: where OUT names the same regular file it is not created, since the input
-    /// would be lost with OUT's first byte.
-    pub fn spare(&mut self, input: &str)
-        ensures kept { self.new.state ≡ self.old.state }
-        ensures count { self.new.failures ≡ self.old.failures }
-        ensures spared { self.old.is_input ≡ true → self.new.is_input ≡ true }
-    {
-        if is_same_file(self.files, self.path, input) {
-            self.is_input = true;
-        }
-    }
-
-    /// Spares the files of these paths.
-    pub fn spare_all(&mut self, inputs: &[String])
-        ensures kept { self.new.state ≡ self.old.state }
-        ensures count { self.new.failures ≡ self.old.failures }
-        ensures spared { self.old.is_input ≡ true → self.new.is_input ≡ true }
-    {
-        let (files, path) = (self.files, self.path);
-        if inputs.iter().any(|input| is_same_file(files, path, input)) {
-            self.is_input = true;
         }
     }
 

@@ -15,8 +15,8 @@ use Rattle.archive_records.proofs.Holds.{next_from_test}
 use Rattle.archive_records.specs.declared.buffer.Buffer.{Buffer}
 use Rattle.archive_records.specs.Reader.{bytes_so_far, seen_as, Over}
 use Rattle.archive_records.proofs.Laid.{cmp_parts, length-bytes_so_far}
-use Rattle.archive_records.specs.declared.kind.TextKind.{TextKind}
-use Rattle.archive_records.specs.declared.kind.TextKind.TheVariants.{Archive, Operations, Summary}
+use Rattle.archive_records.specs.declared.format.Format.{Format}
+use Rattle.archive_records.specs.declared.format.Format.TheVariants.{Archive, OldArchive, Operations, Summary}
 
 not_less : (o : Ordering) (xs : List ℕ) → is_lt (ordering_then o (slice_cmp nat_cmp xs [])) ≡ is_lt o
 not_less Less xs = refl
@@ -24,13 +24,14 @@ not_less Equal [] = refl
 not_less Equal (x ∷ xs) = refl
 not_less Greater xs = refl
 
-not_after : (file : TextKind) (o : Ordering) (xs : List ℕ) → allows file (ordering_then o (slice_cmp nat_cmp xs [])) ≡ allows file o
+not_after : (file : Format) (o : Ordering) (xs : List ℕ) → allows file (ordering_then o (slice_cmp nat_cmp xs [])) ≡ allows file o
 unfolding allows
 not_after Archive o xs = not_less o xs
+not_after OldArchive o xs = not_less o xs
 not_after Operations o xs = refl
 not_after Summary o xs = not_less o xs
 
-module _ (file : TextKind) where
+module _ (file : Format) where
   -- What is left of the last record changes nothing.
   pub allowed_is : (last : List ℕ) (b : Buffer) → b.at ≤ length b.bytes.items → Over last b → allows file b.order ≡ may_follow file last (bytes_so_far b)
   unfolding may_follow

@@ -10,11 +10,11 @@ use Rattle.std.specs.FinSet.{contains, contains-from_list, contains-empty, from_
 use Rattle.archive_core.specs.Content.{Operations, IsContent, IsMade, is_admission, key_and_digest, covering, is_covered, made, with_record}
 use Rattle.archive_core.proofs.Made.{made_of_uncovered, uncovered_of_made, made_part}
 use Rattle.join_core.specs.Listing.{listing}
-use Rattle.archive_records.specs.declared.kind.TextKind.{TextKind}
-use Rattle.archive_records.specs.declared.kind.TextKind.TheVariants.{Archive, Operations as Operations_file, Summary as Summary_file}
+use Rattle.archive_records.specs.declared.format.Format.{Format}
+use Rattle.archive_records.specs.declared.format.Format.TheVariants.{Archive, OldArchive, Operations as Operations_file, Summary as Summary_file}
 use Rattle.archive_records.specs.Kind.{may_follow}
 use Rattle.archive_records.specs.Text.{InOrder, AreApart, last_of}
-use Rattle.archive_records.specs.Reader.{set_of, RetireAlike, KeepsIn, AreRetired}
+use Rattle.archive_records.specs.Reader.{set_of, RetireAlike, Keeps, KeepsIn, AreRetired, DropsLast}
 use Rattle.archive_records.proofs.Puts.{bytes_same}
 use Rattle.archive_records.proofs.Ascending.{below-less, below-trans, up_to_last}
 use Rattle.archive_records.proofs.Contents.{order, contained, containing, content_is}
@@ -49,16 +49,18 @@ one_test false false f g = refl
 
 -- ---- fronts
 
-pub apart_front : (file : TextKind) (xs more : List (List ℕ)) → AreApart file (xs ++ more) → AreApart file xs
+pub apart_front : (file : Format) (xs more : List (List ℕ)) → AreApart file (xs ++ more) → AreApart file xs
 apart_front Archive xs more is = made_part (set_of xs) (set_of (xs ++ more)) is (λ r h. in_set (xs ++ more) r (Contains-append_left xs more r (from_set xs r h)))
+apart_front OldArchive xs more is = tt
 apart_front Operations_file xs more is = tt
 apart_front Summary_file xs more is = tt
 
-pub apart_part : (file : TextKind) (ys xs : List (List ℕ)) (x : List ℕ) (more : List (List ℕ)) → ys ≡ xs ++ x ∷ more → AreApart file ys → AreApart file (xs ++ x ∷ [])
+pub apart_part : (file : Format) (ys xs : List (List ℕ)) (x : List ℕ) (more : List (List ℕ)) → ys ≡ xs ++ x ∷ more → AreApart file ys → AreApart file (xs ++ x ∷ [])
 apart_part file ys xs x more e is = apart_front file (xs ++ x ∷ []) more (subst (AreApart file) (e ∙ sym (append_assoc xs (x ∷ []) more)) is)
 
-pub apart_none : (file : TextKind) → AreApart file []
+pub apart_none : (file : Format) → AreApart file []
 apart_none Archive = made_of_uncovered (set_of []) (λ r h. absurd (false≢true (sym (contains-empty order r) ∙ h)))
+apart_none OldArchive = tt
 apart_none Operations_file = tt
 apart_none Summary_file = tt
 
@@ -105,15 +107,23 @@ same_as = eq_by_cmp order
 pub contains-push : (xs : List (List ℕ)) (x q : List ℕ) → contains (set_of (xs ++ x ∷ [])) q ≡ (same_as q x || contains (set_of xs) q)
 contains-push xs x q = ap (λ (s : Operations). contains s q) (from_list_push nat_list_cmp_total bytes_same xs x) ∙ contains-insert nat_list_cmp_total (set_of xs) x q
 
--- they grow with the records
-pub retired_more : (file : TextKind) (old new records : List (List ℕ)) (x : List ℕ) → AreRetired file old records → KeepsIn file old new x → AreRetired file new (records ++ x ∷ [])
-retired_more Archive old new records x are k = λ r.
-    k.alike r ∙ contains-insert nat_list_cmp_total (set_of old) x (1 ∷ r) ∙ ap (λ b. same_as (1 ∷ r) x || b) (are r) ∙ sym (contains-push records x (1 ∷ r))
-retired_more Operations_file old new records x are k = tt
-retired_more Summary_file old new records x are k = tt
+pub last_of-push : (low : List ℕ) (xs : List (List ℕ)) (x : List ℕ) → last_of low (xs ++ x ∷ []) ≡ x
+last_of-push low [] x = refl
+last_of-push low (y ∷ ys) x = last_of-push y ys x
 
-pub retired_none : (file : TextKind) (retired : List (List ℕ)) → retired ≡ [] → AreRetired file retired []
+retired_with : (old new records : List (List ℕ)) (dropped : Bool) (x : List ℕ) → RetireAlike (set_of old) (set_of records) → Keeps old new dropped x → RetireAlike (set_of new) (set_of (records ++ x ∷ []))
+retired_with old new records dropped x are k r = k.alike r ∙ contains-insert nat_list_cmp_total (set_of old) x (1 ∷ r) ∙ ap (λ b. same_as (1 ∷ r) x || b) (are r) ∙ sym (contains-push records x (1 ∷ r))
+
+-- they grow with the records
+pub retired_more : (file : Format) (old new records : List (List ℕ)) (dropped : Bool) (x : List ℕ) → AreRetired file old records → KeepsIn file old new dropped x → AreRetired file new (records ++ x ∷ [])
+retired_more Archive old new records dropped x are k = λ r. retired_with old new records dropped x are k.0 r
+retired_more OldArchive old new records dropped x are k = λ r. retired_with old new records dropped x are k r
+retired_more Operations_file old new records dropped x are k = tt
+retired_more Summary_file old new records dropped x are k = tt
+
+pub retired_none : (file : Format) (retired : List (List ℕ)) → retired ≡ [] → AreRetired file retired []
 retired_none Archive retired e = λ r. ap (λ (t : List (List ℕ)). contains (set_of t) (1 ∷ r)) e
+retired_none OldArchive retired e = λ r. ap (λ (t : List (List ℕ)). contains (set_of t) (1 ∷ r)) e
 retired_none Operations_file retired e = tt
 retired_none Summary_file retired e = tt
 
@@ -121,10 +131,34 @@ retired_none Summary_file retired e = tt
 pub covered_alike : (o p : Operations) (x : List ℕ) → RetireAlike o p → is_covered o x ≡ is_covered p x
 covered_alike o p x alike = ap (λ b. is_admission x && b) (alike (key_and_digest x))
 
-pub apart_more : (file : TextKind) (old new records : List (List ℕ)) (x : List ℕ) → InOrder file [] records → may_follow file (last_of [] records) x ≡ true → AreApart file records → AreRetired file old records → KeepsIn file old new x → AreApart file (records ++ x ∷ [])
-apart_more Archive old new records x a b is are k = push_apart records x a b is (sym (covered_alike (set_of old) (set_of records) x are) ∙ k.uncovered)
-apart_more Operations_file old new records x a b is are k = tt
-apart_more Summary_file old new records x a b is are k = tt
+pub apart_more : (file : Format) (old new records : List (List ℕ)) (dropped : Bool) (x : List ℕ) → InOrder file [] records → may_follow file (last_of [] records) x ≡ true → AreApart file records → AreRetired file old records → KeepsIn file old new dropped x → AreApart file (records ++ x ∷ [])
+apart_more Archive old new records dropped x a b is are k = push_apart records x a b is (sym (covered_alike (set_of old) (set_of records) x are) ∙ k.0.tells ∙ k.1)
+apart_more OldArchive old new records dropped x a b is are k = tt
+apart_more Operations_file old new records dropped x a b is are k = tt
+apart_more Summary_file old new records dropped x a b is are k = tt
+
+-- a record is not covered by itself
+pub covered_push : (xs : List (List ℕ)) (x : List ℕ) → is_covered (set_of (xs ++ x ∷ [])) x ≡ is_covered (set_of xs) x
+covered_push xs x = one_test (is_covered (set_of (xs ++ x ∷ [])) x) (is_covered (set_of xs) x) (λ c. both_true (is_admission x) (contains (set_of xs) (covering x)) (and_first _ _ c) (elim (Contains-push_cases xs x (covering x) (from_set (xs ++ x ∷ []) (covering x) (and_second _ _ c))) [
+  | inl k ↦ in_set xs (covering x) k
+  | inr e ↦ absurd (not_covering x (key_and_digest x) (and_first _ _ c) e)
+])) (λ c. both_true (is_admission x) (contains (set_of (xs ++ x ∷ [])) (covering x)) (and_first _ _ c) (in_set (xs ++ x ∷ []) (covering x) (Contains-append_left xs (x ∷ []) (covering x) (from_set xs (covering x) (and_second _ _ c)))))
+
+-- what tells whether one record more is covered tells it of the last one
+drops_with : (old new records : List (List ℕ)) (dropped : Bool) (x : List ℕ) → RetireAlike (set_of old) (set_of records) → Keeps old new dropped x → dropped ≡ is_covered (set_of (records ++ x ∷ [])) (last_of [] (records ++ x ∷ []))
+drops_with old new records dropped x are k = sym k.tells ∙ covered_alike (set_of old) (set_of records) x are ∙ sym (covered_push records x) ∙ ap (λ (r : List ℕ). is_covered (set_of (records ++ x ∷ [])) r) (sym (last_of-push [] records x))
+
+pub drops_more : (file : Format) (old new records : List (List ℕ)) (dropped : Bool) (x : List ℕ) → AreRetired file old records → KeepsIn file old new dropped x → DropsLast file dropped (records ++ x ∷ [])
+drops_more Archive old new records dropped x are k = drops_with old new records dropped x are k.0
+drops_more OldArchive old new records dropped x are k = drops_with old new records dropped x are k
+drops_more Operations_file old new records dropped x are k = k
+drops_more Summary_file old new records dropped x are k = k
+
+pub drops_none : (file : Format) (dropped : Bool) → dropped ≡ false → DropsLast file dropped []
+drops_none Archive dropped e = e
+drops_none OldArchive dropped e = e
+drops_none Operations_file dropped e = e
+drops_none Summary_file dropped e = e
 
 -- ---- the content of the records, with one more
 

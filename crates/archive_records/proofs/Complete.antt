@@ -18,12 +18,15 @@ use Rattle.archive_records.specs.declared.fault.RecordFaultKind.{RecordFaultKind
 use Rattle.archive_records.specs.declared.fault.RecordFaultKind.TheVariants.{BadMagic, Truncated, BadSlice, KeyMismatch, Trailing, Covered}
 use Rattle.archive_records.specs.declared.fault.RecordFault.{RecordFault}
 use Rattle.archive_records.specs.Layout.{head_length, body_length, slice_length, framed}
-use Rattle.archive_records.specs.Kind.{magic_of, IsItem}
-use Rattle.archive_records.specs.Text.{ending, text_of, IsWritten, InOrder, AreApart, last_of, IsOperationsText, IsSummaryText}
+use Rattle.archive_records.specs.Kind.{magic_of, kind_of, archive_format, IsItem}
+use Rattle.archive_records.specs.Text.{ending, text_of, IsArchiveOf, taken_of, InOrder, AreApart, last_of, IsOperationsText, IsSummaryText}
 use Rattle.archive_records.specs.Fault.{is_end, next, FailsNext, FailsBehind, Fails, RefusesSlice, Refuses, IsTrailing, IsUnended, IsFault, IsOperationsFault, IsSummaryFault, IsFaultOf}
 use Rattle.archive_records.specs.Front.{front_length}
 use Rattle.archive_core.specs.Content.{is_covered}
+use Rattle.archive_records.proofs.Formats.{kind_archive}
+use Rattle.archive_records.proofs.Versions.{Formed, formed_content, formed_text}
 use Rattle.archive_records.proofs.Apart.{apart_none, push_apart}
+use Rattle.archive_records.specs.declared.kind.TextKind.TheVariants.{Archive as Archive_text}
 use Rattle.archive_records.proofs.Framed.{same_body, framed-whole}
 use Rattle.archive_records.proofs.Holds.{holds, Holds-nine, Holds-end, next-framed, next-above, next-counts, done, whole-admission}
 use Rattle.archive_records.proofs.SliceFacts.{slice_or_fault}
@@ -33,11 +36,11 @@ use Rattle.archive_records.proofs.Puts.{concat-push}
 use Rattle.archive_records.proofs.Longest.{Takes, is_end-grows}
 use Rattle.archive_records.proofs.Steps.{InOrder-push}
 use Rattle.archive_records.proofs.Ends.{is_three, ending_is}
-use Rattle.archive_records.proofs.Exact.{length-magic}
+use Rattle.archive_records.proofs.Formats.{length-magic}
 use Rattle.archive_records.proofs.Listed.{operations_in, IsOperationsText-text}
-use Rattle.archive_records.proofs.Contents.{order, same_bytes, IsContent-records, written-records, text_written, AreEntries-entries, text_of_summary, summary_text-entries}
-use Rattle.archive_records.specs.declared.kind.TextKind.{TextKind}
-use Rattle.archive_records.specs.declared.kind.TextKind.TheVariants.{Archive, Operations as Operations_file, Summary as Summary_file}
+use Rattle.archive_records.proofs.Contents.{order, same_bytes, AreEntries-entries, text_of_summary, summary_text-entries}
+use Rattle.archive_records.specs.declared.format.Format.{Format}
+use Rattle.archive_records.specs.declared.format.Format.TheVariants.{Archive, OldArchive, Operations as Operations_file, Summary as Summary_file}
 
 -- two byte strings are the same, or not
 pub same_or_not : (a b : List ℕ) → (a ≡ b) ⊎ (a ≢ b)
@@ -73,27 +76,30 @@ record_or_refused bytes whole no_end fits =
         ]
 
 -- and so of each kind of file
-item_or_refused : (file : TextKind) (bytes : List ℕ) → framed file bytes ≡ Ok (length bytes) → is_end bytes ≡ false → IsBytes bytes → IsItem file bytes ⊎ ((kind : RecordFaultKind) × Refuses file bytes kind)
+item_or_refused : (file : Format) (bytes : List ℕ) → framed file bytes ≡ Ok (length bytes) → is_end bytes ≡ false → IsBytes bytes → IsItem file bytes ⊎ ((kind : RecordFaultKind) × Refuses file bytes kind)
 item_or_refused Archive bytes whole no_end fits = record_or_refused bytes whole no_end fits
+item_or_refused OldArchive bytes whole no_end fits = record_or_refused bytes (archive_framed OldArchive (inr (inl refl)) bytes whole no_end) no_end fits
 item_or_refused Summary_file bytes whole no_end fits = inl (entry-of bytes whole no_end)
-item_or_refused Operations_file bytes whole no_end fits = record_or_refused bytes (archive_framed Operations_file (inr refl) bytes whole no_end) no_end fits
+item_or_refused Operations_file bytes whole no_end fits = record_or_refused bytes (archive_framed Operations_file (inr (inr refl)) bytes whole no_end) no_end fits
 
-ended_or_not : (file : TextKind) (rest : List ℕ) (count : ℕ) → IsUnended file rest ⊎ (rest ≡ ending file count)
+ended_or_not : (file : Format) (rest : List ℕ) (count : ℕ) → IsUnended file rest ⊎ (rest ≡ ending file count)
 ended_or_not Archive rest count = inl tt
+ended_or_not OldArchive rest count = inl tt
 ended_or_not Summary_file rest count = inl tt
 ended_or_not Operations_file [] count = inr refl
 ended_or_not Operations_file (x ∷ rest) count = inl (λ e. cc)
 
 -- a record that may follow is covered by none of those before, or refused for one that covers it
-apart_or_not : (file : TextKind) (records : List (List ℕ)) (rest : List ℕ) → InOrder file [] records → AreApart file records → (k : Takes file (last_of [] records) rest) → AreApart file (records ++ k.item ∷ []) ⊎ FailsBehind file records rest Covered
+apart_or_not : (file : Format) (records : List (List ℕ)) (rest : List ℕ) → InOrder file [] records → AreApart file records → (k : Takes file (last_of [] records) rest) → AreApart file (records ++ k.item ∷ []) ⊎ FailsBehind file records rest Covered
 apart_or_not Archive records rest a is k = elim (cases_Bool (is_covered (set.from_list records) k.item)) [
   | inl covered ↦ inr (refl, record { item = k.item; more = k.more; whole = k.whole; is = k.is; above = k.above; covered = covered })
   | inr free ↦ inl (push_apart records k.item a k.above is free)
 ]
+apart_or_not OldArchive records rest a is k = inl tt
 apart_or_not Operations_file records rest a is k = inl tt
 apart_or_not Summary_file records rest a is k = inl tt
 
-module _ (file : TextKind) where
+module _ (file : Format) where
   -- a whole record in front of bytes is whole alone
   framed-cut : (rest : List ℕ) (n : ℕ) → framed file rest ≡ Ok n → framed file (take n rest) ≡ Ok (length (take n rest))
   framed-cut rest n e =
@@ -224,12 +230,14 @@ module _ (file : TextKind) where
     ]
   ]
 
-content_known : (t : List ℕ) → Known Archive t → ((o : Operations) × IsContent o × IsWritten o t) ⊎ ((fault : RecordFault) × IsFault t fault)
-content_known t (inl k) = inl (set.from_list k.0, IsContent-records k.0 k.1 k.2, text_written (set.from_list k.0) t (k.3 ∙ sym (written-records k.0 k.1)))
-content_known t (inr f) = inr f
+content_known : (file : Format) → kind_of file ≡ Archive_text → (t : List ℕ) → Known file t → ((o : Operations) × IsContent o × IsArchiveOf o t) ⊎ ((fault : RecordFault) × IsFaultOf file t fault)
+content_known file is t (inl k) =
+    let form : Formed (set.from_list (taken_of file k.0)) t = record { format = file; archive = is; records = k.0; ordered = k.1; apart = k.2; whole = k.3; content = refl } in
+    inl (set.from_list (taken_of file k.0), formed_content (set.from_list (taken_of file k.0)) t form, formed_text (set.from_list (taken_of file k.0)) t form)
+content_known file is t (inr f) = inr f
 
-pub content_or_fault : (t : List ℕ) → IsBytes t → ((o : Operations) × IsContent o × IsWritten o t) ⊎ ((fault : RecordFault) × IsFault t fault)
-content_or_fault t fits = content_known t (text_or_fault Archive t fits)
+pub content_or_fault : (t : List ℕ) → IsBytes t → ((o : Operations) × IsContent o × IsArchiveOf o t) ⊎ ((fault : RecordFault) × IsFault t fault)
+content_or_fault t fits = content_known (archive_format t) (kind_archive t) t (text_or_fault (archive_format t) t fits)
 
 operations_known : (t : List ℕ) → Known Operations_file t → ((operations : List Operation) × IsOperationsText t operations) ⊎ ((fault : RecordFault) × IsOperationsFault t fault)
 operations_known t (inl k) = let listed = operations_in [] k.0 k.1 in inl (listed.0, IsOperationsText-text t listed.0 listed.1 (k.3 ∙ ap (text_of Operations_file) (sym listed.2)))

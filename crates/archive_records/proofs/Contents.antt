@@ -22,8 +22,8 @@ use Rattle.archive_records.specs.Text.{end_record, text_of, IsWritten, written, 
 use Rattle.archive_records.proofs.Holds.{holds}
 use Rattle.archive_records.proofs.Forms.{item-framed}
 use Rattle.archive_records.proofs.Puts.{bytes_same, length_written}
-use Rattle.archive_records.specs.declared.kind.TextKind.{TextKind}
-use Rattle.archive_records.specs.declared.kind.TextKind.TheVariants.{Archive, Summary}
+use Rattle.archive_records.specs.declared.format.Format.{Format}
+use Rattle.archive_records.specs.declared.format.Format.TheVariants.{Archive, Summary}
 
 abbrev pub order : List ℕ → List ℕ → Ordering
 order = slice_cmp nat_cmp
@@ -58,7 +58,7 @@ along P (x ∷ xs) h = (
 )
 
 -- a file whose items ascend
-module _ (file : TextKind) (ascends : (o : Ordering) → allows file o ≡ is_lt o) where
+module _ (file : Format) (ascends : (o : Ordering) → allows file o ≡ is_lt o) where
   below_is : (a b : List ℕ) → may_follow file a b ≡ true → order a b ≡ Less
   unfolding may_follow
   below_is a b e = less_is (order a b) (sym (ascends (order a b)) ∙ e)

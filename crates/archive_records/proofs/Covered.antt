@@ -1,24 +1,27 @@
 -- What of ascending records is written: those that no retirement among them covers.
-use Rattle.std.proofs.Common.{◌≡◌, ◌≢◌, ℕ, ◌≤◌, Bool, true, false, cond, not, ◌&&◌, ◌||◌, List, [], ◌∷◌, ◌++◌, length, Option, refl, sym, ap, ◌∙◌, subst, arith, inl, inr}
+use Rattle.std.proofs.Common.{◌≡◌, ◌≢◌, ℕ, ◌≤◌, Bool, true, false, cond, not, ◌&&◌, ◌||◌, List, [], ◌∷◌, ◌++◌, length, Option, refl, sym, ap, ◌∙◌, subst, arith, inl, inr, ◌⊎◌}
 use Rattle.std.proofs.lemmas.Bool.{false≢true, cases_Bool}
 use Rattle.std.proofs.lemmas.List.{append-nil}
-use Rattle.std.proofs.lemmas.List.Elements.{Contains-append_left, Contains-append_cases, Contains-push_cases, filter-append}
+use Rattle.std.proofs.lemmas.List.Elements.{Contains-append_left, Contains-append_cases, filter-append}
 use Rattle.std.specs.List.{Contains, filter}
 use Rattle.std.specs.FinSet.{contains}
 use Rattle.archive_core.specs.Content.{is_admission, key_and_digest, covering, is_covered}
 use Rattle.archive_core.specs.Record.{IsRecord}
-use Rattle.archive_records.specs.declared.kind.TextKind.TheVariants.{Archive}
+use Rattle.archive_records.specs.declared.format.Format.{Format}
+use Rattle.archive_records.specs.declared.format.Format.TheVariants.{Archive, OldArchive, Operations as Operations_file, Summary as Summary_file}
+use Rattle.archive_records.specs.declared.kind.TextKind.TheVariants.{Archive as Archive_text}
 use Rattle.archive_records.specs.declared.side.Ahead.{Ahead}
 use Rattle.archive_records.specs.declared.side.Ahead.TheVariants.{Unread, Held, Ended}
 use Rattle.archive_records.specs.declared.side.Side.{Side}
-use Rattle.archive_records.specs.Kind.{may_follow}
-use Rattle.archive_records.specs.Text.{InOrder, AreApart, last_of}
-use Rattle.archive_records.specs.Reader.{set_of}
-use Rattle.archive_records.specs.Turns.{Stands, Joins, kept}
+use Rattle.archive_records.specs.Kind.{kind_of, may_follow}
+use Rattle.archive_records.specs.Text.{InOrder, last_of, kept}
+use Rattle.archive_records.specs.Reader.{set_of, RetireAlike, AreRetired, DropsLast}
+use Rattle.archive_records.specs.Turns.{Stands, Joins}
 use Rattle.archive_records.proofs.Forms.{long-retirement, long-admission}
-use Rattle.archive_records.proofs.Apart.{in_set, from_set, and_first, and_second, both_true, is_false, one_test, covered_apart, covering_below, not_covering, contains-push, same_as}
+use Rattle.archive_records.proofs.Apart.{in_set, from_set, and_first, and_second, both_true, is_false, one_test, covering_below, contains-push, covered_push, same_as}
 use Rattle.archive_records.proofs.Contents.{same_bytes}
-use Rattle.archive_records.proofs.Ascending.{below-trans, below-self, all_above, up_to_last, InOrder-behind, InOrder-front, here, later}
+use Rattle.archive_records.proofs.Ascending.{below-trans, below-self, all_above, up_to_last, InOrder-behind, InOrder-front, last_of-append, here, later}
+use Rattle.archive_records.proofs.Formats.{no_operations_text, no_summary_text}
 
 -- ---- filters
 
@@ -87,45 +90,64 @@ pub long_record : (x : List ℕ) → IsRecord x → 33 ≤ length x
 long_record x (inl a) = long-admission x a
 long_record x (inr t) = omega (arith, long-retirement x t)
 
--- no record covers itself
-pub covered_self : (out : List (List ℕ)) (x : List ℕ) → is_covered (set_of (out ++ x ∷ [])) x ≡ is_covered (set_of out) x
-covered_self out x = one_test (is_covered (set_of (out ++ x ∷ [])) x) (is_covered (set_of out) x)
-    (λ h. both_true (is_admission x) _ (and_first _ _ h) (elim (Contains-push_cases out x (covering x) (from_set (out ++ x ∷ []) (covering x) (and_second _ _ h))) [
-      | inl d ↦ in_set out (covering x) d
-      | inr e ↦ absurd (not_covering x (key_and_digest x) (and_first _ _ h) e)
-    ]))
-    (λ h. both_true (is_admission x) _ (and_first _ _ h) (in_set (out ++ x ∷ []) (covering x) (Contains-append_left out (x ∷ []) (covering x) (from_set out (covering x) (and_second _ _ h)))))
-
 not_same : (q y : List ℕ) → (y ≡ q → ⊥) → same_as q y ≡ false
 not_same q y other = is_false (same_as q y) (λ h. other (sym (same_bytes q y h)))
+
+-- the retirements of an archive's records, whatever its version
+retired_of : (f : Format) → kind_of f ≡ Archive_text → (retired records : List (List ℕ)) → AreRetired f retired records → RetireAlike (set_of retired) (set_of records)
+retired_of Archive k retired records are = are
+retired_of OldArchive k retired records are = are
+retired_of Operations_file k retired records are = absurd (no_operations_text k)
+retired_of Summary_file k retired records are = absurd (no_summary_text k)
+
+dropped_of : (f : Format) → kind_of f ≡ Archive_text → (dropped : Bool) (records : List (List ℕ)) → DropsLast f dropped records → dropped ≡ is_covered (set_of records) (last_of [] records)
+dropped_of Archive k dropped records is = is
+dropped_of OldArchive k dropped records is = is
+dropped_of Operations_file k dropped records is = absurd (no_operations_text k)
+dropped_of Summary_file k dropped records is = absurd (no_summary_text k)
+
+-- whether its own retirements cover the last record of a side is what its reader tells
+pub dropped_own : (f : Format) → kind_of f ≡ Archive_text → (dropped : Bool) (mine : List (List ℕ)) (x : List ℕ) → DropsLast f dropped (mine ++ x ∷ []) → dropped ≡ is_covered (set_of mine) x
+dropped_own f k dropped mine x d = dropped_of f k dropped (mine ++ x ∷ []) d ∙ ap (λ (r : List ℕ). is_covered (set_of (mine ++ x ∷ [])) r) (last_of-append [] mine (x ∷ [])) ∙ covered_push mine x
 
 -- the retirements that a side has read are those of its records but for one that it holds
 module _ (a b : Option (List ℕ)) (done : List (List ℕ)) (low : List ℕ) (s : Side) (p : Stands a b done low s) (q : List ℕ) where
   retired_by : (h : Ahead) → s.ahead ≡ h → h ≢ Unread → (h ≡ Held → s.reader.last ≡ 1 ∷ q → ⊥) → contains (set_of s.reader.retired) (1 ∷ q) ≡ contains (set_of done) (1 ∷ q)
   retired_by Unread e read other = absurd (read refl)
-  retired_by Held e read other = (p.held e).0.retired_are q ∙ contains-push done s.reader.last (1 ∷ q) ∙ ap (λ b. b || contains (set_of done) (1 ∷ q)) (not_same (1 ∷ q) s.reader.last (other refl))
-  retired_by Ended e read other = (p.ended e).0.retired_are q
+  retired_by Held e read other = retired_of s.reader.file p.archive s.reader.retired (done ++ s.reader.last ∷ []) (p.held e).0.retired_are q ∙ contains-push done s.reader.last (1 ∷ q) ∙ ap (λ b. b || contains (set_of done) (1 ∷ q)) (not_same (1 ∷ q) s.reader.last (other refl))
+  retired_by Ended e read other = retired_of s.reader.file p.archive s.reader.retired done (p.ended e).0.retired_are q
 
   pub retired_is : s.ahead ≢ Unread → (s.ahead ≡ Held → s.reader.last ≡ 1 ∷ q → ⊥) → contains (set_of s.reader.retired) (1 ∷ q) ≡ contains (set_of done) (1 ∷ q)
   retired_is read other = retired_by s.ahead refl read other
 
--- what covers the record that is next is a retirement of the other side
-module _ (out mine others : List (List ℕ)) (x : List ℕ) (j : Joins out mine others) (apart : AreApart Archive (mine ++ x ∷ [])) where
-  by_others : is_covered (set_of out) x ≡ is_covered (set_of others) x
-  by_others = one_test (is_covered (set_of out) x) (is_covered (set_of others) x)
-      (λ h. both_true (is_admission x) _ (and_first _ _ h) (elim (j.from (covering x) (from_set out (covering x) (and_second _ _ h))) [
-        | inl d ↦ absurd (covered_apart mine x apart (both_true (is_admission x) _ (and_first _ _ h) (in_set mine (covering x) d)))
-        | inr d ↦ in_set others (covering x) d
-      ]))
-      (λ h. both_true (is_admission x) _ (and_first _ _ h) (in_set out (covering x) (j.right (covering x) (from_set others (covering x) (and_second _ _ h)))))
+pub or_cases : (a b : Bool) → (a || b) ≡ true → (a ≡ true) ⊎ (b ≡ true)
+or_cases true b e = inl refl
+or_cases false b e = inr e
 
-  -- which it has read, since what it holds is above
-  pub by_other : (a b : Option (List ℕ)) (low : List ℕ) (s : Side) → Stands a b others low s → s.ahead ≢ Unread → (s.ahead ≡ Held → may_follow Archive x s.reader.last ≡ true) → is_covered (set_of (out ++ x ∷ [])) x ≡ is_covered (set_of s.reader.retired) x
-  by_other a b low s p read above = covered_self out x ∙ by_others ∙ sym (elim (cases_Bool (is_admission x)) [
+pub or_left : (a b : Bool) → a ≡ true → (a || b) ≡ true
+or_left a b e = ap (λ (x : Bool). x || b) e
+
+pub or_right : (a b : Bool) → b ≡ true → (a || b) ≡ true
+or_right true b e = refl
+or_right false b e = e
+
+-- what covers the record that is next is a retirement of either side
+module _ (out mine others : List (List ℕ)) (x : List ℕ) (j : Joins out mine others) where
+  pub by_both : is_covered (set_of (out ++ x ∷ [])) x ≡ (is_covered (set_of mine) x || is_covered (set_of others) x)
+  by_both = covered_push out x ∙ one_test (is_covered (set_of out) x) (is_covered (set_of mine) x || is_covered (set_of others) x)
+      (λ h. elim (j.from (covering x) (from_set out (covering x) (and_second _ _ h))) [
+        | inl d ↦ or_left (is_covered (set_of mine) x) (is_covered (set_of others) x) (both_true (is_admission x) _ (and_first _ _ h) (in_set mine (covering x) d))
+        | inr d ↦ or_right (is_covered (set_of mine) x) (is_covered (set_of others) x) (both_true (is_admission x) _ (and_first _ _ h) (in_set others (covering x) d))
+      ])
+      (λ h. elim (or_cases (is_covered (set_of mine) x) (is_covered (set_of others) x) h) [
+        | inl c ↦ both_true (is_admission x) _ (and_first _ _ c) (in_set out (covering x) (j.left (covering x) (from_set mine (covering x) (and_second _ _ c))))
+        | inr c ↦ both_true (is_admission x) _ (and_first _ _ c) (in_set out (covering x) (j.right (covering x) (from_set others (covering x) (and_second _ _ c))))
+      ])
+
+  -- the other side has read its own, since what it holds is above
+  pub by_other : (a b : Option (List ℕ)) (low : List ℕ) (s : Side) → Stands a b others low s → s.ahead ≢ Unread → (s.ahead ≡ Held → may_follow Archive x s.reader.last ≡ true)
+      → is_covered (set_of (out ++ x ∷ [])) x ≡ (is_covered (set_of mine) x || is_covered (set_of s.reader.retired) x)
+  by_other a b low s p read above = by_both ∙ ap (λ c. is_covered (set_of mine) x || c) (sym (elim (cases_Bool (is_admission x)) [
     | inl t ↦ ap (λ c. is_admission x && c) (retired_is a b others low s p (key_and_digest x) read (λ held e. false≢true (sym (below-self x) ∙ below-trans x (covering x) x (subst (λ (y : List ℕ). may_follow Archive x y ≡ true) e (above held)) (covering_below x t))))
     | inr f ↦ ap (λ c. c && contains (set_of s.reader.retired) (covering x)) f ∙ sym (ap (λ c. c && contains (set_of others) (covering x)) f)
-  ])
-
--- where both sides hold the record, none covers it
-pub by_none : (out lefts rights : List (List ℕ)) (x : List ℕ) → Joins out lefts rights → AreApart Archive (lefts ++ x ∷ []) → AreApart Archive (rights ++ x ∷ []) → is_covered (set_of (out ++ x ∷ [])) x ≡ false
-by_none out lefts rights x j l r = covered_self out x ∙ by_others out lefts rights x j l ∙ is_false (is_covered (set_of rights) x) (covered_apart rights x r)
+  ]))

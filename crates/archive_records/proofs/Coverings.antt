@@ -6,12 +6,12 @@ use Rattle.archive_core.specs.Valid.{IsValid, key_of}
 use Rattle.archive_core.specs.Record.{IsRecord, admission_record, retirement_record}
 use Rattle.archive_core.specs.Content.{covering, is_covered}
 use Rattle.archive_core.proofs.Entries.{covering_admission}
-use Rattle.archive_records.specs.declared.kind.TextKind.{TextKind}
-use Rattle.archive_records.specs.declared.kind.TextKind.TheVariants.{Archive, Operations, Summary}
+use Rattle.archive_records.specs.declared.format.Format.{Format}
+use Rattle.archive_records.specs.declared.format.Format.TheVariants.{Archive, OldArchive, Operations, Summary}
 use Rattle.archive_records.specs.declared.fault.RecordFaultKind.{RecordFaultKind}
 use Rattle.archive_records.specs.declared.fault.RecordFaultKind.TheVariants.{Covered, Trailing}
 use Rattle.archive_records.specs.declared.fault.RecordFault.{RecordFault}
-use Rattle.archive_records.specs.Kind.{magic, may_follow}
+use Rattle.archive_records.specs.Kind.{magic, old_magic, archive_format, may_follow}
 use Rattle.archive_records.specs.Text.{last_of}
 use Rattle.archive_records.specs.Fault.{IsFault, IsFaultOf, IsFaultBehind, FailsNext, FailsBehind, Fails, IsMagicFault}
 use Rattle.archive_records.specs.Front.{IsGoodFront, IsLongestFront, front_length}
@@ -19,8 +19,9 @@ use Rattle.archive_records.specs.Reader.{set_of}
 use Rattle.archive_records.proofs.Apart.{in_set, from_set, and_first, and_second, not_covering}
 use Rattle.archive_records.proofs.FaultKinds.{fails_not_covered}
 use Rattle.archive_records.proofs.Exact.{fault_longest}
+use Rattle.archive_records.proofs.Formats.{format_magic}
 
-no_magic_covers : (file : TextKind) (text : List ℕ) (kind : RecordFaultKind) → kind ≡ Covered → IsMagicFault file text kind → ⊥
+no_magic_covers : (file : Format) (text : List ℕ) (kind : RecordFaultKind) → kind ≡ Covered → IsMagicFault file text kind → ⊥
 no_magic_covers file text kind e m = subst (IsMagicFault file text) e m
 
 trailing_apart : (kind : RecordFaultKind) → kind ≡ Covered → kind ≡ Trailing → ⊥
@@ -29,12 +30,12 @@ trailing_apart kind e t = apart (sym e ∙ t)
     apart : Covered ≡ Trailing → ⊥
     apart h = cc
 
-by_behind : (file : TextKind) (records : List (List ℕ)) (rest : List ℕ) (kind : RecordFaultKind) → kind ≡ Covered → Fails file records rest kind → FailsBehind file records rest kind
+by_behind : (file : Format) (records : List (List ℕ)) (rest : List ℕ) (kind : RecordFaultKind) → kind ≡ Covered → Fails file records rest kind → FailsBehind file records rest kind
 by_behind file records rest kind e (inl f) = absurd (fails_not_covered file (last_of [] records) (length records) rest (subst (FailsNext file (last_of [] records) (length records) rest) e f))
 by_behind file records rest kind e (inr f) = f
 
 -- only an archive's text has such a fault
-behind_covered : (file : TextKind) (records : List (List ℕ)) (rest : List ℕ) (fault : RecordFault) → fault.kind ≡ Covered → IsFaultBehind file records rest fault → FailsBehind file records rest fault.kind × (fault.offset ≡ front_length records)
+behind_covered : (file : Format) (records : List (List ℕ)) (rest : List ℕ) (fault : RecordFault) → fault.kind ≡ Covered → IsFaultBehind file records rest fault → FailsBehind file records rest fault.kind × (fault.offset ≡ front_length records)
 behind_covered file records rest fault e (inl f) = (by_behind file records rest fault.kind e f.0, f.1)
 behind_covered file records rest fault e (inr t) = absurd (trailing_apart fault.kind e t.0)
 
@@ -59,25 +60,37 @@ covered_slice records item (inl a) c =
     (a.slice, a.valid, a.is, subst (Contains records) (ap covering a.is ∙ covering_admission a.slice a.valid) at)
 covered_slice records item (inr t) c = absurd (not_covering item _ (and_first _ _ c) t.is)
 
-pub is_covered_there : (text : List ℕ) (fault : RecordFault) → IsFault text fault → fault.kind ≡ Covered
-    → (records : List (List ℕ)) × (slice : List ℕ) × (rest : List ℕ) × IsLongestFront Archive text records × StandsCovered text records slice rest × (fault.offset ≡ front_length records)
-is_covered_there text fault (inl m) e = absurd (no_magic_covers Archive text fault.kind e m.0)
-is_covered_there text fault (inr f) e =
-    let records = f.0 in
-    let behind = behind_covered Archive records f.1.rest fault e f.3 in
+-- a covered slice, as words tell it
+abbrev IsCoveredThere : List ℕ → RecordFault → Type 0
+IsCoveredThere text fault = (records : List (List ℕ)) × (slice : List ℕ) × (rest : List ℕ) × IsLongestFront Archive text records × StandsCovered text records slice rest × (fault.offset ≡ front_length records)
+
+covered_behind : (text : List ℕ) (fault : RecordFault) (records : List (List ℕ)) (front : IsGoodFront Archive text records) → IsFaultBehind Archive records front.rest fault → fault.kind ≡ Covered → IsCoveredThere text fault
+covered_behind text fault records front f e =
+    let behind = behind_covered Archive records front.rest fault e f in
     let next = behind.0.1 in
     let found = covered_slice records next.item next.is next.covered in (
       records,
       found.0,
       next.more,
-      fault_longest Archive text records f.1 fault f.3,
-      (found.1, f.1.whole ∙ ap (λ (t : List ℕ). magic ++ (concat records ++ t)) (next.whole ∙ ap (λ (t : List ℕ). t ++ next.more) found.2), found.3),
+      fault_longest Archive text records front fault f,
+      (found.1, front.whole ∙ ap (λ (t : List ℕ). magic ++ (concat records ++ t)) (next.whole ∙ ap (λ (t : List ℕ). t ++ next.more) found.2), found.3),
       behind.1,
     )
+
+covered_in : (file : Format) (text : List ℕ) (fault : RecordFault) → IsFaultOf file text fault → fault.kind ≡ Covered → IsCoveredThere text fault
+covered_in file text fault (inl m) e = absurd (no_magic_covers file text fault.kind e m.0)
+covered_in Archive text fault (inr f) e = covered_behind text fault f.0 f.1 f.3 e
+covered_in OldArchive text fault (inr f) e = absurd (behind_covered OldArchive f.0 f.1.rest fault e f.3).0
+covered_in Operations text fault (inr f) e = absurd (behind_covered Operations f.0 f.1.rest fault e f.3).0
+covered_in Summary text fault (inr f) e = absurd (behind_covered Summary f.0 f.1.rest fault e f.3).0
+
+pub is_covered_there : (text : List ℕ) (fault : RecordFault) → IsFault text fault → fault.kind ≡ Covered → IsCoveredThere text fault
+is_covered_there text fault f e = covered_in (archive_format text) text fault f e
 
 pub told_covered : (text : List ℕ) (records : List (List ℕ)) (front : IsGoodFront Archive text records) (slice rest : List ℕ) → IsValid slice → front.rest ≡ admission_record slice ++ rest → may_follow Archive (last_of [] records) (admission_record slice) ≡ true
     → Contains records (retirement_record (key_of slice) (sha256 slice)) → IsFault text (record { kind = Covered; offset = front_length records })
 told_covered text records front slice rest valid whole above there =
+    let told : IsFaultOf Archive text (record { kind = Covered; offset = front_length records }) =
     inr (
       records,
       front,
@@ -96,4 +109,13 @@ told_covered text records front slice rest valid whole above there =
         ),
         refl,
       ),
-    )
+    ) in
+    subst (λ (f : Format). IsFaultOf f text (record { kind = Covered; offset = front_length records })) (sym (format_magic Archive refl text (concat records ++ front.rest) front.whole)) told
+
+-- a text of version 1 has no such fault
+pub old_uncovered : (text rest : List ℕ) (fault : RecordFault) → text ≡ old_magic ++ rest → IsFault text fault → fault.kind ≢ Covered
+old_uncovered text rest fault e f k = in_old (subst (λ (g : Format). IsFaultOf g text fault) (format_magic OldArchive refl text rest e) f)
+  where
+    in_old : IsFaultOf OldArchive text fault → ⊥
+    in_old (inl m) = no_magic_covers OldArchive text fault.kind k m.0
+    in_old (inr g) = (behind_covered OldArchive g.0 g.1.rest fault k g.3).0

@@ -14,8 +14,8 @@ use Rattle.archive_records.specs.Text.{end_record, ending}
 use Rattle.archive_records.proofs.Framed.{framed-whole}
 use Rattle.archive_records.proofs.Holds.{none_is_some, holds, Holds-end, next-is}
 use Rattle.archive_records.proofs.Forms.{IsBytes}
-use Rattle.archive_records.specs.declared.kind.TextKind.{TextKind}
-use Rattle.archive_records.specs.declared.kind.TextKind.TheVariants.{Archive, Operations, Summary}
+use Rattle.archive_records.specs.declared.format.Format.{Format}
+use Rattle.archive_records.specs.declared.format.Format.TheVariants.{Archive, OldArchive, Operations, Summary}
 
 pub is_three : (bytes : List ℕ) → is_end bytes ≡ true → get_or bytes 0 0 ≡ 3
 unfolding is_end
@@ -34,7 +34,7 @@ unfolding record_count end_record
 number_of_end n lt = from_be_bytes-to_be_bytes_8 n lt
 
 -- a file with an end record
-module _ (file : TextKind) (end : end_length file ≡ Some 9) where
+module _ (file : Format) (end : end_length file ≡ Some 9) where
   framed_end : (n : ℕ) → framed file (end_record n) ≡ Ok 9
   unfolding head_length body_length end_record
   framed_end n = framed-whole file (end_record n) 9 (lit≤ tt) end (lit≤ tt) (lit≤ tt) (lit≤ tt)
@@ -43,13 +43,15 @@ module _ (file : TextKind) (end : end_length file ≡ Some 9) where
   unfolding tested
   next_end low n lt = next-is file (end_record n) 9 low n (framed_end n) ∙ rw (end-is_end n, eq-eqb _ _ (number_of_end n lt)) refl
 
-pub counted : (file : TextKind) → end_length file ≡ Some 9 → (n : ℕ) → ending file n ≡ end_record n
+pub counted : (file : Format) → end_length file ≡ Some 9 → (n : ℕ) → ending file n ≡ end_record n
 counted Archive end n = refl
+counted OldArchive end n = refl
 counted Operations end n = absurd (none_is_some 9 end)
 counted Summary end n = refl
 
-pub counted_unended : (file : TextKind) → end_length file ≡ Some 9 → (rest : List ℕ) → IsUnended file rest
+pub counted_unended : (file : Format) → end_length file ≡ Some 9 → (rest : List ℕ) → IsUnended file rest
 counted_unended Archive end rest = tt
+counted_unended OldArchive end rest = tt
 counted_unended Operations end rest = absurd (none_is_some 9 end)
 counted_unended Summary end rest = tt
 
@@ -70,25 +72,27 @@ is_end_record [] count len tag n fits = absurd (omega arith)
 is_end_record (b ∷ bs) count len tag n fits =
     both b 3 bs (to_be_bytes w64 count) tag (sym (be_bytes_8 bs count (omega arith) (λ i. fits (suc i)) (sym n ∙ ap (from_be_bytes w64) (take_all 8 bs (omega arith)))))
 
-module _ (file : TextKind) where
+module _ (file : Format) where
   -- a whole end record is that of the number it has
   pub ends : (bytes : List ℕ) (count : ℕ) → framed file bytes ≡ Ok (length bytes) → get_or bytes 0 0 ≡ 3 → record_count bytes ≡ count → IsBytes bytes → bytes ≡ end_record count
   ends bytes count e three n fits = is_end_record bytes count (Holds-end file bytes (length bytes) (holds file bytes (length bytes) e) three) three n fits
 
 -- an end record is what ends a file, where it may stand there
-pub ending_is : (file : TextKind) (rest : List ℕ) (n count : ℕ) → framed file rest ≡ Ok n → get_or rest 0 0 ≡ 3 → rest ≡ end_record count → rest ≡ ending file count
+pub ending_is : (file : Format) (rest : List ℕ) (n count : ℕ) → framed file rest ≡ Ok n → get_or rest 0 0 ≡ 3 → rest ≡ end_record count → rest ≡ ending file count
 ending_is Archive rest n count whole three e = e
+ending_is OldArchive rest n count whole three e = e
 ending_is Operations rest n count whole three e = absurd (no_end rest n whole three)
 ending_is Summary rest n count whole three e = e
 
-pub ended_is : (file : TextKind) (left : Option (List ℕ)) (rest : List ℕ) (n : ℕ) → framed file rest ≡ Ok n → get_or rest 0 0 ≡ 3 → IsEnded file left
+pub ended_is : (file : Format) (left : Option (List ℕ)) (rest : List ℕ) (n : ℕ) → framed file rest ≡ Ok n → get_or rest 0 0 ≡ 3 → IsEnded file left
 ended_is Archive left rest n whole three = tt
+ended_is OldArchive left rest n whole three = tt
 ended_is Operations left rest n whole three = absurd (no_end rest n whole three)
 ended_is Summary left rest n whole three = tt
 
 -- where nothing is left, an operations file ends
-pub open_end : (file : TextKind) (count : ℕ) (b : Buffer) → b.at ≡ 0 → file ≡ Operations → bytes_so_far b ≡ ending file count
-open_end file count b at is = ap (λ (n : ℕ). take n b.bytes.items) at ∙ sym (ap (λ (f : TextKind). ending f count) is)
+pub open_end : (file : Format) (count : ℕ) (b : Buffer) → b.at ≡ 0 → file ≡ Operations → bytes_so_far b ≡ ending file count
+open_end file count b at is = ap (λ (n : ℕ). take n b.bytes.items) at ∙ sym (ap (λ (f : Format). ending f count) is)
 
-pub open_ended : (file : TextKind) (left : Option (List ℕ)) → file ≡ Operations → IsAtEnd left → IsEnded file left
-open_ended file left is end = subst (λ (f : TextKind). IsEnded f left) (sym is) end
+pub open_ended : (file : Format) (left : Option (List ℕ)) → file ≡ Operations → IsAtEnd left → IsEnded file left
+open_ended file left is end = subst (λ (f : Format). IsEnded f left) (sym is) end

@@ -2,26 +2,23 @@
 use Rattle.std.proofs.Common.{◌≡◌, ◌≢◌, ℕ, ◌<◌, ◌≤◌, ◌^◌, true, List, [], ◌∷◌, ◌++◌, length, get_or, take, drop, refl, sym, ap, ◌∙◌, subst, arith, inl, inr, append_assoc, length-append, lit≤}
 use Rattle.std.proofs.lemmas.List.{append-nil, take-append-le, append_cancel_left, take-take, get_or-take}
 use Rattle.std.specs.List.{concat}
-use Rattle.std.specs.FinSet as set
-use Rattle.join_core.specs.Listing.{listing}
-use Rattle.archive_core.specs.Content.{Operations, IsContent}
 use Rattle.archive_records.specs.declared.fault.RecordFaultKind.{RecordFaultKind}
 use Rattle.archive_records.specs.declared.fault.RecordFaultKind.TheVariants.{BadMagic, Truncated, BadTag, TooLarge, NotAscending, BadSlice, KeyMismatch, BadCount, Trailing, Device, OutOfMemory, Covered}
 use Rattle.archive_records.specs.declared.fault.RecordFault.{RecordFault}
 use Rattle.archive_records.specs.Kind.{magic_of}
-use Rattle.archive_records.specs.Text.{end_record, ending, text_of, InOrder, AreApart, last_of, written}
+use Rattle.archive_records.specs.Text.{end_record, ending, text_of, InOrder, AreApart, last_of}
 use Rattle.archive_records.specs.Fault.{is_end, FailsNext, IsCoveredNext, FailsBehind, Fails, IsTrailing, RefusesSlice, Refuses, IsMagicFault, IsUnended, IsFaultBehind, IsFaultOf}
 use Rattle.archive_records.specs.Front.{IsGoodFront, IsLongestFront}
 use Rattle.archive_records.proofs.SliceFacts.{no_slice_fault, one_slice_fault}
+use Rattle.archive_records.proofs.Formats.{length-magic}
 use Rattle.archive_records.proofs.Holds.{result_is, holds}
 use Rattle.archive_records.proofs.Forms.{item-framed, refused_slice}
 use Rattle.archive_records.proofs.Grown.{kind_is, no_both, next-ok-grows}
 use Rattle.archive_records.proofs.Longest.{Takes, Goes, fault-stops, end-stops, one_taken, unique, behind_magic, is_longest}
-use Rattle.archive_records.proofs.Apart.{apart_listing, covered_apart}
+use Rattle.archive_records.proofs.Apart.{covered_apart}
 use Rattle.archive_records.proofs.Ends.{is_three, length-end_record, next_end}
-use Rattle.archive_records.proofs.Contents.{InOrder-listing, written_text, content_is}
-use Rattle.archive_records.specs.declared.kind.TextKind.{TextKind}
-use Rattle.archive_records.specs.declared.kind.TextKind.TheVariants.{Archive, Operations as Operations_file, Summary as Summary_file}
+use Rattle.archive_records.specs.declared.format.Format.{Format}
+use Rattle.archive_records.specs.declared.format.Format.TheVariants.{Archive, OldArchive, Operations as Operations_file, Summary as Summary_file}
 
 -- a refused slice is an admission's
 refused_tag : (r : List ℕ) (kind : RecordFaultKind) → RefusesSlice r kind → get_or r 0 0 ≡ 2
@@ -71,28 +68,25 @@ end_more : (n : ℕ) (more : List ℕ) → is_end (end_record n ++ more) ≡ tru
 unfolding is_end end_record
 end_more n more = refl
 
-pub length-magic : (file : TextKind) → length (magic_of file) ≡ 8
-length-magic Archive = refl
-length-magic Operations_file = refl
-length-magic Summary_file = refl
-
 -- ---- what ends a file
 
-length-ending : (file : TextKind) (n : ℕ) → length (ending file n) ≤ 9
+length-ending : (file : Format) (n : ℕ) → length (ending file n) ≤ 9
 length-ending Archive n = omega (arith, length-end_record n)
+length-ending OldArchive n = omega (arith, length-end_record n)
 length-ending Operations_file n = lit≤ tt
 length-ending Summary_file n = omega (arith, length-end_record n)
 
-nothing_taken : (file : TextKind) (low : List ℕ) → Takes file low [] → ⊥
+nothing_taken : (file : Format) (low : List ℕ) → Takes file low [] → ⊥
 nothing_taken file low t = omega (arith, (holds file t.item (length t.item) (item-framed file t.item t.is)).one, ap length t.whole, length-append t.item t.more)
 
 -- no record begins with it; in an operations file nothing stands behind it
-ending_stops : (file : TextKind) (low : List ℕ) (n : ℕ) (more : List ℕ) → (file ≡ Operations_file → more ≡ []) → Takes file low (ending file n ++ more) → ⊥
+ending_stops : (file : Format) (low : List ℕ) (n : ℕ) (more : List ℕ) → (file ≡ Operations_file → more ≡ []) → Takes file low (ending file n ++ more) → ⊥
 ending_stops Archive low n more alone t = end-stops Archive low (end_record n ++ more) (end_more n more) t
+ending_stops OldArchive low n more alone t = end-stops OldArchive low (end_record n ++ more) (end_more n more) t
 ending_stops Summary_file low n more alone t = end-stops Summary_file low (end_record n ++ more) (end_more n more) t
 ending_stops Operations_file low n more alone t = nothing_taken Operations_file low (subst (Takes Operations_file low) (alone refl) t)
 
-no_fails : (file : TextKind) (low : List ℕ) (n : ℕ) (more : List ℕ) (kind : RecordFaultKind) → (file ≢ Operations_file → n < 2 ^ 64) → (file ≡ Operations_file → more ≡ []) → IsUnended file (ending file n ++ more) → FailsNext file low n (ending file n ++ more) kind → ⊥
+no_fails : (file : Format) (low : List ℕ) (n : ℕ) (more : List ℕ) (kind : RecordFaultKind) → (file ≢ Operations_file → n < 2 ^ 64) → (file ≡ Operations_file → more ≡ []) → IsUnended file (ending file n ++ more) → FailsNext file low n (ending file n ++ more) kind → ⊥
 no_fails Operations_file low n more kind few alone unended f = unended (alone refl)
 no_fails Summary_file low n more kind few alone unended (inl e) = no_both 9 kind (sym (next-ok-grows Summary_file low n (end_record n) more 9 (next_end Summary_file refl low n (few (λ h. cc)))) ∙ e)
 no_fails Summary_file low n more kind few alone unended (inr f) = absurd f.2
@@ -102,31 +96,40 @@ no_fails Archive low n more kind few alone unended (inr f) =
     let two = refused_tag (take f.0 (end_record n ++ more)) kind f.2 in
     let same : get_or (take f.0 (end_record n ++ more)) 0 0 ≡ get_or (end_record n ++ more) 0 0 = get_or-take f.0 (end_record n ++ more) 0 0 (omega arith) in
     omega (arith, is_three (end_record n ++ more) (end_more n more))
+no_fails OldArchive low n more kind few alone unended (inl e) = no_both 9 kind (sym (next-ok-grows OldArchive low n (end_record n) more 9 (next_end OldArchive refl low n (few (λ h. cc)))) ∙ e)
+no_fails OldArchive low n more kind few alone unended (inr f) =
+    let nine = result_is f.0 9 (sym f.1 ∙ next-ok-grows OldArchive low n (end_record n) more 9 (next_end OldArchive refl low n (few (λ h. cc)))) in
+    let two = refused_tag (take f.0 (end_record n ++ more)) kind f.2 in
+    let same : get_or (take f.0 (end_record n ++ more)) 0 0 ≡ get_or (end_record n ++ more) 0 0 = get_or-take f.0 (end_record n ++ more) 0 0 (omega arith) in
+    omega (arith, is_three (end_record n ++ more) (end_more n more))
 
 -- what is covered stands there
 takes_covered : (records : List (List ℕ)) (rest : List ℕ) → IsCoveredNext records rest → Takes Archive (last_of [] records) rest
 takes_covered records rest c = record { item = c.item; more = c.more; whole = c.whole; is = c.is; above = c.above }
 
-covered_behind : (file : TextKind) (records : List (List ℕ)) (rest : List ℕ) (kind : RecordFaultKind) → FailsBehind file records rest kind → Takes file (last_of [] records) rest
+covered_behind : (file : Format) (records : List (List ℕ)) (rest : List ℕ) (kind : RecordFaultKind) → FailsBehind file records rest kind → Takes file (last_of [] records) rest
 covered_behind Archive records rest kind f = takes_covered records rest f.1
+covered_behind OldArchive records rest kind f = absurd f
 covered_behind Operations_file records rest kind f = absurd f
 covered_behind Summary_file records rest kind f = absurd f
 
-covered_kind : (file : TextKind) (records : List (List ℕ)) (rest : List ℕ) (kind : RecordFaultKind) → FailsBehind file records rest kind → kind ≡ Covered
+covered_kind : (file : Format) (records : List (List ℕ)) (rest : List ℕ) (kind : RecordFaultKind) → FailsBehind file records rest kind → kind ≡ Covered
 covered_kind Archive records rest kind f = f.0
+covered_kind OldArchive records rest kind f = absurd f
 covered_kind Operations_file records rest kind f = absurd f
 covered_kind Summary_file records rest kind f = absurd f
 
 -- and no good front goes on with it
-covered_stops : (file : TextKind) (records : List (List ℕ)) (rest : List ℕ) (kind : RecordFaultKind) → FailsBehind file records rest kind → Goes file records rest → ⊥
+covered_stops : (file : Format) (records : List (List ℕ)) (rest : List ℕ) (kind : RecordFaultKind) → FailsBehind file records rest kind → Goes file records rest → ⊥
 unfolding takes_covered
 covered_stops Archive records rest kind f g =
     let same : f.1.item ≡ g.next.item = one_taken Archive (last_of [] records) rest (takes_covered records rest f.1) g.next in
     covered_apart records f.1.item (subst (λ (x : List ℕ). AreApart Archive (records ++ x ∷ [])) (sym same) g.apart) f.1.covered
+covered_stops OldArchive records rest kind f g = absurd f
 covered_stops Operations_file records rest kind f g = absurd f
 covered_stops Summary_file records rest kind f g = absurd f
 
-module _ (file : TextKind) where
+module _ (file : Format) where
   -- ---- the magic
 
   pub no_magic_fault : (t rest : List ℕ) (kind : RecordFaultKind) → t ≡ magic_of file ++ rest → IsMagicFault file t kind → ⊥
@@ -265,18 +268,3 @@ module _ (file : TextKind) where
   pub no_fault : (t : List ℕ) (xs : List (List ℕ)) → InOrder file [] xs → AreApart file xs → t ≡ text_of file xs → (fault : RecordFault) → length xs < 2 ^ 64 → IsFaultOf file t fault → ⊥
   no_fault t xs ordered apart text fault few (inl m) = no_magic_fault t (concat xs ++ ending file (length xs)) fault.kind text m.0
   no_fault t xs ordered apart text fault few (inr f) = no_fault_behind t xs [] ordered apart (text ∙ sym (append-nil (text_of file xs))) (λ _. refl) f.0 f.1 fault (λ _ _. few) (λ _. refl) f.2 f.3
-
--- ---- contents
-
--- the texts of two contents that begin the same bytes are one
-pub one_front : (t : List ℕ) (o p : Operations) (m n : List ℕ) → IsContent o → IsContent p → t ≡ written o ++ m → t ≡ written p ++ n → (o ≡ p) × (m ≡ n)
-one_front t o p m n c d e f =
-    let other : t ≡ text_of Archive (listing p) ++ n = f ∙ ap (λ (x : List ℕ). x ++ n) (written_text p) in
-    let same = same_records Archive t (listing p) n (InOrder-listing p d) (apart_listing p d) other (λ h. absurd cc) (listing o) m (InOrder-listing o c) (apart_listing o c) (λ h. absurd cc) (e ∙ ap (λ (x : List ℕ). x ++ m) (written_text o)) in
-    (content_is o ∙ ap set.from_list same.0 ∙ sym (content_is p), same.1)
-
-pub one_content : (o p : Operations) → IsContent o → IsContent p → written o ≡ written p → o ≡ p
-one_content o p c d e = (one_front (written o) o p [] [] c d (sym (append-nil (written o))) (e ∙ sym (append-nil (written p)))).0
-
-pub no_text_begins : (o p : Operations) (more : List ℕ) → IsContent o → IsContent p → written o ++ more ≡ written p → more ≡ []
-no_text_begins o p more c d e = (one_front (written p) o p more [] c d (sym e) (sym (append-nil (written p)))).1

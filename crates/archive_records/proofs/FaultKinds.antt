@@ -1,8 +1,8 @@
 -- Which faults a record may have.
 use Rattle.std.proofs.Common.{◌≡◌, ◌≢◌, ℕ, ◌+◌, ◌≤◌, arith, ltb-true, Bool, true, false, cond, ltb, eqb, List, [], length, get_or, take, Option, Some, None, Result, Ok, Err, refl, sym, ap, ◌∙◌, subst, inl, inr, ◌⊎◌, lit≤}
 use Rattle.std.proofs.lemmas.Bool.{cases_Bool, false≢true}
-use Rattle.archive_records.specs.declared.kind.TextKind.{TextKind}
-use Rattle.archive_records.specs.declared.kind.TextKind.TheVariants.{Archive, Operations, Summary}
+use Rattle.archive_records.specs.declared.format.Format.{Format}
+use Rattle.archive_records.specs.declared.format.Format.TheVariants.{Archive, OldArchive, Operations, Summary}
 use Rattle.archive_records.specs.declared.fault.RecordFaultKind.{RecordFaultKind}
 use Rattle.archive_records.specs.declared.fault.RecordFaultKind.TheVariants.{BadMagic, Truncated, BadTag, TooLarge, NotAscending, BadSlice, KeyMismatch, BadCount, Trailing, Device, OutOfMemory, Covered}
 use Rattle.archive_records.specs.declared.fault.RecordFault.{RecordFault}
@@ -25,7 +25,7 @@ use Rattle.archive_records.proofs.Grown.{failed, kind_is, no_both, either}
 abbrev pub IsOfForm : RecordFaultKind → Type 0
 IsOfForm kind = (kind ≡ Truncated) ⊎ (kind ≡ BadTag) ⊎ (kind ≡ TooLarge)
 
-behind_kind : (file : TextKind) (head : ℕ) (bytes : List ℕ) (kind : RecordFaultKind) → framed_behind file head bytes ≡ failed kind → IsOfForm kind
+behind_kind : (file : Format) (head : ℕ) (bytes : List ℕ) (kind : RecordFaultKind) → framed_behind file head bytes ≡ failed kind → IsOfForm kind
 unfolding framed_behind
 behind_kind file head bytes kind e =
     elim (either (ltb (length bytes) head) Truncated kind (cond (ltb largest_slice (body_length file bytes)) (failed TooLarge) (cond (ltb (length bytes) (head + body_length file bytes)) (failed Truncated) (Ok (head + body_length file bytes)))) e) [
@@ -39,11 +39,11 @@ behind_kind file head bytes kind e =
       ]
     ]
 
-by_kind : (file : TextKind) (o : Option ℕ) (bytes : List ℕ) (kind : RecordFaultKind) → framed_by file o bytes ≡ failed kind → IsOfForm kind
+by_kind : (file : Format) (o : Option ℕ) (bytes : List ℕ) (kind : RecordFaultKind) → framed_by file o bytes ≡ failed kind → IsOfForm kind
 by_kind file None bytes kind e = inr (inl (sym (kind_is BadTag kind e)))
 by_kind file (Some head) bytes kind e = behind_kind file head bytes kind e
 
-framed_kind : (file : TextKind) (bytes : List ℕ) (kind : RecordFaultKind) → framed file bytes ≡ failed kind → IsOfForm kind
+framed_kind : (file : Format) (bytes : List ℕ) (kind : RecordFaultKind) → framed file bytes ≡ failed kind → IsOfForm kind
 unfolding framed
 framed_kind file bytes kind e =
     elim (either (ltb (length bytes) 1) Truncated kind (framed_by file (head_length file (get_or bytes 0 0)) bytes) e) [
@@ -56,7 +56,7 @@ other : (b : Bool) (n : ℕ) (j k : RecordFaultKind) → cond b (Ok n) (failed j
 other true n j k e = absurd (no_both n k e)
 other false n j k e = kind_is j k e
 
-tested_kind : (file : TextKind) (low : List ℕ) (count : ℕ) (rest : List ℕ) (n : ℕ) (kind : RecordFaultKind) → tested file low count rest n ≡ failed kind → ((is_end rest ≡ true) × (kind ≡ BadCount)) ⊎ ((may_follow file low (take n rest) ≡ false) × (kind ≡ NotAscending))
+tested_kind : (file : Format) (low : List ℕ) (count : ℕ) (rest : List ℕ) (n : ℕ) (kind : RecordFaultKind) → tested file low count rest n ≡ failed kind → ((is_end rest ≡ true) × (kind ≡ BadCount)) ⊎ ((may_follow file low (take n rest) ≡ false) × (kind ≡ NotAscending))
 unfolding tested
 tested_kind file low count rest n kind e =
     elim (cases_Bool (is_end rest)) [
@@ -67,12 +67,12 @@ tested_kind file low count rest n kind e =
       ]
     ]
 
-next_by_kind : (r : Result ℕ RecordFaultKind) (file : TextKind) (low : List ℕ) (count : ℕ) (rest : List ℕ) (kind : RecordFaultKind) → framed file rest ≡ r → next_by file r low count rest ≡ failed kind
+next_by_kind : (r : Result ℕ RecordFaultKind) (file : Format) (low : List ℕ) (count : ℕ) (rest : List ℕ) (kind : RecordFaultKind) → framed file rest ≡ r → next_by file r low count rest ≡ failed kind
     → IsOfForm kind ⊎ ((n : ℕ) × (framed file rest ≡ Ok n) × (((is_end rest ≡ true) × (kind ≡ BadCount)) ⊎ ((may_follow file low (take n rest) ≡ false) × (kind ≡ NotAscending))))
 next_by_kind (Err j) file low count rest kind f e = inl (framed_kind file rest kind (f ∙ e))
 next_by_kind (Ok n) file low count rest kind f e = inr (n, f, tested_kind file low count rest n kind e)
 
-next_kind : (file : TextKind) (low : List ℕ) (count : ℕ) (rest : List ℕ) (kind : RecordFaultKind) → next file low count rest ≡ failed kind
+next_kind : (file : Format) (low : List ℕ) (count : ℕ) (rest : List ℕ) (kind : RecordFaultKind) → next file low count rest ≡ failed kind
     → IsOfForm kind ⊎ ((n : ℕ) × (framed file rest ≡ Ok n) × (((is_end rest ≡ true) × (kind ≡ BadCount)) ⊎ ((may_follow file low (take n rest) ≡ false) × (kind ≡ NotAscending))))
 unfolding next
 next_kind file low count rest kind e = next_by_kind (framed file rest) file low count rest kind refl e
@@ -92,7 +92,7 @@ form_not_trailing kind t (inr (inr e)) = apart (sym e ∙ t)
     apart h = cc
 
 -- bytes too many are no fault of a record
-fails_not_trailing : (file : TextKind) (low : List ℕ) (count : ℕ) (rest : List ℕ) → FailsNext file low count rest Trailing → ⊥
+fails_not_trailing : (file : Format) (low : List ℕ) (count : ℕ) (rest : List ℕ) → FailsNext file low count rest Trailing → ⊥
 fails_not_trailing file low count rest (inr f) = refused_slice file (take f.0 rest) Trailing f.2
 fails_not_trailing file low count rest (inl e) =
     elim (next_kind file low count rest Trailing e) [
@@ -109,12 +109,13 @@ fails_not_trailing file low count rest (inl e) =
     not_ascending : Trailing ≡ NotAscending → ⊥
     not_ascending h = cc
 
-pub never_trailing : (file : TextKind) (low : List ℕ) (count : ℕ) (rest : List ℕ) (kind : RecordFaultKind) → FailsNext file low count rest (seen_as kind) → kind ≢ Trailing
+pub never_trailing : (file : Format) (low : List ℕ) (count : ℕ) (rest : List ℕ) (kind : RecordFaultKind) → FailsNext file low count rest (seen_as kind) → kind ≢ Trailing
 never_trailing file low count rest kind f t = fails_not_trailing file low count rest (subst (λ (k : RecordFaultKind). FailsNext file low count rest (seen_as k)) t f)
 
 -- nor is that a record is covered told by the tests that know the last record alone
-refused_not_covered : (file : TextKind) (bytes : List ℕ) → Refuses file bytes Covered → ⊥
+refused_not_covered : (file : Format) (bytes : List ℕ) → Refuses file bytes Covered → ⊥
 refused_not_covered Archive bytes f = f
+refused_not_covered OldArchive bytes f = f
 refused_not_covered Operations bytes f = f
 refused_not_covered Summary bytes f = f
 
@@ -132,7 +133,7 @@ form_not_covered kind t (inr (inr e)) = apart (sym e ∙ t)
     apart : TooLarge ≡ Covered → ⊥
     apart h = cc
 
-pub fails_not_covered : (file : TextKind) (low : List ℕ) (count : ℕ) (rest : List ℕ) → FailsNext file low count rest Covered → ⊥
+pub fails_not_covered : (file : Format) (low : List ℕ) (count : ℕ) (rest : List ℕ) → FailsNext file low count rest Covered → ⊥
 fails_not_covered file low count rest (inr f) = refused_not_covered file (take f.0 rest) f.2
 fails_not_covered file low count rest (inl e) =
     elim (next_kind file low count rest Covered e) [
@@ -149,7 +150,7 @@ fails_not_covered file low count rest (inl e) =
     not_ascending : Covered ≡ NotAscending → ⊥
     not_ascending h = cc
 
-pub magic_never_trailing : (file : TextKind) (bytes : List ℕ) (kind : RecordFaultKind) → StopsInMagic file bytes kind → kind ≢ Trailing
+pub magic_never_trailing : (file : Format) (bytes : List ℕ) (kind : RecordFaultKind) → StopsInMagic file bytes kind → kind ≢ Trailing
 magic_never_trailing file bytes kind s t = none (subst (StopsInMagic file bytes) t s)
   where
     device : Trailing ≡ Device → ⊥
@@ -180,17 +181,18 @@ as_itself Trailing known = refl
 as_itself Covered known = refl
 
 -- where nothing is left, a part is all that is missing
-empty_fails : (file : TextKind) (low : List ℕ) (count : ℕ) (kind : RecordFaultKind) → FailsNext file low count [] kind → kind ≡ Truncated
+empty_fails : (file : Format) (low : List ℕ) (count : ℕ) (kind : RecordFaultKind) → FailsNext file low count [] kind → kind ≡ Truncated
 unfolding next
 empty_fails file low count kind (inl e) = sym (kind_is Truncated kind (sym (ap (λ r. next_by file r low count []) (framed-empty file [] (lit≤ tt))) ∙ e))
 empty_fails file low count kind (inr f) = absurd (no_both f.0 Truncated (sym f.1 ∙ ap (λ r. next_by file r low count []) (framed-empty file [] (lit≤ tt))))
 
-pub unended_is : (file : TextKind) (low : List ℕ) (count : ℕ) (bytes : List ℕ) (kind : RecordFaultKind) → (kind ≡ Truncated → file ≡ Operations → bytes ≢ []) → FailsNext file low count bytes kind → IsUnended file bytes
+pub unended_is : (file : Format) (low : List ℕ) (count : ℕ) (bytes : List ℕ) (kind : RecordFaultKind) → (kind ≡ Truncated → file ≡ Operations → bytes ≢ []) → FailsNext file low count bytes kind → IsUnended file bytes
 unended_is Archive low count bytes kind some f = tt
+unended_is OldArchive low count bytes kind some f = tt
 unended_is Summary low count bytes kind some f = tt
 unended_is Operations low count bytes kind some f = λ e. some (empty_fails Operations low count kind (subst (λ (x : List ℕ). FailsNext Operations low count x kind) e f)) refl e
 
-pub unended_behind : (file : TextKind) (low : List ℕ) (count : ℕ) (b : Buffer) (kind : RecordFaultKind) → b.at ≤ length b.bytes.items → (kind ≡ Truncated → b.at ≡ 0 → file ≡ Operations → ⊥) → FailsNext file low count (bytes_so_far b) (seen_as kind) → IsOfText kind → IsUnended file (bytes_so_far b)
+pub unended_behind : (file : Format) (low : List ℕ) (count : ℕ) (b : Buffer) (kind : RecordFaultKind) → b.at ≤ length b.bytes.items → (kind ≡ Truncated → b.at ≡ 0 → file ≡ Operations → ⊥) → FailsNext file low count (bytes_so_far b) (seen_as kind) → IsOfText kind → IsUnended file (bytes_so_far b)
 unended_behind file low count b kind within some f known =
     unended_is file low count (bytes_so_far b) kind (λ part is nil. some part (sym (length-bytes_so_far b within) ∙ ap length nil) is) (rw (as_itself kind known) at f)
 

@@ -14,16 +14,17 @@ use Rattle.archive_core.proofs.Records.{length-key_of}
 use Rattle.archive_records.specs.declared.fault.RecordFaultKind.{RecordFaultKind}
 use Rattle.archive_records.specs.declared.fault.RecordFaultKind.TheVariants.{BadMagic, Truncated, BadTag, TooLarge, NotAscending, BadSlice, KeyMismatch, BadCount, Trailing, Device, OutOfMemory, Covered}
 use Rattle.archive_records.specs.Layout.{head_length, slice_length, admission_body, body_length, framed}
-use Rattle.archive_records.specs.Kind.{IsItem, admission_length}
+use Rattle.archive_records.specs.Kind.{IsItem, kind_of, admission_length}
 use Rattle.archive_records.specs.Entry.{IsEntry}
 use Rattle.archive_records.specs.Fault.{is_end, RefusesSlice, Refuses}
 use Rattle.archive_records.specs.Reader.{IsFound, IsFoundIn}
+use Rattle.archive_records.proofs.Formats.{framed_old}
 use Rattle.archive_records.proofs.Framed.{framed-whole}
 use Rattle.archive_records.proofs.Heads.{read_key}
 use Rattle.archive_records.proofs.Holds.{holds, done, body_one, body_two, whole-retirement, whole-admission}
 use Rattle.archive_records.proofs.SliceFacts.{short_slice, no_slice_fault}
-use Rattle.archive_records.specs.declared.kind.TextKind.{TextKind}
-use Rattle.archive_records.specs.declared.kind.TextKind.TheVariants.{Archive, Operations, Summary}
+use Rattle.archive_records.specs.declared.format.Format.{Format}
+use Rattle.archive_records.specs.declared.format.Format.TheVariants.{Archive, OldArchive, Operations, Summary}
 
 abbrev pub IsBytes : List ℕ → Type 0
 IsBytes bytes = (i : ℕ) → get_or bytes i 0 < 256
@@ -134,8 +135,9 @@ record-found : (bytes : List ℕ) (found : Option SliceFacts) → IsFound bytes 
 record-found bytes None t = inr t
 record-found bytes (Some facts) a = inl a.0
 
-pub item-found : (file : TextKind) (item : List ℕ) (found : Option SliceFacts) → IsFoundIn file item found → IsItem file item
+pub item-found : (file : Format) (item : List ℕ) (found : Option SliceFacts) → IsFoundIn (kind_of file) item found → IsItem file item
 item-found Archive item found is = record-found item found is
+item-found OldArchive item found is = record-found item found is
 item-found Operations item found is = record-found item found is
 item-found Summary item found is = is
 
@@ -175,7 +177,7 @@ pub admitted_is : (bytes slice : List ℕ) → Admits bytes → slice ≡ drop 3
 admitted_is bytes slice a e = ap admission_record (e ∙ (parts-of bytes a).slice_is) ∙ sym a.is
 
 -- a record is whole where its slice stands behind an admission's head
-module _ (file : TextKind) (head : admission_length file ≡ 33) (behind : (bytes : List ℕ) → admission_body file bytes ≡ slice_length bytes) where
+module _ (file : Format) (head : admission_length file ≡ 33) (behind : (bytes : List ℕ) → admission_body file bytes ≡ slice_length bytes) where
   record-framed : (r : List ℕ) → IsRecord r → framed file r ≡ Ok (length r)
   unfolding head_length
   record-framed r (inl a) =
@@ -222,24 +224,28 @@ entry-of bytes whole no_end =
     ]
 
 -- an item is whole, is no end record, and is not refused for what it holds
-pub item-framed : (file : TextKind) (item : List ℕ) → IsItem file item → framed file item ≡ Ok (length item)
+pub item-framed : (file : Format) (item : List ℕ) → IsItem file item → framed file item ≡ Ok (length item)
 item-framed Archive item is = record-framed Archive refl (λ bytes. refl) item is
+item-framed OldArchive item is = framed_old item ∙ record-framed Archive refl (λ bytes. refl) item is
 item-framed Operations item is = record-framed Operations refl (λ bytes. refl) item is
 item-framed Summary item is = entry-framed item is
 
-pub item-no_end : (file : TextKind) (item : List ℕ) → IsItem file item → is_end item ≡ false
+pub item-no_end : (file : Format) (item : List ℕ) → IsItem file item → is_end item ≡ false
 item-no_end Archive item is = record-item item is
+item-no_end OldArchive item is = record-item item is
 item-no_end Operations item is = record-item item is
 item-no_end Summary item is = entry-no_end item is
 
-pub item-refused : (file : TextKind) (item : List ℕ) (kind : RecordFaultKind) → IsItem file item → Refuses file item kind → ⊥
+pub item-refused : (file : Format) (item : List ℕ) (kind : RecordFaultKind) → IsItem file item → Refuses file item kind → ⊥
 item-refused Archive item kind is refused = record-slice item kind is refused
+item-refused OldArchive item kind is refused = record-slice item kind is refused
 item-refused Operations item kind is refused = record-slice item kind is refused
 item-refused Summary item kind is refused = refused
 
 -- what is refused is a slice
-pub refused_slice : (file : TextKind) (bytes : List ℕ) (kind : RecordFaultKind) → Refuses file bytes kind → RefusesSlice bytes kind
+pub refused_slice : (file : Format) (bytes : List ℕ) (kind : RecordFaultKind) → Refuses file bytes kind → RefusesSlice bytes kind
 refused_slice Archive bytes kind refused = refused
+refused_slice OldArchive bytes kind refused = refused
 refused_slice Operations bytes kind refused = refused
 refused_slice Summary bytes kind refused = absurd refused
 
@@ -259,9 +265,10 @@ operations_framed bytes whole no_end =
     let tag : head_length Archive (get_or bytes 0 0) ≡ Some h.head = same_head (get_or bytes 0 0) h.head (λ three. false≢true (sym no_end ∙ ap (λ (t : ℕ). eqb t 3) three)) h.tag in
     framed-whole Archive bytes h.head h.one tag h.long h.small (omega (arith, h.is)) ∙ ap done (sym h.is)
 
-pub archive_framed : (file : TextKind) → (file ≡ Archive) ⊎ (file ≡ Operations) → (bytes : List ℕ) → framed file bytes ≡ Ok (length bytes) → is_end bytes ≡ false → framed Archive bytes ≡ Ok (length bytes)
-archive_framed file (inl is) bytes whole no_end = subst (λ (f : TextKind). framed f bytes ≡ Ok (length bytes)) is whole
-archive_framed file (inr is) bytes whole no_end = operations_framed bytes (subst (λ (f : TextKind). framed f bytes ≡ Ok (length bytes)) is whole) no_end
+pub archive_framed : (file : Format) → (file ≡ Archive) ⊎ (file ≡ OldArchive) ⊎ (file ≡ Operations) → (bytes : List ℕ) → framed file bytes ≡ Ok (length bytes) → is_end bytes ≡ false → framed Archive bytes ≡ Ok (length bytes)
+archive_framed file (inl is) bytes whole no_end = subst (λ (f : Format). framed f bytes ≡ Ok (length bytes)) is whole
+archive_framed file (inr (inl is)) bytes whole no_end = sym (framed_old bytes) ∙ subst (λ (f : Format). framed f bytes ≡ Ok (length bytes)) is whole
+archive_framed file (inr (inr is)) bytes whole no_end = operations_framed bytes (subst (λ (f : Format). framed f bytes ≡ Ok (length bytes)) is whole) no_end
 
 -- whole bytes with a retirement's tag are a retirement's record
 retires_with : (bytes : List ℕ) (key : SliceKey) → framed Archive bytes ≡ Ok (length bytes) → get_or bytes 0 0 ≡ 1 → key_bytes key ≡ take 24 (drop 1 bytes) → IsKey key → Retires bytes

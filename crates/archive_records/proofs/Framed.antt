@@ -8,8 +8,8 @@ use Rattle.archive_records.specs.declared.fault.RecordFaultKind.TheVariants.{Tru
 use Rattle.archive_records.specs.Layout.{head_length, admission_body, body_length, slice_length, largest_slice, framed, framed_behind}
 use Rattle.archive_records.specs.Reader.{seen_as}
 use Rattle.archive_records.specs.Kind.{admission_length}
-use Rattle.archive_records.specs.declared.kind.TextKind.{TextKind}
-use Rattle.archive_records.specs.declared.kind.TextKind.TheVariants.{Archive, Operations, Summary}
+use Rattle.archive_records.specs.declared.format.Format.{Format}
+use Rattle.archive_records.specs.declared.format.Format.TheVariants.{Archive, OldArchive, Operations, Summary}
 
 same_tag : (bytes more : List ℕ) → 1 ≤ length bytes → get_or (bytes ++ more) 0 0 ≡ get_or bytes 0 0
 same_tag bytes more le = get_or_append_left bytes more 0 0 le
@@ -23,11 +23,11 @@ some x = Some x
 pub some_is : (x y : ℕ) → some x ≡ some y → x ≡ y
 some_is x y e = cc
 
-body-is : (file : TextKind) (bytes : List ℕ) → get_or bytes 0 0 ≡ 2 → body_length file bytes ≡ admission_body file bytes
+body-is : (file : Format) (bytes : List ℕ) → get_or bytes 0 0 ≡ 2 → body_length file bytes ≡ admission_body file bytes
 unfolding body_length
 body-is file bytes e = rw (eq-eqb _ _ e) refl
 
-body-none : (file : TextKind) (bytes : List ℕ) → eqb (get_or bytes 0 0) 2 ≡ false → body_length file bytes ≡ 0
+body-none : (file : Format) (bytes : List ℕ) → eqb (get_or bytes 0 0) 2 ≡ false → body_length file bytes ≡ 0
 unfolding body_length
 body-none file bytes e = rw e refl
 
@@ -37,16 +37,18 @@ slice_kept bytes more le =
     ap (λ (t : List ℕ). from_be_bytes w64 (take 8 t)) (drop-append-le 25 bytes more (omega arith)) ∙ ap (from_be_bytes w64) (take-append-le 8 (drop 25 bytes) more (omega (arith, length-drop 25 bytes)))
 
 -- the number in an admission's head, where its slice stands behind it
-pub slice_body : (file : TextKind) → (file ≡ Archive) ⊎ (file ≡ Operations) → (bytes : List ℕ) (n : ℕ) → n ≡ slice_length bytes → n ≡ admission_body file bytes
+pub slice_body : (file : Format) → (file ≡ Archive) ⊎ (file ≡ OldArchive) ⊎ (file ≡ Operations) → (bytes : List ℕ) (n : ℕ) → n ≡ slice_length bytes → n ≡ admission_body file bytes
 slice_body file (inl is) bytes n e = rw is e
-slice_body file (inr is) bytes n e = rw is e
+slice_body file (inr (inl is)) bytes n e = rw is e
+slice_body file (inr (inr is)) bytes n e = rw is e
 
-admission_kept : (file : TextKind) (bytes more : List ℕ) → admission_length file ≤ length bytes → admission_body file (bytes ++ more) ≡ admission_body file bytes
+admission_kept : (file : Format) (bytes more : List ℕ) → admission_length file ≤ length bytes → admission_body file (bytes ++ more) ≡ admission_body file bytes
 admission_kept Archive bytes more le = slice_kept bytes more le
+admission_kept OldArchive bytes more le = slice_kept bytes more le
 admission_kept Operations bytes more le = slice_kept bytes more le
 admission_kept Summary bytes more le = refl
 
-module _ (file : TextKind) where
+module _ (file : Format) where
   pub framed-empty : (bytes : List ℕ) → length bytes < 1 → framed file bytes ≡ Err Truncated
   unfolding framed
   framed-empty bytes lt = rw (lt-ltb _ _ lt) refl

@@ -89,15 +89,15 @@ kept_before xs x h = sym (insert_present nat_list_cmp_total bytes_same (set_of x
 no_admission : (x : List ℕ) → get_or x 0 0 ≡ 1 → is_admission x ≡ false
 no_admission x e = is_false (is_admission x) (λ a. absurd (omega (arith, e, eqb-true (get_or x 0 0) 2 a)))
 
-pub keeps_retirement : (old new : List (List ℕ)) (x : List ℕ) → get_or x 0 0 ≡ 1 → set_of new ≡ set.insert (set_of old) x → Keeps old new x
+pub keeps_retirement : (old new : List (List ℕ)) (x : List ℕ) → get_or x 0 0 ≡ 1 → set_of new ≡ set.insert (set_of old) x → Keeps old new false x
 keeps_retirement old new x tag is = record {
-  uncovered = ap (λ b. b && contains (set_of old) (covering x)) (no_admission x tag);
+  tells = ap (λ b. b && contains (set_of old) (covering x)) (no_admission x tag);
   alike = λ r. ap (λ (s : Operations). contains s (1 ∷ r)) is;
 }
 
-pub keeps_admission : (old : List (List ℕ)) (x : List ℕ) → (get_or x 0 0 ≡ 1 → ⊥) → is_covered (set_of old) x ≡ false → Keeps old old x
-keeps_admission old x tag free = record {
-  uncovered = free;
+pub keeps_admission : (old : List (List ℕ)) (covered : Bool) (x : List ℕ) → (get_or x 0 0 ≡ 1 → ⊥) → covered ≡ is_covered (set_of old) x → Keeps old old covered x
+keeps_admission old covered x tag tells = record {
+  tells = sym tells;
   alike = λ r. sym (contains-insert nat_list_cmp_total (set_of old) x (1 ∷ r) ∙ ap (λ b. b || contains (set_of old) (1 ∷ r)) (is_false (same_as (1 ∷ r) x) (λ e. tag (ap (λ (t : List ℕ). get_or t 0 0) (sym (same_bytes (1 ∷ r) x e))))));
 }
 

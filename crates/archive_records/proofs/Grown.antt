@@ -10,7 +10,7 @@ use Rattle.archive_records.specs.Fault.{is_end, tested, next, next_by, FailsNext
 use Rattle.archive_records.proofs.Framed.{same_body, framed-bad, framed-large}
 use Rattle.archive_records.proofs.Holds.{holds, Holds-end, done, next-is, next-framed}
 use Rattle.archive_records.proofs.Longest.{framed-grows, is_end-grows}
-use Rattle.archive_records.specs.declared.kind.TextKind.{TextKind}
+use Rattle.archive_records.specs.declared.format.Format.{Format}
 
 abbrev pub failed : RecordFaultKind → Result ℕ RecordFaultKind
 failed kind = Err kind
@@ -34,7 +34,7 @@ unfolding record_count
 number-grows bytes more le =
     ap (λ (t : List ℕ). from_be_bytes w64 (take 8 t)) (drop-append-le 1 bytes more (omega arith)) ∙ ap (from_be_bytes w64) (take-append-le 8 (drop 1 bytes) more (omega (arith, length-drop 1 bytes)))
 
-module _ (file : TextKind) where
+module _ (file : Format) where
   Stays : List ℕ → RecordFaultKind → Type 0
   Stays bytes kind = (kind ≡ Truncated) ⊎ ((more : List ℕ) → framed file (bytes ++ more) ≡ Err kind)
 

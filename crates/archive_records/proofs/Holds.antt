@@ -9,8 +9,8 @@ use Rattle.archive_records.specs.Reader.{seen_as}
 use Rattle.archive_records.specs.Kind.{may_follow}
 use Rattle.archive_records.specs.Fault.{is_end, tested, next, next_by}
 use Rattle.std.specs.Prelude.{MatchResult}
-use Rattle.archive_records.specs.declared.kind.TextKind.{TextKind}
-use Rattle.archive_records.specs.declared.kind.TextKind.TheVariants.{Archive, Operations, Summary}
+use Rattle.archive_records.specs.declared.format.Format.{Format}
+use Rattle.archive_records.specs.declared.format.Format.TheVariants.{Archive, OldArchive, Operations, Summary}
 use Rattle.archive_records.specs.Kind.{admission_length, end_length}
 
 -- a test that passed
@@ -33,18 +33,20 @@ pub none_is_some : (x : ℕ) → none ≡ some x → ⊥
 none_is_some x e = cc
 
 -- an end record has nine bytes, where there is one
-end_nine : (file : TextKind) (head : ℕ) → end_length file ≡ some head → head ≡ 9
+end_nine : (file : Format) (head : ℕ) → end_length file ≡ some head → head ≡ 9
 end_nine Archive head e = sym (some_is 9 head e)
+end_nine OldArchive head e = sym (some_is 9 head e)
 end_nine Operations head e = absurd (none_is_some head e)
 end_nine Summary head e = sym (some_is 9 head e)
 
 -- nor has an admission's head fewer
-admission_nine : (file : TextKind) → 9 ≤ admission_length file
+admission_nine : (file : Format) → 9 ≤ admission_length file
 admission_nine Archive = lit≤ tt
+admission_nine OldArchive = lit≤ tt
 admission_nine Operations = lit≤ tt
 admission_nine Summary = lit≤ tt
 
-body_three : (file : TextKind) (bytes : List ℕ) → get_or bytes 0 0 ≡ 3 → body_length file bytes ≡ 0
+body_three : (file : Format) (bytes : List ℕ) → get_or bytes 0 0 ≡ 3 → body_length file bytes ≡ 0
 unfolding body_length
 body_three file bytes e = rw (ap (λ (t : ℕ). eqb t 2) e) refl
 
@@ -57,11 +59,11 @@ ok_at : (b : Bool) (kind : RecordFaultKind) (m n : ℕ) → cond b (done m) (Err
 ok_at true kind m n e = result_is m n e
 ok_at false kind m n e = absurd cc
 
-pub body_one : (file : TextKind) (bytes : List ℕ) → get_or bytes 0 0 ≡ 1 → body_length file bytes ≡ 0
+pub body_one : (file : Format) (bytes : List ℕ) → get_or bytes 0 0 ≡ 1 → body_length file bytes ≡ 0
 unfolding body_length
 body_one file bytes e = rw (ap (λ (t : ℕ). eqb t 2) e) refl
 
-pub body_two : (file : TextKind) (bytes : List ℕ) → get_or bytes 0 0 ≡ 2 → body_length file bytes ≡ admission_body file bytes
+pub body_two : (file : Format) (bytes : List ℕ) → get_or bytes 0 0 ≡ 2 → body_length file bytes ≡ admission_body file bytes
 unfolding body_length
 body_two file bytes e = rw (ap (λ (t : ℕ). eqb t 2) e) refl
 
@@ -69,7 +71,7 @@ not_three : (bytes : List ℕ) → is_end bytes ≡ false → get_or bytes 0 0 �
 unfolding is_end
 not_three bytes item three = false≢true (sym item ∙ ap (λ (t : ℕ). eqb t 3) three)
 
-module _ (file : TextKind) where
+module _ (file : Format) where
   -- a record of n bytes stands at the front of the bytes
   pub record Holds (bytes : List ℕ) (n : ℕ) : Type 0 where
     pub head : ℕ

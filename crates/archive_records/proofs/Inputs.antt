@@ -1,5 +1,5 @@
 -- From the bytes that were read to the whole input.
-use Rattle.std.proofs.Common.{◌≡◌, ◌≢◌, ℕ, ◌<◌, ◌^◌, true, List, [], ◌∷◌, ◌++◌, length, Option, Some, None, Result, Ok, Err, refl, sym, ap, ◌∙◌, subst, arith, inl, inr, ◌⊎◌, append_assoc, length-append}
+use Rattle.std.proofs.Common.{◌≡◌, ◌≢◌, ℕ, ◌<◌, ◌≤◌, ◌^◌, true, List, [], ◌∷◌, ◌++◌, length, Option, Some, None, Result, Ok, Err, refl, sym, ap, ◌∙◌, subst, arith, inl, inr, ◌⊎◌, append_assoc, length-append}
 use Rattle.std.proofs.lemmas.List.{append-nil, take-append-le}
 use Rattle.std.specs.Prelude.{IfOk, IfErr, IfSome, OnOk, All, map}
 use Rattle.std.specs.List.{concat}
@@ -10,29 +10,34 @@ use Rattle.join_core.specs.Listing.{listing}
 use Rattle.join_core.proofs.Place.{len_listed}
 use Rattle.archive_core.specs.declared.operations.Operation.{Operation}
 use Rattle.archive_core.specs.Record.{IsOperation, rec}
-use Rattle.archive_core.specs.Content.{Operations, IsContent}
+use Rattle.archive_core.specs.Content.{Operations, IsContent, made}
 use Rattle.archive_core.specs.Summary.{Entries}
 use Rattle.archive_records.specs.Entry.{AreEntries}
 use Rattle.archive_records.specs.declared.fault.RecordFaultKind.{RecordFaultKind}
 use Rattle.archive_records.specs.declared.fault.RecordFaultKind.TheVariants.{BadMagic, Truncated, BadTag, TooLarge, NotAscending, BadSlice, KeyMismatch, BadCount, Trailing, Device, OutOfMemory, Covered}
 use Rattle.archive_records.specs.declared.fault.RecordFault.{RecordFault}
-use Rattle.archive_records.specs.Kind.{magic_of}
-use Rattle.archive_records.specs.Text.{ending, text_of, InOrder, AreApart, last_of, written, summary_text, IsOperationsText}
+use Rattle.archive_records.specs.Kind.{magic_of, kind_of, archive_format, format_for}
+use Rattle.archive_records.specs.Text.{ending, text_of, InOrder, AreApart, last_of, kept, taken_of, IsArchiveOf, summary_text, IsOperationsText}
 use Rattle.archive_records.specs.Fault.{is_end, FailsBehind, Fails, IsMagicFault, IsFaultBehind, IsUnended, IsOperationsFault, IsSummaryFault, IsFaultOf, IsOfText}
-use Rattle.archive_records.specs.Front.{IsGoodFront, IsFrontLengthOf, IsLongestLengthOf, front_length}
+use Rattle.archive_records.specs.Front.{IsGoodFront, IsFrontLengthOf, IsLongestLengthOf, IsFrontLength, IsLongestLength, front_length}
 use Rattle.archive_records.specs.Reading.{Blames, StandsBehind, IsRefused, IsOfMachine, ReadsWhole, ReadsFront}
-use Rattle.archive_records.specs.Reader.{FaultBlamesReader, seen_as, StopsInMagic, Stops, HasStopped, IsReadTo, AreRead}
+use Rattle.archive_records.specs.Reader.{FaultBlamesReader, seen_as, StopsInMagic, Stops, Stopped, HasStopped, IsReadTo, AreRead}
 use Rattle.archive_records.proofs.Grown.{Fails-grows, IsTrailing-grows}
 use Rattle.archive_records.proofs.Longest.{Goes, end-stops, is_longest}
-use Rattle.archive_records.proofs.Apart.{apart_listing}
 use Rattle.archive_records.proofs.Puts.{bytes_same, length_written}
 use Rattle.archive_records.proofs.Ends.{end-is_end}
-use Rattle.archive_records.proofs.Contents.{sorted-InOrder, sorted-entries, IsContent-records, written-records, written_text, InOrder-listing, InOrder-entries, AreEntries-entries, summary_text_is, summary_text-entries, content_is as set_is}
+use Rattle.archive_records.proofs.Contents.{sorted-InOrder, sorted-entries, InOrder-entries, AreEntries-entries, summary_text_is, summary_text-entries, content_is as set_is}
 use Rattle.archive_records.proofs.FaultKinds.{as_itself}
 use Rattle.archive_records.proofs.Listed.{InOrder-operations, IsOperationsText-text, text_is, one_list}
-use Rattle.archive_records.proofs.Exact.{fails_stop, no_magic_fault, no_fault, no_fault_behind, same_records, one_front}
+use Rattle.archive_records.proofs.Exact.{fails_stop, no_magic_fault, no_fault, no_fault_behind, same_records}
+use Rattle.archive_records.proofs.Formats.{in_order_old, format_read, kind_read, summary_form, no_operations_text, no_summary_text}
+use Rattle.archive_records.proofs.Versions.{Formed, formed, formed_content, formed_text, formed_format, no_operations, one_front, kept_set, kept_records, kept_long}
 use Rattle.archive_records.specs.declared.kind.TextKind.{TextKind}
-use Rattle.archive_records.specs.declared.kind.TextKind.TheVariants.{Archive, Operations as Operations_file, Summary as Summary_file}
+use Rattle.archive_records.specs.declared.kind.TextKind.TheVariants.{Archive as Archive_text, Operations as Operations_text, Summary as Summary_text}
+use Rattle.std.specs.Ordering.{nat_cmp}
+use Rattle.std.specs.Cmp.Lexicographic.{slice_cmp}
+use Rattle.archive_records.specs.declared.format.Format.{Format}
+use Rattle.archive_records.specs.declared.format.Format.TheVariants.{Archive, OldArchive, Operations as Operations_file, Summary as Summary_file}
 
 of_text : (kind : RecordFaultKind) → IsOfText kind ⊎ ((kind ≡ Device) ⊎ (kind ≡ OutOfMemory))
 of_text Device = inr (inl refl)
@@ -64,16 +69,32 @@ part_or_not Covered = inr (λ e. cc)
 
 -- ---- the text of an archive that was read
 
-pub IsReadTo-taken : (a b : Option (List ℕ)) (o : Operations) → IsReadTo Archive a b o → Consumes a b (written o)
-IsReadTo-taken a b o r = subst (Consumes a b) (sym (ap written r.content ∙ written-records r.records r.ordered)) r.taken
+-- what was read is a text of the content
+read_form : (a b : Option (List ℕ)) (o : Operations) (r : IsReadTo Archive_text a b o) → Formed o (text_of r.format r.records)
+read_form a b o r = record { format = r.format; archive = r.kind_is; records = r.records; ordered = r.ordered; apart = r.apart; whole = refl; content = r.content }
 
-pub IsReadTo-content : (a b : Option (List ℕ)) (o : Operations) → IsReadTo Archive a b o → IsContent o
-IsReadTo-content a b o r = subst IsContent (sym r.content) (IsContent-records r.records r.ordered r.apart)
+pub IsReadTo-taken : (a b : Option (List ℕ)) (o : Operations) → IsReadTo Archive_text a b o → (text : List ℕ) × IsArchiveOf o text × Consumes a b text
+IsReadTo-taken a b o r = (text_of r.format r.records, formed_text o (text_of r.format r.records) (read_form a b o r), r.taken)
 
-pub IsReadTo-few : (a b : Option (List ℕ)) (o : Operations) → IsReadTo Archive a b o → set.len o < 2 ^ 63
+pub IsReadTo-content : (a b : Option (List ℕ)) (o : Operations) → IsReadTo Archive_text a b o → IsContent o
+IsReadTo-content a b o r = formed_content o (text_of r.format r.records) (read_form a b o r)
+
+few_in : (f : Format) → kind_of f ≡ Archive_text → (xs : List (List ℕ)) → InOrder f [] xs → set.len (set.from_list {R = slice_cmp nat_cmp} (taken_of f xs)) ≤ length xs
+few_in Archive is xs a =
+    let long : set.len (set.from_list {R = slice_cmp nat_cmp} xs) ≡ length xs = len_listed nat_list_cmp_total bytes_same xs (sorted-InOrder [] xs a).1 in
+    omega arith
+few_in OldArchive is xs a =
+    let b = in_order_old [] xs a in
+    let kept_few : length (kept xs) ≤ length xs = kept_long xs in
+    let long : set.len (set.from_list {R = slice_cmp nat_cmp} (kept xs)) ≡ length (kept xs) = ap set.len (kept_set xs b) ∙ sym (length_written (made (set.from_list xs))) ∙ ap length (kept_records xs b) in
+    omega arith
+few_in Operations_file is xs a = absurd (no_operations_text is)
+few_in Summary_file is xs a = absurd (no_summary_text is)
+
+pub IsReadTo-few : (a b : Option (List ℕ)) (o : Operations) → IsReadTo Archive_text a b o → set.len o < 2 ^ 63
 IsReadTo-few a b o r =
     let few = r.few in
-    let long : set.len o ≡ length r.records = ap set.len r.content ∙ len_listed nat_list_cmp_total bytes_same r.records (sorted-InOrder [] r.records r.ordered).1 in
+    let long : set.len o ≤ length r.records = subst (λ (c : Operations). set.len c ≤ length r.records) (sym r.content) (few_in r.format r.kind_is r.records r.ordered) in
     omega arith
 
 all_taken : (a b : Option (List ℕ)) (text : List ℕ) → Consumes a b text → IsAtEnd b → IfSome a (λ t. t ≡ text)
@@ -81,18 +102,22 @@ all_taken None b text k end = tt
 all_taken (Some t) None text k end = absurd k
 all_taken (Some t) (Some ys) text k end = k ∙ ap (λ (y : List ℕ). text ++ y) end ∙ append-nil text
 
-pub IsReadTo-text : (a b : Option (List ℕ)) (o : Operations) → IsReadTo Archive a b o → IsAtEnd b → IfSome a (λ t. t ≡ written o)
-IsReadTo-text a b o r end = all_taken a b (written o) (IsReadTo-taken a b o r) end
+pub IsReadTo-text : (a b : Option (List ℕ)) (o : Operations) → IsReadTo Archive_text a b o → IsAtEnd b → IfSome a (λ t. IsArchiveOf o t)
+IsReadTo-text None b o r end = tt
+IsReadTo-text (Some t) b o r end =
+    let taken = IsReadTo-taken (Some t) b o r in
+    subst (λ (x : List ℕ). IsArchiveOf o x) (sym (all_taken (Some t) b taken.0 taken.2 end)) taken.1
 
 -- ---- a fault that was found
 
-unended_grows : (file : TextKind) (rest more : List ℕ) → IsUnended file rest → IsUnended file (rest ++ more)
+unended_grows : (file : Format) (rest more : List ℕ) → IsUnended file rest → IsUnended file (rest ++ more)
 unended_grows Archive rest more u = tt
+unended_grows OldArchive rest more u = tt
 unended_grows Summary_file rest more u = tt
 unended_grows Operations_file [] more u = absurd (u refl)
 unended_grows Operations_file (x ∷ rest) more u = λ e. cc
 
-IsMagicFault-grows : (file : TextKind) (bytes more : List ℕ) (kind : RecordFaultKind) → kind ≢ Truncated → IsMagicFault file bytes kind → IsMagicFault file (bytes ++ more) kind
+IsMagicFault-grows : (file : Format) (bytes more : List ℕ) (kind : RecordFaultKind) → kind ≢ Truncated → IsMagicFault file bytes kind → IsMagicFault file (bytes ++ more) kind
 IsMagicFault-grows file bytes more BadMagic p b = (b.0, b.1, omega (arith, length-append bytes more, b.2), λ e. b.3 (sym (take-append-le b.0 bytes more b.2) ∙ e))
 IsMagicFault-grows file bytes more Truncated p b = absurd (p refl)
 IsMagicFault-grows file bytes more BadTag p b = b
@@ -115,7 +140,7 @@ trailing_device h = cc
 trailing_memory : Trailing ≡ OutOfMemory → ⊥
 trailing_memory h = cc
 
-covered_grows : (file : TextKind) (records : List (List ℕ)) (rest more : List ℕ) (kind : RecordFaultKind) → FailsBehind file records rest kind → FailsBehind file records (rest ++ more) kind
+covered_grows : (file : Format) (records : List (List ℕ)) (rest more : List ℕ) (kind : RecordFaultKind) → FailsBehind file records rest kind → FailsBehind file records (rest ++ more) kind
 covered_grows Archive records rest more kind f = (
   f.0,
   record {
@@ -127,10 +152,17 @@ covered_grows Archive records rest more kind f = (
     covered = f.1.covered;
   },
 )
+covered_grows OldArchive records rest more kind f = f
 covered_grows Operations_file records rest more kind f = f
 covered_grows Summary_file records rest more kind f = f
 
-module _ (file : TextKind) where
+-- reading stopped in this format
+abbrev pub HasStoppedIn : Format → Option (List ℕ) → Option (List ℕ) → RecordFault → Type 0
+HasStoppedIn file a b fault =
+    ((bytes : List ℕ) × Consumes a b bytes × StopsInMagic file bytes fault.kind × (fault.offset ≡ 0))
+    ⊎ ((records : List (List ℕ)) × Stopped file a b records fault)
+
+module _ (file : Format) where
   fails_grow : (records : List (List ℕ)) (rest more : List ℕ) (kind : RecordFaultKind) → kind ≢ Truncated → Fails file records rest kind → Fails file records (rest ++ more) kind
   fails_grow records rest more kind p (inl f) = inl (Fails-grows file (last_of [] records) (length records) rest more kind p f)
   fails_grow records rest more kind p (inr f) = inr (covered_grows file records rest more kind f)
@@ -169,7 +201,7 @@ module _ (file : TextKind) where
         | inr p ↦ behind_grows records rest more fault p f
       ]
 
-  stopped_few : (t : List ℕ) (b : Option (List ℕ)) (fault : RecordFault) → HasStopped file (Some t) b fault → (fault.kind ≡ Truncated → IsAtEnd b) → IsOfText fault.kind → FewFault t fault
+  stopped_few : (t : List ℕ) (b : Option (List ℕ)) (fault : RecordFault) → HasStoppedIn file (Some t) b fault → (fault.kind ≡ Truncated → IsAtEnd b) → IsOfText fault.kind → FewFault t fault
   unfolding FewFault
   stopped_few t None fault (inl m) ended known = absurd m.1
   stopped_few t (Some ys) fault (inl m) ended known = inl (grown_magic t m.0 ys fault.kind m.1 ended (magic_stop m.0 fault.kind known m.2), m.3)
@@ -186,9 +218,8 @@ module _ (file : TextKind) where
   few_fault t fault (inr f) = inr (f.0, f.1, f.3, f.4)
 
   -- the fault is that of the whole input
-  pub HasStopped-fault : (a b : Option (List ℕ)) (fault : RecordFault) → HasStopped file a b fault → (fault.kind ≡ Truncated → IsAtEnd b) → IsOfText fault.kind → IfSome a (λ t. IsFaultOf file t fault)
-  HasStopped-fault None b fault s ended known = tt
-  HasStopped-fault (Some t) b fault s ended known = few_fault t fault (stopped_few t b fault s ended known)
+  pub fault_in : (t : List ℕ) (b : Option (List ℕ)) (fault : RecordFault) → HasStoppedIn file (Some t) b fault → (fault.kind ≡ Truncated → IsAtEnd b) → IsOfText fault.kind → IsFaultOf file t fault
+  fault_in t b fault s ended known = few_fault t fault (stopped_few t b fault s ended known)
 
   -- a text is not refused
   not_refused : (t : List ℕ) (xs : List (List ℕ)) (more : List ℕ) (fault : RecordFault) → InOrder file [] xs → AreApart file xs → t ≡ text_of file xs ++ more → (file ≡ Operations_file → more ≡ []) → (fault.kind ≡ Trailing → more ≡ []) → FewFault t fault → ⊥
@@ -199,7 +230,7 @@ module _ (file : TextKind) where
       let few = f.2 in
       no_fault_behind file t xs more ordered apart e alone f.0 f.1 fault (λ _ same. omega arith) all f.3 f.4
 
-  pub machine_alone : (t : List ℕ) (b : Option (List ℕ)) (xs : List (List ℕ)) (more : List ℕ) (fault : RecordFault) → HasStopped file (Some t) b fault → (fault.kind ≡ Truncated → IsAtEnd b) → InOrder file [] xs → AreApart file xs → t ≡ text_of file xs ++ more
+  pub machine_alone : (t : List ℕ) (b : Option (List ℕ)) (xs : List (List ℕ)) (more : List ℕ) (fault : RecordFault) → HasStoppedIn file (Some t) b fault → (fault.kind ≡ Truncated → IsAtEnd b) → InOrder file [] xs → AreApart file xs → t ≡ text_of file xs ++ more
       → (file ≡ Operations_file → more ≡ []) → (fault.kind ≡ Trailing → more ≡ []) → (fault.kind ≡ Device) ⊎ (fault.kind ≡ OutOfMemory)
   machine_alone t b xs more fault s ended ordered apart e alone all =
       elim (of_text fault.kind) [
@@ -226,14 +257,11 @@ module _ (file : TextKind) where
   device_offset records rest fault e (inr (inl t)) = absurd (trailing_device (sym t.0 ∙ e))
   device_offset records rest fault e (inr (inr d)) = d.2
 
-  HasStopped-device : (a b : Option (List ℕ)) (fault : RecordFault) → HasStopped file a b fault → fault.kind ≡ Device → (bytes : List ℕ) × Consumes a b bytes × IsLongestLengthOf file bytes fault.offset
-  HasStopped-device a b fault (inl m) e = (m.0, m.1, inl (device_magic m.0 fault.kind e m.2, m.3))
-  HasStopped-device a b fault (inr s) e =
-      let records = s.0 in
-      let rest = s.1.rest in
-      let bytes : List ℕ = magic_of file ++ (concat records ++ rest) in
-      let front : IsGoodFront file bytes records = record { ordered = s.1.ordered; apart = s.1.apart; rest = rest; whole = refl } in
-      (bytes, s.1.taken, inr (records, is_longest file bytes records front (device_stops records rest fault e s.1.stops), device_offset records rest fault e s.1.stops))
+  stopped_device : (a b : Option (List ℕ)) (fault : RecordFault) (records : List (List ℕ)) → Stopped file a b records fault → fault.kind ≡ Device → (rest : List ℕ) × Consumes a b (magic_of file ++ rest) × IsLongestLengthOf file (magic_of file ++ rest) fault.offset
+  stopped_device a b fault records s e =
+      let bytes : List ℕ = magic_of file ++ (concat records ++ s.rest) in
+      let front : IsGoodFront file bytes records = record { ordered = s.ordered; apart = s.apart; rest = s.rest; whole = refl } in
+      (concat records ++ s.rest, s.taken, inr (records, is_longest file bytes records front (device_stops records s.rest fault e s.stops), device_offset records s.rest fault e s.stops))
 
   -- ---- want of memory
 
@@ -247,16 +275,44 @@ module _ (file : TextKind) where
   memory_offset records rest fault e (inr (inl t)) = absurd (trailing_memory (sym t.0 ∙ e))
   memory_offset records rest fault e (inr (inr d)) = d.2
 
-  HasStopped-memory : (a b : Option (List ℕ)) (fault : RecordFault) → HasStopped file a b fault → fault.kind ≡ OutOfMemory → StandsBehind (IsFrontLengthOf file) a b fault.offset
-  HasStopped-memory a b fault (inl m) e = (m.0, m.1, inl (memory_magic m.0 fault.kind e m.2, m.3))
-  HasStopped-memory a b fault (inr s) e =
-      let records = s.0 in
-      let rest = s.1.rest in
-      let bytes : List ℕ = magic_of file ++ (concat records ++ rest) in
-      let front : IsGoodFront file bytes records = record { ordered = s.1.ordered; apart = s.1.apart; rest = rest; whole = refl } in
-      (bytes, s.1.taken, inr (records, front, memory_offset records rest fault e s.1.stops))
+  stopped_memory : (a b : Option (List ℕ)) (fault : RecordFault) (records : List (List ℕ)) → Stopped file a b records fault → fault.kind ≡ OutOfMemory → (rest : List ℕ) × Consumes a b (magic_of file ++ rest) × IsFrontLengthOf file (magic_of file ++ rest) fault.offset
+  stopped_memory a b fault records s e =
+      let bytes : List ℕ = magic_of file ++ (concat records ++ s.rest) in
+      let front : IsGoodFront file bytes records = record { ordered = s.ordered; apart = s.apart; rest = s.rest; whole = refl } in
+      (concat records ++ s.rest, s.taken, inr (records, front, memory_offset records s.rest fault e s.stops))
 
-  pub is_refused : {R : Type 0} (left : R → Option (List ℕ)) (failures : R → ℕ) (old new : R) (fault : RecordFault) → HasStopped file (left old) (left new) fault → Blames left failures old new fault.kind → IsRefused file left failures old new fault
+-- ---- a kind of file, of which the first bytes tell the format
+
+module _ (kind : TextKind) where
+  -- the format in which reading stopped is that of the whole input
+  pub stopped_in : (t : List ℕ) (b : Option (List ℕ)) (fault : RecordFault) → HasStopped kind (Some t) b fault → HasStoppedIn (format_for kind t) (Some t) b fault
+  stopped_in t b fault (inl m) = inl (m.0, m.1, m.2 (format_for kind t) (kind_read kind t), m.3)
+  stopped_in t None fault (inr s) = absurd s.3.taken
+  stopped_in t (Some ys) fault (inr s) =
+      let format = s.0 in
+      let same : format_for kind t ≡ format = format_read kind format s.1 t ((concat s.2 ++ s.3.rest) ++ ys) (s.3.taken ∙ append_assoc (magic_of format) (concat s.2 ++ s.3.rest) ys) in
+      inr (s.2, subst (λ (f : Format). Stopped f (Some t) (Some ys) s.2 fault) (sym same) s.3)
+
+  -- the fault is that of the whole input
+  pub HasStopped-fault : (a b : Option (List ℕ)) (fault : RecordFault) → HasStopped kind a b fault → (fault.kind ≡ Truncated → IsAtEnd b) → IsOfText fault.kind → IfSome a (λ t. IsFaultOf (format_for kind t) t fault)
+  HasStopped-fault None b fault s ended known = tt
+  HasStopped-fault (Some t) b fault s ended known = fault_in (format_for kind t) t b fault (stopped_in t b fault s) ended known
+
+  HasStopped-device : (a b : Option (List ℕ)) (fault : RecordFault) → HasStopped kind a b fault → fault.kind ≡ Device → StandsBehind (IsLongestLength kind) a b fault.offset
+  HasStopped-device a b fault (inl m) e = (m.0, m.1, inl (device_magic (format_for kind m.0) m.0 fault.kind e (m.2 (format_for kind m.0) (kind_read kind m.0)), m.3))
+  HasStopped-device a b fault (inr s) e =
+      let found = stopped_device s.0 a b fault s.2 s.3 e in
+      let bytes : List ℕ = magic_of s.0 ++ found.0 in
+      (bytes, found.1, subst (λ (f : Format). IsLongestLengthOf f bytes fault.offset) (sym (format_read kind s.0 s.1 bytes found.0 refl)) found.2)
+
+  HasStopped-memory : (a b : Option (List ℕ)) (fault : RecordFault) → HasStopped kind a b fault → fault.kind ≡ OutOfMemory → StandsBehind (IsFrontLength kind) a b fault.offset
+  HasStopped-memory a b fault (inl m) e = (m.0, m.1, inl (memory_magic (format_for kind m.0) m.0 fault.kind e (m.2 (format_for kind m.0) (kind_read kind m.0)), m.3))
+  HasStopped-memory a b fault (inr s) e =
+      let found = stopped_memory s.0 a b fault s.2 s.3 e in
+      let bytes : List ℕ = magic_of s.0 ++ found.0 in
+      (bytes, found.1, subst (λ (f : Format). IsFrontLengthOf f bytes fault.offset) (sym (format_read kind s.0 s.1 bytes found.0 refl)) found.2)
+
+  pub is_refused : {R : Type 0} (left : R → Option (List ℕ)) (failures : R → ℕ) (old new : R) (fault : RecordFault) → HasStopped kind (left old) (left new) fault → Blames left failures old new fault.kind → IsRefused kind left failures old new fault
   is_refused left failures old new fault stopped blames = record {
     blames = blames;
     faulty = HasStopped-fault (left old) (left new) fault stopped blames.2;
@@ -266,28 +322,32 @@ module _ (file : TextKind) where
 
 -- ---- an archive that is read
 
--- the rest that is left behind the text of a content
-front_alone : (t : List ℕ) (b : Option (List ℕ)) (o p : Operations) (rest : List ℕ) → IsReadTo Archive (Some t) b o → IsContent p → t ≡ written p ++ rest → (o ≡ p) × (b ≡ Some rest)
-front_alone t None o p rest h content is = absurd h.taken
-front_alone t (Some ys) o p rest h content is =
-    let same = one_front t o p ys rest (IsReadTo-content (Some t) (Some ys) o h) content (IsReadTo-taken (Some t) (Some ys) o h) is in
+-- the rest that is left behind an archive's text
+front_alone : (t : List ℕ) (b : Option (List ℕ)) (o p : Operations) (text rest : List ℕ) → IsReadTo Archive_text (Some t) b o → IsContent p → IsArchiveOf p text → t ≡ text ++ rest → (o ≡ p) × (b ≡ Some rest)
+front_alone t None o p text rest h content form is = absurd h.taken
+front_alone t (Some ys) o p text rest h content form is =
+    let same = one_front t o p (text_of h.format h.records) text ys rest (read_form (Some t) (Some ys) o h) (formed p text content form) h.taken is in
     (same.0, ap (λ (y : List ℕ). Some y) same.1)
 
-front_machine : (t : List ℕ) (b : Option (List ℕ)) (fault : RecordFault) (p : Operations) (rest : List ℕ) → HasStopped Archive (Some t) b fault → (fault.kind ≡ Truncated → IsAtEnd b) → (fault.kind ≡ Trailing → rest ≡ []) → IsContent p → t ≡ written p ++ rest → IsOfMachine fault.kind
-front_machine t b fault p rest stopped ended all content is =
-    machine_alone Archive t b (listing p) rest fault stopped ended (InOrder-listing p content) (apart_listing p content) (is ∙ ap (λ (x : List ℕ). x ++ rest) (written_text p)) (λ h. absurd cc) all
+front_machine : (t : List ℕ) (b : Option (List ℕ)) (fault : RecordFault) (p : Operations) (text rest : List ℕ) → HasStopped Archive_text (Some t) b fault → (fault.kind ≡ Truncated → IsAtEnd b) → (fault.kind ≡ Trailing → rest ≡ []) → IsContent p → IsArchiveOf p text → t ≡ text ++ rest
+    → IsOfMachine fault.kind
+front_machine t b fault p text rest stopped ended all content is e =
+    let f = formed p text content is in
+    let same : archive_format t ≡ f.format = formed_format p text f t rest e in
+    let there : HasStoppedIn f.format (Some t) b fault = subst (λ (k : Format). HasStoppedIn k (Some t) b fault) same (stopped_in Archive_text t b fault stopped) in
+    machine_alone f.format t b f.records rest fault there ended f.ordered f.apart (e ∙ ap (λ (x : List ℕ). x ++ rest) f.whole) (λ h. absurd (no_operations f.format f.archive h)) all
 
-whole_alone : (a b : Option (List ℕ)) (o : Operations) → IsReadTo Archive a b o → IfSome a (λ t. (p : Operations) → IsContent p → t ≡ written p → o ≡ p)
+whole_alone : (a b : Option (List ℕ)) (o : Operations) → IsReadTo Archive_text a b o → IfSome a (λ t. (p : Operations) → IsContent p → IsArchiveOf p t → o ≡ p)
 whole_alone None b o h = tt
-whole_alone (Some t) b o h = λ p content is. (front_alone t b o p [] h content (is ∙ sym (append-nil (written p)))).0
+whole_alone (Some t) b o h = λ p content is. (front_alone t b o p t [] h content is (sym (append-nil t))).0
 
-whole_machine : (a b : Option (List ℕ)) (fault : RecordFault) → HasStopped Archive a b fault → (fault.kind ≡ Truncated → IsAtEnd b) → IfSome a (λ t. (p : Operations) → IsContent p → t ≡ written p → IsOfMachine fault.kind)
+whole_machine : (a b : Option (List ℕ)) (fault : RecordFault) → HasStopped Archive_text a b fault → (fault.kind ≡ Truncated → IsAtEnd b) → IfSome a (λ t. (p : Operations) → IsContent p → IsArchiveOf p t → IsOfMachine fault.kind)
 whole_machine None b fault stopped ended = tt
-whole_machine (Some t) b fault stopped ended = λ p content is. front_machine t b fault p [] stopped ended (λ _. refl) content (is ∙ sym (append-nil (written p)))
+whole_machine (Some t) b fault stopped ended = λ p content is. front_machine t b fault p t [] stopped ended (λ _. refl) content is (sym (append-nil t))
 
 pub archive_whole : {R X : Type 0} (content : X → Operations) (left : R → Option (List ℕ)) (failures : R → ℕ) (old new : R) (r : Result X RecordFault)
-    → IfOk r (λ x. IsReadTo Archive (left old) (left new) (content x)) → OnOk r (IsAtEnd (left new)) → IfErr r (λ fault. HasStopped Archive (left old) (left new) fault) → FaultBlamesReader left failures old new r
-    → ReadsWhole Archive content left failures old new r
+    → IfOk r (λ x. IsReadTo Archive_text (left old) (left new) (content x)) → OnOk r (IsAtEnd (left new)) → IfErr r (λ fault. HasStopped Archive_text (left old) (left new) fault) → FaultBlamesReader left failures old new r
+    → ReadsWhole Archive_text content left failures old new r
 archive_whole content left failures old new (Ok x) h end stopped blames = record {
   is = IsReadTo-content (left old) (left new) (content x) h;
   few = IsReadTo-few (left old) (left new) (content x) h;
@@ -296,28 +356,28 @@ archive_whole content left failures old new (Ok x) h end stopped blames = record
   at_end = end;
   unfailed = blames;
 }
-archive_whole content left failures old new (Err fault) h end stopped blames = (is_refused Archive left failures old new fault stopped blames, whole_machine (left old) (left new) fault stopped blames.2)
+archive_whole content left failures old new (Err fault) h end stopped blames = (is_refused Archive_text left failures old new fault stopped blames, whole_machine (left old) (left new) fault stopped blames.2)
 
-front_of : (a b : Option (List ℕ)) (o : Operations) → IsReadTo Archive a b o → IfSome a (λ input. (p : Operations) (text rest : List ℕ) → IsContent p → text ≡ written p → input ≡ text ++ rest → (o ≡ p) × (b ≡ Some rest))
+front_of : (a b : Option (List ℕ)) (o : Operations) → IsReadTo Archive_text a b o → IfSome a (λ input. (p : Operations) (text rest : List ℕ) → IsContent p → IsArchiveOf p text → input ≡ text ++ rest → (o ≡ p) × (b ≡ Some rest))
 front_of None b o h = tt
-front_of (Some t) b o h = λ p text rest content is input. front_alone t b o p rest h content (input ∙ ap (λ (x : List ℕ). x ++ rest) is)
+front_of (Some t) b o h = λ p text rest content is input. front_alone t b o p text rest h content is input
 
-fronts_machine : (a b : Option (List ℕ)) (fault : RecordFault) → HasStopped Archive a b fault → (fault.kind ≡ Truncated → IsAtEnd b) → fault.kind ≢ Trailing → IfSome a (λ input. (p : Operations) (text rest : List ℕ) → IsContent p → text ≡ written p → input ≡ text ++ rest → IsOfMachine fault.kind)
+fronts_machine : (a b : Option (List ℕ)) (fault : RecordFault) → HasStopped Archive_text a b fault → (fault.kind ≡ Truncated → IsAtEnd b) → fault.kind ≢ Trailing → IfSome a (λ input. (p : Operations) (text rest : List ℕ) → IsContent p → IsArchiveOf p text → input ≡ text ++ rest → IsOfMachine fault.kind)
 fronts_machine None b fault stopped ended other = tt
-fronts_machine (Some t) b fault stopped ended other = λ p text rest content is input. front_machine t b fault p rest stopped ended (λ trailing. absurd (other trailing)) content (input ∙ ap (λ (x : List ℕ). x ++ rest) is)
+fronts_machine (Some t) b fault stopped ended other = λ p text rest content is input. front_machine t b fault p text rest stopped ended (λ trailing. absurd (other trailing)) content is input
 
 pub archive_front : {R X : Type 0} (content : X → Operations) (left : R → Option (List ℕ)) (failures : R → ℕ) (old new : R) (r : Result X RecordFault)
-    → IfOk r (λ x. IsReadTo Archive (left old) (left new) (content x)) → IfErr r (λ fault. HasStopped Archive (left old) (left new) fault) → IfErr r (λ fault. fault.kind ≢ Trailing) → FaultBlamesReader left failures old new r
-    → ReadsFront Archive content left failures old new r
+    → IfOk r (λ x. IsReadTo Archive_text (left old) (left new) (content x)) → IfErr r (λ fault. HasStopped Archive_text (left old) (left new) fault) → IfErr r (λ fault. fault.kind ≢ Trailing) → FaultBlamesReader left failures old new r
+    → ReadsFront Archive_text content left failures old new r
 archive_front content left failures old new (Ok x) h stopped other blames = record {
   is = IsReadTo-content (left old) (left new) (content x) h;
   few = IsReadTo-few (left old) (left new) (content x) h;
-  taken = (written (content x), refl, IsReadTo-taken (left old) (left new) (content x) h);
+  taken = IsReadTo-taken (left old) (left new) (content x) h;
   alone = front_of (left old) (left new) (content x) h;
   unfailed = blames;
 }
 archive_front content left failures old new (Err fault) h stopped other blames =
-    (is_refused Archive left failures old new fault stopped blames, other, fronts_machine (left old) (left new) fault stopped blames.2 other)
+    (is_refused Archive_text left failures old new fault stopped blames, other, fronts_machine (left old) (left new) fault stopped blames.2 other)
 
 -- ---- operations that are read
 
@@ -339,14 +399,14 @@ operations_alone : (a b : Option (List ℕ)) (xs : List Operation) → AreRead a
 operations_alone None b xs h = tt
 operations_alone (Some t) b xs h = λ ys _ text. one_operations t xs ys (operations_text (Some t) b xs h) text
 
-operations_machine : (a b : Option (List ℕ)) (fault : RecordFault) → HasStopped Operations_file a b fault → (fault.kind ≡ Truncated → IsAtEnd b) → IfSome a (λ t. (ys : List Operation) → All IsOperation ys → IsOperationsText t ys → IsOfMachine fault.kind)
+operations_machine : (a b : Option (List ℕ)) (fault : RecordFault) → HasStopped Operations_text a b fault → (fault.kind ≡ Truncated → IsAtEnd b) → IfSome a (λ t. (ys : List Operation) → All IsOperation ys → IsOperationsText t ys → IsOfMachine fault.kind)
 operations_machine None b fault stopped ended = tt
 operations_machine (Some t) b fault stopped ended = λ ys _ text.
-    machine_alone Operations_file t b (map rec ys) [] fault stopped ended (InOrder-operations [] ys text.are) tt (text_is t ys text ∙ sym (append-nil (text_of Operations_file (map rec ys)))) (λ _. refl) (λ _. refl)
+    machine_alone Operations_file t b (map rec ys) [] fault (stopped_in Operations_text t b fault stopped) ended (InOrder-operations [] ys text.are) tt (text_is t ys text ∙ sym (append-nil (text_of Operations_file (map rec ys)))) (λ _. refl) (λ _. refl)
 
 pub operations_whole : {R X : Type 0} (items : X → List Operation) (left : R → Option (List ℕ)) (failures : R → ℕ) (old new : R) (r : Result X RecordFault)
-    → IfOk r (λ x. AreRead (left old) (left new) (items x)) → IfErr r (λ fault. HasStopped Operations_file (left old) (left new) fault) → FaultBlamesReader left failures old new r
-    → ReadsWhole Operations_file items left failures old new r
+    → IfOk r (λ x. AreRead (left old) (left new) (items x)) → IfErr r (λ fault. HasStopped Operations_text (left old) (left new) fault) → FaultBlamesReader left failures old new r
+    → ReadsWhole Operations_text items left failures old new r
 operations_whole items left failures old new (Ok x) h stopped blames = record {
   is = h.are;
   few = h.few;
@@ -355,7 +415,7 @@ operations_whole items left failures old new (Ok x) h stopped blames = record {
   at_end = h.at_end;
   unfailed = blames;
 }
-operations_whole items left failures old new (Err fault) h stopped blames = (is_refused Operations_file left failures old new fault stopped blames, operations_machine (left old) (left new) fault stopped blames.2)
+operations_whole items left failures old new (Err fault) h stopped blames = (is_refused Operations_text left failures old new fault stopped blames, operations_machine (left old) (left new) fault stopped blames.2)
 
 -- and it has no fault: behind it nothing is left
 pub operations_no_fault : (t : List ℕ) (xs : List Operation) (fault : RecordFault) → IsOperationsText t xs → IsOperationsFault t fault → ⊥
@@ -366,16 +426,29 @@ operations_no_fault t xs fault p (inr f) =
 
 -- ---- a summary that is read
 
-IsReadTo-summary : (a b : Option (List ℕ)) (s : Entries) → IsReadTo Summary_file a b s → Consumes a b (summary_text s)
-IsReadTo-summary a b s r = subst (Consumes a b) (sym (ap summary_text r.content ∙ summary_text-entries r.records r.ordered)) r.taken
+pub summary_read : (a b : Option (List ℕ)) (s : Entries) → (r : IsReadTo Summary_text a b s) → InOrder Summary_file [] r.records × (s ≡ set.from_list r.records) × Consumes a b (text_of Summary_file r.records)
+summary_read a b s r =
+    let is = summary_form r.format r.kind_is in (
+      subst (λ (f : Format). InOrder f [] r.records) is r.ordered,
+      r.content ∙ ap (λ (f : Format). set.from_list (taken_of f r.records)) is,
+      subst (λ (f : Format). Consumes a b (text_of f r.records)) is r.taken,
+    )
 
-IsReadTo-entries : (a b : Option (List ℕ)) (s : Entries) → IsReadTo Summary_file a b s → AreEntries s
-IsReadTo-entries a b s r = subst AreEntries (sym r.content) (AreEntries-entries r.records r.ordered)
+IsReadTo-summary : (a b : Option (List ℕ)) (s : Entries) → IsReadTo Summary_text a b s → Consumes a b (summary_text s)
+IsReadTo-summary a b s r =
+    let m = summary_read a b s r in
+    subst (Consumes a b) (sym (ap summary_text m.1 ∙ summary_text-entries r.records m.0)) m.2
 
-IsReadTo-few_entries : (a b : Option (List ℕ)) (s : Entries) → IsReadTo Summary_file a b s → set.len s < 2 ^ 63
+IsReadTo-entries : (a b : Option (List ℕ)) (s : Entries) → IsReadTo Summary_text a b s → AreEntries s
+IsReadTo-entries a b s r =
+    let m = summary_read a b s r in
+    subst AreEntries (sym m.1) (AreEntries-entries r.records m.0)
+
+IsReadTo-few_entries : (a b : Option (List ℕ)) (s : Entries) → IsReadTo Summary_text a b s → set.len s < 2 ^ 63
 IsReadTo-few_entries a b s r =
+    let m = summary_read a b s r in
     let few = r.few in
-    let long : set.len s ≡ length r.records = ap set.len r.content ∙ len_listed nat_list_cmp_total bytes_same r.records (sorted-entries [] r.records r.ordered).1 in
+    let long : set.len s ≡ length r.records = ap set.len m.1 ∙ len_listed nat_list_cmp_total bytes_same r.records (sorted-entries [] r.records m.0).1 in
     omega arith
 
 -- a text is that of one summary
@@ -389,18 +462,18 @@ one_summary s t p q e =
     no_operations : Summary_file ≡ Operations_file → ⊥
     no_operations h = cc
 
-summary_alone : (a b : Option (List ℕ)) (s : Entries) → IsReadTo Summary_file a b s → IsAtEnd b → IfSome a (λ text. (t : Entries) → AreEntries t → text ≡ summary_text t → s ≡ t)
+summary_alone : (a b : Option (List ℕ)) (s : Entries) → IsReadTo Summary_text a b s → IsAtEnd b → IfSome a (λ text. (t : Entries) → AreEntries t → text ≡ summary_text t → s ≡ t)
 summary_alone None b s h end = tt
 summary_alone (Some text) b s h end = λ t q is. one_summary s t (IsReadTo-entries (Some text) b s h) q (sym (all_taken (Some text) b (summary_text s) (IsReadTo-summary (Some text) b s h) end) ∙ is)
 
-summary_machine : (a b : Option (List ℕ)) (fault : RecordFault) → HasStopped Summary_file a b fault → (fault.kind ≡ Truncated → IsAtEnd b) → IfSome a (λ text. (t : Entries) → AreEntries t → text ≡ summary_text t → IsOfMachine fault.kind)
+summary_machine : (a b : Option (List ℕ)) (fault : RecordFault) → HasStopped Summary_text a b fault → (fault.kind ≡ Truncated → IsAtEnd b) → IfSome a (λ text. (t : Entries) → AreEntries t → text ≡ summary_text t → IsOfMachine fault.kind)
 summary_machine None b fault stopped ended = tt
 summary_machine (Some text) b fault stopped ended = λ t q is.
-    machine_alone Summary_file text b (listing t) [] fault stopped ended (InOrder-entries t q) tt (is ∙ summary_text_is t ∙ sym (append-nil (text_of Summary_file (listing t)))) (λ _. refl) (λ _. refl)
+    machine_alone Summary_file text b (listing t) [] fault (stopped_in Summary_text text b fault stopped) ended (InOrder-entries t q) tt (is ∙ summary_text_is t ∙ sym (append-nil (text_of Summary_file (listing t)))) (λ _. refl) (λ _. refl)
 
 pub summary_whole : {R X : Type 0} (content : X → Entries) (left : R → Option (List ℕ)) (failures : R → ℕ) (old new : R) (r : Result X RecordFault)
-    → IfOk r (λ x. IsReadTo Summary_file (left old) (left new) (content x)) → OnOk r (IsAtEnd (left new)) → IfErr r (λ fault. HasStopped Summary_file (left old) (left new) fault) → FaultBlamesReader left failures old new r
-    → ReadsWhole Summary_file content left failures old new r
+    → IfOk r (λ x. IsReadTo Summary_text (left old) (left new) (content x)) → OnOk r (IsAtEnd (left new)) → IfErr r (λ fault. HasStopped Summary_text (left old) (left new) fault) → FaultBlamesReader left failures old new r
+    → ReadsWhole Summary_text content left failures old new r
 summary_whole content left failures old new (Ok x) h end stopped blames = record {
   is = IsReadTo-entries (left old) (left new) (content x) h;
   few = IsReadTo-few_entries (left old) (left new) (content x) h;
@@ -409,7 +482,7 @@ summary_whole content left failures old new (Ok x) h end stopped blames = record
   at_end = end;
   unfailed = blames;
 }
-summary_whole content left failures old new (Err fault) h end stopped blames = (is_refused Summary_file left failures old new fault stopped blames, summary_machine (left old) (left new) fault stopped blames.2)
+summary_whole content left failures old new (Err fault) h end stopped blames = (is_refused Summary_text left failures old new fault stopped blames, summary_machine (left old) (left new) fault stopped blames.2)
 
 -- and it has no fault
 pub summary_no_fault : (s : Entries) (fault : RecordFault) → AreEntries s → set.len s < 2 ^ 64 → IsSummaryFault (summary_text s) fault → ⊥

@@ -11,10 +11,9 @@ use Rattle.archive_core.specs.Content.{Operations, with_record}
 use Rattle.archive_core.specs.Part.{part}
 use Rattle.archive_core.proofs.Picked.{contains_part}
 use Rattle.archive_records.specs.declared.fault.RecordFault.{RecordFault}
-use Rattle.archive_records.specs.declared.kind.TextKind.TheVariants.{Archive}
-use Rattle.archive_records.specs.Text.{AreApart}
+use Rattle.archive_records.specs.declared.kind.TextKind.TheVariants.{Archive as Archive_text}
 use Rattle.archive_records.specs.Reading.{ReadsInPart}
-use Rattle.archive_records.specs.Reader.{FaultBlamesReader, HasStopped, IsPartReadTo}
+use Rattle.archive_records.specs.Reader.{FaultBlamesReader, HasStopped, IsPartReadTo, MakeThemselves}
 use Rattle.archive_records.proofs.Puts.{bytes_same}
 use Rattle.archive_records.proofs.Apart.{contains-push, part-push}
 use Rattle.archive_records.proofs.Inputs.{archive_whole}
@@ -47,7 +46,7 @@ module _ (picks : List ℕ → Bool) (records : List (List ℕ)) (x : List ℕ) 
   new : (q : List ℕ) → set.contains (part (set.from_list (records ++ x ∷ [])) picks) q ≡ ((eq_by_cmp (slice_cmp nat_cmp) q x || set.contains (set.from_list {R = slice_cmp nat_cmp} records) q) && picks q)
   new q = contains_part (set.from_list (records ++ x ∷ [])) picks q ∙ ap (λ b. b && picks q) (with_one records x q)
 
-  pub picked_more : picks x ≡ true → AreApart Archive (records ++ x ∷ []) → (p : Operations) → p ≡ with_record o x → p ≡ part (set.from_list (records ++ x ∷ [])) picks
+  pub picked_more : picks x ≡ true → MakeThemselves Archive_text (records ++ x ∷ []) → (p : Operations) → p ≡ with_record o x → p ≡ part (set.from_list (records ++ x ∷ [])) picks
   picked_more passes apart p e = e ∙ part-push records x o (λ r h. within (set.contains (set.from_list {R = slice_cmp nat_cmp} records) r) (picks r) (sym (old r) ∙ h)) apart ∙ same_set nat_list_cmp_total bytes_same (set.insert o x) (part (set.from_list (records ++ x ∷ [])) picks) (λ q.
       contains-insert nat_list_cmp_total o x q
       ∙ ap (λ b. eq_by_cmp (slice_cmp nat_cmp) q x || b) (old q)
@@ -68,8 +67,8 @@ part_start picks o e = e ∙ same_set nat_list_cmp_total bytes_same set.empty (p
 -- ---- the whole input
 
 pub part_whole : {R X : Type 0} (content : X → Operations) (picks : List ℕ → Bool) (left : R → Option (List ℕ)) (failures : R → ℕ) (old new : R) (r : Result X RecordFault)
-    → IfOk r (λ x. IsPartReadTo (left old) (left new) picks (content x)) → OnOk r (IsAtEnd (left new)) → IfErr r (λ fault. HasStopped Archive (left old) (left new) fault) → FaultBlamesReader left failures old new r
-    → ReadsInPart Archive (λ x o. content x ≡ part o picks) left failures old new r
+    → IfOk r (λ x. IsPartReadTo (left old) (left new) picks (content x)) → OnOk r (IsAtEnd (left new)) → IfErr r (λ fault. HasStopped Archive_text (left old) (left new) fault) → FaultBlamesReader left failures old new r
+    → ReadsInPart Archive_text (λ x o. content x ≡ part o picks) left failures old new r
 part_whole content picks left failures old new (Ok x) h end stopped blames = record {
   meaning = h.whole;
   whole = archive_whole {X = Operations} (λ o. o) left failures old new (Ok h.whole) h.read end tt blames;

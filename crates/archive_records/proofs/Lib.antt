@@ -1,5 +1,6 @@
 pub mod Heads
 pub mod Puts
+pub mod Formats
 pub mod Framed
 pub mod Holds
 pub mod SliceFacts
@@ -19,7 +20,9 @@ pub mod Listed
 pub mod Contents
 pub mod Summarised
 pub mod Named
+pub mod Magics
 pub mod Exact
+pub mod Versions
 pub mod Coverings
 pub mod Inputs
 pub mod Kept
@@ -27,6 +30,7 @@ pub mod Complete
 pub mod Ascending
 pub mod Unions
 pub mod Covered
+pub mod Taken
 pub mod Turns
 pub mod Starts
 pub mod Fronts

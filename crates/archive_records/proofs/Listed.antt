@@ -7,7 +7,7 @@ use Rattle.std.specs.List.{concat}
 use Rattle.archive_core.specs.declared.operations.Operation.{Operation}
 use Rattle.archive_core.specs.Record.{IsOperation, rec}
 use Rattle.archive_core.proofs.Records.{record_of_operation, operation_of_record, one_operation}
-use Rattle.archive_records.specs.declared.kind.TextKind.TheVariants.{Operations}
+use Rattle.archive_records.specs.declared.format.Format.TheVariants.{Operations}
 use Rattle.archive_records.specs.Kind.{operations_magic, allows, may_follow}
 use Rattle.archive_records.specs.Text.{text_of, InOrder, IsOperationsText}
 

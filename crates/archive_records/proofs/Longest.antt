@@ -14,7 +14,7 @@ use Rattle.archive_records.proofs.Apart.{apart_part}
 use Rattle.archive_records.proofs.Framed.{same_body, framed-whole}
 use Rattle.archive_records.proofs.Holds.{holds, done, result_is, next-is}
 use Rattle.archive_records.proofs.Forms.{item-framed, item-no_end, item-refused}
-use Rattle.archive_records.specs.declared.kind.TextKind.{TextKind}
+use Rattle.archive_records.specs.declared.format.Format.{Format}
 
 -- what a front that stops has before another
 pub record Before (xs ys : List (List ℕ)) (r s : List ℕ) : Type 0 where
@@ -41,7 +41,7 @@ same_item x y a b len e = (
 cons_both : (x y : List ℕ) (xs ys : List (List ℕ)) → x ≡ y → xs ≡ ys → x ∷ xs ≡ y ∷ ys
 cons_both x y xs ys p q = cc
 
-module _ (file : TextKind) where
+module _ (file : Format) where
   -- a record above low stands in front of the bytes
   pub record Takes (low : List ℕ) (bytes : List ℕ) : Type 0 where
     pub item : List ℕ

@@ -15,23 +15,24 @@ use Rattle.archive_records.specs.declared.fault.RecordFault.{RecordFault}
 use Rattle.archive_records.specs.declared.fault.MergeCause.{MergeCause}
 use Rattle.archive_records.specs.declared.fault.MergeCause.TheVariants.{Left, Right, Write}
 use Rattle.archive_records.specs.declared.fault.MergeFault.{MergeFault}
-use Rattle.archive_records.specs.declared.kind.TextKind.TheVariants.{Archive}
+use Rattle.archive_records.specs.declared.format.Format.{Format}
+use Rattle.archive_records.specs.declared.format.Format.TheVariants.{Archive}
+use Rattle.archive_records.specs.declared.kind.TextKind.TheVariants.{Archive as Archive_text}
 use Rattle.archive_records.specs.declared.writing.Sizes.{Sizes}
-use Rattle.archive_records.specs.Kind.{magic}
-use Rattle.archive_records.specs.Text.{text_of, last_of, written}
+use Rattle.archive_records.specs.Kind.{magic_of, kind_of}
+use Rattle.archive_records.specs.Text.{text_of, last_of, written, kept, taken_of, InOrder, IsArchiveOf}
 use Rattle.archive_records.specs.Fault.{IsOfText}
 use Rattle.archive_records.specs.Reading.{Blames, IsOfMachine, IsReadWhole}
 use Rattle.archive_records.specs.Reader.{HasReadAll, HasStopped, Stopped, IsReadTo, Position}
 use Rattle.archive_records.specs.Merging.{IsArchiveText, AreGoodRecords, LeftStops, RightStops, of_both, IsWrittenBefore, Stream, IsRefusedAlone, StopsBy, Merges}
-use Rattle.archive_records.specs.Turns.{kept, StopsBeforeRecords, Stands, LeftStopped, RightStopped, WriteStopped, IsFull, LeftFull, RightFull, memory_behind, first_of, Leaves, BlamesBy, BlamesDevices, ByCause}
+use Rattle.archive_records.specs.Turns.{StopsBeforeRecords, HasMagicRead, Stands, LeftStopped, RightStopped, WriteStopped, IsFull, LeftFull, RightFull, memory_behind, first_of, Leaves, BlamesBy, BlamesDevices, ByCause}
 use Rattle.archive_records.proofs.Puts.{length_written, concat-push}
-use Rattle.archive_records.proofs.Ascending.{InOrder-front}
 use Rattle.archive_records.proofs.Turns.{first_greater, first_held}
 use Rattle.archive_records.proofs.Apart.{apart_front}
 use Rattle.archive_records.proofs.Orders.{left_order, right_order}
 use Rattle.archive_records.proofs.Contents.{written_text}
 use Rattle.archive_records.proofs.Inputs.{archive_whole}
-use Rattle.archive_records.proofs.Fronts.{taken_of}
+use Rattle.archive_records.proofs.Fronts.{taken_rest, both_taken}
 use Rattle.archive_records.proofs.Places.{kept_listing, begun_nothing, no_magic, left_begun, left_place, left_first, right_begun, right_place, right_first, write_begun, full_begun}
 
 -- ---- one input
@@ -39,36 +40,42 @@ use Rattle.archive_records.proofs.Places.{kept_listing, begun_nothing, no_magic,
 abbrev itself : Operations → Operations
 itself o = o
 
-read_to : (a b : Option (List ℕ)) (records : List (List ℕ)) (position : Position) → HasReadAll Archive a b records position → IsReadTo Archive a b (set.from_list records)
-read_to a b records position h = record { records = records; few = h.few; taken = h.taken; ordered = h.ordered; apart = h.apart; content = refl }
+read_to : (f : Format) → kind_of f ≡ Archive_text → (a b : Option (List ℕ)) (records : List (List ℕ)) (position : Position) → HasReadAll f a b records position → IsReadTo Archive_text a b (set.from_list (taken_of f records))
+read_to f k a b records position h = record { format = f; kind_is = k; records = records; few = h.few; taken = h.taken; ordered = h.ordered; apart = h.apart; content = refl }
 
-read_whole : {R : Type 0} (input : Stream R) (records : List (List ℕ)) (position : Position) → HasReadAll Archive (input.bytes input.old) (input.bytes input.new) records position → IsAtEnd (input.bytes input.new) → input.failures input.new ≡ input.failures input.old
-    → IsReadWhole Archive (set.from_list records) input.bytes input.failures input.old input.new
-read_whole input records position h end unfailed = archive_whole itself input.bytes input.failures input.old input.new (Ok (set.from_list records)) (read_to (input.bytes input.old) (input.bytes input.new) records position h) end tt unfailed
+read_whole : {R : Type 0} (input : Stream R) (f : Format) → kind_of f ≡ Archive_text → (records : List (List ℕ)) (position : Position) → HasReadAll f (input.bytes input.old) (input.bytes input.new) records position → IsAtEnd (input.bytes input.new) → input.failures input.new ≡ input.failures input.old
+    → IsReadWhole Archive_text (set.from_list (taken_of f records)) input.bytes input.failures input.old input.new
+read_whole input f k records position h end unfailed =
+    archive_whole itself input.bytes input.failures input.old input.new (Ok (set.from_list (taken_of f records))) (read_to f k (input.bytes input.old) (input.bytes input.new) records position h) end tt unfailed
 
-refused_alone : {R : Type 0} (input : Stream R) (fault : RecordFault) → HasStopped Archive (input.bytes input.old) (input.bytes input.new) fault → Blames input.bytes input.failures input.old input.new fault.kind → IsRefusedAlone input fault
+refused_alone : {R : Type 0} (input : Stream R) (fault : RecordFault) → HasStopped Archive_text (input.bytes input.old) (input.bytes input.new) fault → Blames input.bytes input.failures input.old input.new fault.kind → IsRefusedAlone input fault
 refused_alone input fault stopped blames = archive_whole itself input.bytes input.failures input.old input.new (Err fault) tt tt stopped blames
 
-before_records : (a b : Option (List ℕ)) (fault : RecordFault) → StopsBeforeRecords a b fault → HasStopped Archive a b fault
+before_records : (a b : Option (List ℕ)) (fault : RecordFault) → StopsBeforeRecords a b fault → HasStopped Archive_text a b fault
 before_records a b fault s = inl (s.bytes, s.taken, s.stops, s.start)
 
+abbrev NoText : Option (List ℕ) → RecordFault → Type 0
+NoText a fault = IfSome a (λ text. (o : Operations) → IsContent o → IsArchiveOf o text → IsOfMachine fault.kind)
+
 -- an archive's text is refused by the machine alone
-no_text : (a : Option (List ℕ)) (t : List ℕ) (fault : RecordFault) → a ≡ Some t → IfSome a (λ text. (o : Operations) → IsContent o → text ≡ written o → IsOfMachine fault.kind) → IsOfText fault.kind → IsArchiveText t → ⊥
-no_text a t fault e alone known x =
-    let m : (o : Operations) → IsContent o → t ≡ written o → IsOfMachine fault.kind = rw e at alone in
-    elim (m x.0 x.1 x.2) [ inl d ↦ known.0 d | inr d ↦ known.1 d ]
+no_text : (t : List ℕ) (fault : RecordFault) → NoText (Some t) fault → IsOfText fault.kind → IsArchiveText t → ⊥
+no_text t fault alone known x = elim (alone x.0 x.1 x.2) [ inl d ↦ known.0 d | inr d ↦ known.1 d ]
+
+front_in : (f : Format) (low : List ℕ) (xs : List (List ℕ)) (x : List ℕ) → InOrder f low (xs ++ x ∷ []) → InOrder f low xs
+front_in f low [] x a = tt
+front_in f low (y ∷ ys) x a = (a.0, a.1, front_in f y ys x a.2)
 
 -- memory was wanted for the record that a side holds
-held_stopped : (a b : Option (List ℕ)) (done : List (List ℕ)) (low : List ℕ) (s : Side) → Stands a b done low s → s.ahead ≡ Held → s.reader.count < 2 ^ 63 → Stopped Archive a b done (memory_behind (front_length done))
+held_stopped : (a b : Option (List ℕ)) (done : List (List ℕ)) (low : List ℕ) (s : Side) → Stands a b done low s → s.ahead ≡ Held → s.reader.count < 2 ^ 63 → Stopped s.reader.file a b done (memory_behind (front_length done))
 held_stopped a b done low s p held few =
     let h = (p.held held).0 in
     record {
       rest = s.reader.last;
-      taken = subst (λ (t : List ℕ). Consumes a b (magic ++ t)) (concat-push done s.reader.last) h.taken;
-      ordered = InOrder-front [] done s.reader.last h.ordered;
-      apart = apart_front Archive done (s.reader.last ∷ []) h.apart;
+      taken = subst (λ (t : List ℕ). Consumes a b (magic_of s.reader.file ++ t)) (concat-push done s.reader.last) h.taken;
+      ordered = front_in s.reader.file [] done s.reader.last h.ordered;
+      apart = apart_front s.reader.file done (s.reader.last ∷ []) h.apart;
       few = omega (arith, few, h.count_is, length-append done (s.reader.last ∷ []));
-      unended = λ known. tt;
+      unended = λ known. absurd (known.1 refl);
       stops = inl (refl, λ known. absurd (known refl));
     }
 
@@ -83,17 +90,14 @@ ForBoth a1 a2 P = IfSome a1 (λ t. IfSome a2 (λ u. (lefts rights : List (List �
 abbrev Place : Option (List ℕ) → Option (List ℕ) → List ℕ → List ℕ → List (List ℕ) → List (List ℕ) → List ℕ → ℕ → Type 0
 Place w0 w1 t u xs ys low n = (bytes : List ℕ) × IsWrittenBefore t u (of_both xs ys) low bytes × Appends w0 w1 bytes × (n ≡ length bytes)
 
-abbrev NoText : Option (List ℕ) → RecordFault → Type 0
-NoText a fault = IfSome a (λ text. (o : Operations) → IsContent o → text ≡ written o → IsOfMachine fault.kind)
-
 module _ (b1 b2 w0 w1 : Option (List ℕ)) (n : ℕ) where
-  full_left : (a1 a2 : Option (List ℕ)) (full : IsFull a1 b1 a2 b2 w0 w1 n) (fault : RecordFault) → first_of full.left_side full.right_side ≢ Greater → fault ≡ memory_behind (front_length full.lefts) → Stopped Archive a1 b1 full.lefts fault
+  full_left : (a1 a2 : Option (List ℕ)) (full : IsFull a1 b1 a2 b2 w0 w1 n) (fault : RecordFault) → first_of full.left_side full.right_side ≢ Greater → fault ≡ memory_behind (front_length full.lefts) → Stopped full.left_side.reader.file a1 b1 full.lefts fault
   full_left a1 a2 full fault first is =
-      subst (Stopped Archive a1 b1 full.lefts) (sym is) (held_stopped a1 b1 full.lefts (last_of [] full.out) full.left_side full.left (first_held full.left_side.ahead full.right_side.ahead _ first) full.left_few)
+      subst (Stopped full.left_side.reader.file a1 b1 full.lefts) (sym is) (held_stopped a1 b1 full.lefts (last_of [] full.out) full.left_side full.left (first_held full.left_side.ahead full.right_side.ahead _ first) full.left_few)
 
-  full_right : (a1 a2 : Option (List ℕ)) (full : IsFull a1 b1 a2 b2 w0 w1 n) (fault : RecordFault) → first_of full.left_side full.right_side ≡ Greater → fault ≡ memory_behind (front_length full.rights) → Stopped Archive a2 b2 full.rights fault
+  full_right : (a1 a2 : Option (List ℕ)) (full : IsFull a1 b1 a2 b2 w0 w1 n) (fault : RecordFault) → first_of full.left_side full.right_side ≡ Greater → fault ≡ memory_behind (front_length full.rights) → Stopped full.right_side.reader.file a2 b2 full.rights fault
   full_right a1 a2 full fault first is =
-      subst (Stopped Archive a2 b2 full.rights) (sym is) (held_stopped a2 b2 full.rights (last_of [] full.out) full.right_side full.right (first_greater full.left_side.ahead full.right_side.ahead _ full.left_read full.some first).0 full.right_few)
+      subst (Stopped full.right_side.reader.file a2 b2 full.rights) (sym is) (held_stopped a2 b2 full.rights (last_of [] full.out) full.right_side full.right (first_greater full.left_side.ahead full.right_side.ahead _ full.left_read full.some first).0 full.right_few)
 
   -- ---- the left side stopped
 
@@ -103,8 +107,8 @@ module _ (b1 b2 w0 w1 : Option (List ℕ)) (n : ℕ) where
   left_stops : (a1 a2 : Option (List ℕ)) (fault : RecordFault) → (fault.kind ≡ Truncated → IsAtEnd b1) → NoText a1 fault → LeftCase a1 a2 fault → IsOfText fault.kind → ForBoth a1 a2 LeftStops
   left_stops None a2 fault ended alone s known = tt
   left_stops (Some t) None fault ended alone s known = tt
-  left_stops (Some t) (Some u) fault ended alone (inl s) known = λ xs ys gx gy. record { faulty = no_text (Some t) t fault refl alone known; first = inl (no_magic t b1 fault known ended s.3) }
-  left_stops (Some t) (Some u) fault ended alone (inr (inl s)) known = λ xs ys gx gy. left_first t u b1 b2 w0 w1 xs ys gx gy fault n s known ended (no_text (Some t) t fault refl alone known)
+  left_stops (Some t) (Some u) fault ended alone (inl s) known = λ xs ys gx gy. record { faulty = no_text t fault alone known; first = inl (no_magic t b1 fault known ended s.3) }
+  left_stops (Some t) (Some u) fault ended alone (inr (inl s)) known = λ xs ys gx gy. left_first t u b1 b2 w0 w1 xs ys gx gy fault n s known ended (no_text t fault alone known)
   left_stops (Some t) (Some u) fault ended alone (inr (inr f)) known = absurd (not_memory fault _ f.2 known)
 
   left_at : (a1 a2 : Option (List ℕ)) (fault : RecordFault) → (fault.kind ≡ Truncated → IsAtEnd b1) → LeftCase a1 a2 fault → IsOfText fault.kind → ForBoth a1 a2 (λ t u xs ys. Place w0 w1 t u xs ys (last_of [] xs) n)
@@ -121,23 +125,24 @@ module _ (b1 b2 w0 w1 : Option (List ℕ)) (n : ℕ) where
   left_begins (Some t) (Some u) fault (inr (inl s)) = λ xs ys gx gy. left_begun t u b1 b2 w0 w1 xs ys gx gy fault n s
   left_begins (Some t) (Some u) fault (inr (inr f)) = λ xs ys gx gy. full_begun t u b1 b2 w0 w1 xs ys gx gy fault n f.0
 
-  left_stopped : (a1 a2 : Option (List ℕ)) (fault : RecordFault) → LeftCase a1 a2 fault → HasStopped Archive a1 b1 fault
+  left_stopped : (a1 a2 : Option (List ℕ)) (fault : RecordFault) → LeftCase a1 a2 fault → HasStopped Archive_text a1 b1 fault
   left_stopped a1 a2 fault (inl s) = before_records a1 b1 fault s.3
-  left_stopped a1 a2 fault (inr (inl s)) = inr (s.lefts, s.left)
-  left_stopped a1 a2 fault (inr (inr f)) = inr (f.0.lefts, full_left a1 a2 f.0 fault f.1 f.2)
+  left_stopped a1 a2 fault (inr (inl s)) = inr (s.format, s.archive, s.lefts, s.left)
+  left_stopped a1 a2 fault (inr (inr f)) = inr (f.0.left_side.reader.file, f.0.left.archive, f.0.lefts, full_left a1 a2 f.0 fault f.1 f.2)
 
   -- ---- the right side did
 
   abbrev RightCase : Option (List ℕ) → Option (List ℕ) → RecordFault → Type 0
-  RightCase a1 a2 fault = ((n ≡ 0) × Appends w0 w1 [] × Consumes a1 b1 magic × StopsBeforeRecords a2 b2 fault) ⊎ (RightStopped a1 b1 a2 b2 w0 w1 fault n ⊎ RightFull a1 b1 a2 b2 w0 w1 fault n)
+  RightCase a1 a2 fault = ((n ≡ 0) × Appends w0 w1 [] × HasMagicRead a1 b1 × StopsBeforeRecords a2 b2 fault) ⊎ (RightStopped a1 b1 a2 b2 w0 w1 fault n ⊎ RightFull a1 b1 a2 b2 w0 w1 fault n)
 
   right_stops : (a1 a2 : Option (List ℕ)) (fault : RecordFault) → (fault.kind ≡ Truncated → IsAtEnd b2) → NoText a2 fault → RightCase a1 a2 fault → IsOfText fault.kind → ForBoth a1 a2 RightStops
   right_stops None a2 fault ended alone s known = tt
   right_stops (Some t) None fault ended alone s known = tt
   right_stops (Some t) (Some u) fault ended alone (inl s) known = λ xs ys gx gy.
-      let k = taken_of t magic b1 s.2 in
-      record { faulty = no_text (Some u) u fault refl alone known; magic_left = (k.0, k.1); first = inl (no_magic u b2 fault known ended s.3) }
-  right_stops (Some t) (Some u) fault ended alone (inr (inl s)) known = λ xs ys gx gy. right_first t u b1 b2 w0 w1 xs ys gx gy fault n s known ended (no_text (Some u) u fault refl alone known)
+      let m = s.2 in
+      let k = taken_rest t (magic_of m.0) b1 m.2 in
+      record { faulty = no_text u fault alone known; magic_left = (m.0, m.1, k.0, k.1); first = inl (no_magic u b2 fault known ended s.3) }
+  right_stops (Some t) (Some u) fault ended alone (inr (inl s)) known = λ xs ys gx gy. right_first t u b1 b2 w0 w1 xs ys gx gy fault n s known ended (no_text u fault alone known)
   right_stops (Some t) (Some u) fault ended alone (inr (inr f)) known = absurd (not_memory fault _ f.2 known)
 
   right_at : (a1 a2 : Option (List ℕ)) (fault : RecordFault) → (fault.kind ≡ Truncated → IsAtEnd b2) → RightCase a1 a2 fault → IsOfText fault.kind → ForBoth a1 a2 (λ t u xs ys. Place w0 w1 t u xs ys (last_of [] ys) n)
@@ -154,10 +159,10 @@ module _ (b1 b2 w0 w1 : Option (List ℕ)) (n : ℕ) where
   right_begins (Some t) (Some u) fault (inr (inl s)) = λ xs ys gx gy. right_begun t u b1 b2 w0 w1 xs ys gx gy fault n s
   right_begins (Some t) (Some u) fault (inr (inr f)) = λ xs ys gx gy. full_begun t u b1 b2 w0 w1 xs ys gx gy fault n f.0
 
-  right_stopped : (a1 a2 : Option (List ℕ)) (fault : RecordFault) → RightCase a1 a2 fault → HasStopped Archive a2 b2 fault
+  right_stopped : (a1 a2 : Option (List ℕ)) (fault : RecordFault) → RightCase a1 a2 fault → HasStopped Archive_text a2 b2 fault
   right_stopped a1 a2 fault (inl s) = before_records a2 b2 fault s.3
-  right_stopped a1 a2 fault (inr (inl s)) = inr (s.rights, s.right)
-  right_stopped a1 a2 fault (inr (inr f)) = inr (f.0.rights, full_right a1 a2 f.0 fault f.1 f.2)
+  right_stopped a1 a2 fault (inr (inl s)) = inr (s.format, s.archive, s.rights, s.right)
+  right_stopped a1 a2 fault (inr (inr f)) = inr (f.0.right_side.reader.file, f.0.right.archive, f.0.rights, full_right a1 a2 f.0 fault f.1 f.2)
 
   -- ---- the writer did
 
@@ -206,15 +211,20 @@ module _ {R S W : Type 0} (left : Stream R) (right : Stream S) (out : Stream W) 
 
   pub merges : (r : Result Sizes MergeFault) → Leaves (left.bytes left.old) (left.bytes left.new) (right.bytes right.old) (right.bytes right.new) (out.bytes out.old) (out.bytes out.new) r → BlamesDevices left right (out.failures out.old) (out.failures out.new) r → Merges left right out r
   merges (Ok sizes) m unfailed =
-      let o : Operations = set.from_list m.lefts in
-      let p : Operations = set.from_list m.rights in
-      let whole : listing (joined o p) ≡ kept m.out = kept_listing m.lefts m.rights m.out m.joins in
+      let f : Format = m.left.reader.file in
+      let g : Format = m.right.reader.file in
+      let l = m.left_read.0 in
+      let r = m.right_read.0 in
+      let o : Operations = set.from_list (taken_of f m.lefts) in
+      let p : Operations = set.from_list (taken_of g m.rights) in
+      let join : joined o p ≡ of_both m.lefts m.rights = sym (both_taken f g m.left_archive m.right_archive m.lefts m.rights l.ordered l.apart r.ordered r.apart) in
+      let whole : listing (joined o p) ≡ kept m.out = ap listing join ∙ kept_listing m.lefts m.rights m.out m.joins in
       let text : text_of Archive (kept m.out) ≡ written (joined o p) = sym (written_text (joined o p) ∙ ap (text_of Archive) whole) in
       record {
         o = o;
         p = p;
-        left_is = read_whole left m.lefts m.left.reader m.left_read.0 m.left_read.1 unfailed.0;
-        right_is = read_whole right m.rights m.right.reader m.right_read.0 m.right_read.1 unfailed.1;
+        left_is = read_whole left f m.left_archive m.lefts m.left.reader l m.left_read.1 unfailed.0;
+        right_is = read_whole right g m.right_archive m.rights m.right.reader r m.right_read.1 unfailed.1;
         few = subst (λ (n : ℕ). n < 2 ^ 63) (ap length (sym whole) ∙ length_written (joined o p)) m.few;
         written_is = record {
           written = subst (Appends (out.bytes out.old) (out.bytes out.new)) text m.gained;

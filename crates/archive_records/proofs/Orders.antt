@@ -10,23 +10,25 @@ use Rattle.std.specs.List.{concat}
 use Rattle.std.specs.Io.KnownBytes.{Consumes, Appends}
 use Rattle.join_core.specs.Listing.{listing}
 use Rattle.archive_records.specs.declared.fault.RecordFault.{RecordFault}
-use Rattle.archive_records.specs.declared.kind.TextKind.TheVariants.{Archive}
+use Rattle.archive_records.specs.declared.format.Format.{Format}
+use Rattle.archive_records.specs.declared.format.Format.TheVariants.{Archive}
 use Rattle.archive_records.specs.declared.side.Ahead.{Ahead}
 use Rattle.archive_records.specs.declared.side.Ahead.TheVariants.{Unread, Held, Ended}
 use Rattle.archive_records.specs.declared.side.Side.{Side}
-use Rattle.archive_records.specs.Kind.{magic, IsItem, may_follow}
-use Rattle.archive_records.specs.Text.{end_record, last_of}
+use Rattle.archive_records.specs.Kind.{magic, magic_of, IsItem, may_follow}
+use Rattle.archive_records.specs.Text.{end_record, last_of, kept}
 use Rattle.archive_records.specs.Reader.{set_of, Stops}
-use Rattle.archive_records.specs.Merging.{Stream, IsTaken, IsNext, IsOneMore, IsBehind, IsOut, IsInMagic, IsLeftBehind, IsRightBehind, all_of, of_both, most_records}
-use Rattle.archive_records.specs.Turns.{kept, Stands, Joins, StopsBeforeRecords, LeftStopped, RightStopped, LeftFull, RightFull, first_by}
+use Rattle.archive_records.specs.Merging.{Stream, IsTaken, IsMagicTaken, IsNext, IsOneMore, IsBehind, IsOut, IsInMagic, IsLeftBehind, IsRightBehind, all_of, of_both, most_records}
+use Rattle.archive_records.specs.Turns.{Stands, Joins, StopsBeforeRecords, HasMagicRead, LeftStopped, RightStopped, LeftFull, RightFull, first_by}
 use Rattle.archive_records.proofs.Puts.{concat-push, length_written}
 use Rattle.archive_records.proofs.Forms.{item-no_end}
 use Rattle.archive_records.proofs.Ends.{end-is_end}
-use Rattle.archive_records.proofs.Ascending.{less_of, below-greater, last_is_record, last_within, InOrder-front}
+use Rattle.archive_records.proofs.Ascending.{less_of, below-greater, last_within, InOrder-front}
+use Rattle.archive_records.proofs.Formats.{in_order_of, ending_of}
 use Rattle.archive_records.proofs.Places.{joins_listing, kept_listing, all_is}
 use Rattle.archive_records.proofs.Apart.{apart_front}
 use Rattle.archive_core.specs.Content.{Operations, is_covered}
-use Rattle.archive_records.proofs.Turns.{first_greater, first_held}
+use Rattle.archive_records.proofs.Turns.{held_record, first_greater, first_held}
 
 -- ---- one side
 
@@ -41,24 +43,40 @@ module _ {R : Type 0} (side : Stream R) (records : List (List ℕ)) (low : List 
   next = next_of s.ahead s.reader.last records
 
   taken_by : (h : Ahead) → s.ahead ≡ h → IsTaken side records (next_of h s.reader.last records)
-  taken_by Unread e = record {
-    taken = subst (λ (t : List ℕ). Consumes (side.bytes side.old) (side.bytes side.new) (magic ++ t)) (sym (append-nil (concat records))) (p.unread e).0.taken;
-    ordered = (p.unread e).0.ordered;
-    apart = (p.unread e).0.apart;
-  }
-  taken_by Held e = record {
-    taken = subst (λ (t : List ℕ). Consumes (side.bytes side.old) (side.bytes side.new) (magic ++ t)) (concat-push records s.reader.last) (p.held e).0.taken;
-    ordered = InOrder-front [] records s.reader.last (p.held e).0.ordered;
-    apart = apart_front Archive records (s.reader.last ∷ []) (p.held e).0.apart;
-  }
-  taken_by Ended e = record { taken = (p.ended e).0.taken; ordered = (p.ended e).0.ordered; apart = (p.ended e).0.apart }
+  taken_by Unread e =
+      let h = (p.unread e).0 in
+      record {
+        format = s.reader.file;
+        archive = p.archive;
+        taken = subst (λ (t : List ℕ). Consumes (side.bytes side.old) (side.bytes side.new) (magic_of s.reader.file ++ t)) (sym (append-nil (concat records))) h.taken;
+        ordered = in_order_of s.reader.file p.archive [] records h.ordered;
+        apart = h.apart;
+      }
+  taken_by Held e =
+      let h = (p.held e).0 in
+      record {
+        format = s.reader.file;
+        archive = p.archive;
+        taken = subst (λ (t : List ℕ). Consumes (side.bytes side.old) (side.bytes side.new) (magic_of s.reader.file ++ t)) (concat-push records s.reader.last) h.taken;
+        ordered = InOrder-front [] records s.reader.last (in_order_of s.reader.file p.archive [] (records ++ s.reader.last ∷ []) h.ordered);
+        apart = apart_front s.reader.file records (s.reader.last ∷ []) h.apart;
+      }
+  taken_by Ended e =
+      let h = (p.ended e).0 in
+      record {
+        format = s.reader.file;
+        archive = p.archive;
+        taken = subst (λ (t : List ℕ). Consumes (side.bytes side.old) (side.bytes side.new) (magic_of s.reader.file ++ (concat records ++ t))) (ending_of s.reader.file p.archive (length records)) h.taken;
+        ordered = in_order_of s.reader.file p.archive [] records h.ordered;
+        apart = h.apart;
+      }
 
   taken_next : IsTaken side records next
   taken_next = taken_by s.ahead refl
 
   next_by : (h : Ahead) → s.ahead ≡ h → h ≢ Unread → IsNext side low records (next_of h s.reader.last records)
   next_by Unread e read = absurd (read refl)
-  next_by Held e read = inl (last_is_record [] records s.reader.last (p.held e).0.ordered, (p.held e).1)
+  next_by Held e read = inl (held_record (side.bytes side.old) (side.bytes side.new) records low s p e, (p.held e).1)
   next_by Ended e read = inr (refl, (p.ended e).1)
 
   next_is : s.ahead ≢ Unread → IsNext side low records next
@@ -66,7 +84,7 @@ module _ {R : Type 0} (side : Stream R) (records : List (List ℕ)) (low : List 
 
   more_by : (h : Ahead) → s.ahead ≡ h → h ≡ Held → IsItem Archive (next_of h s.reader.last records) × (may_follow Archive low (next_of h s.reader.last records) ≡ true)
   more_by Unread e held = absurd cc
-  more_by Held e held = (last_is_record [] records s.reader.last (p.held e).0.ordered, (p.held e).1)
+  more_by Held e held = (held_record (side.bytes side.old) (side.bytes side.new) records low s p e, (p.held e).1)
   more_by Ended e held = absurd cc
 
   more_is : s.ahead ≡ Held → IsItem Archive next × (may_follow Archive low next ≡ true)
@@ -107,10 +125,10 @@ is_below Unread r x y lefts rights read held first item = absurd (read refl)
 
 -- ---- the place
 
-behind_is : (records : List (List ℕ)) (rest : List ℕ) (fault : RecordFault) → Stops Archive records rest fault → IsBehind records fault
-behind_is records rest fault (inl s) = inl s.0
-behind_is records rest fault (inr (inl s)) = inr (s.0, s.2)
-behind_is records rest fault (inr (inr s)) = inl s.2
+behind_is : (f : Format) (records : List (List ℕ)) (rest : List ℕ) (fault : RecordFault) → Stops f records rest fault → IsBehind records fault
+behind_is f records rest fault (inl s) = inl s.0
+behind_is f records rest fault (inr (inl s)) = inr (s.0, s.2)
+behind_is f records rest fault (inr (inr s)) = inl s.2
 
 -- a held record that is not covered
 free_by : (h : Ahead) (o : Operations) (x : List ℕ) (records : List (List ℕ)) → h ≡ Held → is_covered o x ≡ false → is_covered o (next_of h x records) ≡ false
@@ -166,9 +184,9 @@ module _ {R S W : Type 0} (left : Stream R) (right : Stream S) (out : Stream W) 
         rights = s.rights;
         left_next = s.left.rest;
         right_next = next;
-        left_taken = record { taken = s.left.taken; ordered = s.left.ordered; apart = s.left.apart };
+        left_taken = record { format = s.format; archive = s.archive; taken = s.left.taken; ordered = in_order_of s.format s.archive [] s.lefts s.left.ordered; apart = s.left.apart };
         right_taken = taken_next right s.rights (last_of [] s.out) s.other s.right;
-        behind = behind_is s.lefts s.left.rest fault s.left.stops;
+        behind = behind_is s.format s.lefts s.left.rest fault s.left.stops;
         out_is = out_is out s.out s.lefts s.rights n s.joins s.written_is s.gained;
         turn = inl (subst (λ (t : List ℕ). ((last_of [] s.rights ≡ t) × (next ≡ [])) ⊎ ((may_follow Archive (last_of [] s.rights) t ≡ true) × IsNext right t s.rights next)) low (turn_is right s.rights (last_of [] s.out) s.other s.right s.order));
       }
@@ -205,8 +223,8 @@ module _ {R S W : Type 0} (left : Stream R) (right : Stream S) (out : Stream W) 
         left_next = next;
         right_next = s.right.rest;
         left_taken = taken_next left s.lefts (last_of [] s.out) s.other s.left;
-        right_taken = record { taken = s.right.taken; ordered = s.right.ordered; apart = s.right.apart };
-        behind = behind_is s.rights s.right.rest fault s.right.stops;
+        right_taken = record { format = s.format; archive = s.archive; taken = s.right.taken; ordered = in_order_of s.format s.archive [] s.rights s.right.ordered; apart = s.right.apart };
+        behind = behind_is s.format s.rights s.right.rest fault s.right.stops;
         out_is = out_is out s.out s.lefts s.rights n s.joins s.written_is s.gained;
         turn = inl (
           λ below. false≢true (sym (last_within s.out s.lefts s.joins.ordered s.joins.left) ∙ subst (λ (t : List ℕ). may_follow Archive t (last_of [] s.lefts) ≡ true) s.last below),
@@ -242,8 +260,8 @@ module _ {R S W : Type 0} (left : Stream R) (right : Stream S) (out : Stream W) 
   left_order (inr (inl s)) = inr (left_behind s)
   left_order (inr (inr s)) = inr (left_full s)
 
-  pub right_order : ((n ≡ 0) × Appends w0 w1 [] × Consumes a1 b1 magic × StopsBeforeRecords a2 b2 fault) ⊎ (RightStopped a1 b1 a2 b2 w0 w1 fault n ⊎ RightFull a1 b1 a2 b2 w0 w1 fault n)
-      → (IsInMagic out fault n × Consumes a1 b1 magic) ⊎ IsRightBehind left right out fault n
+  pub right_order : ((n ≡ 0) × Appends w0 w1 [] × HasMagicRead a1 b1 × StopsBeforeRecords a2 b2 fault) ⊎ (RightStopped a1 b1 a2 b2 w0 w1 fault n ⊎ RightFull a1 b1 a2 b2 w0 w1 fault n)
+      → (IsInMagic out fault n × IsMagicTaken left) ⊎ IsRightBehind left right out fault n
   right_order (inl s) = inl ((s.3.start, s.0, s.1), s.2)
   right_order (inr (inl s)) = inr (right_behind s)
   right_order (inr (inr s)) = inr (right_full s)

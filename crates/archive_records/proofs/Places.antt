@@ -1,5 +1,5 @@
 -- Where a merge of two known inputs stops, and what was written then.
-use Rattle.std.proofs.Common.{◌≡◌, ℕ, ◌+◌, ◌<◌, Bool, true, false, cond, not, ◌||◌, ◌↔◌, List, [], ◌∷◌, ◌++◌, length, take, Option, Some, refl, sym, ap, ◌∙◌, subst, arith, inl, inr, ◌⊎◌, append_assoc, length-append}
+use Rattle.std.proofs.Common.{◌≡◌, ℕ, ◌+◌, ◌<◌, true, false, cond, not, ◌↔◌, List, [], ◌∷◌, ◌++◌, length, take, Option, Some, refl, sym, ap, ◌∙◌, subst, arith, inl, inr, ◌⊎◌, append_assoc, length-append}
 use Rattle.std.proofs.lemmas.List.{append-nil, take_at, take-append-le}
 use Rattle.std.proofs.lemmas.List.Folds.{concat-append}
 use Rattle.std.proofs.lemmas.List.Elements.{Contains-append_left, Contains-append_cases, filter-append}
@@ -17,35 +17,28 @@ use Rattle.archive_core.specs.Record.{IsRecord}
 use Rattle.archive_core.specs.Content.{Operations, is_covered}
 use Rattle.archive_records.specs.declared.fault.RecordFaultKind.TheVariants.{Truncated}
 use Rattle.archive_records.specs.declared.fault.RecordFault.{RecordFault}
-use Rattle.archive_records.specs.declared.kind.TextKind.TheVariants.{Archive}
-use Rattle.archive_records.specs.Kind.{magic, may_follow}
-use Rattle.archive_records.specs.Text.{end_record, text_of, InOrder, last_of, written}
+use Rattle.archive_records.specs.declared.format.Format.{Format}
+use Rattle.archive_records.specs.declared.format.Format.TheVariants.{Archive}
+use Rattle.archive_records.specs.declared.kind.TextKind.TheVariants.{Archive as Archive_text}
+use Rattle.archive_records.specs.declared.side.Side.{Side}
+use Rattle.archive_records.specs.Kind.{magic, magic_of, kind_of, may_follow}
+use Rattle.archive_records.specs.Text.{end_record, text_of, InOrder, last_of, written, kept}
 use Rattle.archive_records.specs.Fault.{IsOfText}
 use Rattle.archive_records.specs.Front.{IsLongestFront}
 use Rattle.archive_records.specs.Merging.{HasMagic, IsArchiveText, AreGoodRecords, LeftStops, RightStops, all_of, of_both, up_to, IsWrittenBefore}
-use Rattle.archive_records.specs.Turns.{kept, Joins, StopsBeforeRecords, LeftStopped, RightStopped, WriteStopped, IsFull}
+use Rattle.archive_records.specs.Turns.{Stands, Joins, StopsBeforeRecords, LeftStopped, RightStopped, WriteStopped, IsFull}
 use Rattle.archive_records.proofs.Contents.{order, contained, containing, listing_is, members_listed, sorted-InOrder, InOrder-set, are_records, content_is, written_text}
 use Rattle.archive_records.specs.Reader.{set_of}
 use Rattle.archive_records.proofs.Puts.{bytes_same}
-use Rattle.archive_records.proofs.Covered.{kept_more, behind, behind_above, from_kept}
+use Rattle.archive_records.proofs.Covered.{or_cases, or_left, or_right, kept_more, behind, behind_above, from_kept}
 use Rattle.archive_records.proofs.Exact.{no_magic_fault}
 use Rattle.archive_records.proofs.Inputs.{magic_stop, grown_magic}
 use Rattle.archive_records.proofs.Ascending.{below-back, below-self, all_above, up_to_last, prefix, here, later}
 use Rattle.archive_records.proofs.Ends.{length-end_record}
-use Rattle.archive_records.proofs.Fronts.{taken_of, front_of, front_is, stopped_goes, stopped_magic, GoesOn, goes_on, has_magic}
+use Rattle.archive_records.proofs.Formats.{in_order_of}
+use Rattle.archive_records.proofs.Fronts.{taken_rest, front_of, front_is, stopped_goes, stopped_magic, GoesOn, goes_on, has_magic}
 
 -- ---- the content that the records of both make
-
-or_cases : (a b : Bool) → (a || b) ≡ true → (a ≡ true) ⊎ (b ≡ true)
-or_cases true b e = inl refl
-or_cases false b e = inr e
-
-or_left : (a b : Bool) → a ≡ true → (a || b) ≡ true
-or_left a b e = ap (λ (x : Bool). x || b) e
-
-or_right : (a b : Bool) → b ≡ true → (a || b) ≡ true
-or_right true b e = refl
-or_right false b e = e
 
 member_of : (xs : List (List ℕ)) (r : List ℕ) → Contains xs r ↔ (set.contains {R = order} (set.from_list xs) r ≡ true)
 member_of xs r = (λ c. contains-from_list nat_list_cmp_total xs r ∙ contained xs r c, λ e. containing xs r (sym (contains-from_list nat_list_cmp_total xs r) ∙ e))
@@ -178,8 +171,26 @@ begun_nothing w0 w1 o n e p = record {
 
 pub no_magic : (t : List ℕ) (b : Option (List ℕ)) (fault : RecordFault) → IsOfText fault.kind → (fault.kind ≡ Truncated → IsAtEnd b) → StopsBeforeRecords (Some t) b fault → HasMagic t → ⊥
 no_magic t b fault known ended s m =
-    let k = taken_of t s.bytes b s.taken in
-    no_magic_fault Archive t m.0 fault.kind m.1 (grown_magic Archive t s.bytes k.0 fault.kind k.1 (λ p. k.2 (ended p)) (magic_stop Archive s.bytes fault.kind known s.stops))
+    let f : Format = m.0 in
+    let k = taken_rest t s.bytes b s.taken in
+    no_magic_fault f t m.2 fault.kind m.3 (grown_magic f t s.bytes k.0 fault.kind k.1 (λ p. k.2 (ended p)) (magic_stop f s.bytes fault.kind known (s.stops f m.1)))
+
+-- a text of which a side was read has the magic
+pub text_begins : (f : Format) → kind_of f ≡ Archive_text → (t : List ℕ) → (rest : List ℕ) × (t ≡ magic_of f ++ rest) → HasMagic t
+text_begins f k t m = (f, k, m.0, m.1)
+
+pub side_begins : (t low : List ℕ) (b : Option (List ℕ)) (done : List (List ℕ)) (side : Side) → Stands (Some t) b done low side → HasMagic t
+side_begins t low b done side s = text_begins side.reader.file s.archive t (has_magic t low b done side s)
+
+-- and its good records are those of its longest good front
+side_front : (t low : List ℕ) (b : Option (List ℕ)) (done xs : List (List ℕ)) (side : Side) → Stands (Some t) b done low side → AreGoodRecords t xs → IsLongestFront side.reader.file t xs
+side_front t low b done xs side s g = front_of side.reader.file s.archive t xs (has_magic t low b done side s) g
+
+side_ordered : (t low : List ℕ) (b : Option (List ℕ)) (done xs : List (List ℕ)) (side : Side) → Stands (Some t) b done low side → AreGoodRecords t xs → InOrder Archive [] xs
+side_ordered t low b done xs side s g = in_order_of side.reader.file s.archive [] xs (side_front t low b done xs side s g).front.ordered
+
+side_goes : (t low : List ℕ) (b : Option (List ℕ)) (done xs : List (List ℕ)) (side : Side) → Stands (Some t) b done low side → AreGoodRecords t xs → GoesOn t low done xs side.ahead
+side_goes t low b done xs side s g = goes_on t low b done xs side s (side_front t low b done xs side s g)
 
 -- ---- both texts are known
 
@@ -209,26 +220,23 @@ module _ (t u : List ℕ) (b1 b2 w0 w1 : Option (List ℕ)) (xs ys : List (List 
   -- ---- the left side stopped
 
   module _ (s : LeftStopped (Some t) b1 (Some u) b2 w0 w1 fault n) where
-    lx : IsLongestFront Archive t xs
-    lx = front_of t xs (stopped_magic t b1 s.lefts fault s.left) gx
-
-    ly : IsLongestFront Archive u ys
-    ly = front_of u ys (has_magic u (last_of [] s.out) b2 s.rights s.other s.right) gy
+    lx : IsLongestFront s.format t xs
+    lx = front_of s.format s.archive t xs (stopped_magic s.format t b1 s.lefts fault s.left) gx
 
     gy' : GoesOn u (last_of [] s.out) s.rights ys s.other.ahead
-    gy' = goes_on u (last_of [] s.out) b2 s.rights ys s.other s.right ly
+    gy' = side_goes u (last_of [] s.out) b2 s.rights ys s.other s.right gy
 
     left_more : (more : List (List ℕ)) × (listing (of_both xs ys) ≡ kept s.out ++ more) × IsAbove (last_of [] s.out) more
     left_more =
-        let f = stopped_goes t b1 s.lefts xs fault s.left lx in
-        begins s.out s.lefts s.rights f.0 gy'.more xs ys s.joins lx.front.ordered ly.front.ordered f.1 gy'.is (subst (λ (x : List ℕ). InOrder Archive x f.0) s.last f.2) gy'.ordered
+        let f = stopped_goes s.format s.archive t b1 s.lefts xs fault s.left lx in
+        begins s.out s.lefts s.rights f.0 gy'.more xs ys s.joins (in_order_of s.format s.archive [] xs lx.front.ordered) (side_ordered u (last_of [] s.out) b2 s.rights ys s.other s.right gy) f.1 gy'.is (subst (λ (x : List ℕ). InOrder Archive x f.0) s.last f.2) gy'.ordered
 
     pub left_begun : WritesFirst w0 w1 (written (of_both xs ys)) n
     left_begun = begun_whole w0 w1 (of_both xs ys) (kept s.out) left_more.0 n left_more.1 s.written_is s.gained
 
     module _ (known : IsOfText fault.kind) (ended : fault.kind ≡ Truncated → IsAtEnd b1) where
       low_left : last_of [] xs ≡ last_of [] s.out
-      low_left = ap (last_of []) (front_is t b1 s.lefts xs fault known ended s.left lx) ∙ s.last
+      low_left = ap (last_of []) (front_is s.format t b1 s.lefts xs fault known ended s.left lx) ∙ s.last
 
       pub left_place : (bytes : List ℕ) × IsWrittenBefore t u (of_both xs ys) (last_of [] xs) bytes × Appends w0 w1 bytes × (n ≡ length bytes)
       left_place = place_written t u w0 w1 xs ys n (last_of [] xs) (record {
@@ -236,8 +244,8 @@ module _ (t u : List ℕ) (b1 b2 w0 w1 : Option (List ℕ)) (xs ys : List (List 
         more = left_more.0;
         is = left_more.1;
         above = left_more.2;
-        magic_left = stopped_magic t b1 s.lefts fault s.left;
-        magic_right = has_magic u (last_of [] s.out) b2 s.rights s.other s.right;
+        magic_left = text_begins s.format s.archive t (stopped_magic s.format t b1 s.lefts fault s.left);
+        magic_right = side_begins u (last_of [] s.out) b2 s.rights s.other s.right;
         low_is = low_left;
         ordered = s.joins.ordered;
         count = s.written_is;
@@ -248,7 +256,7 @@ module _ (t u : List ℕ) (b1 b2 w0 w1 : Option (List ℕ)) (xs ys : List (List 
       left_first faulty = record {
         faulty = faulty;
         first = inr (
-          has_magic u (last_of [] s.out) b2 s.rights s.other s.right,
+          side_begins u (last_of [] s.out) b2 s.rights s.other s.right,
           elim gy'.place [
             | inl a ↦ inl a
             | inr (inl e) ↦ inr (λ b. false≢true (sym (below-self (last_of [] s.out)) ∙ subst (λ (x : List ℕ). may_follow Archive x (last_of [] s.out) ≡ true) e.1 (subst (λ (x : List ℕ). may_follow Archive (last_of [] ys) x ≡ true) low_left b)))
@@ -260,26 +268,23 @@ module _ (t u : List ℕ) (b1 b2 w0 w1 : Option (List ℕ)) (xs ys : List (List 
   -- ---- the right side did
 
   module _ (s : RightStopped (Some t) b1 (Some u) b2 w0 w1 fault n) where
-    rx : IsLongestFront Archive t xs
-    rx = front_of t xs (has_magic t (last_of [] s.out) b1 s.lefts s.other s.left) gx
-
-    ry : IsLongestFront Archive u ys
-    ry = front_of u ys (stopped_magic u b2 s.rights fault s.right) gy
+    ry : IsLongestFront s.format u ys
+    ry = front_of s.format s.archive u ys (stopped_magic s.format u b2 s.rights fault s.right) gy
 
     gx' : GoesOn t (last_of [] s.out) s.lefts xs s.other.ahead
-    gx' = goes_on t (last_of [] s.out) b1 s.lefts xs s.other s.left rx
+    gx' = side_goes t (last_of [] s.out) b1 s.lefts xs s.other s.left gx
 
     right_more : (more : List (List ℕ)) × (listing (of_both xs ys) ≡ kept s.out ++ more) × IsAbove (last_of [] s.out) more
     right_more =
-        let f = stopped_goes u b2 s.rights ys fault s.right ry in
-        begins s.out s.lefts s.rights gx'.more f.0 xs ys s.joins rx.front.ordered ry.front.ordered gx'.is f.1 gx'.ordered (subst (λ (x : List ℕ). InOrder Archive x f.0) s.last f.2)
+        let f = stopped_goes s.format s.archive u b2 s.rights ys fault s.right ry in
+        begins s.out s.lefts s.rights gx'.more f.0 xs ys s.joins (side_ordered t (last_of [] s.out) b1 s.lefts xs s.other s.left gx) (in_order_of s.format s.archive [] ys ry.front.ordered) gx'.is f.1 gx'.ordered (subst (λ (x : List ℕ). InOrder Archive x f.0) s.last f.2)
 
     pub right_begun : WritesFirst w0 w1 (written (of_both xs ys)) n
     right_begun = begun_whole w0 w1 (of_both xs ys) (kept s.out) right_more.0 n right_more.1 s.written_is s.gained
 
     module _ (known : IsOfText fault.kind) (ended : fault.kind ≡ Truncated → IsAtEnd b2) where
       low_right : last_of [] ys ≡ last_of [] s.out
-      low_right = ap (last_of []) (front_is u b2 s.rights ys fault known ended s.right ry) ∙ s.last
+      low_right = ap (last_of []) (front_is s.format u b2 s.rights ys fault known ended s.right ry) ∙ s.last
 
       pub right_place : (bytes : List ℕ) × IsWrittenBefore t u (of_both xs ys) (last_of [] ys) bytes × Appends w0 w1 bytes × (n ≡ length bytes)
       right_place = place_written t u w0 w1 xs ys n (last_of [] ys) (record {
@@ -287,8 +292,8 @@ module _ (t u : List ℕ) (b1 b2 w0 w1 : Option (List ℕ)) (xs ys : List (List 
         more = right_more.0;
         is = right_more.1;
         above = right_more.2;
-        magic_left = has_magic t (last_of [] s.out) b1 s.lefts s.other s.left;
-        magic_right = stopped_magic u b2 s.rights fault s.right;
+        magic_left = side_begins t (last_of [] s.out) b1 s.lefts s.other s.left;
+        magic_right = text_begins s.format s.archive u (stopped_magic s.format u b2 s.rights fault s.right);
         low_is = low_right;
         ordered = s.joins.ordered;
         count = s.written_is;
@@ -298,7 +303,7 @@ module _ (t u : List ℕ) (b1 b2 w0 w1 : Option (List ℕ)) (xs ys : List (List 
       pub right_first : (IsArchiveText u → ⊥) → RightStops t u xs ys
       right_first faulty = record {
         faulty = faulty;
-        magic_left = has_magic t (last_of [] s.out) b1 s.lefts s.other s.left;
+        magic_left = side_begins t (last_of [] s.out) b1 s.lefts s.other s.left;
         first = inr (elim gx'.place [
           | inl a ↦ inl a
           | inr (inl e) ↦ absurd (s.read e.0)
@@ -306,20 +311,26 @@ module _ (t u : List ℕ) (b1 b2 w0 w1 : Option (List ℕ)) (xs ys : List (List 
         ]);
       }
 
+  -- ---- both sides stand
+
+  module _ (out lefts rights : List (List ℕ)) (left right : Side) (l : Stands (Some t) b1 lefts (last_of [] out) left) (r : Stands (Some u) b2 rights (last_of [] out) right) (joins : Joins out lefts rights) where
+    left_goes : GoesOn t (last_of [] out) lefts xs left.ahead
+    left_goes = side_goes t (last_of [] out) b1 lefts xs left l gx
+
+    right_goes : GoesOn u (last_of [] out) rights ys right.ahead
+    right_goes = side_goes u (last_of [] out) b2 rights ys right r gy
+
+    both_more : (more : List (List ℕ)) × (listing (of_both xs ys) ≡ kept out ++ more) × IsAbove (last_of [] out) more
+    both_more = begins out lefts rights left_goes.more right_goes.more xs ys joins (side_ordered t (last_of [] out) b1 lefts xs left l gx) (side_ordered u (last_of [] out) b2 rights ys right r gy) left_goes.is right_goes.is left_goes.ordered right_goes.ordered
+
   -- ---- the writer did
 
   module _ (s : WriteStopped (Some t) b1 (Some u) b2 w0 w1 n) where
-    wx : IsLongestFront Archive t xs
-    wx = front_of t xs (has_magic t (last_of [] s.out) b1 s.lefts s.left_side s.left) gx
-
-    wy : IsLongestFront Archive u ys
-    wy = front_of u ys (has_magic u (last_of [] s.out) b2 s.rights s.right_side s.right) gy
-
     pub write_begun : WritesFirst w0 w1 (written (of_both xs ys)) n
     write_begun =
-        let f = goes_on t (last_of [] s.out) b1 s.lefts xs s.left_side s.left wx in
-        let g = goes_on u (last_of [] s.out) b2 s.rights ys s.right_side s.right wy in
-        let m = begins s.out s.lefts s.rights f.more g.more xs ys s.joins wx.front.ordered wy.front.ordered f.is g.is f.ordered g.ordered in
+        let f = left_goes s.out s.lefts s.rights s.left_side s.right_side s.left s.right s.joins in
+        let g = right_goes s.out s.lefts s.rights s.left_side s.right_side s.left s.right s.joins in
+        let m = both_more s.out s.lefts s.rights s.left_side s.right_side s.left s.right s.joins in
         elim s.within [
           | inl lt ↦ begun_part w0 w1 (of_both xs ys) (kept s.out) m.0 n m.1 lt s.gained
           | inr e ↦
@@ -331,15 +342,7 @@ module _ (t u : List ℕ) (b1 b2 w0 w1 : Option (List ℕ)) (xs ys : List (List 
   -- as many records were written as there may be
 
   module _ (s : IsFull (Some t) b1 (Some u) b2 w0 w1 n) where
-    fx : IsLongestFront Archive t xs
-    fx = front_of t xs (has_magic t (last_of [] s.out) b1 s.lefts s.left_side s.left) gx
-
-    fy : IsLongestFront Archive u ys
-    fy = front_of u ys (has_magic u (last_of [] s.out) b2 s.rights s.right_side s.right) gy
-
     pub full_begun : WritesFirst w0 w1 (written (of_both xs ys)) n
     full_begun =
-        let f = goes_on t (last_of [] s.out) b1 s.lefts xs s.left_side s.left fx in
-        let g = goes_on u (last_of [] s.out) b2 s.rights ys s.right_side s.right fy in
-        let m = begins s.out s.lefts s.rights f.more g.more xs ys s.joins fx.front.ordered fy.front.ordered f.is g.is f.ordered g.ordered in
+        let m = both_more s.out s.lefts s.rights s.left_side s.right_side s.left s.right s.joins in
         begun_whole w0 w1 (of_both xs ys) (kept s.out) m.0 n m.1 s.written_is s.gained

@@ -16,7 +16,7 @@ use Rattle.archive_records.specs.declared.next.Step.{Step}
 use Rattle.archive_records.specs.declared.next.Step.TheVariants.{End, Item}
 use Rattle.archive_core.specs.declared.slices.SliceFacts.{SliceFacts}
 use Rattle.archive_records.specs.Reader.{IfEnd, IfItem, Position, set_of, RetireAlike, KeepsIn, AreRetired, IsCoveredThere, Passes, Finishes, StopsAt, HasRead, HasReadAll, Stopped, IsEnded, seen_as}
-use Rattle.archive_records.proofs.Apart.{apart_more, retired_more, covered_alike}
+use Rattle.archive_records.proofs.Apart.{apart_more, retired_more, drops_more, covered_alike, last_of-push}
 use Rattle.archive_records.proofs.Puts.{concat-push}
 use Rattle.archive_records.proofs.Holds.{next-above}
 use Rattle.archive_records.proofs.FaultKinds.{never_trailing, memory_blames}
@@ -24,17 +24,13 @@ use Rattle.archive_records.proofs.Forms.{item-no_end}
 use Rattle.archive_records.proofs.Grown.{next-ok-grows}
 use Rattle.archive_records.proofs.Ends.{end-is_end, length-end_record, next_end, counted, counted_unended}
 use Rattle.archive_records.proofs.Longest.{is_end-grows}
-use Rattle.archive_records.specs.declared.kind.TextKind.{TextKind}
-use Rattle.archive_records.specs.declared.kind.TextKind.TheVariants.{Archive}
-
-pub last_of-push : (low : List ℕ) (xs : List (List ℕ)) (x : List ℕ) → last_of low (xs ++ x ∷ []) ≡ x
-last_of-push low [] x = refl
-last_of-push low (y ∷ ys) x = last_of-push y ys x
+use Rattle.archive_records.specs.declared.format.Format.{Format}
+use Rattle.archive_records.specs.declared.format.Format.TheVariants.{Archive}
 
 taken_more : (a b c : Option (List ℕ)) (x y z : List ℕ) → Consumes a b (x ++ y) → Consumes b c z → Consumes a c (x ++ (y ++ z))
 taken_more a b c x y z p q = subst (Consumes a c) (append_assoc x y z) (Consumes-then a b c (x ++ y) z p q)
 
-module _ (file : TextKind) where
+module _ (file : Format) where
   pub InOrder-push : (low : List ℕ) (xs : List (List ℕ)) (x : List ℕ) → InOrder file low xs → IsItem file x → may_follow file (last_of low xs) x ≡ true → InOrder file low (xs ++ x ∷ [])
   InOrder-push low [] x a r b = (r, b, tt)
   InOrder-push low (y ∷ ys) x a r b = (a.0, a.1, InOrder-push y ys x a.2 r b)
@@ -47,28 +43,29 @@ module _ (file : TextKind) where
   HasRead-grows a b c records before after h p =
       let bytes = after.last in
       let follows : may_follow file (last_of [] records) bytes ≡ true = rw (← h.last_is, ← h.file_is) p.follows in
-      let kept : KeepsIn file before.retired after.retired bytes = subst (λ (f : TextKind). KeepsIn f before.retired after.retired bytes) h.file_is p.kept in
+      let kept : KeepsIn file before.retired after.retired after.dropped bytes = subst (λ (f : Format). KeepsIn f before.retired after.retired after.dropped bytes) h.file_is p.kept in
       record {
         file_is = p.file_is ∙ h.file_is;
         taken = subst (λ (t : List ℕ). Consumes a c (magic_of file ++ t)) (sym (concat-push records bytes)) (taken_more a b c (magic_of file) (concat records) bytes h.taken p.taken);
-        ordered = InOrder-push [] records bytes h.ordered (subst (λ (f : TextKind). IsItem f bytes) h.file_is p.item) follows;
-        apart = apart_more file before.retired after.retired records bytes h.ordered follows h.apart h.retired_are kept;
+        ordered = InOrder-push [] records bytes h.ordered (subst (λ (f : Format). IsItem f bytes) h.file_is p.item) follows;
+        apart = apart_more file before.retired after.retired records after.dropped bytes h.ordered follows h.apart h.retired_are kept;
         last_is = sym (last_of-push [] records bytes);
         count_is = omega (arith, p.count_is, h.count_is, length-append records (bytes ∷ []));
         offset_is = omega (arith, p.offset_is, h.offset_is, ap length (concat-push records bytes), length-append (concat records) bytes);
-        retired_are = retired_more file before.retired after.retired records bytes h.retired_are kept;
+        retired_are = retired_more file before.retired after.retired records after.dropped bytes h.retired_are kept;
+        dropped_is = drops_more file before.retired after.retired records after.dropped bytes h.retired_are kept;
       }
 
   -- what ends the file was read
   pub HasReadAll-grows : (a b c : Option (List ℕ)) (records : List (List ℕ)) (before after : Position) → HasRead file a b records before → Finishes b c before after → HasReadAll file a c records after
   HasReadAll-grows a b c records before after h e =
-      let whole : ending before.file before.count ≡ ending file (length records) = ap (λ (f : TextKind). ending f before.count) h.file_is ∙ ap (ending file) h.count_is in
+      let whole : ending before.file before.count ≡ ending file (length records) = ap (λ (f : Format). ending f before.count) h.file_is ∙ ap (ending file) h.count_is in
       record {
         taken = subst (λ (t : List ℕ). Consumes a c (magic_of file ++ (concat records ++ t))) whole (taken_more a b c (magic_of file) (concat records) (ending before.file before.count) h.taken e.taken);
         ordered = h.ordered;
         apart = h.apart;
         few = omega (arith, h.count_is, e.few);
-        ended = subst (λ (f : TextKind). IsEnded f c) h.file_is e.ended;
+        ended = subst (λ (f : Format). IsEnded f c) h.file_is e.ended;
         offset_is = e.offset_is ∙ h.offset_is;
         retired_are = subst (λ (t : List (List ℕ)). AreRetired file t records) (sym e.retired_is) h.retired_are;
       }
@@ -89,8 +86,8 @@ module _ (file : TextKind) where
   covered_behind : (a b : Option (List ℕ)) (records : List (List ℕ)) (before : Position) (rest : List ℕ) (kind : RecordFaultKind) → HasRead file a b records before → IsCoveredThere before rest kind → FailsBehind file records rest (seen_as kind)
   covered_behind a b records before rest kind h c =
       let is : Archive ≡ file = sym c.file_is ∙ h.file_is in
-      let alike : RetireAlike (set_of before.retired) (set_of records) = subst (λ (f : TextKind). AreRetired f before.retired records) (sym is) h.retired_are in
-      subst (λ (f : TextKind). FailsBehind f records rest (seen_as kind)) is (
+      let alike : RetireAlike (set_of before.retired) (set_of records) = subst (λ (f : Format). AreRetired f before.retired records) (sym is) h.retired_are in
+      subst (λ (f : Format). FailsBehind f records rest (seen_as kind)) is (
         ap seen_as c.kind_is,
         record {
           item = rest;
@@ -114,7 +111,7 @@ module _ (file : TextKind) where
     ordered = h.ordered;
     apart = h.apart;
     few = omega (arith, h.count_is, s.few);
-    unended = λ known. subst (λ (f : TextKind). IsUnended f s.rest) h.file_is (s.unended known);
+    unended = λ known. subst (λ (f : Format). IsUnended f s.rest) h.file_is (s.unended known);
     stops = inl (s.offset_is ∙ h.offset_is, λ known. fails_there a b records before s.rest fault.kind h (s.fails known));
   }
 
@@ -129,7 +126,7 @@ IfItem-then (Item found) p f = f found p
 
 -- a step, by what it read over the last record
 pub step_passes : (a b : Option (List ℕ)) (before after : Position) (bytes : List ℕ) → after.last ≡ bytes → Consumes a b bytes → IsItem before.file bytes → may_follow before.file before.last bytes ≡ true
-    → after.file ≡ before.file → after.count ≡ before.count + 1 → after.offset ≡ before.offset + length after.last → after.count < 2 ^ 63 → KeepsIn before.file before.retired after.retired bytes → Passes a b before after
+    → after.file ≡ before.file → after.count ≡ before.count + 1 → after.offset ≡ before.offset + length after.last → after.count < 2 ^ 63 → KeepsIn before.file before.retired after.retired after.dropped bytes → Passes a b before after
 step_passes a b before after bytes is taken item follows file count offset few kept = record {
   taken = subst (Consumes a b) (sym is) taken;
   item = subst (IsItem before.file) (sym is) item;
@@ -138,7 +135,7 @@ step_passes a b before after bytes is taken item follows file count offset few k
   count_is = count;
   offset_is = offset;
   few = few;
-  kept = subst (KeepsIn before.file before.retired after.retired) (sym is) kept;
+  kept = subst (KeepsIn before.file before.retired after.retired after.dropped) (sym is) kept;
 }
 
 -- why an item is refused by the retirements before it
@@ -158,12 +155,12 @@ step_refused a b before bytes kind taken few item follows (inl e) = record {
 step_refused a b before bytes kind taken few item follows (inr c) = record {
   rest = bytes;
   taken = taken;
-  unended = λ known. subst (λ (f : TextKind). IsUnended f bytes) (sym c.1) tt;
+  unended = λ known. subst (λ (f : Format). IsUnended f bytes) (sym c.1) tt;
   fails = λ known. inr (record {
     kind_is = c.0;
     file_is = c.1;
-    item = subst (λ (f : TextKind). IsItem f bytes) c.1 item;
-    follows = subst (λ (f : TextKind). may_follow f before.last bytes ≡ true) c.1 follows;
+    item = subst (λ (f : Format). IsItem f bytes) c.1 item;
+    follows = subst (λ (f : Format). may_follow f before.last bytes ≡ true) c.1 follows;
     covered = c.2;
   });
   offset_is = refl;
@@ -195,7 +192,7 @@ step-never_trailing a b before fault s trailing = elim (s.fails (λ memory. no_m
 
 -- ---- behind an end record
 
-module _ (file : TextKind) (counts : end_length file ≡ Some 9) where
+module _ (file : Format) (counts : end_length file ≡ Some 9) where
   taken_all : (a b : Option (List ℕ)) (records : List (List ℕ)) → Consumes a b (text_of file records) → Consumes a b (magic_of file ++ (concat records ++ end_record (length records)))
   taken_all a b records k = subst (λ (t : List ℕ). Consumes a b (magic_of file ++ (concat records ++ t))) (counted file counts (length records)) k
 

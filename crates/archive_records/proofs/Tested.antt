@@ -3,12 +3,12 @@ use Rattle.std.proofs.Common.{◌≡◌, ℕ, Bool, true, false, List, length, g
 use Rattle.std.proofs.lemmas.Bool.{ne_eqb}
 use Rattle.std.proofs.lemmas.List.{take_all}
 use Rattle.archive_records.specs.declared.fault.RecordFaultKind.TheVariants.{NotAscending, BadCount}
-use Rattle.archive_records.specs.declared.kind.TextKind.{TextKind}
+use Rattle.archive_records.specs.declared.format.Format.{Format}
 use Rattle.archive_records.specs.Kind.{may_follow}
 use Rattle.archive_records.specs.Layout.{record_count}
 use Rattle.archive_records.specs.Fault.{is_end, tested}
 
-module _ (file : TextKind) (last : List ℕ) (count : ℕ) (bytes : List ℕ) where
+module _ (file : Format) (last : List ℕ) (count : ℕ) (bytes : List ℕ) where
   pub tested-end : get_or bytes 0 0 ≡ 3 → record_count bytes ≡ count → tested file last count bytes (length bytes) ≡ Ok (length bytes)
   unfolding tested is_end
   tested-end three same =

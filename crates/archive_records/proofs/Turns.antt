@@ -1,6 +1,5 @@
 -- A turn of a merge: the record that is next is written.
-use Rattle.std.proofs.Common.{◌≡◌, ◌≢◌, ℕ, ◌+◌, ◌-◌, ◌<◌, Bool, true, false, List, [], ◌∷◌, ◌++◌, length, Option, Result, Ok, Err, refl, sym, ap, ◌∙◌, subst, arith, inl, inr, ◌⊎◌, append_assoc, length-append}
-use Rattle.std.proofs.lemmas.Bool.{false≢true}
+use Rattle.std.proofs.Common.{◌≡◌, ◌≢◌, ℕ, ◌+◌, ◌-◌, Bool, true, false, ◌||◌, List, [], ◌∷◌, ◌++◌, length, Option, Result, Ok, Err, refl, sym, ap, ◌∙◌, subst, arith, inl, inr, ◌⊎◌, append_assoc, length-append}
 use Rattle.std.specs.Prelude.{IfErr, OnOk, MatchResult}
 use Rattle.std.specs.declared.cmp.Ordering.{Ordering}
 use Rattle.std.specs.declared.cmp.Ordering.TheVariants.{Less, Equal, Greater}
@@ -10,27 +9,28 @@ use Rattle.byte_device.specs.Writes.{WritesFirst}
 use Rattle.byte_device.specs.declared.writing.WriteFault.{WriteFault}
 use Rattle.byte_device.proofs.Gains.{stopped}
 use Rattle.byte_device.proofs.Known.{Appends-then}
-use Rattle.archive_records.specs.declared.kind.TextKind.TheVariants.{Archive}
+use Rattle.archive_records.specs.declared.format.Format.TheVariants.{Archive}
+use Rattle.archive_records.specs.declared.kind.TextKind.TheVariants.{Archive as Archive_text}
 use Rattle.archive_records.specs.declared.merging.Merge.{Merge}
 use Rattle.archive_records.specs.declared.side.Ahead.{Ahead}
 use Rattle.archive_records.specs.declared.side.Ahead.TheVariants.{Unread, Held, Ended}
 use Rattle.archive_records.specs.declared.side.Side.{Side}
 use Rattle.archive_records.specs.declared.writing.Sizes.{Sizes}
-use Rattle.archive_records.specs.Kind.{magic, may_follow}
-use Rattle.archive_records.specs.Text.{end_record, text_of, last_of}
+use Rattle.archive_records.specs.Kind.{magic, kind_of, IsItem, may_follow}
+use Rattle.archive_records.specs.Text.{end_record, text_of, last_of, kept}
 use Rattle.archive_records.specs.Reader.{HasRead}
 use Rattle.archive_records.specs.Front.{front_length}
 use Rattle.archive_records.specs.Merging.{most_records}
 use Rattle.archive_records.specs.declared.fault.MergeCause.{MergeCause}
 use Rattle.archive_records.specs.declared.fault.MergeFault.{MergeFault}
-use Rattle.archive_records.specs.Turns.{kept, TellsBy, TellsCovered, Stands, Joins, Merging, LeftStopped, RightStopped, WriteStopped, IsFull, LeftFull, RightFull, ByCause, HasStoppedMerge, IsWritten, cost, cost_of, first_by, first_of, Fits, IsRead, IsRefusedMore, memory_behind}
+use Rattle.archive_records.specs.Turns.{TellsBy, TellsCovered, Stands, Joins, Merging, LeftStopped, RightStopped, WriteStopped, IsFull, LeftFull, RightFull, ByCause, HasStoppedMerge, IsWritten, first_by, first_of, Fits, IsRead, IsRefusedMore, memory_behind}
 use Rattle.archive_records.proofs.Puts.{bytes_same, concat-push}
-use Rattle.archive_records.proofs.Steps.{last_of-push}
+use Rattle.archive_records.proofs.Apart.{covered_push, last_of-push}
 use Rattle.archive_records.proofs.Ascending.{below-less, below-greater, last_is_record, last_under}
 use Rattle.archive_core.specs.Content.{is_covered}
 use Rattle.archive_records.specs.Reader.{set_of}
-use Rattle.archive_records.specs.Text.{AreApart}
-use Rattle.archive_records.proofs.Covered.{kept_push, kept_pass, long_record, covered_self, by_other, by_none}
+use Rattle.archive_records.proofs.Covered.{kept_push, kept_pass, long_record, dropped_own, by_both, by_other}
+use Rattle.archive_records.proofs.Formats.{in_order_of}
 use Rattle.archive_records.proofs.Unions.{Joins-left, Joins-right, Joins-both, Joins-swap}
 
 -- ---- which is first
@@ -56,25 +56,17 @@ first_greater Held Unread o read some e = absurd cc
 first_greater Ended r o read some e = (some refl, λ t. absurd cc)
 first_greater Unread r o read some e = absurd (read refl)
 
--- a record that the other side's retirements cover is not both sides'
-pub only_less : (m : Merge) (o : Ordering) → first_of m.left m.right ≡ o → (o ≡ Less) ⊎ (o ≡ Equal) → TellsCovered m.left m.right true → first_of m.left m.right ≡ Less
-only_less m o is (inl e) tells = is ∙ e
-only_less m o is (inr e) tells = absurd (false≢true (sym (subst (λ (x : Ordering). TellsBy x m.left m.right true) (is ∙ e) tells)))
-
--- where it is passed over there is less to do
-pub less_cost : (m : Merge) → first_of m.left m.right ≡ Less → cost_of (record { left = record { reader = m.left.reader; ahead = Unread }; right = m.right; written = m.written }) < cost_of m
-less_cost m first = omega (arith, ap cost (first_less m.left.ahead m.right.ahead _ first).0)
-
 -- ---- one side
 
 abbrev unread_of : Side → Side
 unread_of s = record { reader = s.reader; ahead = Unread }
 
 -- its record was written
-wrote_own : (a b : Option (List ℕ)) (done out : List (List ℕ)) (x : List ℕ) (s : Side) → x ≡ s.reader.last → HasRead Archive a b (done ++ s.reader.last ∷ []) s.reader → Stands a b (done ++ x ∷ []) (last_of [] (out ++ x ∷ [])) (unread_of s)
-wrote_own a b done out x s e h = record {
+wrote_own : (a b : Option (List ℕ)) (done out : List (List ℕ)) (x : List ℕ) (s : Side) → x ≡ s.reader.last → kind_of s.reader.file ≡ Archive_text → HasRead s.reader.file a b (done ++ s.reader.last ∷ []) s.reader → Stands a b (done ++ x ∷ []) (last_of [] (out ++ x ∷ [])) (unread_of s)
+wrote_own a b done out x s e k h = record {
+  archive = k;
   unread = λ _. (
-    subst (λ (t : List ℕ). HasRead Archive a b (done ++ t ∷ []) s.reader) (sym e) h,
+    subst (λ (t : List ℕ). HasRead s.reader.file a b (done ++ t ∷ []) s.reader) (sym e) h,
     last_of-push [] done x ∙ sym (last_of-push [] out x),
   );
   held = λ t. absurd cc;
@@ -84,10 +76,19 @@ wrote_own a b done out x s e h = record {
 -- the other side's was
 wrote_other : (a b : Option (List ℕ)) (done out : List (List ℕ)) (low x : List ℕ) (s : Side) → s.ahead ≢ Unread → (s.ahead ≡ Held → may_follow Archive x s.reader.last ≡ true) → Stands a b done low s → Stands a b done (last_of [] (out ++ x ∷ [])) s
 wrote_other a b done out low x s read above p = record {
+  archive = p.archive;
   unread = λ t. absurd (read t);
   held = λ t. ((p.held t).0, rw (last_of-push [] out x) (above t));
   ended = p.ended;
 }
+
+-- the record that a side holds is one
+pub held_record : (a b : Option (List ℕ)) (done : List (List ℕ)) (low : List ℕ) (s : Side) → Stands a b done low s → s.ahead ≡ Held → IsItem Archive s.reader.last
+held_record a b done low s p held = last_is_record [] done s.reader.last (in_order_of s.reader.file p.archive [] (done ++ s.reader.last ∷ []) (p.held held).0.ordered)
+
+-- whether its own retirements cover it
+held_dropped : (a b : Option (List ℕ)) (done : List (List ℕ)) (low : List ℕ) (s : Side) → Stands a b done low s → s.ahead ≡ Held → s.reader.dropped ≡ is_covered (set_of done) s.reader.last
+held_dropped a b done low s p held = dropped_own s.reader.file p.archive s.reader.dropped done s.reader.last (p.held held).0.dropped_is
 
 -- ---- both sides, once the record x is behind the others
 
@@ -108,10 +109,10 @@ module _ (a1 b1 a2 b2 w0 w1 w2 : Option (List ℕ)) (m : Merge) (p : Merging a1 
       record {
         lefts = p.lefts ++ x ∷ [];
         rights = p.rights;
-        left = wrote_own a1 b1 p.lefts p.out x m.left refl h.0;
+        left = wrote_own a1 b1 p.lefts p.out x m.left refl p.left.archive h.0;
         right = wrote_other a2 b2 p.rights p.out _ x m.right read (λ t. below-less _ _ (f.1 t)) p.right;
         order = λ _ _. subst (λ (t : List ℕ). may_follow Archive (last_of [] p.rights) t ≡ true) (sym (last_of-push [] p.out x)) (last_under p.out p.rights x p.joins.ordered p.joins.right h.1);
-        joins = Joins-left p.out p.lefts p.rights x p.joins (last_is_record [] p.lefts _ h.0.ordered) h.1;
+        joins = Joins-left p.out p.lefts p.rights x p.joins (held_record a1 b1 p.lefts (last_of [] p.out) m.left p.left f.0) h.1;
       }
 
   next_right : m.left.ahead ≢ Unread → (m.left.ahead ≡ Ended → m.right.ahead ≡ Held) → first_of m.left m.right ≡ Greater → Next a1 b1 a2 b2 m.left (unread_of m.right) (p.out ++ m.right.reader.last ∷ [])
@@ -123,9 +124,9 @@ module _ (a1 b1 a2 b2 w0 w1 w2 : Option (List ℕ)) (m : Merge) (p : Merging a1 
         lefts = p.lefts;
         rights = p.rights ++ x ∷ [];
         left = wrote_other a1 b1 p.lefts p.out _ x m.left read (λ t. below-greater _ _ (f.1 t)) p.left;
-        right = wrote_own a2 b2 p.rights p.out x m.right refl h.0;
+        right = wrote_own a2 b2 p.rights p.out x m.right refl p.right.archive h.0;
         order = λ t _. absurd (read t);
-        joins = Joins-right p.out p.lefts p.rights x p.joins (last_is_record [] p.rights _ h.0.ordered) h.1;
+        joins = Joins-right p.out p.lefts p.rights x p.joins (held_record a2 b2 p.rights (last_of [] p.out) m.right p.right f.0) h.1;
       }
 
   next_both : first_of m.left m.right ≡ Equal → Next a1 b1 a2 b2 (unread_of m.left) (unread_of m.right) (p.out ++ m.left.reader.last ∷ [])
@@ -137,36 +138,42 @@ module _ (a1 b1 a2 b2 w0 w1 w2 : Option (List ℕ)) (m : Merge) (p : Merging a1 
       record {
         lefts = p.lefts ++ x ∷ [];
         rights = p.rights ++ x ∷ [];
-        left = wrote_own a1 b1 p.lefts p.out x m.left refl h.0;
-        right = wrote_own a2 b2 p.rights p.out x m.right (bytes_same _ _ f.2) k.0;
+        left = wrote_own a1 b1 p.lefts p.out x m.left refl p.left.archive h.0;
+        right = wrote_own a2 b2 p.rights p.out x m.right (bytes_same _ _ f.2) p.right.archive k.0;
         order = λ _ t. absurd (t refl);
-        joins = Joins-both p.out p.lefts p.rights x p.joins (last_is_record [] p.lefts _ h.0.ordered) h.1;
+        joins = Joins-both p.out p.lefts p.rights x p.joins (held_record a1 b1 p.lefts (last_of [] p.out) m.left p.left f.0) h.1;
       }
 
-  -- whether a retirement of the other side covers the record
+  -- whether a retirement of either side covers the record
   less_covered : m.right.ahead ≢ Unread → first_of m.left m.right ≡ Less → (b : Bool) → TellsCovered m.left m.right b → is_covered (set_of (p.out ++ m.left.reader.last ∷ [])) m.left.reader.last ≡ b
   less_covered read first b tells =
       let x = m.left.reader.last in
       let f = first_less m.left.ahead m.right.ahead _ first in
-      let h = (p.left.held f.0).0 in
       let told : TellsBy Less m.left m.right b = subst (λ (o : Ordering). TellsBy o m.left m.right b) first tells in
-      by_other p.out p.lefts p.rights x p.joins h.apart a2 b2 (last_of [] p.out) m.right p.right read (λ t. below-less _ _ (f.1 t)) ∙ sym (told (long_record x (last_is_record [] p.lefts x h.ordered)))
+      by_other p.out p.lefts p.rights x p.joins a2 b2 (last_of [] p.out) m.right p.right read (λ t. below-less _ _ (f.1 t))
+      ∙ ap (λ (c : Bool). c || is_covered (set_of m.right.reader.retired) x) (sym (held_dropped a1 b1 p.lefts (last_of [] p.out) m.left p.left f.0))
+      ∙ sym (told (long_record x (held_record a1 b1 p.lefts (last_of [] p.out) m.left p.left f.0)))
 
   greater_covered : m.left.ahead ≢ Unread → (m.left.ahead ≡ Ended → m.right.ahead ≡ Held) → first_of m.left m.right ≡ Greater → (b : Bool) → TellsCovered m.left m.right b → is_covered (set_of (p.out ++ m.right.reader.last ∷ [])) m.right.reader.last ≡ b
   greater_covered read some first b tells =
       let x = m.right.reader.last in
       let f = first_greater m.left.ahead m.right.ahead _ read some first in
-      let h = (p.right.held f.0).0 in
       let told : TellsBy Greater m.left m.right b = subst (λ (o : Ordering). TellsBy o m.left m.right b) first tells in
-      by_other p.out p.rights p.lefts x (Joins-swap p.out p.lefts p.rights p.joins) h.apart a1 b1 (last_of [] p.out) m.left p.left read (λ t. below-greater _ _ (f.1 t)) ∙ sym (told (long_record x (last_is_record [] p.rights x h.ordered)))
+      by_other p.out p.rights p.lefts x (Joins-swap p.out p.lefts p.rights p.joins) a1 b1 (last_of [] p.out) m.left p.left read (λ t. below-greater _ _ (f.1 t))
+      ∙ ap (λ (c : Bool). c || is_covered (set_of m.left.reader.retired) x) (sym (held_dropped a2 b2 p.rights (last_of [] p.out) m.right p.right f.0))
+      ∙ sym (told (long_record x (held_record a2 b2 p.rights (last_of [] p.out) m.right p.right f.0)))
 
-  both_free : first_of m.left m.right ≡ Equal → is_covered (set_of (p.out ++ m.left.reader.last ∷ [])) m.left.reader.last ≡ false
-  both_free first =
+  both_covered : first_of m.left m.right ≡ Equal → (b : Bool) → TellsCovered m.left m.right b → is_covered (set_of (p.out ++ m.left.reader.last ∷ [])) m.left.reader.last ≡ b
+  both_covered first b tells =
       let x = m.left.reader.last in
       let f = first_equal m.left.ahead m.right.ahead _ first in
-      let h = (p.left.held f.0).0 in
-      let k = (p.right.held f.1).0 in
-      by_none p.out p.lefts p.rights x p.joins h.apart (subst (λ (y : List ℕ). AreApart Archive (p.rights ++ y ∷ [])) (sym (bytes_same _ _ f.2)) k.apart)
+      let told : TellsBy Equal m.left m.right b = subst (λ (o : Ordering). TellsBy o m.left m.right b) first tells in
+      let same : x ≡ m.right.reader.last = bytes_same _ _ f.2 in
+      by_both p.out p.lefts p.rights x p.joins
+      ∙ ap (λ (c : Bool). c || is_covered (set_of p.rights) x) (sym (held_dropped a1 b1 p.lefts (last_of [] p.out) m.left p.left f.0))
+      ∙ ap (λ (r : List ℕ). m.left.reader.dropped || is_covered (set_of p.rights) r) same
+      ∙ ap (λ (c : Bool). m.left.reader.dropped || c) (sym (held_dropped a2 b2 p.rights (last_of [] p.out) m.right p.right f.1))
+      ∙ sym told
 
   wrote : (x : List ℕ) (left right old new : Side) (written : Sizes) → x ≡ old.reader.last → is_covered (set_of (p.out ++ x ∷ [])) x ≡ false → Next a1 b1 a2 b2 left right (p.out ++ x ∷ []) → IsWritten w1 w2 m.written written old new → Merging a1 b1 a2 b2 w0 w2 (record { left = left; right = right; written = written })
   wrote x left right old new written e free n i =
@@ -209,6 +216,9 @@ module _ (a1 b1 a2 b2 w0 w1 w2 : Option (List ℕ)) (m : Merge) (p : Merging a1 
   pub pass_right : m.left.ahead ≢ Unread → (m.left.ahead ≡ Ended → m.right.ahead ≡ Held) → first_of m.left m.right ≡ Greater → TellsCovered m.left m.right true → Merging a1 b1 a2 b2 w0 w1 (record { left = m.left; right = unread_of m.right; written = m.written })
   pass_right read some first tells = passed m.right.reader.last m.left (unread_of m.right) (greater_covered read some first true tells) (next_right read some first)
 
+  pub pass_both : first_of m.left m.right ≡ Equal → TellsCovered m.left m.right true → Merging a1 b1 a2 b2 w0 w1 (record { left = unread_of m.left; right = unread_of m.right; written = m.written })
+  pass_both first tells = passed m.left.reader.last (unread_of m.left) (unread_of m.right) (both_covered first true tells) (next_both first)
+
   write_stops : (x : List ℕ) (left right : Side) (written k : ℕ) → is_covered (set_of (p.out ++ x ∷ [])) x ≡ false → Next a1 b1 a2 b2 left right (p.out ++ x ∷ []) → written ≡ m.written.bytes + k → WritesFirst w1 w2 x k → WriteStopped a1 b1 a2 b2 w0 w2 written
   write_stops x left right written k free n is q =
       let before : List (List ℕ) = kept p.out in
@@ -241,14 +251,14 @@ module _ (a1 b1 a2 b2 w0 w1 w2 : Option (List ℕ)) (m : Merge) (p : Merging a1 
         by (Ok x) i e = subst (λ (s : Side). Merging a1 b1 a2 b2 w0 w2 (record { left = s; right = m.right; written = written })) (sym i.side) (wrote m.left.reader.last (unread_of m.left) m.right m.left side written refl (less_covered read first false tells) (next_left read first) i)
         by (Err fault) i e = write_stops m.left.reader.last (unread_of m.left) m.right fault.written e.0 (less_covered read first false tells) (next_left read first) e.1 e.2
 
-    pub both_turn : first_of m.left m.right ≡ Equal → OnOk r (IsWritten w1 w2 m.written written m.left side) → IfErr r (λ e. (k : ℕ) × (e.written ≡ m.written.bytes + k) × WritesFirst w1 w2 m.left.reader.last k)
+    pub both_turn : first_of m.left m.right ≡ Equal → TellsCovered m.left m.right false → OnOk r (IsWritten w1 w2 m.written written m.left side) → IfErr r (λ e. (k : ℕ) × (e.written ≡ m.written.bytes + k) × WritesFirst w1 w2 m.left.reader.last k)
         → MatchResult r (λ _. Merging a1 b1 a2 b2 w0 w2 (record { left = side; right = unread_of m.right; written = written })) (λ fault. WriteStopped a1 b1 a2 b2 w0 w2 fault.written)
-    both_turn first ok err = by r ok err
+    both_turn first tells ok err = by r ok err
       where
         by : (r : Result X WriteFault) → OnOk r (IsWritten w1 w2 m.written written m.left side) → IfErr r (λ e. (k : ℕ) × (e.written ≡ m.written.bytes + k) × WritesFirst w1 w2 m.left.reader.last k)
             → MatchResult r (λ _. Merging a1 b1 a2 b2 w0 w2 (record { left = side; right = unread_of m.right; written = written })) (λ fault. WriteStopped a1 b1 a2 b2 w0 w2 fault.written)
-        by (Ok x) i e = subst (λ (s : Side). Merging a1 b1 a2 b2 w0 w2 (record { left = s; right = unread_of m.right; written = written })) (sym i.side) (wrote m.left.reader.last (unread_of m.left) (unread_of m.right) m.left side written refl (both_free first) (next_both first) i)
-        by (Err fault) i e = write_stops m.left.reader.last (unread_of m.left) (unread_of m.right) fault.written e.0 (both_free first) (next_both first) e.1 e.2
+        by (Ok x) i e = subst (λ (s : Side). Merging a1 b1 a2 b2 w0 w2 (record { left = s; right = unread_of m.right; written = written })) (sym i.side) (wrote m.left.reader.last (unread_of m.left) (unread_of m.right) m.left side written refl (both_covered first false tells) (next_both first) i)
+        by (Err fault) i e = write_stops m.left.reader.last (unread_of m.left) (unread_of m.right) fault.written e.0 (both_covered first false tells) (next_both first) e.1 e.2
 
     pub right_turn : m.left.ahead ≢ Unread → (m.left.ahead ≡ Ended → m.right.ahead ≡ Held) → first_of m.left m.right ≡ Greater → TellsCovered m.left m.right false → OnOk r (IsWritten w1 w2 m.written written m.right side)
         → IfErr r (λ e. (k : ℕ) × (e.written ≡ m.written.bytes + k) × WritesFirst w1 w2 m.right.reader.last k)
@@ -276,12 +286,12 @@ before_last a b done low s p held =
 module _ (a1 b1 a2 b2 w0 w1 : Option (List ℕ)) (m : Merge) (p : Merging a1 b1 a2 b2 w0 w1 m) (fits : Fits m) (read : IsRead m) (some : m.left.ahead ≡ Ended → m.right.ahead ≡ Held) (tells : TellsCovered m.left m.right false) where
   -- the record that is next is not covered
   left_free : (o : Ordering) → first_of m.left m.right ≡ o → o ≢ Greater → is_covered (set_of p.out) m.left.reader.last ≡ false
-  left_free Less e n = sym (covered_self p.out m.left.reader.last) ∙ less_covered a1 b1 a2 b2 w0 w1 w1 m p read.right e false tells
-  left_free Equal e n = sym (covered_self p.out m.left.reader.last) ∙ both_free a1 b1 a2 b2 w0 w1 w1 m p e
+  left_free Less e n = sym (covered_push p.out m.left.reader.last) ∙ less_covered a1 b1 a2 b2 w0 w1 w1 m p read.right e false tells
+  left_free Equal e n = sym (covered_push p.out m.left.reader.last) ∙ both_covered a1 b1 a2 b2 w0 w1 w1 m p e false tells
   left_free Greater e n = absurd (n refl)
 
   right_free : first_of m.left m.right ≡ Greater → is_covered (set_of p.out) m.right.reader.last ≡ false
-  right_free e = sym (covered_self p.out m.right.reader.last) ∙ greater_covered a1 b1 a2 b2 w0 w1 w1 m p read.left some e false tells
+  right_free e = sym (covered_push p.out m.right.reader.last) ∙ greater_covered a1 b1 a2 b2 w0 w1 w1 m p read.left some e false tells
 
   is_full : (written : ℕ) → m.written.records ≡ most_records → written ≡ m.written.bytes → IsFull a1 b1 a2 b2 w0 w1 written
   is_full written most is = record {

@@ -1,4 +1,4 @@
--- The one fault of a text that is not an archive's, or not that of operations.
+-- The one fault of bytes that are no archive's text, of either version, or not that of operations or of a summary.
 use Rattle.std.specs.Prelude.{◌≡◌, ◌≢◌, ℕ, ◌+◌, ◌<◌, ◌≤◌, Bool, true, List, [], length, take}
 use Rattle.std.specs.Prelude.{drop, slice_index, ◌++◌, ◌==◌, if◌then◌else◌, Result, Ok, Err, ◌⊎◌}
 use Rattle.archive_core.specs.Key.{key_bytes}
@@ -6,8 +6,8 @@ use Rattle.std.specs.FinSet as set
 use Rattle.archive_core.specs.Record.{IsRecord}
 use Rattle.archive_core.specs.Content.{is_covered}
 use Rattle.archive_core.specs.Valid.{IsValid, IsSliceFault, key_of}
-use Rattle.archive_records.specs.declared.kind.TextKind.{TextKind}
-use Rattle.archive_records.specs.declared.kind.TextKind.TheVariants.{Archive, Operations, Summary}
+use Rattle.archive_records.specs.declared.format.Format.{Format}
+use Rattle.archive_records.specs.declared.format.Format.TheVariants.{Archive, OldArchive, Operations, Summary}
 use Rattle.archive_records.specs.declared.fault.RecordFaultKind.{RecordFaultKind}
 use Rattle.archive_records.specs.declared.fault.RecordFaultKind.TheVariants.{BadMagic, Truncated, BadTag, TooLarge}
 use Rattle.archive_records.specs.declared.fault.RecordFaultKind.TheVariants.{NotAscending, BadSlice}
@@ -15,7 +15,7 @@ use Rattle.archive_records.specs.declared.fault.RecordFaultKind.TheVariants.{Key
 use Rattle.archive_records.specs.declared.fault.RecordFaultKind.TheVariants.{Device, OutOfMemory, Covered}
 use Rattle.archive_records.specs.declared.fault.RecordFault.{RecordFault}
 use Rattle.archive_records.specs.Layout.{record_count, framed}
-use Rattle.archive_records.specs.Kind.{magic_of, may_follow}
+use Rattle.archive_records.specs.Kind.{magic_of, archive_format, may_follow}
 use Rattle.archive_records.specs.Text.{last_of}
 use Rattle.archive_records.specs.Front.{IsGoodFront, front_length}
 
@@ -24,18 +24,18 @@ unfoldable pub is_end : List ℕ → Bool
 is_end bytes = slice_index bytes 0 == 3
 
 -- the tests of a whole record of n bytes, behind this last record, or of an end record, behind so many records
-unfoldable pub tested : TextKind → List ℕ → ℕ → List ℕ → ℕ → Result ℕ RecordFaultKind
+unfoldable pub tested : Format → List ℕ → ℕ → List ℕ → ℕ → Result ℕ RecordFaultKind
 tested file last count rest n =
     if is_end rest then (if record_count rest == count then Ok n else Err BadCount)
     else if may_follow file last (take n rest) then Ok n else Err NotAscending
 
-abbrev pub next_by : TextKind → Result ℕ RecordFaultKind → List ℕ → ℕ → List ℕ → Result ℕ RecordFaultKind
+abbrev pub next_by : Format → Result ℕ RecordFaultKind → List ℕ → ℕ → List ℕ → Result ℕ RecordFaultKind
 next_by file (Err kind) last count rest = Err kind
 next_by file (Ok n) last count rest = tested file last count rest n
 
 -- the length of the record or end record in front of the rest, or else the first test that fails before its slice is
 -- looked at
-unfoldable pub next : TextKind → List ℕ → ℕ → List ℕ → Result ℕ RecordFaultKind
+unfoldable pub next : Format → List ℕ → ℕ → List ℕ → Result ℕ RecordFaultKind
 next file last count rest = next_by file (framed file rest) last count rest
 
 -- why the slice of a whole admission is refused: it is none, or has another key than the record
@@ -55,18 +55,20 @@ RefusesSlice bytes OutOfMemory = ⊥
 RefusesSlice bytes Covered = ⊥
 
 -- why a whole item is refused for what it holds; an entry is not
-abbrev pub Refuses : TextKind → List ℕ → RecordFaultKind → Type 0
+abbrev pub Refuses : Format → List ℕ → RecordFaultKind → Type 0
 Refuses Archive bytes kind = RefusesSlice bytes kind
+Refuses OldArchive bytes kind = RefusesSlice bytes kind
 Refuses Operations bytes kind = RefusesSlice bytes kind
 Refuses Summary bytes kind = ⊥
 
 -- the first test that fails in front of the rest, of those that know the last record and the number of records alone
-abbrev pub FailsNext : TextKind → List ℕ → ℕ → List ℕ → RecordFaultKind → Type 0
+abbrev pub FailsNext : Format → List ℕ → ℕ → List ℕ → RecordFaultKind → Type 0
 FailsNext file last count rest kind =
     (next file last count rest ≡ Err kind)
     ⊎ ((n : ℕ) × (next file last count rest ≡ Ok n) × Refuses file (take n rest) kind)
 
--- A record stands in front of the rest that may follow these, but a retirement among them covers it.
+-- A record stands in front of the rest that may follow these records of an archive, but a retirement among them covers
+-- it.
 pub record IsCoveredNext (records : List (List ℕ)) (rest : List ℕ) : Type 0 where
   pub item : List ℕ
   pub more : List ℕ
@@ -75,25 +77,26 @@ pub record IsCoveredNext (records : List (List ℕ)) (rest : List ℕ) : Type 0 
   pub above : may_follow Archive (last_of [] records) item ≡ true
   pub covered : is_covered (set.from_list records) item ≡ true
 
--- the test that looks at all records before, the last one: archives alone have it
-abbrev pub FailsBehind : TextKind → List (List ℕ) → List ℕ → RecordFaultKind → Type 0
+-- the test that looks at all records before, the last one: archives of version 2 alone have it
+abbrev pub FailsBehind : Format → List (List ℕ) → List ℕ → RecordFaultKind → Type 0
 FailsBehind Archive records rest kind = (kind ≡ Covered) × IsCoveredNext records rest
+FailsBehind OldArchive records rest kind = ⊥
 FailsBehind Operations records rest kind = ⊥
 FailsBehind Summary records rest kind = ⊥
 
 -- the first test that fails in front of the rest, behind these records
-abbrev pub Fails : TextKind → List (List ℕ) → List ℕ → RecordFaultKind → Type 0
+abbrev pub Fails : Format → List (List ℕ) → List ℕ → RecordFaultKind → Type 0
 Fails file records rest kind =
     FailsNext file (last_of [] records) (length records) rest kind ⊎ FailsBehind file records rest kind
 
 -- the end record of so many records, and bytes behind it
-pub record IsTrailing (file : TextKind) (last : List ℕ) (count : ℕ) (rest : List ℕ) : Type 0 where
+pub record IsTrailing (file : Format) (last : List ℕ) (count : ℕ) (rest : List ℕ) : Type 0 where
   pub whole : next file last count rest ≡ Ok 9
   pub end : is_end rest ≡ true
   pub more : 9 < length rest
 
 -- one of the first bytes that are there is not the magic's, or the text ends inside the magic
-abbrev pub IsMagicFault : TextKind → List ℕ → RecordFaultKind → Type 0
+abbrev pub IsMagicFault : Format → List ℕ → RecordFaultKind → Type 0
 IsMagicFault file text BadMagic = (n : ℕ) × (n ≤ 8) × (n ≤ length text) × (take n text ≢ take n (magic_of file))
 IsMagicFault file text Truncated = (length text < 8) × (text ≡ take (length text) (magic_of file))
 IsMagicFault file text BadTag = ⊥
@@ -108,28 +111,29 @@ IsMagicFault file text OutOfMemory = ⊥
 IsMagicFault file text Covered = ⊥
 
 -- what is wrong behind a good front, and where
-abbrev pub IsFaultBehind : TextKind → List (List ℕ) → List ℕ → RecordFault → Type 0
+abbrev pub IsFaultBehind : Format → List (List ℕ) → List ℕ → RecordFault → Type 0
 IsFaultBehind file records rest fault =
     (Fails file records rest fault.kind × (fault.offset ≡ front_length records))
     ⊎ ((fault.kind ≡ Trailing) × IsTrailing file (last_of [] records) (length records) rest
     × (fault.offset ≡ front_length records + 9))
 
 -- The file does not end before the rest: operations do where nothing is left, the others only behind their end record.
-abbrev pub IsUnended : TextKind → List ℕ → Type 0
+abbrev pub IsUnended : Format → List ℕ → Type 0
 IsUnended Archive rest = Unit {0}
+IsUnended OldArchive rest = Unit {0}
 IsUnended Operations rest = rest ≢ []
 IsUnended Summary rest = Unit {0}
 
--- The fault of a text: that of the magic, or else what stops behind a good front.
-abbrev pub IsFaultOf : TextKind → List ℕ → RecordFault → Type 0
+-- The fault of a text of this format: that of the magic, or else what stops behind a good front.
+abbrev pub IsFaultOf : Format → List ℕ → RecordFault → Type 0
 IsFaultOf file text fault =
     (IsMagicFault file text fault.kind × (fault.offset ≡ 0))
     ⊎ ((records : List (List ℕ)) × (front : IsGoodFront file text records) × IsUnended file front.rest
     × IsFaultBehind file records front.rest fault)
 
--- the fault of what should be an archive's text
+-- the fault of what should be an archive's text: of the version that its first bytes tell
 abbrev pub IsFault : List ℕ → RecordFault → Type 0
-IsFault = IsFaultOf Archive
+IsFault text fault = IsFaultOf (archive_format text) text fault
 
 -- the fault of what should be a summary's text
 abbrev pub IsSummaryFault : List ℕ → RecordFault → Type 0

@@ -1,16 +1,24 @@
--- The kinds of files: what each begins with, what its records are, how they follow one another, and how it ends.
-use Rattle.std.specs.Prelude.{ℕ, Bool, true, List, [], ◌∷◌, Option, Some, None}
+-- The formats of files: what each begins with, what its records are, how they follow one another, and how it ends.
+use Rattle.std.specs.Prelude.{ℕ, Bool, true, List, [], ◌∷◌, ◌==◌, if◌then◌else◌, slice_index, Option, Some, None}
 use Rattle.std.specs.declared.cmp.Ordering.{Ordering}
 use Rattle.std.specs.Ordering.{is_lt, nat_cmp}
 use Rattle.std.specs.Cmp.Lexicographic.{slice_cmp}
 use Rattle.archive_core.specs.Record.{IsRecord}
 use Rattle.archive_records.specs.Entry.{IsEntry}
+use Rattle.archive_records.specs.declared.format.Format.{Format}
+use Rattle.archive_records.specs.declared.format.Format.TheVariants.{Archive, OldArchive, Operations, Summary}
 use Rattle.archive_records.specs.declared.kind.TextKind.{TextKind}
-use Rattle.archive_records.specs.declared.kind.TextKind.TheVariants.{Archive, Operations, Summary}
+use Rattle.archive_records.specs.declared.kind.TextKind.TheVariants.{Archive as Archive_text}
+use Rattle.archive_records.specs.declared.kind.TextKind.TheVariants.{Operations as Operations_text}
+use Rattle.archive_records.specs.declared.kind.TextKind.TheVariants.{Summary as Summary_text}
 
 -- MSYMARC2
 abbrev pub magic : List ℕ
 magic = 0x4d ∷ 0x53 ∷ 0x59 ∷ 0x4d ∷ 0x41 ∷ 0x52 ∷ 0x43 ∷ 0x32 ∷ []
+
+-- MSYMARC1, of archives of version 1
+abbrev pub old_magic : List ℕ
+old_magic = 0x4d ∷ 0x53 ∷ 0x59 ∷ 0x4d ∷ 0x41 ∷ 0x52 ∷ 0x43 ∷ 0x31 ∷ []
 
 -- MSYMOPS1
 abbrev pub operations_magic : List ℕ
@@ -20,36 +28,59 @@ operations_magic = 0x4d ∷ 0x53 ∷ 0x59 ∷ 0x4d ∷ 0x4f ∷ 0x50 ∷ 0x53 �
 abbrev pub summary_magic : List ℕ
 summary_magic = 0x4d ∷ 0x53 ∷ 0x59 ∷ 0x4d ∷ 0x53 ∷ 0x55 ∷ 0x4d ∷ 0x31 ∷ []
 
-abbrev pub magic_of : TextKind → List ℕ
+abbrev pub magic_of : Format → List ℕ
 magic_of Archive = magic
+magic_of OldArchive = old_magic
 magic_of Operations = operations_magic
 magic_of Summary = summary_magic
 
 -- what stands between the magic and what ends the file: records of operations, or entries
-abbrev pub IsItem : TextKind → List ℕ → Type 0
+abbrev pub IsItem : Format → List ℕ → Type 0
 IsItem Archive item = IsRecord item
+IsItem OldArchive item = IsRecord item
 IsItem Operations item = IsRecord item
 IsItem Summary item = IsEntry item
 
 -- how long the head of an admission is; an entry is a head alone
-abbrev pub admission_length : TextKind → ℕ
+abbrev pub admission_length : Format → ℕ
 admission_length Archive = 33
+admission_length OldArchive = 33
 admission_length Operations = 33
 admission_length Summary = 57
 
 -- how long an end record is; an operations file has none
-abbrev pub end_length : TextKind → Option ℕ
+abbrev pub end_length : Format → Option ℕ
 end_length Archive = Some 9
+end_length OldArchive = Some 9
 end_length Operations = None
 end_length Summary = Some 9
 
 -- whether a record may stand behind one that compares so with it: those of an archive and entries ascend, operations
 -- come in any order
-unfoldable pub allows : TextKind → Ordering → Bool
+unfoldable pub allows : Format → Ordering → Bool
 allows Archive order = is_lt order
+allows OldArchive order = is_lt order
 allows Operations order = true
 allows Summary order = is_lt order
 
 -- whether the second may stand behind the first
-unfoldable pub may_follow : TextKind → List ℕ → List ℕ → Bool
+unfoldable pub may_follow : Format → List ℕ → List ℕ → Bool
 may_follow file a b = allows file (slice_cmp nat_cmp a b)
+
+-- what a file of this format is
+abbrev pub kind_of : Format → TextKind
+kind_of Archive = Archive_text
+kind_of OldArchive = Archive_text
+kind_of Operations = Operations_text
+kind_of Summary = Summary_text
+
+-- the format in which bytes are read that should be an archive's: the eighth of them tells its version, and where it is
+-- not that of the first, the second is meant
+unfoldable pub archive_format : List ℕ → Format
+archive_format text = if slice_index text 7 == 0x31 then OldArchive else Archive
+
+-- the format in which bytes are read that should be of this kind
+abbrev pub format_for : TextKind → List ℕ → Format
+format_for Archive_text text = archive_format text
+format_for Operations_text text = Operations
+format_for Summary_text text = Summary

@@ -2,15 +2,15 @@
 use Rattle.std.specs.Prelude.{ℕ, ◌+◌, List, length, take, drop, slice_index, nat_lt, ◌==◌}
 use Rattle.std.specs.Prelude.{if◌then◌else◌, Option, Some, None, Result, Ok, Err}
 use Rattle.std.specs.Int.{w64, from_be_bytes}
-use Rattle.archive_records.specs.declared.kind.TextKind.{TextKind}
-use Rattle.archive_records.specs.declared.kind.TextKind.TheVariants.{Archive, Operations, Summary}
+use Rattle.archive_records.specs.declared.format.Format.{Format}
+use Rattle.archive_records.specs.declared.format.Format.TheVariants.{Archive, OldArchive, Operations, Summary}
 use Rattle.archive_records.specs.Kind.{admission_length, end_length}
 use Rattle.archive_records.specs.declared.fault.RecordFaultKind.{RecordFaultKind}
 use Rattle.archive_records.specs.declared.fault.RecordFaultKind.TheVariants.{Truncated, BadTag, TooLarge}
 
 -- How long the head is, by its tag: a retirement is tag, UUID, cputype, subtype and digest; an admission's head is tag,
 -- UUID, cputype, subtype and the length of its slice; an end record is tag and number of records.
-unfoldable pub head_length : TextKind → ℕ → Option ℕ
+unfoldable pub head_length : Format → ℕ → Option ℕ
 head_length file tag = if tag == 1 then Some 57 else if tag == 2 then Some (admission_length file)
     else if tag == 3 then end_length file else None
 
@@ -23,13 +23,14 @@ unfoldable pub record_count : List ℕ → ℕ
 record_count bytes = from_be_bytes w64 (take 8 (drop 1 bytes))
 
 -- how many bytes follow the head of an admission: those of its slice; nothing follows an entry
-abbrev pub admission_body : TextKind → List ℕ → ℕ
+abbrev pub admission_body : Format → List ℕ → ℕ
 admission_body Archive bytes = slice_length bytes
+admission_body OldArchive bytes = slice_length bytes
 admission_body Operations bytes = slice_length bytes
 admission_body Summary bytes = 0
 
 -- how many bytes follow the head; an admission alone has such
-unfoldable pub body_length : TextKind → List ℕ → ℕ
+unfoldable pub body_length : Format → List ℕ → ℕ
 body_length file bytes = if slice_index bytes 0 == 2 then admission_body file bytes else 0
 
 -- the greatest length of a slice
@@ -37,18 +38,18 @@ abbrev pub largest_slice : ℕ
 largest_slice = 4294967295
 
 -- what a head of this length and the bytes behind it are
-unfoldable pub framed_behind : TextKind → ℕ → List ℕ → Result ℕ RecordFaultKind
+unfoldable pub framed_behind : Format → ℕ → List ℕ → Result ℕ RecordFaultKind
 framed_behind file head bytes =
     if nat_lt (length bytes) head then Err Truncated
     else if nat_lt largest_slice (body_length file bytes) then Err TooLarge
     else if nat_lt (length bytes) (head + body_length file bytes) then Err Truncated
     else Ok (head + body_length file bytes)
 
-abbrev pub framed_by : TextKind → Option ℕ → List ℕ → Result ℕ RecordFaultKind
+abbrev pub framed_by : Format → Option ℕ → List ℕ → Result ℕ RecordFaultKind
 framed_by file None bytes = Err BadTag
 framed_by file (Some head) bytes = framed_behind file head bytes
 
 -- the length of the whole record or end record in front of the bytes, or else the first fault of its form
-unfoldable pub framed : TextKind → List ℕ → Result ℕ RecordFaultKind
+unfoldable pub framed : Format → List ℕ → Result ℕ RecordFaultKind
 framed file bytes = if nat_lt (length bytes) 1 then Err Truncated
     else framed_by file (head_length file (slice_index bytes 0)) bytes

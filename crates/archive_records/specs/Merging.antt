@@ -1,4 +1,5 @@
--- A merge of two texts: what is written of two archives, and else which side stops it, and where.
+-- A merge of two texts, each of either version: what is written of two archives, and else which side stops it, and
+-- where.
 use Rattle.std.specs.Prelude.{◌≡◌, ℕ, ◌+◌, ◌-◌, ◌^◌, ◌<◌, true, false, not, List, [], ◌++◌, length, filter}
 use Rattle.std.specs.Prelude.{Option, IfSome, Result, Ok, Err, ◌⊎◌}
 use Rattle.std.specs.List.{concat}
@@ -13,10 +14,12 @@ use Rattle.archive_records.specs.declared.fault.RecordFaultKind.TheVariants.{Tra
 use Rattle.archive_records.specs.declared.fault.MergeCause.{MergeCause}
 use Rattle.archive_records.specs.declared.fault.MergeCause.TheVariants.{Left, Right, Write}
 use Rattle.archive_records.specs.declared.fault.MergeFault.{MergeFault}
-use Rattle.archive_records.specs.declared.kind.TextKind.TheVariants.{Archive}
+use Rattle.archive_records.specs.declared.format.Format.{Format}
+use Rattle.archive_records.specs.declared.format.Format.TheVariants.{Archive}
+use Rattle.archive_records.specs.declared.kind.TextKind.TheVariants.{Archive as Archive_text}
 use Rattle.archive_records.specs.declared.writing.Sizes.{Sizes}
-use Rattle.archive_records.specs.Kind.{magic, IsItem, may_follow}
-use Rattle.archive_records.specs.Text.{written, end_record, InOrder, AreApart, last_of}
+use Rattle.archive_records.specs.Kind.{magic, magic_of, kind_of, archive_format, IsItem, may_follow}
+use Rattle.archive_records.specs.Text.{written, IsArchiveOf, end_record, InOrder, AreApart, last_of}
 use Rattle.archive_records.specs.Fault.{IsOfText}
 use Rattle.archive_records.specs.Front.{IsLongestFront, front_length}
 use Rattle.archive_records.specs.Reading.{IsReadWhole, ReadsWhole}
@@ -24,17 +27,17 @@ use Rattle.archive_records.specs.Writing.{IsWrittenWhole}
 
 -- ---- texts
 
--- the text begins with the magic
+-- the text begins with the magic of an archive, of one version or the other
 abbrev pub HasMagic : List ℕ → Type 0
-HasMagic text = (rest : List ℕ) × (text ≡ magic ++ rest)
+HasMagic text = (format : Format) × (kind_of format ≡ Archive_text) × (rest : List ℕ) × (text ≡ magic_of format ++ rest)
 
--- the text is that of a content
+-- the text is an archive's: written, or of version 1
 abbrev pub IsArchiveText : List ℕ → Type 0
-IsArchiveText text = (o : Operations) × IsContent o × (text ≡ written o)
+IsArchiveText text = (o : Operations) × IsContent o × IsArchiveOf o text
 
 -- the records of the longest good front of the text; one without the magic has none
 abbrev pub AreGoodRecords : List ℕ → List (List ℕ) → Type 0
-AreGoodRecords text records = IsLongestFront Archive text records ⊎ ((HasMagic text → ⊥) × (records ≡ []))
+AreGoodRecords text records = IsLongestFront (archive_format text) text records ⊎ ((HasMagic text → ⊥) × (records ≡ []))
 
 -- the last good record of the one is below that of the other; none, the empty list, is the least
 abbrev pub EndsBelow : List (List ℕ) → List (List ℕ) → Type 0
@@ -66,7 +69,8 @@ abbrev pub up_to : List ℕ → List (List ℕ) → List (List ℕ)
 up_to low records = filter (λ r. not (may_follow Archive low r)) records
 
 -- What is written where the side that ends with this record stops the merge: nothing if either has no magic; else the
--- magic and those of the good records of both that are not above this one, but for what a retirement of either covers.
+-- magic of version 2 and those of the good records of both that are not above this one, but for what a retirement of
+-- either covers.
 abbrev pub IsWrittenBefore : List ℕ → List ℕ → Operations → List ℕ → List ℕ → Type 0
 IsWrittenBefore left right o low bytes =
     (((HasMagic left → ⊥) ⊎ (HasMagic right → ⊥)) × (bytes ≡ []))
@@ -102,7 +106,7 @@ IsWrittenUpTo out left right o low n =
 -- Reading the input whole, and it alone, is refused so.
 abbrev pub IsRefusedAlone : {R : Type 0} → Stream R → RecordFault → Type 0
 IsRefusedAlone input fault =
-    ReadsWhole {T = Operations} Archive (λ o. o) input.bytes input.failures input.old input.new (Err fault)
+    ReadsWhole {T = Operations} Archive_text (λ o. o) input.bytes input.failures input.old input.new (Err fault)
 
 -- The inputs have these texts and good records, where they tell their bytes.
 abbrev pub ForTexts : {R S : Type 0} → Stream R → Stream S
@@ -117,14 +121,23 @@ ForTexts left right P =
 abbrev pub most_records : ℕ
 most_records = 2 ^ 63 - 1
 
--- Of the side were taken its magic, these ascending records, none of which another covers, and these bytes behind them.
+-- Of the side were taken the magic of its version, these ascending records, none of which another covers, but in
+-- version 1, and these bytes behind them.
 pub record IsTaken {R : Type 0} (side : Stream R) (records : List (List ℕ)) (behind : List ℕ) : Type 0 where
-  pub taken : Consumes (side.bytes side.old) (side.bytes side.new) (magic ++ (concat records ++ behind))
+  pub format : Format
+  pub archive : kind_of format ≡ Archive_text
+  pub taken : Consumes (side.bytes side.old) (side.bytes side.new) (magic_of format ++ (concat records ++ behind))
   pub ordered : InOrder Archive [] records
-  pub apart : AreApart Archive records
+  pub apart : AreApart format records
+
+-- Of the side was taken the magic of its version alone.
+abbrev pub IsMagicTaken : {R : Type 0} → Stream R → Type 0
+IsMagicTaken side = (format : Format) × (kind_of format ≡ Archive_text)
+    × Consumes (side.bytes side.old) (side.bytes side.new) (magic_of format)
 
 -- What was taken behind these records of a side that was read on once this record had its turn: one that is above it,
--- or the end record, and the side is at its end. A record that is covered has its turn where it would have been written.
+-- or the end record, and the side is at its end. A record that is covered has its turn where it would have been
+-- written.
 abbrev pub IsNext : {R : Type 0} → Stream R → List ℕ → List (List ℕ) → List ℕ → Type 0
 IsNext side low records next =
     (IsItem Archive next × (may_follow Archive low next ≡ true))
@@ -220,7 +233,7 @@ pub record StopsRight {R S W : Type 0} (left : Stream R) (right : Stream S) (out
   pub stops : IsOfText fault.kind → ForTexts left right RightStops
   pub place : IsOfText fault.kind → ForTexts left right
       (λ t u lefts rights. IsWrittenUpTo out t u (of_both lefts rights) (last_of [] rights) n)
-  pub order : (IsInMagic out fault n × Consumes (left.bytes left.old) (left.bytes left.new) magic)
+  pub order : (IsInMagic out fault n × IsMagicTaken left)
       ⊎ IsRightBehind left right out fault n
 
 -- The writer failed, and no reader did.
@@ -235,13 +248,13 @@ StopsBy left right out (Left fault) n = StopsLeft left right out fault n
 StopsBy left right out (Right fault) n = StopsRight left right out fault n
 StopsBy left right out Write n = StopsWrite left right out
 
--- Both inputs are the texts of contents, and the text of their join was written, which has not too many records.
+-- Both inputs are texts of archives, and the text of their join was written, which has not too many records.
 pub record IsMerged {R S W : Type 0} (left : Stream R) (right : Stream S) (out : Stream W) (sizes : Sizes)
     : Type 0 where
   pub o : Operations
   pub p : Operations
-  pub left_is : IsReadWhole Archive o left.bytes left.failures left.old left.new
-  pub right_is : IsReadWhole Archive p right.bytes right.failures right.old right.new
+  pub left_is : IsReadWhole Archive_text o left.bytes left.failures left.old left.new
+  pub right_is : IsReadWhole Archive_text p right.bytes right.failures right.old right.new
   pub few : set.len (joined o p) < 2 ^ 63
   pub written_is : IsWrittenWhole out.bytes out.failures out.old out.new (set.len (joined o p)) (written (joined o p))
       sizes

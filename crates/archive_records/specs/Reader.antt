@@ -12,11 +12,15 @@ use Rattle.archive_core.specs.declared.operations.Operation.{Operation}
 use Rattle.archive_core.specs.declared.slices.SliceFacts.{SliceFacts}
 use Rattle.archive_core.specs.Valid.{IsCheckedOf}
 use Rattle.archive_core.specs.Record.{IsOperation, rec, IsRecord, Admits, Retires}
-use Rattle.archive_core.specs.Content.{Operations, is_covered}
+use Rattle.archive_core.specs.Content.{Operations, IsMade, is_covered}
 use Rattle.archive_core.specs.Part.{part}
+use Rattle.archive_records.specs.declared.format.Format.{Format}
+use Rattle.archive_records.specs.declared.format.Format.TheVariants.{Archive, OldArchive, Operations as Operations_file}
+use Rattle.archive_records.specs.declared.format.Format.TheVariants.{Summary as Summary_file}
 use Rattle.archive_records.specs.declared.kind.TextKind.{TextKind}
-use Rattle.archive_records.specs.declared.kind.TextKind.TheVariants.{Archive, Operations as Operations_file}
-use Rattle.archive_records.specs.declared.kind.TextKind.TheVariants.{Summary as Summary_file}
+use Rattle.archive_records.specs.declared.kind.TextKind.TheVariants.{Archive as Archive_text}
+use Rattle.archive_records.specs.declared.kind.TextKind.TheVariants.{Operations as Operations_text}
+use Rattle.archive_records.specs.declared.kind.TextKind.TheVariants.{Summary as Summary_text}
 use Rattle.archive_records.specs.declared.buffer.Buffer.{Buffer}
 use Rattle.archive_records.specs.declared.next.Step.{Step}
 use Rattle.archive_records.specs.declared.next.Step.TheVariants.{End, Item}
@@ -27,8 +31,8 @@ use Rattle.archive_records.specs.declared.fault.RecordFaultKind.TheVariants.{Key
 use Rattle.archive_records.specs.declared.fault.RecordFaultKind.TheVariants.{Device, OutOfMemory, Covered}
 use Rattle.archive_records.specs.declared.fault.RecordFault.{RecordFault}
 use Rattle.archive_records.specs.Entry.{IsEntry}
-use Rattle.archive_records.specs.Kind.{magic_of, IsItem, may_follow}
-use Rattle.archive_records.specs.Text.{end_record, ending, text_of, InOrder, AreApart, last_of}
+use Rattle.archive_records.specs.Kind.{magic_of, kind_of, IsItem, may_follow}
+use Rattle.archive_records.specs.Text.{end_record, ending, text_of, InOrder, AreApart, last_of, taken_of}
 use Rattle.archive_records.specs.Fault.{FailsNext, Fails, IsTrailing, IsMagicFault, IsUnended, IsOfText}
 use Rattle.archive_records.specs.Front.{front_length}
 use Rattle.archive_records.specs.Reading.{Blames}
@@ -74,11 +78,15 @@ FaultBlamesReader left failures old new result =
     MatchResult result (λ _. failures new ≡ failures old) (λ fault. Blames left failures old new fault.kind)
 
 -- why the magic was not read, and the bytes that came instead
-abbrev pub StopsInMagic : TextKind → List ℕ → RecordFaultKind → Type 0
+abbrev pub StopsInMagic : Format → List ℕ → RecordFaultKind → Type 0
 StopsInMagic file bytes kind =
     IsMagicFault file bytes kind
     ⊎ ((kind ≡ Device) × (length bytes < 8))
     ⊎ ((kind ≡ OutOfMemory) × (length bytes < 8))
+
+-- the same of each format of the kind, so of the one in which the bytes are read
+abbrev pub StopsInMagicOf : TextKind → List ℕ → RecordFaultKind → Type 0
+StopsInMagicOf file bytes kind = (format : Format) → kind_of format ≡ file → StopsInMagic format bytes kind
 
 -- what was found out of a record: a retirement has no slice, and that of an admission was checked
 abbrev pub IsFound : List ℕ → Option SliceFacts → Type 0
@@ -87,9 +95,9 @@ IsFound bytes (Some facts) = Admits bytes × IsCheckedOf (drop 33 bytes) facts
 
 -- the same of an item of such a file; an entry has no slice
 abbrev pub IsFoundIn : TextKind → List ℕ → Option SliceFacts → Type 0
-IsFoundIn Archive item found = IsFound item found
-IsFoundIn Operations_file item found = IsFound item found
-IsFoundIn Summary_file item found = IsEntry item
+IsFoundIn Archive_text item found = IsFound item found
+IsFoundIn Operations_text item found = IsFound item found
+IsFoundIn Summary_text item found = IsEntry item
 
 -- what holds where the file ends
 abbrev pub IfEnd : Step → Type 0 → Type 0
@@ -101,14 +109,15 @@ abbrev pub IfItem : Step → (Option SliceFacts → Type 0) → Type 0
 IfItem End holds = Unit {0}
 IfItem (Item found) holds = holds found
 
--- Where a reader of records stands: in which kind of file, behind which last record, how many records and how many
--- bytes, and with which retirements of an archive.
+-- Where a reader of records stands: in which format, behind which last record, how many records and how many bytes,
+-- with which retirements of an archive, and whether the last record is dropped.
 pub record Position : Type 0 where
-  pub file : TextKind
+  pub file : Format
   pub last : List ℕ
   pub count : ℕ
   pub offset : ℕ
   pub retired : List (List ℕ)
+  pub dropped : Bool
 
 -- the set of these records
 abbrev pub set_of : List (List ℕ) → Operations
@@ -118,22 +127,32 @@ set_of records = set.from_list records
 abbrev pub RetireAlike : Operations → Operations → Type 0
 RetireAlike o p = (r : List ℕ) → set.contains o (1 ∷ r) ≡ set.contains p (1 ∷ r)
 
--- None of the retirements before it covers the record, and it was kept if it is one.
-pub record Keeps (old new : List (List ℕ)) (item : List ℕ) : Type 0 where
-  pub uncovered : is_covered (set_of old) item ≡ false
+-- This tells whether one of the retirements covers the record, and the record was kept if it is a retirement.
+pub record Keeps (old new : List (List ℕ)) (covered : Bool) (item : List ℕ) : Type 0 where
+  pub tells : is_covered (set_of old) item ≡ covered
   pub alike : RetireAlike (set_of new) (set.insert (set_of old) item)
 
--- the same of an item of such a file; the others have no such test
-abbrev pub KeepsIn : TextKind → List (List ℕ) → List (List ℕ) → List ℕ → Type 0
-KeepsIn Archive old new item = Keeps old new item
-KeepsIn Operations_file old new item = Unit {0}
-KeepsIn Summary_file old new item = Unit {0}
+-- The same of an item of such a file. What is covered is dropped in an archive of version 1, and stands in none of
+-- version 2; the others have no such test.
+abbrev pub KeepsIn : Format → List (List ℕ) → List (List ℕ) → Bool → List ℕ → Type 0
+KeepsIn Archive old new dropped item = Keeps old new dropped item × (dropped ≡ false)
+KeepsIn OldArchive old new dropped item = Keeps old new dropped item
+KeepsIn Operations_file old new dropped item = dropped ≡ false
+KeepsIn Summary_file old new dropped item = dropped ≡ false
 
 -- these are the retirements among the records of an archive
-abbrev pub AreRetired : TextKind → List (List ℕ) → List (List ℕ) → Type 0
+abbrev pub AreRetired : Format → List (List ℕ) → List (List ℕ) → Type 0
 AreRetired Archive retired records = RetireAlike (set_of retired) (set_of records)
+AreRetired OldArchive retired records = RetireAlike (set_of retired) (set_of records)
 AreRetired Operations_file retired records = Unit {0}
 AreRetired Summary_file retired records = Unit {0}
+
+-- this tells whether a retirement among the records of an archive covers the last of them
+abbrev pub DropsLast : Format → Bool → List (List ℕ) → Type 0
+DropsLast Archive dropped records = dropped ≡ is_covered (set_of records) (last_of [] records)
+DropsLast OldArchive dropped records = dropped ≡ is_covered (set_of records) (last_of [] records)
+DropsLast Operations_file dropped records = dropped ≡ false
+DropsLast Summary_file dropped records = dropped ≡ false
 
 -- what is kept of it: a piece has room for some bytes, and there are not too many records, nor bytes of them
 pub record Bounds (room count offset : ℕ) : Type 0 where
@@ -150,11 +169,12 @@ pub record Passes (a b : Option (List ℕ)) (before after : Position) : Type 0 w
   pub count_is : after.count ≡ before.count + 1
   pub offset_is : after.offset ≡ before.offset + length after.last
   pub few : after.count < 2 ^ 63
-  pub kept : KeepsIn before.file before.retired after.retired after.last
+  pub kept : KeepsIn before.file before.retired after.retired after.dropped after.last
 
 -- a file without an end record ends with the input
-abbrev pub IsEnded : TextKind → Option (List ℕ) → Type 0
+abbrev pub IsEnded : Format → Option (List ℕ) → Type 0
 IsEnded Archive left = Unit {0}
+IsEnded OldArchive left = Unit {0}
 IsEnded Operations_file left = IsAtEnd left
 IsEnded Summary_file left = Unit {0}
 
@@ -192,12 +212,13 @@ abbrev pub Advances : {R : Type 0} → (R → Option (List ℕ)) → (R → ℕ)
 Advances left failures old new before after (Ok End) =
     Finishes (left old) (left new) before after × (failures new ≡ failures old)
 Advances left failures old new before after (Ok (Item found)) =
-    Passes (left old) (left new) before after × (failures new ≡ failures old) × IsFoundIn before.file after.last found
+    Passes (left old) (left new) before after × (failures new ≡ failures old)
+    × IsFoundIn (kind_of before.file) after.last found
 Advances left failures old new before after (Err fault) =
     StopsAt (left old) (left new) before fault × Blames left failures old new fault.kind
 
 -- The magic and these records were read, and nothing behind them.
-pub record HasRead (file : TextKind) (a b : Option (List ℕ)) (records : List (List ℕ))
+pub record HasRead (file : Format) (a b : Option (List ℕ)) (records : List (List ℕ))
     (position : Position) : Type 0 where
   pub file_is : position.file ≡ file
   pub taken : Consumes a b (magic_of file ++ concat records)
@@ -207,9 +228,10 @@ pub record HasRead (file : TextKind) (a b : Option (List ℕ)) (records : List (
   pub count_is : position.count ≡ length records
   pub offset_is : position.offset ≡ front_length records
   pub retired_are : AreRetired file position.retired records
+  pub dropped_is : DropsLast file position.dropped records
 
 -- The magic, these records and what ends the file behind them were read, and nothing behind it.
-pub record HasReadAll (file : TextKind) (a b : Option (List ℕ)) (records : List (List ℕ))
+pub record HasReadAll (file : Format) (a b : Option (List ℕ)) (records : List (List ℕ))
     (position : Position) : Type 0 where
   pub taken : Consumes a b (text_of file records)
   pub ordered : InOrder file [] records
@@ -220,7 +242,7 @@ pub record HasReadAll (file : TextKind) (a b : Option (List ℕ)) (records : Lis
   pub retired_are : AreRetired file position.retired records
 
 -- what came behind the records, and why reading stopped there
-abbrev pub Stops : TextKind → List (List ℕ) → List ℕ → RecordFault → Type 0
+abbrev pub Stops : Format → List (List ℕ) → List ℕ → RecordFault → Type 0
 Stops file records rest fault =
     ((fault.offset ≡ front_length records) × (fault.kind ≢ OutOfMemory → Fails file records rest (seen_as fault.kind)))
     ⊎ ((fault.kind ≡ Trailing) × IsTrailing file (last_of [] records) (length records) rest
@@ -228,7 +250,7 @@ Stops file records rest fault =
     ⊎ ((fault.kind ≡ Device) × (rest ≡ end_record (length records)) × (fault.offset ≡ front_length records))
 
 -- The magic, these records and what came behind them were read, where reading stopped.
-pub record Stopped (file : TextKind) (a b : Option (List ℕ)) (records : List (List ℕ))
+pub record Stopped (file : Format) (a b : Option (List ℕ)) (records : List (List ℕ))
     (fault : RecordFault) : Type 0 where
   pub rest : List ℕ
   pub taken : Consumes a b (magic_of file ++ (concat records ++ rest))
@@ -246,17 +268,19 @@ pub record AreListed (entries : List (List ℕ)) : Type 0 where
 -- reading stopped, in the magic or behind some records
 abbrev pub HasStopped : TextKind → Option (List ℕ) → Option (List ℕ) → RecordFault → Type 0
 HasStopped file a b fault =
-    ((bytes : List ℕ) × Consumes a b bytes × StopsInMagic file bytes fault.kind × (fault.offset ≡ 0))
-    ⊎ ((records : List (List ℕ)) × Stopped file a b records fault)
+    ((bytes : List ℕ) × Consumes a b bytes × StopsInMagicOf file bytes fault.kind × (fault.offset ≡ 0))
+    ⊎ ((format : Format) × (kind_of format ≡ file) × (records : List (List ℕ)) × Stopped format a b records fault)
 
--- The text of such a file was read, and its records or entries make the set.
+-- The text of such a file was read, and of its records or entries those that are taken make the set.
 pub record IsReadTo (file : TextKind) (a b : Option (List ℕ)) (o : Operations) : Type 0 where
+  pub format : Format
+  pub kind_is : kind_of format ≡ file
   pub records : List (List ℕ)
   pub few : length records < 2 ^ 63
-  pub taken : Consumes a b (text_of file records)
-  pub ordered : InOrder file [] records
-  pub apart : AreApart file records
-  pub content : o ≡ set.from_list records
+  pub taken : Consumes a b (text_of format records)
+  pub ordered : InOrder format [] records
+  pub apart : AreApart format records
+  pub content : o ≡ set.from_list (taken_of format records)
 
 -- The text of these operations was read, to the end of the input.
 pub record AreRead (a b : Option (List ℕ)) (operations : List Operation) : Type 0 where
@@ -265,33 +289,40 @@ pub record AreRead (a b : Option (List ℕ)) (operations : List Operation) : Typ
   pub at_end : IsAtEnd b
   pub are : All IsOperation operations
 
--- These records were read, and this was made of them.
-pub record Gathers {T : Type 0} (file : TextKind) (Makes : List (List ℕ) → T → Type 0) (a b : Option (List ℕ))
-    (value : T)
-    (position : Position) : Type 0 where
+-- of an archive the records that are taken make themselves
+abbrev pub MakeThemselves : TextKind → List (List ℕ) → Type 0
+MakeThemselves Archive_text records = IsMade (set.from_list records)
+MakeThemselves Operations_text records = Unit {0}
+MakeThemselves Summary_text records = Unit {0}
+
+-- These records were read, and this was made of those that are taken.
+pub record Gathers {T : Type 0} (file : Format) (Makes : List (List ℕ) → T → Type 0) (a b : Option (List ℕ))
+    (value : T) (position : Position) : Type 0 where
   pub records : List (List ℕ)
   pub read : HasRead file a b records position
-  pub makes : Makes records value
+  pub makes : Makes (taken_of file records) value
 
--- These records and what ends the file were read, and this was made of them.
-pub record GathersAll {T : Type 0} (file : TextKind) (Makes : List (List ℕ) → T → Type 0) (a b : Option (List ℕ))
+-- These records and what ends the file were read, and this was made of those that are taken.
+pub record GathersAll {T : Type 0} (file : Format) (Makes : List (List ℕ) → T → Type 0) (a b : Option (List ℕ))
     (value : T) (position : Position) : Type 0 where
   pub records : List (List ℕ)
   pub read : HasReadAll file a b records position
-  pub makes : Makes records value
+  pub makes : Makes (taken_of file records) value
 
--- The text of these records was read, and this was made of them.
+-- The text of these records was read, and this was made of those that are taken.
 pub record IsGathered {T : Type 0} (file : TextKind) (Makes : List (List ℕ) → T → Type 0) (a b : Option (List ℕ))
     (value : T) : Type 0 where
+  pub format : Format
+  pub kind_is : kind_of format ≡ file
   pub records : List (List ℕ)
   pub few : length records < 2 ^ 63
-  pub taken : Consumes a b (text_of file records)
-  pub ordered : InOrder file [] records
-  pub apart : AreApart file records
-  pub makes : Makes records value
+  pub taken : Consumes a b (text_of format records)
+  pub ordered : InOrder format [] records
+  pub apart : AreApart format records
+  pub makes : Makes (taken_of format records) value
 
 -- The text of an archive was read, and this is the part of its content that is picked.
 pub record IsPartReadTo (a b : Option (List ℕ)) (picks : List ℕ → Bool) (o : Operations) : Type 0 where
   pub whole : Operations
-  pub read : IsReadTo Archive a b whole
+  pub read : IsReadTo Archive_text a b whole
   pub kept : o ≡ part whole picks

@@ -15,9 +15,10 @@ use Rattle.archive_records.specs.declared.kind.TextKind.TheVariants.{Summary as 
 use Rattle.archive_records.specs.declared.fault.RecordFaultKind.{RecordFaultKind}
 use Rattle.archive_records.specs.declared.fault.RecordFaultKind.TheVariants.{Truncated, Trailing, Device, OutOfMemory}
 use Rattle.archive_records.specs.declared.fault.RecordFault.{RecordFault}
-use Rattle.archive_records.specs.Text.{written, summary_text, IsOperationsText}
+use Rattle.archive_records.specs.Kind.{format_for}
+use Rattle.archive_records.specs.Text.{IsArchiveOf, summary_text, IsOperationsText}
 use Rattle.archive_records.specs.Fault.{IsFaultOf, IsOfText}
-use Rattle.archive_records.specs.Front.{IsFrontLengthOf, IsLongestLengthOf}
+use Rattle.archive_records.specs.Front.{IsFrontLength, IsLongestLength}
 
 -- what the text of a file says: an archive's a content, an operations file's a list of operations, a summary's its
 -- entries
@@ -38,9 +39,9 @@ records_of Archive o = set.len o
 records_of Operations_file operations = length operations
 records_of Summary_file s = set.len s
 
--- the text that says it
+-- a text that says it: a content has one that is written, and some of version 1
 abbrev pub IsTextOf : (file : TextKind) → Meaning file → List ℕ → Type 0
-IsTextOf Archive o text = text ≡ written o
+IsTextOf Archive o text = IsArchiveOf o text
 IsTextOf Operations_file operations text = IsOperationsText text operations
 IsTextOf Summary_file s text = text ≡ summary_text s
 
@@ -60,15 +61,15 @@ StandsBehind IsOffsetOf a b offset = (bytes : List ℕ) × Consumes a b bytes ×
 pub record IsRefused {R : Type 0} (file : TextKind) (left : R → Option (List ℕ)) (failures : R → ℕ) (old new : R)
     (fault : RecordFault) : Type 0 where
   pub blames : Blames left failures old new fault.kind
-  pub faulty : IsOfText fault.kind → IfSome (left old) (λ text. IsFaultOf file text fault)
-  pub device : fault.kind ≡ Device → StandsBehind (IsLongestLengthOf file) (left old) (left new) fault.offset
-  pub memory : fault.kind ≡ OutOfMemory → StandsBehind (IsFrontLengthOf file) (left old) (left new) fault.offset
+  pub faulty : IsOfText fault.kind → IfSome (left old) (λ text. IsFaultOf (format_for file text) text fault)
+  pub device : fault.kind ≡ Device → StandsBehind (IsLongestLength file) (left old) (left new) fault.offset
+  pub memory : fault.kind ≡ OutOfMemory → StandsBehind (IsFrontLength file) (left old) (left new) fault.offset
 
 -- no text is at fault
 abbrev pub IsOfMachine : RecordFaultKind → Type 0
 IsOfMachine kind = (kind ≡ Device) ⊎ (kind ≡ OutOfMemory)
 
--- The whole input is the text of this meaning, and of no other.
+-- The whole input is a text of this meaning, and of no other.
 pub record IsReadWhole {R : Type 0} (file : TextKind) (meaning : Meaning file) (left : R → Option (List ℕ))
     (failures : R → ℕ) (old new : R) : Type 0 where
   pub is : IsMeaning file meaning
@@ -88,7 +89,7 @@ ReadsWhole file meaning left failures old new (Err fault) =
     IsRefused file left failures old new fault
     × IfSome (left old) (λ text. (m : Meaning file) → IsMeaning file m → IsTextOf file m text → IsOfMachine fault.kind)
 
--- The text of this meaning was taken from the front of the input, and the input begins with that of no other.
+-- A text of this meaning was taken from the front of the input, and the input begins with that of no other.
 pub record IsReadFront {R : Type 0} (file : TextKind) (meaning : Meaning file) (left : R → Option (List ℕ))
     (failures : R → ℕ) (old new : R) : Type 0 where
   pub is : IsMeaning file meaning
@@ -109,7 +110,7 @@ ReadsFront file meaning left failures old new (Err fault) =
     × IfSome (left old) (λ input. (m : Meaning file) (text rest : List ℕ) → IsMeaning file m → IsTextOf file m text
     → input ≡ text ++ rest → IsOfMachine fault.kind)
 
--- The whole input is the text of one meaning, and this is what is kept of it.
+-- The whole input is a text of one meaning, and this is what is kept of it.
 pub record IsReadInPart {R : Type 0} (file : TextKind) (Keeps : Meaning file → Type 0) (left : R → Option (List ℕ))
     (failures : R → ℕ) (old new : R) : Type 0 where
   pub meaning : Meaning file

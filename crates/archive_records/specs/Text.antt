@@ -1,5 +1,6 @@
--- The texts of files: that of a content, that of operations, and that of a summary.
+-- The texts of files: those of a content, of version 2 and of version 1, that of operations, and that of a summary.
 use Rattle.std.specs.Prelude.{◌≡◌, ℕ, true, List, [], ◌∷◌, ◌++◌, ◌↔◌, length, map, filter, not, All, Contains}
+use Rattle.std.specs.Prelude.{◌⊎◌}
 use Rattle.std.specs.Int.{w64, to_be_bytes}
 use Rattle.std.specs.List.{concat}
 use Rattle.std.specs.List.Sorted.{IsStrictlySortedBy}
@@ -8,38 +9,61 @@ use Rattle.std.specs.Cmp.Lexicographic.{slice_cmp}
 use Rattle.std.specs.FinSet as set
 use Rattle.join_core.specs.Listing.{listing}
 use Rattle.archive_core.specs.declared.operations.Operation.{Operation}
-use Rattle.archive_core.specs.Record.{IsOperation, rec}
-use Rattle.archive_core.specs.Content.{Operations, IsMade}
+use Rattle.archive_core.specs.Record.{IsOperation, IsRecord, rec}
+use Rattle.archive_core.specs.Content.{Operations, IsMade, is_covered, made}
 use Rattle.archive_core.specs.Summary.{Entries, entry}
-use Rattle.archive_records.specs.declared.kind.TextKind.{TextKind}
-use Rattle.archive_records.specs.declared.kind.TextKind.TheVariants.{Archive, Operations as Operations_file}
-use Rattle.archive_records.specs.declared.kind.TextKind.TheVariants.{Summary as Summary_file}
-use Rattle.archive_records.specs.Kind.{magic, operations_magic, summary_magic, magic_of, IsItem, may_follow}
+use Rattle.archive_records.specs.declared.format.Format.{Format}
+use Rattle.archive_records.specs.declared.format.Format.TheVariants.{Archive, OldArchive, Operations as Operations_file}
+use Rattle.archive_records.specs.declared.format.Format.TheVariants.{Summary as Summary_file}
+use Rattle.archive_records.specs.Kind.{magic, old_magic, operations_magic, summary_magic, magic_of}
+use Rattle.archive_records.specs.Kind.{IsItem, may_follow}
 
 -- the end record of so many records
 unfoldable pub end_record : ℕ → List ℕ
 end_record count = 3 ∷ to_be_bytes w64 count
 
 -- what stands behind so many records: an end record, or nothing
-abbrev pub ending : TextKind → ℕ → List ℕ
+abbrev pub ending : Format → ℕ → List ℕ
 ending Archive count = end_record count
+ending OldArchive count = end_record count
 ending Operations_file count = []
 ending Summary_file count = end_record count
 
 -- the text of these records
-abbrev pub text_of : TextKind → List (List ℕ) → List ℕ
+abbrev pub text_of : Format → List (List ℕ) → List ℕ
 text_of file records = magic_of file ++ (concat records ++ ending file (length records))
 
--- the text of a content: its records strictly ascending in byte order, between the magic and the end record
+-- the text that is written of a content: its records strictly ascending in byte order, between the magic and the end
+-- record
 pub record IsWritten (o : Operations) (text : List ℕ) : Type 0 where
   pub records : List (List ℕ)
   pub ascending : IsStrictlySortedBy (slice_cmp nat_cmp) records
   pub members : (r : List ℕ) → Contains records r ↔ (set.contains o r ≡ true)
   pub whole : text ≡ text_of Archive records
 
--- the text, as the content determines it
+-- this text, as the content determines it
 unfoldable pub written : Operations → List ℕ
 written o = magic ++ (concat (listing o) ++ end_record (set.len o))
+
+-- the text of a set of operations in version 1: the same form, behind the old magic. Slices may stand in it that are
+-- covered.
+unfoldable pub old_written : Operations → List ℕ
+old_written p = old_magic ++ (concat (listing p) ++ end_record (set.len p))
+
+-- these are operations, each by its record
+abbrev pub AreOperations : Operations → Type 0
+AreOperations p = (r : List ℕ) → set.contains p r ≡ true → IsRecord r
+
+-- The text is one of version 1, and this is the content that its operations make.
+pub record IsOldText (o : Operations) (text : List ℕ) : Type 0 where
+  pub operations : Operations
+  pub are : AreOperations operations
+  pub whole : text ≡ old_written operations
+  pub makes : o ≡ made operations
+
+-- the text is an archive's, and gives this content: it is written so, or of version 1
+abbrev pub IsArchiveOf : Operations → List ℕ → Type 0
+IsArchiveOf o text = (text ≡ written o) ⊎ IsOldText o text
 
 -- those of the records whose entries are not among these
 abbrev pub missing : Entries → List (List ℕ) → List (List ℕ)
@@ -62,15 +86,28 @@ pub record IsOperationsText (text : List ℕ) (operations : List Operation) : Ty
   pub whole : text ≡ operations_magic ++ concat (map rec operations)
 
 -- items of the file, each of which may follow the one before it, and the first of which may follow low
-abbrev pub InOrder : TextKind → List ℕ → List (List ℕ) → Type 0
+abbrev pub InOrder : Format → List ℕ → List (List ℕ) → Type 0
 InOrder file low [] = Unit {0}
 InOrder file low (x ∷ xs) = IsItem file x × (may_follow file low x ≡ true) × InOrder file x xs
 
--- Of an archive the records make themselves: none is an admission that a retirement among them covers.
-abbrev pub AreApart : TextKind → List (List ℕ) → Type 0
+-- Of an archive of version 2 the records make themselves: none is an admission that a retirement among them covers. In
+-- version 1 one may be.
+abbrev pub AreApart : Format → List (List ℕ) → Type 0
 AreApart Archive records = IsMade (set.from_list records)
+AreApart OldArchive records = Unit {0}
 AreApart Operations_file records = Unit {0}
 AreApart Summary_file records = Unit {0}
+
+-- those of the records that no retirement among them covers
+unfoldable pub kept : List (List ℕ) → List (List ℕ)
+kept records = filter (λ r. not (is_covered (set.from_list records) r)) records
+
+-- those of the records that are taken: of an archive of version 1 what is covered is dropped
+abbrev pub taken_of : Format → List (List ℕ) → List (List ℕ)
+taken_of Archive records = records
+taken_of OldArchive records = kept records
+taken_of Operations_file records = records
+taken_of Summary_file records = records
 
 -- the last record, or low where there is none; the empty list is below every record
 abbrev pub last_of : List ℕ → List (List ℕ) → List ℕ

@@ -1,6 +1,6 @@
 -- A merge of two streams, turn by turn: the words of the inner functions. No contract of a public one has them.
 use Rattle.std.specs.Prelude.{◌≡◌, ◌≢◌, ℕ, ◌+◌, ◌-◌, ◌*◌, ◌^◌, ◌<◌, ◌≤◌, true, List, [], ◌∷◌}
-use Rattle.std.specs.Prelude.{◌++◌, length, take, filter, not, Bool, false, Option, Result, Ok, Err, MatchResult, ◌⊎◌}
+use Rattle.std.specs.Prelude.{◌++◌, ◌||◌, length, take, Bool, false, Option, Result, Ok, Err, MatchResult, ◌⊎◌}
 use Rattle.std.specs.declared.cmp.Ordering.{Ordering}
 use Rattle.std.specs.declared.cmp.Ordering.TheVariants.{Less, Equal, Greater}
 use Rattle.std.specs.Ordering.{nat_cmp}
@@ -15,34 +15,41 @@ use Rattle.archive_records.specs.Front.{front_length}
 use Rattle.archive_records.specs.declared.fault.MergeCause.{MergeCause}
 use Rattle.archive_records.specs.declared.fault.MergeCause.TheVariants.{Left, Right, Write}
 use Rattle.archive_records.specs.declared.fault.MergeFault.{MergeFault}
-use Rattle.archive_records.specs.declared.kind.TextKind.TheVariants.{Archive}
+use Rattle.archive_records.specs.declared.format.Format.{Format}
+use Rattle.archive_records.specs.declared.format.Format.TheVariants.{Archive}
+use Rattle.archive_records.specs.declared.kind.TextKind.TheVariants.{Archive as Archive_text}
 use Rattle.archive_records.specs.declared.merging.Merge.{Merge}
 use Rattle.archive_records.specs.declared.side.Ahead.{Ahead}
 use Rattle.archive_records.specs.declared.side.Ahead.TheVariants.{Unread, Held, Ended}
 use Rattle.archive_records.specs.declared.side.Side.{Side}
 use Rattle.archive_records.specs.declared.writing.Sizes.{Sizes}
-use Rattle.archive_records.specs.Kind.{magic, may_follow}
-use Rattle.archive_records.specs.Text.{text_of, InOrder, last_of}
+use Rattle.archive_records.specs.Kind.{magic, magic_of, kind_of, may_follow}
+use Rattle.archive_records.specs.Text.{text_of, InOrder, kept, last_of}
 use Rattle.archive_records.specs.Reading.{Blames}
 use Rattle.archive_records.specs.Merging.{Stream, IsUnfailed, most_records}
-use Rattle.archive_records.specs.Reader.{set_of, HasRead, HasReadAll, Stopped, StopsInMagic}
+use Rattle.archive_records.specs.Reader.{set_of, HasRead, HasReadAll, Stopped, StopsInMagicOf}
 
 -- ---- one side
 
--- Of the side's records these had their turn, and the last of all that had is low: the next one is to be read; or it
--- was, and is above low; or the text was read to its end.
+-- It is an archive's. Of its records these had their turn, and the last of all that had is low: the next one is to be
+-- read; or it was, and is above low; or the text was read to its end.
 pub record Stands (a b : Option (List ℕ)) (done : List (List ℕ)) (low : List ℕ) (side : Side) : Type 0 where
-  pub unread : side.ahead ≡ Unread → HasRead Archive a b done side.reader × (last_of [] done ≡ low)
-  pub held : side.ahead ≡ Held → HasRead Archive a b (done ++ side.reader.last ∷ []) side.reader
+  pub archive : kind_of side.reader.file ≡ Archive_text
+  pub unread : side.ahead ≡ Unread → HasRead side.reader.file a b done side.reader × (last_of [] done ≡ low)
+  pub held : side.ahead ≡ Held → HasRead side.reader.file a b (done ++ side.reader.last ∷ []) side.reader
       × (may_follow Archive low side.reader.last ≡ true)
-  pub ended : side.ahead ≡ Ended → HasReadAll Archive a b done side.reader × IsAtEnd b
+  pub ended : side.ahead ≡ Ended → HasReadAll side.reader.file a b done side.reader × IsAtEnd b
 
 -- reading stopped in the magic
 pub record StopsBeforeRecords (a b : Option (List ℕ)) (fault : RecordFault) : Type 0 where
   pub bytes : List ℕ
   pub taken : Consumes a b bytes
-  pub stops : StopsInMagic Archive bytes fault.kind
+  pub stops : StopsInMagicOf Archive_text bytes fault.kind
   pub start : fault.offset ≡ 0
+
+-- the magic of an archive was read, of one version or the other
+abbrev pub HasMagicRead : Option (List ℕ) → Option (List ℕ) → Type 0
+HasMagicRead a b = (format : Format) × (kind_of format ≡ Archive_text) × Consumes a b (magic_of format)
 
 abbrev pub cost : Ahead → ℕ
 cost Unread = 1
@@ -73,22 +80,19 @@ first_by Unread s o = Greater
 abbrev pub first_of : Side → Side → Ordering
 first_of left right = first_by left.ahead right.ahead (slice_cmp nat_cmp left.reader.last right.reader.last)
 
--- whether a retirement of the other side covers the record that is next
+-- whether the record that is next was dropped by a side that has it, or a retirement of the other side covers it
 abbrev pub TellsBy : Ordering → Side → Side → Bool → Type 0
-TellsBy Less left right b = 33 ≤ length left.reader.last → b ≡ is_covered (set_of right.reader.retired) left.reader.last
-TellsBy Equal left right b = b ≡ false
+TellsBy Less left right b = 33 ≤ length left.reader.last
+    → b ≡ (left.reader.dropped || is_covered (set_of right.reader.retired) left.reader.last)
+TellsBy Equal left right b = b ≡ (left.reader.dropped || right.reader.dropped)
 TellsBy Greater left right b = 33 ≤ length right.reader.last
-    → b ≡ is_covered (set_of left.reader.retired) right.reader.last
+    → b ≡ (right.reader.dropped || is_covered (set_of left.reader.retired) right.reader.last)
 
 -- the same of two sides
 abbrev pub TellsCovered : Side → Side → Bool → Type 0
 TellsCovered left right b = TellsBy (first_of left right) left right b
 
 -- ---- both sides
-
--- those of the records that no retirement among them covers
-unfoldable pub kept : List (List ℕ) → List (List ℕ)
-kept out = filter (λ r. not (is_covered (set_of out) r)) out
 
 -- The ascending list whose members are exactly those of both.
 pub record Joins (out lefts rights : List (List ℕ)) : Type 0 where
@@ -120,7 +124,9 @@ pub record LeftStopped (a1 b1 a2 b2 w0 w1 : Option (List ℕ)) (fault : RecordFa
   pub rights : List (List ℕ)
   pub out : List (List ℕ)
   pub other : Side
-  pub left : Stopped Archive a1 b1 lefts fault
+  pub format : Format
+  pub archive : kind_of format ≡ Archive_text
+  pub left : Stopped format a1 b1 lefts fault
   pub last : last_of [] lefts ≡ last_of [] out
   pub right : Stands a2 b2 rights (last_of [] out) other
   pub order : other.ahead ≢ Unread → may_follow Archive (last_of [] rights) (last_of [] out) ≡ true
@@ -136,7 +142,9 @@ pub record RightStopped (a1 b1 a2 b2 w0 w1 : Option (List ℕ)) (fault : RecordF
   pub other : Side
   pub left : Stands a1 b1 lefts (last_of [] out) other
   pub read : other.ahead ≢ Unread
-  pub right : Stopped Archive a2 b2 rights fault
+  pub format : Format
+  pub archive : kind_of format ≡ Archive_text
+  pub right : Stopped format a2 b2 rights fault
   pub last : last_of [] rights ≡ last_of [] out
   pub joins : Joins out lefts rights
   pub written_is : written ≡ 8 + length (concat (kept out))
@@ -229,7 +237,7 @@ abbrev pub Stops : Option (List ℕ) → Option (List ℕ) → Option (List ℕ)
 Stops a1 b1 a2 b2 w0 w1 e = ByCause e.cause
     (λ fault. ((e.written ≡ 0) × Appends w0 w1 [] × Consumes a2 b2 [] × StopsBeforeRecords a1 b1 fault)
     ⊎ (LeftStopped a1 b1 a2 b2 w0 w1 fault e.written ⊎ LeftFull a1 b1 a2 b2 w0 w1 fault e.written))
-    (λ fault. ((e.written ≡ 0) × Appends w0 w1 [] × Consumes a1 b1 magic × StopsBeforeRecords a2 b2 fault)
+    (λ fault. ((e.written ≡ 0) × Appends w0 w1 [] × HasMagicRead a1 b1 × StopsBeforeRecords a2 b2 fault)
     ⊎ (RightStopped a1 b1 a2 b2 w0 w1 fault e.written ⊎ RightFull a1 b1 a2 b2 w0 w1 fault e.written))
     (WriteStopped a1 b1 a2 b2 w0 w1 e.written)
 
@@ -240,8 +248,10 @@ pub record MergedAll (a1 b1 a2 b2 w0 w1 : Option (List ℕ)) (sizes : Sizes) : T
   pub out : List (List ℕ)
   pub left : Side
   pub right : Side
-  pub left_read : HasReadAll Archive a1 b1 lefts left.reader × IsAtEnd b1
-  pub right_read : HasReadAll Archive a2 b2 rights right.reader × IsAtEnd b2
+  pub left_archive : kind_of left.reader.file ≡ Archive_text
+  pub right_archive : kind_of right.reader.file ≡ Archive_text
+  pub left_read : HasReadAll left.reader.file a1 b1 lefts left.reader × IsAtEnd b1
+  pub right_read : HasReadAll right.reader.file a2 b2 rights right.reader × IsAtEnd b2
   pub joins : Joins out lefts rights
   pub few : length (kept out) < 2 ^ 63
   pub gained : Appends w0 w1 (text_of Archive (kept out))
@@ -258,8 +268,8 @@ Leaves a1 b1 a2 b2 w0 w1 (Err e) = Stops a1 b1 a2 b2 w0 w1 e
 
 -- The numbers of a merge fit.
 pub record Fits (m : Merge) : Type 0 where
-  pub left_archive : m.left.reader.file ≡ Archive
-  pub right_archive : m.right.reader.file ≡ Archive
+  pub left_archive : kind_of m.left.reader.file ≡ Archive_text
+  pub right_archive : kind_of m.right.reader.file ≡ Archive_text
   pub left_few : m.left.reader.count < 2 ^ 63
   pub right_few : m.right.reader.count < 2 ^ 63
   pub few : m.written.records < 2 ^ 63

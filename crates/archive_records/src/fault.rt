@@ -5,7 +5,8 @@ use archive_core::SliceFault;
 /// Why bytes are no text of an archive, of operations or of a summary, or why they were not read to their end.
 #[derive(Clone, Copy, Debug, PartialEq, Eq)]
 pub enum RecordFaultKind {
-    /// One of the first eight bytes is not that of the file's magic, `MSYMARC2`, `MSYMOPS1` or `MSYMSUM1`.
+    /// One of the first eight bytes is not that of the file's magic: `MSYMARC2` or, in version 1, `MSYMARC1` of an
+    /// archive, `MSYMOPS1` of operations, `MSYMSUM1` of a summary.
     BadMagic,
     /// The input ends inside the magic, inside a record, or where one must begin.
     Truncated,
@@ -19,7 +20,7 @@ pub enum RecordFaultKind {
     BadSlice(SliceFault),
     /// The key of an admission is not that of its slice.
     KeyMismatch,
-    /// The end record's number is not the number of the records.
+    /// The end record's number is not the number of the records; those that are dropped count.
     BadCount,
     /// Bytes stand behind the end record.
     Trailing,
@@ -27,8 +28,8 @@ pub enum RecordFaultKind {
     Device,
     /// The growth of a collection was refused, or there is one record more than 9,223,372,036,854,775,807.
     OutOfMemory,
-    /// An admission in an archive's text has the key and the digest of a retirement of the same text. Retirements stand
-    /// first.
+    /// An admission in an archive's text of version 2 has the key and the digest of a retirement of the same text.
+    /// Retirements stand first.
     Covered,
 }
 

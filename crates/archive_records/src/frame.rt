@@ -8,8 +8,8 @@ ghost use Rattle.archive_records.specs.Reader.{BlamesReader, Fills, bytes_so_far
 
 use crate::buffer::{Buffer, fill};
 use crate::fault::RecordFaultKind;
+use crate::format::Format;
 use crate::head::{body_length_of, head_length_of};
-use crate::kind::TextKind;
 use byte_device::Source;
 use std::cmp::Ordering;
 
@@ -18,7 +18,7 @@ const LARGEST_SLICE: u64 = 4294967295;
 
 /// Reads the head of the next record, and says how long it is.
 fn read_head<R: Source>(
-    file: TextKind,
+    file: Format,
     r: &mut R,
     chunk: &mut [u8],
     buffer: &mut Buffer,
@@ -44,7 +44,7 @@ fn read_head<R: Source>(
 
 /// Reads what follows the head.
 fn read_body<R: Source>(
-    file: TextKind,
+    file: Format,
     r: &mut R,
     chunk: &mut [u8],
     buffer: &mut Buffer,
@@ -72,7 +72,7 @@ fn read_body<R: Source>(
 
 /// Reads the next record, or the end record, over the last one.
 pub fn read_record<R: Source>(
-    file: TextKind,
+    file: Format,
     r: &mut R,
     chunk: &mut [u8],
     buffer: &mut Buffer,

@@ -10,7 +10,7 @@ ghost use Rattle.archive_records.specs.Kind.{admission_length, end_length};
 ghost use Rattle.archive_records.specs.Layout.{head_length, admission_body, body_length, record_count};
 ghost use Rattle.archive_records.specs.Text.{end_record};
 
-use crate::kind::TextKind;
+use crate::format::Format;
 use archive_core::{ArchKey, Digest, Slice, SliceKey};
 use byteorder::{BigEndian, ByteOrder};
 use uuid::Uuid;
@@ -30,30 +30,30 @@ pub const ADMISSION_HEAD_LEN: usize = 33;
 pub const END_LEN: usize = 9;
 
 // How long an admission's head is.
-fn admission_length_of(file: TextKind) -> usize
+fn admission_length_of(file: Format) -> usize
     ensures value { result ≡ admission_length file }
     ensures long { (8 < result) × (result < 58) }
 {
     match file {
-        TextKind::Archive | TextKind::Operations => ADMISSION_HEAD_LEN,
-        TextKind::Summary => ENTRY_LEN,
+        Format::Archive | Format::OldArchive | Format::Operations => ADMISSION_HEAD_LEN,
+        Format::Summary => ENTRY_LEN,
     }
 }
 
 // How long an end record is, where there is one.
-fn end_length_of(file: TextKind) -> Option<usize>
+fn end_length_of(file: Format) -> Option<usize>
     ensures value { result ≡ end_length file }
     ensures long { IfSome result (λ head. (8 < head) × (head < 58)) }
 {
     match file {
-        TextKind::Archive | TextKind::Summary => Some(END_LEN),
-        TextKind::Operations => None,
+        Format::Archive | Format::OldArchive | Format::Summary => Some(END_LEN),
+        Format::Operations => None,
     }
 }
 
 /// How long the head is, by its tag.
 #[tactic(auto, unfolding(crate::specs::Layout::head_length))]
-pub fn head_length_of(file: TextKind, bytes: &[u8]) -> Option<usize>
+pub fn head_length_of(file: Format, bytes: &[u8]) -> Option<usize>
     requires { 0 < length bytes.now }
     ensures value { result ≡ head_length file (slice_index bytes.now 0) }
     ensures long { IfSome result (λ head. (8 < head) × (head < 58)) }
@@ -75,19 +75,19 @@ fn length_at(bytes: &[u8], at: usize) -> u64
 }
 
 // How many bytes follow an admission's head.
-fn admission_body_of(file: TextKind, head: &[u8]) -> u64
+fn admission_body_of(file: Format, head: &[u8]) -> u64
     requires { admission_length file ≤ length head.now }
     ensures { result ≡ admission_body file head.now }
 {
     match file {
-        TextKind::Summary => 0,
-        TextKind::Archive | TextKind::Operations => length_at(head, 25),
+        Format::Summary => 0,
+        Format::Archive | Format::OldArchive | Format::Operations => length_at(head, 25),
     }
 }
 
 /// How many bytes follow the head.
 #[tactic(auto, unfolding(crate::specs::Layout::body_length))]
-pub fn body_length_of(file: TextKind, head: &[u8]) -> u64
+pub fn body_length_of(file: Format, head: &[u8]) -> u64
     requires one { 0 < length head.now }
     requires whole { slice_index head.now 0 ≡ 2 → admission_length file ≤ length head.now }
     ensures { result ≡ body_length file head.now }

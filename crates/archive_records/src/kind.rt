@@ -1,46 +1,58 @@
 //! The kinds of files that records or entries stand in.
 
-ghost use Rattle.std.specs.Prelude.{◌≡◌, ◌↔◌, IsTrue};
+ghost use Rattle.std.specs.Prelude.{◌≡◌, ◌≢◌, ◌<◌, ◌↔◌, IsTrue, IfSome, IfNone, length, take};
+ghost use Rattle.archive_records.specs.declared.format.Format.{Format};
 ghost use Rattle.archive_records.specs.declared.kind.TextKind.TheVariants.{Operations};
-ghost use Rattle.archive_records.specs.Kind.{magic_of, allows};
+ghost use Rattle.archive_records.specs.Kind.{kind_of, magic_of};
 
-use std::cmp::Ordering;
+use crate::format::Format;
 
 /// What a file of records is.
 #[derive(Clone, Copy, Debug, PartialEq, Eq)]
 pub enum TextKind {
-    /// The text of an archive: its records ascend, and an end record stands behind them.
+    /// The text of an archive, of one version or the other.
     Archive,
     /// Operations in any order, with repeats, up to the end of the input.
     Operations,
-    /// The text of a summary: its entries ascend, and an end record stands behind them.
+    /// The text of a summary.
     Summary,
 }
 
 impl TextKind {
-    /// What the file begins with.
-    pub fn magic(self) -> [u8; 8]
-        ensures { result ≡ magic_of self }
+    /// The format of the kind whose magic these bytes are.
+    pub fn format_of(self, magic: &[u8]) -> Option<Format>
+        ensures found { IfSome result (λ format. (kind_of format ≡ self) × (magic.now ≡ magic_of format)) }
+        ensures none { IfNone result ((format : Format) → kind_of format ≡ self → magic.now ≢ magic_of format) }
+    {
+        let newest = match self {
+            TextKind::Archive => Format::Archive,
+            TextKind::Operations => Format::Operations,
+            TextKind::Summary => Format::Summary,
+        };
+        if magic == &newest.magic()[..] {
+            return Some(newest);
+        }
+        if self == TextKind::Archive && magic == &Format::OldArchive.magic()[..] {
+            return Some(Format::OldArchive);
+        }
+        None
+    }
+
+    /// Whether these bytes, fewer than a magic has, are as each format of the kind begins: the magics of archives
+    /// differ in their last byte alone.
+    pub fn begins(self, bytes: &[u8]) -> bool
+        requires { length bytes.now < 8 }
+        ensures { (format : Format) → kind_of format ≡ self
+            → IsTrue result ↔ (bytes.now ≡ take (length bytes.now) (magic_of format)) }
     {
         match self {
-            TextKind::Archive => *b"MSYMARC2",
-            TextKind::Operations => *b"MSYMOPS1",
-            TextKind::Summary => *b"MSYMSUM1",
+            TextKind::Archive => Format::Archive.begins(bytes),
+            TextKind::Operations => Format::Operations.begins(bytes),
+            TextKind::Summary => Format::Summary.begins(bytes),
         }
     }
 
-    /// Whether a record may stand behind one that compares so with it.
-    #[tactic(auto, unfolding(crate::specs::Kind::allows))]
-    pub fn allows(self, order: Ordering) -> bool
-        ensures { result ≡ allows self order }
-    {
-        match self {
-            TextKind::Archive | TextKind::Summary => order == Ordering::Less,
-            TextKind::Operations => true,
-        }
-    }
-
-    /// Whether the file ends where nothing is left behind its records.
+    /// Whether such a file ends where nothing is left behind its records.
     pub fn is_open(self) -> bool
         ensures { IsTrue result ↔ (self ≡ Operations) }
     {

@@ -1,28 +1,30 @@
 //! What the definitions say of each other. Each law is a function with an empty body, and its contract the law.
 
-ghost use Rattle.std.specs.Prelude.{◌≡◌, ◌≢◌, ◌+◌, ◌<◌, ◌^◌, ◌++◌, ◌↔◌, ◌⊎◌, ℕ, List};
+ghost use Rattle.std.specs.Prelude.{◌≡◌, ◌≢◌, ◌+◌, ◌<◌, ◌≤◌, ◌^◌, ◌++◌, ◌↔◌, ◌⊎◌, ℕ, List};
 ghost use Rattle.std.specs.Prelude.{[], length, take, slice_index, Some, Err, Contains, true};
 ghost use Rattle.std.specs.FinSet as set;
 ghost use Rattle.byte_device.specs.Writes.{WritesFirst};
 ghost use Rattle.join_core.specs.Listing.{listing};
-ghost use Rattle.archive_core.specs.Content.{Operations, IsContent, joined};
+ghost use Rattle.archive_core.specs.Content.{Operations, IsContent, joined, made};
 ghost use Rattle.archive_records.specs.declared.fault.RecordFaultKind.TheVariants.{TooLarge, NotAscending, BadSlice};
 ghost use Rattle.archive_records.specs.declared.fault.RecordFaultKind.TheVariants.{KeyMismatch, BadCount, Trailing};
+ghost use Rattle.archive_records.specs.declared.fault.RecordFaultKind.TheVariants.{BadMagic, Truncated};
 ghost use Rattle.archive_records.specs.declared.fault.RecordFaultKind.TheVariants.{Covered};
-ghost use Rattle.archive_records.specs.declared.kind.TextKind.TheVariants.{Archive};
+ghost use Rattle.archive_records.specs.declared.format.Format.TheVariants.{Archive};
 ghost use Rattle.sha2.specs.Sha256.{sha256};
 ghost use Rattle.std.specs.List.{concat};
 ghost use Rattle.archive_core.specs.Valid.{IsValid, key_of};
 ghost use Rattle.archive_core.specs.Record.{admission_record, retirement_record};
-ghost use Rattle.archive_records.specs.Kind.{magic, may_follow};
+ghost use Rattle.archive_records.specs.Kind.{magic, old_magic, may_follow};
 ghost use Rattle.archive_core.specs.declared.faults.SliceFault.{SliceFault};
 ghost use Rattle.archive_core.specs.Summary.{Entries, summary};
 ghost use Rattle.archive_records.specs.Entry.{AreEntries};
 ghost use Rattle.archive_records.specs.declared.fault.RecordFault.{RecordFault};
 ghost use Rattle.archive_records.specs.declared.fault.MergeFault.{MergeFault};
 ghost use Rattle.archive_core.specs.declared.operations.Operation.{Operation};
-ghost use Rattle.archive_records.specs.declared.kind.TextKind.{TextKind};
+ghost use Rattle.archive_records.specs.declared.format.Format.{Format};
 ghost use Rattle.archive_records.specs.Text.{IsWritten, written, IsOperationsText, IsSummaryText, summary_text};
+ghost use Rattle.archive_records.specs.Text.{AreOperations, IsArchiveOf, old_written};
 ghost use Rattle.archive_records.specs.Text.{last_of};
 ghost use Rattle.archive_records.specs.Fault.{IsFault, IsOperationsFault, IsSummaryFault, IsFaultOf, IsMagicFault};
 ghost use Rattle.archive_records.specs.Front.{IsGoodFront, IsLongestFront, front_length};
@@ -31,26 +33,27 @@ ghost use Rattle.archive_records.specs.Merging.{LeftStops, Merges, RightStops, S
 
 use byte_device::{Sink, Source};
 
-/// A content has exactly one text: the one that `written` gives.
+/// A content is written in exactly one text: the one that `written` gives.
 pub fn written_is_the_one_text()
     ensures { (o : Operations) (text : List ℕ) → IsWritten o text ↔ (text ≡ written o) }
 {}
 
-/// A text is that of one content only.
+/// A text gives one content only.
 pub fn one_content()
-    ensures { (o p : Operations) → IsContent o → IsContent p → written o ≡ written p → o ≡ p }
+    ensures { (text : List ℕ) (o p : Operations) → IsContent o → IsContent p → IsArchiveOf o text → IsArchiveOf p text
+        → o ≡ p }
 {}
 
-/// No text of an archive begins another one.
+/// No text of an archive, of whichever version, begins another one.
 pub fn no_text_begins_another()
-    ensures { (o p : Operations) (more : List ℕ) → IsContent o → IsContent p → written o ++ more ≡ written p
-        → more ≡ [] }
+    ensures { (o p : Operations) (text other more : List ℕ) → IsContent o → IsContent p → IsArchiveOf o text
+        → IsArchiveOf p other → text ++ more ≡ other → more ≡ [] }
 {}
 
-/// Bytes are the text of a content, or have a fault.
+/// Bytes are an archive's text, or have a fault.
 pub fn content_or_fault()
     ensures { (text : List ℕ) → ((i : ℕ) → slice_index text i < 256)
-        → ((o : Operations) × IsContent o × IsWritten o text) ⊎ ((fault : RecordFault) × IsFault text fault) }
+        → ((o : Operations) × IsContent o × IsArchiveOf o text) ⊎ ((fault : RecordFault) × IsFault text fault) }
 {}
 
 /// A text has one fault at most.
@@ -58,16 +61,33 @@ pub fn one_fault()
     ensures { (text : List ℕ) (f g : RecordFault) → IsFault text f → IsFault text g → f ≡ g }
 {}
 
-/// The text of a content has no fault. A number of records of 2^64 or more would not fit the end record.
+/// The text that is written of a content has no fault, and none that version 1 wrote of operations has one. A number of
+/// records of 2^64 or more would not fit the end record.
 pub fn text_has_no_fault()
-    ensures { (o : Operations) (fault : RecordFault) → IsContent o → set.len o < 2 ^ 64 → IsFault (written o) fault
-        → ⊥ }
+    ensures written { (o : Operations) (fault : RecordFault) → IsContent o → set.len o < 2 ^ 64
+        → IsFault (written o) fault → ⊥ }
+    ensures old { (p : Operations) (fault : RecordFault) → AreOperations p → set.len p < 2 ^ 64
+        → IsFault (old_written p) fault → ⊥ }
+{}
+
+/// Fewer bytes than a magic has are cut off where both magics of archives begin so; and first bytes that begin neither
+/// of them are no archive's.
+pub fn magics_in_words()
+    ensures truncated { (text : List ℕ) → IsFault text (record { kind = Truncated; offset = 0 })
+        ↔ ((length text < 8) × (text ≡ take (length text) magic) × (text ≡ take (length text) old_magic)) }
+    ensures bad { (text : List ℕ) → IsFault text (record { kind = BadMagic; offset = 0 })
+        ↔ ((n : ℕ) × (n ≤ 8) × (n ≤ length text) × (take n text ≢ take n magic) × (take n text ≢ take n old_magic)) }
+{}
+
+/// What version 1 wrote of a content gives this content.
+pub fn old_text_of_a_content()
+    ensures { (o : Operations) → IsContent o → IsArchiveOf o (old_written o) }
 {}
 
 /// Behind the magic a fault stands at the end of the longest good front, and bytes too many behind the end record
 /// there.
 pub fn longest_front()
-    ensures { (file : TextKind) (text : List ℕ) (fault : RecordFault) → IsFaultOf file text fault
+    ensures { (file : Format) (text : List ℕ) (fault : RecordFault) → IsFaultOf file text fault
         → IsMagicFault file text fault.kind
         ⊎ ((records : List (List ℕ)) × IsLongestFront file text records
         × ((fault.offset ≡ front_length records)
@@ -143,9 +163,11 @@ pub fn faults_of_summaries()
     ensures key { (text : List ℕ) (fault : RecordFault) → IsSummaryFault text fault → fault.kind ≢ KeyMismatch }
 {}
 
-/// In no other file than an archive's text a covered slice is a fault: operations come with their retirements in any
-/// order, and a summary's entry covers none.
+/// In no other file than an archive's text a covered slice is a fault, and in none of version 1: operations come with
+/// their retirements in any order, and a summary's entry covers none.
 pub fn covered_in_archives_alone()
+    ensures old { (text rest : List ℕ) (fault : RecordFault) → text ≡ old_magic ++ rest → IsFault text fault
+        → fault.kind ≢ Covered }
     ensures operations { (text : List ℕ) (fault : RecordFault) → IsOperationsFault text fault → fault.kind ≢ Covered }
     ensures summaries { (text : List ℕ) (fault : RecordFault) → IsSummaryFault text fault → fault.kind ≢ Covered }
 {}
@@ -177,10 +199,13 @@ pub fn good_records_exist()
         → (records : List (List ℕ)) × AreGoodRecords text records }
 {}
 
-/// Those of the text of a content are its records, and those of two such texts make the join of both.
+/// Those of the text of a content are its records, and those of a text of version 1 its operations'. Those of two texts
+/// make the join of both, and it is that of the contents that they make.
 pub fn good_records_of_texts()
     ensures records { (o : Operations) → IsContent o → AreGoodRecords (written o) (listing o) }
+    ensures old { (p : Operations) → AreOperations p → AreGoodRecords (old_written p) (listing p) }
     ensures joined { (o p : Operations) → of_both (listing o) (listing p) ≡ joined o p }
+    ensures made { (o p : Operations) → of_both (listing o) (listing p) ≡ joined (made o) (made p) }
 {}
 
 /// Two inputs are both the texts of archives, or the left side stops their merge, or the right side does.
@@ -205,14 +230,17 @@ pub fn beginning_is_no_text()
     ensures { (o : Operations) (n : ℕ) → IsContent o → n < length (written o) → IsArchiveText (take n (written o)) → ⊥ }
 {}
 
-/// What a merge of the texts of two contents has written that was stopped, as where the writer failed, are the first
+/// What a merge of texts that give two contents has written that was stopped, as where the writer failed, are the first
 /// bytes of the text of their join, and not all of it.
 pub fn stopped_merge_of_texts<R: Source, S: Source, W: Sink>()
-    ensures { (left : Stream R) (right : Stream S) (out : Stream W) (o p : Operations) (fault : MergeFault)
+    ensures { (left : Stream R) (right : Stream S) (out : Stream W) (o p : Operations) (t u : List ℕ)
+        (fault : MergeFault)
         → IsContent o
         → IsContent p
-        → left.bytes left.old ≡ Some (written o)
-        → right.bytes right.old ≡ Some (written p)
+        → IsArchiveOf o t
+        → IsArchiveOf p u
+        → left.bytes left.old ≡ Some t
+        → right.bytes right.old ≡ Some u
         → Merges left right out (Err fault)
         → WritesFirst (out.bytes out.old) (out.bytes out.new) (written (joined o p)) fault.written }
 {}

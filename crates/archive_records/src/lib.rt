@@ -1,10 +1,14 @@
 //! The texts of archives, summaries and deltas: written, and read back exactly, over any device; and lists of
 //! operations, read.
 //!
-//! A text is the magic `MSYMARC2`, the records of the archive's operations strictly ascending in byte order, and an
-//! end record with their number; all numbers are big-endian. A record is a tag, a key, and for a retirement (tag 1)
-//! the digest, for an admission (tag 2) the length of the slice in eight bytes and the slice. So a content has one
-//! text, and a text one content. A slice that is retired is in no text.
+//! The text of an archive is the magic `MSYMARC2`, the records of its operations strictly ascending in byte order, and
+//! an end record with their number; all numbers are big-endian. A record is a tag, a key, and for a retirement (tag 1)
+//! the digest, for an admission (tag 2) the length of the slice in eight bytes and the slice. A slice that is retired
+//! is in no such text. So a content is written in one text, and a text gives one content.
+//!
+//! A text of version 1 begins with `MSYMARC1` and has the same form, and slices that its own retirements cover may
+//! stand in it. It is read, and gives the content that its operations make: what is covered is dropped. None is
+//! written.
 //!
 //! An operations file is the magic `MSYMOPS1` and such records in any order, with repeats, up to the end of the input.
 //!
@@ -16,10 +20,11 @@
 //! - `summary`: [`Summary`] and [`read_summary`];
 //! - `writing`: [`write_archive`], [`write_summary`] and [`write_delta`];
 //! - `fault`: why a text is refused;
-//! - `kind`: what each kind of file begins with, how its records follow one another and how it ends;
+//! - `kind`: what a file is; `format`: what it begins with, how its records follow one another and how it ends;
 //! - `buffer`, `frame`, `next`, `retired`, `reader`: one record after another, each read over the last and compared
 //!   with it, and with the retirements before it;
-//! - `reading`: [`read_archive`] and [`read_front`];
+//! - `records`: one pass over them, and what is made of those that are taken;
+//! - `reading`, `part`: [`read_archive`], [`read_front`] and [`read_part`];
 //! - `operations`: [`read_ops`];
 //! - `side`, `merging`, `streams`: [`merge_streams`], in the memory of one record of each side and of its retirements;
 //! - [`laws`]: what holds of texts and their faults.
@@ -28,6 +33,7 @@
 mod buffer;
 mod entry;
 mod fault;
+mod format;
 mod frame;
 mod head;
 mod kind;

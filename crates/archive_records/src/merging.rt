@@ -2,8 +2,7 @@
 //! that it came from are read on.
 
 ghost use Rattle.std.specs.Prelude.{◌≡◌, ◌+◌, ◌*◌, ◌^◌, ◌<◌, ◌≤◌, ℕ, List, Option, OnOk};
-ghost use Rattle.std.specs.Prelude.{IfOk, IfErr, MatchResult, length, true, false};
-ghost use Rattle.std.specs.Io.KnownBytes.{Appends};
+ghost use Rattle.std.specs.Prelude.{IfErr, MatchResult, true, false};
 ghost use Rattle.byte_device.specs.Devices.{FailedIn};
 ghost use Rattle.byte_device.specs.Writes.{WritesFirst};
 ghost use Rattle.archive_records.specs.Merging.{most_records, stream};
@@ -78,19 +77,20 @@ fn first(left: &Side, right: &Side) -> Ordering
     }
 }
 
-/// Whether a retirement of the other side covers the record that is next. Its own side's does not: that would be a
-/// fault of it. All retirements stand before the admissions, so both sides' were read where an admission is next.
+/// Whether a retirement of either side covers the record that is next. One of its own side does so in version 1 alone,
+/// where the reader tells it. All retirements stand before the admissions, so both sides' were read where an admission
+/// is next.
 fn is_covered(left: &Side, right: &Side) -> bool
     ensures { TellsCovered left.now right.now result }
 {
     match first(left, right) {
-        Ordering::Less => right.reader.covers(left.reader.last()),
-        Ordering::Equal => false,
-        Ordering::Greater => left.reader.covers(right.reader.last()),
+        Ordering::Less => left.reader.dropped() || right.reader.covers(left.reader.last()),
+        Ordering::Equal => left.reader.dropped() || right.reader.dropped(),
+        Ordering::Greater => right.reader.dropped() || left.reader.covers(right.reader.last()),
     }
 }
 
-/// Leaves the side that the record which is next comes from to be read on, as if it had been written.
+/// Leaves the side or sides that the record which is next comes from to be read on, as if it had been written.
 fn pass_over(m: &mut Merge)
     requires read { IsRead m.old }
     requires some { m.old.left.ahead ≡ Ahead.Ended → m.old.right.ahead ≡ Ahead.Held }
@@ -102,7 +102,11 @@ fn pass_over(m: &mut Merge)
     ensures less { cost_of m.new < cost_of m.old }
 {
     match first(&m.left, &m.right) {
-        Ordering::Less | Ordering::Equal => m.left.ahead = Ahead::Unread,
+        Ordering::Less => m.left.ahead = Ahead::Unread,
+        Ordering::Equal => {
+            m.left.ahead = Ahead::Unread;
+            m.right.ahead = Ahead::Unread;
+        }
         Ordering::Greater => m.right.ahead = Ahead::Unread,
     }
 }
@@ -172,7 +176,7 @@ fn read_on<R: Source, S: Source>(r1: &mut R, r2: &mut S, m: &mut Merge) -> Resul
     Ok(())
 }
 
-/// Writes the record that is next, unless the other side's retirements cover it, and reads on.
+/// Writes the record that is next, unless the retirements of either side cover it, and reads on.
 fn turn<R: Source, S: Source, W: Sink>(
     r1: &mut R,
     r2: &mut S,

@@ -4,8 +4,8 @@ ghost use Rattle.std.specs.Prelude.{◌≡◌, ◌≢◌, ◌<◌, ◌≤◌, �
 ghost use Rattle.std.specs.Prelude.{IfOk, IfErr, MatchResult, IsTrue, ◌↔◌, true, false};
 ghost use Rattle.std.specs.Io.KnownBytes.{Consumes};
 ghost use Rattle.archive_records.specs.declared.fault.RecordFaultKind.TheVariants.{Truncated, Device};
-ghost use Rattle.archive_records.specs.declared.kind.TextKind.TheVariants.{Archive, Operations};
-ghost use Rattle.archive_records.specs.Kind.{may_follow};
+ghost use Rattle.archive_records.specs.declared.format.Format.TheVariants.{Archive, Operations};
+ghost use Rattle.archive_records.specs.Kind.{may_follow, kind_of};
 ghost use Rattle.archive_records.specs.Layout.{framed};
 ghost use Rattle.archive_records.specs.Text.{end_record, ending};
 ghost use Rattle.archive_records.specs.Fault.{is_end, tested, next, RefusesSlice, Refuses};
@@ -15,9 +15,9 @@ ghost use Rattle.archive_records.specs.Reader.{IsFound, IsFoundIn, IfEnd, IfItem
 
 use crate::buffer::Buffer;
 use crate::fault::RecordFaultKind;
+use crate::format::Format;
 use crate::frame::read_record;
 use crate::head::{ADMISSION_HEAD_LEN, END, RETIREMENT, has_key, record_count_of};
-use crate::kind::TextKind;
 use archive_core::{Slice, SliceFacts};
 use byte_device::Source;
 
@@ -32,7 +32,7 @@ pub enum Step {
 
 /// What the tests of a whole record or end record say: whether it is the end record.
 #[tactic(auto, unfolding(crate::specs::Fault::is_end))]
-fn test(file: TextKind, allowed: bool, count: u64, bytes: &[u8]) -> Result<bool, RecordFaultKind>
+fn test(file: Format, allowed: bool, count: u64, bytes: &[u8]) -> Result<bool, RecordFaultKind>
     requires { framed file bytes.now ≡ Ok (length bytes.now) }
     ensures tested { (last : List ℕ) → allowed ≡ may_follow file last bytes.now
         → MatchResult result
@@ -58,7 +58,7 @@ fn test(file: TextKind, allowed: bool, count: u64, bytes: &[u8]) -> Result<bool,
 /// Reads the next record or the end record over the last record, and says whether it is the end record. The slice of an
 /// admission is not looked at.
 fn read_in_order<R: Source>(
-    file: TextKind,
+    file: Format,
     r: &mut R,
     chunk: &mut [u8],
     buffer: &mut Buffer,
@@ -103,21 +103,21 @@ fn test_slice(bytes: &[u8]) -> Result<Option<SliceFacts>, RecordFaultKind>
 }
 
 /// Tests whether what a whole item holds is as it must be, and gives what was found out of its slice.
-fn test_item(file: TextKind, bytes: &[u8]) -> Result<Option<SliceFacts>, RecordFaultKind>
+fn test_item(file: Format, bytes: &[u8]) -> Result<Option<SliceFacts>, RecordFaultKind>
     requires whole { framed file bytes.now ≡ Ok (length bytes.now) }
     requires item { is_end bytes.now ≡ false }
-    ensures found { IfOk result (λ found. IsFoundIn file bytes.now found) }
+    ensures found { IfOk result (λ found. IsFoundIn (kind_of file) bytes.now found) }
     ensures refused { IfErr result (λ kind. Refuses file bytes.now kind) }
 {
     match file {
-        TextKind::Summary => Ok(None),
-        TextKind::Archive | TextKind::Operations => test_slice(bytes),
+        Format::Summary => Ok(None),
+        Format::Archive | Format::OldArchive | Format::Operations => test_slice(bytes),
     }
 }
 
 /// Reads the next record or the end record over the last record.
 fn read_tested<R: Source>(
-    file: TextKind,
+    file: Format,
     r: &mut R,
     chunk: &mut [u8],
     buffer: &mut Buffer,
@@ -133,7 +133,8 @@ fn read_tested<R: Source>(
     ensures whole { OnOk result (buffer.new.bytes.items ≡ bytes_so_far buffer.new) }
     ensures end { IfOk result (λ step. IfEnd step ((is_end (bytes_so_far buffer.new) ≡ true)
         × (bytes_so_far buffer.new ≡ end_record count))) }
-    ensures item { IfOk result (λ step. IfItem step (λ found. IsFoundIn file (bytes_so_far buffer.new) found)) }
+    ensures item { IfOk result (λ step. IfItem step (λ found.
+        IsFoundIn (kind_of file) (bytes_so_far buffer.new) found)) }
     ensures reader { BlamesReader R.left R.failures r.old r.new result }
 {
     let end = read_in_order(file, r, chunk, buffer, count)?;
@@ -147,7 +148,7 @@ fn read_tested<R: Source>(
 }
 
 /// Whether the file ends where this stopped the next record, of which so many bytes came.
-fn ends_file(file: TextKind, kind: RecordFaultKind, at: usize) -> bool
+fn ends_file(file: Format, kind: RecordFaultKind, at: usize) -> bool
     ensures { IsTrue result ↔ ((kind ≡ Truncated) × (at ≡ 0) × (file ≡ Operations)) }
 {
     kind == RecordFaultKind::Truncated && at == 0 && file.is_open()
@@ -155,7 +156,7 @@ fn ends_file(file: TextKind, kind: RecordFaultKind, at: usize) -> bool
 
 /// Reads the next record over the last record, or what ends the file.
 pub fn read_next<R: Source>(
-    file: TextKind,
+    file: Format,
     r: &mut R,
     chunk: &mut [u8],
     buffer: &mut Buffer,
@@ -166,7 +167,8 @@ pub fn read_next<R: Source>(
     ensures end { IfOk result (λ step. IfEnd step (bytes_so_far buffer.new ≡ ending file count)) }
     ensures ends { IfOk result (λ step. IfEnd step (IsEnded file (R.left r.new))) }
     ensures whole { IfOk result (λ step. IfItem step (λ _. buffer.new.bytes.items ≡ bytes_so_far buffer.new)) }
-    ensures item { IfOk result (λ step. IfItem step (λ found. IsFoundIn file (bytes_so_far buffer.new) found)) }
+    ensures item { IfOk result (λ step. IfItem step (λ found.
+        IsFoundIn (kind_of file) (bytes_so_far buffer.new) found)) }
     ensures follows { IfOk result (λ step. IfItem step (λ _.
         may_follow file buffer.old.bytes.items (bytes_so_far buffer.new) ≡ true)) }
     ensures fails { IfErr result (λ kind.

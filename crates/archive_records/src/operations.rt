@@ -77,8 +77,9 @@ fn list_taken<R: Source>(heap: Heap, r: &mut R) -> Result<Vec<Operation, Heap>, 
 ///
 /// # Errors
 ///
-/// Those of [`crate::read_archive`], in the same order and with the same offsets, but for NotAscending, BadCount and
-/// Trailing: such a file has no order and no end record, and the tag 3 is BadTag.
+/// Those of [`crate::read_archive`], in the same order and with the same offsets, but for NotAscending, BadCount,
+/// Trailing and Covered: such a file has no order and no end record, the tag 3 is BadTag, and an admission may stand
+/// beside the retirement of its slice.
 pub fn read_ops<R: Source>(heap: Heap, r: &mut R) -> Result<Vec<Operation, Heap>, RecordFault>
     ensures { ReadsWhole Operations (λ operations. operations.items) R.left R.failures r.old r.new result }
 {

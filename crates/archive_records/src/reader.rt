@@ -1,19 +1,20 @@
 //! A source that is read record by record.
 
 ghost use Rattle.std.specs.Prelude.{◌≡◌, ◌-◌, ◌<◌, ◌≤◌, ℕ, List, Option, Some, [], length, ◌⊎◌, true};
-ghost use Rattle.std.specs.Prelude.{take, OnOk, IfOk, IfErr, IsTrue, ◌↔◌};
+ghost use Rattle.std.specs.Prelude.{OnOk, IfOk, IfErr};
 ghost use Rattle.archive_core.specs.Content.{is_covered};
 ghost use Rattle.std.specs.Io.KnownBytes.{Consumes, IsAtEnd};
-ghost use Rattle.archive_records.specs.declared.kind.TextKind.{TextKind};
-ghost use Rattle.archive_records.specs.declared.kind.TextKind.TheVariants.{Archive};
+ghost use Rattle.archive_records.specs.declared.format.Format.{Format};
+ghost use Rattle.archive_records.specs.declared.format.Format.TheVariants.{Archive};
 ghost use Rattle.archive_records.specs.declared.fault.RecordFaultKind.TheVariants.{Covered, OutOfMemory};
-ghost use Rattle.archive_records.specs.Kind.{magic_of, end_length, IsItem};
+ghost use Rattle.archive_records.specs.Kind.{magic_of, kind_of, end_length, IsItem};
 ghost use Rattle.archive_records.specs.Reader.{Position, Bounds, Advances, BlamesReader, FaultBlamesReader, KeepsIn};
 ghost use Rattle.archive_records.specs.Reader.{set_of};
-ghost use Rattle.archive_records.specs.Reader.{bytes_so_far, StopsInMagic, HasRead, HasReadAll, Stopped};
+ghost use Rattle.archive_records.specs.Reader.{bytes_so_far, StopsInMagicOf, HasRead, HasReadAll, Stopped};
 
 use crate::buffer::{Buffer, fill};
 use crate::fault::{RecordFault, RecordFaultKind};
+use crate::format::Format;
 use crate::kind::TextKind;
 use crate::next::{Step, read_next};
 use crate::retired::Retired;
@@ -31,7 +32,7 @@ const CHUNK: usize = 65536;
 /// What was read so far: contracts see where the reader stands.
 #[derive(Drop)]
 pub struct RecordReader {
-    file: TextKind,
+    file: Format,
     /// The last record.
     buffer: Buffer,
     /// Where the next piece of a record is pulled to.
@@ -41,6 +42,8 @@ pub struct RecordReader {
     offset: u128,
     /// The retirements of an archive's text.
     retired: Retired,
+    /// Whether the last record is dropped.
+    dropped: bool,
 }
 
 impl Model for RecordReader {
@@ -52,6 +55,7 @@ impl Model for RecordReader {
       count = r.count;
       offset = r.offset;
       retired = r.retired;
+      dropped = r.dropped;
     } };
 
     ghost invariant = { λ r. Bounds (length r.chunk.items) r.count r.offset };
@@ -64,38 +68,28 @@ fn chunk_of(size: usize, heap: &Heap) -> Result<Vec<u8, Heap>, NoMemory>
     Ok(vec![in heap.clone()?; 0; size]?)
 }
 
-/// Whether these bytes are as the magic begins.
-fn begins_magic(file: TextKind, bytes: &[u8]) -> bool
-    requires { length bytes.now ≤ 8 }
-    ensures { IsTrue result ↔ (bytes.now ≡ take (length bytes.now) (magic_of file)) }
-{
-    bytes == &file.magic()[..bytes.len()]
-}
-
-/// Reads the magic into the empty buffer.
+/// Reads the magic into the empty buffer, and gives the format that it tells.
 fn read_magic<R: Source>(
     file: TextKind,
     r: &mut R,
     chunk: &mut [u8],
     buffer: &mut Buffer,
-) -> Result<(), RecordFaultKind>
+) -> Result<Format, RecordFaultKind>
     requires room { 0 < length chunk.old }
     requires start { buffer.old.at ≡ 0 }
     ensures taken { Consumes (R.left r.old) (R.left r.new) (bytes_so_far buffer.new) }
-    ensures magic { OnOk result (bytes_so_far buffer.new ≡ magic_of file) }
-    ensures stops { IfErr result (λ kind. StopsInMagic file (bytes_so_far buffer.new) kind) }
+    ensures magic { IfOk result (λ format.
+        (kind_of format ≡ file) × (bytes_so_far buffer.new ≡ magic_of format)) }
+    ensures stops { IfErr result (λ kind. StopsInMagicOf file (bytes_so_far buffer.new) kind) }
     ensures reader { BlamesReader R.left R.failures r.old r.new result }
 {
     match fill(r, chunk, buffer, 8) {
-        Ok(()) => {
-            if begins_magic(file, &buffer.bytes[..buffer.at]) {
-                Ok(())
-            } else {
-                Err(RecordFaultKind::BadMagic)
-            }
-        }
+        Ok(()) => match file.format_of(&buffer.bytes[..buffer.at]) {
+            Some(format) => Ok(format),
+            None => Err(RecordFaultKind::BadMagic),
+        },
         Err(RecordFaultKind::Truncated) => {
-            if begins_magic(file, &buffer.bytes[..buffer.at]) {
+            if file.begins(&buffer.bytes[..buffer.at]) {
                 Err(RecordFaultKind::Truncated)
             } else {
                 Err(RecordFaultKind::BadMagic)
@@ -106,16 +100,21 @@ fn read_magic<R: Source>(
     }
 }
 
-/// What the retirements of an archive say of one item more: none covers it, and one more is kept.
-fn keep(file: TextKind, retired: &mut Retired, bytes: &[u8]) -> Result<(), RecordFaultKind>
+/// What the retirements of an archive say of one item more: whether it is dropped, and one more is kept. In an archive
+/// of version 1 what is covered is dropped, and no fault.
+fn keep(file: Format, retired: &mut Retired, bytes: &[u8]) -> Result<bool, RecordFaultKind>
     requires { IsItem file bytes.now }
-    ensures kept { OnOk result (KeepsIn file retired.old retired.new bytes.now) }
+    ensures kept { IfOk result (λ dropped. KeepsIn file retired.old retired.new dropped bytes.now) }
     ensures refused { IfErr result (λ kind. (kind ≡ OutOfMemory)
         ⊎ ((kind ≡ Covered) × (file ≡ Archive) × (is_covered (set_of retired.old) bytes.now ≡ true))) }
 {
     match file {
-        TextKind::Operations | TextKind::Summary => Ok(()),
-        TextKind::Archive => retired.take(bytes),
+        Format::Operations | Format::Summary => Ok(false),
+        Format::OldArchive => retired.take(bytes),
+        Format::Archive => match retired.take(bytes) {
+            Ok(true) => Err(RecordFaultKind::Covered),
+            kept => kept,
+        },
     }
 }
 
@@ -126,10 +125,11 @@ impl RecordReader {
         file: TextKind,
         r: &mut R,
     ) -> Result<RecordReader, RecordFault>
-        ensures read { IfOk result (λ reader. HasRead file (R.left r.old) (R.left r.new) [] reader) }
+        ensures read { IfOk result (λ reader. HasRead reader.file (R.left r.old) (R.left r.new) [] reader) }
+        ensures kind { IfOk result (λ reader. kind_of reader.file ≡ file) }
         ensures start { IfErr result (λ fault. fault.offset ≡ 0) }
         ensures stops { IfErr result (λ fault. (bytes : List ℕ) × Consumes (R.left r.old) (R.left r.new) bytes
-            × StopsInMagic file bytes fault.kind) }
+            × StopsInMagicOf file bytes fault.kind) }
         ensures reader { FaultBlamesReader R.left R.failures r.old r.new result }
     {
         let Ok(mut chunk) = chunk_of(CHUNK, &heap) else {
@@ -143,9 +143,10 @@ impl RecordReader {
             at: 0,
             order: Ordering::Equal,
         };
-        if let Err(kind) = read_magic(file, r, &mut chunk, &mut buffer) {
-            return Err(RecordFault { kind, offset: 0 });
-        }
+        let file = match read_magic(file, r, &mut chunk, &mut buffer) {
+            Ok(format) => format,
+            Err(kind) => return Err(RecordFault { kind, offset: 0 }),
+        };
         buffer.bytes.clear();
         Ok(RecordReader {
             file,
@@ -154,6 +155,7 @@ impl RecordReader {
             count: 0,
             offset: 8,
             retired: Retired::none(kept),
+            dropped: false,
         })
     }
 
@@ -162,6 +164,13 @@ impl RecordReader {
         ensures { result.now ≡ self.now.last }
     {
         &self.buffer.bytes
+    }
+
+    /// Whether the last record is dropped: a slice in an archive of version 1 that a retirement before it covers.
+    pub fn dropped(&self) -> bool
+        ensures { result ≡ self.now.dropped }
+    {
+        self.dropped
     }
 
     /// How many bytes were read of the magic and the records.
@@ -195,11 +204,14 @@ impl RecordReader {
                 if self.count == MOST {
                     return Err(RecordFault::out_of_memory(self.offset));
                 }
-                if let Err(kind) = keep(self.file, &mut self.retired, &self.buffer.bytes) {
-                    return Err(RecordFault {
-                        kind,
-                        offset: self.offset,
-                    });
+                match keep(self.file, &mut self.retired, &self.buffer.bytes) {
+                    Ok(dropped) => self.dropped = dropped,
+                    Err(kind) => {
+                        return Err(RecordFault {
+                            kind,
+                            offset: self.offset,
+                        });
+                    }
                 }
                 self.count += 1;
                 self.offset += self.buffer.bytes.len() as u128;
@@ -215,7 +227,7 @@ impl RecordReader {
     /// Whether the input ends behind the end record.
     pub fn finish<R: Source>(&self, r: &mut R) -> Result<(), RecordFault>
         ensures at_end { OnOk result (IsAtEnd (R.left r.new) × Consumes (R.left r.old) (R.left r.new) []) }
-        ensures stopped { IfErr result (λ fault. (file : TextKind) (a : Option (List ℕ)) (records : List (List ℕ))
+        ensures stopped { IfErr result (λ fault. (file : Format) (a : Option (List ℕ)) (records : List (List ℕ))
             → end_length file ≡ Some 9 → HasReadAll file a (R.left r.old) records self.now
             → Stopped file a (R.left r.new) records fault) }
         ensures reader { FaultBlamesReader R.left R.failures r.old r.new result }

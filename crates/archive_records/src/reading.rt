@@ -104,25 +104,27 @@ fn read_first<A: Archive + Drop, R: Source>(heap: Heap, r: &mut R) -> Result<A, 
     Ok(whole.0)
 }
 
-/// Reads an archive: the whole input is the one text of its content. The pieces in which the reader gives its bytes
-/// do not matter. A fault leaves no archive, and how much of a faulty input was read is not promised.
+/// Reads an archive: the whole input is the one text of its content, or one of version 1 whose operations make this
+/// content, and of which the covered slices are dropped. The pieces in which the reader gives its bytes do not matter.
+/// A fault leaves no archive, and how much of a faulty input was read is not promised.
 ///
 /// # Errors
 ///
 /// Each kind of `RecordFaultKind`; within a record they are found in the order of its tests: BadTag, Truncated inside
-/// the head, TooLarge, Truncated inside the slice, NotAscending, BadSlice, KeyMismatch, Covered; for an end record
-/// Truncated, BadCount, Trailing. Truncated comes only where the reader told its end, Device where it failed, and
-/// everything else where it did not. The offset of Device is the length of the longest good front of what was read,
-/// that of OutOfMemory the length of a good front; both are 0 before the magic was read.
+/// the head, TooLarge, Truncated inside the slice, NotAscending, BadSlice, KeyMismatch, and in version 2 Covered; for
+/// an end record Truncated, BadCount, Trailing. What is dropped passes the same tests, and the end record counts it.
+/// Truncated comes only where the reader told its end, Device where it failed, and everything else where it did not.
+/// The offset of Device is the length of the longest good front of what was read, that of OutOfMemory the length of a
+/// good front; both are 0 before the magic was read.
 pub fn read_archive<A: Archive + Drop, R: Source>(heap: Heap, r: &mut R) -> Result<A, RecordFault>
     ensures { ReadsWhole Archive A.content R.left R.failures r.old r.new result }
 {
     read_whole(heap, r)
 }
 
-/// Reads an archive from the front of the input: exactly the bytes of its text, and what stands behind them is left
-/// for who reads on. The pieces in which the reader gives its bytes do not matter. A fault leaves no archive, and how
-/// much of a faulty input was read is not promised.
+/// Reads an archive from the front of the input: exactly the bytes of a text that gives it, of either version, and
+/// what stands behind them is left for who reads on. The pieces in which the reader gives its bytes do not matter. A
+/// fault leaves no archive, and how much of a faulty input was read is not promised.
 ///
 /// # Errors
 ///

@@ -5,8 +5,9 @@ ghost use Rattle.std.specs.Io.KnownBytes.{IsAtEnd};
 ghost use Rattle.archive_records.specs.declared.kind.TextKind.{TextKind};
 ghost use Rattle.archive_records.specs.declared.fault.RecordFaultKind.TheVariants.{Trailing};
 ghost use Rattle.archive_records.specs.Reader.{FaultBlamesReader, HasStopped, HasRead, IsFoundIn};
-ghost use Rattle.archive_records.specs.Reader.{GathersAll, IsGathered};
-ghost use Rattle.archive_records.specs.Text.{AreApart};
+ghost use Rattle.archive_records.specs.Reader.{GathersAll, IsGathered, MakeThemselves};
+ghost use Rattle.archive_records.specs.Kind.{kind_of};
+ghost use Rattle.archive_records.specs.declared.format.Format.{Format};
 
 use crate::fault::RecordFault;
 use crate::kind::TextKind;
@@ -31,23 +32,24 @@ pub trait FromRecords {
     /// Takes one record more, of which this was found out. Refused for want of memory alone.
     fn take(&mut self, heap: &Heap, bytes: &[u8], found: Option<SliceFacts>) -> Result<(), NoMemory>
         requires { IsFoundIn file bytes.now found }
-        ensures { OnOk result ((start : Self) (records : List (List ℕ)) → AreApart file (records ++ bytes.now ∷ [])
+        ensures { OnOk result ((start : Self) (records : List (List ℕ))
+            → MakeThemselves file (records ++ bytes.now ∷ [])
             → makes start records self.old → makes start (records ++ bytes.now ∷ []) self.new) };
 }
 
-/// Takes the records of a file up to what ends it.
+/// Takes the records of a file up to what ends it, but for those that are dropped.
 fn take_records<T: FromRecords, R: Source>(
     taker: &mut T,
     heap: &Heap,
     reader: &mut RecordReader,
     r: &mut R,
 ) -> Result<(), RecordFault>
-    requires file { reader.old.file ≡ T.file }
+    requires file { kind_of reader.old.file ≡ T.file }
     requires start { T.makes taker.old [] taker.old }
-    ensures all { OnOk result ((a : Option (List ℕ)) → HasRead T.file a (R.left r.old) [] reader.old
-        → GathersAll T.file (T.makes taker.old) a (R.left r.new) taker.new reader.new) }
-    ensures stopped { IfErr result (λ fault. (a : Option (List ℕ)) → HasRead T.file a (R.left r.old) [] reader.old
-        → HasStopped T.file a (R.left r.new) fault) }
+    ensures all { OnOk result ((a : Option (List ℕ)) → HasRead reader.old.file a (R.left r.old) [] reader.old
+        → GathersAll reader.old.file (T.makes taker.old) a (R.left r.new) taker.new reader.new) }
+    ensures stopped { IfErr result (λ fault. (a : Option (List ℕ))
+        → HasRead reader.old.file a (R.left r.old) [] reader.old → HasStopped T.file a (R.left r.new) fault) }
     ensures no_trailing { IfErr result (λ fault. fault.kind ≢ Trailing) }
     ensures reader { FaultBlamesReader R.left R.failures r.old r.new result }
 {
@@ -58,6 +60,9 @@ fn take_records<T: FromRecords, R: Source>(
             Ok(Step::Item(found)) => found,
             Err(fault) => return Err(fault),
         };
+        if reader.dropped() {
+            continue 'taking;
+        }
         if let Err(_) = taker.take(heap, reader.last(), found) {
             return Err(RecordFault::out_of_memory(offset));
         }
@@ -72,8 +77,8 @@ pub fn read_text<T: FromRecords + Drop, R: Source>(
     r: &mut R,
 ) -> Result<(T, RecordReader), RecordFault>
     requires { T.makes taker [] taker }
-    ensures read { IfOk result (λ read.
-        GathersAll T.file (T.makes taker) (R.left r.old) (R.left r.new) read.0 read.1) }
+    ensures read { IfOk result (λ read. (format : Format) × (kind_of format ≡ T.file)
+        × GathersAll format (T.makes taker) (R.left r.old) (R.left r.new) read.0 read.1) }
     ensures stopped { IfErr result (λ fault. HasStopped T.file (R.left r.old) (R.left r.new) fault) }
     ensures no_trailing { IfErr result (λ fault. fault.kind ≢ Trailing) }
     ensures reader { FaultBlamesReader R.left R.failures r.old r.new result }

@@ -1,6 +1,6 @@
 //! The retirements that were read of an archive's text.
 
-ghost use Rattle.std.specs.Prelude.{◌≡◌, ◌≤◌, ◌∷◌, ◌⊎◌, ℕ, List, [], length, take, drop, true, OnOk, IfErr};
+ghost use Rattle.std.specs.Prelude.{◌≡◌, ◌≤◌, ◌∷◌, ℕ, List, [], length, take, drop, true, OnOk, IfOk, IfErr};
 ghost use Rattle.std.specs.FinSet as set;
 ghost use Rattle.std.specs.Ordering.{nat_cmp};
 ghost use Rattle.std.specs.Cmp.Lexicographic.{slice_cmp};
@@ -8,7 +8,7 @@ ghost use Rattle.std.specs.List.Sorted.{IsStrictlySortedBy, IsSearchInRange};
 ghost use Rattle.join_core.specs.InnerSearch.{IsFound};
 ghost use Rattle.archive_core.specs.Record.{IsRecord};
 ghost use Rattle.archive_core.specs.Content.{is_covered, covering};
-ghost use Rattle.archive_records.specs.declared.fault.RecordFaultKind.TheVariants.{Covered, OutOfMemory};
+ghost use Rattle.archive_records.specs.declared.fault.RecordFaultKind.TheVariants.{OutOfMemory};
 ghost use Rattle.archive_records.specs.Reader.{Keeps, set_of};
 
 use crate::fault::RecordFaultKind;
@@ -148,22 +148,19 @@ impl Retired {
         Ok(())
     }
 
-    /// Keeps the record if it is a retirement, and refuses an admission that one of them covers.
-    pub fn take(&mut self, bytes: &[u8]) -> Result<(), RecordFaultKind>
+    /// Keeps the record if it is a retirement, and answers whether one of them covers it. Refused for want of memory
+    /// alone.
+    pub fn take(&mut self, bytes: &[u8]) -> Result<bool, RecordFaultKind>
         requires { IsRecord bytes.now }
-        ensures kept { OnOk result (Keeps self.old self.new bytes.now) }
-        ensures refused { IfErr result (λ kind. (kind ≡ OutOfMemory)
-            ⊎ ((kind ≡ Covered) × (is_covered (set_of self.old) bytes.now ≡ true))) }
+        ensures kept { IfOk result (λ covered. Keeps self.old self.new covered bytes.now) }
+        ensures refused { IfErr result (λ kind. kind ≡ OutOfMemory) }
     {
-        if bytes[0] == RETIREMENT {
-            return match self.keep(bytes) {
-                Ok(()) => Ok(()),
-                Err(_) => Err(RecordFaultKind::OutOfMemory),
-            };
+        if bytes[0] != RETIREMENT {
+            return Ok(self.covers(bytes));
         }
-        if self.covers(bytes) {
-            return Err(RecordFaultKind::Covered);
+        match self.keep(bytes) {
+            Ok(()) => Ok(false),
+            Err(_) => Err(RecordFaultKind::OutOfMemory),
         }
-        Ok(())
     }
 }

@@ -1,8 +1,9 @@
 //! One side of a merge.
 
-ghost use Rattle.std.specs.Prelude.{◌≡◌, ◌≢◌, ◌+◌, ◌<◌, ◌≤◌, ◌^◌, ℕ, List, Option, [], OnOk, OnErr, IfOk, IfErr};
+ghost use Rattle.std.specs.Prelude.{◌≡◌, ◌≢◌, ◌<◌, ◌≤◌, ◌^◌, ℕ, List, Option, [], OnOk, OnErr, IfOk, IfErr};
 ghost use Rattle.std.specs.Prelude.{MatchResult};
 ghost use Rattle.archive_records.specs.declared.kind.TextKind.TheVariants.{Archive};
+ghost use Rattle.archive_records.specs.Kind.{kind_of};
 ghost use Rattle.archive_records.specs.Text.{last_of};
 ghost use Rattle.archive_records.specs.Reader.{FaultBlamesReader, HasRead, Stopped};
 ghost use Rattle.archive_records.specs.Turns.{Stands, StopsBeforeRecords, memory_for, weight};
@@ -35,7 +36,8 @@ pub struct Side {
 impl Side {
     /// Reads the magic.
     pub fn begin<R: Source>(heap: &Heap, r: &mut R) -> Result<Side, RecordFault>
-        ensures read { IfOk result (λ side. HasRead Archive (R.left r.old) (R.left r.new) [] side.reader) }
+        ensures read { IfOk result (λ side. HasRead side.reader.file (R.left r.old) (R.left r.new) [] side.reader) }
+        ensures archive { IfOk result (λ side. kind_of side.reader.file ≡ Archive) }
         ensures unread { IfOk result (λ side. side.ahead ≡ Ahead.Unread) }
         ensures stops { IfErr result (StopsBeforeRecords (R.left r.old) (R.left r.new)) }
         ensures reader { FaultBlamesReader R.left R.failures r.old r.new result }
@@ -59,15 +61,15 @@ impl Side {
 
     /// Reads the next record over the last, or else the end record, behind which the input ends.
     fn advance<R: Source>(&mut self, r: &mut R) -> Result<(), RecordFault>
-        requires archive { self.old.reader.file ≡ Archive }
+        requires archive { kind_of self.old.reader.file ≡ Archive }
         requires few { self.old.reader.count < 2 ^ 63 }
         requires unread { self.old.ahead ≡ Ahead.Unread }
         ensures stands { (a : Option (List ℕ)) (done : List (List ℕ))
-            → HasRead Archive a (R.left r.old) done self.old.reader
+            → HasRead self.old.reader.file a (R.left r.old) done self.old.reader
             → MatchResult result
             (λ _. Stands a (R.left r.new) done (last_of [] done) self.new)
-            (λ fault. Stopped Archive a (R.left r.new) done fault) }
-        ensures archive { OnOk result (self.new.reader.file ≡ Archive) }
+            (λ fault. Stopped self.old.reader.file a (R.left r.new) done fault) }
+        ensures archive { OnOk result (self.new.reader.file ≡ self.old.reader.file) }
         ensures read { OnOk result (self.new.ahead ≢ Ahead.Unread) }
         ensures few { OnOk result (self.new.reader.count < 2 ^ 63) }
         ensures less { OnOk result (weight self.new < weight self.old) }
@@ -85,15 +87,15 @@ impl Side {
 
     /// Reads on, where the last record had its turn.
     pub fn read_on<R: Source>(&mut self, r: &mut R) -> Result<(), RecordFault>
-        requires archive { self.old.reader.file ≡ Archive }
+        requires archive { kind_of self.old.reader.file ≡ Archive }
         requires few { self.old.reader.count < 2 ^ 63 }
         ensures stands { (a : Option (List ℕ)) (done : List (List ℕ)) (low : List ℕ)
             → Stands a (R.left r.old) done low self.old
             → MatchResult result
             (λ _. Stands a (R.left r.new) done low self.new)
-            (λ fault. Stopped Archive a (R.left r.new) done fault × (last_of [] done ≡ low)) }
+            (λ fault. Stopped self.old.reader.file a (R.left r.new) done fault × (last_of [] done ≡ low)) }
         ensures unread { OnErr result (self.old.ahead ≡ Ahead.Unread) }
-        ensures archive { OnOk result (self.new.reader.file ≡ Archive) }
+        ensures archive { OnOk result (self.new.reader.file ≡ self.old.reader.file) }
         ensures read { OnOk result (self.new.ahead ≢ Ahead.Unread) }
         ensures few { OnOk result (self.new.reader.count < 2 ^ 63) }
         ensures less { OnOk result (weight self.new ≤ weight self.old) }

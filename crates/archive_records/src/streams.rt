@@ -7,7 +7,7 @@ ghost use Rattle.archive_records.specs.Merging.{Merges, stream};
 ghost use Rattle.archive_records.specs.Turns.{BlamesDevices, Fits, Leaves, Merging, Stops};
 
 use crate::fault::{MergeCause, MergeFault, RecordFault};
-use crate::kind::TextKind;
+use crate::format::Format;
 use crate::merging::{Merge, merge_records};
 use crate::side::{Ahead, Side};
 use crate::writing::{Sizes, put_end};
@@ -43,7 +43,7 @@ fn begin_both<R: Source, S: Source, W: Sink>(
         Ok(side) => side,
         Err(fault) => return Err(before_the_magic(MergeCause::Right(fault))),
     };
-    match put(w, 0, &TextKind::Archive.magic()) {
+    match put(w, 0, &Format::Archive.magic()) {
         Ok(bytes) => Ok(Merge {
             left,
             right,
@@ -92,14 +92,15 @@ fn merge_taken<R: Source, S: Source, W: Sink>(
     finish(w, &m)
 }
 
-/// Merges two archives of any size in the memory of one record of each and of 57 bytes for each retirement of each, and
-/// says how large what was written is. Each slice is checked, none is copied, and one is hashed where a retirement of
-/// its key was read. The pieces in which the readers give their bytes do not matter.
+/// Merges two archives of any size, each of either version, in the memory of one record of each and of 57 bytes for
+/// each retirement of each, writes one of version 2, and says how large what was written is. Each slice is checked,
+/// none is copied, and one is hashed where a retirement of its key was read. The pieces in which the readers give their
+/// bytes do not matter.
 ///
 /// It reads the left magic and the right one and writes the magic; then it reads the left record and the right one,
 /// writes the lesser of the two, or one of two that are equal, and reads on the side or sides that it came from, left
-/// first. A slice that the other side retired is not written, and its side is read on as if it had been. An end record
-/// is read with the test that the input ends there.
+/// first. A slice that either side retired is not written, and the side or sides that have it are read on as if it had
+/// been. An end record is read with the test that the input ends there.
 ///
 /// # Errors
 ///

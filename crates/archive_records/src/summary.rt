@@ -1,11 +1,7 @@
 //! What an archive has, without its slices.
 
-ghost use Rattle.std.specs.Prelude.{◌≡◌, ◌<◌, ◌^◌, ◌∷◌, ℕ, List, Option, length};
-ghost use Rattle.std.specs.Prelude.{map, true, IsTrue, ◌↔◌, IfOk, IfErr, OnOk};
+ghost use Rattle.std.specs.Prelude.{◌≡◌, map, IfOk, IfErr, OnOk};
 ghost use Rattle.std.specs.FinSet as set;
-ghost use Rattle.std.specs.Ordering.{nat_cmp};
-ghost use Rattle.std.specs.Cmp.Lexicographic.{slice_cmp};
-ghost use Rattle.std.specs.List.Sorted.{IsStrictlySortedBy};
 ghost use Rattle.join_core.specs.Listing.{listing};
 ghost use Rattle.archive_core.specs.Content.{IsContent};
 ghost use Rattle.archive_core.specs.Summary.{entry, summary};
@@ -153,8 +149,8 @@ fn read_whole<R: Source>(heap: Heap, r: &mut R) -> Result<Summary, RecordFault>
 ///
 /// # Errors
 ///
-/// Those of [`crate::read_archive`], in the same order and with the same offsets, but for BadSlice, KeyMismatch and
-/// TooLarge: an entry has no slice.
+/// Those of [`crate::read_archive`], in the same order and with the same offsets, but for BadSlice, KeyMismatch,
+/// TooLarge and Covered: an entry has no slice.
 pub fn read_summary<R: Source>(heap: Heap, r: &mut R) -> Result<Summary, RecordFault>
     ensures { ReadsWhole SummaryFile (λ summary. summary) R.left R.failures r.old r.new result }
 {

@@ -16,8 +16,8 @@ ghost use Rattle.archive_records.specs.Text.{end_record, missing, written, summa
 ghost use Rattle.archive_records.specs.Writing.{Writes};
 
 use crate::entry::Entry;
+use crate::format::Format;
 use crate::head::{admission_head, end_bytes, retirement_bytes};
-use crate::kind::TextKind;
 use crate::summary::Summary;
 use archive_core::{Archive, Record};
 use byte_device::{Sink, WriteFault, put};
@@ -126,7 +126,7 @@ fn put_front<A: Archive, W: Sink>(archive: &A, w: &mut W) -> Result<u128, WriteF
         WritesFirst (W.held w.old) (W.held w.new) (magic ++ concat (listing (A.content archive.now))) e.written) }
     ensures failed { IfErr result (λ _. FailedIn (W.failures w.old) (W.failures w.new)) }
 {
-    let done = put(w, 0, &TextKind::Archive.magic())?;
+    let done = put(w, 0, &Format::Archive.magic())?;
     put_records(archive, w, done)
 }
 
@@ -187,7 +187,7 @@ fn put_summary_front<W: Sink>(summary: &Summary, w: &mut W) -> Result<u128, Writ
         WritesFirst (W.held w.old) (W.held w.new) (summary_magic ++ concat (listing summary.now)) e.written) }
     ensures failed { IfErr result (λ _. FailedIn (W.failures w.old) (W.failures w.new)) }
 {
-    let done = put(w, 0, &TextKind::Summary.magic())?;
+    let done = put(w, 0, &Format::Summary.magic())?;
     put_entries(summary.entries(), w, done)
 }
 
@@ -279,7 +279,7 @@ fn put_delta_front<A: Archive, W: Sink>(
         (magic ++ concat (missing summary.now (listing (A.content archive.now)))) e.written) }
     ensures failed { IfErr result (λ _. FailedIn (W.failures w.old) (W.failures w.new)) }
 {
-    let done = put(w, 0, &TextKind::Archive.magic())?;
+    let done = put(w, 0, &Format::Archive.magic())?;
     put_missing(archive, summary, w, done)
 }
 

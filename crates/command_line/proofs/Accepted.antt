@@ -1,12 +1,11 @@
 -- A line that `clap` accepts names a command, with a value at each name that has to have one.
-use Rattle.std.proofs.Common.{◌≡◌, ◌∙◌, ◌&&◌, ◌||◌, ◌++◌, Bool, true, false, not, cond, refl, sym, ap, ap₂, subst}
+use Rattle.std.proofs.Common.{◌≡◌, ◌∙◌, ◌&&◌, ◌||◌, Bool, true, false, not, cond, refl, sym, ap, ap₂, subst}
 use Rattle.std.proofs.Common.{List, [], ◌∷◌, Option, Some, None, IsSome, is_some, option_map, true≢false, codes}
 use Rattle.std.proofs.Common.{if◌then◌else◌}
 use Rattle.std.specs.Prelude.{find, option_and_then, slice_get, unwrap_or}
 use Rattle.std.specs.List.{list_all, list_any}
 use Rattle.std.specs.Option.{option_map_or}
 use Rattle.std.specs.Str.{bytes_eq}
-use Rattle.std.proofs.lemmas.List.Folds.{list_any-append}
 use Rattle.std.proofs.lemmas.Slice.Eq.{bytes_eq-Decides}
 use Rattle.uuid.specs.Text.{parsed}
 use Rattle.clap.specs.Words.{App, Row, Rule, Shape, Text, all_of, built, first_of, subcommand_of, takes}
@@ -17,14 +16,12 @@ use Rattle.clap.specs.Takes.{built_takes, entered_passes, is_given, is_valid, le
 use Rattle.clap.proofs.SimpleLemmas.{is_nil}
 use Rattle.clap.proofs.WalkLemmas.{both}
 use Rattle.command_line.specs.Commands.{symarch_command}
-use Rattle.command_line.specs.Lines.{Line, admit, admit_line, admit_of, all_spelled, all_spelled_at, apply, apply_line}
-use Rattle.command_line.specs.Lines.{apply_of, are_accepted, delta, delta_line, delta_of}
-use Rattle.command_line.specs.Lines.{find_line, find_of, has_form, have_forms, inputs_at, is_in_order, is_path_among}
-use Rattle.command_line.specs.Lines.{kept, line_in, list, list_line}
-use Rattle.command_line.specs.Lines.{line_of, merge, merge_line, merge_of, name_line, name_of, named_command, new, new_line}
-use Rattle.command_line.specs.Lines.{optional_at, rehearse, rehearse_line, retire, retire_line, retire_of}
-use Rattle.command_line.specs.Lines.{spares_inputs, spelled_at, spelled_if_there, symbolicate_line}
-use Rattle.command_line.specs.Lines.{summary, summary_line, summary_of, symbolicate_of, words_at}
+use Rattle.command_line.specs.Lines.{Line, admit, all_spelled, all_spelled_at, apply, apply_line, are_accepted}
+use Rattle.command_line.specs.Lines.{asked_of, delta, delta_line, find as find_archive, find_line, has_form, have_forms}
+use Rattle.command_line.specs.Lines.{line_in, list, merge, migrate, migrate_line, name as name_symbol, name_line}
+use Rattle.command_line.specs.Lines.{named_command, new, of_five, of_three, of_two, optional_at, rehearse, retire}
+use Rattle.command_line.specs.Lines.{retire_line, spelled_at, spelled_if_there, summary, summary_line, symbolicate}
+use Rattle.command_line.specs.Lines.{symbolicate_line}
 use Rattle.archive_words.specs.Words.{address_of, arch_of, digest_of}
 use Rattle.command_line.proofs.Filled.{are_filled, found_passes, is_filled, lets_name, lets_stop, level}
 use Rattle.command_line.proofs.Filled.{want_values}
@@ -39,17 +36,9 @@ first_of_two : (a b : Bool) → (a || b) ≡ true → b ≡ false → a ≡ true
 first_of_two true b is none = refl
 first_of_two false b is none = absurd (true≢false (sym is ∙ none))
 
-neither : (a b : Bool) → (a || b) ≡ false → (a ≡ false) × (b ≡ false)
-neither true b is = absurd (true≢false is)
-neither false b is = (refl, is)
-
 given_if : (a b : Bool) → (not a || b) ≡ true → a ≡ true → b ≡ true
 given_if true b is there = is
 given_if false b is there = absurd (true≢false (sym there))
-
-none_in_front : (xs ys : List Text) (p : Text → Bool) → list_any p (xs ++ ys) ≡ false
-    → (list_any p xs ≡ false) × (list_any p ys ≡ false)
-none_in_front xs ys p none = neither (list_any p xs) (list_any p ys) (sym (list_any-append p xs ys) ∙ none)
 
 is_false : (b : Bool) → not b ≡ true → b ≡ false
 is_false true is = absurd (true≢false (sym is))
@@ -168,44 +157,6 @@ optional_spelled form id rows has = go (find (λ r. bytes_eq r.id id) rows) has
     go None is = (None, refl)
     go (Some r) is = first_spelled form r.values is
 
--- ---- OUT is no input
-
--- a path that is none of the inputs is none of those at their names
-record Apart (out : Text) (rows : List Row) : Type 0 where
-  input : is_path_among out (words_at (codes "IN") rows) ≡ false
-  files : is_path_among out (words_at (codes "FILE") rows) ≡ false
-  ops : is_path_among out (words_at (codes "OPS") rows) ≡ false
-  archive : is_path_among out (words_at (codes "ARCHIVE") rows) ≡ false
-  named : is_path_among out (words_at (codes "SUMMARY") rows) ≡ false
-
-out_apart : (rows : List Row) (out : Stands (codes "OUT") rows) → spares_inputs rows ≡ true → Apart out.word rows
-out_apart rows out spares =
-    let each : list_all (λ o. not (is_path_among o (inputs_at rows))) (out.word ∷ out.more) ≡ true =
-    ap (λ o. list_all (λ w. not (is_path_among w (inputs_at rows))) (unwrap_or o [])) (sym out.all) ∙ spares in
-    let none = is_false (is_path_among out.word (inputs_at rows)) (both _ _ each).0 in
-    let front = none_in_front (words_at (codes "IN") rows) _ (λ p. bytes_eq p out.word) none in
-    let back = none_in_front (words_at (codes "FILE") rows) _ (λ p. bytes_eq p out.word) front.1 in
-    let rest = none_in_front (words_at (codes "OPS") rows) _ (λ p. bytes_eq p out.word) back.1 in
-    let last = none_in_front (words_at (codes "ARCHIVE") rows) _ (λ p. bytes_eq p out.word) rest.1 in
-    record { input = front.0; files = back.0; ops = rest.0; archive = last.0; named = last.1 }
-
--- the word at a name whose words a path is none of
-first_apart : (out id : Text) (rows : List Row) (there : Stands id rows) → is_path_among out (words_at id rows) ≡ false
-    → bytes_eq there.word out ≡ false
-first_apart out id rows there apart =
-    (neither (bytes_eq there.word out) _ (ap (λ o. is_path_among out (unwrap_or o [])) (sym there.all) ∙ apart)).0
-
-all_apart : (out id : Text) (rows : List Row) (there : Stands id rows) → is_path_among out (words_at id rows) ≡ false
-    → is_path_among out (there.word ∷ there.more) ≡ false
-all_apart out id rows there apart = ap (λ o. is_path_among out (unwrap_or o [])) (sym there.all) ∙ apart
-
-kept_some : (b : Bool) (l : Line) → b ≡ false → IsSome (if b then None else Some l)
-kept_some true l none = absurd (true≢false none)
-kept_some false l none = refl
-
-or_false : (a b : Bool) → a ≡ false → b ≡ false → (a || b) ≡ false
-or_false a b p q = ap₂ (λ x y. x || y) p q
-
 three : {X Y Z W : Type 0} {x x' : X} {y y' : Y} {z z' : Z} (f : X → Y → Z → W) → x ≡ x' → y ≡ y' → z ≡ z'
     → f x y z ≡ f x' y' z'
 three f p q r = λ i. f (p i) (q i) (r i)
@@ -217,7 +168,6 @@ record InOrder (rules : List Rule) (rows : List Row) : Type 0 where
   given : all_given rules rows ≡ true
   filled : are_filled rows ≡ true
   forms : have_forms rows ≡ true
-  spares : spares_inputs rows ≡ true
 
 there : (id : Text) (rules : List Rule) (rows : List Row) → InOrder rules rows → requires id rules ≡ true
     → Stands id rows
@@ -238,47 +188,26 @@ numbers : (rows : List Row) → have_forms rows ≡ true
 numbers rows has = (both (has_form digest_of (codes "DIGEST") rows) _
     (both (has_form arch_of (codes "ARCH") rows) _ (both (has_form parsed (codes "UUID") rows) _ has).1).1).1
 
-asks_new : List Rule → Bool
-asks_new rules = requires (codes "OUT") rules
-
-new_some : (rules : List Rule) (rows : List Row) → asks_new rules ≡ true → InOrder rules rows → IsSome (new_line rows)
-unfolding asks_new
-new_some rules rows asks o =
-    let out = there (codes "OUT") rules rows o asks in
-    subst (λ x. IsSome (option_map new x)) (sym out.first) refl
+one_some : (id : Text) (line : Text → Line) (rules : List Rule) (rows : List Row) → requires id rules ≡ true
+    → InOrder rules rows → IsSome (option_map line (first_of id rows))
+one_some id line rules rows asks o =
+    subst (λ x. IsSome (option_map line x)) (sym (there id rules rows o asks).first) refl
 
 -- IN and OUT are asked for, and what else
 asks_with : Bool → List Rule → Bool
 asks_with more rules = requires (codes "IN") rules && (requires (codes "OUT") rules && more)
 
-files_kept : (rules : List Rule) (rows : List Row) (line : Text → Text → List Text → Line)
-    (of : Option Text → Option Text → Option (List Text) → Option Line)
-    → ((i o : Text) (fs : List Text) → of (Some i) (Some o) (Some fs) ≡ kept o (i ∷ fs) (line i o fs))
+files_some : (rules : List Rule) (rows : List Row) (line : Text → Text → List Text → Line)
     → asks_with (requires (codes "FILE") rules) rules ≡ true → InOrder rules rows
-    → IsSome (of (first_of (codes "IN") rows) (first_of (codes "OUT") rows) (all_of (codes "FILE") rows))
+    → IsSome (of_three line (first_of (codes "IN") rows) (first_of (codes "OUT") rows) (all_of (codes "FILE") rows))
 unfolding asks_with
-files_kept rules rows line of is asks o =
+files_some rules rows line asks o =
     let parts = both (requires (codes "IN") rules) _ asks in
     let rest = both (requires (codes "OUT") rules) _ parts.1 in
     let input = there (codes "IN") rules rows o parts.0 in
     let out = there (codes "OUT") rules rows o rest.0 in
     let files = there (codes "FILE") rules rows o rest.1 in
-    let apart = out_apart rows out o.spares in
-    let none : is_path_among out.word (input.word ∷ files.word ∷ files.more) ≡ false =
-    or_false _ _ (first_apart out.word (codes "IN") rows input apart.input)
-    (all_apart out.word (codes "FILE") rows files apart.files) in
-    subst IsSome (sym (three of input.first out.first files.all ∙ is input.word out.word (files.word ∷ files.more)))
-    (kept_some _ (line input.word out.word (files.word ∷ files.more)) none)
-
-admit_some : (rules : List Rule) (rows : List Row) → asks_with (requires (codes "FILE") rules) rules ≡ true
-    → InOrder rules rows
-    → IsSome (admit_line rows)
-admit_some rules rows asks o = files_kept rules rows admit admit_of (λ i x fs. refl) asks o
-
-merge_some : (rules : List Rule) (rows : List Row) → asks_with (requires (codes "FILE") rules) rules ≡ true
-    → InOrder rules rows
-    → IsSome (merge_line rows)
-merge_some rules rows asks o = files_kept rules rows merge merge_of (λ i x fs. refl) asks o
+    subst IsSome (sym (three (of_three line) input.first out.first files.all)) refl
 
 apply_some : (rules : List Rule) (rows : List Row) → asks_with (requires (codes "OPS") rules) rules ≡ true
     → InOrder rules rows
@@ -290,12 +219,16 @@ apply_some rules rows asks o =
     let input = there (codes "IN") rules rows o parts.0 in
     let out = there (codes "OUT") rules rows o rest.0 in
     let ops = there (codes "OPS") rules rows o rest.1 in
-    let apart = out_apart rows out o.spares in
-    let none : is_path_among out.word (input.word ∷ ops.word ∷ []) ≡ false =
-    or_false _ _ (first_apart out.word (codes "IN") rows input apart.input)
-    (or_false _ _ (first_apart out.word (codes "OPS") rows ops apart.ops) refl) in
-    subst IsSome (sym (three apply_of input.first out.first ops.first))
-    (kept_some _ (apply input.word out.word ops.word) none)
+    subst IsSome (sym (three (of_three apply) input.first out.first ops.first)) refl
+
+migrate_some : (rules : List Rule) (rows : List Row) → asks_with true rules ≡ true → InOrder rules rows
+    → IsSome (migrate_line rows)
+unfolding asks_with
+migrate_some rules rows asks o =
+    let parts = both (requires (codes "IN") rules) _ asks in
+    let input = there (codes "IN") rules rows o parts.0 in
+    let out = there (codes "OUT") rules rows o (both (requires (codes "OUT") rules) _ parts.1).0 in
+    subst IsSome (sym (ap₂ (of_two migrate) input.first out.first)) refl
 
 -- ARCHIVE and OUT are asked for, and what else
 asks_archive : Bool → List Rule → Bool
@@ -308,9 +241,7 @@ summary_some rules rows asks o =
     let parts = both (requires (codes "ARCHIVE") rules) _ asks in
     let archive = there (codes "ARCHIVE") rules rows o parts.0 in
     let out = there (codes "OUT") rules rows o (both (requires (codes "OUT") rules) _ parts.1).0 in
-    let none : is_path_among out.word (archive.word ∷ []) ≡ false =
-    or_false _ _ (first_apart out.word (codes "ARCHIVE") rows archive (out_apart rows out o.spares).archive) refl in
-    subst IsSome (sym (ap₂ summary_of archive.first out.first)) (kept_some _ (summary archive.word out.word) none)
+    subst IsSome (sym (ap₂ (of_two summary) archive.first out.first)) refl
 
 delta_some : (rules : List Rule) (rows : List Row)
     → asks_archive (requires (codes "SUMMARY") rules) rules ≡ true → InOrder rules rows → IsSome (delta_line rows)
@@ -321,12 +252,7 @@ delta_some rules rows asks o =
     let archive = there (codes "ARCHIVE") rules rows o parts.0 in
     let out = there (codes "OUT") rules rows o rest.0 in
     let named = there (codes "SUMMARY") rules rows o rest.1 in
-    let apart = out_apart rows out o.spares in
-    let none : is_path_among out.word (archive.word ∷ named.word ∷ []) ≡ false =
-    or_false _ _ (first_apart out.word (codes "ARCHIVE") rows archive apart.archive)
-    (or_false _ _ (first_apart out.word (codes "SUMMARY") rows named apart.named) refl) in
-    subst IsSome (sym (three delta_of archive.first named.first out.first))
-    (kept_some _ (delta archive.word named.word out.word) none)
+    subst IsSome (sym (three (of_three delta) archive.first named.first out.first)) refl
 
 -- an archive and a UUID are asked for, and what else
 asks_uuid : Text → Bool → List Rule → Bool
@@ -341,27 +267,19 @@ find_some rules rows asks o =
     let archive = there (codes "ARCHIVE") rules rows o parts.0 in
     let uuid = stands_spelled parsed (codes "UUID") rows (there (codes "UUID") rules rows o rest.0)
     (uuids rows o.forms) in
-    subst IsSome (sym (ap₂ find_of archive.first uuid.1)) refl
-
-asks_list : List Rule → Bool
-asks_list rules = requires (codes "ARCHIVE") rules
-
-list_some : (rules : List Rule) (rows : List Row) → asks_list rules ≡ true → InOrder rules rows → IsSome (list_line rows)
-unfolding asks_list
-list_some rules rows asks o =
-    let archive = there (codes "ARCHIVE") rules rows o asks in
-    subst (λ x. IsSome (option_map list x)) (sym archive.first) refl
+    subst IsSome (sym (ap₂ (of_two find_archive) archive.first uuid.1)) refl
 
 asks_name : List Rule → Bool
 asks_name rules = requires (codes "ARCHIVE") rules && requires (codes "NAME") rules
 
-name_some : (rules : List Rule) (rows : List Row) → asks_name rules ≡ true → InOrder rules rows → IsSome (name_line rows)
+name_some : (rules : List Rule) (rows : List Row) → asks_name rules ≡ true → InOrder rules rows
+    → IsSome (name_line rows)
 unfolding asks_name
 name_some rules rows asks o =
     let parts = both (requires (codes "ARCHIVE") rules) _ asks in
     let archive = there (codes "ARCHIVE") rules rows o parts.0 in
     let sought = there (codes "NAME") rules rows o parts.1 in
-    subst IsSome (sym (ap₂ name_of archive.first sought.first)) refl
+    subst IsSome (sym (ap₂ (of_two name_symbol) archive.first sought.first)) refl
 
 retire_some : (rules : List Rule) (rows : List Row)
     → asks_with (asks_uuid (codes "ARCH") (requires (codes "DIGEST") rules) rules) rules ≡ true → InOrder rules rows
@@ -380,10 +298,7 @@ retire_some rules rows asks o =
     (archs rows o.forms) in
     let digest = stands_spelled digest_of (codes "DIGEST") rows (there (codes "DIGEST") rules rows o rest.1)
     (digests rows o.forms) in
-    let none : is_path_among out.word (input.word ∷ []) ≡ false =
-    or_false _ _ (first_apart out.word (codes "IN") rows input (out_apart rows out o.spares).input) refl in
-    subst IsSome (sym (λ i. retire_of (input.first i) (out.first i) (uuid.1 i) (arch.1 i) (digest.1 i)))
-    (kept_some _ (retire input.word out.word uuid.0 arch.0 digest.0) none)
+    subst IsSome (sym (λ i. of_five retire (input.first i) (out.first i) (uuid.1 i) (arch.1 i) (digest.1 i))) refl
 
 symbolicate_some : (rules : List Rule) (rows : List Row)
     → asks_uuid (codes "ARCHIVE") (requires (codes "ARCH") rules && requires (codes "ADDRESS") rules) rules ≡ true
@@ -402,37 +317,29 @@ symbolicate_some rules rows asks o =
     let load = optional_spelled address_of (codes "HEX") rows tests.0 in
     let addresses = stands_all_spelled address_of (codes "ADDRESS") rows
     (there (codes "ADDRESS") rules rows o rest.1) tests.1 in
-    subst IsSome (sym (λ i. symbolicate_of (archive.first i) (uuid.1 i) (arch.1 i) (load.1 i) (addresses.1 i))) refl
-
-asks_script : List Rule → Bool
-asks_script rules = requires (codes "SCRIPT") rules
-
-rehearse_some : (rules : List Rule) (rows : List Row) → asks_script rules ≡ true → InOrder rules rows
-    → IsSome (rehearse_line rows)
-unfolding asks_script
-rehearse_some rules rows asks o =
-    let script = there (codes "SCRIPT") rules rows o asks in
-    subst (λ x. IsSome (option_map rehearse x)) (sym script.first) refl
+    subst IsSome (sym (λ i. of_five symbolicate (archive.first i) (uuid.1 i) (arch.1 i) (load.1 i) (addresses.1 i)))
+    refl
 
 -- ---- any of them
 
 -- the command of this name requires what its line asks for
 asks : Text → List Rule → Bool
 asks name rules =
-    if bytes_eq name (codes "new") then asks_new rules
+    if bytes_eq name (codes "new") then requires (codes "OUT") rules
     else if bytes_eq name (codes "admit") then asks_with (requires (codes "FILE") rules) rules
     else if bytes_eq name (codes "retire")
     then asks_with (asks_uuid (codes "ARCH") (requires (codes "DIGEST") rules) rules) rules
     else if bytes_eq name (codes "merge") then asks_with (requires (codes "FILE") rules) rules
+    else if bytes_eq name (codes "migrate") then asks_with true rules
     else if bytes_eq name (codes "apply") then asks_with (requires (codes "OPS") rules) rules
     else if bytes_eq name (codes "find") then asks_uuid (codes "ARCHIVE") true rules
-    else if bytes_eq name (codes "list") then asks_list rules
+    else if bytes_eq name (codes "list") then requires (codes "ARCHIVE") rules
     else if bytes_eq name (codes "name") then asks_name rules
     else if bytes_eq name (codes "symbolicate")
     then asks_uuid (codes "ARCHIVE") (requires (codes "ARCH") rules && requires (codes "ADDRESS") rules) rules
     else if bytes_eq name (codes "summary") then asks_archive true rules
     else if bytes_eq name (codes "delta") then asks_archive (requires (codes "SUMMARY") rules) rules
-    else if bytes_eq name (codes "rehearse") then asks_script rules
+    else if bytes_eq name (codes "rehearse") then requires (codes "SCRIPT") rules
     else false
 
 chosen : (b p q : Bool) (x y : Option Line) → (p ≡ true → IsSome x) → (q ≡ true → IsSome y)
@@ -444,19 +351,20 @@ line_some : (name : Text) (rules : List Rule) (rows : List Row) → InOrder rule
     → IsSome (line_in (name, rows))
 unfolding asks
 line_some name rules rows o =
-    chosen (bytes_eq name (codes "new")) _ _ _ _ (λ is. new_some rules rows is o)
-    (chosen (bytes_eq name (codes "admit")) _ _ _ _ (λ is. admit_some rules rows is o)
+    chosen (bytes_eq name (codes "new")) _ _ _ _ (λ is. one_some (codes "OUT") new rules rows is o)
+    (chosen (bytes_eq name (codes "admit")) _ _ _ _ (λ is. files_some rules rows admit is o)
     (chosen (bytes_eq name (codes "retire")) _ _ _ _ (λ is. retire_some rules rows is o)
-    (chosen (bytes_eq name (codes "merge")) _ _ _ _ (λ is. merge_some rules rows is o)
+    (chosen (bytes_eq name (codes "merge")) _ _ _ _ (λ is. files_some rules rows merge is o)
+    (chosen (bytes_eq name (codes "migrate")) _ _ _ _ (λ is. migrate_some rules rows is o)
     (chosen (bytes_eq name (codes "apply")) _ _ _ _ (λ is. apply_some rules rows is o)
     (chosen (bytes_eq name (codes "find")) _ _ _ _ (λ is. find_some rules rows is o)
-    (chosen (bytes_eq name (codes "list")) _ _ _ _ (λ is. list_some rules rows is o)
+    (chosen (bytes_eq name (codes "list")) _ _ _ _ (λ is. one_some (codes "ARCHIVE") list rules rows is o)
     (chosen (bytes_eq name (codes "name")) _ _ _ _ (λ is. name_some rules rows is o)
     (chosen (bytes_eq name (codes "symbolicate")) _ _ _ _ (λ is. symbolicate_some rules rows is o)
     (chosen (bytes_eq name (codes "summary")) _ _ _ _ (λ is. summary_some rules rows is o)
     (chosen (bytes_eq name (codes "delta")) _ _ _ _ (λ is. delta_some rules rows is o)
-    (chosen (bytes_eq name (codes "rehearse")) _ _ _ _ (λ is. rehearse_some rules rows is o)
-    (λ is. absurd (true≢false (sym is))))))))))))))
+    (chosen (bytes_eq name (codes "rehearse")) _ _ _ _ (λ is. one_some (codes "SCRIPT") rehearse rules rows is o)
+    (λ is. absurd (true≢false (sym is)))))))))))))))
 
 -- ---- commands that are built
 
@@ -472,7 +380,7 @@ record IsSound (a : App) : Type 0 where
   commands : list_all is_sound a.subs ≡ true
 
 abbrev in_order : Option (Text × List Row) → Bool
-in_order named = option_map_or (λ p. have_forms p.1 && spares_inputs p.1) named true
+in_order named = option_map_or (λ p. have_forms p.1) named true
 
 required_here : (s : Shape) (rows : List Row) (has : Bool) → is_valid s rows has ≡ true
     → (s.subcommand_negates_reqs && has) ≡ false
@@ -502,12 +410,10 @@ entered_some top s name words sound answers lets help passes tests =
     ∙ is_false _ (first_of_two (not (bytes_eq name (codes "help"))) _ lets help) in
     let own = both (want_values s.rules) _ (one_of_two (bytes_eq s.name (codes "help")) _ parts.1 other) in
     let passed = level s [] words false own.0 passes in
-    let ordered = both (have_forms (rows_after s.rules [] words)) _ tests in
     line_some s.name s.rules (rows_after s.rules [] words) (record {
       given = required_here s (rows_after s.rules [] words) false passed.valid (and_false s.subcommand_negates_reqs);
       filled = passed.filled;
-      forms = ordered.0;
-      spares = ordered.1;
+      forms = tests;
     }) own.1
 
 found_some : (a : App) (p : Text × List Text) (o : Option Shape) → find (λ s. answers_to p.0 (label_of s)) a.subs ≡ o
@@ -548,10 +454,11 @@ accepted_some a words sound accepted tests =
 -- ---- the program's command
 
 symarch_sound : IsSound (built symarch_command)
-unfolding symarch_command is_sound asks asks_new asks_with asks_uuid asks_list asks_name asks_archive asks_script
+unfolding symarch_command is_sound asks asks_with asks_uuid asks_name asks_archive
 symarch_sound = record { needs_command = refl; has_help = refl; values = refl; commands = refl }
 
--- a line that is accepted, in which each value has its form and OUT's path is no input's, asks for something
-pub accepted_line : (words : List Text) → are_accepted words ≡ true → is_in_order words ≡ true → IsSome (line_of words)
+-- a line that is accepted, in which each value has its form, asks for something
+pub accepted_line : (words : List Text) → are_accepted words ≡ true
+    → option_map_or (λ p. have_forms p.1) (named_command words) true ≡ true → IsSome (asked_of words)
 unfolding are_accepted named_command
 accepted_line words = accepted_some symarch_command words symarch_sound

@@ -6,8 +6,8 @@ use Rattle.uuid.proofs.OnLiterals.{uuid_on_literals}
 use Rattle.clap.specs.declared.error.kind.ErrorKind.TheVariants as kind
 use Rattle.clap.proofs.OnLiterals.{clap_on_literals}
 use Rattle.command_line.specs.Commands.{symarch_command}
-use Rattle.command_line.specs.Lines.{admit, are_accepted, error_kinds, find, is_in_order, line_of, merge, new}
-use Rattle.command_line.specs.Lines.{named_command, retire, symbolicate}
+use Rattle.command_line.specs.Lines.{admit, are_accepted, error_kinds, find, is_in_order, line_of, merge, migrate}
+use Rattle.command_line.specs.Lines.{named_command, new, retire, symbolicate}
 use Rattle.archive_words.specs.Words.{address_of, arch_key, arch_of, digest_of}
 
 -- the program's name, which is the first word of each line
@@ -124,6 +124,15 @@ merge_read : line_of (symarch (codes "merge" ∷ codes "i" ∷ codes "o" ∷ cod
     ≡ Some (merge (codes "i") (codes "o") (codes "f" ∷ codes "g" ∷ []))
 unfolding named_command symarch_command clap_on_literals
 merge_read = refl
+
+migrate_read : line_of (symarch (codes "migrate" ∷ codes "i" ∷ codes "o" ∷ [])) ≡ Some (migrate (codes "i") (codes "o"))
+unfolding named_command symarch_command clap_on_literals
+migrate_read = refl
+
+-- OUT is IN
+migrate_out_is_in : line_of (symarch (codes "migrate" ∷ codes "i" ∷ codes "i" ∷ [])) ≡ None
+unfolding named_command symarch_command clap_on_literals
+migrate_out_is_in = refl
 
 find_read : line_of (symarch (codes "find" ∷ codes "a" ∷ uuid_text ∷ [])) ≡ Some (find (codes "a") uuid_bytes)
 unfolding named_command symarch_command clap_on_literals uuid_on_literals

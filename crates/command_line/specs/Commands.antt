@@ -53,6 +53,11 @@ abbrev pub merge_command : App
 merge_command = with_rules (new_app (codes "merge"))
     (one_value (codes "IN") ∷ one_value (codes "OUT") ∷ several_values (codes "FILE") ∷ [])
 
+-- `migrate IN OUT`
+abbrev pub migrate_command : App
+migrate_command = with_rules (new_app (codes "migrate"))
+    (one_value (codes "IN") ∷ one_value (codes "OUT") ∷ [])
+
 -- `apply IN OUT OPS`
 abbrev pub apply_command : App
 apply_command = with_rules (new_app (codes "apply"))
@@ -96,5 +101,5 @@ rehearse_command = with_rules (new_app (codes "rehearse")) (one_value (codes "SC
 unfoldable pub symarch_command : App
 symarch_command = needing_command (with_version
     (with_commands (new_app (codes "symarch")) (new_command ∷ admit_command ∷ retire_command
-    ∷ merge_command ∷ apply_command ∷ find_command ∷ list_command ∷ name_command
-    ∷ symbolicate_command ∷ summary_command ∷ delta_command ∷ rehearse_command ∷ [])))
+    ∷ merge_command ∷ migrate_command ∷ apply_command ∷ find_command ∷ list_command
+    ∷ name_command ∷ symbolicate_command ∷ summary_command ∷ delta_command ∷ rehearse_command ∷ [])))

@@ -1,6 +1,7 @@
 -- What a command line asks for.
-use Rattle.std.specs.Prelude.{ℕ, Bool, true, not, ◌&&◌, List, [], ◌∷◌, ◌++◌, map, Contains, ⊤, codes, string_bytes}
-use Rattle.std.specs.Prelude.{Option, Some, None, is_some, option_and_then, option_map, unwrap_or, if◌then◌else◌}
+use Rattle.std.specs.Prelude.{ℕ, Bool, true, false, not, ◌&&◌, List, [], ◌∷◌, map, Contains, codes, string_bytes}
+use Rattle.std.specs.Prelude.{unwrap_or, Option, Some, None, IfSome, is_some, option_and_then, option_map}
+use Rattle.std.specs.Prelude.{if◌then◌else◌}
 use Rattle.std.specs.List.{list_all, list_any}
 use Rattle.std.specs.Option.{option_map_or}
 use Rattle.std.specs.Str.{bytes_eq}
@@ -19,6 +20,7 @@ pub data Line : Type 0 where
   admit : (input out : Text) (files : List Text) → Line
   retire : (input out : Text) (uuid : List ℕ) (arch : ArchKey) (digest : Digest) → Line
   merge : (input out : Text) (files : List Text) → Line
+  migrate : (input out : Text) → Line
   apply : (input out ops : Text) → Line
   find : (archive : Text) (uuid : List ℕ) → Line
   list : (archive : Text) → Line
@@ -27,6 +29,42 @@ pub data Line : Type 0 where
   summary : (archive out : Text) → Line
   delta : (archive summary out : Text) → Line
   rehearse : (script : Text) → Line
+
+-- the paths of the inputs of a line, in the order of the words
+abbrev pub inputs_of : Line → List Text
+inputs_of (new out) = []
+inputs_of (admit input out files) = input ∷ files
+inputs_of (retire input out uuid arch digest) = input ∷ []
+inputs_of (merge input out files) = input ∷ files
+inputs_of (migrate input out) = input ∷ []
+inputs_of (apply input out ops) = input ∷ ops ∷ []
+inputs_of (find archive uuid) = archive ∷ []
+inputs_of (list archive) = archive ∷ []
+inputs_of (name archive sought) = archive ∷ []
+inputs_of (symbolicate archive uuid arch load addresses) = archive ∷ []
+inputs_of (summary archive out) = archive ∷ []
+inputs_of (delta archive named out) = archive ∷ named ∷ []
+inputs_of (rehearse script) = script ∷ []
+
+-- the path of OUT, if the line has one
+abbrev pub out_of : Line → Option Text
+out_of (new out) = Some out
+out_of (admit input out files) = Some out
+out_of (retire input out uuid arch digest) = Some out
+out_of (merge input out files) = Some out
+out_of (migrate input out) = Some out
+out_of (apply input out ops) = Some out
+out_of (find archive uuid) = None
+out_of (list archive) = None
+out_of (name archive sought) = None
+out_of (symbolicate archive uuid arch load addresses) = None
+out_of (summary archive out) = Some out
+out_of (delta archive named out) = Some out
+out_of (rehearse script) = None
+
+-- OUT is no input, as text
+abbrev pub KeepsInputs : Line → Type 0
+KeepsInputs line = IfSome (out_of line) (λ out. ¬ Contains (inputs_of line) out)
 
 -- ---- the words, by `clap`'s own definitions
 
@@ -48,9 +86,13 @@ named_command words = subcommand_of symarch_command words
 abbrev pub is_path_among : Text → List Text → Bool
 is_path_among path paths = list_any (λ p. bytes_eq p path) paths
 
+-- OUT is one of the inputs of a line, as text
+abbrev pub overwrites_input : Line → Bool
+overwrites_input line = option_map_or (λ out. is_path_among out (inputs_of line)) (out_of line) false
+
 -- the line, if OUT is none of its inputs
-abbrev pub kept : Text → List Text → Line → Option Line
-kept out inputs line = if is_path_among out inputs then None else Some line
+abbrev pub kept : Line → Option Line
+kept line = if overwrites_input line then None else Some line
 
 -- what the word at this name spells, where it has the form
 abbrev pub spelled_at : {X : Type 0} → (Text → Option X) → Text → List Row → Option X
@@ -73,96 +115,74 @@ all_spelled form (word ∷ words) =
 abbrev pub all_spelled_at : {X : Type 0} → (Text → Option X) → Text → List Row → Option (List X)
 all_spelled_at form id rows = option_and_then (all_spelled form) (all_of id rows)
 
+-- the line of two values, or three, or five; nothing where one is missing, or a word has another form
+abbrev pub of_two : {X Y : Type 0} → (X → Y → Line) → Option X → Option Y → Option Line
+of_two line (Some x) (Some y) = Some (line x y)
+of_two _ _ _ = None
+
+abbrev pub of_three : {X Y Z : Type 0} → (X → Y → Z → Line) → Option X → Option Y → Option Z → Option Line
+of_three line (Some x) (Some y) (Some z) = Some (line x y z)
+of_three _ _ _ _ = None
+
+abbrev pub of_five : {V W X Y Z : Type 0} → (V → W → X → Y → Z → Line) → Option V → Option W → Option X → Option Y
+    → Option Z → Option Line
+of_five line (Some v) (Some w) (Some x) (Some y) (Some z) = Some (line v w x y z)
+of_five _ _ _ _ _ _ = None
+
 -- `new OUT`
 abbrev pub new_line : List Row → Option Line
 new_line rows = option_map new (first_of (codes "OUT") rows)
 
--- `admit IN OUT FILE...`: nothing where a value is missing, or OUT is an input
-abbrev pub admit_of : Option Text → Option Text → Option (List Text) → Option Line
-admit_of (Some input) (Some out) (Some files) = kept out (input ∷ files) (admit input out files)
-admit_of _ _ _ = None
-
+-- `admit IN OUT FILE...`
 abbrev pub admit_line : List Row → Option Line
-admit_line rows = admit_of (first_of (codes "IN") rows) (first_of (codes "OUT") rows)
+admit_line rows = of_three admit (first_of (codes "IN") rows) (first_of (codes "OUT") rows)
     (all_of (codes "FILE") rows)
 
--- `retire IN OUT UUID ARCH DIGEST`: nothing where a word has another form, or OUT is IN
-abbrev pub retire_of : Option Text → Option Text → Option (List ℕ) → Option ArchKey → Option Digest
-    → Option Line
-retire_of (Some input) (Some out) (Some uuid) (Some arch) (Some digest) =
-    kept out (input ∷ []) (retire input out uuid arch digest)
-retire_of _ _ _ _ _ = None
-
+-- `retire IN OUT UUID ARCH DIGEST`
 abbrev pub retire_line : List Row → Option Line
-retire_line rows = retire_of (first_of (codes "IN") rows) (first_of (codes "OUT") rows)
+retire_line rows = of_five retire (first_of (codes "IN") rows) (first_of (codes "OUT") rows)
     (spelled_at parsed (codes "UUID") rows) (spelled_at arch_of (codes "ARCH") rows)
     (spelled_at digest_of (codes "DIGEST") rows)
 
--- `merge IN OUT FILE...`: nothing where a value is missing, or OUT is an input
-abbrev pub merge_of : Option Text → Option Text → Option (List Text) → Option Line
-merge_of (Some input) (Some out) (Some files) = kept out (input ∷ files) (merge input out files)
-merge_of _ _ _ = None
-
+-- `merge IN OUT FILE...`
 abbrev pub merge_line : List Row → Option Line
-merge_line rows = merge_of (first_of (codes "IN") rows) (first_of (codes "OUT") rows)
+merge_line rows = of_three merge (first_of (codes "IN") rows) (first_of (codes "OUT") rows)
     (all_of (codes "FILE") rows)
 
--- `apply IN OUT OPS`: nothing where a value is missing, or OUT is an input
-abbrev pub apply_of : Option Text → Option Text → Option Text → Option Line
-apply_of (Some input) (Some out) (Some ops) = kept out (input ∷ ops ∷ []) (apply input out ops)
-apply_of _ _ _ = None
+-- `migrate IN OUT`
+abbrev pub migrate_line : List Row → Option Line
+migrate_line rows = of_two migrate (first_of (codes "IN") rows) (first_of (codes "OUT") rows)
 
+-- `apply IN OUT OPS`
 abbrev pub apply_line : List Row → Option Line
-apply_line rows = apply_of (first_of (codes "IN") rows) (first_of (codes "OUT") rows)
+apply_line rows = of_three apply (first_of (codes "IN") rows) (first_of (codes "OUT") rows)
     (first_of (codes "OPS") rows)
 
--- `find ARCHIVE UUID`: nothing where a word has another form
-abbrev pub find_of : Option Text → Option (List ℕ) → Option Line
-find_of (Some archive) (Some uuid) = Some (find archive uuid)
-find_of _ _ = None
-
+-- `find ARCHIVE UUID`
 abbrev pub find_line : List Row → Option Line
-find_line rows = find_of (first_of (codes "ARCHIVE") rows) (spelled_at parsed (codes "UUID") rows)
+find_line rows = of_two find (first_of (codes "ARCHIVE") rows) (spelled_at parsed (codes "UUID") rows)
 
 -- `list ARCHIVE`
 abbrev pub list_line : List Row → Option Line
 list_line rows = option_map list (first_of (codes "ARCHIVE") rows)
 
--- `name ARCHIVE NAME`: nothing where a value is missing
-abbrev pub name_of : Option Text → Option Text → Option Line
-name_of (Some archive) (Some sought) = Some (name archive sought)
-name_of _ _ = None
-
+-- `name ARCHIVE NAME`
 abbrev pub name_line : List Row → Option Line
-name_line rows = name_of (first_of (codes "ARCHIVE") rows) (first_of (codes "NAME") rows)
+name_line rows = of_two name (first_of (codes "ARCHIVE") rows) (first_of (codes "NAME") rows)
 
--- `symbolicate ARCHIVE UUID ARCH [--load HEX] ADDRESS...`: nothing where a word has another form
-abbrev pub symbolicate_of : Option Text → Option (List ℕ) → Option ArchKey → Option (Option ℕ)
-    → Option (List ℕ) → Option Line
-symbolicate_of (Some archive) (Some uuid) (Some arch) (Some load) (Some addresses) =
-    Some (symbolicate archive uuid arch load addresses)
-symbolicate_of _ _ _ _ _ = None
-
+-- `symbolicate ARCHIVE UUID ARCH [--load HEX] ADDRESS...`
 abbrev pub symbolicate_line : List Row → Option Line
-symbolicate_line rows = symbolicate_of (first_of (codes "ARCHIVE") rows)
+symbolicate_line rows = of_five symbolicate (first_of (codes "ARCHIVE") rows)
     (spelled_at parsed (codes "UUID") rows) (spelled_at arch_of (codes "ARCH") rows)
     (optional_at address_of (codes "HEX") rows) (all_spelled_at address_of (codes "ADDRESS") rows)
 
--- `summary ARCHIVE OUT`: nothing where a value is missing, or OUT is ARCHIVE
-abbrev pub summary_of : Option Text → Option Text → Option Line
-summary_of (Some archive) (Some out) = kept out (archive ∷ []) (summary archive out)
-summary_of _ _ = None
-
+-- `summary ARCHIVE OUT`
 abbrev pub summary_line : List Row → Option Line
-summary_line rows = summary_of (first_of (codes "ARCHIVE") rows) (first_of (codes "OUT") rows)
+summary_line rows = of_two summary (first_of (codes "ARCHIVE") rows) (first_of (codes "OUT") rows)
 
--- `delta ARCHIVE SUMMARY OUT`: nothing where a value is missing, or OUT is an input
-abbrev pub delta_of : Option Text → Option Text → Option Text → Option Line
-delta_of (Some archive) (Some named) (Some out) = kept out (archive ∷ named ∷ []) (delta archive named out)
-delta_of _ _ _ = None
-
+-- `delta ARCHIVE SUMMARY OUT`
 abbrev pub delta_line : List Row → Option Line
-delta_line rows = delta_of (first_of (codes "ARCHIVE") rows) (first_of (codes "SUMMARY") rows)
+delta_line rows = of_three delta (first_of (codes "ARCHIVE") rows) (first_of (codes "SUMMARY") rows)
     (first_of (codes "OUT") rows)
 
 -- `rehearse SCRIPT`
@@ -193,12 +213,17 @@ line_in p =
     else if bytes_eq p.0 (codes "admit") then admit_line p.1
     else if bytes_eq p.0 (codes "retire") then retire_line p.1
     else if bytes_eq p.0 (codes "merge") then merge_line p.1
+    else if bytes_eq p.0 (codes "migrate") then migrate_line p.1
     else if bytes_eq p.0 (codes "apply") then apply_line p.1
     else query_line_in p
 
--- what the words ask for, where each value is there and has its form, and OUT is no input
+-- what the words ask for, where each value is there and has its form
+abbrev pub asked_of : List Text → Option Line
+asked_of words = option_and_then line_in (named_command words)
+
+-- the same, where OUT is no input
 abbrev pub line_of : List Text → Option Line
-line_of words = option_and_then line_in (named_command words)
+line_of words = option_and_then kept (asked_of words)
 
 -- ---- lines that are in order
 
@@ -216,20 +241,11 @@ have_forms rows = has_form parsed (codes "UUID") rows && (has_form arch_of (code
     && (has_form digest_of (codes "DIGEST") rows && (has_form address_of (codes "HEX") rows
     && has_form address_of (codes "ADDRESS") rows)))
 
--- the paths of the inputs of commands that write OUT
-abbrev pub inputs_at : List Row → List Text
-inputs_at rows =
-    words_at (codes "IN") rows ++ (words_at (codes "FILE") rows ++ (words_at (codes "OPS") rows
-    ++ (words_at (codes "ARCHIVE") rows ++ words_at (codes "SUMMARY") rows)))
-
--- OUT's path is no input's, as text
-abbrev pub spares_inputs : List Row → Bool
-spares_inputs rows = list_all (λ out. not (is_path_among out (inputs_at rows))) (words_at (codes "OUT") rows)
-
--- of what stands at the names of the command that the words name, each value has its form, and OUT's path is no input's
+-- of what stands at the names of the command that the words name, each value has its form, and OUT is no input
 abbrev pub is_in_order : List Text → Bool
 is_in_order words =
-    option_map_or (λ p. have_forms p.1 && spares_inputs p.1) (named_command words) true
+    option_map_or (λ p. have_forms p.1) (named_command words) true
+    && option_map_or (λ line. not (overwrites_input line)) (asked_of words) true
 
 -- ---- plans
 
@@ -242,6 +258,7 @@ plan_view (plan.Retire input out uuid arch digest) =
     retire (string_bytes input) (string_bytes out) uuid arch digest
 plan_view (plan.Merge input out files) =
     merge (string_bytes input) (string_bytes out) (map string_bytes files.items)
+plan_view (plan.Migrate input out) = migrate (string_bytes input) (string_bytes out)
 plan_view (plan.Apply input out ops) =
     apply (string_bytes input) (string_bytes out) (string_bytes ops)
 plan_view (plan.Find archive uuid) = find (string_bytes archive) uuid
@@ -252,18 +269,3 @@ plan_view (plan.Symbolicate archive uuid arch load addresses) =
 plan_view (plan.Summary archive out) = summary (string_bytes archive) (string_bytes out)
 plan_view (plan.Delta archive named out) = delta (string_bytes archive) (string_bytes named) (string_bytes out)
 plan_view (plan.Rehearse script) = rehearse (string_bytes script)
-
--- OUT is no input, as text
-abbrev pub KeepsInputs : Line → Type 0
-KeepsInputs (new out) = ⊤
-KeepsInputs (admit input out files) = ¬ Contains (input ∷ files) out
-KeepsInputs (retire input out uuid arch digest) = ¬ Contains (input ∷ []) out
-KeepsInputs (merge input out files) = ¬ Contains (input ∷ files) out
-KeepsInputs (apply input out ops) = ¬ Contains (input ∷ ops ∷ []) out
-KeepsInputs (find archive uuid) = ⊤
-KeepsInputs (list archive) = ⊤
-KeepsInputs (name archive sought) = ⊤
-KeepsInputs (symbolicate archive uuid arch load addresses) = ⊤
-KeepsInputs (summary archive out) = ¬ Contains (archive ∷ []) out
-KeepsInputs (delta archive named out) = ¬ Contains (archive ∷ named ∷ []) out
-KeepsInputs (rehearse script) = ⊤

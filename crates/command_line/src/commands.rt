@@ -4,8 +4,8 @@ ghost use Rattle.std.specs.Prelude.{◌≡◌, ◌∷◌, [], IfOk, IsOkAnd, fal
 ghost use Rattle.clap.specs.Words.{AddsSubcommand, app_of, new_app, rule_of, with_rule};
 ghost use Rattle.clap.specs.declared.builder.command.Command.TheViews.{out-Command};
 ghost use Rattle.command_line.specs.Commands.{admit_command, apply_command, delta_command, find_command};
-ghost use Rattle.command_line.specs.Commands.{list_command, merge_command, name_command, new_command, one_option};
-ghost use Rattle.command_line.specs.Commands.{one_value, rehearse_command, retire_command, several_values};
+ghost use Rattle.command_line.specs.Commands.{list_command, merge_command, migrate_command, name_command, new_command};
+ghost use Rattle.command_line.specs.Commands.{one_option, one_value, rehearse_command, retire_command, several_values};
 ghost use Rattle.command_line.specs.Commands.{summary_command, symarch_command, symbolicate_command};
 ghost use Rattle.command_line.specs.Commands.{with_commands, with_rules};
 
@@ -13,7 +13,7 @@ use clap::{Arg, ArgAction, Command};
 use std::alloc::{AllocError, Global};
 
 /// The number of the program, of which the first part is the version of the archives that it writes.
-const VERSION: &str = "2.0.0";
+const VERSION: &str = "2.1.0";
 
 const ARCHIVE_IN: &str = "The archive to read";
 
@@ -159,6 +159,19 @@ fn merge_command<'a>(alloc: Global) -> Result<Command<'a>, AllocError>
     with_several_values(alloc, command, "FILE", "The archives to join to it")
 }
 
+/// `migrate IN OUT`
+fn migrate_command<'a>(alloc: Global) -> Result<Command<'a>, AllocError>
+    ensures app { IfOk result (λ c. app_of c ≡ migrate_command) }
+    ensures local { IfOk result (λ c. (out-Command c).has_globals ≡ false) }
+{
+    let command = bare_command(
+        alloc,
+        "migrate",
+        "Take an archive over to the present version",
+    );
+    with_values(alloc, command, &[("IN", ARCHIVE_IN), ("OUT", ARCHIVE_OUT)])
+}
+
 /// `apply IN OUT OPS`
 fn apply_command<'a>(alloc: Global) -> Result<Command<'a>, AllocError>
     ensures app { IfOk result (λ c. app_of c ≡ apply_command) }
@@ -281,7 +294,7 @@ fn with_command<'a>(
 /// Adds the commands that write an archive.
 fn with_updates<'a>(alloc: Global, command: Command<'a>) -> Result<Command<'a>, AllocError>
     ensures app { IfOk result (λ c. app_of c ≡ with_commands (app_of command.entry)
-        (new_command ∷ admit_command ∷ retire_command ∷ merge_command ∷ apply_command ∷ [])) }
+        (new_command ∷ admit_command ∷ retire_command ∷ merge_command ∷ migrate_command ∷ apply_command ∷ [])) }
     ensures local { (out-Command command.entry).has_globals ≡ false
         → IfOk result (λ c. (out-Command c).has_globals ≡ false) }
 {
@@ -289,6 +302,7 @@ fn with_updates<'a>(alloc: Global, command: Command<'a>) -> Result<Command<'a>, 
     let command = with_command(command, admit_command(alloc))?;
     let command = with_command(command, retire_command(alloc))?;
     let command = with_command(command, merge_command(alloc))?;
+    let command = with_command(command, migrate_command(alloc))?;
     with_command(command, apply_command(alloc))
 }
 

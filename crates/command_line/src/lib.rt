@@ -4,12 +4,14 @@
 //! - `line_faults`: why a line gives no plan;
 //! - `commands`: the commands, as `clap` builds them;
 //! - `values`: the values that `clap` puts at the names of a command;
-//! - `updates`: the plans of the commands that write OUT;
-//! - `queries`: the plans of the commands that only report;
+//! - `updates`: the plans of the commands that write an archive;
+//! - `queries`: the plans of the commands that ask one;
+//! - `exchanges`: the plans of the commands by which sites exchange;
 //! - `reads`: a line, read.
 #![tactic(auto)]
 
 mod commands;
+mod exchanges;
 mod line_faults;
 mod plans;
 mod queries;

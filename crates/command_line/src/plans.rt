@@ -1,6 +1,9 @@
 //! What command lines ask for.
 
+ghost use Rattle.std.specs.Prelude.{◌≡◌, ◌∷◌, IfOk, map, string_bytes};
+
 use archive_core::{ArchKey, Digest};
+use std::alloc::{AllocError, Global};
 use uuid::Uuid;
 
 /// What a command line asks for. A path is the word itself.
@@ -30,6 +33,11 @@ pub enum Plan {
         input: String,
         out: String,
         files: Vec<String>,
+    },
+    /// `migrate IN OUT`: to take an archive over to the present version.
+    Migrate {
+        input: String,
+        out: String,
     },
     /// `apply IN OUT OPS`: to take the records of an operations file.
     Apply {
@@ -75,4 +83,71 @@ pub enum Plan {
     Rehearse {
         script: String,
     },
+}
+
+impl Plan {
+    ghost use Rattle.std.specs.Prelude.{◌≡◌, IfOk, map, option_map};
+    ghost use Rattle.command_line.specs.Lines.{inputs_of, out_of, plan_view};
+
+    /// The paths of the inputs, in the order of the words.
+    pub fn inputs(&self, alloc: Global) -> Result<Vec<&str>, AllocError>
+        ensures { IfOk result (λ paths. map (λ p. p.now) paths.items ≡ inputs_of (plan_view self.now)) }
+    {
+        match self {
+            Plan::New { .. } => Ok(Vec::new(alloc)),
+            Plan::Admit { input, files, .. } | Plan::Merge { input, files, .. } => {
+                one_and_all(alloc, input, files)
+            }
+            Plan::Retire { input: path, .. }
+            | Plan::Migrate { input: path, .. }
+            | Plan::Find { archive: path, .. }
+            | Plan::List { archive: path }
+            | Plan::Name { archive: path, .. }
+            | Plan::Symbolicate { archive: path, .. }
+            | Plan::Summary { archive: path, .. }
+            | Plan::Rehearse { script: path } => Ok(vec![in alloc; path.as_str()]?),
+            Plan::Apply { input, ops, .. } => Ok(vec![in alloc; input.as_str(), ops.as_str()]?),
+            Plan::Delta {
+                archive,
+                summary,
+                ..
+            } => Ok(vec![in alloc; archive.as_str(), summary.as_str()]?),
+        }
+    }
+
+    /// The path of OUT, if the command writes it.
+    pub fn out(&self) -> Option<&str>
+        ensures { option_map (λ p. p.now) result ≡ out_of (plan_view self.now) }
+    {
+        match self {
+            Plan::New { out }
+            | Plan::Admit { out, .. }
+            | Plan::Retire { out, .. }
+            | Plan::Merge { out, .. }
+            | Plan::Migrate { out, .. }
+            | Plan::Apply { out, .. }
+            | Plan::Summary { out, .. }
+            | Plan::Delta { out, .. } => Some(out),
+            Plan::Find { .. }
+            | Plan::List { .. }
+            | Plan::Name { .. }
+            | Plan::Symbolicate { .. }
+            | Plan::Rehearse { .. } => None,
+        }
+    }
+}
+
+/// A path, and others behind it.
+fn one_and_all<'p>(
+    alloc: Global,
+    first: &'p str,
+    others: &'p [String],
+) -> Result<Vec<&'p str>, AllocError>
+    ensures { IfOk result (λ paths. map (λ p. p.now) paths.items ≡ first.now ∷ map string_bytes others.now) }
+{
+    let mut paths = vec![in alloc; first]?;
+    'others: for other in others {
+        paths.push(other.as_str())?;
+    }
+    Ok(paths)
 }

@@ -1,10 +1,8 @@
-//! The plans of the commands that only report. One function a command says which value stands at
-//! which name.
+//! The plans of the commands that ask an archive. One function a command says which value stands at which name.
 
-ghost use Rattle.std.specs.Prelude.{◌≡◌, IfErr, IfOk, IsSome, Some};
 ghost use Rattle.clap.specs.Words.{found_of, rows_of};
-ghost use Rattle.command_line.specs.Lines.{find_line, list_line, name_line, plan_view, rehearse_line, symbolicate_line};
-ghost use Rattle.command_line.specs.LineFaults.{IsRefusalUnlessMemory};
+ghost use Rattle.command_line.specs.Lines.{find_line, list_line, name_line, symbolicate_line};
+ghost use Rattle.command_line.specs.LineFaults.{Plans};
 
 use crate::line_faults::LineFault;
 use crate::plans::Plan;
@@ -14,10 +12,7 @@ use std::alloc::Global;
 
 /// `find ARCHIVE UUID`
 pub fn plan_find(alloc: Global, matches: &ArgMatches) -> Result<Plan, LineFault>
-    ensures ok { IfOk result (λ p. Some (plan_view p) ≡ find_line (rows_of (found_of matches.now))) }
-    ensures err { IsSome (find_line (rows_of (found_of matches.now)))
-        → IfErr result (λ e. e ≡ LineFault.OutOfMemory) }
-    ensures refusal { IfErr result IsRefusalUnlessMemory }
+    ensures { Plans (find_line (rows_of (found_of matches.now))) result }
 {
     let archive = one_value(alloc, matches, "ARCHIVE")?;
     let uuid = spelled_value(alloc, matches, "UUID")?;
@@ -29,10 +24,7 @@ pub fn plan_find(alloc: Global, matches: &ArgMatches) -> Result<Plan, LineFault>
 
 /// `list ARCHIVE`
 pub fn plan_list(alloc: Global, matches: &ArgMatches) -> Result<Plan, LineFault>
-    ensures ok { IfOk result (λ p. Some (plan_view p) ≡ list_line (rows_of (found_of matches.now))) }
-    ensures err { IsSome (list_line (rows_of (found_of matches.now)))
-        → IfErr result (λ e. e ≡ LineFault.OutOfMemory) }
-    ensures refusal { IfErr result IsRefusalUnlessMemory }
+    ensures { Plans (list_line (rows_of (found_of matches.now))) result }
 {
     let archive = one_value(alloc, matches, "ARCHIVE")?;
     Ok(Plan::List {
@@ -42,10 +34,7 @@ pub fn plan_list(alloc: Global, matches: &ArgMatches) -> Result<Plan, LineFault>
 
 /// `name ARCHIVE NAME`
 pub fn plan_name(alloc: Global, matches: &ArgMatches) -> Result<Plan, LineFault>
-    ensures ok { IfOk result (λ p. Some (plan_view p) ≡ name_line (rows_of (found_of matches.now))) }
-    ensures err { IsSome (name_line (rows_of (found_of matches.now)))
-        → IfErr result (λ e. e ≡ LineFault.OutOfMemory) }
-    ensures refusal { IfErr result IsRefusalUnlessMemory }
+    ensures { Plans (name_line (rows_of (found_of matches.now))) result }
 {
     let archive = one_value(alloc, matches, "ARCHIVE")?;
     let name = one_value(alloc, matches, "NAME")?;
@@ -57,11 +46,7 @@ pub fn plan_name(alloc: Global, matches: &ArgMatches) -> Result<Plan, LineFault>
 
 /// `symbolicate ARCHIVE UUID ARCH [--load HEX] ADDRESS...`
 pub fn plan_symbolicate(alloc: Global, matches: &ArgMatches) -> Result<Plan, LineFault>
-    ensures ok { IfOk result (λ p. Some (plan_view p)
-        ≡ symbolicate_line (rows_of (found_of matches.now))) }
-    ensures err { IsSome (symbolicate_line (rows_of (found_of matches.now)))
-        → IfErr result (λ e. e ≡ LineFault.OutOfMemory) }
-    ensures refusal { IfErr result IsRefusalUnlessMemory }
+    ensures { Plans (symbolicate_line (rows_of (found_of matches.now))) result }
 {
     let archive = one_value(alloc, matches, "ARCHIVE")?;
     let uuid = spelled_value(alloc, matches, "UUID")?;
@@ -74,18 +59,5 @@ pub fn plan_symbolicate(alloc: Global, matches: &ArgMatches) -> Result<Plan, Lin
         arch,
         load,
         addresses,
-    })
-}
-
-/// `rehearse SCRIPT`
-pub fn plan_rehearse(alloc: Global, matches: &ArgMatches) -> Result<Plan, LineFault>
-    ensures ok { IfOk result (λ p. Some (plan_view p) ≡ rehearse_line (rows_of (found_of matches.now))) }
-    ensures err { IsSome (rehearse_line (rows_of (found_of matches.now)))
-        → IfErr result (λ e. e ≡ LineFault.OutOfMemory) }
-    ensures refusal { IfErr result IsRefusalUnlessMemory }
-{
-    let script = one_value(alloc, matches, "SCRIPT")?;
-    Ok(Plan::Rehearse {
-        script: String::from_str(alloc, script)?,
     })
 }

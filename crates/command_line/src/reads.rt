@@ -1,19 +1,20 @@
 //! A command line, read by `clap`.
 
-ghost use Rattle.std.specs.Prelude.{◌≡◌, IfErr, IfOk, IsErrAnd, IsSome, OnOk, Some, [], ◌∷◌};
-ghost use Rattle.std.specs.Prelude.{map, option_map, true};
+ghost use Rattle.std.specs.Prelude.{◌≡◌, ◌⊎◌, IfErr, IfOk, IsErrAnd, IsSome, OnOk, Some, [], ◌∷◌};
+ghost use Rattle.std.specs.Prelude.{false, map, option_map, true};
 ghost use Rattle.clap.specs.Words.{IsAmong, found_of, rows_of, subcommand_rows_of};
 ghost use Rattle.command_line.specs.Lines.{KeepsInputs, are_accepted, error_kinds, exchange_line_in, is_in_order};
-ghost use Rattle.command_line.specs.Lines.{line_in, line_of, named_command, plan_view, query_line_in};
-ghost use Rattle.command_line.specs.LineFaults.{IsHelpUnlessMemory, IsRefusalUnlessMemory};
+ghost use Rattle.command_line.specs.Lines.{line_in, line_of, named_command, overwrites_input, plan_view};
+ghost use Rattle.command_line.specs.Lines.{query_line_in};
+ghost use Rattle.command_line.specs.LineFaults.{IsHelpUnlessMemory, IsRefusalUnlessMemory, Plans};
 
 use crate::commands::symarch_command;
+use crate::exchanges::{plan_delta, plan_rehearse, plan_summary};
 use crate::line_faults::{LineFault, parse_fault, refused};
 use crate::plans::Plan;
-use crate::queries::{plan_find, plan_list, plan_name, plan_rehearse, plan_symbolicate};
-use crate::updates::{
-    plan_admit, plan_apply, plan_delta, plan_merge, plan_new, plan_retire, plan_summary,
-};
+use crate::queries::{plan_find, plan_list, plan_name, plan_symbolicate};
+use crate::updates::{plan_admit, plan_apply, plan_merge, plan_migrate, plan_new, plan_retire};
+use crate::values::is_among;
 use clap::ArgMatches;
 use clap::error::ErrorKind;
 use std::alloc::Global;
@@ -21,11 +22,7 @@ use std::convert::AsStr;
 
 /// The plan of the command with this name, if it is one by which sites exchange.
 fn plan_exchange_in(alloc: Global, name: &str, matches: &ArgMatches) -> Result<Plan, LineFault>
-    ensures ok { IfOk result (λ p. Some (plan_view p)
-        ≡ exchange_line_in (name.now, rows_of (found_of matches.now))) }
-    ensures err { IsSome (exchange_line_in (name.now, rows_of (found_of matches.now)))
-        → IfErr result (λ e. e ≡ LineFault.OutOfMemory) }
-    ensures refusal { IfErr result IsRefusalUnlessMemory }
+    ensures { Plans (exchange_line_in (name.now, rows_of (found_of matches.now))) result }
 {
     if name == "summary" {
         plan_summary(alloc, matches)
@@ -41,11 +38,7 @@ fn plan_exchange_in(alloc: Global, name: &str, matches: &ArgMatches) -> Result<P
 /// The plan of the command with this name, if it is one that asks an archive or by which sites
 /// exchange.
 fn plan_query_in(alloc: Global, name: &str, matches: &ArgMatches) -> Result<Plan, LineFault>
-    ensures ok { IfOk result (λ p. Some (plan_view p)
-        ≡ query_line_in (name.now, rows_of (found_of matches.now))) }
-    ensures err { IsSome (query_line_in (name.now, rows_of (found_of matches.now)))
-        → IfErr result (λ e. e ≡ LineFault.OutOfMemory) }
-    ensures refusal { IfErr result IsRefusalUnlessMemory }
+    ensures { Plans (query_line_in (name.now, rows_of (found_of matches.now))) result }
 {
     if name == "find" {
         plan_find(alloc, matches)
@@ -62,11 +55,7 @@ fn plan_query_in(alloc: Global, name: &str, matches: &ArgMatches) -> Result<Plan
 
 /// The plan of the command with this name.
 fn plan_in(alloc: Global, name: &str, matches: &ArgMatches) -> Result<Plan, LineFault>
-    ensures ok { IfOk result (λ p. Some (plan_view p)
-        ≡ line_in (name.now, rows_of (found_of matches.now))) }
-    ensures err { IsSome (line_in (name.now, rows_of (found_of matches.now)))
-        → IfErr result (λ e. e ≡ LineFault.OutOfMemory) }
-    ensures refusal { IfErr result IsRefusalUnlessMemory }
+    ensures { Plans (line_in (name.now, rows_of (found_of matches.now))) result }
 {
     if name == "new" {
         plan_new(alloc, matches)
@@ -76,6 +65,8 @@ fn plan_in(alloc: Global, name: &str, matches: &ArgMatches) -> Result<Plan, Line
         plan_retire(alloc, matches)
     } else if name == "merge" {
         plan_merge(alloc, matches)
+    } else if name == "migrate" {
+        plan_migrate(alloc, matches)
     } else if name == "apply" {
         plan_apply(alloc, matches)
     } else {
@@ -112,6 +103,23 @@ fn named_command<'m, 'a>(matches: &'m ArgMatches<'a>) -> Option<(&'a str, &'m Ar
     matches.subcommand()
 }
 
+/// Refuses a plan that would write over one of its inputs.
+fn check_out(alloc: Global, plan: &Plan) -> Result<(), LineFault>
+    ensures ok { OnOk result (overwrites_input (plan_view plan.now) ≡ false) }
+    ensures err { IfErr result (λ e. (e ≡ LineFault.OutOfMemory) ⊎ (overwrites_input (plan_view plan.now) ≡ true)) }
+    ensures refusal { IfErr result IsRefusalUnlessMemory }
+{
+    let Some(out) = plan.out() else {
+        return Ok(());
+    };
+    if is_among(out, &plan.inputs(alloc)?) {
+        return Err(refused(format!(in alloc;
+            "error: invalid OUT '{out}': expected a path that is no input\n"
+        )));
+    }
+    Ok(())
+}
+
 /// Reads a command line, of which the first word is the program's name. A line that `clap` refuses
 /// has `clap`'s own text. One in which a word has another form than its name asks for has a text with
 /// the name, the word and the form, and one in which OUT is an input a text with its path.
@@ -138,5 +146,7 @@ pub fn plan<S: AsStr>(alloc: Global, words: &[S]) -> Result<Plan, LineFault>
     let Some((name, inner)) = named_command(&matches) else {
         return Err(refused(String::from_str(alloc, "error: missing command\n")));
     };
-    plan_in(alloc, name, inner)
+    let plan = plan_in(alloc, name, inner)?;
+    check_out(alloc, &plan)?;
+    Ok(plan)
 }

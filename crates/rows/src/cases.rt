@@ -93,7 +93,6 @@
 //! What contradicts itself is told in a line that has the word `WRONG`.
 
 use crate::calls::Task;
-use crate::commands::out_of;
 use crate::desk::{Desk, Tried};
 use crate::ends::Left;
 use crate::faults::CaseFault;
@@ -272,7 +271,7 @@ impl<'t> Bench<'t> {
     // Carries out a command line.
     fn run(&mut self, words: &str, told: &mut String) -> Result<(), CaseFault> {
         match self.planned(words) {
-            Ok(plan) => self.carry(Task::Run(&plan), out_of(&plan), told),
+            Ok(plan) => self.carry(Task::Run(&plan), plan.out(), told),
             Err(fault) => Ok(tell_line_fault(&fault, told)?),
         }
     }

@@ -1,10 +1,14 @@
 //! What a case goes over: files in memory, and what its devices give and take.
 
+ghost use Rattle.std.specs.Prelude.{◌≡◌, None, option_map};
+ghost use Rattle.std.specs.BTreeMap.{get_by_text};
+ghost use Rattle.plan_commands.specs.Disks.{IsOpened, file_of};
+
 use crate::faults::CaseFault;
 use crate::limits::Limits;
 use crate::store::Store;
 use archive_commands::CannotOpen;
-use byte_device::Pieces;
+use byte_device::{Pieces, Source};
 use memory::{Heap, NoMemory};
 use std::alloc::Global;
 
@@ -19,9 +23,6 @@ impl Tried {
     /// Both, of which the first one's answers are told, and another answer of the other.
     pub const BOTH: [Tried; 2] = [Tried::Plain, Tried::Indexed];
 }
-
-/// An input of a command.
-pub type Input<'a> = Result<Pieces<'a>, CannotOpen>;
 
 /// What a case goes over.
 #[derive(Clone, Copy)]
@@ -40,8 +41,11 @@ impl<'a> Desk<'a> {
         Ok(heap)
     }
 
-    /// Opens a file, as far as it is not cut.
-    pub fn open(self, name: &str) -> Input<'a> {
+    /// A file that is read, as far as it is not cut.
+    pub fn input(self, name: &str) -> Result<Pieces<'a>, CannotOpen>
+        ensures { self.entry.limits.cut ≡ None → IsOpened ⟦<Pieces<'a> as Source>⟧.left ⟦<Pieces<'a> as Source>⟧.failures
+            (file_of (option_map (λ v. v.items) (get_by_text self.entry.store.now.files name.now))) result }
+    {
         let Some(bytes) = self.bytes(name) else {
             return Err(CannotOpen);
         };
@@ -49,25 +53,19 @@ impl<'a> Desk<'a> {
         Ok(Pieces::new(bytes, size, self.limits.given_of(name)))
     }
 
-    /// Opens files.
-    pub fn open_all(self, names: &[String]) -> Result<Vec<Input<'a>>, NoMemory> {
-        let mut opened = Vec::new(self.alloc);
-        for name in names {
-            opened.push(self.open(name))?;
-        }
-        Ok(opened)
-    }
-
-    /// Opens a file that has to be there.
+    /// The same of a file that has to be there.
     pub fn source(self, name: &str) -> Result<Pieces<'a>, CaseFault> {
-        match self.open(name) {
+        match self.input(name) {
             Ok(source) => Ok(source),
             Err(CannotOpen) => Err(CaseFault::BadLine),
         }
     }
 
     /// The bytes of a file, as far as it is not cut.
-    pub fn bytes(self, name: &str) -> Option<&'a [u8]> {
+    pub fn bytes(self, name: &str) -> Option<&'a [u8]>
+        ensures { self.entry.limits.cut ≡ None → option_map (λ b. b.now) result
+            ≡ option_map (λ v. v.items) (get_by_text self.entry.store.now.files name.now) }
+    {
         let bytes = self.store.bytes(name)?;
         let most = self.limits.most_of(name).min(bytes.len());
         Some(&bytes[..most])

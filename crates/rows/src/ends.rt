@@ -1,16 +1,15 @@
 //! How a case ends, and what it leaves.
 
 use crate::faults::CallFault;
-use archive_commands::{CommandFault, Status};
+use archive_commands::{CommandFault, Failure, Status};
+use plan_commands::status_of;
 use std::fmt;
 
 /// How a case ends.
 #[derive(Clone, Copy, PartialEq, Eq)]
 pub enum End {
-    /// A command is done.
-    Done(Status),
-    /// A command is refused.
-    Refused(CommandFault),
+    /// A command is done or refused.
+    Command(Result<Status, Failure>),
     /// A call gave what its lines tell.
     Given,
     /// A call is refused.
@@ -21,8 +20,8 @@ impl End {
     /// How a command ends.
     pub fn of_command(ended: Result<Status, CommandFault>) -> End {
         match ended {
-            Ok(status) => End::Done(status),
-            Err(fault) => End::Refused(fault),
+            Ok(status) => End::Command(Ok(status)),
+            Err(fault) => End::Command(Err(Failure::Command(fault))),
         }
     }
 
@@ -36,7 +35,7 @@ impl End {
 
     /// Whether memory was wanting.
     pub fn wants_memory(self) -> bool {
-        self == End::Refused(CommandFault::OutOfMemory)
+        self == End::Command(Err(Failure::Command(CommandFault::OutOfMemory)))
             || self == End::Fault(CallFault::OutOfMemory)
     }
 }
@@ -44,23 +43,17 @@ impl End {
 impl fmt::Display for End {
     fn fmt<W: fmt::Write>(&self, f: &mut fmt::Formatter<W>) -> fmt::Result {
         match *self {
-            End::Done(Status::Done) => f.write_str("status 0"),
-            End::Done(Status::Partial) => f.write_str("status 1"),
-            End::Refused(fault) => {
-                let status = refused_status(fault);
-                write!(f, "status {status}, {fault}")
+            End::Command(ended) => {
+                let status = status_of(&ended);
+                match ended {
+                    Ok(_) => write!(f, "status {status}"),
+                    Err(Failure::Command(fault)) => write!(f, "status {status}, {fault}"),
+                    Err(Failure::CannotCreate(fault)) => write!(f, "status {status}, {fault}"),
+                }
             }
             End::Given => f.write_str("given"),
             End::Fault(fault) => write!(f, "{fault}"),
         }
-    }
-}
-
-/// The exit status of the program where a command is refused.
-pub fn refused_status(fault: CommandFault) -> u8 {
-    match fault {
-        CommandFault::OutOfMemory => 4,
-        _ => 2,
     }
 }
 
@@ -84,7 +77,7 @@ impl Left {
     pub fn may_want_memory(&self, whole: &Left, writes_as_it_reads: bool) -> bool {
         match self.end {
             End::Given | End::Fault(_) => whole.report.starts_with(&self.report),
-            End::Done(_) | End::Refused(_) => {
+            End::Command(_) => {
                 let begun = writes_as_it_reads && whole.out.starts_with(&self.out);
                 self.report.is_empty() && (begun || self.out.is_empty() || self.out == whole.out)
             }

@@ -1,11 +1,9 @@
 //! Files of the system, in a folder of this run's own.
 
-use crate::ends::refused_status;
 use crate::faults::CaseFault;
 use crate::store::Store;
-use crate::tellings::{tell_line_fault, tell_report};
+use crate::tellings::{tell_ended, tell_line_fault, tell_report};
 use crate::words::{first_word, words_of};
-use archive_commands::{Failure, Status};
 use byte_device::Short;
 use command_line::{LineFault, Plan, plan};
 use file_commands::execute;
@@ -109,20 +107,5 @@ impl<'a, R: Files + AllocGlobal> Folder<'a, R> {
         tell_report(report.as_slice(), told)?;
         tell_ended(ended, told)?;
         Ok(())
-    }
-}
-
-// Tells how a command over files ended.
-fn tell_ended(ended: Result<Status, Failure>, told: &mut String) -> Result<(), NoMemory> {
-    match ended {
-        Ok(Status::Done) => writeln!(told, "  status 0"),
-        Ok(Status::Partial) => writeln!(told, "  status 1"),
-        Err(failure) => {
-            let status = match failure {
-                Failure::Command(fault) => refused_status(fault),
-                Failure::CannotCreate(_) => 2,
-            };
-            writeln!(told, "  {failure}\n  status {status}")
-        }
     }
 }

@@ -1,7 +1,7 @@
 //! How a case ended at a place of a sweep, beside the whole case.
 
 use crate::ends::{End, Left};
-use archive_commands::CommandFault;
+use archive_commands::{CommandFault, Failure};
 use std::fmt;
 
 /// How a case at a place of a sweep ended, with the numbers left out that are the place's own.
@@ -56,13 +56,11 @@ impl PlaceEnd {
     fn at(place: usize, end: End, whole: End) -> PlaceEnd {
         let place = place as u128;
         match end {
-            End::Refused(CommandFault::Output(written)) if written == place => {
-                PlaceEnd::OutFailedThere
-            }
-            End::Refused(CommandFault::Report(written)) if written == place => {
-                PlaceEnd::ReportFailedThere
-            }
-            End::Done(_) | End::Given if end == whole => PlaceEnd::AsEver(end),
+            End::Command(Err(Failure::Command(CommandFault::Output(written))))
+                if written == place => { PlaceEnd::OutFailedThere }
+            End::Command(Err(Failure::Command(CommandFault::Report(written))))
+                if written == place => { PlaceEnd::ReportFailedThere }
+            End::Command(Ok(_)) | End::Given if end == whole => PlaceEnd::AsEver(end),
             _ => PlaceEnd::Otherwise(end),
         }
     }

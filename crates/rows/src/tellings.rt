@@ -1,11 +1,12 @@
 //! What is printed of a case.
 
-use crate::ends::{End, Left, refused_status};
-use archive_commands::Failure;
+use crate::ends::{End, Left};
+use archive_commands::{Failure, Status};
 use archive_core::Digest;
 use archive_words::Spelled;
 use command_line::LineFault;
 use memory::NoMemory;
+use plan_commands::status_of;
 use sha2::{Digest as _, Sha256};
 
 // How many lines of a report are told at most, before their digest stands for them.
@@ -39,13 +40,18 @@ pub fn tell_text(bytes: &[u8], told: &mut String) -> Result<(), NoMemory> {
 fn tell_end(end: End, told: &mut String) -> Result<(), NoMemory> {
     match end {
         End::Given => Ok(()),
-        End::Done(_) | End::Fault(_) => writeln!(told, "  {end}"),
-        End::Refused(fault) => {
-            let status = refused_status(fault);
-            let failure = Failure::from(fault);
-            writeln!(told, "  {failure}\n  status {status}")
-        }
+        End::Fault(_) => writeln!(told, "  {end}"),
+        End::Command(ended) => tell_ended(ended, told),
     }
+}
+
+/// Tells how a command ended.
+pub fn tell_ended(ended: Result<Status, Failure>, told: &mut String) -> Result<(), NoMemory> {
+    if let Err(failure) = ended {
+        writeln!(told, "  {failure}")?;
+    }
+    let status = status_of(&ended);
+    writeln!(told, "  status {status}")
 }
 
 /// Tells a report, which is a text of ASCII, wherever it is cut.

@@ -1,1 +1,1 @@
-pub mod Statuses
+pub mod Ends

@@ -3,6 +3,6 @@ use Rattle.archive_exchange.proofs.site.archive_in.Goals as goal
 
 pub returns-in_default : goal.returns-in_default
 returns-in_default g c = record {
-  says = tt;
+  gives = tt;
   refused = refused_text c.new-input.result.rest.now c.args.text.now c.in-Err.fault c.new-input.ensures.left c.in-Err.ensures.0.blames.0 c.in_default.not-OutOfMemory c.in-Err.ensures.0.faulty c.in-Err.ensures.1;
 }

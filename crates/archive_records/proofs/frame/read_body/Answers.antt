@@ -6,7 +6,7 @@ use Rattle.archive_records.specs.Layout.{head_length, body_length, framed, large
 use Rattle.archive_records.proofs.Framed.{seen, framed-large, grown-body, grown-whole}
 use Rattle.archive_records.specs.declared.buffer.Buffer.{Buffer}
 use Rattle.archive_records.specs.Reader.{bytes_so_far, seen_as}
-use Rattle.archive_records.specs.declared.kind.TextKind.{TextKind}
+use Rattle.archive_records.specs.declared.format.Format.{Format}
 use Rattle.archive_records.proofs.Holds.{tag_two}
 use Rattle.archive_records.proofs.Laid.{length-bytes_so_far}
 use Rattle.archive_records.proofs.frame.read_body.Goals as goal
@@ -19,7 +19,7 @@ returns-then-body-gt-LARGEST_SLICE-clause-framed g c =
     framed-large c.args.file (bytes_so_far b) c.args.head (omega (arith, x)) c.requires.head (omega (arith, x)) (omega (arith, n-is))
 
 -- either way of the last read
-last : (file : TextKind) (r : Result (Unit {0}) RecordFaultKind) (bytes more grown : List ℕ) (b : Buffer) (head n : ℕ) → grown ≡ bytes_so_far b → b.at ≤ length b.bytes.items → n ≡ body_length file bytes → grown ≡ bytes ++ more → 8 < head → head_length file (get_or bytes 0 0) ≡ Some head → length bytes ≡ head → n ≤ largest_slice
+last : (file : Format) (r : Result (Unit {0}) RecordFaultKind) (bytes more grown : List ℕ) (b : Buffer) (head n : ℕ) → grown ≡ bytes_so_far b → b.at ≤ length b.bytes.items → n ≡ body_length file bytes → grown ≡ bytes ++ more → 8 < head → head_length file (get_or bytes 0 0) ≡ Some head → length bytes ≡ head → n ≤ largest_slice
     → OnOk r (b.at ≡ head + n) → OnErr r (b.at < head + n) → IfErr r (λ kind. seen_as kind ≡ Truncated)
     → MatchResult r (λ _. framed file grown ≡ Ok b.at) (λ kind. framed file grown ≡ Err (seen_as kind))
 last file (Ok u) bytes more grown b head n here within is grows big h len small ok err part =

@@ -1,5 +1,8 @@
-use Rattle.archive_records.proofs.Coverings.{operations_uncovered, summaries_uncovered}
+use Rattle.archive_records.proofs.Coverings.{old_uncovered, operations_uncovered, summaries_uncovered}
 use Rattle.archive_records.proofs.laws.covered_in_archives_alone.Goals as goal
+
+pub returns-clause-old : goal.returns-clause-old
+returns-clause-old c = old_uncovered
 
 pub returns-clause-operations : goal.returns-clause-operations
 returns-clause-operations c = operations_uncovered

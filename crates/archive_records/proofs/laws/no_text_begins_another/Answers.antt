@@ -1,4 +1,4 @@
-use Rattle.archive_records.proofs.Exact.{no_text_begins}
+use Rattle.archive_records.proofs.Versions.{no_text_begins}
 use Rattle.archive_records.proofs.laws.no_text_begins_another.Goals as goal
 
 pub returns : goal.returns

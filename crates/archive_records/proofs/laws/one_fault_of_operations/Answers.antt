@@ -1,4 +1,4 @@
-use Rattle.archive_records.specs.declared.kind.TextKind.TheVariants.{Operations}
+use Rattle.archive_records.specs.declared.format.Format.TheVariants.{Operations}
 use Rattle.archive_records.proofs.Exact.{one_fault}
 use Rattle.archive_records.proofs.laws.one_fault_of_operations.Goals as goal
 

@@ -1,4 +1,4 @@
-use Rattle.archive_records.specs.declared.kind.TextKind.TheVariants.{Summary}
+use Rattle.archive_records.specs.declared.format.Format.TheVariants.{Summary}
 use Rattle.archive_records.proofs.Exact.{one_fault}
 use Rattle.archive_records.proofs.laws.one_fault_of_summary.Goals as goal
 

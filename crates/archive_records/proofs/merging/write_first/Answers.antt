@@ -10,7 +10,7 @@ returns-in-Less-clause-merging g c = λ a1 b1 a2 b2 w0 p.
 pub returns-in-Equal-clause-merging : goal.returns-in-Equal-clause-merging
 returns-in-Equal-clause-merging g c = λ a1 b1 a2 b2 w0 p.
     let put = c.put_held-in-Equal.ensures in
-    both_turn a1 b1 a2 b2 w0 _ _ c.args.m.now p c.put_held-in-Equal.result c.put_held-in-Equal.new.written c.put_held-in-Equal.new.side (sym c.in-Equal.ensures) put.ok put.err
+    both_turn a1 b1 a2 b2 w0 _ _ c.args.m.now p c.put_held-in-Equal.result c.put_held-in-Equal.new.written c.put_held-in-Equal.new.side (sym c.in-Equal.ensures) c.requires.kept put.ok put.err
 
 pub returns-in-Greater-clause-merging : goal.returns-in-Greater-clause-merging
 returns-in-Greater-clause-merging g c = λ a1 b1 a2 b2 w0 p.

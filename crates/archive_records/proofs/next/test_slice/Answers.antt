@@ -5,7 +5,7 @@ use Rattle.archive_core.specs.Key.{key_bytes}
 use Rattle.archive_core.specs.Valid.{key_of}
 use Rattle.archive_records.proofs.Holds.{holds, whole-admission}
 use Rattle.archive_records.proofs.Forms.{retires, admits}
-use Rattle.archive_records.specs.declared.kind.TextKind.TheVariants.{Archive}
+use Rattle.archive_records.specs.declared.format.Format.TheVariants.{Archive}
 use Rattle.archive_records.proofs.next.test_slice.Goals as goal
 
 pub bounds-bytes-0 : goal.bounds-bytes-0

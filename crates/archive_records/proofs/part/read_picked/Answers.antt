@@ -1,5 +1,6 @@
 use Rattle.std.proofs.Common.{refl}
 use Rattle.std.specs.FinSet as set
+use Rattle.archive_records.specs.Text.{taken_of}
 use Rattle.archive_records.proofs.Kept.{part_start}
 use Rattle.archive_records.proofs.part.read_picked.Goals as goal
 
@@ -10,7 +11,7 @@ pub returns-clause-read : goal.returns-clause-read
 returns-clause-read g c =
     let m = c.in_ok-part.ensures.read in
     record {
-      whole = set.from_list m.records;
-      read = record { records = m.records; few = m.few; taken = m.taken; ordered = m.ordered; apart = m.apart; content = refl };
+      whole = set.from_list (taken_of m.format m.records);
+      read = record { format = m.format; kind_is = m.kind_is; records = m.records; few = m.few; taken = m.taken; ordered = m.ordered; apart = m.apart; content = refl };
       kept = m.makes.1;
     }

@@ -6,11 +6,11 @@ returns-in-Ok-put-clause-merging g c =
     let o = c.in-Ok-put.ensures.ok in
     let l = c.in-Ok.ensures in
     let r = c.in-Ok-begin.ensures in
-    merging_start _ _ _ _ _ _ c.in-Ok.side c.in-Ok-begin.side l.read r.read l.unread r.unread c.magic.result c.magic.ensures c.in-Ok-put.bytes o.0 o.1
+    merging_start _ _ _ _ _ _ c.in-Ok.side c.in-Ok-begin.side l.archive r.archive l.read r.read l.unread r.unread c.magic.result c.magic.ensures c.in-Ok-put.bytes o.0 o.1
 
 pub returns-in-Err-put-clause-merging : goal.returns-in-Err-put-clause-merging
 returns-in-Err-put-clause-merging g c =
     let e = c.in-Err-put.ensures.err in
     let l = c.in-Ok.ensures in
     let r = c.in-Ok-begin.ensures in
-    stops_start _ _ _ _ _ _ c.in-Ok.side c.in-Ok-begin.side l.read r.read l.unread r.unread c.magic.result c.magic.ensures c.in-Err-put.fault.written e.0 e.1 e.2
+    stops_start _ _ _ _ _ _ c.in-Ok.side c.in-Ok-begin.side l.archive r.archive l.read r.read l.unread r.unread c.magic.result c.magic.ensures c.in-Err-put.fault.written e.0 e.1 e.2

@@ -12,8 +12,10 @@ returns-clause-app c =
     c.retire_command.ensures.local c.in_ok-command-3.ensures in
     let merge = with_one_more c.merge_command.result _ _ _ _ retire c.merge_command.ensures.app
     c.merge_command.ensures.local c.in_ok-command-4.ensures in
-    with_last_command c.apply_command.result _ _ _ _ merge c.apply_command.ensures.app
-    c.apply_command.ensures.local c.with_command-5.ensures
+    let migrate = with_one_more c.migrate_command.result _ _ _ _ merge c.migrate_command.ensures.app
+    c.migrate_command.ensures.local c.in_ok-command-5.ensures in
+    with_last_command c.apply_command.result _ _ _ _ migrate c.apply_command.ensures.app
+    c.apply_command.ensures.local c.with_command-6.ensures
 
 pub returns-clause-local : goal.returns-clause-local
 returns-clause-local c none =
@@ -25,4 +27,6 @@ returns-clause-local c none =
     c.in_ok-command-3.ensures in
     let merge = with_no_global c.merge_command.result _ _ retire c.merge_command.ensures.local
     c.in_ok-command-4.ensures in
-    with_last_local c.apply_command.result _ _ merge c.apply_command.ensures.local c.with_command-5.ensures
+    let migrate = with_no_global c.migrate_command.result _ _ merge c.migrate_command.ensures.local
+    c.in_ok-command-5.ensures in
+    with_last_local c.apply_command.result _ _ migrate c.apply_command.ensures.local c.with_command-6.ensures

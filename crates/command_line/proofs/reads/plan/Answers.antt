@@ -1,9 +1,13 @@
-use Rattle.std.proofs.Common.{◌≡◌, ◌∙◌, List, Option, Some, None, IsSome, ap, is_some, map, option_map, refl, subst}
-use Rattle.std.proofs.Common.{sym, true≢false}
+use Rattle.std.proofs.Common.{◌≡◌, ◌∙◌, List, Option, Some, None, Result, Ok, Err, IfErr, IsErrAnd, IsSome, ap, inl}
+use Rattle.std.proofs.Common.{inr, is_some, map, option_map, refl, subst, sym, true≢false}
 use Rattle.std.specs.Prelude.{option_and_then}
 use Rattle.clap.specs.Words.{Row, Text, found_of, rows_of}
+use Rattle.clap.proofs.WalkLemmas.{both}
 use Rattle.command_line.specs.Lines.{line_in}
-use Rattle.command_line.proofs.KeptInputs.{planned-KeepsInputs}
+use Rattle.command_line.specs.declared.line_faults.LineFault.{LineFault}
+use Rattle.command_line.specs.declared.line_faults.LineFault.TheVariants.{OutOfMemory}
+use Rattle.command_line.specs.declared.plans.Plan.{Plan}
+use Rattle.command_line.proofs.KeptInputs.{in_order_apart, keeps_inputs, kept_line}
 use Rattle.command_line.proofs.Accepted.{accepted_line}
 use Rattle.command_line.proofs.reads.plan.Goals as goal
 
@@ -13,19 +17,37 @@ unnamed : {A : Type 0} (o : Option A) (f : A → Text × List Row) (named : Opti
 unnamed None f named is none some = true≢false (sym (ap (λ n. is_some (option_and_then line_in n)) is ∙ some))
 unnamed (Some x) f named is none some = none x refl
 
-pub returns-clause-keeps_inputs : goal.returns-clause-keeps_inputs
-returns-clause-keeps_inputs g c =
-    planned-KeepsInputs (c.in-Some.name.now, rows_of (found_of c.in-Some.inner.now)) c.plan_in.result
-    c.plan_in.ensures.ok
+-- what is handed on as it came
+wanting : (fault : LineFault) (result : Result Plan LineFault) → IsErrAnd result (λ e. e ≡ fault) → fault ≡ OutOfMemory
+    → IfErr result (λ e. e ≡ OutOfMemory)
+wanting fault (Ok p) told is = absurd told
+wanting fault (Err e) told is = told ∙ is
 
-pub returns-clause-err : goal.returns-clause-err
-returns-clause-err g c = λ accepted ordered.
+pub returns-clause-ok : goal.returns-clause-ok
+returns-clause-ok g c =
     let named = c.in-Some.ensures ∙ c.in_ok-matches.ensures.ok in
-    c.plan_in.ensures.err (subst (λ o. IsSome (option_and_then line_in o)) (sym named)
-    (accepted_line (map g.S.AsStr.text c.args.words.now) accepted ordered))
+    kept_line _ _ (c.in_ok-plan.ensures.ok ∙ ap (option_and_then line_in) named) c.in_ok-check_out.ensures.ok
+
+pub returns-clause-keeps_inputs : goal.returns-clause-keeps_inputs
+returns-clause-keeps_inputs g c = keeps_inputs _ c.in_ok-check_out.ensures.ok
+
+pub returns-in_err-plan-clause-err : goal.returns-in_err-plan-clause-err
+returns-in_err-plan-clause-err g c = λ accepted ordered.
+    let named = c.in-Some.ensures ∙ c.in_ok-matches.ensures.ok in
+    let fault = c.in_err-plan.ensures.err (subst (λ o. IsSome (option_and_then line_in o)) (sym named)
+    (accepted_line (map g.S.AsStr.text c.args.words.now) accepted (both _ _ ordered).0)) in
+    wanting _ _ c.from_residual-in_err-plan.ensures.1 fault
+
+pub returns-in_err-check_out-clause-err : goal.returns-in_err-check_out-clause-err
+returns-in_err-check_out-clause-err g c = λ accepted ordered.
+    let named = c.in-Some.ensures ∙ c.in_ok-matches.ensures.ok in
+    let apart = in_order_apart _ _ (c.in_ok-plan.ensures.ok ∙ ap (option_and_then line_in) named)
+    (both _ _ ordered).1 in
+    wanting _ _ c.from_residual-in_err-check_out.ensures.1
+    (elim c.in_err-check_out.ensures.err [ inl is ↦ is | inr among ↦ absurd (true≢false (sym among ∙ apart)) ])
 
 pub returns-in_default-clause-err : goal.returns-in_default-clause-err
 returns-in_default-clause-err g c = λ accepted ordered.
     absurd (unnamed c.named_command.result (λ p. (p.0.now, rows_of (found_of p.1.now))) _
     (c.named_command.ensures ∙ c.in_ok-matches.ensures.ok) c.in_default.not-Some
-    (accepted_line (map g.S.AsStr.text c.args.words.now) accepted ordered))
+    (accepted_line (map g.S.AsStr.text c.args.words.now) accepted (both _ _ ordered).0))

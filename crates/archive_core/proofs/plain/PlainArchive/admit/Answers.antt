@@ -1,4 +1,4 @@
-use Rattle.std.proofs.Common.{◌≡◌, true, false, sym, ◌∙◌, ap, map, subst, refl}
+use Rattle.std.proofs.Common.{rules, ◌≡◌, true, false, sym, ◌∙◌, ap, map, subst, refl}
 use Rattle.std.specs.Ordering.{nat_cmp}
 use Rattle.std.specs.Cmp.Lexicographic.{slice_cmp}
 use Rattle.std.specs.FinSet as set
@@ -15,41 +15,42 @@ pub returns-then-retires-clause-taken : goal.returns-then-retires-clause-taken
 returns-then-retires-clause-taken c =
     let o = c.args.self.now in
     let slice = c.args.slice in
-    let covered : is_covered o (admission_record slice) ≡ true = covered_slice o slice c.retires.ensures.valid ∙ rw c.lend.ensures.lent at (sym c.retires.ensures.retires ∙ c.if-retires.true) in
-    sym (with_known o (admission_record slice) (subst IsMade c.self.view_is c.self.invariant.itself) (or_right (set.contains o (admission_record slice)) (is_covered o (admission_record slice)) covered))
+    let covered : is_covered o (admission_record slice) ≡ true = covered_slice o slice c.retires.ensures.valid ∙ rw (c.of.ensures, c.deref.ensures.value, c.self.view_is) at (sym c.retires.ensures.retires ∙ c.if-retires.true) in
+    c.self.view_is ∙ sym (with_known o (admission_record slice) (subst IsMade c.self.view_is c.self.invariant.itself) (or_right (set.contains o (admission_record slice)) (is_covered o (admission_record slice)) covered))
 
 pub returns-then-retires-clause-answer : goal.returns-then-retires-clause-answer
 returns-then-retires-clause-answer c =
     let o = c.args.self.now in
     let slice = c.args.slice in
-    let covered : is_covered o (admission_record slice) ≡ true = covered_slice o slice c.retires.ensures.valid ∙ rw c.lend.ensures.lent at (sym c.retires.ensures.retires ∙ c.if-retires.true) in
+    let covered : is_covered o (admission_record slice) ≡ true = covered_slice o slice c.retires.ensures.valid ∙ rw (c.of.ensures, c.deref.ensures.value, c.self.view_is) at (sym c.retires.ensures.retires ∙ c.if-retires.true) in
     sym (known_changes o (admission_record slice) (or_right (set.contains o (admission_record slice)) (is_covered o (admission_record slice)) covered))
 
 pub invariant_of-self-in-Err : goal.invariant_of-self-in-Err
 invariant_of-self-in-Err c =
     let o = c.args.self.now in
     let slice = c.args.slice in
-    let free : is_covered o (admission_record slice) ≡ false = covered_slice o slice c.retires.ensures.valid ∙ rw c.lend.ensures.lent at (sym c.retires.ensures.retires ∙ c.if-retires.false) in
+    let free : is_covered o (admission_record slice) ≡ false = covered_slice o slice c.retires.ensures.valid ∙ rw (c.of.ensures, c.deref.ensures.value, c.self.view_is) at (sym c.retires.ensures.retires ∙ c.if-retires.false) in
     rw c.in_ok-insert-in-Err.ensures.items
-    (held_admission c.self.inside.operations.items c.in-Err.index slice c.self.invariant c.retires.ensures.valid (rw (← c.deref.ensures.value) c.in-Err.ensures.found.absent) (rw c.self.view_is free))
+    (held_admission c.self.inside.operations.items c.in-Err.index slice c.self.invariant c.retires.ensures.valid (rw (← c.deref-2.ensures.value) c.in-Err.ensures.found.absent) (rw c.self.view_is free))
 
 pub returns-in-Ok-clause-taken : goal.returns-in-Ok-clause-taken
 returns-in-Ok-clause-taken c =
     let o = c.args.self.now in
     let r = admission_record c.args.slice in
-    sym (with_known o r (subst IsMade c.self.view_is c.self.invariant.itself) (or_left (set.contains o r) (is_covered o r) (rw (← c.self.view_is, ← c.deref.ensures.value) c.in-Ok.ensures.found.present)))
+    let same : c.match-admission.self ≡ o = search rules in
+    same ∙ sym (with_known o r (subst IsMade c.self.view_is c.self.invariant.itself) (or_left (set.contains o r) (is_covered o r) (rw (← c.self.view_is, ← c.deref-2.ensures.value) c.in-Ok.ensures.found.present)))
 
 pub returns-in-Ok-clause-answer : goal.returns-in-Ok-clause-answer
 returns-in-Ok-clause-answer c =
     let o = c.args.self.now in
     let r = admission_record c.args.slice in
-    sym (known_changes o r (or_left (set.contains o r) (is_covered o r) (rw (← c.self.view_is, ← c.deref.ensures.value) c.in-Ok.ensures.found.present)))
+    sym (known_changes o r (or_left (set.contains o r) (is_covered o r) (rw (← c.self.view_is, ← c.deref-2.ensures.value) c.in-Ok.ensures.found.present)))
 
 pub returns-in_ok-insert-in-Err-clause-taken : goal.returns-in_ok-insert-in-Err-clause-taken
 returns-in_ok-insert-in-Err-clause-taken c =
     let o = c.args.self.now in
     let slice = c.args.slice in
-    let free : is_covered o (admission_record slice) ≡ false = covered_slice o slice c.retires.ensures.valid ∙ rw c.lend.ensures.lent at (sym c.retires.ensures.retires ∙ c.if-retires.false) in
+    let free : is_covered o (admission_record slice) ≡ false = covered_slice o slice c.retires.ensures.valid ∙ rw (c.of.ensures, c.deref.ensures.value, c.self.view_is) at (sym c.retires.ensures.retires ∙ c.if-retires.false) in
     ap (λ items. set.from_list {R = slice_cmp nat_cmp} (map rec items)) c.in_ok-insert-in-Err.ensures.items
     ∙ records_insert c.self.inside.operations.items c.in-Err.index (Admit slice)
     ∙ ap (λ s. set.insert s (admission_record slice)) c.self.view_is
@@ -59,5 +60,5 @@ pub returns-in_ok-insert-in-Err-clause-answer : goal.returns-in_ok-insert-in-Err
 returns-in_ok-insert-in-Err-clause-answer c =
     let o = c.args.self.now in
     let slice = c.args.slice in
-    let free : is_covered o (admission_record slice) ≡ false = covered_slice o slice c.retires.ensures.valid ∙ rw c.lend.ensures.lent at (sym c.retires.ensures.retires ∙ c.if-retires.false) in
-    sym (new_changes o (admission_record slice) (rw (← c.self.view_is, ← c.deref.ensures.value) c.in-Err.ensures.found.absent.absent) free)
+    let free : is_covered o (admission_record slice) ≡ false = covered_slice o slice c.retires.ensures.valid ∙ rw (c.of.ensures, c.deref.ensures.value, c.self.view_is) at (sym c.retires.ensures.retires ∙ c.if-retires.false) in
+    sym (new_changes o (admission_record slice) (rw (← c.self.view_is, ← c.deref-2.ensures.value) c.in-Err.ensures.found.absent.absent) free)

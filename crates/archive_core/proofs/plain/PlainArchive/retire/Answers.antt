@@ -9,37 +9,14 @@ use Rattle.archive_core.specs.declared.operations.Operation.TheVariants.{Retire}
 use Rattle.archive_core.proofs.Made.{or_left}
 use Rattle.archive_core.proofs.Put.{held_retirement}
 use Rattle.archive_core.proofs.Taken.{known_changes, new_changes, with_known}
-use Rattle.archive_core.proofs.Uncovered.{held_where_none}
+use Rattle.archive_core.proofs.Held.{map_insert}
 use Rattle.archive_core.proofs.plain.PlainArchive.retire.Goals as goal
 
-pub invariant_of-self-then-none : goal.invariant_of-self-then-none
-invariant_of-self-then-none c =
+pub drop_retired-requires-clause-ascending : goal.drop_retired-requires-clause-ascending
+drop_retired-requires-clause-ascending c =
     let operations = c.self.inside.operations.items in
-    let one = c.retirement-retirement.ensures.operation in
-    let place : IsPlaceFor (slice_cmp nat_cmp) (map rec operations) (retirement_record c.args.key c.args.digest.0) c.in-Err.index =
-    subst (λ x. IsPlaceFor (slice_cmp nat_cmp) (map rec operations) (rec x) c.in-Err.index) c.retirement-retirement.ensures.retirement (rw (← c.deref.ensures.value) c.in-Err.ensures.found.absent) in
-    let none = rw c.deref-in-Err.ensures.value at (c.has_none-none.ensures.none c.if-none.true) in
-    rw (c.in_ok-insert-in-Err.ensures.items, c.retirement-retirement.ensures.retirement)
-    (held_where_none operations c.in-Err.index c.args.key c.args.digest c.self.invariant one place none).held
-
-pub returns-then-none-clause-taken : goal.returns-then-none-clause-taken
-returns-then-none-clause-taken c =
-    let operations = c.self.inside.operations.items in
-    let r = retirement_record c.args.key c.args.digest.0 in
-    let one = c.retirement-retirement.ensures.operation in
-    let place : IsPlaceFor (slice_cmp nat_cmp) (map rec operations) r c.in-Err.index =
-    subst (λ x. IsPlaceFor (slice_cmp nat_cmp) (map rec operations) (rec x) c.in-Err.index) c.retirement-retirement.ensures.retirement (rw (← c.deref.ensures.value) c.in-Err.ensures.found.absent) in
-    let none = rw c.deref-in-Err.ensures.value at (c.has_none-none.ensures.none c.if-none.true) in
-    let all = held_where_none operations c.in-Err.index c.args.key c.args.digest c.self.invariant one place none in
-    rw (c.in_ok-insert-in-Err.ensures.items, c.retirement-retirement.ensures.retirement)
-    (all.is ∙ ap (λ s. with_record s r) c.self.view_is)
-
-pub returns-then-none-clause-answer : goal.returns-then-none-clause-answer
-returns-then-none-clause-answer c =
-    let o = c.args.self.now in
-    let r = retirement_record c.args.key c.args.digest.0 in
-    let absent : set.contains o r ≡ false = rw (← c.self.view_is, ← c.deref.ensures.value) (rw c.retirement-retirement.ensures.retirement at c.in-Err.ensures.found.absent.absent) in
-    sym (new_changes o r absent refl)
+    let place : IsPlaceFor (slice_cmp nat_cmp) (map rec operations) (rec c.retirement-retirement.result) c.in-Err.index = rw (← c.deref.ensures.value) c.in-Err.ensures.found.absent in
+    rw (c.in_ok-insert-in-Err.ensures.items, map_insert operations c.in-Err.index c.retirement-retirement.result) place.ascending
 
 pub invariant_of-self-in-Err : goal.invariant_of-self-in-Err
 invariant_of-self-in-Err c =
@@ -64,8 +41,8 @@ returns-in-Ok-clause-answer c =
     let there : set.contains o r ≡ true = rw (← c.self.view_is, ← c.deref.ensures.value) (rw c.retirement-retirement.ensures.retirement at c.in-Ok.ensures.found.present) in
     sym (known_changes o r (or_left (set.contains o r) (is_covered o r) there))
 
-pub returns-else-none-clause-taken : goal.returns-else-none-clause-taken
-returns-else-none-clause-taken c =
+pub returns-in_ok-insert-in-Err-clause-taken : goal.returns-in_ok-insert-in-Err-clause-taken
+returns-in_ok-insert-in-Err-clause-taken c =
     let operations = c.self.inside.operations.items in
     let r = retirement_record c.args.key c.args.digest.0 in
     let one = c.retirement-retirement.ensures.operation in
@@ -75,8 +52,8 @@ returns-else-none-clause-taken c =
     rw (c.drop_retired.ensures, c.in_ok-insert-in-Err.ensures.items, c.retirement-retirement.ensures.retirement)
     (all.is ∙ ap (λ s. with_record s r) c.self.view_is)
 
-pub returns-else-none-clause-answer : goal.returns-else-none-clause-answer
-returns-else-none-clause-answer c =
+pub returns-in_ok-insert-in-Err-clause-answer : goal.returns-in_ok-insert-in-Err-clause-answer
+returns-in_ok-insert-in-Err-clause-answer c =
     let o = c.args.self.now in
     let r = retirement_record c.args.key c.args.digest.0 in
     let absent : set.contains o r ≡ false = rw (← c.self.view_is, ← c.deref.ensures.value) (rw c.retirement-retirement.ensures.retirement at c.in-Err.ensures.found.absent.absent) in

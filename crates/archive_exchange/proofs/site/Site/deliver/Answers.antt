@@ -9,12 +9,12 @@ use Rattle.archive_exchange.proofs.site.Site.deliver.Goals as goal
 pub returns-in_err-take_all-clause-stopped : goal.returns-in_err-take_all-clause-stopped
 returns-in_err-take_all-clause-stopped g c = on_err _ c.from_residual-in_err-take_all.result
     (towards_by c.args.message.now c.args.self.now (g.A.Join.content c.self.inside.archive) c.self.inside.saved.items (g.A.Join.content c.take_all.new.archive) (g.A.Join.content c.in_ok-other.other)
-    c.self.view_is c.self.invariant.held c.in_ok-other.ensures.says c.in_err-take_all.ensures.refused)
+    c.self.view_is c.self.invariant.held c.in_ok-other.ensures.gives c.in_err-take_all.ensures.refused)
 
 pub returns-clause-joined : goal.returns-clause-joined
 returns-clause-joined g c = record {
   message = g.A.Join.content c.in_ok-other.other;
-  says = c.in_ok-other.ensures.says;
+  gives = c.in_ok-other.ensures.gives;
   held = c.in_ok-take_all.ensures.joined ∙ ap (λ (k : Keeping). joined k.held (g.A.Join.content c.in_ok-other.other)) c.self.view_is;
   saved = ap (λ (k : Keeping). k.saved) c.self.view_is;
 }
@@ -24,11 +24,11 @@ invariant_of-self-2 g c =
     let held = g.A.Join.content c.self.inside.archive in
     let other = g.A.Join.content c.in_ok-other.other in
     whole_as held (g.A.Join.content c.take_all.new.archive) c.self.inside.saved.items c.self.invariant
-    (subst IsContent (sym c.in_ok-take_all.ensures.joined) (content_joined held other c.self.invariant.held c.in_ok-other.ensures.says.content))
+    (subst IsContent (sym c.in_ok-take_all.ensures.joined) (content_joined held other c.self.invariant.held c.in_ok-other.ensures.gives.content))
 
 pub returns-clause-whole : goal.returns-clause-whole
 returns-clause-whole g c =
     let held = g.A.Join.content c.self.inside.archive in
     let other = g.A.Join.content c.in_ok-other.other in
     whole_as held (g.A.Join.content c.take_all.new.archive) c.self.inside.saved.items c.self.invariant
-    (subst IsContent (sym c.in_ok-take_all.ensures.joined) (content_joined held other c.self.invariant.held c.in_ok-other.ensures.says.content))
+    (subst IsContent (sym c.in_ok-take_all.ensures.joined) (content_joined held other c.self.invariant.held c.in_ok-other.ensures.gives.content))

@@ -13,14 +13,14 @@ returns-in-Ok-End g c =
     let taken = subst (Consumes (g.R.Source.left c.args.r.now) (g.R.Source.left c.read_next.new.r)) end c.read_next.ensures.taken in
     rw (← c.self.view_is) (record { taken = taken; ended = ends; file_is = refl; count_is = refl; offset_is = refl; few = c.self.invariant.few; retired_is = refl }, c.in-Ok-End.ensures.reader)
 
-pub returns-in_default : goal.returns-in_default
-returns-in_default g c =
+pub returns-in-Ok : goal.returns-in-Ok
+returns-in-Ok g c =
     let found = rw c.in-Ok-Item.field-0-is at c.in-Ok-Item.ensures.item in
     let whole = rw c.in-Ok-Item.field-0-is at c.in-Ok-Item.ensures.whole in
     let follows = rw c.in-Ok-Item.field-0-is at c.in-Ok-Item.ensures.follows in
     let offset = ap (λ n. c.self.inside.offset + n) (c.len.ensures ∙ c.read_next.new.buffer.bytes.ok.0) in
     let few = c.self.invariant.few in
-    let kept = subst (KeepsIn c.self.inside.file c.self.inside.retired c.keep.new.retired) (c.deref.ensures.value ∙ whole) c.in_default.ensures.kept in
+    let kept = subst (KeepsIn c.self.inside.file c.self.inside.retired c.keep.new.retired c.in-Ok.dropped) (c.deref.ensures.value ∙ whole) c.in-Ok.ensures.kept in
     rw (← c.self.view_is)
     (step_passes _ _ _ _ (bytes_so_far c.read_next.new.buffer) whole c.read_next.ensures.taken (item-found c.self.inside.file _ c.in-Ok-Item.found found) follows refl refl offset (omega (arith, c.if-self-eq-MOST.false)) kept, c.in-Ok-Item.ensures.reader, rw (← whole) at found)
 
@@ -32,7 +32,7 @@ returns-in-Err-keep g c =
     let refused = rw (c.deref.ensures.value, whole) at c.in-Err-keep.ensures.refused in
     rw (← c.self.view_is) (
       step_refused _ _ _ (bytes_so_far c.read_next.new.buffer) c.in-Err-keep.kind c.read_next.ensures.taken c.self.invariant.few (item-found c.self.inside.file _ c.in-Ok-Item.found found) follows refused,
-      refused_blames g.R.Source.left g.R.Source.failures c.args.r.now c.read_next.new.r (record { file = c.self.inside.file; last = c.self.inside.buffer.bytes.items; count = c.self.inside.count; offset = c.self.inside.offset; retired = c.self.inside.retired }) (bytes_so_far c.read_next.new.buffer) c.in-Err-keep.kind c.in-Ok-Item.ensures.reader refused,
+      refused_blames g.R.Source.left g.R.Source.failures c.args.r.now c.read_next.new.r (record { file = c.self.inside.file; last = c.self.inside.buffer.bytes.items; count = c.self.inside.count; offset = c.self.inside.offset; retired = c.self.inside.retired; dropped = c.self.inside.dropped }) (bytes_so_far c.read_next.new.buffer) c.in-Err-keep.kind c.in-Ok-Item.ensures.reader refused,
     )
 
 pub returns-then-self-eq-MOST : goal.returns-then-self-eq-MOST

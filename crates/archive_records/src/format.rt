@@ -1,0 +1,63 @@
+//! The formats of files: a magic each.
+
+ghost use Rattle.std.specs.Prelude.{◌≡◌, ◌≤◌, ◌↔◌, IsTrue, length, take};
+ghost use Rattle.archive_records.specs.declared.format.Format.TheVariants.{Operations};
+ghost use Rattle.archive_records.specs.Kind.{magic_of, allows};
+
+use std::cmp::Ordering;
+
+/// What a file of records begins with, and what follows.
+#[derive(Clone, Copy, Debug, PartialEq, Eq)]
+pub enum Format {
+    /// The text of an archive: its records ascend, and an end record stands behind them.
+    Archive,
+    /// The same of version 1, in which slices may stand that its retirements cover.
+    OldArchive,
+    /// Operations in any order, with repeats, up to the end of the input.
+    Operations,
+    /// The text of a summary: its entries ascend, and an end record stands behind them.
+    Summary,
+}
+
+impl Format {
+    /// What the file begins with.
+    pub fn magic(self) -> [u8; 8]
+        ensures { result ≡ magic_of self }
+    {
+        match self {
+            Format::Archive => *b"MSYMARC2",
+            Format::OldArchive => *b"MSYMARC1",
+            Format::Operations => *b"MSYMOPS1",
+            Format::Summary => *b"MSYMSUM1",
+        }
+    }
+
+    /// Whether these bytes are as the magic begins.
+    pub fn begins(self, bytes: &[u8]) -> bool
+        requires { length bytes.now ≤ 8 }
+        ensures { IsTrue result ↔ (bytes.now ≡ take (length bytes.now) (magic_of self)) }
+    {
+        bytes == &self.magic()[..bytes.len()]
+    }
+
+    /// Whether a record may stand behind one that compares so with it.
+    #[tactic(auto, unfolding(crate::specs::Kind::allows))]
+    pub fn allows(self, order: Ordering) -> bool
+        ensures { result ≡ allows self order }
+    {
+        match self {
+            Format::Archive | Format::OldArchive | Format::Summary => order == Ordering::Less,
+            Format::Operations => true,
+        }
+    }
+
+    /// Whether the file ends where nothing is left behind its records.
+    pub fn is_open(self) -> bool
+        ensures { IsTrue result ↔ (self ≡ Operations) }
+    {
+        match self {
+            Format::Archive | Format::OldArchive | Format::Summary => false,
+            Format::Operations => true,
+        }
+    }
+}
