@@ -1,10 +1,10 @@
-"""The language of crates/rows/stdin, carried out by the model. Blocks: a line and the lines behind it."""
+"""The language of crates/acceptance/stdin, carried out by the model. Blocks: a line and the lines behind it."""
 import re
 import formats as F
 from formats import (Content, Fault, MergeFault, Refused, Reader, Source, addr, admission, answering, answer_lines,
                      arch_word, address_word, covering, digest_word, find_lines, find_rows, key_of, key_text,
-                     merge_streams, name_lines, parts_of_file, read_archive, read_ops, read_script, read_summary,
-                     retirement, run_world, sha, slice_of, summary_text, uuid_word)
+                     merge_streams, name_lines, parts_of_file, read_archive, read_frames, read_ops, read_script,
+                     read_summary, retirement, run_world, sha, slice_of, summary_text, uuid_word)
 
 INF = 1 << 62
 
@@ -119,11 +119,11 @@ def text_line(b):
 ONE = {"new": "out", "find": "archive uuid", "list": "archive", "name": "archive name", "summary": "archive out",
        "delta": "archive summary out", "rehearse": "script", "retire": "in out uuid arch digest",
        "apply": "in out ops", "admit": "in out file*", "merge": "in out file*", "migrate": "in out",
-       "symbolicate": "archive uuid arch address*"}
+       "symbolicate": "archive uuid arch address*", "frames": "frames archive"}
 
 
 def plan(words):
-    if not words or words[0] not in ONE or (words[0] == "migrate" and F.V == 1):
+    if not words or words[0] not in ONE or (words[0] in ("migrate", "frames") and F.V == 1):
         raise Copy
     cmd, rest = words[0], words[1:]
     pos, load, i, raw = [], None, 0, False
@@ -342,6 +342,22 @@ class Run:
         lines, status = [], 0
         for a in p["address"]:
             more, one = answer_lines(c, key, a, p["load"], ms)
+            lines += more
+            if not one:
+                status = 1
+        self.tell(lines)
+        return status
+
+    def cmd_frames(self, p):
+        frames = read_frames(self.whole(p["frames"], "frames"))
+        if isinstance(frames, str):
+            raise CmdFault("frames", frames)
+        c = self.archive(p["archive"], "archive 0")
+        answers_of, lines, status = {}, [], 0
+        for key, load, a in frames:
+            if key not in answers_of:
+                answers_of[key] = answering(c, key)
+            more, one = answer_lines(c, key, a, load, answers_of[key])
             lines += more
             if not one:
                 status = 1

@@ -719,6 +719,33 @@ def read_script(data):
     return sites, events
 
 
+def frame_of(fields):
+    """the key, where the image was loaded or None, and the address of a line of frames; None where it is none"""
+    if len(fields) != 4:
+        return None
+    uuid, arch, address = uuid_word(fields[0]), arch_word(fields[1]), address_word(fields[3])
+    load = None if fields[2] == "-" else address_word(fields[2])
+    if None in (uuid, arch, address) or (load is None and fields[2] != "-"):
+        return None
+    return uuid + arch, load, address
+
+
+def read_frames(data):
+    """the frames of a text, or a text of a fault"""
+    lines = data.split(b"\n")
+    if lines[-1] == b"":
+        lines.pop()
+    frames = []
+    for number, line in enumerate(lines, 1):
+        if line == b"" or line.startswith(b"#"):
+            continue
+        frame = frame_of(line.decode("latin-1").split(" "))
+        if frame is None:
+            return "BadFrame at line %d" % number
+        frames.append(frame)
+    return frames
+
+
 def run_world(sites, events):
     """contents held, and outcome lines without their numbers"""
     held = [Content() for _ in range(sites)]

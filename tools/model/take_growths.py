@@ -1,4 +1,4 @@
-"""take_growths.py STDIN CAME [--write]: takes the numbers of refused growths over from what the program `rows` printed.
+"""take_growths.py STDIN CAME [--write]: takes the numbers of refused growths over from what the program `acceptance` printed.
 
 CAME is what `rt run <stdin` prints where a line came otherwise: all that came, and `line N came otherwise` behind it.
 Every other difference is told, and has to be looked at. With --write STDIN is written anew."""

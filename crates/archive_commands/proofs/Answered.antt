@@ -15,7 +15,7 @@ use Rattle.report_text.specs.Answers.{answer_lines}
 use Rattle.archive_commands.specs.declared.faults.Status.{Status}
 use Rattle.archive_commands.specs.declared.faults.Status.TheVariants.{Done, Partial}
 use Rattle.archive_commands.specs.Inputs.{Reader, HoldsArchive}
-use Rattle.archive_commands.specs.Symbolicate.{place_of, is_symbol, Answered, IsAnswered, answers_status, TellsAddresses, MakesAnswered}
+use Rattle.archive_commands.specs.Symbolicate.{asked_of, is_symbol, Answered, IsAnswered, answers_status, TellsAddresses, MakesAnswered}
 
 all_more : {X : Type 0} (P : X → Type 0) (xs : List X) (x : X) → AllByRecursion P xs → P x → AllByRecursion P (xs ++ x ∷ [])
 all_more P [] x all one = (one, tt)
@@ -27,7 +27,7 @@ status_of_more true false = refl
 status_of_more false true = refl
 status_of_more false false = refl
 
-status_more : (rows : List Answered) (row : Answered) → (if is_symbol row.answer then answers_status rows else Partial) ≡ answers_status (rows ++ row ∷ [])
+pub status_more : (rows : List Answered) (row : Answered) → (if is_symbol row.answer then answers_status rows else Partial) ≡ answers_status (rows ++ row ∷ [])
 status_more rows row =
     status_of_more (list_all (λ row. is_symbol row.answer) rows) (is_symbol row.answer)
     ∙ ap (λ (all : Bool). if all then Done else Partial) (sym (list_all-append (λ row. is_symbol row.answer) rows (row ∷ [])))
@@ -38,7 +38,7 @@ none_told content key load = record { rows = []; addresses_are = refl; answered 
 pub more_told : (content : Operations) (key : SliceKey) (load : Option ℕ) (before addresses : List ℕ) (status next : Status) (text lines : List ℕ) (address : ℕ) (answer : Answer)
     → TellsAddresses content key load before status text
     → addresses ≡ before ++ address ∷ []
-    → IsAnswer content key (place_of load address) (answer_view answer)
+    → IsAnswer content key (asked_of load address) (answer_view answer)
     → next ≡ (if is_symbol answer then status else Partial)
     → lines ≡ text ++ answer_lines address answer
     → TellsAddresses content key load addresses next lines
@@ -68,7 +68,7 @@ makes_answered archive key load addresses o status text lines content holds tell
 answered_alike : (o p : Operations) (key : SliceKey) (load : Option ℕ) (rows : List Answered) → AreAlikeUnder (key_bytes key) o p → AllByRecursion (IsAnswered o key load) rows → AllByRecursion (IsAnswered p key load) rows
 answered_alike o p key load [] same all = tt
 answered_alike o p key load (row ∷ rows) same all =
-    (answer_alike o p key (place_of load row.address) (answer_view row.answer) same all.0, answered_alike o p key load rows same all.1)
+    (answer_alike o p key (asked_of load row.address) (answer_view row.answer) same all.0, answered_alike o p key load rows same all.1)
 
 pub told_alike : (o p : Operations) (key : SliceKey) (load : Option ℕ) (addresses : List ℕ) (status : Status) (text : List ℕ) → AreAlikeUnder (key_bytes key) o p → TellsAddresses o key load addresses status text → TellsAddresses p key load addresses status text
 told_alike o p key load addresses status text same told = record {

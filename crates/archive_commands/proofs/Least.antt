@@ -10,7 +10,7 @@ use Rattle.std.specs.Ordering.{nat_cmp}
 use Rattle.std.proofs.lemmas.List.Elements.{Contains-append_right}
 use Rattle.std.proofs.lemmas.List.Sums.{fold-append}
 use Rattle.join_core.specs.Bound.{IsLeastAbove}
-use Rattle.archive_core.specs.Content.{Operations, IsBelow, IsMade, IsContent, made, joined}
+use Rattle.archive_core.specs.Content.{Operations, IsBelow, IsMade, IsContent, content_of, joined}
 use Rattle.archive_core.proofs.Made.{bytes_same, joined_made_right}
 use Rattle.exchange_model.proofs.Content.{joined_made}
 use Rattle.archive_commands.specs.Merge.{merged, operations_of}
@@ -120,13 +120,13 @@ all_in_union o contents =
     ∙ sym (contains-union nat_list_cmp_total o (operations_of contents) r))
 
 -- contents joined one after another are what the operations of all make
-merged_made : (s : Operations) (contents : List Operations) → merged (made s) contents ≡ made (fold set.union s contents)
+merged_made : (s : Operations) (contents : List Operations) → merged (content_of s) contents ≡ content_of (fold set.union s contents)
 merged_made s [] = refl
 merged_made s (p ∷ contents) = ap (λ (q : Operations). merged q contents) (joined_made s p) ∙ merged_made (set.union s p) contents
 
-pub merged_union : (o : Operations) (contents : List Operations) → IsMade o → merged o contents ≡ joined o (made (operations_of contents))
+pub merged_union : (o : Operations) (contents : List Operations) → IsMade o → merged o contents ≡ joined o (content_of (operations_of contents))
 merged_union o contents is =
     ap (λ (q : Operations). merged q contents) (sym is)
     ∙ merged_made o contents
-    ∙ ap made (all_in_union o contents)
+    ∙ ap content_of (all_in_union o contents)
     ∙ sym (joined_made_right o (operations_of contents))

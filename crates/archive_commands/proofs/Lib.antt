@@ -16,5 +16,8 @@ pub mod Migrated
 pub mod NameTold
 pub mod ListTold
 pub mod FindTold
+pub mod Framed
+pub mod FramesTold
 pub mod Rehearsed
 pub mod OneRehearsal
+pub mod Lent

@@ -2,7 +2,7 @@
 use Rattle.std.proofs.Common.{◌≡◌, ℕ, List, [], ◌∷◌, Option, Some, Result, Ok, Err, refl, sym, ap, ◌∙◌, inl, inr}
 use Rattle.std.specs.FinSet as set
 use Rattle.std.specs.List.{AllByRecursion, AllZip}
-use Rattle.archive_core.specs.Content.{Operations, IsContent, made, joined}
+use Rattle.archive_core.specs.Content.{Operations, IsContent, content_of, joined}
 use Rattle.archive_records.specs.Text.{AreOperations, written, old_written}
 use Rattle.archive_records.proofs.Versions.{one_content, made_content}
 use Rattle.archive_commands.specs.Inputs.{Reader, IsGiven, IsGivenArchive, HoldsArchive}
@@ -10,7 +10,7 @@ use Rattle.archive_commands.specs.Merge.{MakesMerged, merged}
 use Rattle.archive_commands.proofs.Viewed.{given_content}
 
 -- an input with what version 1 wrote of operations gives the content that they make
-pub old_given : {R : Type 0} (input : Reader R) (p : Operations) → AreOperations p → IsGiven input (old_written p) → IsGivenArchive input (made p)
+pub old_given : {R : Type 0} (input : Reader R) (p : Operations) → AreOperations p → IsGiven input (old_written p) → IsGivenArchive input (content_of p)
 old_given input p are given = (old_written p, inr (record { operations = p; are = are; whole = refl; makes = refl }), given)
 
 pub new_given : {R : Type 0} (input : Reader R) (o : Operations) → IsGiven input (written o) → IsGivenArchive input o

@@ -8,7 +8,7 @@ use Rattle.archive_core.specs.Record.{retirement_record}
 use Rattle.exchange_model.specs.World as model
 use Rattle.exchange_model.specs.World.{state, outcomes}
 use Rattle.archive_exchange.specs.InnerEvents.{SeenFile}
-use Rattle.archive_exchange.specs.Seen.{Seen, IsFile, IsSeen, AreSeen, Tells, row_told, fault_told}
+use Rattle.archive_exchange.specs.ModelEvent.{ModelEvent, IsFile, IsSeen, AreSeen, OutcomeIs, row_told, fault_told}
 use Rattle.archive_exchange.specs.declared.fault.TakeFault.{TakeFault}
 use Rattle.archive_exchange.specs.declared.event.Event.{Event}
 use Rattle.archive_exchange.specs.declared.event.Event.TheVariants as event
@@ -22,7 +22,7 @@ use Rattle.archive_commands.specs.declared.faults.CannotOpen.{CannotOpen}
 use Rattle.archive_commands.specs.declared.faults.Place.{Place}
 use Rattle.archive_commands.specs.declared.faults.Status.{Status}
 use Rattle.archive_commands.specs.declared.faults.Why.{Why}
-use Rattle.archive_commands.specs.declared.faults.Why.TheVariants.{Device as CannotRead, Record, Take as TakeRefused, Script as Faulty, CannotOpen as NotOpened}
+use Rattle.archive_commands.specs.declared.faults.Why.TheVariants.{Device as CannotRead, Record, Take as TakeRefused, Script as Faulty, BadFrame, CannotOpen as NotOpened}
 use Rattle.archive_commands.specs.Inputs.{Reader, reader, Gives, IsDeviceFault, IsGiven, IsRefusedScript, IsScriptRefused}
 use Rattle.archive_commands.specs.Rehearse.{MakesRehearsed, TellsEvents, rehearsal_lines, site_lines}
 
@@ -46,6 +46,7 @@ refused_so left failures (Err _) new bytes said NotOpened is says refused = absu
 refused_so left failures old new bytes said CannotRead is says refused = tt
 refused_so left failures old new bytes said (Record fault) is says refused = absurd refused
 refused_so left failures old new bytes said (TakeRefused fault) is says refused = absurd refused
+refused_so left failures old new bytes said (BadFrame line) is says refused = absurd refused
 refused_so left failures old new bytes said (Faulty fault line) is says refused =
     absurd (no_fault (script_of bytes) said (fault, line) says (given left failures old new bytes (λ b. script_of b ≡ Err (fault, line)) is refused.1))
 
@@ -57,7 +58,7 @@ script_not_refused script bytes sites events place why is says refused =
 -- ---- one report
 
 -- what an event is, by what it asks for
-abbrev IsSeenAct : Act → Seen → Type 0
+abbrev IsSeenAct : Act → ModelEvent → Type 0
 IsSeenAct (Take site file) seen = (is : SeenFile) × IsFile file is × (seen ≡ model.Take site is)
 IsSeenAct (Retire site key digest) seen = seen ≡ model.Retire site (retirement_record key digest.0)
 IsSeenAct (Full site) seen = seen ≡ model.Full site
@@ -67,7 +68,7 @@ IsSeenAct (Deliver site message) seen = seen ≡ model.Deliver site message
 IsSeenAct (Save site) seen = seen ≡ model.Save site
 IsSeenAct (Stop site) seen = seen ≡ model.Stop site
 
-seen_by : (e : Event) (s : Seen) → IsSeen e s → IsSeenAct (act_of e) s
+seen_by : (e : Event) (s : ModelEvent) → IsSeen e s → IsSeenAct (act_of e) s
 seen_by (event.Take site file) s is = is
 seen_by (event.Retire site key digest) s is = is
 seen_by (event.Full site) s is = is
@@ -77,7 +78,7 @@ seen_by (event.Deliver site message) s is = is
 seen_by (event.Save site) s is = is
 seen_by (event.Stop site) s is = is
 
-by_seen : (e : Event) (s : Seen) → IsSeenAct (act_of e) s → IsSeen e s
+by_seen : (e : Event) (s : ModelEvent) → IsSeenAct (act_of e) s → IsSeen e s
 by_seen (event.Take site file) s is = is
 by_seen (event.Retire site key digest) s is = is
 by_seen (event.Full site) s is = is
@@ -87,19 +88,19 @@ by_seen (event.Deliver site message) s is = is
 by_seen (event.Save site) s is = is
 by_seen (event.Stop site) s is = is
 
-all_by : (es : List Event) (ss : List Seen) → AreSeen es ss → AllZip IsSeenAct (acts es) ss
+all_by : (es : List Event) (ss : List ModelEvent) → AreSeen es ss → AllZip IsSeenAct (acts es) ss
 all_by [] [] are = tt
 all_by [] (s ∷ ss) are = absurd are
 all_by (e ∷ es) [] are = absurd are
 all_by (e ∷ es) (s ∷ ss) are = (seen_by e s are.0, all_by es ss are.1)
 
-by_all : (es : List Event) (ss : List Seen) → AllZip IsSeenAct (acts es) ss → AreSeen es ss
+by_all : (es : List Event) (ss : List ModelEvent) → AllZip IsSeenAct (acts es) ss → AreSeen es ss
 by_all [] [] are = tt
 by_all [] (s ∷ ss) are = absurd are
 by_all (e ∷ es) [] are = absurd are
 by_all (e ∷ es) (s ∷ ss) are = (by_seen e s are.0, by_all es ss are.1)
 
-same_seen : (es fs : List Event) (ss : List Seen) → acts es ≡ acts fs → AreSeen es ss → AreSeen fs ss
+same_seen : (es fs : List Event) (ss : List ModelEvent) → acts es ≡ acts fs → AreSeen es ss → AreSeen fs ss
 same_seen es fs ss same are = by_all fs ss (subst (λ a. AllZip IsSeenAct a ss) same (all_by es ss are))
 
 -- the text of what is answered
@@ -112,7 +113,7 @@ answer_text messages model.Saved = codes "saved"
 answer_text messages model.Stopped = codes "stopped"
 answer_text messages (model.Refused fault) = codes "refused " ++ event_fault_text (fault_told fault)
 
-one_answer : (messages : List (List ℕ)) (o : Outcome) (a : model.Outcome TakeFault) → Tells o a → outcome_text messages o ≡ answer_text messages a
+one_answer : (messages : List (List ℕ)) (o : Outcome) (a : model.Outcome TakeFault) → OutcomeIs o a → outcome_text messages o ≡ answer_text messages a
 unfolding outcome_text
 one_answer messages (Took rows) a tells = ap took_text tells.1 ∙ sym (ap (answer_text messages) tells.2)
 one_answer messages (Retired true) a tells = sym (ap (answer_text messages) tells)
@@ -124,7 +125,7 @@ one_answer messages Stopped a tells = sym (ap (answer_text messages) tells)
 one_answer messages (Refused fault) a tells = ap (λ f. codes "refused " ++ event_fault_text f) tells.1 ∙ sym (ap (answer_text messages) tells.2)
 
 same_lines : (messages : List (List ℕ)) (n : ℕ) (told others : List Outcome) (answers : List (model.Outcome TakeFault))
-    → AllZip Tells told answers → AllZip Tells others answers → event_lines messages n told ≡ event_lines messages n others
+    → AllZip OutcomeIs told answers → AllZip OutcomeIs others answers → event_lines messages n told ≡ event_lines messages n others
 unfolding event_lines
 same_lines messages n [] [] answers p q = refl
 same_lines messages n [] (o ∷ others) [] p q = absurd q
@@ -137,14 +138,14 @@ same_lines messages n (t ∷ told) (o ∷ others) (a ∷ answers) p q =
     ap₂ (λ x rest. line (decimal n ++ codes " " ++ x) ++ rest) one (same_lines messages (n + 1) told others answers p.1 q.1)
 
 -- the same number of sites and events that are the same tell the same
-told_alike : (one : (events : List Event) (seen other : List Seen) → AreSeen events seen → AreSeen events other → seen ≡ other)
+told_alike : (one : (events : List Event) (seen other : List ModelEvent) → AreSeen events seen → AreSeen events other → seen ≡ other)
     (sites : ℕ) (es fs : List Event) (text other : List ℕ) → acts es ≡ acts fs → TellsEvents sites es text → TellsEvents sites fs other → text ≡ other
 told_alike one sites es fs text other same p q =
     let seen : p.seen ≡ q.seen = one fs p.seen q.seen (same_seen es fs p.seen same p.are_seen) q.are_seen in
-    let tells : AllZip Tells p.told (outcomes sites q.seen (length q.seen)) = subst (λ (s : List Seen). AllZip Tells p.told (outcomes sites s (length s))) seen p.outcomes_are in
+    let tells : AllZip OutcomeIs p.told (outcomes sites q.seen (length q.seen)) = subst (λ (s : List ModelEvent). AllZip OutcomeIs p.told (outcomes sites s (length s))) seen p.outcomes_are in
     let w = state sites q.seen (length q.seen) in
     p.text_is
-    ∙ ap (λ (s : List Seen). rehearsal_lines sites p.told (state sites s (length s))) seen
+    ∙ ap (λ (s : List ModelEvent). rehearsal_lines sites p.told (state sites s (length s))) seen
     ∙ ap (λ lines. lines ++ site_lines w.held sites) (same_lines _ 0 p.told q.told (outcomes sites q.seen (length q.seen)) tells q.outcomes_are)
     ∙ sym q.text_is
 
@@ -155,7 +156,7 @@ same_said read s t xs ys first second =
     let both : one ≡ other = cc in
     (ap (λ p. p.0) both, ap (λ p. p.1) both)
 
-pub one_text : (one : (events : List Event) (seen other : List Seen) → AreSeen events seen → AreSeen events other → seen ≡ other)
+pub one_text : (one : (events : List Event) (seen other : List ModelEvent) → AreSeen events seen → AreSeen events other → seen ≡ other)
     {R S : Type 0} (script : Reader R) (other : Reader S) (bytes : List ℕ) (status other_status : Status) (text other_text : List ℕ)
     → IsGiven script bytes → IsGiven other bytes → MakesRehearsed script status text → MakesRehearsed other other_status other_text
     → (status ≡ other_status) × (text ≡ other_text)

@@ -6,7 +6,7 @@ use Rattle.std.proofs.lemmas.List.{append-nil}
 use Rattle.std.proofs.lemmas.Grind.{flat_map-append}
 use Rattle.std.proofs.lemmas.List.Elements.{Contains-append_left, Contains-append_right, Contains-append_cases}
 use Rattle.archive_core.specs.Record.{admission_record}
-use Rattle.archive_core.specs.Content.{Operations, IsMade, made, joined}
+use Rattle.archive_core.specs.Content.{Operations, IsMade, content_of, joined}
 use Rattle.archive_core.proofs.Taken.{taken_are_joined}
 use Rattle.archive_exchange.proofs.Resumed.{admitted_alike as images_alike}
 use Rattle.archive_exchange.proofs.Rows.{admitted-append}
@@ -16,7 +16,7 @@ use Rattle.report_text.specs.declared.rows.AdmitRow.{AdmitRow}
 use Rattle.archive_commands.specs.Admit.{images_of, file_rows, admit_rows}
 use Rattle.archive_commands.proofs.Files.{admit_rows-append}
 
-pub admitted_joined : (o : Operations) (images : List (List ℕ)) → IsMade o → admitted o images ≡ joined o (made (set.from_list (map admission_record images)))
+pub admitted_joined : (o : Operations) (images : List (List ℕ)) → IsMade o → admitted o images ≡ joined o (content_of (set.from_list (map admission_record images)))
 admitted_joined o images is = taken_are_joined o (map admission_record images) is
 
 -- a place's successor, as it computes

@@ -112,12 +112,12 @@ module _ {S : Type 0} (left : S → Option (List ℕ)) (failures : S → ℕ) wh
   untouched_behind (x ∷ xs) (y ∷ ys) (suc n) same = untouched_behind xs ys n same
 
   -- the input at a place is refused, those before it being accepted
-  pub refused_at : (place_of : ℕ → Place) (IsGood : Reader S → Type 0) (IsRefused : Reader S → Why → Type 0) (old now : List (Result S CannotOpen)) (place : ℕ) (file after : Result S CannotOpen) (fault : CommandFault)
+  pub refused_at : (asked_of : ℕ → Place) (IsGood : Reader S → Type 0) (IsRefused : Reader S → Why → Type 0) (old now : List (Result S CannotOpen)) (place : ℕ) (file after : Result S CannotOpen) (fault : CommandFault)
       → place < length old → length now ≡ length old → file ≡ get_or old place file
       → AllByRecursion IsGood (take place (between old now)) → drop place now ≡ drop place old → EachUnfailed (between old now)
-      → IsRefusal (λ at why. (at ≡ place_of place) × IsRefused (reader left failures file after) why) (Unfailed (reader left failures file after)) fault
-      → IsRefusal (IsFirstRefused place_of IsGood IsRefused (between old (set now place after))) (EachUnfailed (between old (set now place after))) fault
-  refused_at place_of IsGood IsRefused old now place file after (Input at why) lt long is before rest each refused =
+      → IsRefusal (λ at why. (at ≡ asked_of place) × IsRefused (reader left failures file after) why) (Unfailed (reader left failures file after)) fault
+      → IsRefusal (IsFirstRefused asked_of IsGood IsRefused (between old (set now place after))) (EachUnfailed (between old (set now place after))) fault
+  refused_at asked_of IsGood IsRefused old now place file after (Input at why) lt long is before rest each refused =
       let x = reader left failures file after in
       let seen = between old now in
       let set_is = set_one old now place file after lt long is in
@@ -134,6 +134,6 @@ module _ {S : Type 0} (left : S → Option (List ℕ)) (failures : S → ℕ) wh
         refused = refused.1;
         behind = untouched_behind old (set now place after) (place + 1) (rest_kept now old place after rest);
       }
-  refused_at place_of IsGood IsRefused old now place file after (Output _) lt long is before rest each refused = absurd refused
-  refused_at place_of IsGood IsRefused old now place file after (Report _) lt long is before rest each refused = absurd refused
-  refused_at place_of IsGood IsRefused old now place file after OutOfMemory lt long is before rest each refused = unfailed_more old now place file after lt long is each refused
+  refused_at asked_of IsGood IsRefused old now place file after (Output _) lt long is before rest each refused = absurd refused
+  refused_at asked_of IsGood IsRefused old now place file after (Report _) lt long is before rest each refused = absurd refused
+  refused_at asked_of IsGood IsRefused old now place file after OutOfMemory lt long is before rest each refused = unfailed_more old now place file after lt long is each refused

@@ -9,9 +9,9 @@ use Rattle.std.proofs.lemmas.List.{append-nil, length-map, length_push}
 use Rattle.exchange_model.specs.World.{World, Event, Take, Retire, Full, Ask, Reply, Deliver, Save, Stop, Message, Content, Summary, Fault, records, state, stepped, happens, effect, unless, fault_of, answer, refused_or, outcome, outcome_of, outcomes}
 use Rattle.exchange_model.specs.World as model
 use Rattle.archive_core.specs.Content.{Operations}
-use Rattle.archive_exchange.specs.Keeping.{Keeping}
-use Rattle.archive_exchange.specs.Rehearsal.{Shows, message_text}
-use Rattle.archive_exchange.specs.Seen.{Seen, AreSeen, Tells}
+use Rattle.archive_exchange.specs.SiteState.{SiteState}
+use Rattle.archive_exchange.specs.Rehearsal.{Represents, message_text}
+use Rattle.archive_exchange.specs.ModelEvent.{ModelEvent, AreSeen, OutcomeIs}
 use Rattle.archive_exchange.specs.declared.event.Event.{Event as Event_given}
 use Rattle.archive_exchange.specs.declared.fault.TakeFault.{TakeFault}
 use Rattle.archive_exchange.specs.declared.event.Outcome.{Outcome}
@@ -99,7 +99,7 @@ module _ {F : Type 0} (sites : ℕ) where
   answers_there events zero = tt
   answers_there events (suc n) = after (state sites events n) (outcomes sites events n) (slice_get events n) (answers_there events n)
 
-one_there : (k : ℕ) (told : Outcome) (a : model.Outcome TakeFault) → Tells told a → IsThere k a → IsSentAmong k told
+one_there : (k : ℕ) (told : Outcome) (a : model.Outcome TakeFault) → OutcomeIs told a → IsThere k a → IsSentAmong k told
 one_there k (Took rows) a tells there = tt
 one_there k (Retired new) a tells there = tt
 one_there k (Sent m) a tells there = let t : IsThere {F = TakeFault} k (model.Sent m) = subst (IsThere k) tells there in t
@@ -108,7 +108,7 @@ one_there k Saved a tells there = tt
 one_there k Stopped a tells there = tt
 one_there k (Refused fault) a tells there = tt
 
-each_there : (k : ℕ) (told : List Outcome) (answers : List (model.Outcome TakeFault)) → AllZip Tells told answers → AllByRecursion (IsThere k) answers → AllByRecursion (IsSentAmong k) told
+each_there : (k : ℕ) (told : List Outcome) (answers : List (model.Outcome TakeFault)) → AllZip OutcomeIs told answers → AllByRecursion (IsThere k) answers → AllByRecursion (IsSentAmong k) told
 each_there k [] [] tells all = tt
 each_there k [] (a ∷ answers) tells all = absurd tells
 each_there k (o ∷ told) [] tells all = absurd tells
@@ -120,8 +120,8 @@ at_each P (x ∷ xs) all zero d lt = all.0
 at_each P (x ∷ xs) all (suc k) d lt = at_each P xs all.1 k d (omega (arith, lt))
 
 -- each message that the outcomes of a run tell is there in the end
-pub all_there : (sites : ℕ) (events : List Seen) (kept : List Keeping) (texts : List (List ℕ)) (told : List Outcome)
-    → Shows kept texts (state sites events (length events)) → AllZip Tells told (outcomes sites events (length events))
+pub all_there : (sites : ℕ) (events : List ModelEvent) (kept : List SiteState) (texts : List (List ℕ)) (told : List Outcome)
+    → Represents kept texts (state sites events (length events)) → AllZip OutcomeIs told (outcomes sites events (length events))
     → All (IsSentAmong (length texts)) told
 all_there sites events kept texts told shows tells =
     let w = state sites events (length events) in
@@ -134,8 +134,8 @@ pub no_sites : (held : ℕ → Operations) (text : List ℕ) → text ≡ text +
 unfolding site_lines
 no_sites held text = sym (append-nil text)
 
-pub one_site : (w : World) (n : ℕ) (kept : List Keeping) (texts : List (List ℕ)) (site : Keeping) (before text now : List ℕ)
-    → Shows kept texts w → slice_get kept n ≡ Some site
+pub one_site : (w : World) (n : ℕ) (kept : List SiteState) (texts : List (List ℕ)) (site : SiteState) (before text now : List ℕ)
+    → Represents kept texts w → slice_get kept n ≡ Some site
     → text ≡ before ++ site_lines w.held n → now ≡ text ++ held_line n site.held
     → now ≡ before ++ site_lines w.held (n + 1)
 unfolding site_lines
@@ -147,11 +147,11 @@ one_site w n kept texts site before text now shows at text_is now_is =
     ∙ ap (λ k. before ++ site_lines w.held k) (sym (add-one n))
 
 -- what a run tells, from the lines of its events and those of its sites
-pub told_so : (sites : ℕ) (events items : List Event_given) (seen : List Seen) (kept : List Keeping) (texts : List (List ℕ)) (told outcomes_now : List Outcome) (none text now : List ℕ)
+pub told_so : (sites : ℕ) (events items : List Event_given) (seen : List ModelEvent) (kept : List SiteState) (texts : List (List ℕ)) (told outcomes_now : List Outcome) (none text now : List ℕ)
     → events ≡ items → AreSeen events seen
-    → Shows kept texts (state sites seen (length seen)) → AllZip Tells told (outcomes sites seen (length seen)) → length kept ≡ sites
+    → Represents kept texts (state sites seen (length seen)) → AllZip OutcomeIs told (outcomes sites seen (length seen)) → length kept ≡ sites
     → outcomes_now ≡ told → none ≡ [] → text ≡ none ++ event_lines texts 0 outcomes_now
-    → ((w : World) → Shows kept texts w → now ≡ text ++ site_lines w.held (length kept))
+    → ((w : World) → Represents kept texts w → now ≡ text ++ site_lines w.held (length kept))
     → TellsEvents sites items now
 told_so sites events items seen kept texts told outcomes_now none text now same are shows tells long told_is none_is text_is now_is =
     let w = state sites seen (length seen) in

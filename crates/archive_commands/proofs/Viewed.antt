@@ -23,7 +23,7 @@ use Rattle.archive_commands.specs.declared.faults.CannotOpen.{CannotOpen}
 use Rattle.archive_commands.specs.declared.faults.Status.{Status}
 use Rattle.archive_commands.specs.declared.faults.Status.TheVariants.{Done, Partial}
 use Rattle.archive_commands.specs.Inputs.{Reader, reader, HoldsArchive, IsGivenArchive}
-use Rattle.archive_commands.specs.Symbolicate.{place_of, is_symbol, Answered, IsAnswered, answers_text, TellsAddresses, MakesAnswered}
+use Rattle.archive_commands.specs.Symbolicate.{asked_of, is_symbol, Answered, IsAnswered, answers_status, answers_text, TellsAddresses, MakesAnswered}
 
 abbrev seen_found : FoundRecord → List ℕ
 seen_found found =
@@ -76,20 +76,27 @@ symbol_seen NoSymbol = refl
 symbol_seen (Symbol found) = refl
 symbol_seen (Conflict rows) = refl
 
-record Seen : Type 0 where
-  address : ℕ
-  answer : AnswerRecord
+pub record ModelEvent : Type 0 where
+  pub address : ℕ
+  pub answer : AnswerRecord
 
-abbrev seen : Answered → Seen
+abbrev pub seen : Answered → ModelEvent
 seen row = record { address = row.address; answer = answer_view row.answer }
 
-text_seen : (rows : List Answered) → answers_text rows ≡ flat_map (λ (s : Seen). seen_lines s.address s.answer) (map seen rows)
+text_seen : (rows : List Answered) → answers_text rows ≡ flat_map (λ (s : ModelEvent). seen_lines s.address s.answer) (map seen rows)
 text_seen [] = refl
 text_seen (row ∷ rows) = λ i. lines_seen row.address row.answer i ++ text_seen rows i
 
-symbols_seen : (rows : List Answered) → list_all (λ row. is_symbol row.answer) rows ≡ list_all (λ (s : Seen). seen_symbol s.answer) (map seen rows)
+symbols_seen : (rows : List Answered) → list_all (λ row. is_symbol row.answer) rows ≡ list_all (λ (s : ModelEvent). seen_symbol s.answer) (map seen rows)
 symbols_seen [] = refl
 symbols_seen (row ∷ rows) = λ i. symbol_seen row.answer i && symbols_seen rows i
+
+-- answers that look alike are told alike
+pub alike_told : (rows others : List Answered) → map seen rows ≡ map seen others → (answers_status rows ≡ answers_status others) × (answers_text rows ≡ answers_text others)
+alike_told rows others same =
+    let symbols = symbols_seen rows ∙ ap (list_all (λ (s : ModelEvent). seen_symbol s.answer)) same ∙ sym (symbols_seen others) in
+    let lines = text_seen rows ∙ ap (flat_map (λ (s : ModelEvent). seen_lines s.address s.answer)) same ∙ sym (text_seen others) in
+    (ap (λ (all : Bool). if all then Done else Partial) symbols, lines)
 
 no_more : (x : ℕ) (xs : List ℕ) → [] ≡ x ∷ xs → ⊥
 no_more x xs e = cc
@@ -105,8 +112,8 @@ module _ (one : (o : Operations) (key : SliceKey) (place : Where) (answer other 
       let both : x.address ∷ map (λ row. row.address) xs ≡ y.address ∷ map (λ row. row.address) ys = e in
       let address : x.address ≡ y.address = cc in
       let rest : map (λ (row : Answered). row.address) xs ≡ map (λ (row : Answered). row.address) ys = cc in
-      let moved = subst (λ n. IsAnswer content key (place_of load n) (answer_view x.answer)) address a.0 in
-      let answer = one content key (place_of load y.address) (answer_view x.answer) (answer_view y.answer) moved b.0 in
+      let moved = subst (λ n. IsAnswer content key (asked_of load n) (answer_view x.answer)) address a.0 in
+      let answer = one content key (asked_of load y.address) (answer_view x.answer) (answer_view y.answer) moved b.0 in
       let tail = all_seen content key load xs ys rest a.1 b.1 in
       λ i. record { address = address i; answer = answer i } ∷ tail i
 
@@ -114,11 +121,10 @@ module _ (one : (o : Operations) (key : SliceKey) (place : Where) (answer other 
       → TellsAddresses content key load addresses status text → TellsAddresses content key load addresses other_status other_text → (status ≡ other_status) × (text ≡ other_text)
   one_told content key load addresses status other_status text other_text a b =
       let same = all_seen content key load a.rows b.rows (a.addresses_are ∙ sym b.addresses_are) a.answered b.answered in
-      let symbols = symbols_seen a.rows ∙ ap (list_all (λ (s : Seen). seen_symbol s.answer)) same ∙ sym (symbols_seen b.rows) in
-      let lines = text_seen a.rows ∙ ap (flat_map (λ (s : Seen). seen_lines s.address s.answer)) same ∙ sym (text_seen b.rows) in
-      (a.status_is ∙ ap (λ (all : Bool). if all then Done else Partial) symbols ∙ sym b.status_is, a.text_is ∙ lines ∙ sym b.text_is)
+      let told = alike_told a.rows b.rows same in
+      (a.status_is ∙ told.0 ∙ sym b.status_is, a.text_is ∙ told.1 ∙ sym b.text_is)
 
-known : (left : Option (List ℕ)) (bytes : List ℕ) (P : List ℕ → Type 0) → left ≡ Some bytes → IfSome left P → P bytes
+pub known : (left : Option (List ℕ)) (bytes : List ℕ) (P : List ℕ → Type 0) → left ≡ Some bytes → IfSome left P → P bytes
 known left bytes P is p = let q : IfSome (Some bytes) P = subst (λ (l : Option (List ℕ)). IfSome l P) is p in q
 
 -- a text gives one content only
@@ -131,7 +137,7 @@ given_content one left failures (Ok source) new o p c d given holds = one given.
 given_content one left failures (Err _) new o p c d given holds = absurd given.2
 
 -- a record of an archive that has this content tells what the content tells
-made_of : (one : OneContent)
+pub made_of : (one : OneContent)
     {R : Type 0} (archive : Reader R) (o : Operations) (key : SliceKey) (load : Option ℕ) (addresses : List ℕ) (status : Status) (text : List ℕ)
     → IsContent o → IsGivenArchive archive o → MakesAnswered archive key load addresses status text → TellsAddresses o key load addresses status text
 made_of one archive o key load addresses status text content given makes =

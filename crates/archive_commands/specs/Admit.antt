@@ -9,8 +9,8 @@ use Rattle.report_text.specs.Report.{admit_lines}
 use Rattle.archive_commands.specs.declared.faults.Place.TheVariants.{File}
 use Rattle.report_text.specs.declared.rows.AdmitRow.{AdmitRow}
 use Rattle.archive_commands.specs.Ends.{Command, MakesArchive}
-use Rattle.archive_commands.specs.Inputs.{Reader, Holds, Unfailed, EachUnfailed, EachUntouched, IsAccepted, HoldsArchive}
-use Rattle.archive_commands.specs.Inputs.{IsFileRefused, IsFirstRefused, IsRefusedInOrder}
+use Rattle.archive_commands.specs.Inputs.{Reader, Holds, Unfailed, EachUnfailed, EachUntouched, IsAccepted}
+use Rattle.archive_commands.specs.Inputs.{HoldsArchive, IsFileRefused, IsFirstRefused, IsRefusedInOrder}
 
 -- the images of files: those of their parts that are one, in their order
 abbrev pub images_of : List (List ℕ) → List (List ℕ)

@@ -6,7 +6,8 @@ use Rattle.archive_core.specs.Summary.{Entries}
 use Rattle.archive_records.specs.Entry.{AreEntries}
 use Rattle.archive_records.specs.Text.{summary_text}
 use Rattle.archive_commands.specs.Ends.{Command, MakesArchive}
-use Rattle.archive_commands.specs.Inputs.{Reader, Holds, Unfailed, IsUntouched, IsRefusedSummary, IsRefusedInOrder, HoldsArchive}
+use Rattle.archive_commands.specs.Inputs.{Reader, Holds, Unfailed, IsUntouched, IsRefusedSummary, IsRefusedInOrder}
+use Rattle.archive_commands.specs.Inputs.{HoldsArchive}
 
 -- ARCHIVE is the text of a content and SUMMARY that of entries; this is the content of the operations that they do not
 -- name, and there are no lines but the sizes.

@@ -51,7 +51,7 @@ pub record Query : Type 1 where
   pub Unfailed : Type 0
 
 -- The input is accepted, and what it makes is reported.
-pub record Tells (Makes : Status → List ℕ → Type 0) (report : Writer)
+pub record CarriesReport (Makes : Status → List ℕ → Type 0) (report : Writer)
     (result : Result Status CommandFault) : Type 0 where
   pub status : Status
   pub text : List ℕ
@@ -62,8 +62,8 @@ pub record Tells (Makes : Status → List ℕ → Type 0) (report : Writer)
 -- makes is reported, wholly or up to where the report failed. Where memory is wanting nothing is written. Where
 -- it is not refused, its reader does not fail.
 abbrev pub EndsReport : Query → Writer → Result Status CommandFault → Type 0
-EndsReport query report (Ok status) = query.Unfailed × Tells query.Makes report (Ok status)
+EndsReport query report (Ok status) = query.Unfailed × CarriesReport query.Makes report (Ok status)
 EndsReport query report (Err (Input place why)) = query.Refuses place why × Takes report []
 EndsReport query report (Err (Output _)) = ⊥
-EndsReport query report (Err (Report n)) = query.Unfailed × Tells query.Makes report (Err (Report n))
+EndsReport query report (Err (Report n)) = query.Unfailed × CarriesReport query.Makes report (Err (Report n))
 EndsReport query report (Err OutOfMemory) = query.Unfailed × Takes report []

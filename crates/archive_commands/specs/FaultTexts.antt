@@ -5,8 +5,9 @@ use Rattle.report_text.specs.Rehearsal.{script_fault_text}
 use Rattle.report_text.specs.Texts.{record_fault_text, take_fault_text}
 use Rattle.archive_commands.specs.declared.faults.Place.{Place}
 use Rattle.archive_commands.specs.declared.faults.Place.TheVariants.{Archive, File, Ops, Summary, Script as ScriptPlace}
+use Rattle.archive_commands.specs.declared.faults.Place.TheVariants.{Frames}
 use Rattle.archive_commands.specs.declared.faults.Why.{Why}
-use Rattle.archive_commands.specs.declared.faults.Why.TheVariants.{CannotOpen, Device, Record, Take, Script}
+use Rattle.archive_commands.specs.declared.faults.Why.TheVariants.{CannotOpen, Device, Record, Take, Script, BadFrame}
 use Rattle.archive_commands.specs.declared.faults.CommandFault.{CommandFault}
 use Rattle.archive_commands.specs.declared.faults.CommandFault.TheVariants.{Input, Output, Report, OutOfMemory}
 
@@ -17,6 +18,7 @@ place_text (File number) = codes "file " ++ decimal number
 place_text Ops = codes "ops"
 place_text Summary = codes "summary"
 place_text ScriptPlace = codes "script"
+place_text Frames = codes "frames"
 
 -- what is wrong with an input
 unfoldable pub why_text : Why → List ℕ
@@ -25,6 +27,7 @@ why_text Device = codes "Device"
 why_text (Record fault) = record_fault_text fault
 why_text (Take fault) = take_fault_text fault
 why_text (Script fault line) = script_fault_text fault ++ codes " at line " ++ decimal line
+why_text (BadFrame line) = codes "BadFrame at line " ++ decimal line
 
 -- where a device failed: the number of bytes that it had taken
 abbrev pub failed_after : ℕ → List ℕ

@@ -16,15 +16,18 @@ use Rattle.archive_records.specs.declared.kind.TextKind.TheVariants.{Summary as 
 use Rattle.archive_exchange.specs.File.{IsAcceptedFile, IsTakeFault}
 use Rattle.archive_exchange.specs.declared.fault.TakeFault.{TakeFault}
 use Rattle.archive_exchange.specs.declared.fault.TakeFault.TheVariants.{OutOfMemory as TakeOutOfMemory}
+use Rattle.crash_frames.specs.Frames.{frames_of}
+use Rattle.crash_frames.specs.declared.frame.Frame.{Frame}
 use Rattle.rehearsal.specs.Script.{script_of}
 use Rattle.archive_commands.specs.declared.faults.CannotOpen.{CannotOpen}
 use Rattle.archive_commands.specs.declared.faults.CommandFault.{CommandFault}
 use Rattle.archive_commands.specs.declared.faults.CommandFault.TheVariants.{Input, Output, Report, OutOfMemory}
 use Rattle.archive_commands.specs.declared.faults.Place.{Place}
 use Rattle.archive_commands.specs.declared.faults.Place.TheVariants.{Archive, File, Ops, Summary, Script}
+use Rattle.archive_commands.specs.declared.faults.Place.TheVariants.{Frames}
 use Rattle.archive_commands.specs.declared.faults.Why.{Why}
 use Rattle.archive_commands.specs.declared.faults.Why.TheVariants.{Device as CannotRead, Record, Take, Script as Faulty}
-use Rattle.archive_commands.specs.declared.faults.Why.TheVariants.{CannotOpen as NotOpened}
+use Rattle.archive_commands.specs.declared.faults.Why.TheVariants.{CannotOpen as NotOpened, BadFrame}
 
 -- An input in a call, before it and after it: a reader, or that none was opened. The functions tell what a reader has
 -- left, where that is known, and how often it has failed.
@@ -108,15 +111,33 @@ IsFileRefused input why =
     × IfSome (input.left source) (λ bytes. IsTakeFault bytes fault)))
     (λ _. (why ≡ NotOpened) × IsUntouched input)
 
--- why a script is not carried out: it was not opened, the reader failed, or it did not and this is wrong with the first
--- faulty line of its bytes
-abbrev pub IsScriptRefused : {S : Type 0} → Reader S → Why → Type 0
-IsScriptRefused input NotOpened = MatchResult input.old (λ _. ⊥) (λ _. Unit {0})
-IsScriptRefused input CannotRead =
+-- why the bytes of an input are not read: it was not opened, or the reader failed
+abbrev pub IsUnread : {S : Type 0} → Reader S → Why → Type 0
+IsUnread input NotOpened = MatchResult input.old (λ _. ⊥) (λ _. IsUntouched input)
+IsUnread input CannotRead =
     MatchResult input.old (λ source. FailedIn (input.failures source) (failures_of input.failures input.new)) (λ _. ⊥)
-IsScriptRefused input (Faulty fault line) = Unfailed input × Gives input (λ bytes. script_of bytes ≡ Err (fault, line))
+IsUnread input (Record _) = ⊥
+IsUnread input (Take _) = ⊥
+IsUnread input (Faulty _ _) = ⊥
+IsUnread input (BadFrame _) = ⊥
+
+-- why a script is not carried out: its bytes are not read, or they are and this is wrong with their first faulty line
+abbrev pub IsScriptRefused : {S : Type 0} → Reader S → Why → Type 0
+IsScriptRefused input NotOpened = IsUnread input NotOpened
+IsScriptRefused input CannotRead = IsUnread input CannotRead
 IsScriptRefused input (Record _) = ⊥
 IsScriptRefused input (Take _) = ⊥
+IsScriptRefused input (Faulty fault line) = Unfailed input × Gives input (λ bytes. script_of bytes ≡ Err (fault, line))
+IsScriptRefused input (BadFrame _) = ⊥
+
+-- why nothing is told of frames: their bytes are not read, or they are and this is their first faulty line
+abbrev pub IsFramesRefused : {S : Type 0} → Reader S → Why → Type 0
+IsFramesRefused input NotOpened = IsUnread input NotOpened
+IsFramesRefused input CannotRead = IsUnread input CannotRead
+IsFramesRefused input (Record _) = ⊥
+IsFramesRefused input (Take _) = ⊥
+IsFramesRefused input (Faulty _ _) = ⊥
+IsFramesRefused input (BadFrame line) = Unfailed input × Gives input (λ bytes. frames_of bytes ≡ Err line)
 
 -- The input is an archive's text.
 abbrev pub IsArchive : {S : Type 0} → Reader S → Type 0
@@ -129,9 +150,20 @@ pub record HoldsPart {S : Type 0} (input : Reader S) (picks : List ℕ → Bool)
   pub text : HoldsArchive input whole
   pub kept : o ≡ part whole picks
 
+-- The input is an archive's text, and this is true of its content.
+pub record HoldsContent {S : Type 0} (input : Reader S) (IsTrue : Operations → Type 0) : Type 0 where
+  pub content : Operations
+  pub is_content : IsContent content
+  pub text : HoldsArchive input content
+  pub is_true : IsTrue content
+
 -- The input is a file whose slices are taken.
 abbrev pub IsAccepted : {S : Type 0} → Reader S → Type 0
 IsAccepted input = (bytes : List ℕ) × IsAcceptedFile bytes × Holds input bytes
+
+-- The input says frames.
+abbrev pub IsFrames : {S : Type 0} → Reader S → Type 0
+IsFrames input = (said : List Frame) × Gives input (λ bytes. frames_of bytes ≡ Ok said)
 
 -- the archive at this place of the words is refused
 abbrev pub IsRefusedArchive : {S : Type 0} → ℕ → Reader S → Place → Why → Type 0
@@ -158,12 +190,16 @@ IsRefusedSummary input at why = (at ≡ Summary) × IsSummaryRefused input why
 abbrev pub IsRefusedScript : {S : Type 0} → Reader S → Place → Why → Type 0
 IsRefusedScript input at why = (at ≡ Script) × IsScriptRefused input why
 
+-- the frames are refused
+abbrev pub IsRefusedFrames : {S : Type 0} → Reader S → Place → Why → Type 0
+IsRefusedFrames input at why = (at ≡ Frames) × IsFramesRefused input why
+
 -- One of these inputs, which have such places in the words, is refused: those before it are accepted, with no reader
 -- of theirs failing, and those behind it are untouched.
-pub record IsFirstRefused {S : Type 0} (place_of : ℕ → Place) (IsGood : Reader S → Type 0)
+pub record IsFirstRefused {S : Type 0} (asked_of : ℕ → Place) (IsGood : Reader S → Type 0)
     (IsRefused : Reader S → Why → Type 0) (inputs : List (Reader S)) (at : Place) (why : Why) : Type 0 where
   pub number : ℕ
-  pub at_is : at ≡ place_of number
+  pub at_is : at ≡ asked_of number
   pub before : AllByRecursion IsGood (take number inputs)
   pub unfailed : EachUnfailed (take number inputs)
   pub input : Reader S
@@ -200,6 +236,7 @@ IsDeviceFault CannotRead = Unit {0}
 IsDeviceFault (Record fault) = fault.kind ≡ Device
 IsDeviceFault (Take _) = ⊥
 IsDeviceFault (Faulty _ _) = ⊥
+IsDeviceFault (BadFrame _) = ⊥
 
 -- An archive's text is refused for its device alone.
 abbrev pub RefusesDevicesAlone : {R : Type 0} → (Reader R → Place → Why → Type 0) → Type 0

@@ -1,5 +1,6 @@
 pub mod FaultTexts
 pub mod Inputs
+pub mod InnerSources
 pub mod Outputs
 pub mod Ends
 pub mod Admit
@@ -12,6 +13,7 @@ pub mod Find
 pub mod List
 pub mod Name
 pub mod Symbolicate
+pub mod Frames
 pub mod Summary
 pub mod Delta
 pub mod Rehearse

@@ -6,7 +6,7 @@ use Rattle.archive_core.specs.Content.{Operations}
 use Rattle.archive_records.specs.Text.{written}
 use Rattle.exchange_model.specs.World.{World, state, outcomes}
 use Rattle.archive_exchange.specs.Rehearsal.{message_text}
-use Rattle.archive_exchange.specs.Seen.{Seen, AreSeen, Tells}
+use Rattle.archive_exchange.specs.ModelEvent.{ModelEvent, AreSeen, OutcomeIs}
 use Rattle.archive_exchange.specs.declared.event.Event.{Event}
 use Rattle.archive_exchange.specs.declared.event.Outcome.{Outcome}
 use Rattle.rehearsal.specs.Script.{acts, script_of}
@@ -33,10 +33,10 @@ rehearsal_lines sites told w = event_lines (map message_text w.messages) 0 told 
 -- The events are carried out on so many sites, which begin empty: these outcomes tell what is answered to each, and
 -- these are their lines and those of what the sites hold behind all events.
 pub record TellsEvents (sites : ℕ) (events : List Event) (text : List ℕ) : Type 0 where
-  pub seen : List Seen
+  pub seen : List ModelEvent
   pub told : List Outcome
   pub are_seen : AreSeen events seen
-  pub outcomes_are : AllZip Tells told (outcomes sites seen (length seen))
+  pub outcomes_are : AllZip OutcomeIs told (outcomes sites seen (length seen))
   pub text_is : text ≡ rehearsal_lines sites told (state sites seen (length seen))
 
 -- SCRIPT says so many sites and these events, and these are their lines, whatever events were refused.

@@ -16,9 +16,9 @@ use Rattle.archive_commands.specs.Inputs.{Reader, Unfailed, IsRefusedArchive, Ho
 
 -- the place that an address of the words means: one of the image where it was loaded, if the words say where, and else
 -- one of its file
-abbrev pub place_of : Option ℕ → ℕ → Where
-place_of None address = File address
-place_of (Some load) address = Loaded load address
+abbrev pub asked_of : Option ℕ → ℕ → Where
+asked_of None address = File address
+asked_of (Some load) address = Loaded load address
 
 -- the answer is one symbol
 abbrev pub is_symbol : Answer → Bool
@@ -34,7 +34,7 @@ pub record Answered : Type 0 where
 
 -- the answer is what the content tells of the address
 abbrev pub IsAnswered : Operations → SliceKey → Option ℕ → Answered → Type 0
-IsAnswered content key load row = IsAnswer content key (place_of load row.address) (answer_view row.answer)
+IsAnswered content key load row = IsAnswer content key (asked_of load row.address) (answer_view row.answer)
 
 -- done where each answer is one symbol
 abbrev pub answers_status : List Answered → Status

@@ -21,40 +21,40 @@ use memory::{Heap, NoMemory};
 use report_text::{AdmitRow, admit_lines};
 
 /// The refusal of a file at a place, whose bytes have this fault.
-fn refusal(place: u64, fault: TakeFault) -> CommandFault
+fn refusal(index: u64, fault: TakeFault) -> CommandFault
     ensures refused { (bytes : List ℕ) → IsTakeFault bytes fault
-        → IsRefusal (IsRefusedBytes place bytes) (Unit {0}) result }
+        → IsRefusal (IsRefusedBytes index bytes) (Unit {0}) result }
 {
     match fault {
         TakeFault::OutOfMemory => CommandFault::OutOfMemory,
-        fault => CommandFault::Input(Place::File(place), Why::Take(fault)),
+        fault => CommandFault::Input(Place::File(index), Why::Take(fault)),
     }
 }
 
 /// Takes the slices of the file at a place, whose bytes these are.
 fn take_bytes<A: Archive>(
     archive: &mut A,
-    place: u64,
+    index: u64,
     bytes: Vec<u8, Heap>,
 ) -> Result<Vec<Taken, Heap>, CommandFault>
     ensures accepted { OnOk result (IsAcceptedFile bytes.items) }
     ensures content { OnOk result (A.content archive.new ≡ admitted (A.content archive.old) (admissible bytes.items)) }
     ensures rows { IfOk result (λ taken. taken.items ≡ taken_rows (A.content archive.old) (parts bytes.items)) }
-    ensures refused { IfErr result (IsRefusal (IsRefusedBytes place bytes.items) (Unit {0})) }
+    ensures refused { IfErr result (IsRefusal (IsRefusedBytes index bytes.items) (Unit {0})) }
 {
     match take_file(archive, bytes) {
         Ok(taken) => Ok(taken),
-        Err(fault) => Err(refusal(place, fault)),
+        Err(fault) => Err(refusal(index, fault)),
     }
 }
 
 /// Adds a row a slice of the file at a place.
-fn push_rows(rows: &mut Vec<AdmitRow, Heap>, place: u64, taken: &[Taken]) -> Result<(), NoMemory>
-    ensures { OnOk result (rows.new.items ≡ rows.old.items ++ file_rows place 0 taken.now) }
+fn push_rows(rows: &mut Vec<AdmitRow, Heap>, index: u64, taken: &[Taken]) -> Result<(), NoMemory>
+    ensures { OnOk result (rows.new.items ≡ rows.old.items ++ file_rows index 0 taken.now) }
 {
     'slices: for (slice, taken) in taken.iter().enumerate() {
         rows.push(AdmitRow {
-            file: place,
+            file: index,
             slice: slice as u64,
             taken: *taken,
         })?;
@@ -67,21 +67,21 @@ fn admit_file<A: Archive, S: Source>(
     heap: &Heap,
     archive: &mut A,
     rows: &mut Vec<AdmitRow, Heap>,
-    place: u64,
+    index: u64,
     file: &mut Result<S, CannotOpen>,
 ) -> Result<(), CommandFault>
     ensures taken { OnOk result ((bytes : List ℕ)
         × IsAcceptedFile bytes
         × Holds (reader S.left S.failures file.old file.new) bytes
         × (A.content archive.new ≡ admitted (A.content archive.old) (admissible bytes))
-        × (rows.new.items ≡ rows.old.items ++ file_rows place 0 (taken_rows (A.content archive.old) (parts bytes)))) }
+        × (rows.new.items ≡ rows.old.items ++ file_rows index 0 (taken_rows (A.content archive.old) (parts bytes)))) }
     ensures unfailed { OnOk result (Unfailed (reader S.left S.failures file.old file.new)) }
-    ensures refused { IfErr result (IsRefusal (IsRefusedFile place (reader S.left S.failures file.old file.new))
+    ensures refused { IfErr result (IsRefusal (IsRefusedFile index (reader S.left S.failures file.old file.new))
         (Unfailed (reader S.left S.failures file.old file.new))) }
 {
-    let bytes = read_file(heap.clone()?, place, file)?;
-    let taken = take_bytes(archive, place, bytes)?;
-    push_rows(rows, place, &taken)?;
+    let bytes = read_file(heap.clone()?, index, file)?;
+    let taken = take_bytes(archive, index, bytes)?;
+    push_rows(rows, index, &taken)?;
     Ok(())
 }
 
@@ -99,8 +99,8 @@ fn admit_files<A: Archive, S: Source>(
         (EachUnfailed (readers S.left S.failures files.old files.new))) }
 {
     let mut rows = Vec::new(heap.clone()?);
-    'files: for (place, file) in files.iter_mut().enumerate() {
-        admit_file(heap, archive, &mut rows, place as u64, file)?;
+    'files: for (index, file) in files.iter_mut().enumerate() {
+        admit_file(heap, archive, &mut rows, index as u64, file)?;
     }
     Ok(rows)
 }

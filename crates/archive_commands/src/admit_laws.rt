@@ -4,7 +4,7 @@ ghost use Rattle.std.specs.Prelude.{◌≡◌, ◌↔◌, ◌+◌, ◌++◌, ℕ
 ghost use Rattle.std.specs.List.{AllByRecursion, AllZip};
 ghost use Rattle.std.specs.FinSet as set;
 ghost use Rattle.archive_core.specs.Record.{admission_record};
-ghost use Rattle.archive_core.specs.Content.{Operations, IsContent, IsMade, made, joined};
+ghost use Rattle.archive_core.specs.Content.{Operations, IsContent, IsMade, content_of, joined};
 ghost use Rattle.archive_exchange.specs.File.{parts, IsAcceptedFile};
 ghost use Rattle.archive_exchange.specs.Take.{admitted, taken_rows};
 ghost use Rattle.archive_commands.specs.declared.faults.Place.{Place};
@@ -19,7 +19,8 @@ use byte_device::Source;
 /// the files stand among the words.
 pub fn admitted_in_any_order()
     ensures content { (o : Operations) (files : List (List ℕ)) → IsMade o
-        → admitted o (images_of files) ≡ joined o (made (set.from_list (map admission_record (images_of files)))) }
+        → admitted o (images_of files)
+        ≡ joined o (content_of (set.from_list (map admission_record (images_of files)))) }
     ensures order { (o : Operations) (files others : List (List ℕ)) → IsMade o
         → ((file : List ℕ) → Contains files file ↔ Contains others file)
         → admitted o (images_of files) ≡ admitted o (images_of others) }
@@ -28,21 +29,21 @@ pub fn admitted_in_any_order()
 /// The rows of a file stand behind those of the files before it, and say what became of its slices over IN with the
 /// images of these.
 pub fn rows_in_order()
-    ensures { (o : Operations) (files : List (List ℕ)) (place : ℕ) (file : List ℕ) → slice_get files place ≡ Some file
-        → admit_rows o 0 files ≡ admit_rows o 0 (take place files)
-        ++ (file_rows place 0 (taken_rows (admitted o (images_of (take place files))) (parts file))
-        ++ admit_rows (admitted o (images_of (take (place + 1) files))) (place + 1) (drop (place + 1) files)) }
+    ensures { (o : Operations) (files : List (List ℕ)) (index : ℕ) (file : List ℕ) → slice_get files index ≡ Some file
+        → admit_rows o 0 files ≡ admit_rows o 0 (take index files)
+        ++ (file_rows index 0 (taken_rows (admitted o (images_of (take index files))) (parts file))
+        ++ admit_rows (admitted o (images_of (take (index + 1) files))) (index + 1) (drop (index + 1) files)) }
 {}
 
 /// Where IN is the text of a content and each file is accepted, no input is refused but for its device.
 pub fn accepted_inputs_are_not_refused<R: Source, S: Source>()
-    ensures { (input : Reader R) (files : List (Reader S)) (o : Operations) (texts : List (List ℕ)) (place : Place)
+    ensures { (input : Reader R) (files : List (Reader S)) (o : Operations) (texts : List (List ℕ)) (index : Place)
         (why : Why)
         → IsContent o
         → IsGivenArchive input o
         → AllZip IsGiven files texts
         → AllByRecursion IsAcceptedFile texts
-        → (admit input files).Refuses place why
+        → (admit input files).Refuses index why
         → IsDeviceFault why }
 {
     one_take_fault();

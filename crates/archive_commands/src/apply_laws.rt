@@ -2,9 +2,10 @@
 //! nothing but call other laws.
 ghost use Rattle.std.specs.Prelude.{◌≡◌, ◌↔◌, ◌≤◌, ◌+◌, ℕ, List, [], ◌∷◌, Contains, if◌then◌else◌, length, map};
 ghost use Rattle.std.specs.FinSet as set;
-ghost use Rattle.archive_core.specs.Content.{Operations, IsContent, IsMade, made, joined, with_record, with_records};
+ghost use Rattle.archive_core.specs.Content.{Operations, IsContent, IsMade, content_of, joined, with_record};
+ghost use Rattle.archive_core.specs.Content.{with_records};
 ghost use Rattle.archive_core.specs.Content.{changes, new_among};
-ghost use Rattle.archive_core.specs.Record.{rec};
+ghost use Rattle.archive_core.specs.Record.{record_bytes};
 ghost use Rattle.archive_core.specs.declared.operations.Operation.{Operation};
 ghost use Rattle.archive_records.specs.Text.{IsOperationsText, written};
 ghost use Rattle.archive_commands.specs.declared.faults.Place.{Place};
@@ -19,13 +20,14 @@ use byte_device::Source;
 /// stand in the file; so two files with the same operations leave one text in OUT.
 pub fn applied_in_any_order()
     ensures content { (o : Operations) (operations : List Operation) → IsMade o
-        → with_records o (map rec operations) ≡ joined o (made (set.from_list (map rec operations))) }
+        → with_records o (map record_bytes operations)
+        ≡ joined o (content_of (set.from_list (map record_bytes operations))) }
     ensures order { (o : Operations) (operations others : List Operation) → IsMade o
         → ((operation : Operation) → Contains operations operation ↔ Contains others operation)
-        → with_records o (map rec operations) ≡ with_records o (map rec others) }
+        → with_records o (map record_bytes operations) ≡ with_records o (map record_bytes others) }
     ensures text { (o : Operations) (operations others : List Operation) → IsMade o
         → ((operation : Operation) → Contains operations operation ↔ Contains others operation)
-        → written (with_records o (map rec operations)) ≡ written (with_records o (map rec others)) }
+        → written (with_records o (map record_bytes operations)) ≡ written (with_records o (map record_bytes others)) }
 {
     takes_in_any_order();
 }
@@ -35,10 +37,11 @@ pub fn applied_in_any_order()
 pub fn new_ones_are_counted()
     ensures none { (o : Operations) → new_among o [] ≡ 0 }
     ensures in_turn { (o : Operations) (operation : Operation) (rest : List Operation)
-        → new_among o (map rec (operation ∷ rest))
-        ≡ (if changes o (rec operation) then 1 else 0) + new_among (with_record o (rec operation)) (map rec rest) }
+        → new_among o (map record_bytes (operation ∷ rest))
+        ≡ (if changes o (record_bytes operation) then 1 else 0) + new_among (with_record o (record_bytes operation))
+        (map record_bytes rest) }
     ensures within { (o : Operations) (operations : List Operation)
-        → new_among o (map rec operations) ≤ length operations }
+        → new_among o (map record_bytes operations) ≤ length operations }
 {
     new_ones_in_turn();
 }

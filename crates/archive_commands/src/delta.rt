@@ -6,7 +6,7 @@ ghost use Rattle.archive_commands.specs.Outputs.{writer};
 
 use crate::faults::{CannotOpen, CommandFault, Status};
 use crate::publish::publish_delta;
-use crate::sources::{read_input, read_named};
+use crate::sources::{read_input, read_summary_input};
 use archive_core::Archive;
 use byte_device::{Sink, Source};
 use memory::Heap;
@@ -29,6 +29,6 @@ pub fn run_delta<A: Archive + Drop, R: Source, S: Source, W: Sink, P: Sink>(
         (writer W.held W.failures out.old out.new) (writer P.held P.failures report.old report.new) result }
 {
     let archive: A = read_input(heap.clone()?, 0, archive)?;
-    let summary = read_named(heap.clone()?, summary)?;
+    let summary = read_summary_input(heap.clone()?, summary)?;
     publish_delta(heap, &archive, &summary, out, report)
 }

@@ -38,6 +38,8 @@ pub enum Place {
     Summary,
     /// The script that is carried out.
     Script,
+    /// The frames that are answered.
+    Frames,
 }
 
 /// What is wrong with an input.
@@ -45,7 +47,7 @@ pub enum Place {
 pub enum Why {
     /// It could not be opened.
     CannotOpen,
-    /// Reading a file of slices or a script failed.
+    /// Reading a file of slices, a script or frames failed.
     Device,
     /// It is no text of an archive, of operations or of a summary, or reading it failed.
     Record(RecordFault),
@@ -53,6 +55,8 @@ pub enum Why {
     Take(TakeFault),
     /// It is no script; the line is the first faulty one, counted from 1.
     Script { fault: ScriptFault, line: u64 },
+    /// It is no text of frames; the line is the first faulty one, counted from 1.
+    BadFrame { line: u64 },
 }
 
 /// Why a command is refused.
@@ -108,6 +112,7 @@ impl fmt::Display for Place {
             Place::Ops => f.write_str("ops"),
             Place::Summary => f.write_str("summary"),
             Place::Script => f.write_str("script"),
+            Place::Frames => f.write_str("frames"),
         }
     }
 }
@@ -135,6 +140,7 @@ impl fmt::Display for Why {
                 let fault = Text(*fault);
                 write!(f, "{fault} at line {line}")
             }
+            Why::BadFrame { line } => write!(f, "BadFrame at line {line}"),
         }
     }
 }

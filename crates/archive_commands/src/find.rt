@@ -6,7 +6,7 @@ ghost use Rattle.archive_commands.specs.Inputs.{reader};
 ghost use Rattle.archive_commands.specs.Outputs.{writer};
 
 use crate::faults::{CannotOpen, CommandFault, Status};
-use crate::publish::tell;
+use crate::publish::publish_report;
 use crate::sources::read_input_part;
 use archive_core::{Archive, FindRow};
 use archive_records::Under;
@@ -44,5 +44,5 @@ pub fn run_find<A: Archive + Drop, R: Source, P: Sink>(
     let archive: A = read_input_part(heap.clone()?, 0, &Under(uuid.as_bytes()), archive)?;
     let rows = archive.find(uuid)?;
     let text = find_lines(heap, &rows)?;
-    tell(status_of(&rows), &text, report)
+    publish_report(status_of(&rows), &text, report)
 }

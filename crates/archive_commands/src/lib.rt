@@ -7,11 +7,11 @@
 //! - `failures`: the line that the program says where it fails;
 //! - `sources`: the inputs;
 //! - `publish`: the end of each command;
-//! - `new`, `admit`, `retire`, `merge`, `migrate`, `apply`, `find`, `list`, `name`, `symbolicate`, `summary`,
-//!   `delta`, `rehearse`: a command each;
+//! - `new`, `admit`, `retire`, `merge`, `migrate`, `apply`, `find`, `list`, `name`, `symbolicate`, `frames`,
+//!   `summary`, `delta`, `rehearse`: a command each;
 //! - [`admit_laws`], [`retire_laws`], [`merge_laws`], [`migrate_laws`], [`apply_laws`], [`find_laws`], [`list_laws`],
-//!   [`name_laws`], [`symbolicate_laws`], [`exchange_laws`], [`rehearse_laws`]: what the definitions of the commands say
-//!   in the words of their user.
+//!   [`name_laws`], [`symbolicate_laws`], [`frames_laws`], [`exchange_laws`], [`rehearse_laws`]: what the definitions
+//! of   the commands say in the words of their user.
 #![tactic(auto)]
 
 mod admit;
@@ -24,6 +24,8 @@ mod failures;
 mod faults;
 mod find;
 pub mod find_laws;
+mod frames;
+pub mod frames_laws;
 mod list;
 pub mod list_laws;
 mod merge;
@@ -49,6 +51,7 @@ pub use delta::run_delta;
 pub use failures::Failure;
 pub use faults::{CannotCreate, CannotOpen, CommandFault, Place, Status, Why};
 pub use find::run_find;
+pub use frames::run_frames;
 pub use list::run_list;
 pub use merge::run_merge;
 pub use migrate::run_migrate;

@@ -6,9 +6,8 @@ ghost use Rattle.archive_commands.specs.Outputs.{writer};
 
 use crate::faults::{CannotOpen, CommandFault, Status};
 use crate::find::status_of;
-use crate::publish::tell;
-use crate::sources::read_input;
-use archive_core::Archive;
+use crate::publish::publish_report;
+use crate::sources::read_rows;
 use byte_device::{Sink, Source};
 use memory::Heap;
 use report_text::list_lines;
@@ -21,7 +20,7 @@ use report_text::list_lines;
 /// # Errors
 ///
 /// `Input` where the archive is refused; `Report` where the report failed; `OutOfMemory`.
-pub fn run_list<A: Archive + Drop, R: Source, P: Sink>(
+pub fn run_list<R: Source, P: Sink>(
     heap: Heap,
     archive: &mut Result<R, CannotOpen>,
     report: &mut P,
@@ -29,8 +28,7 @@ pub fn run_list<A: Archive + Drop, R: Source, P: Sink>(
     ensures { EndsReport (list (reader R.left R.failures archive.old archive.new))
         (writer P.held P.failures report.old report.new) result }
 {
-    let archive: A = read_input(heap.clone()?, 0, archive)?;
-    let rows = archive_core::list(heap.clone()?, &archive)?;
+    let rows = read_rows(heap.clone()?, archive)?;
     let text = list_lines(heap, &rows)?;
-    tell(status_of(&rows), &text, report)
+    publish_report(status_of(&rows), &text, report)
 }

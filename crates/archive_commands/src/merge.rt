@@ -3,16 +3,17 @@ ghost use Rattle.std.specs.Prelude.{◌≡◌, ◌+◌, OnOk, IfErr};
 ghost use Rattle.archive_core.specs.Content.{Operations, IsContent, joined};
 ghost use Rattle.archive_records.specs.Text.{written};
 ghost use Rattle.archive_commands.specs.Ends.{Ends};
-ghost use Rattle.archive_commands.specs.Inputs.{EachUnfailed, IsArchive, IsArchiveRefused, IsFirstRefused, HoldsArchive};
+ghost use Rattle.archive_commands.specs.Inputs.{EachUnfailed, IsArchive, IsArchiveRefused, IsFirstRefused};
+ghost use Rattle.archive_commands.specs.Inputs.{HoldsArchive};
 ghost use Rattle.archive_commands.specs.Inputs.{IsRefusal, IsRefusedArchive, Unfailed, reader, readers};
 ghost use Rattle.archive_commands.specs.Merge.{HasJoined, file_place, merge};
 ghost use Rattle.archive_commands.specs.MergeStreams.{EndsMerge, EndsOfOne, EndsStreamed, IsTold};
 ghost use Rattle.archive_commands.specs.Outputs.{writer};
 ghost use Rattle.archive_records.specs.Merging.{stream};
 
-use crate::faults::{CannotOpen, CommandFault, Place, Status, Why};
-use crate::publish::{publish, tell};
-use crate::sources::{read_input, refusal};
+use crate::faults::{CannotOpen, CommandFault, Place, Status};
+use crate::publish::{publish, publish_report};
+use crate::sources::{opened, read_input, refusal};
 use archive_core::{Archive, take_all};
 use archive_records::{MergeCause, MergeFault, merge_streams};
 use byte_device::{Sink, Source};
@@ -52,8 +53,8 @@ fn join_files<A: Archive + Drop, S: Source>(
         (IsFirstRefused file_place IsArchive IsArchiveRefused (readers S.left S.failures files.old files.new))
         (EachUnfailed (readers S.left S.failures files.old files.new))) }
 {
-    'files: for (place, file) in files.iter_mut().enumerate() {
-        join_file(heap.clone()?, archive, place as u64 + 1, file)?;
+    'files: for (index, file) in files.iter_mut().enumerate() {
+        join_file(heap.clone()?, archive, index as u64 + 1, file)?;
     }
     Ok(())
 }
@@ -77,7 +78,7 @@ fn merge_values<A: Archive + Drop, R: Source, S: Source, W: Sink, P: Sink>(
 }
 
 /// What is told where this stopped a merge, IN being archive 0 and the file archive 1.
-fn told_of(fault: MergeFault) -> CommandFault
+fn command_fault_of(fault: MergeFault) -> CommandFault
     ensures { IsTold fault result }
 {
     match fault.cause {
@@ -100,10 +101,10 @@ fn merge_opened<R: Source, S: Source, W: Sink, P: Sink>(
 {
     let sizes = match merge_streams(&heap, left, right, out) {
         Ok(sizes) => sizes,
-        Err(fault) => return Err(told_of(fault)),
+        Err(fault) => return Err(command_fault_of(fault)),
     };
     let text = with_sizes(String::new(heap), sizes)?;
-    tell(Status::Done, &text, report)
+    publish_report(Status::Done, &text, report)
 }
 
 /// Merges IN and the one file, if both were opened.
@@ -117,14 +118,8 @@ fn merge_one<R: Source, S: Source, W: Sink, P: Sink>(
     ensures { EndsOfOne (reader R.left R.failures input.old input.new) (reader S.left S.failures file.old file.new)
         (stream W.held W.failures out.old out.new) (writer P.held P.failures report.old report.new) result }
 {
-    let left = match input {
-        Ok(source) => source,
-        Err(CannotOpen) => return Err(CommandFault::Input(Place::Archive(0), Why::CannotOpen)),
-    };
-    let right = match file {
-        Ok(source) => source,
-        Err(CannotOpen) => return Err(CommandFault::Input(Place::Archive(1), Why::CannotOpen)),
-    };
+    let left = opened(input, Place::Archive(0))?;
+    let right = opened(file, Place::Archive(1))?;
     merge_opened(heap, left, right, out, report)
 }
 

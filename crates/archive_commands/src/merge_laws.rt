@@ -2,7 +2,7 @@
 //! nothing but call other laws.
 ghost use Rattle.std.specs.Prelude.{◌≡◌, ◌↔◌, ◌++◌, ◌∷◌, [], ℕ, List, Contains, map, Ok, Err};
 ghost use Rattle.std.specs.List.{AllByRecursion, AllZip};
-ghost use Rattle.archive_core.specs.Content.{Operations, IsBelow, IsContent, made, joined};
+ghost use Rattle.archive_core.specs.Content.{Operations, IsBelow, IsContent, content_of, joined};
 ghost use Rattle.archive_commands.specs.declared.faults.Place.{Place};
 ghost use Rattle.archive_commands.specs.declared.faults.Why.{Why};
 ghost use Rattle.archive_commands.specs.declared.faults.CommandFault.TheVariants.{Input, Report};
@@ -47,7 +47,7 @@ pub fn merged_in_any_order()
         → AllByRecursion IsContent contents → AllByRecursion IsContent others
         → merged o (contents ++ merged p others ∷ []) ≡ merged o (contents ++ p ∷ others) }
     ensures union { (o : Operations) (contents : List Operations) → IsContent o → AllByRecursion IsContent contents
-        → merged o contents ≡ joined o (made (operations_of contents)) }
+        → merged o contents ≡ joined o (content_of (operations_of contents)) }
 {
     contents_join();
 }

@@ -2,7 +2,7 @@
 //! nothing but call other laws.
 ghost use Rattle.std.specs.Prelude.{◌≡◌, ◌∷◌, [], ℕ, List, Some};
 ghost use Rattle.std.specs.FinSet as set;
-ghost use Rattle.archive_core.specs.Content.{Operations, IsContent, made};
+ghost use Rattle.archive_core.specs.Content.{Operations, IsContent, content_of};
 ghost use Rattle.archive_records.specs.Text.{AreOperations, old_written, written};
 ghost use Rattle.archive_commands.specs.Inputs.{IsGiven, Reader, RefusesDevicesAlone};
 ghost use Rattle.archive_commands.specs.Merge.{MakesMerged};
@@ -20,7 +20,7 @@ pub fn accepted_archive_is_not_refused<R: Source>()
 /// that content, so that OUT has the bytes of IN.
 pub fn migrated<R: Source>()
     ensures old { (input : Reader R) (p content : Operations) (lines : List ℕ) → AreOperations p
-        → IsGiven input (old_written p) → MakesMigrated input content lines → content ≡ made p }
+        → IsGiven input (old_written p) → MakesMigrated input content lines → content ≡ content_of p }
     ensures new { (input : Reader R) (o content : Operations) (lines : List ℕ) → IsContent o
         → IsGiven input (written o) → MakesMigrated input content lines → content ≡ o }
 {}
@@ -30,13 +30,16 @@ pub fn migrated<R: Source>()
 pub fn migrated_before_or_after<R: Source, S: Source>()
     ensures merged { (input : Reader R) (file : Reader S) (p q content : Operations) (lines : List ℕ) → AreOperations p
         → AreOperations q → IsGiven input (old_written p) → IsGiven file (old_written q)
-        → MakesMerged input (file ∷ []) content lines → content ≡ made (set.union p q) }
+        → MakesMerged input (file ∷ []) content lines → content ≡ content_of (set.union p q) }
     ensures before { (input : Reader R) (file : Reader S) (p q content : Operations) (lines : List ℕ) → AreOperations p
-        → AreOperations q → IsGiven input (written (made p)) → IsGiven file (old_written q)
-        → MakesMerged input (file ∷ []) content lines → content ≡ made (set.union p q) }
+        → AreOperations q → IsGiven input (written (content_of p)) → IsGiven file (old_written q)
+        → MakesMerged input (file ∷ []) content lines → content ≡ content_of (set.union p q) }
+    ensures file { (input : Reader R) (file : Reader S) (p q content : Operations) (lines : List ℕ) → AreOperations p
+        → AreOperations q → IsGiven input (old_written p) → IsGiven file (written (content_of q))
+        → MakesMerged input (file ∷ []) content lines → content ≡ content_of (set.union p q) }
     ensures both { (input : Reader R) (file : Reader S) (p q content : Operations) (lines : List ℕ) → AreOperations p
-        → AreOperations q → IsGiven input (written (made p)) → IsGiven file (written (made q))
-        → MakesMerged input (file ∷ []) content lines → content ≡ made (set.union p q) }
+        → AreOperations q → IsGiven input (written (content_of p)) → IsGiven file (written (content_of q))
+        → MakesMerged input (file ∷ []) content lines → content ≡ content_of (set.union p q) }
 {
     migrate_joins();
 }

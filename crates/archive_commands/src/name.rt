@@ -1,22 +1,44 @@
 //! `name ARCHIVE NAME`.
-ghost use Rattle.std.specs.Prelude.{◌≡◌, map};
-ghost use Rattle.archive_core.specs.Names.{name_view};
+ghost use Rattle.std.specs.Prelude.{◌≡◌, map, OnOk, IfOk, IfErr};
+ghost use Rattle.archive_core.specs.Names.{IsNames};
+ghost use Rattle.archive_records.specs.Names.{owned_name_view};
 ghost use Rattle.archive_commands.specs.Ends.{EndsReport};
-ghost use Rattle.archive_commands.specs.Inputs.{reader};
+ghost use Rattle.archive_commands.specs.Inputs.{HoldsContent, IsRefusal, IsRefusedArchive, Unfailed, reader};
 ghost use Rattle.archive_commands.specs.Name.{name, name_status};
 ghost use Rattle.archive_commands.specs.Outputs.{writer};
 
-use crate::faults::{CannotOpen, CommandFault, Status};
-use crate::publish::tell;
-use crate::sources::read_input;
-use archive_core::{Archive, NameRow};
+use crate::faults::{CannotOpen, CommandFault, Place, Status};
+use crate::publish::publish_report;
+use crate::sources::{opened, refusal};
+use archive_records::{OwnedNameRow, read_names};
 use byte_device::{Sink, Source};
 use memory::Heap;
 use report_text::name_lines;
 
+/// Reads the archive that is searched, and gives the rows of the name.
+fn read_name_rows<R: Source>(
+    heap: Heap,
+    sought: &[u8],
+    input: &mut Result<R, CannotOpen>,
+) -> Result<Vec<OwnedNameRow, Heap>, CommandFault>
+    ensures rows { IfOk result (λ rows. HoldsContent (reader R.left R.failures input.old input.new)
+        (λ o. IsNames o sought.now (map owned_name_view rows.items))) }
+    ensures unfailed { OnOk result (Unfailed (reader R.left R.failures input.old input.new)) }
+    ensures refused { IfErr result
+        (IsRefusal (IsRefusedArchive 0 (reader R.left R.failures input.old input.new))
+        (Unfailed (reader R.left R.failures input.old input.new))) }
+{
+    let at = Place::Archive(0);
+    let source = opened(input, at)?;
+    match read_names(heap, sought, source) {
+        Ok(rows) => Ok(rows),
+        Err(fault) => Err(refusal(at, fault)),
+    }
+}
+
 /// How a search ends that gave these rows.
-fn status_of(rows: &[NameRow<'_>]) -> Status
-    ensures { result ≡ name_status (map name_view rows.now) }
+fn status_of(rows: &[OwnedNameRow]) -> Status
+    ensures { result ≡ name_status (map owned_name_view rows.now) }
 {
     if rows.is_empty() {
         Status::Partial
@@ -33,7 +55,7 @@ fn status_of(rows: &[NameRow<'_>]) -> Status
 /// # Errors
 ///
 /// `Input` where the archive is refused; `Report` where the report failed; `OutOfMemory`.
-pub fn run_name<A: Archive + Drop, R: Source, P: Sink>(
+pub fn run_name<R: Source, P: Sink>(
     heap: Heap,
     archive: &mut Result<R, CannotOpen>,
     sought: &[u8],
@@ -42,8 +64,7 @@ pub fn run_name<A: Archive + Drop, R: Source, P: Sink>(
     ensures { EndsReport (name (reader R.left R.failures archive.old archive.new) sought.now)
         (writer P.held P.failures report.old report.new) result }
 {
-    let archive: A = read_input(heap.clone()?, 0, archive)?;
-    let rows = archive.find_name(sought)?;
+    let rows = read_name_rows(heap.clone()?, sought, archive)?;
     let text = name_lines(heap, &rows)?;
-    tell(status_of(&rows), &text, report)
+    publish_report(status_of(&rows), &text, report)
 }

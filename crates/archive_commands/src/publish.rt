@@ -27,7 +27,7 @@ pub(crate) fn publish<A: Archive, W: Sink, P: Sink>(
         Err(fault) => return Err(CommandFault::Output(fault.written)),
     };
     let text = with_sizes(lines, sizes)?;
-    tell(Status::Done, &text, report)
+    publish_report(Status::Done, &text, report)
 }
 
 /// Writes the operations that the summary does not name to OUT, as an archive, and then its sizes to the report.
@@ -47,7 +47,7 @@ pub(crate) fn publish_delta<A: Archive, W: Sink, P: Sink>(
         Err(fault) => return Err(CommandFault::Output(fault.written)),
     };
     let text = with_sizes(String::new(heap), sizes)?;
-    tell(Status::Done, &text, report)
+    publish_report(Status::Done, &text, report)
 }
 
 /// Writes the summary to OUT, and then its sizes to the report.
@@ -65,11 +65,11 @@ pub(crate) fn publish_summary<W: Sink, P: Sink>(
         Err(fault) => return Err(CommandFault::Output(fault.written)),
     };
     let text = summary_line(heap, sizes)?;
-    tell(Status::Done, &text, report)
+    publish_report(Status::Done, &text, report)
 }
 
 /// Writes a text to the report, which is the end of each command that only reports.
-pub(crate) fn tell<P: Sink>(
+pub(crate) fn publish_report<P: Sink>(
     status: Status,
     text: &str,
     report: &mut P,

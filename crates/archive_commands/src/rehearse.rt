@@ -1,14 +1,14 @@
 //! `rehearse SCRIPT`.
 ghost use Rattle.std.specs.Prelude.{◌≡◌, ◌++◌, IfOk, OnOk, length, string_bytes};
 ghost use Rattle.exchange_model.specs.World.{World as WorldModel};
-ghost use Rattle.archive_exchange.specs.Rehearsal.{Shows};
+ghost use Rattle.archive_exchange.specs.Rehearsal.{Represents};
 ghost use Rattle.archive_commands.specs.Ends.{EndsReport};
 ghost use Rattle.archive_commands.specs.Inputs.{reader};
 ghost use Rattle.archive_commands.specs.Outputs.{writer};
 ghost use Rattle.archive_commands.specs.Rehearse.{TellsEvents, held_line, rehearse, site_lines};
 
 use crate::faults::{CannotOpen, CommandFault, Status};
-use crate::publish::tell;
+use crate::publish::publish_report;
 use crate::sources::read_events;
 use archive_core::{Archive, Digest};
 use archive_exchange::laws::one_meaning;
@@ -40,7 +40,7 @@ fn push_held<A: Archive + Drop>(
 /// Adds a line a site.
 fn push_sites<A: Archive + Drop>(text: &mut String<Heap>, world: &World<A>) -> Result<(), NoMemory>
     ensures { OnOk result ((w : WorldModel)
-        → Shows world.now.sites world.now.messages w
+        → Represents world.now.sites world.now.messages w
         → string_bytes text.new ≡ string_bytes text.old ++ site_lines w.held (length world.now.sites)) }
 {
     'sites: for number in 0..world.sites() {
@@ -79,5 +79,5 @@ pub fn run_rehearse<A: Archive + Drop, S: Source, P: Sink>(
 {
     let script = read_events(heap.clone()?, script)?;
     let text = lines_of::<A>(heap, &script)?;
-    tell(Status::Done, &text, report)
+    publish_report(Status::Done, &text, report)
 }

@@ -1,10 +1,10 @@
 //! What the definitions of `rehearse` say in the words of its user. Each law is the contract of a function that does
 //! nothing but call laws of the crates below.
 ghost use Rattle.std.specs.Prelude.{◌≡◌, ℕ, List, Ok, length};
-ghost use Rattle.archive_core.specs.Content.{made};
+ghost use Rattle.archive_core.specs.Content.{content_of};
 ghost use Rattle.exchange_model.specs.Reached.{reached};
 ghost use Rattle.exchange_model.specs.World.{state};
-ghost use Rattle.archive_exchange.specs.Seen.{Seen};
+ghost use Rattle.archive_exchange.specs.ModelEvent.{ModelEvent};
 ghost use Rattle.rehearsal.specs.Events.{Act};
 ghost use Rattle.rehearsal.specs.Script.{script_of};
 ghost use Rattle.archive_commands.specs.declared.faults.Place.{Place};
@@ -43,8 +43,8 @@ pub fn one_rehearsal<R: Source, S: Source>()
 /// Sites that the same operations reached, in one rehearsal or in two, have lines that are the same behind their
 /// numbers: as many records and bytes, and one digest.
 pub fn same_operations_same_line()
-    ensures { (sites others : ℕ) (seen later : List Seen) (i j number : ℕ)
-        → made (reached sites seen i) ≡ made (reached others later j)
+    ensures { (sites others : ℕ) (seen later : List ModelEvent) (i j number : ℕ)
+        → content_of (reached sites seen i) ≡ content_of (reached others later j)
         → held_line number ((state sites seen (length seen)).held i)
         ≡ held_line number ((state others later (length later)).held j) }
 {

@@ -1,27 +1,50 @@
 //! The inputs of a command, each opened beforehand and refused at its turn.
-ghost use Rattle.std.specs.Prelude.{◌≡◌, ◌≢◌, Ok, OnOk, IfOk, IfErr};
+ghost use Rattle.std.specs.Prelude.{◌≡◌, ◌≢◌, Ok, OnOk, IfOk, IfErr, IsErrAnd, IsOkAnd, MatchResult};
+ghost use Rattle.std.specs.Borrow.{sem};
 ghost use Rattle.archive_core.specs.Content.{IsContent};
+ghost use Rattle.archive_core.specs.Lists.{IsList};
+ghost use Rattle.archive_core.specs.Summary.{summary};
 ghost use Rattle.archive_records.specs.declared.fault.RecordFaultKind.TheVariants.{OutOfMemory as RecordOutOfMemory};
 ghost use Rattle.archive_records.specs.Entry.{AreEntries};
 ghost use Rattle.archive_records.specs.Text.{IsOperationsText, summary_text};
+ghost use Rattle.crash_frames.specs.Frames.{frames_of};
 ghost use Rattle.rehearsal.specs.Script.{acts, script_of};
-ghost use Rattle.archive_commands.specs.declared.faults.Why.TheVariants.{Record};
-ghost use Rattle.archive_commands.specs.Inputs.{Gives, Holds, HoldsPart, IsRefusal, IsRefusedArchive, IsRefusedFile, HoldsArchive};
-ghost use Rattle.archive_commands.specs.Inputs.{IsRefusedOps};
-ghost use Rattle.archive_commands.specs.Inputs.{IsRefusedScript, IsRefusedSummary, Unfailed, reader};
+ghost use Rattle.archive_commands.specs.declared.faults.CommandFault.TheVariants.{Input};
+ghost use Rattle.archive_commands.specs.declared.faults.Why.TheVariants.{CannotOpen as NotOpened, Record};
+ghost use Rattle.archive_commands.specs.Inputs.{Gives, Holds, HoldsArchive, HoldsContent, HoldsPart, IsRefusal};
+ghost use Rattle.archive_commands.specs.Inputs.{IsRefusedArchive, IsRefusedFile, IsRefusedFrames, IsRefusedOps};
+ghost use Rattle.archive_commands.specs.Inputs.{IsRefusedScript, IsRefusedSummary, IsUnread, Unfailed, reader};
+ghost use Rattle.archive_commands.specs.InnerSources.{LendsSource};
 
 use crate::faults::{CannotOpen, CommandFault, Place, Why};
-use archive_core::{Archive, Operation};
+use archive_core::{Archive, FindRow, Operation};
 use archive_records::{
-    RecordFault, RecordFaultKind, Selects, Summary, read_archive, read_ops, read_part, read_summary,
+    RecordFault, RecordFaultKind, Selects, Summary, list_rows, read_archive, read_ops, read_part,
+    read_summary, summarize,
 };
 use byte_device::{ReadFault, Source, read_to_end};
+use crash_frames::{Frame, FramesError, read_frames};
 use memory::Heap;
 use rehearsal::{Script, ScriptError, read_script};
 
+/// The source of an input, or its refusal at this place where it could not be opened.
+pub(crate) fn opened<S>(
+    input: &mut Result<S, CannotOpen>,
+    at: Place,
+) -> Result<&mut S, CommandFault>
+    ensures* lends { sem 𝓛 (LendsSource S.row input.entry result) }
+    ensures source { MatchResult input.old (λ source. IsOkAnd result (λ lent. lent.now ≡ source))
+        (λ _. IsErrAnd result (λ fault. fault ≡ Input at NotOpened)) }
+{
+    match input {
+        Ok(source) => Ok(source),
+        Err(CannotOpen) => Err(CommandFault::Input(at, Why::CannotOpen)),
+    }
+}
+
 /// The refusal of an input at a place, whose text has this fault or whose reader failed.
 pub(crate) fn refusal(at: Place, fault: RecordFault) -> CommandFault
-    ensures refused { IsRefusal (λ place why. (place ≡ at) × (why ≡ Record fault) × (fault.kind ≢ RecordOutOfMemory))
+    ensures refused { IsRefusal (λ index why. (index ≡ at) × (why ≡ Record fault) × (fault.kind ≢ RecordOutOfMemory))
         (fault.kind ≡ RecordOutOfMemory) result }
 {
     match fault.kind {
@@ -33,7 +56,7 @@ pub(crate) fn refusal(at: Place, fault: RecordFault) -> CommandFault
 /// Reads the archive at a place among those of the words.
 pub(crate) fn read_input<A: Archive + Drop, R: Source>(
     heap: Heap,
-    place: u64,
+    index: u64,
     input: &mut Result<R, CannotOpen>,
 ) -> Result<A, CommandFault>
     ensures content { IfOk result (λ archive. IsContent (A.content archive)) }
@@ -41,14 +64,11 @@ pub(crate) fn read_input<A: Archive + Drop, R: Source>(
         (λ archive. HoldsArchive (reader R.left R.failures input.old input.new) (A.content archive)) }
     ensures unfailed { OnOk result (Unfailed (reader R.left R.failures input.old input.new)) }
     ensures refused { IfErr result
-        (IsRefusal (IsRefusedArchive place (reader R.left R.failures input.old input.new))
+        (IsRefusal (IsRefusedArchive index (reader R.left R.failures input.old input.new))
         (Unfailed (reader R.left R.failures input.old input.new))) }
 {
-    let at = Place::Archive(place);
-    let source = match input {
-        Ok(source) => source,
-        Err(CannotOpen) => return Err(CommandFault::Input(at, Why::CannotOpen)),
-    };
+    let at = Place::Archive(index);
+    let source = opened(input, at)?;
     match read_archive(heap, source) {
         Ok(archive) => Ok(archive),
         Err(fault) => Err(refusal(at, fault)),
@@ -58,7 +78,7 @@ pub(crate) fn read_input<A: Archive + Drop, R: Source>(
 /// Reads the archive at a place among those of the words, and keeps the records that are picked.
 pub(crate) fn read_input_part<A: Archive + Drop, S: Selects, R: Source>(
     heap: Heap,
-    place: u64,
+    index: u64,
     select: &S,
     input: &mut Result<R, CannotOpen>,
 ) -> Result<A, CommandFault>
@@ -66,42 +86,90 @@ pub(crate) fn read_input_part<A: Archive + Drop, S: Selects, R: Source>(
         (S.picked select.now) (A.content archive)) }
     ensures unfailed { OnOk result (Unfailed (reader R.left R.failures input.old input.new)) }
     ensures refused { IfErr result
-        (IsRefusal (IsRefusedArchive place (reader R.left R.failures input.old input.new))
+        (IsRefusal (IsRefusedArchive index (reader R.left R.failures input.old input.new))
         (Unfailed (reader R.left R.failures input.old input.new))) }
 {
-    let at = Place::Archive(place);
-    let source = match input {
-        Ok(source) => source,
-        Err(CannotOpen) => return Err(CommandFault::Input(at, Why::CannotOpen)),
-    };
+    let at = Place::Archive(index);
+    let source = opened(input, at)?;
     match read_part(heap, select, source) {
         Ok(archive) => Ok(archive),
         Err(fault) => Err(refusal(at, fault)),
     }
 }
 
-/// Reads the bytes of the file at a place among the words.
-pub(crate) fn read_file<S: Source>(
+/// Reads the archive that is listed, and gives its rows.
+pub(crate) fn read_rows<R: Source>(
     heap: Heap,
-    place: u64,
-    file: &mut Result<S, CannotOpen>,
-) -> Result<Vec<u8, Heap>, CommandFault>
-    ensures bytes { IfOk result (λ bytes. Holds (reader S.left S.failures file.old file.new) bytes.items) }
-    ensures unfailed { OnOk result (Unfailed (reader S.left S.failures file.old file.new)) }
+    input: &mut Result<R, CannotOpen>,
+) -> Result<Vec<FindRow, Heap>, CommandFault>
+    ensures rows { IfOk result (λ rows. HoldsContent (reader R.left R.failures input.old input.new)
+        (λ o. IsList o rows.items)) }
+    ensures unfailed { OnOk result (Unfailed (reader R.left R.failures input.old input.new)) }
     ensures refused { IfErr result
-        (IsRefusal (IsRefusedFile place (reader S.left S.failures file.old file.new))
-        (Unfailed (reader S.left S.failures file.old file.new))) }
+        (IsRefusal (IsRefusedArchive 0 (reader R.left R.failures input.old input.new))
+        (Unfailed (reader R.left R.failures input.old input.new))) }
 {
-    let at = Place::File(place);
-    let source = match file {
-        Ok(source) => source,
-        Err(CannotOpen) => return Err(CommandFault::Input(at, Why::CannotOpen)),
-    };
+    let at = Place::Archive(0);
+    let source = opened(input, at)?;
+    match list_rows(heap, source) {
+        Ok(rows) => Ok(rows),
+        Err(fault) => Err(refusal(at, fault)),
+    }
+}
+
+/// Reads the archive that is summarized, and gives its summary.
+pub(crate) fn read_entries<R: Source>(
+    heap: Heap,
+    input: &mut Result<R, CannotOpen>,
+) -> Result<Summary, CommandFault>
+    ensures entries { IfOk result (λ entries. HoldsContent (reader R.left R.failures input.old input.new)
+        (λ o. entries ≡ summary o)) }
+    ensures unfailed { OnOk result (Unfailed (reader R.left R.failures input.old input.new)) }
+    ensures refused { IfErr result
+        (IsRefusal (IsRefusedArchive 0 (reader R.left R.failures input.old input.new))
+        (Unfailed (reader R.left R.failures input.old input.new))) }
+{
+    let at = Place::Archive(0);
+    let source = opened(input, at)?;
+    match summarize(heap, source) {
+        Ok(entries) => Ok(entries),
+        Err(fault) => Err(refusal(at, fault)),
+    }
+}
+
+/// Reads the bytes of the input that stands at a place, to its end.
+fn read_bytes<S: Source>(
+    heap: Heap,
+    at: Place,
+    input: &mut Result<S, CannotOpen>,
+) -> Result<Vec<u8, Heap>, CommandFault>
+    ensures bytes { IfOk result (λ bytes. Holds (reader S.left S.failures input.old input.new) bytes.items) }
+    ensures unfailed { OnOk result (Unfailed (reader S.left S.failures input.old input.new)) }
+    ensures refused { IfErr result
+        (IsRefusal (λ index why. (index ≡ at) × IsUnread (reader S.left S.failures input.old input.new) why)
+        (Unfailed (reader S.left S.failures input.old input.new))) }
+{
+    let source = opened(input, at)?;
     match read_to_end(heap, source) {
         Ok(bytes) => Ok(bytes),
         Err(ReadFault::Device) => Err(CommandFault::Input(at, Why::Device)),
         Err(ReadFault::OutOfMemory) => Err(CommandFault::OutOfMemory),
     }
+}
+
+/// Reads the bytes of the file at a place among the words.
+pub(crate) fn read_file<S: Source>(
+    heap: Heap,
+    index: u64,
+    file: &mut Result<S, CannotOpen>,
+) -> Result<Vec<u8, Heap>, CommandFault>
+    ensures bytes { IfOk result (λ bytes. Holds (reader S.left S.failures file.old file.new) bytes.items) }
+    ensures unfailed { OnOk result (Unfailed (reader S.left S.failures file.old file.new)) }
+    ensures refused { IfErr result
+        (IsRefusal (IsRefusedFile index (reader S.left S.failures file.old file.new))
+        (Unfailed (reader S.left S.failures file.old file.new))) }
+{
+    read_bytes(heap, Place::File(index), file)
 }
 
 /// Reads the operations of an operations file.
@@ -118,10 +186,7 @@ pub(crate) fn read_operations<S: Source>(
         (Unfailed (reader S.left S.failures ops.old ops.new))) }
 {
     let at = Place::Ops;
-    let source = match ops {
-        Ok(source) => source,
-        Err(CannotOpen) => return Err(CommandFault::Input(at, Why::CannotOpen)),
-    };
+    let source = opened(ops, at)?;
     match read_ops(heap, source) {
         Ok(operations) => Ok(operations),
         Err(fault) => Err(refusal(at, fault)),
@@ -129,7 +194,7 @@ pub(crate) fn read_operations<S: Source>(
 }
 
 /// Reads the summary that an archive is compared with.
-pub(crate) fn read_named<S: Source>(
+pub(crate) fn read_summary_input<S: Source>(
     heap: Heap,
     summary: &mut Result<S, CannotOpen>,
 ) -> Result<Summary, CommandFault>
@@ -142,10 +207,7 @@ pub(crate) fn read_named<S: Source>(
         (Unfailed (reader S.left S.failures summary.old summary.new))) }
 {
     let at = Place::Summary;
-    let source = match summary {
-        Ok(source) => source,
-        Err(CannotOpen) => return Err(CommandFault::Input(at, Why::CannotOpen)),
-    };
+    let source = opened(summary, at)?;
     match read_summary(heap, source) {
         Ok(entries) => Ok(entries),
         Err(fault) => Err(refusal(at, fault)),
@@ -164,21 +226,34 @@ pub(crate) fn read_events<S: Source>(
         (IsRefusal (IsRefusedScript (reader S.left S.failures script.old script.new))
         (Unfailed (reader S.left S.failures script.old script.new))) }
 {
-    let at = Place::Script;
-    let source = match script {
-        Ok(source) => source,
-        Err(CannotOpen) => return Err(CommandFault::Input(at, Why::CannotOpen)),
-    };
-    let bytes = match read_to_end(heap.clone()?, source) {
-        Ok(bytes) => bytes,
-        Err(ReadFault::Device) => return Err(CommandFault::Input(at, Why::Device)),
-        Err(ReadFault::OutOfMemory) => return Err(CommandFault::OutOfMemory),
-    };
+    let bytes = read_bytes(heap.clone()?, Place::Script, script)?;
     match read_script(heap, &bytes) {
         Ok(said) => Ok(said),
         Err(ScriptError::Faulty { fault, line }) => {
-            Err(CommandFault::Input(at, Why::Script { fault, line }))
+            Err(CommandFault::Input(Place::Script, Why::Script { fault, line }))
         }
         Err(ScriptError::OutOfMemory) => Err(CommandFault::OutOfMemory),
+    }
+}
+
+/// Reads the frames of a crash, to their end, and then what they say.
+pub(crate) fn read_crash<S: Source>(
+    heap: Heap,
+    frames: &mut Result<S, CannotOpen>,
+) -> Result<Vec<Frame, Heap>, CommandFault>
+    ensures frames { IfOk result (λ said. Gives (reader S.left S.failures frames.old frames.new)
+        (λ bytes. frames_of bytes ≡ Ok said.items)) }
+    ensures unfailed { OnOk result (Unfailed (reader S.left S.failures frames.old frames.new)) }
+    ensures refused { IfErr result
+        (IsRefusal (IsRefusedFrames (reader S.left S.failures frames.old frames.new))
+        (Unfailed (reader S.left S.failures frames.old frames.new))) }
+{
+    let bytes = read_bytes(heap.clone()?, Place::Frames, frames)?;
+    match read_frames(heap, &bytes) {
+        Ok(said) => Ok(said),
+        Err(FramesError::BadFrame { line }) => {
+            Err(CommandFault::Input(Place::Frames, Why::BadFrame { line }))
+        }
+        Err(FramesError::OutOfMemory) => Err(CommandFault::OutOfMemory),
     }
 }

@@ -6,9 +6,7 @@ ghost use Rattle.archive_commands.specs.Summary.{summary};
 
 use crate::faults::{CannotOpen, CommandFault, Status};
 use crate::publish::publish_summary;
-use crate::sources::read_input;
-use archive_core::Archive;
-use archive_records::Summary;
+use crate::sources::read_entries;
 use byte_device::{Sink, Source};
 use memory::Heap;
 
@@ -17,7 +15,7 @@ use memory::Heap;
 /// # Errors
 ///
 /// `Input` where the archive is refused; `Output` and `Report` where that writer failed; `OutOfMemory`.
-pub fn run_summary<A: Archive + Drop, R: Source, W: Sink, P: Sink>(
+pub fn run_summary<R: Source, W: Sink, P: Sink>(
     heap: Heap,
     archive: &mut Result<R, CannotOpen>,
     out: &mut W,
@@ -26,7 +24,6 @@ pub fn run_summary<A: Archive + Drop, R: Source, W: Sink, P: Sink>(
     ensures { Ends (summary (reader R.left R.failures archive.old archive.new))
         (writer W.held W.failures out.old out.new) (writer P.held P.failures report.old report.new) result }
 {
-    let archive: A = read_input(heap.clone()?, 0, archive)?;
-    let summary = Summary::of(heap.clone()?, &archive)?;
+    let summary = read_entries(heap.clone()?, archive)?;
     publish_summary(heap, &summary, out, report)
 }

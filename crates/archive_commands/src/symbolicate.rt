@@ -4,10 +4,10 @@ ghost use Rattle.archive_commands.specs.declared.faults.Status.TheVariants.{Part
 ghost use Rattle.archive_commands.specs.Ends.{EndsReport};
 ghost use Rattle.archive_commands.specs.Inputs.{reader};
 ghost use Rattle.archive_commands.specs.Outputs.{writer};
-ghost use Rattle.archive_commands.specs.Symbolicate.{TellsAddresses, is_symbol, place_of, symbolicate};
+ghost use Rattle.archive_commands.specs.Symbolicate.{TellsAddresses, is_symbol, asked_of, symbolicate};
 
 use crate::faults::{CannotOpen, CommandFault, Status};
-use crate::publish::tell;
+use crate::publish::publish_report;
 use crate::sources::read_input_part;
 use archive_core::{Answer, Archive, SliceKey, Where};
 use archive_records::{Under, key_front};
@@ -16,8 +16,8 @@ use memory::{Heap, NoMemory};
 use report_text::push_answer;
 
 /// The place that an address of the words means.
-fn place_of(load: Option<u64>, address: u64) -> Where
-    ensures { result ≡ place_of load address }
+pub(crate) fn asked_of(load: Option<u64>, address: u64) -> Where
+    ensures { result ≡ asked_of load address }
 {
     match load {
         Some(load) => Where::Loaded { load, address },
@@ -26,7 +26,7 @@ fn place_of(load: Option<u64>, address: u64) -> Where
 }
 
 /// How a command ends behind one more answer: as before it, if that is one symbol.
-fn status_behind(status: Status, answer: &Answer<'_>) -> Status
+pub(crate) fn status_behind(status: Status, answer: &Answer<'_>) -> Status
     ensures { result ≡ if is_symbol answer.now then status else Partial }
 {
     match answer {
@@ -49,7 +49,7 @@ fn answer_each<A: Archive>(
     let mut status = Status::Done;
     let mut text = String::new(heap);
     'addresses: for address in addresses {
-        let answer = archive.lookup(key, place_of(load, *address))?;
+        let answer = archive.lookup(key, asked_of(load, *address))?;
         status = status_behind(status, &answer);
         push_answer(&mut text, *address, &answer)?;
     }
@@ -78,5 +78,5 @@ pub fn run_symbolicate<A: Archive + Drop, R: Source, P: Sink>(
     let front = key_front(key);
     let archive: A = read_input_part(heap.clone()?, 0, &Under(&front), archive)?;
     let (status, text) = answer_each(heap, &archive, key, load, addresses)?;
-    tell(status, &text, report)
+    publish_report(status, &text, report)
 }

@@ -8,8 +8,8 @@ use Rattle.std.specs.FinSet.{union}
 use Rattle.std.proofs.lemmas.List.Sorted.{IsPermutation-map}
 use Rattle.join_core.proofs.Merge.{from_list_permuted, from_list_append}
 use Rattle.join_core.specs.Bound.{IsLeastAbove, IsTowards}
-use Rattle.archive_core.specs.Record.{rec}
-use Rattle.archive_core.specs.Content.{Operations, made, IsMade, IsContent, IsBelow, IsTakenInPart, with_records, joined as joined_of}
+use Rattle.archive_core.specs.Record.{record_bytes}
+use Rattle.archive_core.specs.Content.{Operations, content_of, IsMade, IsContent, IsBelow, IsTakenInPart, with_records, joined as joined_of}
 use Rattle.archive_core.specs.declared.operations.Operation.{Operation}
 use Rattle.archive_core.proofs.Made.{bytes_same, made_again, made_empty, joined_made_right, below_reflexive, below_transitive, below_antisymmetric, made_antisymmetric, below_left, below_right, joined_below, joined_content}
 use Rattle.archive_core.proofs.Taken.{taken_are_joined, below_taken}
@@ -56,7 +56,7 @@ none_taken o rs is = record { content = is; above_old = below_reflexive o; below
 -- all of them give the same after some
 pub resumed : (o mid : Operations) (rs : List (List ℕ)) → IsMade o → IsTakenInPart o rs mid → with_records mid rs ≡ with_records o rs
 resumed o mid rs is part =
-    let all = made (set.from_list {R = slice_cmp nat_cmp} rs) in
+    let all = content_of (set.from_list {R = slice_cmp nat_cmp} rs) in
     let upper : IsBelow mid (joined_of o all) = subst (λ z. IsBelow mid z) (taken_are_joined o rs is) part.below_all in
     let left : IsBelow (joined_of mid all) (joined_of o all) = joined_below mid all (joined_of o all) upper (below_right o all) in
     let right : IsBelow (joined_of o all) (joined_of mid all) = joined_below o all (joined_of mid all) (below_transitive o mid (joined_of mid all) part.above_old (below_left mid all)) (below_right mid all) in
@@ -65,7 +65,7 @@ resumed o mid rs is part =
 -- where some of a content's operations were taken, the content is on the way
 pub taken_towards : (o p mid : Operations) (rs : List (List ℕ)) → IsContent o → IsMade p → set.from_list rs ≡ p → IsTakenInPart o rs mid → IsTowards IsContent IsBelow o p mid
 taken_towards o p mid rs a b is part =
-    let within : IsBelow mid (joined_of o p) = subst (λ z. IsBelow mid z) (taken_are_joined o rs a.itself ∙ ap (λ s. joined_of o (made s)) is ∙ ap (joined_of o) b) part.below_all in
+    let within : IsBelow mid (joined_of o p) = subst (λ z. IsBelow mid z) (taken_are_joined o rs a.itself ∙ ap (λ s. joined_of o (content_of s)) is ∙ ap (joined_of o) b) part.below_all in
     record {
       content = part.content;
       above_old = part.above_old;
@@ -73,20 +73,20 @@ taken_towards o p mid rs a b is part =
     }
 
 -- what operations make that are taken into nothing, in another order
-gathered : (operations sorted : List Operation) (p : Operations) → IsPermutation operations sorted → p ≡ with_records set.empty (map rec sorted) → p ≡ made (set.from_list (map rec operations))
+gathered : (operations sorted : List Operation) (p : Operations) → IsPermutation operations sorted → p ≡ with_records set.empty (map record_bytes sorted) → p ≡ content_of (set.from_list (map record_bytes operations))
 gathered operations sorted p permuted is =
     is
-    ∙ taken_are_joined set.empty (map rec sorted) made_empty
-    ∙ joined_made_right set.empty (set.from_list (map rec sorted))
-    ∙ ap made (sym (from_list_append nat_list_cmp_total bytes_same [] (map rec sorted)))
-    ∙ ap made (from_list_permuted nat_list_cmp_total bytes_same (map rec operations) (map rec sorted) (IsPermutation-map rec operations sorted permuted))
+    ∙ taken_are_joined set.empty (map record_bytes sorted) made_empty
+    ∙ joined_made_right set.empty (set.from_list (map record_bytes sorted))
+    ∙ ap content_of (sym (from_list_append nat_list_cmp_total bytes_same [] (map record_bytes sorted)))
+    ∙ ap content_of (from_list_permuted nat_list_cmp_total bytes_same (map record_bytes operations) (map record_bytes sorted) (IsPermutation-map record_bytes operations sorted permuted))
 
 -- so to join that is to take them
-pub gathered_joined : (o p both : Operations) (operations sorted : List Operation) → IsMade o → IsPermutation operations sorted → p ≡ with_records set.empty (map rec sorted) → both ≡ joined_of o p → both ≡ with_records o (map rec operations)
-gathered_joined o p both operations sorted made_o permuted is both_is = both_is ∙ ap (joined_of o) (gathered operations sorted p permuted is) ∙ sym (taken_are_joined o (map rec operations) made_o)
+pub gathered_joined : (o p both : Operations) (operations sorted : List Operation) → IsMade o → IsPermutation operations sorted → p ≡ with_records set.empty (map record_bytes sorted) → both ≡ joined_of o p → both ≡ with_records o (map record_bytes operations)
+gathered_joined o p both operations sorted made_o permuted is both_is = both_is ∙ ap (joined_of o) (gathered operations sorted p permuted is) ∙ sym (taken_are_joined o (map record_bytes operations) made_o)
 
 -- and to join it in part is to take them in part
-pub gathered_in_part : (o p mid : Operations) (operations sorted : List Operation) → IsPermutation operations sorted → p ≡ with_records set.empty (map rec sorted) → IsContent o → IsContent p → IsTowards IsContent IsBelow o p mid → IsTakenInPart o (map rec operations) mid
+pub gathered_in_part : (o p mid : Operations) (operations sorted : List Operation) → IsPermutation operations sorted → p ≡ with_records set.empty (map record_bytes sorted) → IsContent o → IsContent p → IsTowards IsContent IsBelow o p mid → IsTakenInPart o (map record_bytes operations) mid
 gathered_in_part o p mid operations sorted permuted is a b t = record {
   content = t.content;
   above_old = t.above_old;

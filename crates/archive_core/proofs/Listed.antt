@@ -18,7 +18,7 @@ use Rattle.join_core.specs.Listing.{listing}
 use Rattle.join_core.proofs.Listing.{listed, listing_ascending}
 use Rattle.join_core.proofs.Merge.{along_members}
 use Rattle.join_core.proofs.Place.{len_listed}
-use Rattle.archive_core.specs.Record.{rec, IsOperation, IsRecord}
+use Rattle.archive_core.specs.Record.{record_bytes, IsOperation, IsRecord}
 use Rattle.archive_core.specs.Content.{Operations, IsContent}
 use Rattle.archive_core.specs.Find.{key_in, find_cmp, row_of, IsFinding, IsFinds}
 use Rattle.archive_core.specs.Lists.{list_cmp, IsListed, IsList, rows_under}
@@ -32,7 +32,7 @@ use Rattle.archive_core.proofs.Words.{live_in_content}
 use Rattle.archive_core.proofs.Scanned.{find_total, untied, untied_records, told_sorted, in_filter, to_filter, one_with_members}
 
 -- records are those of operations
-operations_of : (rs : List (List ℕ)) → AllByRecursion IsRecord rs → (operations : List Operation) × AllByRecursion IsOperation operations × (map rec operations ≡ rs)
+operations_of : (rs : List (List ℕ)) → AllByRecursion IsRecord rs → (operations : List Operation) × AllByRecursion IsOperation operations × (map record_bytes operations ≡ rs)
 operations_of [] all = ([], tt, refl)
 operations_of (r ∷ rs) all =
     let first = operation_of_record r all.0 in
@@ -40,38 +40,38 @@ operations_of (r ∷ rs) all =
     (first.0 ∷ rest.0, (first.1, rest.1), λ i. first.2 i ∷ rest.2 i)
 
 -- a content is that of operations in order
-pub held_of : (o : Operations) → IsContent o → (operations : List Operation) × IsHeld operations × (from_list (map rec operations) ≡ o)
+pub held_of : (o : Operations) → IsContent o → (operations : List Operation) × IsHeld operations × (from_list (map record_bytes operations) ≡ o)
 held_of o content =
     let is = listed nat_list_cmp_total bytes_same o in
     let members = along_members nat_list_cmp_total IsRecord (listing o) (λ r h. content.records r (ap (λ s. contains s r) is.same ∙ h)) in
     let all = operations_of (listing o) members in
-    let same : from_list (map rec all.0) ≡ o = ap from_list all.2 ∙ sym is.same in
+    let same : from_list (map record_bytes all.0) ≡ o = ap from_list all.2 ∙ sym is.same in
     (all.0, record { ascending = rw (all.2) is.ascending; are = all.1; itself = rw same content.itself }, same)
 
 -- as many operations as the content has records
-pub length_held : (operations : List Operation) (o : Operations) → IsHeld operations → from_list (map rec operations) ≡ o → length operations ≡ set.len o
-length_held operations o held is = omega (arith, len_listed nat_list_cmp_total bytes_same (map rec operations) held.ascending, length-map operations rec, ap set.len is)
+pub length_held : (operations : List Operation) (o : Operations) → IsHeld operations → from_list (map record_bytes operations) ≡ o → length operations ≡ set.len o
+length_held operations o held is = omega (arith, len_listed nat_list_cmp_total bytes_same (map record_bytes operations) held.ascending, length-map operations record_bytes, ap set.len is)
 
 -- the operation that is lent at a place is the one that is held there
-pub lent_at : (operations : List Operation) (o : Operations) (i : ℕ) (a : Operation) → IsHeld operations → from_list (map rec operations) ≡ o → i < length operations → IsOperation a
-    → rec a ≡ slice_index_or (listing o) i [] → a ≡ slice_index_or operations i a
+pub lent_at : (operations : List Operation) (o : Operations) (i : ℕ) (a : Operation) → IsHeld operations → from_list (map record_bytes operations) ≡ o → i < length operations → IsOperation a
+    → record_bytes a ≡ slice_index_or (listing o) i [] → a ≡ slice_index_or operations i a
 lent_at operations o i a held is lt valid at =
-    let there : rec a ≡ rec (get_or operations i a) = at ∙ ap (λ l. get_or l i []) (sym (sym (listing_ascending nat_list_cmp_total bytes_same (map rec operations) held.ascending) ∙ ap listing is)) ∙ get_or-map rec operations i a [] lt in
+    let there : record_bytes a ≡ record_bytes (get_or operations i a) = at ∙ ap (λ l. get_or l i []) (sym (sym (listing_ascending nat_list_cmp_total bytes_same (map record_bytes operations) held.ascending) ∙ ap listing is)) ∙ get_or-map record_bytes operations i a [] lt in
     one_operation a (get_or operations i a) valid (All-get_or IsOperation operations i a lt (All-from_recursion IsOperation operations held.are)) there
 
 -- the order of a list is a total order
 pub list_total : IsTotalOrder list_cmp
 list_total = then_total (on_texts (λ operation. (key_in operation).uuid)) find_total
 
-untied_in_list : (a b : Operation) → eq_by_cmp (on rec (slice_cmp nat_cmp)) a b ≡ false → eq_by_cmp list_cmp a b ≡ false
+untied_in_list : (a b : Operation) → eq_by_cmp (on record_bytes (slice_cmp nat_cmp)) a b ≡ false → eq_by_cmp list_cmp a b ≡ false
 untied_in_list a b h = untied (slice_cmp nat_cmp (key_in a).uuid (key_in b).uuid) (find_cmp a b) (untied_records a b h)
 
 -- what a content has is listed
-listed_of_content : (o : Operations) (a : Operation) → IsContent o → IsOperation a → contains o (rec a) ≡ true → IsListed o a
+listed_of_content : (o : Operations) (a : Operation) → IsContent o → IsOperation a → contains o (record_bytes a) ≡ true → IsListed o a
 listed_of_content o (Admit slice) content valid there = (refl, live_in_content o slice content valid there)
 listed_of_content o (Retire key digest) content is there = (refl, there)
 
-content_of_listed : (o : Operations) (a : Operation) → IsListed o a → (contains o (rec a) ≡ true) × (true ≡ true)
+content_of_listed : (o : Operations) (a : Operation) → IsListed o a → (contains o (record_bytes a) ≡ true) × (true ≡ true)
 content_of_listed o (Admit slice) h = (h.1.admitted, refl)
 content_of_listed o (Retire key digest) h = (h.1, refl)
 
@@ -80,7 +80,7 @@ all_pass [] = refl
 all_pass (x ∷ xs) = ap (λ l. x ∷ l) (all_pass xs)
 
 -- the operations, sorted, make the list
-pub list_sorted : (o : Operations) (operations told : List Operation) → IsContent o → IsHeld operations → from_list (map rec operations) ≡ o
+pub list_sorted : (o : Operations) (operations told : List Operation) → IsContent o → IsHeld operations → from_list (map record_bytes operations) ≡ o
     → IsPermutation operations told → IsSorted list_cmp told → IsList o (map row_of told)
 list_sorted o operations told content held is permuted sorted =
     let are = told_sorted o list_cmp list_total untied_in_list (λ a. true) (IsListed o) (λ a one there _. listed_of_content o a content one there) (content_of_listed o) operations told held is (subst (λ l. IsPermutation l told) (sym (all_pass operations)) permuted) sorted in

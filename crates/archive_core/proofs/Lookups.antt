@@ -15,7 +15,7 @@ use Rattle.std.proofs.Math.Seq.{take-suc}
 use Rattle.macho_image.specs.Contents.{is_dsym_image}
 use Rattle.archive_core.specs.Key.{IsKey}
 use Rattle.archive_core.specs.Valid.{key_of, IsValid}
-use Rattle.archive_core.specs.Record.{rec, admission_record, IsOperation}
+use Rattle.archive_core.specs.Record.{record_bytes, admission_record, IsOperation}
 use Rattle.archive_core.specs.Content.{Operations, IsContent, IsLive, IsAnswering}
 use Rattle.archive_core.specs.Find.{AreAnswering}
 use Rattle.archive_core.specs.InnerHeld.{IsHeld}
@@ -25,8 +25,8 @@ use Rattle.archive_core.specs.Lookup.{IsOwnRow, own_row}
 use Rattle.archive_core.specs.declared.keys.Digest.{Digest}
 use Rattle.archive_core.specs.declared.keys.SliceKey.{SliceKey}
 use Rattle.archive_core.specs.declared.lookup.Where.{Where}
-use Rattle.archive_core.specs.declared.live.Tally.{Tally}
-use Rattle.archive_core.specs.declared.live.Tally.TheVariants.{Nothing, One, Several}
+use Rattle.archive_core.specs.declared.live.Answering.{Answering}
+use Rattle.archive_core.specs.declared.live.Answering.TheVariants.{Nothing, One, Several}
 use Rattle.archive_core.specs.declared.lookup.Own.{Own}
 use Rattle.archive_core.specs.declared.operations.Operation.{Operation}
 use Rattle.archive_core.specs.declared.operations.Operation.TheVariants.{Admit, Retire}
@@ -126,12 +126,12 @@ to_live key dsym (Retire other digest ∷ xs) slice h t = elim (in_cons (Retire 
     apart e = cc
 
 -- what is found ascends by its records
-ascending_live : (key : SliceKey) (dsym : Bool) (xs : List Operation) → IsStrictlySortedBy (on rec (slice_cmp nat_cmp)) xs → IsStrictlySortedBy (on admission_record (slice_cmp nat_cmp)) (live_among key dsym xs)
+ascending_live : (key : SliceKey) (dsym : Bool) (xs : List Operation) → IsStrictlySortedBy (on record_bytes (slice_cmp nat_cmp)) xs → IsStrictlySortedBy (on admission_record (slice_cmp nat_cmp)) (live_among key dsym xs)
 unfolding live_among IsStrictlySortedBy
 ascending_live key dsym [] up = tt
 ascending_live key dsym (Admit first ∷ xs) up = at (is_live_kind key dsym first) (ascending_live key dsym xs up.1)
   where
-    each : (ys : List Operation) → AllByRecursion (λ y. slice_cmp nat_cmp (admission_record first) (rec y) ≡ Less) ys → AllByRecursion (λ s. slice_cmp nat_cmp (admission_record first) (admission_record s) ≡ Less) (live_among key dsym ys)
+    each : (ys : List Operation) → AllByRecursion (λ y. slice_cmp nat_cmp (admission_record first) (record_bytes y) ≡ Less) ys → AllByRecursion (λ s. slice_cmp nat_cmp (admission_record first) (admission_record s) ≡ Less) (live_among key dsym ys)
     each [] g = tt
     each (Admit s ∷ ys) g = too (is_live_kind key dsym s) (each ys g.1)
       where
@@ -146,7 +146,7 @@ ascending_live key dsym (Admit first ∷ xs) up = at (is_live_kind key dsym firs
     at false rest = rest
 ascending_live key dsym (Retire other digest ∷ xs) up = ascending_live key dsym xs up.1
 
-module _ (o : Operations) (key : SliceKey) (operations : List Operation) (held : IsHeld operations) (content_is : from_list (map rec operations) ≡ o) (is_key : IsKey key) where
+module _ (o : Operations) (key : SliceKey) (operations : List Operation) (held : IsHeld operations) (content_is : from_list (map record_bytes operations) ≡ o) (is_key : IsKey key) where
   content : IsContent o
   content = subst IsContent content_is (content_of_held operations held)
 
@@ -161,7 +161,7 @@ module _ (o : Operations) (key : SliceKey) (operations : List Operation) (held :
       to_live key dsym operations slice there (test_of_live o key dsym slice live kind)
 
   ascending : (dsym : Bool) → IsStrictlySortedBy (on admission_record (slice_cmp nat_cmp)) (live_among key dsym operations)
-  ascending dsym = ascending_live key dsym operations (ascending_by (slice_cmp nat_cmp) rec operations held.ascending)
+  ascending dsym = ascending_live key dsym operations (ascending_by (slice_cmp nat_cmp) record_bytes operations held.ascending)
 
   some_there : (xs : List (List ℕ)) → (xs ≡ [] → ⊥) → (x : List ℕ) × Contains xs x
   some_there [] h = absurd (h refl)
@@ -201,13 +201,13 @@ module _ (o : Operations) (key : SliceKey) (operations : List Operation) (held :
       back slice h = of_live false slice h.live (no_dsym slice h.live (is_dsym_image slice) refl)
 
 -- the rows of slices and of one slice more
-pub rows_more : (place : Where) (slices : List (List ℕ)) (old new : List (Digest × Own)) (slice : List ℕ) (row : Digest × Own)
-    → AllZip (IsOwnRow place) slices (map own_row old) → IsOwnRow place slice (own_row row) → new ≡ old ++ row ∷ [] → AllZip (IsOwnRow place) (slices ++ slice ∷ []) (map own_row new)
-rows_more place slices old new slice row all one is =
-    subst (AllZip (IsOwnRow place) (slices ++ slice ∷ [])) (sym (ap (map own_row) is ∙ map-append own_row old (row ∷ []))) (zip_more (IsOwnRow place) slices (map own_row old) slice (own_row row) all one)
+pub rows_more : (asked : Where) (slices : List (List ℕ)) (old new : List (Digest × Own)) (slice : List ℕ) (row : Digest × Own)
+    → AllZip (IsOwnRow asked) slices (map own_row old) → IsOwnRow asked slice (own_row row) → new ≡ old ++ row ∷ [] → AllZip (IsOwnRow asked) (slices ++ slice ∷ []) (map own_row new)
+rows_more asked slices old new slice row all one is =
+    subst (AllZip (IsOwnRow asked) (slices ++ slice ∷ [])) (sym (ap (map own_row) is ∙ map-append own_row old (row ∷ []))) (zip_more (IsOwnRow asked) slices (map own_row old) slice (own_row row) all one)
 
 -- where not nothing is kept of slices, there are some
-pub some_of_tally : (tally : Tally) (slices : List (List ℕ)) → IsTally tally slices → (tally ≡ Nothing → ⊥) → slices ≡ [] → ⊥
+pub some_of_tally : (tally : Answering) (slices : List (List ℕ)) → IsTally tally slices → (tally ≡ Nothing → ⊥) → slices ≡ [] → ⊥
 some_of_tally Nothing slices h some none = some refl
 some_of_tally (One slice) slices h some none = let apart : slice ∷ [] ≡ [] = sym h ∙ none in cc
 some_of_tally Several slices h some none = let empty : length slices ≡ 0 = ap length none in omega arith

@@ -9,7 +9,7 @@ use Rattle.std.specs.FinSet.{contains, union, contains-union, contains-insert, c
 pub use Rattle.archive_core.specs.Order.{bytes_same, and_left, and_right, and_true, and_false, not_true, either, or_left, or_right, by_test}
 pub use Rattle.archive_core.specs.Order.{contains_made, from_made, uncovered, uncovered_admission, kept, covers_same, free, made_again, made_antisymmetric}
 pub use Rattle.archive_core.specs.Order.{below_reflexive, below_transitive, below_antisymmetric, below_made, below_left, below_right, joined_below, joined_content}
-use Rattle.archive_core.specs.Content.{Operations, is_admission, covering, is_covered, made, IsMade, IsBelow, joined}
+use Rattle.archive_core.specs.Content.{Operations, is_admission, covering, is_covered, content_of, IsMade, IsBelow, joined}
 
 or_false_left : (a b : Bool) → (a || b) ≡ false → a ≡ false
 or_false_left true b h = absurd (true≢false h)
@@ -25,19 +25,19 @@ pub record IsAlike (s t : Operations) : Type 0 where
   pub live : (r : List ℕ) → is_admission r ≡ true → contains s (covering r) ≡ false → contains s r ≡ contains t r
 
 -- They make one content.
-pub made_alike : (s t : Operations) → IsAlike s t → made s ≡ made t
-made_alike s t alike = same_set nat_list_cmp_total bytes_same (made s) (made t) (λ r.
-    by_test (contains (made s) r ≡ contains (made t) r) (is_admission r)
+pub made_alike : (s t : Operations) → IsAlike s t → content_of s ≡ content_of t
+made_alike s t alike = same_set nat_list_cmp_total bytes_same (content_of s) (content_of t) (λ r.
+    by_test (contains (content_of s) r ≡ contains (content_of t) r) (is_admission r)
     (λ a. by_test _ (contains s (covering r))
     (λ c. dropped s r a c ∙ sym (dropped t r a (sym (alike.retirements (covering r) refl) ∙ c)))
     (λ c. free s r c ∙ alike.live r a c ∙ sym (free t r (sym (alike.retirements (covering r) refl) ∙ c))))
     (λ n. kept s r n ∙ alike.retirements r n ∙ sym (kept t r n)))
   where
-    dropped : (o : Operations) (r : List ℕ) → is_admission r ≡ true → contains o (covering r) ≡ true → contains (made o) r ≡ false
+    dropped : (o : Operations) (r : List ℕ) → is_admission r ≡ true → contains o (covering r) ≡ true → contains (content_of o) r ≡ false
     dropped o r a c = contains_made o r ∙ ap (λ b. contains o r && not (b && contains o (covering r))) a ∙ ap (λ b. contains o r && not b) c ∙ and_false (contains o r)
 
 -- what is made is alike
-pub made_is_alike : (o : Operations) → IsAlike (made o) o
+pub made_is_alike : (o : Operations) → IsAlike (content_of o) o
 made_is_alike o = record {
   retirements = kept o;
   live = λ r _ c. free o r (sym (covers_same o r) ∙ c);
@@ -74,7 +74,7 @@ alike_union_right u s t alike = record {
 
 -- a set none of whose members is covered makes itself
 pub made_of_uncovered : (o : Operations) → ((r : List ℕ) → contains o r ≡ true → is_covered o r ≡ false) → IsMade o
-made_of_uncovered o each = same_set nat_list_cmp_total bytes_same (made o) o (λ r.
+made_of_uncovered o each = same_set nat_list_cmp_total bytes_same (content_of o) o (λ r.
     both_ways _ _ (from_made o r) (λ h. contains_made o r ∙ ap (λ b. b && not (is_covered o r)) h ∙ ap not (each r h)))
 
 -- and none of the members of one that does is covered
@@ -96,17 +96,17 @@ pub made_empty : IsMade set.empty
 made_empty = made_of_uncovered set.empty (λ r h. absurd (true≢false (sym h ∙ contains-empty (slice_cmp nat_cmp) r)))
 
 -- what two sets make, joined, is what both together make
-pub joined_made : (o p : Operations) → joined (made o) (made p) ≡ made (union o p)
+pub joined_made : (o p : Operations) → joined (content_of o) (content_of p) ≡ content_of (union o p)
 joined_made o p =
-    made_alike (union (made o) (made p)) (union o (made p)) (alike_union (made o) o (made p) (made_is_alike o))
-    ∙ made_alike (union o (made p)) (union o p) (alike_union_right o (made p) p (made_is_alike p))
+    made_alike (union (content_of o) (content_of p)) (union o (content_of p)) (alike_union (content_of o) o (content_of p) (made_is_alike o))
+    ∙ made_alike (union o (content_of p)) (union o p) (alike_union_right o (content_of p) p (made_is_alike p))
 
-pub joined_made_right : (o p : Operations) → joined o (made p) ≡ made (union o p)
-joined_made_right o p = made_alike (union o (made p)) (union o p) (alike_union_right o (made p) p (made_is_alike p))
+pub joined_made_right : (o p : Operations) → joined o (content_of p) ≡ content_of (union o p)
+joined_made_right o p = made_alike (union o (content_of p)) (union o p) (alike_union_right o (content_of p) p (made_is_alike p))
 
 -- what a set makes is below what a greater one makes
-pub made_below_made : (o u : Operations) → ((r : List ℕ) → contains o r ≡ true → contains u r ≡ true) → IsBelow (made o) (made u)
-made_below_made o u into = below_made (made o) u (λ r h. into r (from_made o r h))
+pub made_below_made : (o u : Operations) → ((r : List ℕ) → contains o r ≡ true → contains u r ≡ true) → IsBelow (content_of o) (content_of u)
+made_below_made o u into = below_made (content_of o) u (λ r h. into r (from_made o r h))
 
 pub below_subset : (o p : Operations) → ((r : List ℕ) → contains o r ≡ true → contains p r ≡ true) → IsBelow o p
 below_subset o p into = record { retirements = λ r _ h. into r h; live = λ r _ h _. or_left _ _ (into r h) }
@@ -117,7 +117,7 @@ left_of true b n h = refl
 left_of false b n h = absurd (true≢false (sym h ∙ n))
 
 -- a set each of whose members is in another or covered there is below what that one makes
-pub below_made_known : (o u : Operations) → ((r : List ℕ) → contains o r ≡ true → (contains u r || is_covered u r) ≡ true) → IsBelow o (made u)
+pub below_made_known : (o u : Operations) → ((r : List ℕ) → contains o r ≡ true → (contains u r || is_covered u r) ≡ true) → IsBelow o (content_of u)
 below_made_known o u known = record {
   retirements = λ r n h. kept u r n ∙ left_of _ _ (ap (λ b. b && contains u (covering r)) n) (known r h);
   live = λ r _ h _. by_test _ (contains u (covering r))

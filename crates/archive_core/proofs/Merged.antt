@@ -14,41 +14,41 @@ use Rattle.std.proofs.lemmas.List.Kept.{IsStrictlySortedBy-filter}
 use Rattle.std.proofs.lemmas.List.Elements.{All-filter, All-append, All-from_recursion, recursion_from_All}
 use Rattle.std.proofs.lemmas.List.Sorted.{IsPermutation-map, All-permutation}
 use Rattle.join_core.proofs.Merge.{map_dedup, deduped_is, from_list_append, along_members}
-use Rattle.archive_core.specs.Record.{rec, IsOperation}
+use Rattle.archive_core.specs.Record.{record_bytes, IsOperation}
 use Rattle.archive_core.specs.Content.{Operations, IsMade, IsBelow, is_admission, covering, is_covered, changes, joined}
 use Rattle.archive_core.specs.InnerHeld.{IsHeld}
 use Rattle.archive_core.specs.declared.operations.Operation.{Operation}
 use Rattle.archive_core.proofs.Made.{bytes_same, by_test, either, or_left, or_right, contains_made, made_part, made_again, uncovered_of_made}
 
 -- the operations that are sorted by their records have sorted records
-sorted_records : (operations : List Operation) → IsSortedBy (λ x y. is_lt (slice_cmp nat_cmp (rec x) (rec y))) operations → IsSorted (slice_cmp nat_cmp) (map rec operations)
+sorted_records : (operations : List Operation) → IsSortedBy (λ x y. is_lt (slice_cmp nat_cmp (record_bytes x) (record_bytes y))) operations → IsSorted (slice_cmp nat_cmp) (map record_bytes operations)
 sorted_records [] up k d low high = absurd (omega arith)
 sorted_records (x ∷ xs) up k d low high =
     let lt : k + 1 < length (x ∷ xs) = rw (length-map {A = Operation}) at high in
-    rw (get_or-map rec (x ∷ xs) (k + 1) x d lt, get_or-map rec (x ∷ xs) k x d (omega arith)) (up k x (omega arith) lt)
+    rw (get_or-map record_bytes (x ∷ xs) (k + 1) x d lt, get_or-map record_bytes (x ∷ xs) k x d (omega arith)) (up k x (omega arith) lt)
 
 -- sorted operations of which each is kept once: they ascend, and are the same
 pub record IsOrderOf (operations ordered : List Operation) : Type 0 where
-  pub ascending : IsStrictlySortedBy (slice_cmp nat_cmp) (map rec ordered)
-  pub same : from_list {R = slice_cmp nat_cmp} (map rec ordered) ≡ from_list (map rec operations)
+  pub ascending : IsStrictlySortedBy (slice_cmp nat_cmp) (map record_bytes ordered)
+  pub same : from_list {R = slice_cmp nat_cmp} (map record_bytes ordered) ≡ from_list (map record_bytes operations)
   pub are : AllByRecursion IsOperation operations → AllByRecursion IsOperation ordered
 
-pub ordered : (operations sorted : List Operation) → IsPermutation operations sorted → IsSortedBy (λ x y. is_lt (slice_cmp nat_cmp (rec x) (rec y))) sorted → IsOrderOf operations (dedup (eq_by_cmp (on rec (slice_cmp nat_cmp))) sorted)
+pub ordered : (operations sorted : List Operation) → IsPermutation operations sorted → IsSortedBy (λ x y. is_lt (slice_cmp nat_cmp (record_bytes x) (record_bytes y))) sorted → IsOrderOf operations (dedup (eq_by_cmp (on record_bytes (slice_cmp nat_cmp))) sorted)
 ordered operations sorted permuted up =
-    let kept = dedup (eq_by_cmp (on rec (slice_cmp nat_cmp))) sorted in
-    let records : map rec kept ≡ dedup (eq_by_cmp (slice_cmp nat_cmp)) (map rec sorted) = map_dedup rec (eq_by_cmp (slice_cmp nat_cmp)) sorted in
-    let both = deduped_is nat_list_cmp_total bytes_same [] (map rec operations) (map rec sorted) (IsPermutation-map rec operations sorted permuted) (sorted_records sorted up) in
+    let kept = dedup (eq_by_cmp (on record_bytes (slice_cmp nat_cmp))) sorted in
+    let records : map record_bytes kept ≡ dedup (eq_by_cmp (slice_cmp nat_cmp)) (map record_bytes sorted) = map_dedup record_bytes (eq_by_cmp (slice_cmp nat_cmp)) sorted in
+    let both = deduped_is nat_list_cmp_total bytes_same [] (map record_bytes operations) (map record_bytes sorted) (IsPermutation-map record_bytes operations sorted permuted) (sorted_records sorted up) in
     record {
       ascending = rw records both.ascending;
-      same = rw records (both.members ∙ sym (from_list_append nat_list_cmp_total bytes_same [] (map rec operations)));
-      are = λ all. recursion_from_All IsOperation kept (All-dedup (eq_by_cmp (on rec (slice_cmp nat_cmp))) IsOperation sorted (All-permutation IsOperation operations sorted permuted (All-from_recursion IsOperation operations all)));
+      same = rw records (both.members ∙ sym (from_list_append nat_list_cmp_total bytes_same [] (map record_bytes operations)));
+      are = λ all. recursion_from_All IsOperation kept (All-dedup (eq_by_cmp (on record_bytes (slice_cmp nat_cmp))) IsOperation sorted (All-permutation IsOperation operations sorted permuted (All-from_recursion IsOperation operations all)));
     }
 
 -- the records of the operations that pass a test are the records that do
-pub records_filtered : (p : List ℕ → Bool) (operations : List Operation) → map rec (filter (λ operation. p (rec operation)) operations) ≡ filter p (map rec operations)
+pub records_filtered : (p : List ℕ → Bool) (operations : List Operation) → map record_bytes (filter (λ operation. p (record_bytes operation)) operations) ≡ filter p (map record_bytes operations)
 records_filtered p [] = refl
-records_filtered p (x ∷ xs) = elim (p (rec x)) as (λ b. map rec (cond b (x ∷ filter (λ operation. p (rec operation)) xs) (filter (λ operation. p (rec operation)) xs)) ≡ cond b (rec x ∷ filter p (map rec xs)) (filter p (map rec xs))) [
-  | true ↦ ap (λ l. rec x ∷ l) (records_filtered p xs)
+records_filtered p (x ∷ xs) = elim (p (record_bytes x)) as (λ b. map record_bytes (cond b (x ∷ filter (λ operation. p (record_bytes operation)) xs) (filter (λ operation. p (record_bytes operation)) xs)) ≡ cond b (record_bytes x ∷ filter p (map record_bytes xs)) (filter p (map record_bytes xs))) [
+  | true ↦ ap (λ l. record_bytes x ∷ l) (records_filtered p xs)
   | false ↦ records_filtered p xs
 ]
 
@@ -76,8 +76,8 @@ contains_filtered p (k ∷ ks) q =
     ] refl ∙ ap (λ b. b && p q) (sym (contains-insert nat_list_cmp_total (from_list ks) k q))
 
 -- what is left of operations
-pub contains_left : (p : List ℕ → Bool) (operations : List Operation) (q : List ℕ) → contains (from_list {R = slice_cmp nat_cmp} (map rec (filter (λ operation. p (rec operation)) operations))) q ≡ (contains (from_list {R = slice_cmp nat_cmp} (map rec operations)) q && p q)
-contains_left p operations q = ap (λ l. contains (from_list {R = slice_cmp nat_cmp} l) q) (records_filtered p operations) ∙ contains_filtered p (map rec operations) q
+pub contains_left : (p : List ℕ → Bool) (operations : List Operation) (q : List ℕ) → contains (from_list {R = slice_cmp nat_cmp} (map record_bytes (filter (λ operation. p (record_bytes operation)) operations))) q ≡ (contains (from_list {R = slice_cmp nat_cmp} (map record_bytes operations)) q && p q)
+contains_left p operations q = ap (λ l. contains (from_list {R = slice_cmp nat_cmp} l) q) (records_filtered p operations) ∙ contains_filtered p (map record_bytes operations) q
 
 and_left : (a b : Bool) → (a && b) ≡ true → a ≡ true
 and_left true b h = refl
@@ -94,11 +94,11 @@ pub are_both : (mine theirs : List Operation) → AllByRecursion IsOperation min
 are_both mine theirs a b = recursion_from_All IsOperation (mine ++ theirs) (All-append IsOperation mine theirs (All-from_recursion IsOperation mine a) (All-from_recursion IsOperation theirs b))
 
 -- is held where all were
-pub held_left : (p : List ℕ → Bool) (operations : List Operation) → IsHeld operations → IsHeld (filter (λ operation. p (rec operation)) operations)
+pub held_left : (p : List ℕ → Bool) (operations : List Operation) → IsHeld operations → IsHeld (filter (λ operation. p (record_bytes operation)) operations)
 held_left p operations held = record {
-  ascending = rw (records_filtered p operations) (IsStrictlySortedBy-filter (slice_cmp nat_cmp) p (map rec operations) held.ascending);
-  are = are_left (λ operation. p (rec operation)) operations held.are;
-  itself = made_part _ (from_list (map rec operations)) held.itself (λ r h. and_left _ _ (sym (contains_left p operations r) ∙ h));
+  ascending = rw (records_filtered p operations) (IsStrictlySortedBy-filter (slice_cmp nat_cmp) p (map record_bytes operations) held.ascending);
+  are = are_left (λ operation. p (record_bytes operation)) operations held.are;
+  itself = made_part _ (from_list (map record_bytes operations)) held.itself (λ r h. and_left _ _ (sym (contains_left p operations r) ∙ h));
 }
 
 -- A set that has of each of two contents what the other does not cover.
@@ -132,21 +132,21 @@ join_is_joined o p both made_o made_p is = same_set nat_list_cmp_total bytes_sam
 -- Operations in order that are those of the join.
 pub record HoldsJoin (o p : Operations) (operations : List Operation) : Type 0 where
   pub held : IsHeld operations
-  pub is : from_list {R = slice_cmp nat_cmp} (map rec operations) ≡ joined o p
+  pub is : from_list {R = slice_cmp nat_cmp} (map record_bytes operations) ≡ joined o p
 
-settled : (o p : Operations) (all operations : List Operation) → IsMade o → IsMade p → IsJoinOf o p (from_list (map rec all)) → AllByRecursion IsOperation all → IsOrderOf all operations → HoldsJoin o p operations
+settled : (o p : Operations) (all operations : List Operation) → IsMade o → IsMade p → IsJoinOf o p (from_list (map record_bytes all)) → AllByRecursion IsOperation all → IsOrderOf all operations → HoldsJoin o p operations
 settled o p all operations made_o made_p join are order =
-    let same : from_list {R = slice_cmp nat_cmp} (map rec operations) ≡ joined o p = order.same ∙ join_is_joined o p (from_list (map rec all)) made_o made_p join in
+    let same : from_list {R = slice_cmp nat_cmp} (map record_bytes operations) ≡ joined o p = order.same ∙ join_is_joined o p (from_list (map record_bytes all)) made_o made_p join in
     record {
       held = record { ascending = order.ascending; are = order.are are; itself = rw same (made_again (union o p)) };
       is = same;
     }
 
-contains_both : (mine theirs : List Operation) (r : List ℕ) → contains (from_list {R = slice_cmp nat_cmp} (map rec (mine ++ theirs))) r ≡ (contains (from_list {R = slice_cmp nat_cmp} (map rec mine)) r || contains (from_list {R = slice_cmp nat_cmp} (map rec theirs)) r)
+contains_both : (mine theirs : List Operation) (r : List ℕ) → contains (from_list {R = slice_cmp nat_cmp} (map record_bytes (mine ++ theirs))) r ≡ (contains (from_list {R = slice_cmp nat_cmp} (map record_bytes mine)) r || contains (from_list {R = slice_cmp nat_cmp} (map record_bytes theirs)) r)
 contains_both mine theirs r =
-    ap (λ l. contains (from_list {R = slice_cmp nat_cmp} l) r) (map-append rec mine theirs)
-    ∙ ap (λ s. contains s r) (from_list_append nat_list_cmp_total bytes_same (map rec mine) (map rec theirs))
-    ∙ contains-union nat_list_cmp_total (from_list (map rec mine)) (from_list (map rec theirs)) r
+    ap (λ l. contains (from_list {R = slice_cmp nat_cmp} l) r) (map-append record_bytes mine theirs)
+    ∙ ap (λ s. contains s r) (from_list_append nat_list_cmp_total bytes_same (map record_bytes mine) (map record_bytes theirs))
+    ∙ contains-union nat_list_cmp_total (from_list (map record_bytes mine)) (from_list (map record_bytes theirs)) r
 
 and_last : (a : Bool) → (a && true) ≡ a
 and_last true = refl
@@ -154,27 +154,27 @@ and_last false = refl
 
 -- what is left of operations covers what they cover
 covers_left : (p : Operations) (mine : List Operation) (r : List ℕ)
-    → is_covered (from_list (map rec (filter (λ operation. not (is_covered p (rec operation))) mine))) r ≡ is_covered (from_list (map rec mine)) r
-covers_left p mine r = ap (λ b. is_admission r && b) (contains_left (λ x. not (is_covered p x)) mine (covering r) ∙ and_last (contains (from_list {R = slice_cmp nat_cmp} (map rec mine)) (covering r)))
+    → is_covered (from_list (map record_bytes (filter (λ operation. not (is_covered p (record_bytes operation))) mine))) r ≡ is_covered (from_list (map record_bytes mine)) r
+covers_left p mine r = ap (λ b. is_admission r && b) (contains_left (λ x. not (is_covered p x)) mine (covering r) ∙ and_last (contains (from_list {R = slice_cmp nat_cmp} (map record_bytes mine)) (covering r)))
 
 -- each side's operations that the other does not cover, in order
 pub merged : (mine theirs operations : List Operation) → IsHeld mine → IsHeld theirs
-    → IsOrderOf (filter (λ operation. not (is_covered (from_list (map rec theirs)) (rec operation))) mine
-    ++ filter (λ operation. not (is_covered (from_list (map rec (filter (λ operation. not (is_covered (from_list (map rec theirs)) (rec operation))) mine))) (rec operation))) theirs) operations
-    → HoldsJoin (from_list (map rec mine)) (from_list (map rec theirs)) operations
+    → IsOrderOf (filter (λ operation. not (is_covered (from_list (map record_bytes theirs)) (record_bytes operation))) mine
+    ++ filter (λ operation. not (is_covered (from_list (map record_bytes (filter (λ operation. not (is_covered (from_list (map record_bytes theirs)) (record_bytes operation))) mine))) (record_bytes operation))) theirs) operations
+    → HoldsJoin (from_list (map record_bytes mine)) (from_list (map record_bytes theirs)) operations
 merged mine theirs operations held_mine held_theirs order =
-    let o : Operations = from_list (map rec mine) in
-    let p : Operations = from_list (map rec theirs) in
-    let first = filter (λ operation. not (is_covered p (rec operation))) mine in
-    let second = filter (λ operation. not (is_covered (from_list (map rec first)) (rec operation))) theirs in
+    let o : Operations = from_list (map record_bytes mine) in
+    let p : Operations = from_list (map record_bytes theirs) in
+    let first = filter (λ operation. not (is_covered p (record_bytes operation))) mine in
+    let second = filter (λ operation. not (is_covered (from_list (map record_bytes first)) (record_bytes operation))) theirs in
     settled o p (first ++ second) operations held_mine.itself held_theirs.itself
     (record {
       members = λ r.
           contains_both first second r
-          ∙ (λ i. contains_left (λ x. not (is_covered p x)) mine r i || contains_left (λ x. not (is_covered (from_list (map rec first)) x)) theirs r i)
+          ∙ (λ i. contains_left (λ x. not (is_covered p x)) mine r i || contains_left (λ x. not (is_covered (from_list (map record_bytes first)) x)) theirs r i)
           ∙ ap (λ b. (contains o r && not (is_covered p r)) || (contains p r && not b)) (covers_left p mine r);
     })
-    (are_both first second (are_left (λ operation. not (is_covered p (rec operation))) mine held_mine.are) (are_left (λ operation. not (is_covered (from_list (map rec first)) (rec operation))) theirs held_theirs.are))
+    (are_both first second (are_left (λ operation. not (is_covered p (record_bytes operation))) mine held_mine.are) (are_left (λ operation. not (is_covered (from_list (map record_bytes first)) (record_bytes operation))) theirs held_theirs.are))
     order
 
 -- a and b stand for members of the one and of the other, c and d for what each of them covers
@@ -185,22 +185,22 @@ with_missing false true c d f g = ap (λ x. not c && not x) (g refl) ∙ and_las
 with_missing false false c d f g = refl
 
 -- an archive's operations and those of another that it does not know, without those that the other covers, in order
-pub completed : (o p : Operations) (mine theirs operations : List Operation) → IsHeld mine → IsHeld theirs → from_list (map rec mine) ≡ o → from_list (map rec theirs) ≡ p
-    → IsOrderOf (filter (λ operation. not (is_covered p (rec operation))) (mine ++ filter (λ operation. changes o (rec operation)) theirs)) operations
+pub completed : (o p : Operations) (mine theirs operations : List Operation) → IsHeld mine → IsHeld theirs → from_list (map record_bytes mine) ≡ o → from_list (map record_bytes theirs) ≡ p
+    → IsOrderOf (filter (λ operation. not (is_covered p (record_bytes operation))) (mine ++ filter (λ operation. changes o (record_bytes operation)) theirs)) operations
     → HoldsJoin o p operations
 unfolding changes
 completed o p mine theirs operations held_mine held_theirs is_o is_p order =
-    let missing = filter (λ operation. changes o (rec operation)) theirs in
+    let missing = filter (λ operation. changes o (record_bytes operation)) theirs in
     let made_o : IsMade o = subst IsMade is_o held_mine.itself in
     let made_p : IsMade p = subst IsMade is_p held_theirs.itself in
-    settled o p (filter (λ operation. not (is_covered p (rec operation))) (mine ++ missing)) operations made_o made_p
+    settled o p (filter (λ operation. not (is_covered p (record_bytes operation))) (mine ++ missing)) operations made_o made_p
     (record {
       members = λ r.
           contains_left (λ x. not (is_covered p x)) (mine ++ missing) r
           ∙ ap (λ b. b && not (is_covered p r)) (contains_both mine missing r ∙ (λ i. ap (λ s. contains s r) is_o i || (contains_left (λ x. changes o x) theirs r ∙ ap (λ s. contains s r && changes o r) is_p) i))
           ∙ with_missing (contains o r) (contains p r) (is_covered o r) (is_covered p r) (uncovered_of_made o made_o r) (uncovered_of_made p made_p r);
     })
-    (are_left (λ operation. not (is_covered p (rec operation))) (mine ++ missing) (are_both mine missing held_mine.are (are_left (λ operation. changes o (rec operation)) theirs held_theirs.are)))
+    (are_left (λ operation. not (is_covered p (record_bytes operation))) (mine ++ missing) (are_both mine missing held_mine.are (are_left (λ operation. changes o (record_bytes operation)) theirs held_theirs.are)))
     order
 
 -- an archive has what it knows of another: that is below it
@@ -212,45 +212,45 @@ knows_member o (k ∷ ks) all r h =
     (λ there. knows_member o ks all.1 r there)
     (sym (contains-insert nat_list_cmp_total (from_list ks) k r) ∙ h)
 
-knows_along : (o : Operations) (operations : List Operation) → list_all (λ operation. contains o (rec operation) || is_covered o (rec operation)) operations ≡ true → AllByRecursion (λ r. (contains o r || is_covered o r) ≡ true) (map rec operations)
+knows_along : (o : Operations) (operations : List Operation) → list_all (λ operation. contains o (record_bytes operation) || is_covered o (record_bytes operation)) operations ≡ true → AllByRecursion (λ r. (contains o r || is_covered o r) ≡ true) (map record_bytes operations)
 knows_along o [] h = tt
 knows_along o (x ∷ xs) h = (and_left _ _ h, knows_along o xs (and_right _ _ h))
 
-along_knows : (o : Operations) (operations : List Operation) → AllByRecursion (λ r. (contains o r || is_covered o r) ≡ true) (map rec operations) → list_all (λ operation. contains o (rec operation) || is_covered o (rec operation)) operations ≡ true
+along_knows : (o : Operations) (operations : List Operation) → AllByRecursion (λ r. (contains o r || is_covered o r) ≡ true) (map record_bytes operations) → list_all (λ operation. contains o (record_bytes operation) || is_covered o (record_bytes operation)) operations ≡ true
 along_knows o [] all = refl
-along_knows o (x ∷ xs) all = ap (λ b. b && list_all (λ operation. contains o (rec operation) || is_covered o (rec operation)) xs) all.0 ∙ along_knows o xs all.1
+along_knows o (x ∷ xs) all = ap (λ b. b && list_all (λ operation. contains o (record_bytes operation) || is_covered o (record_bytes operation)) xs) all.0 ∙ along_knows o xs all.1
 
-pub known_is_below : (o : Operations) (operations : List Operation) → list_all (λ operation. contains o (rec operation) || is_covered o (rec operation)) operations ≡ true → IsBelow (from_list (map rec operations)) o
+pub known_is_below : (o : Operations) (operations : List Operation) → list_all (λ operation. contains o (record_bytes operation) || is_covered o (record_bytes operation)) operations ≡ true → IsBelow (from_list (map record_bytes operations)) o
 known_is_below o operations all =
-    let each = knows_member o (map rec operations) (knows_along o operations all) in
+    let each = knows_member o (map record_bytes operations) (knows_along o operations all) in
     record {
       retirements = λ r n h. either (contains o r ≡ true) (contains o r) (is_covered o r) (λ there. there) (λ c. absurd (true≢false (sym (and_left (is_admission r) _ c) ∙ n))) (each r h);
       live = λ r a h _. either ((contains o r || contains o (covering r)) ≡ true) (contains o r) (is_covered o r) (λ there. or_left _ _ there) (λ c. or_right _ _ (and_right (is_admission r) _ c)) (each r h);
     }
 
-pub below_is_known : (o : Operations) (operations : List Operation) → IsHeld operations → IsBelow (from_list (map rec operations)) o → list_all (λ operation. contains o (rec operation) || is_covered o (rec operation)) operations ≡ true
-below_is_known o operations held below = along_knows o operations (along_members nat_list_cmp_total (λ r. (contains o r || is_covered o r) ≡ true) (map rec operations) (λ r h.
+pub below_is_known : (o : Operations) (operations : List Operation) → IsHeld operations → IsBelow (from_list (map record_bytes operations)) o → list_all (λ operation. contains o (record_bytes operation) || is_covered o (record_bytes operation)) operations ≡ true
+below_is_known o operations held below = along_knows o operations (along_members nat_list_cmp_total (λ r. (contains o r || is_covered o r) ≡ true) (map record_bytes operations) (λ r h.
     by_test ((contains o r || is_covered o r) ≡ true) (is_admission r)
     (λ a.
-    let free : contains (from_list {R = slice_cmp nat_cmp} (map rec operations)) (covering r) ≡ false = ap (λ b. b && contains (from_list {R = slice_cmp nat_cmp} (map rec operations)) (covering r)) (sym a) ∙ uncovered_of_made (from_list (map rec operations)) held.itself r h in
+    let free : contains (from_list {R = slice_cmp nat_cmp} (map record_bytes operations)) (covering r) ≡ false = ap (λ b. b && contains (from_list {R = slice_cmp nat_cmp} (map record_bytes operations)) (covering r)) (sym a) ∙ uncovered_of_made (from_list (map record_bytes operations)) held.itself r h in
     ap (λ b. contains o r || (b && contains o (covering r))) a ∙ below.live r a h free)
     (λ n. or_left _ _ (below.retirements r n h))))
 
 -- the same, as a merge goes
-pub merged_is : (mine theirs first second all operations : List Operation) (o p q : Operations) → IsHeld mine → IsHeld theirs → from_list (map rec mine) ≡ o → from_list (map rec theirs) ≡ p
-    → first ≡ filter (λ operation. not (is_covered p (rec operation))) mine → q ≡ from_list (map rec first) → second ≡ filter (λ operation. not (is_covered q (rec operation))) theirs
+pub merged_is : (mine theirs first second all operations : List Operation) (o p q : Operations) → IsHeld mine → IsHeld theirs → from_list (map record_bytes mine) ≡ o → from_list (map record_bytes theirs) ≡ p
+    → first ≡ filter (λ operation. not (is_covered p (record_bytes operation))) mine → q ≡ from_list (map record_bytes first) → second ≡ filter (λ operation. not (is_covered q (record_bytes operation))) theirs
     → all ≡ first ++ second → IsOrderOf all operations → HoldsJoin o p operations
 merged_is mine theirs first second all operations o p q held_mine held_theirs is_o is_p first_is q_is second_is all_is order =
-    let first_at : first ≡ filter (λ operation. not (is_covered (from_list (map rec theirs)) (rec operation))) mine = first_is ∙ ap (λ s. filter (λ operation. not (is_covered s (rec operation))) mine) (sym is_p) in
-    let second_at : second ≡ filter (λ operation. not (is_covered (from_list (map rec (filter (λ operation. not (is_covered (from_list (map rec theirs)) (rec operation))) mine))) (rec operation))) theirs =
-    second_is ∙ ap (λ s. filter (λ operation. not (is_covered s (rec operation))) theirs) (q_is ∙ ap (λ (l : List Operation). from_list (map rec l)) first_at) in
+    let first_at : first ≡ filter (λ operation. not (is_covered (from_list (map record_bytes theirs)) (record_bytes operation))) mine = first_is ∙ ap (λ s. filter (λ operation. not (is_covered s (record_bytes operation))) mine) (sym is_p) in
+    let second_at : second ≡ filter (λ operation. not (is_covered (from_list (map record_bytes (filter (λ operation. not (is_covered (from_list (map record_bytes theirs)) (record_bytes operation))) mine))) (record_bytes operation))) theirs =
+    second_is ∙ ap (λ s. filter (λ operation. not (is_covered s (record_bytes operation))) theirs) (q_is ∙ ap (λ (l : List Operation). from_list (map record_bytes l)) first_at) in
     let holds = merged mine theirs operations held_mine held_theirs (subst (λ l. IsOrderOf l operations) (all_is ∙ (λ i. first_at i ++ second_at i)) order) in
     record { held = holds.held; is = holds.is ∙ (λ i. joined (is_o i) (is_p i)) }
 
 -- and as a join goes
-pub completed_is : (mine theirs missing all left operations : List Operation) (o p q : Operations) → IsHeld mine → IsHeld theirs → from_list (map rec mine) ≡ o → from_list (map rec theirs) ≡ p
-    → missing ≡ filter (λ operation. changes o (rec operation)) theirs → all ≡ mine ++ missing → q ≡ p → left ≡ filter (λ operation. not (is_covered q (rec operation))) all
+pub completed_is : (mine theirs missing all left operations : List Operation) (o p q : Operations) → IsHeld mine → IsHeld theirs → from_list (map record_bytes mine) ≡ o → from_list (map record_bytes theirs) ≡ p
+    → missing ≡ filter (λ operation. changes o (record_bytes operation)) theirs → all ≡ mine ++ missing → q ≡ p → left ≡ filter (λ operation. not (is_covered q (record_bytes operation))) all
     → IsOrderOf left operations → HoldsJoin o p operations
 completed_is mine theirs missing all left operations o p q held_mine held_theirs is_o is_p missing_is all_is q_is left_is order =
     completed o p mine theirs operations held_mine held_theirs is_o is_p (subst (λ l. IsOrderOf l operations)
-    (left_is ∙ (λ i. filter (λ operation. not (is_covered (q_is i) (rec operation))) ((all_is ∙ ap (λ l. mine ++ l) missing_is) i))) order)
+    (left_is ∙ (λ i. filter (λ operation. not (is_covered (q_is i) (record_bytes operation))) ((all_is ∙ ap (λ l. mine ++ l) missing_is) i))) order)

@@ -17,7 +17,7 @@ use Rattle.std.proofs.lemmas.List.{append-nil}
 use Rattle.std.proofs.Math.Seq.{take-suc}
 use Rattle.macho_symbols.proofs.Order.{both_equal}
 use Rattle.macho_symbols.specs.Found.{named}
-use Rattle.archive_core.specs.Record.{rec, admission_record, IsOperation}
+use Rattle.archive_core.specs.Record.{record_bytes, admission_record, IsOperation}
 use Rattle.archive_core.specs.Content.{Operations, IsContent}
 use Rattle.archive_core.specs.Names.{NameRecord, key_cmp, place_cmp, name_cmp, name_row, IsNameRow, IsNames, name_view}
 use Rattle.archive_core.specs.Names.{names_in}
@@ -156,7 +156,7 @@ module _ (name : List ℕ) (operations : List Operation) (i : ℕ) (a : Operatio
       ∙ ap (λ l. names_among name (take i operations) ++ l) (append-nil (names_of name a))
 
 -- what a scan finds are the rows of the name
-pub names_scanned : (o : Operations) (name : List ℕ) (operations : List Operation) → IsHeld operations → from_list (map rec operations) ≡ o
+pub names_scanned : (o : Operations) (name : List ℕ) (operations : List Operation) → IsHeld operations → from_list (map record_bytes operations) ≡ o
     → (row : NameRecord) → Contains (names_among name operations) row ↔ IsNameRow o name row
 unfolding names_among
 names_scanned o name operations held is row = (to, back)
@@ -191,7 +191,7 @@ one_list_of_names o name rows others f g =
     one_with_members name_total rows others f.ascending g.ascending (λ a h. (g.exactly a).1 ((f.exactly a).0 h)) (λ a h. (f.exactly a).1 ((g.exactly a).0 h))
 
 -- put in order, they are what a search for the name tells
-pub names_put : (o : Operations) (name : List ℕ) (operations : List Operation) → IsHeld operations → from_list (map rec operations) ≡ o
+pub names_put : (o : Operations) (name : List ℕ) (operations : List Operation) → IsHeld operations → from_list (map record_bytes operations) ≡ o
     → (old new : List NameRecord) → old ≡ names_among name operations → IsStrictlySortedBy name_cmp new → ((row : NameRecord) → Contains new row ↔ Contains old row) → IsNames o name new
 names_put o name operations held is old new gathered ascending same = record {
   ascending = ascending;

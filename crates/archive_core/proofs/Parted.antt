@@ -7,8 +7,8 @@ use Rattle.std.specs.Cmp.Lexicographic.{slice_cmp, nat_list_cmp_total}
 use Rattle.std.specs.List.{list_all}
 use Rattle.std.specs.FinSet as set
 use Rattle.std.specs.FinSet.{contains, contains-insert, contains-empty, same_set}
-use Rattle.archive_core.specs.Record.{rec}
-use Rattle.archive_core.specs.Content.{Operations, is_admission, covering, is_covered, made, IsMade, IsBelow, IsTakenInPart, with_record, with_records, changes, new_among}
+use Rattle.archive_core.specs.Record.{record_bytes}
+use Rattle.archive_core.specs.Content.{Operations, is_admission, covering, is_covered, content_of, IsMade, IsBelow, IsTakenInPart, with_record, with_records, changes, new_among}
 use Rattle.archive_core.specs.InnerTaking.{IsBeside, IsParting, IsParted, with_both}
 use Rattle.archive_core.specs.declared.operations.Operation.{Operation}
 use Rattle.archive_core.proofs.Made.{bytes_same, by_test, or_left, or_right, kept, free, covers_same, made_again, made_alike, alike_insert, made_is_alike, below_transitive}
@@ -29,20 +29,20 @@ inserted_swapped o r s = same_set nat_list_cmp_total bytes_same _ _ (λ q.
     ∙ or_swapped (eq_by_cmp (slice_cmp nat_cmp) q s) (eq_by_cmp (slice_cmp nat_cmp) q r) (contains o q)
     ∙ sym (contains-insert nat_list_cmp_total (set.insert o s) r q ∙ ap (λ b. eq_by_cmp (slice_cmp nat_cmp) q r || b) (contains-insert nat_list_cmp_total o s q)))
 
-made_inserted : (o : Operations) (r s : List ℕ) → with_record (with_record o r) s ≡ made (set.insert (set.insert o r) s)
-made_inserted o r s = made_alike (set.insert (made (set.insert o r)) s) (set.insert (set.insert o r) s) (alike_insert (made (set.insert o r)) (set.insert o r) s (made_is_alike (set.insert o r)))
+made_inserted : (o : Operations) (r s : List ℕ) → with_record (with_record o r) s ≡ content_of (set.insert (set.insert o r) s)
+made_inserted o r s = made_alike (set.insert (content_of (set.insert o r)) s) (set.insert (set.insert o r) s) (alike_insert (content_of (set.insert o r)) (set.insert o r) s (made_is_alike (set.insert o r)))
 
 swapped : (o : Operations) (r s : List ℕ) → with_record (with_record o r) s ≡ with_record (with_record o s) r
-swapped o r s = made_inserted o r s ∙ ap made (inserted_swapped o r s) ∙ sym (made_inserted o s r)
+swapped o r s = made_inserted o r s ∙ ap content_of (inserted_swapped o r s) ∙ sym (made_inserted o s r)
 
 -- so one may be taken before others or behind them
 later : (o : Operations) (r : List ℕ) (rs : List (List ℕ)) → with_records (with_record o r) rs ≡ with_record (with_records o rs) r
 later o r [] = refl
 later o r (s ∷ rs) = ap (λ p. with_records p rs) (swapped o r s) ∙ later (with_record o s) r rs
 
-with_last : (o : Operations) (xs : List Operation) (x : Operation) → with_records o (map rec (xs ++ x ∷ [])) ≡ with_record (with_records o (map rec xs)) (rec x)
+with_last : (o : Operations) (xs : List Operation) (x : Operation) → with_records o (map record_bytes (xs ++ x ∷ [])) ≡ with_record (with_records o (map record_bytes xs)) (record_bytes x)
 with_last o [] x = refl
-with_last o (y ∷ ys) x = with_last (with_record o (rec y)) ys x
+with_last o (y ∷ ys) x = with_last (with_record o (record_bytes y)) ys x
 
 new_first : (o : Operations) (r : List ℕ) (rs : List (List ℕ)) → new_among o (r ∷ rs) ≡ (if changes o r then 1 else 0) + new_among (with_record o r) rs
 unfolding new_among
@@ -52,9 +52,9 @@ new_none : (o : Operations) → new_among o [] ≡ 0
 unfolding new_among
 new_none o = refl
 
-new_last : (o : Operations) (xs : List Operation) (x : Operation) → new_among o (map rec (xs ++ x ∷ [])) ≡ new_among o (map rec xs) + (if changes (with_records o (map rec xs)) (rec x) then 1 else 0)
-new_last o [] x = omega (arith, new_first o (rec x) [], new_none (with_record o (rec x)), new_none o)
-new_last o (y ∷ ys) x = omega (arith, new_last (with_record o (rec y)) ys x, new_first o (rec y) (map rec ys), new_first o (rec y) (map rec (ys ++ x ∷ [])))
+new_last : (o : Operations) (xs : List Operation) (x : Operation) → new_among o (map record_bytes (xs ++ x ∷ [])) ≡ new_among o (map record_bytes xs) + (if changes (with_records o (map record_bytes xs)) (record_bytes x) then 1 else 0)
+new_last o [] x = omega (arith, new_first o (record_bytes x) [], new_none (with_record o (record_bytes x)), new_none o)
+new_last o (y ∷ ys) x = omega (arith, new_last (with_record o (record_bytes y)) ys x, new_first o (record_bytes y) (map record_bytes ys), new_first o (record_bytes y) (map record_bytes (ys ++ x ∷ [])))
 
 all_last : (test : Operation → Bool) (xs : List Operation) (x : Operation) → list_all test xs ≡ true → test x ≡ true → list_all test (xs ++ x ∷ []) ≡ true
 all_last test [] x all one = ap (λ b. b && true) one
@@ -133,29 +133,29 @@ covered_there o r a = ap (λ b. b && contains o (covering r)) a
 
 -- one that is there, or covered, counts for nothing
 passed : (old : Operations) (all rest admissions retirements : List Operation) (seen more : Operations) (x : Operation) → IsParting old all (x ∷ rest) admissions retirements seen
-    → (contains (with_both old admissions retirements) (rec x) || is_covered (with_both old admissions retirements) (rec x)) ≡ true
-    → IsBeside old (with_records old (map rec admissions)) (with_both old admissions retirements) more
+    → (contains (with_both old admissions retirements) (record_bytes x) || is_covered (with_both old admissions retirements) (record_bytes x)) ≡ true
+    → IsBeside old (with_records old (map record_bytes admissions)) (with_both old admissions retirements) more
     → IsParting old all rest admissions retirements more
 passed old all rest admissions retirements seen more x parting known beside =
     let now = with_both old admissions retirements in
-    let stays : with_record now (rec x) ≡ now = with_known now (rec x) parting.beside.made_now known in
-    let none : ◌≡◌ {A = ℕ} (if changes now (rec x) then 1 else 0) 0 = ap (λ b. if b then 1 else 0) (known_changes now (rec x) known) in
+    let stays : with_record now (record_bytes x) ≡ now = with_known now (record_bytes x) parting.beside.made_now known in
+    let none : ◌≡◌ {A = ℕ} (if changes now (record_bytes x) then 1 else 0) 0 = ap (λ b. if b then 1 else 0) (known_changes now (record_bytes x) known) in
     record {
       only = parting.only;
       beside = beside;
-      content = ap (λ p. with_records p (map rec rest)) (sym stays) ∙ parting.content;
+      content = ap (λ p. with_records p (map record_bytes rest)) (sym stays) ∙ parting.content;
       counted =
-          let same : new_among (with_record now (rec x)) (map rec rest) ≡ new_among now (map rec rest) = ap (λ p. new_among p (map rec rest)) stays in
-          omega (arith, parting.counted, new_first now (rec x) (map rec rest), none, same);
+          let same : new_among (with_record now (record_bytes x)) (map record_bytes rest) ≡ new_among now (map record_bytes rest) = ap (λ p. new_among p (map record_bytes rest)) stays in
+          omega (arith, parting.counted, new_first now (record_bytes x) (map record_bytes rest), none, same);
     }
 
 -- an admission that a retirement before it covers is passed over
 pub admission_passed : (old : Operations) (all rest admissions retirements : List Operation) (seen : Operations) (x : Operation) → IsParting old all (x ∷ rest) admissions retirements seen
-    → is_admission (rec x) ≡ true → contains seen (covering (rec x)) ≡ true → IsParting old all rest admissions retirements seen
+    → is_admission (record_bytes x) ≡ true → contains seen (covering (record_bytes x)) ≡ true → IsParting old all rest admissions retirements seen
 admission_passed old all rest admissions retirements seen x parting a there =
     let now = with_both old admissions retirements in
     passed old all rest admissions retirements seen seen x parting
-    (or_right (contains now (rec x)) _ (covered_there now (rec x) a ∙ parting.beside.known (covering (rec x)) refl ∙ or_right (contains old (covering (rec x))) _ there))
+    (or_right (contains now (record_bytes x)) _ (covered_there now (record_bytes x) a ∙ parting.beside.known (covering (record_bytes x)) refl ∙ or_right (contains old (covering (record_bytes x))) _ there))
     parting.beside
 
 -- so is a retirement that came before
@@ -167,14 +167,14 @@ insert_there o r there q =
     (λ f. ap (λ b. b || contains o q) f)
 
 pub retirement_passed : (old : Operations) (all rest admissions retirements : List Operation) (seen : Operations) (x : Operation) → IsParting old all (x ∷ rest) admissions retirements seen
-    → is_admission (rec x) ≡ false → (contains old (rec x) || contains seen (rec x)) ≡ true → IsParting old all rest admissions retirements (set.insert seen (rec x))
+    → is_admission (record_bytes x) ≡ false → (contains old (record_bytes x) || contains seen (record_bytes x)) ≡ true → IsParting old all rest admissions retirements (set.insert seen (record_bytes x))
 retirement_passed old all rest admissions retirements seen x parting n there =
     let now = with_both old admissions retirements in
-    let admitted = with_records old (map rec admissions) in
-    let held : contains now (rec x) ≡ true = parting.beside.known (rec x) n ∙ there in
-    let known : (contains now (rec x) || is_covered now (rec x)) ≡ true = or_left _ (is_covered now (rec x)) held in
-    passed old all rest admissions retirements seen (set.insert seen (rec x)) x parting known
-    (subst (λ p. IsBeside old admitted p (set.insert seen (rec x))) (with_known now (rec x) parting.beside.made_now known) (beside_retirement old admitted now seen (rec x) parting.beside n))
+    let admitted = with_records old (map record_bytes admissions) in
+    let held : contains now (record_bytes x) ≡ true = parting.beside.known (record_bytes x) n ∙ there in
+    let known : (contains now (record_bytes x) || is_covered now (record_bytes x)) ≡ true = or_left _ (is_covered now (record_bytes x)) held in
+    passed old all rest admissions retirements seen (set.insert seen (record_bytes x)) x parting known
+    (subst (λ p. IsBeside old admitted p (set.insert seen (record_bytes x))) (with_known now (record_bytes x) parting.beside.made_now known) (beside_retirement old admitted now seen (record_bytes x) parting.beside n))
 
 -- an admission that none before it covers changes the one content where it changes the other
 changes_alike : (old admitted now seen : Operations) (r : List ℕ) → IsBeside old admitted now seen → is_admission r ≡ true → contains seen (covering r) ≡ false → changes now r ≡ changes admitted r
@@ -188,37 +188,37 @@ changes_alike old admitted now seen r beside a unseen =
 
 -- an admission goes behind the admissions
 pub admission_put : (old : Operations) (all rest admissions retirements : List Operation) (seen : Operations) (x : Operation) → IsParting old all (x ∷ rest) admissions retirements seen
-    → is_admission (rec x) ≡ true → contains seen (covering (rec x)) ≡ false → IsParting old all rest (admissions ++ x ∷ []) retirements seen
+    → is_admission (record_bytes x) ≡ true → contains seen (covering (record_bytes x)) ≡ false → IsParting old all rest (admissions ++ x ∷ []) retirements seen
 admission_put old all rest admissions retirements seen x parting a unseen =
-    let admitted = with_records old (map rec admissions) in
+    let admitted = with_records old (map record_bytes admissions) in
     let now = with_both old admissions retirements in
-    let admitted_is : with_records old (map rec (admissions ++ x ∷ [])) ≡ with_record admitted (rec x) = with_last old admissions x in
-    let now_is : with_both old (admissions ++ x ∷ []) retirements ≡ with_record now (rec x) = ap (λ p. with_records p (map rec retirements)) admitted_is ∙ later admitted (rec x) (map rec retirements) in
+    let admitted_is : with_records old (map record_bytes (admissions ++ x ∷ [])) ≡ with_record admitted (record_bytes x) = with_last old admissions x in
+    let now_is : with_both old (admissions ++ x ∷ []) retirements ≡ with_record now (record_bytes x) = ap (λ p. with_records p (map record_bytes retirements)) admitted_is ∙ later admitted (record_bytes x) (map record_bytes retirements) in
     record {
-      only = all_last (λ operation. is_admission (rec operation)) admissions x parting.only a;
-      beside = subst (λ p. IsBeside old p (with_both old (admissions ++ x ∷ []) retirements) seen) (sym admitted_is) (subst (λ p. IsBeside old (with_record admitted (rec x)) p seen) (sym now_is) (beside_admission old admitted now seen (rec x) parting.beside a));
-      content = ap (λ p. with_records p (map rec rest)) now_is ∙ parting.content;
+      only = all_last (λ operation. is_admission (record_bytes operation)) admissions x parting.only a;
+      beside = subst (λ p. IsBeside old p (with_both old (admissions ++ x ∷ []) retirements) seen) (sym admitted_is) (subst (λ p. IsBeside old (with_record admitted (record_bytes x)) p seen) (sym now_is) (beside_admission old admitted now seen (record_bytes x) parting.beside a));
+      content = ap (λ p. with_records p (map record_bytes rest)) now_is ∙ parting.content;
       counted =
-          let one : ◌≡◌ {A = ℕ} (if changes now (rec x) then 1 else 0) (if changes admitted (rec x) then 1 else 0) = ap (λ b. if b then 1 else 0) (changes_alike old admitted now seen (rec x) parting.beside a unseen) in
-          let same : new_among (with_both old (admissions ++ x ∷ []) retirements) (map rec rest) ≡ new_among (with_record now (rec x)) (map rec rest) = ap (λ p. new_among p (map rec rest)) now_is in
-          omega (arith, parting.counted, new_first now (rec x) (map rec rest), new_last old admissions x, one, same);
+          let one : ◌≡◌ {A = ℕ} (if changes now (record_bytes x) then 1 else 0) (if changes admitted (record_bytes x) then 1 else 0) = ap (λ b. if b then 1 else 0) (changes_alike old admitted now seen (record_bytes x) parting.beside a unseen) in
+          let same : new_among (with_both old (admissions ++ x ∷ []) retirements) (map record_bytes rest) ≡ new_among (with_record now (record_bytes x)) (map record_bytes rest) = ap (λ p. new_among p (map record_bytes rest)) now_is in
+          omega (arith, parting.counted, new_first now (record_bytes x) (map record_bytes rest), new_last old admissions x, one, same);
     }
 
 -- and a retirement that is new behind the retirements
 pub retirement_put : (old : Operations) (all rest admissions retirements : List Operation) (seen : Operations) (x : Operation) → IsParting old all (x ∷ rest) admissions retirements seen
-    → is_admission (rec x) ≡ false → (contains old (rec x) || contains seen (rec x)) ≡ false → IsParting old all rest admissions (retirements ++ x ∷ []) (set.insert seen (rec x))
+    → is_admission (record_bytes x) ≡ false → (contains old (record_bytes x) || contains seen (record_bytes x)) ≡ false → IsParting old all rest admissions (retirements ++ x ∷ []) (set.insert seen (record_bytes x))
 retirement_put old all rest admissions retirements seen x parting n absent =
-    let admitted = with_records old (map rec admissions) in
+    let admitted = with_records old (map record_bytes admissions) in
     let now = with_both old admissions retirements in
-    let now_is : with_both old admissions (retirements ++ x ∷ []) ≡ with_record now (rec x) = with_last admitted retirements x in
+    let now_is : with_both old admissions (retirements ++ x ∷ []) ≡ with_record now (record_bytes x) = with_last admitted retirements x in
     record {
       only = parting.only;
-      beside = subst (λ p. IsBeside old admitted p (set.insert seen (rec x))) (sym now_is) (beside_retirement old admitted now seen (rec x) parting.beside n);
-      content = ap (λ p. with_records p (map rec rest)) now_is ∙ parting.content;
+      beside = subst (λ p. IsBeside old admitted p (set.insert seen (record_bytes x))) (sym now_is) (beside_retirement old admitted now seen (record_bytes x) parting.beside n);
+      content = ap (λ p. with_records p (map record_bytes rest)) now_is ∙ parting.content;
       counted =
-          let one : ◌≡◌ {A = ℕ} (if changes now (rec x) then 1 else 0) 1 = ap (λ b. if b then 1 else 0) (new_changes now (rec x) (parting.beside.known (rec x) n ∙ absent) (ap (λ b. b && contains now (covering (rec x))) n)) in
-          let same : new_among (with_both old admissions (retirements ++ x ∷ [])) (map rec rest) ≡ new_among (with_record now (rec x)) (map rec rest) = ap (λ p. new_among p (map rec rest)) now_is in
-          omega (arith, parting.counted, new_first now (rec x) (map rec rest), length-append retirements (x ∷ []), one, same);
+          let one : ◌≡◌ {A = ℕ} (if changes now (record_bytes x) then 1 else 0) 1 = ap (λ b. if b then 1 else 0) (new_changes now (record_bytes x) (parting.beside.known (record_bytes x) n ∙ absent) (ap (λ b. b && contains now (covering (record_bytes x))) n)) in
+          let same : new_among (with_both old admissions (retirements ++ x ∷ [])) (map record_bytes rest) ≡ new_among (with_record now (record_bytes x)) (map record_bytes rest) = ap (λ p. new_among p (map record_bytes rest)) now_is in
+          omega (arith, parting.counted, new_first now (record_bytes x) (map record_bytes rest), length-append retirements (x ∷ []), one, same);
     }
 
 -- in the words of the lists that are there then
@@ -255,21 +255,21 @@ parted old all (x ∷ xs) admissions retirements seen parting none = absurd (ome
 -- ---- parts that are taken
 
 -- a part of the admissions is a part of all
-pub admissions_in_part : (old mid : Operations) (all admissions retirements : List Operation) → IsParted old all admissions retirements → IsTakenInPart old (map rec admissions) mid → IsTakenInPart old (map rec all) mid
+pub admissions_in_part : (old mid : Operations) (all admissions retirements : List Operation) → IsParted old all admissions retirements → IsTakenInPart old (map record_bytes admissions) mid → IsTakenInPart old (map record_bytes all) mid
 admissions_in_part old mid all admissions retirements is part =
-    let admitted = with_records old (map rec admissions) in
+    let admitted = with_records old (map record_bytes admissions) in
     record {
       content = part.content;
       above_old = part.above_old;
-      below_all = subst (λ z. IsBelow mid z) is.content (below_transitive mid admitted (with_both old admissions retirements) part.below_all (below_taken admitted (map rec retirements)));
+      below_all = subst (λ z. IsBelow mid z) is.content (below_transitive mid admitted (with_both old admissions retirements) part.below_all (below_taken admitted (map record_bytes retirements)));
     }
 
 -- so is a part of the retirements, behind the admissions
-pub retirements_in_part : (old admitted mid : Operations) (all admissions retirements : List Operation) → IsParted old all admissions retirements → admitted ≡ with_records old (map rec admissions) → IsTakenInPart admitted (map rec retirements) mid → IsTakenInPart old (map rec all) mid
+pub retirements_in_part : (old admitted mid : Operations) (all admissions retirements : List Operation) → IsParted old all admissions retirements → admitted ≡ with_records old (map record_bytes admissions) → IsTakenInPart admitted (map record_bytes retirements) mid → IsTakenInPart old (map record_bytes all) mid
 retirements_in_part old admitted mid all admissions retirements is taken part = record {
   content = part.content;
-  above_old = below_transitive old admitted mid (subst (λ z. IsBelow old z) (sym taken) (below_taken old (map rec admissions))) part.above_old;
-  below_all = subst (λ z. IsBelow mid z) (ap (λ p. with_records p (map rec retirements)) taken ∙ is.content) part.below_all;
+  above_old = below_transitive old admitted mid (subst (λ z. IsBelow old z) (sym taken) (below_taken old (map record_bytes admissions))) part.above_old;
+  below_all = subst (λ z. IsBelow mid z) (ap (λ p. with_records p (map record_bytes retirements)) taken ∙ is.content) part.below_all;
 }
 
 -- ---- what tests and results say

@@ -75,8 +75,8 @@ are_alike o p key slices same is = record {
   );
 }
 
-pub answer_alike : (o p : Operations) (key : SliceKey) (place : Where) (answer : AnswerRecord) → AreAlikeUnder (key_bytes key) o p → IsAnswer o key place answer → IsAnswer p key place answer
-answer_alike o p key place answer same is = record { slices = is.slices; answering = are_alike o p key is.slices same is.answering; answer_is = is.answer_is }
+pub answer_alike : (o p : Operations) (key : SliceKey) (asked : Where) (answer : AnswerRecord) → AreAlikeUnder (key_bytes key) o p → IsAnswer o key asked answer → IsAnswer p key asked answer
+answer_alike o p key asked answer same is = record { slices = is.slices; answering = are_alike o p key is.slices same is.answering; answer_is = is.answer_is }
 
 pub conflict_alike : (o p : Operations) (key : SliceKey) → AreAlikeUnder (key_bytes key) o p → IsConflict o key → IsConflict p key
 conflict_alike o p key same is = record { slices = is.slices; answering = are_alike o p key is.slices same is.answering; several = is.several }

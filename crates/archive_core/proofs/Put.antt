@@ -11,7 +11,7 @@ use Rattle.std.specs.FinSet.{contains, from_list, contains-insert, contains-empt
 use Rattle.std.proofs.lemmas.List.Kept.{IsStrictlySortedBy-filter}
 use Rattle.join_core.specs.InnerSearch.{IsPlaceFor}
 use Rattle.archive_core.specs.Valid.{IsValid}
-use Rattle.archive_core.specs.Record.{rec, admission_record, IsOperation}
+use Rattle.archive_core.specs.Record.{record_bytes, admission_record, IsOperation}
 use Rattle.archive_core.specs.Content.{Operations, is_admission, covering, is_covered, IsMade, with_record, with_records, new_among}
 use Rattle.archive_core.specs.InnerHeld.{IsHeld}
 use Rattle.archive_core.specs.declared.operations.Operation.{Operation}
@@ -27,11 +27,11 @@ is_tied : (q r : List ℕ) → eq_by_cmp (slice_cmp nat_cmp) q r ≡ true → q 
 is_tied q r h = bytes_same q r ((Equal-is (slice_cmp nat_cmp q r)).0 h)
 
 -- an admission that is not covered goes in at its place
-pub held_admission : (operations : List Operation) (i : ℕ) (slice : List ℕ) → IsHeld operations → IsValid slice → IsPlaceFor (slice_cmp nat_cmp) (map rec operations) (admission_record slice) i
-    → is_covered (from_list (map rec operations)) (admission_record slice) ≡ false → IsHeld (insert_at operations i (Admit slice))
-held_admission operations i slice held valid place free =
-    held_insert operations i (Admit slice) held valid place
-    (rw (records_insert operations i (Admit slice)) (made_with_admission (from_list (map rec operations)) (admission_record slice) held.itself refl free))
+pub held_admission : (operations : List Operation) (i : ℕ) (slice : List ℕ) → IsHeld operations → IsValid slice → IsPlaceFor (slice_cmp nat_cmp) (map record_bytes operations) (admission_record slice) i
+    → is_covered (from_list (map record_bytes operations)) (admission_record slice) ≡ false → IsHeld (insert_at operations i (Admit slice))
+held_admission operations i slice held valid asked free =
+    held_insert operations i (Admit slice) held valid asked
+    (rw (records_insert operations i (Admit slice)) (made_with_admission (from_list (map record_bytes operations)) (admission_record slice) held.itself refl free))
 
 -- the content without what a retirement covers is that with the retirement
 with_retirement : (o left : Operations) (r : List ℕ) → IsMade o → is_admission r ≡ false
@@ -65,11 +65,11 @@ unfolding IsStrictlySortedBy
 held_alone operation is = record {
   ascending = (tt, tt);
   are = (is, tt);
-  itself = made_of_uncovered (set.insert set.empty (rec operation)) (λ q h.
-      either (is_covered (set.insert (set.empty {R = slice_cmp nat_cmp}) (rec operation)) q ≡ false) (eq_by_cmp (slice_cmp nat_cmp) q (rec operation)) (contains (set.empty {R = slice_cmp nat_cmp}) q)
-      (λ t. ap (is_covered (set.insert (set.empty {R = slice_cmp nat_cmp}) (rec operation))) (is_tied q (rec operation) t) ∙ still_uncovered set.empty (rec operation) (none (is_admission (rec operation)) _ (contains-empty (slice_cmp nat_cmp) (covering (rec operation)))))
+  itself = made_of_uncovered (set.insert set.empty (record_bytes operation)) (λ q h.
+      either (is_covered (set.insert (set.empty {R = slice_cmp nat_cmp}) (record_bytes operation)) q ≡ false) (eq_by_cmp (slice_cmp nat_cmp) q (record_bytes operation)) (contains (set.empty {R = slice_cmp nat_cmp}) q)
+      (λ t. ap (is_covered (set.insert (set.empty {R = slice_cmp nat_cmp}) (record_bytes operation))) (is_tied q (record_bytes operation) t) ∙ still_uncovered set.empty (record_bytes operation) (none (is_admission (record_bytes operation)) _ (contains-empty (slice_cmp nat_cmp) (covering (record_bytes operation)))))
       (λ there. absurd (true≢false (sym there ∙ contains-empty (slice_cmp nat_cmp) q)))
-      (sym (contains-insert nat_list_cmp_total set.empty (rec operation) q) ∙ h));
+      (sym (contains-insert nat_list_cmp_total set.empty (record_bytes operation) q) ∙ h));
 }
   where
     none : (a b : Bool) → b ≡ false → (a && b) ≡ false
@@ -79,22 +79,22 @@ held_alone operation is = record {
 -- Operations in order that are those of a content with one more.
 pub record HoldsWith (o : Operations) (r : List ℕ) (operations : List Operation) : Type 0 where
   pub held : IsHeld operations
-  pub is : from_list {R = slice_cmp nat_cmp} (map rec operations) ≡ with_record o r
+  pub is : from_list {R = slice_cmp nat_cmp} (map record_bytes operations) ≡ with_record o r
 
 -- a retirement goes in at its place, and what it covers is dropped
-pub held_retirement : (operations : List Operation) (i : ℕ) (retirement : Operation) → IsHeld operations → IsOperation retirement → is_admission (rec retirement) ≡ false → IsPlaceFor (slice_cmp nat_cmp) (map rec operations) (rec retirement) i
-    → HoldsWith (from_list (map rec operations)) (rec retirement) (filter (λ operation. not (is_covered (from_list (map rec (retirement ∷ []))) (rec operation))) (insert_at operations i retirement))
-held_retirement operations i retirement held is n place =
+pub held_retirement : (operations : List Operation) (i : ℕ) (retirement : Operation) → IsHeld operations → IsOperation retirement → is_admission (record_bytes retirement) ≡ false → IsPlaceFor (slice_cmp nat_cmp) (map record_bytes operations) (record_bytes retirement) i
+    → HoldsWith (from_list (map record_bytes operations)) (record_bytes retirement) (filter (λ operation. not (is_covered (from_list (map record_bytes (retirement ∷ []))) (record_bytes operation))) (insert_at operations i retirement))
+held_retirement operations i retirement held is n asked =
     let more = insert_at operations i retirement in
-    let test : List ℕ → Bool = λ r. not (is_covered (set.insert (set.empty {R = slice_cmp nat_cmp}) (rec retirement)) r) in
-    let same : from_list {R = slice_cmp nat_cmp} (map rec (filter (λ operation. test (rec operation)) more)) ≡ with_record (from_list (map rec operations)) (rec retirement) =
-    with_retirement (from_list (map rec operations)) (from_list (map rec (filter (λ operation. test (rec operation)) more))) (rec retirement) held.itself n (λ q.
+    let test : List ℕ → Bool = λ r. not (is_covered (set.insert (set.empty {R = slice_cmp nat_cmp}) (record_bytes retirement)) r) in
+    let same : from_list {R = slice_cmp nat_cmp} (map record_bytes (filter (λ operation. test (record_bytes operation)) more)) ≡ with_record (from_list (map record_bytes operations)) (record_bytes retirement) =
+    with_retirement (from_list (map record_bytes operations)) (from_list (map record_bytes (filter (λ operation. test (record_bytes operation)) more))) (record_bytes retirement) held.itself n (λ q.
     contains_left test more q ∙ ap (λ s. contains s q && test q) (records_insert operations i retirement)) in
     record {
       held = record {
-        ascending = rw (records_filtered test more) (IsStrictlySortedBy-filter (slice_cmp nat_cmp) test (map rec more) (rw (map_insert operations i retirement) place.ascending));
-        are = are_left (λ operation. test (rec operation)) more (along_insert IsOperation operations i retirement is held.are);
-        itself = rw same (made_again (set.insert (from_list (map rec operations)) (rec retirement)));
+        ascending = rw (records_filtered test more) (IsStrictlySortedBy-filter (slice_cmp nat_cmp) test (map record_bytes more) (rw (map_insert operations i retirement) asked.ascending));
+        are = are_left (λ operation. test (record_bytes operation)) more (along_insert IsOperation operations i retirement is held.are);
+        itself = rw same (made_again (set.insert (from_list (map record_bytes operations)) (record_bytes retirement)));
       };
       is = same;
     }
@@ -104,12 +104,12 @@ first_of : (a b : Bool) → (a && b) ≡ true → (a ≡ true) × (b ≡ true)
 first_of true b h = (refl, h)
 first_of false b h = absurd (true≢false (sym h))
 
-pub len_with_admissions : (o : Operations) (operations : List Operation) → IsMade o → list_all (λ operation. is_admission (rec operation)) operations ≡ true
-    → set.len (with_records o (map rec operations)) ≡ set.len o + new_among o (map rec operations)
+pub len_with_admissions : (o : Operations) (operations : List Operation) → IsMade o → list_all (λ operation. is_admission (record_bytes operation)) operations ≡ true
+    → set.len (with_records o (map record_bytes operations)) ≡ set.len o + new_among o (map record_bytes operations)
 unfolding new_among
 len_with_admissions o [] made all = omega arith
 len_with_admissions o (x ∷ xs) made all =
-    let parts = first_of (is_admission (rec x)) (list_all (λ operation. is_admission (rec operation)) xs) all in
-    let one = len_with o (rec x) made parts.0 in
-    let rest = len_with_admissions (with_record o (rec x)) xs (made_again (set.insert o (rec x))) parts.1 in
+    let parts = first_of (is_admission (record_bytes x)) (list_all (λ operation. is_admission (record_bytes operation)) xs) all in
+    let one = len_with o (record_bytes x) made parts.0 in
+    let rest = len_with_admissions (with_record o (record_bytes x)) xs (made_again (set.insert o (record_bytes x))) parts.1 in
     omega (arith, one, rest)

@@ -18,7 +18,7 @@ use Rattle.sha2.proofs.Facts256.{length-sha256}
 use Rattle.macho_image.proofs.Told.{uuid_of-length}
 use Rattle.archive_core.specs.Key.{IsKey, key_bytes}
 use Rattle.archive_core.specs.Valid.{key_of}
-use Rattle.archive_core.specs.Record.{rec, admission, admission_record, retirement_record, IsOperation}
+use Rattle.archive_core.specs.Record.{record_bytes, admission, admission_record, retirement_record, IsOperation}
 use Rattle.archive_core.specs.InnerHeld.{IsHeld}
 use Rattle.archive_core.specs.Find.{is_key}
 use Rattle.archive_core.specs.InnerScan.{is_finding, is_live_kind, live_in, live_among}
@@ -32,8 +32,8 @@ use Rattle.archive_core.proofs.Held.{bytes_same}
 use Rattle.archive_core.proofs.Scanned.{operation_there, to_filter}
 use Rattle.archive_core.proofs.Answering.{one_arch, both}
 use Rattle.archive_core.specs.InnerRange.{front, front_of, is_within, is_under, is_under_uuid}
-use Rattle.archive_core.specs.declared.range.Kind.{Kind}
-use Rattle.archive_core.specs.declared.range.Kind.TheVariants.{Retirement, Admission}
+use Rattle.archive_core.specs.declared.range.RecordKind.{RecordKind}
+use Rattle.archive_core.specs.declared.range.RecordKind.TheVariants.{Retirement, Admission}
 use Rattle.archive_core.specs.declared.range.Scope.{Scope}
 use Rattle.archive_core.specs.declared.range.Scope.TheVariants.{OfKey, OfUuid}
 use Rattle.archive_core.proofs.Falling.{Falls, parted, falls_drop, middle}
@@ -49,7 +49,7 @@ behind (OfKey _) (Retire key digest) = digest.0
 behind (OfUuid _) (Admit slice) = arch_bytes (key_of slice) ++ (to_be_bytes w64 (length slice) ++ slice)
 behind (OfUuid _) (Retire key digest) = arch_bytes key ++ digest.0
 
-record_parts : (scope : Scope) (a : Operation) → rec a ≡ front_of scope a ++ behind scope a
+record_parts : (scope : Scope) (a : Operation) → record_bytes a ≡ front_of scope a ++ behind scope a
 unfolding admission key_bytes arch_bytes behind
 record_parts (OfKey _) (Admit slice) = refl
 record_parts (OfKey _) (Retire key digest) = refl
@@ -77,19 +77,19 @@ module _ (test : Ordering → Bool) (less : test Less ≡ true) (greater : test 
   passes x y w Equal s e f t h g = let same = bytes_same x y e in rw (same, f) g
   passes x y w Greater s e f t h g = cc
 
-  rises : (scope : Scope) (w : List ℕ) (a b : Operation) → IsOperation a → IsOperation b → slice_cmp nat_cmp (rec a) (rec b) ≡ Less → test (slice_cmp nat_cmp (front_of scope b) w) ≡ true → test (slice_cmp nat_cmp (front_of scope a) w) ≡ true
+  rises : (scope : Scope) (w : List ℕ) (a b : Operation) → IsOperation a → IsOperation b → slice_cmp nat_cmp (record_bytes a) (record_bytes b) ≡ Less → test (slice_cmp nat_cmp (front_of scope b) w) ≡ true → test (slice_cmp nat_cmp (front_of scope a) w) ≡ true
   rises scope w a b is_a is_b h g =
       passes (front_of scope a) (front_of scope b) w _ _ refl refl (slice_cmp nat_cmp (behind scope a) (behind scope b))
       (sym (slice_cmp-append (front_of scope a) (front_of scope b) (behind scope a) (behind scope b) (length_front scope a is_a ∙ sym (length_front scope b is_b))) ∙ (λ i. slice_cmp nat_cmp (sym (record_parts scope a) i) (sym (record_parts scope b) i)) ∙ h)
       g
 
   -- so the test of how their records begin falls along operations that ascend
-  pub falls : (scope : Scope) (w : List ℕ) (xs : List Operation) → IsStrictlySortedBy (slice_cmp nat_cmp) (map rec xs) → AllByRecursion IsOperation xs → Falls (λ a. test (slice_cmp nat_cmp (front_of scope a) w)) xs
+  pub falls : (scope : Scope) (w : List ℕ) (xs : List Operation) → IsStrictlySortedBy (slice_cmp nat_cmp) (map record_bytes xs) → AllByRecursion IsOperation xs → Falls (λ a. test (slice_cmp nat_cmp (front_of scope a) w)) xs
   unfolding IsStrictlySortedBy Falls
   falls scope w [] up known = tt
   falls scope w (x ∷ xs) up known = (each xs up.0 known.1, falls scope w xs up.1 known.1)
     where
-      each : (ys : List Operation) → AllByRecursion (λ r. slice_cmp nat_cmp (rec x) r ≡ Less) (map rec ys) → AllByRecursion IsOperation ys
+      each : (ys : List Operation) → AllByRecursion (λ r. slice_cmp nat_cmp (record_bytes x) r ≡ Less) (map record_bytes ys) → AllByRecursion IsOperation ys
           → AllByRecursion (λ y. test (slice_cmp nat_cmp (front_of scope y) w) ≡ true → test (slice_cmp nat_cmp (front_of scope x) w) ≡ true) ys
       each [] g known = tt
       each (y ∷ ys) g all = (rises scope w x y known.0 all.0 g.0, each ys g.1 all.1)
@@ -120,7 +120,7 @@ lt_of_le Less h = absurd (true≢false h)
 lt_of_le Equal h = refl
 lt_of_le Greater h = refl
 
-module _ (kind : Kind) (scope : Scope) (xs : List Operation) (up : IsStrictlySortedBy (slice_cmp nat_cmp) (map rec xs)) (are : AllByRecursion IsOperation xs) (i : ℕ) (within : i ≤ length xs) where
+module _ (kind : RecordKind) (scope : Scope) (xs : List Operation) (up : IsStrictlySortedBy (slice_cmp nat_cmp) (map record_bytes xs)) (are : AllByRecursion IsOperation xs) (i : ℕ) (within : i ≤ length xs) where
   -- where one operation is below those of a kind within a scope, those before it are
   pub below_place : (x : Operation) → 0 < i → x ≡ get_or xs (i - 1) x → is_lt (slice_cmp nat_cmp (front_of scope x) (front kind scope)) ≡ true
       → AllWithin (λ a. is_lt (slice_cmp nat_cmp (front_of scope a) (front kind scope)) ≡ true) xs 0 i
@@ -155,13 +155,13 @@ itself x = ap is_eq (tied_itself nat_list_cmp_total x)
 
 -- where no retirement stands under a key, no slice of the key is retired
 pub none_retired : (operations : List Operation) (key : SliceKey) (slice : List ℕ) → IsHeld operations → IsKey key → filter (is_under Retirement key) operations ≡ []
-    → contains (from_list {R = slice_cmp nat_cmp} (map rec operations)) (retirement_record key (sha256 slice)) ≡ false
-none_retired operations key slice held is_key none = by (contains (from_list {R = slice_cmp nat_cmp} (map rec operations)) (retirement_record key (sha256 slice))) refl
+    → contains (from_list {R = slice_cmp nat_cmp} (map record_bytes operations)) (retirement_record key (sha256 slice)) ≡ false
+none_retired operations key slice held is_key none = by (contains (from_list {R = slice_cmp nat_cmp} (map record_bytes operations)) (retirement_record key (sha256 slice))) refl
   where
     nowhere : (a : Operation) → Contains [] a → ⊥
     nowhere a (k, lt, e) = omega arith
 
-    by : (b : Bool) → contains (from_list {R = slice_cmp nat_cmp} (map rec operations)) (retirement_record key (sha256 slice)) ≡ b → b ≡ false
+    by : (b : Bool) → contains (from_list {R = slice_cmp nat_cmp} (map record_bytes operations)) (retirement_record key (sha256 slice)) ≡ b → b ≡ false
     by false h = refl
     by true h =
         let one : Operation = Retire key (record { 0 = sha256 slice }) in
@@ -214,13 +214,13 @@ in_front true c x xs ys told same h = rw (← same) (ap (λ l. x ∷ l) h)
 in_front false c x xs ys told same h = rw (← same) h
 
 -- no retirement stands behind an admission
-none_behind : (uuid slice : List ℕ) (xs : List Operation) → AllByRecursion (λ r. slice_cmp nat_cmp (admission_record slice) r ≡ Less) (map rec xs) → filter (is_under_uuid Retirement uuid) xs ≡ []
+none_behind : (uuid slice : List ℕ) (xs : List Operation) → AllByRecursion (λ r. slice_cmp nat_cmp (admission_record slice) r ≡ Less) (map record_bytes xs) → filter (is_under_uuid Retirement uuid) xs ≡ []
 none_behind uuid slice [] up = refl
 none_behind uuid slice (Admit other ∷ xs) up = none_behind uuid slice xs up.1
 none_behind uuid slice (Retire key digest ∷ xs) up = cc
 
 -- so what a search tells stands in two runs: the retirements under the UUID, and the admissions
-pub two_runs : (uuid : List ℕ) (xs : List Operation) → IsStrictlySortedBy (slice_cmp nat_cmp) (map rec xs)
+pub two_runs : (uuid : List ℕ) (xs : List Operation) → IsStrictlySortedBy (slice_cmp nat_cmp) (map record_bytes xs)
     → filter (is_under_uuid Retirement uuid) xs ++ filter (is_under_uuid Admission uuid) xs ≡ filter (is_finding uuid) xs
 unfolding IsStrictlySortedBy
 two_runs uuid [] up = refl

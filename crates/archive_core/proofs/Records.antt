@@ -6,7 +6,7 @@ use Rattle.std.proofs.lemmas.Nat.{from_be_bytes-to_be_bytes_4, from_be_bytes-to_
 use Rattle.macho_image.proofs.Told.{uuid_of-length, length-image}
 use Rattle.archive_core.specs.Key.{IsKey, key_bytes}
 use Rattle.archive_core.specs.Valid.{IsValid, key_of}
-use Rattle.archive_core.specs.Record.{admission, admission_record, retirement_record, IsRecord, IsOperation, rec}
+use Rattle.archive_core.specs.Record.{admission, admission_record, retirement_record, IsRecord, IsOperation, record_bytes}
 use Rattle.archive_core.specs.declared.keys.SliceKey.{SliceKey}
 use Rattle.archive_core.specs.declared.operations.Operation.{Operation}
 use Rattle.archive_core.specs.declared.operations.Operation.TheVariants.{Admit, Retire}
@@ -85,7 +85,7 @@ one_key k l is_k is_l e =
     λ i. record { uuid = uuid.0 i; arch = record { cputype = cputype i; subtype = subtype i } }
 
 -- different operations have different records
-pub one_operation : (a b : Operation) → IsOperation a → IsOperation b → rec a ≡ rec b → a ≡ b
+pub one_operation : (a b : Operation) → IsOperation a → IsOperation b → record_bytes a ≡ record_bytes b → a ≡ b
 one_operation (Admit a) (Admit b) valid_a valid_b e = ap Admit (sym (same_admissions a b [] valid_a valid_b (behind_tag e)).0)
   where
     behind_tag : 2 ∷ admission a ≡ 2 ∷ admission b → admission b ≡ admission a ++ []
@@ -107,11 +107,11 @@ one_operation (Retire k d) (Retire l e) is_a is_b h =
     behind_tag h = cc
 
 -- each operation has a record
-pub record_of_operation : (a : Operation) → IsOperation a → IsRecord (rec a)
+pub record_of_operation : (a : Operation) → IsOperation a → IsRecord (record_bytes a)
 record_of_operation (Admit slice) valid = inl (record { slice = slice; valid = valid; is = refl })
 record_of_operation (Retire key digest) is = inr (record { key = key; digest = digest.0; is_key = is.0; long = is.1; is = refl })
 
 -- each record is that of an operation
-pub operation_of_record : (r : List ℕ) → IsRecord r → (a : Operation) × IsOperation a × (rec a ≡ r)
+pub operation_of_record : (r : List ℕ) → IsRecord r → (a : Operation) × IsOperation a × (record_bytes a ≡ r)
 operation_of_record r (inl admits) = (Admit admits.slice, admits.valid, sym admits.is)
 operation_of_record r (inr retires) = (Retire retires.key (record { 0 = retires.digest }), (retires.is_key, retires.long), sym retires.is)

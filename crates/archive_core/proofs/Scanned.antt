@@ -18,7 +18,7 @@ use Rattle.std.proofs.lemmas.List.Kept.{IsStrictlySortedBy-filter}
 use Rattle.std.proofs.lemmas.List.Sorted.{Contains-permutation, IsPermutation-sym}
 use Rattle.std.proofs.lemmas.Map.Keys.{IsDistinct-from_sorted, IsDistinct-IsPermutation}
 use Rattle.archive_core.specs.Valid.{key_of}
-use Rattle.archive_core.specs.Record.{rec, IsOperation}
+use Rattle.archive_core.specs.Record.{record_bytes, IsOperation}
 use Rattle.archive_core.specs.Content.{Operations, IsContent}
 use Rattle.archive_core.specs.Find.{key_in, arch_cmp, find_cmp, IsFinding, row_of, IsFinds}
 use Rattle.archive_core.specs.InnerScan.{is_finding}
@@ -32,7 +32,7 @@ use Rattle.archive_core.proofs.Words.{live_in_content}
 
 -- the order of rows is a total order
 pub find_total : IsTotalOrder find_cmp
-find_total = then_total (on_total (λ operation. (key_in operation).arch) (then_total (on_total (λ arch. arch.cputype) nat_cmp_total) (on_total (λ arch. arch.subtype) nat_cmp_total))) (on_texts rec)
+find_total = then_total (on_total (λ operation. (key_in operation).arch) (then_total (on_total (λ arch. arch.cputype) nat_cmp_total) (on_total (λ arch. arch.subtype) nat_cmp_total))) (on_texts record_bytes)
 
 -- the first ones, and one more
 pub front : (operations : List Operation) (i : ℕ) (a : Operation) → i < length operations → a ≡ slice_index_or operations i a → take (i + 1) operations ≡ take i operations ++ a ∷ []
@@ -189,44 +189,44 @@ untied Equal s h = h
 untied Greater s h = refl
 
 -- operations that the order of rows ties have one record
-pub untied_records : (a b : Operation) → eq_by_cmp (on rec (slice_cmp nat_cmp)) a b ≡ false → eq_by_cmp find_cmp a b ≡ false
-untied_records a b = untied (arch_cmp (key_in a).arch (key_in b).arch) (slice_cmp nat_cmp (rec a) (rec b))
+pub untied_records : (a b : Operation) → eq_by_cmp (on record_bytes (slice_cmp nat_cmp)) a b ≡ false → eq_by_cmp find_cmp a b ≡ false
+untied_records a b = untied (arch_cmp (key_in a).arch (key_in b).arch) (slice_cmp nat_cmp (record_bytes a) (record_bytes b))
 
 -- an operation among others has its record among theirs
-pub record_there : (operations : List Operation) (a : Operation) → Contains operations a → contains (from_list {R = slice_cmp nat_cmp} (map rec operations)) (rec a) ≡ true
-record_there operations a h = contains-from_list nat_list_cmp_total (map rec operations) (rec a) ∙ among operations h
+pub record_there : (operations : List Operation) (a : Operation) → Contains operations a → contains (from_list {R = slice_cmp nat_cmp} (map record_bytes operations)) (record_bytes a) ≡ true
+record_there operations a h = contains-from_list nat_list_cmp_total (map record_bytes operations) (record_bytes a) ∙ among operations h
   where
     or_right : (p q : Bool) → q ≡ true → (p || q) ≡ true
     or_right true q g = refl
     or_right false q g = g
 
-    among : (xs : List Operation) → Contains xs a → list_any (eq_by_cmp (slice_cmp nat_cmp) (rec a)) (map rec xs) ≡ true
+    among : (xs : List Operation) → Contains xs a → list_any (eq_by_cmp (slice_cmp nat_cmp) (record_bytes a)) (map record_bytes xs) ≡ true
     among [] (k, lt, e) = absurd (omega arith)
     among (x ∷ xs) h = elim (in_cons x xs a h) [
-      | inl e ↦ ap (λ y. (eq_by_cmp (slice_cmp nat_cmp) (rec a) (rec y)) || (list_any (eq_by_cmp (slice_cmp nat_cmp) (rec a)) (map rec xs))) e ∙ ap (λ r. is_eq r || (list_any (eq_by_cmp (slice_cmp nat_cmp) (rec a)) (map rec xs))) (tied_itself nat_list_cmp_total (rec a))
-      | inr there ↦ or_right (eq_by_cmp (slice_cmp nat_cmp) (rec a) (rec x)) _ (among xs there)
+      | inl e ↦ ap (λ y. (eq_by_cmp (slice_cmp nat_cmp) (record_bytes a) (record_bytes y)) || (list_any (eq_by_cmp (slice_cmp nat_cmp) (record_bytes a)) (map record_bytes xs))) e ∙ ap (λ r. is_eq r || (list_any (eq_by_cmp (slice_cmp nat_cmp) (record_bytes a)) (map record_bytes xs))) (tied_itself nat_list_cmp_total (record_bytes a))
+      | inr there ↦ or_right (eq_by_cmp (slice_cmp nat_cmp) (record_bytes a) (record_bytes x)) _ (among xs there)
     ]
 
 -- and where its record is among theirs, it is one of them
-pub operation_there : (operations : List Operation) (a : Operation) → AllByRecursion IsOperation operations → IsOperation a → contains (from_list {R = slice_cmp nat_cmp} (map rec operations)) (rec a) ≡ true → Contains operations a
-operation_there operations a known is_a h = among operations known (sym (contains-from_list nat_list_cmp_total (map rec operations) (rec a)) ∙ h)
+pub operation_there : (operations : List Operation) (a : Operation) → AllByRecursion IsOperation operations → IsOperation a → contains (from_list {R = slice_cmp nat_cmp} (map record_bytes operations)) (record_bytes a) ≡ true → Contains operations a
+operation_there operations a known is_a h = among operations known (sym (contains-from_list nat_list_cmp_total (map record_bytes operations) (record_bytes a)) ∙ h)
   where
-    among : (xs : List Operation) → AllByRecursion IsOperation xs → list_any (eq_by_cmp (slice_cmp nat_cmp) (rec a)) (map rec xs) ≡ true → Contains xs a
+    among : (xs : List Operation) → AllByRecursion IsOperation xs → list_any (eq_by_cmp (slice_cmp nat_cmp) (record_bytes a)) (map record_bytes xs) ≡ true → Contains xs a
     among [] all g = absurd (true≢false (sym g))
-    among (x ∷ xs) all g = at (eq_by_cmp (slice_cmp nat_cmp) (rec a) (rec x)) refl g (among xs all.1)
+    among (x ∷ xs) all g = at (eq_by_cmp (slice_cmp nat_cmp) (record_bytes a) (record_bytes x)) refl g (among xs all.1)
       where
-        at : (b : Bool) → eq_by_cmp (slice_cmp nat_cmp) (rec a) (rec x) ≡ b → (b || list_any (eq_by_cmp (slice_cmp nat_cmp) (rec a)) (map rec xs)) ≡ true → (list_any (eq_by_cmp (slice_cmp nat_cmp) (rec a)) (map rec xs) ≡ true → Contains xs a) → Contains (x ∷ xs) a
+        at : (b : Bool) → eq_by_cmp (slice_cmp nat_cmp) (record_bytes a) (record_bytes x) ≡ b → (b || list_any (eq_by_cmp (slice_cmp nat_cmp) (record_bytes a)) (map record_bytes xs)) ≡ true → (list_any (eq_by_cmp (slice_cmp nat_cmp) (record_bytes a)) (map record_bytes xs) ≡ true → Contains xs a) → Contains (x ∷ xs) a
         at true e _ _ =
-            let same : rec x ≡ rec a = sym (bytes_same (rec a) (rec x) ((Equal-is (slice_cmp nat_cmp (rec a) (rec x))).0 e)) in
+            let same : record_bytes x ≡ record_bytes a = sym (bytes_same (record_bytes a) (record_bytes x) ((Equal-is (slice_cmp nat_cmp (record_bytes a) (record_bytes x))).0 e)) in
             subst (Contains (x ∷ xs)) (one_operation x a all.0 is_a same) (in_front x xs)
         at false e rest more = in_rest x xs a (more rest)
 
 -- what is held under the UUID is what a search tells
-finding_by_test : (o : Operations) (uuid : List ℕ) (a : Operation) → IsContent o → IsOperation a → contains o (rec a) ≡ true → is_finding uuid a ≡ true → IsFinding o uuid a
+finding_by_test : (o : Operations) (uuid : List ℕ) (a : Operation) → IsContent o → IsOperation a → contains o (record_bytes a) ≡ true → is_finding uuid a ≡ true → IsFinding o uuid a
 finding_by_test o uuid (Admit slice) content valid there h = ((bytes_eq-Decides (key_of slice).uuid uuid).0 h, live_in_content o slice content valid there)
 finding_by_test o uuid (Retire key digest) content is there h = ((bytes_eq-Decides key.uuid uuid).0 h, there)
 
-test_of_finding : (o : Operations) (uuid : List ℕ) (a : Operation) → IsFinding o uuid a → (contains o (rec a) ≡ true) × (is_finding uuid a ≡ true)
+test_of_finding : (o : Operations) (uuid : List ℕ) (a : Operation) → IsFinding o uuid a → (contains o (record_bytes a) ≡ true) × (is_finding uuid a ≡ true)
 test_of_finding o uuid (Admit slice) h = (h.1.admitted, (bytes_eq-Decides (key_of slice).uuid uuid).1 h.0)
 test_of_finding o uuid (Retire key digest) h = (h.1, (bytes_eq-Decides key.uuid uuid).1 h.0)
 
@@ -236,12 +236,12 @@ pub record AreTold (R : Operation → Operation → Ordering) (P : Operation →
   pub exactly : (a : Operation) → Contains told a ↔ (IsOperation a × P a)
 
 -- those of a content that pass a test, sorted, are told where the test decides the fact
-module _ (o : Operations) (R : Operation → Operation → Ordering) (total : IsTotalOrder R) (apart : (a b : Operation) → eq_by_cmp (on rec (slice_cmp nat_cmp)) a b ≡ false → eq_by_cmp R a b ≡ false)
-    (test : Operation → Bool) (P : Operation → Type 0) (by_test : (a : Operation) → IsOperation a → contains o (rec a) ≡ true → test a ≡ true → P a) (of_fact : (a : Operation) → P a → (contains o (rec a) ≡ true) × (test a ≡ true)) where
-  pub told_sorted : (operations told : List Operation) → IsHeld operations → from_list (map rec operations) ≡ o → IsPermutation (filter test operations) told → IsSorted R told → AreTold R P told
+module _ (o : Operations) (R : Operation → Operation → Ordering) (total : IsTotalOrder R) (apart : (a b : Operation) → eq_by_cmp (on record_bytes (slice_cmp nat_cmp)) a b ≡ false → eq_by_cmp R a b ≡ false)
+    (test : Operation → Bool) (P : Operation → Type 0) (by_test : (a : Operation) → IsOperation a → contains o (record_bytes a) ≡ true → test a ≡ true → P a) (of_fact : (a : Operation) → P a → (contains o (record_bytes a) ≡ true) × (test a ≡ true)) where
+  pub told_sorted : (operations told : List Operation) → IsHeld operations → from_list (map record_bytes operations) ≡ o → IsPermutation (filter test operations) told → IsSorted R told → AreTold R P told
   told_sorted operations told held is permuted sorted =
-      let by_record = IsStrictlySortedBy-filter (on rec (slice_cmp nat_cmp)) test operations (ascending_by (slice_cmp nat_cmp) rec operations held.ascending) in
-      let differ = distinct_finer (eq_by_cmp (on rec (slice_cmp nat_cmp))) (eq_by_cmp R) apart (filter test operations) (IsDistinct-from_sorted (on rec (slice_cmp nat_cmp)) (filter test operations) by_record) in
+      let by_record = IsStrictlySortedBy-filter (on record_bytes (slice_cmp nat_cmp)) test operations (ascending_by (slice_cmp nat_cmp) record_bytes operations held.ascending) in
+      let differ = distinct_finer (eq_by_cmp (on record_bytes (slice_cmp nat_cmp))) (eq_by_cmp R) apart (filter test operations) (IsDistinct-from_sorted (on record_bytes (slice_cmp nat_cmp)) (filter test operations) by_record) in
       record {
         ascending = ascending_from_distinct total told sorted (IsDistinct-IsPermutation (eq_by_cmp R) (eq_by_cmp_equiv total).symm (filter test operations) told permuted differ);
         exactly = λ a. (to a, back a);
@@ -251,17 +251,17 @@ module _ (o : Operations) (R : Operation → Operation → Ordering) (total : Is
       to a h =
           let kept = in_filter test operations a (Contains-permutation told (filter test operations) a (IsPermutation-sym (filter test operations) told permuted) h) in (
             All-contains IsOperation operations a (All-from_recursion IsOperation operations held.are) kept.0,
-            by_test a (All-contains IsOperation operations a (All-from_recursion IsOperation operations held.are) kept.0) (ap (λ s. contains s (rec a)) (sym is) ∙ record_there operations a kept.0) kept.1,
+            by_test a (All-contains IsOperation operations a (All-from_recursion IsOperation operations held.are) kept.0) (ap (λ s. contains s (record_bytes a)) (sym is) ∙ record_there operations a kept.0) kept.1,
           )
 
       back : (a : Operation) → IsOperation a × P a → Contains told a
       back a h =
           let tested = of_fact a h.1 in
-          let there = operation_there operations a held.are h.0 (ap (λ s. contains s (rec a)) is ∙ tested.0) in
+          let there = operation_there operations a held.are h.0 (ap (λ s. contains s (record_bytes a)) is ∙ tested.0) in
           Contains-permutation (filter test operations) told a permuted (to_filter test operations a there tested.1)
 
 -- the told operations of a plain archive, sorted, are those that a search tells
-pub finds_sorted : (o : Operations) (uuid : List ℕ) (operations told : List Operation) → IsHeld operations → from_list (map rec operations) ≡ o
+pub finds_sorted : (o : Operations) (uuid : List ℕ) (operations told : List Operation) → IsHeld operations → from_list (map record_bytes operations) ≡ o
     → IsPermutation (filter (is_finding uuid) operations) told → IsSorted find_cmp told → IsFinds o uuid (map row_of told)
 finds_sorted o uuid operations told held is permuted sorted =
     let are = told_sorted o find_cmp find_total untied_records (is_finding uuid) (IsFinding o uuid) (λ a. finding_by_test o uuid a (subst IsContent is (content_of_held operations held))) (test_of_finding o uuid) operations told held is permuted sorted in

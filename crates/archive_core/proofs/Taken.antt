@@ -11,8 +11,8 @@ use Rattle.sha2.specs.Sha256.{sha256}
 use Rattle.std.proofs.Math.ListN.{length-map}
 use Rattle.join_core.proofs.Members.{from_list_same, inserts_are_union}
 use Rattle.join_core.proofs.Place.{insert_present}
-use Rattle.archive_core.specs.Record.{rec, retirement_record}
-use Rattle.archive_core.specs.Content.{Operations, is_admission, covering, is_covered, made, IsMade, IsContent, IsBelow, with_record, with_records, changes, new_among, joined, HaveSameMembers, IsLive, IsTakenInPart}
+use Rattle.archive_core.specs.Record.{record_bytes, retirement_record}
+use Rattle.archive_core.specs.Content.{Operations, is_admission, covering, is_covered, content_of, IsMade, IsContent, IsBelow, with_record, with_records, changes, new_among, joined, HaveSameMembers, IsLive, IsTakenInPart}
 use Rattle.archive_core.specs.declared.operations.Operation.{Operation}
 use Rattle.archive_core.specs.declared.keys.SliceKey.{SliceKey}
 use Rattle.archive_core.proofs.Made.{bytes_same, made_of_uncovered, uncovered_of_made, either, or_left, or_right, by_test, contains_made, IsAlike, made_alike, made_is_alike, alike_insert, joined_made_right, made_again, below_reflexive, below_transitive, below_made}
@@ -56,7 +56,7 @@ alike_covered o r c =
 -- so an operation that is there or covered there leaves the content
 pub with_known : (o : Operations) (r : List ℕ) → IsMade o → (set.contains o r || is_covered o r) ≡ true → with_record o r ≡ o
 with_known o r is h = either (with_record o r ≡ o) (set.contains o r) (is_covered o r)
-    (λ there. ap made (insert_present nat_list_cmp_total bytes_same o r there) ∙ is)
+    (λ there. ap content_of (insert_present nat_list_cmp_total bytes_same o r there) ∙ is)
     (λ covered. made_alike (set.insert o r) o (alike_covered o r covered) ∙ is)
     h
 
@@ -88,23 +88,23 @@ unfolding changes
 unchanged_same o r is = same_by o r (set.contains o r || is_covered o r) is refl
 
 -- operations taken one after another make what all together make
-with_made : (o : Operations) (rs : List (List ℕ)) → with_records (made o) rs ≡ made (fold set.insert o rs)
+with_made : (o : Operations) (rs : List (List ℕ)) → with_records (content_of o) rs ≡ content_of (fold set.insert o rs)
 with_made o [] = refl
 with_made o (r ∷ rs) =
-    ap (λ s. with_records s rs) (made_alike (set.insert (made o) r) (set.insert o r) (alike_insert (made o) o r (made_is_alike o)))
+    ap (λ s. with_records s rs) (made_alike (set.insert (content_of o) r) (set.insert o r) (alike_insert (content_of o) o r (made_is_alike o)))
     ∙ with_made (set.insert o r) rs
 
 -- so they give the join with what they make
-pub taken_are_joined : (o : Operations) (rs : List (List ℕ)) → IsMade o → with_records o rs ≡ joined o (made (set.from_list rs))
+pub taken_are_joined : (o : Operations) (rs : List (List ℕ)) → IsMade o → with_records o rs ≡ joined o (content_of (set.from_list rs))
 taken_are_joined o rs is =
     ap (λ s. with_records s rs) (sym is)
     ∙ with_made o rs
-    ∙ ap made (inserts_are_union nat_list_cmp_total bytes_same o rs)
+    ∙ ap content_of (inserts_are_union nat_list_cmp_total bytes_same o rs)
     ∙ sym (joined_made_right o (set.from_list rs))
 
 -- and neither their order nor repeats count
 pub taken_in_any_order : (o : Operations) (rs ss : List (List ℕ)) → IsMade o → HaveSameMembers rs ss → with_records o rs ≡ with_records o ss
-taken_in_any_order o rs ss is same = taken_are_joined o rs is ∙ ap (λ s. joined o (made s)) (from_list_same nat_list_cmp_total bytes_same rs ss same) ∙ sym (taken_are_joined o ss is)
+taken_in_any_order o rs ss is same = taken_are_joined o rs is ∙ ap (λ s. joined o (content_of s)) (from_list_same nat_list_cmp_total bytes_same rs ss same) ∙ sym (taken_are_joined o ss is)
 
 -- what is taken is a content
 pub made_taken : (o : Operations) (rs : List (List ℕ)) → IsMade o → IsMade (with_records o rs)
@@ -123,26 +123,26 @@ below_taken o (r ∷ rs) = below_transitive o (with_record o r) (with_records (w
 -- Between the content at first and that after some operations, with these left: where it stands, and what the rest will make.
 pub record IsUnderWay (old now : Operations) (all left : List Operation) : Type 0 where
   pub above_old : IsBelow old now
-  pub content : with_records now (map rec left) ≡ with_records old (map rec all)
+  pub content : with_records now (map record_bytes left) ≡ with_records old (map record_bytes all)
 
 pub at_first : (o : Operations) (all left : List Operation) → left ≡ all → IsUnderWay o o all left
 at_first o all left is = rw is (record { above_old = below_reflexive o; content = refl })
 
-pub one_taken : (old now next : Operations) (all left rest : List Operation) (operation : Operation) → IsUnderWay old now all left → left ≡ operation ∷ rest → next ≡ with_record now (rec operation) → IsUnderWay old next all rest
+pub one_taken : (old now next : Operations) (all left rest : List Operation) (operation : Operation) → IsUnderWay old now all left → left ≡ operation ∷ rest → next ≡ with_record now (record_bytes operation) → IsUnderWay old next all rest
 one_taken old now next all left rest operation way is next_is = rw next_is (record {
-  above_old = below_transitive old now (with_record now (rec operation)) way.above_old (below_with now (rec operation));
-  content = ap (λ (l : List Operation). with_records now (map rec l)) (sym is) ∙ way.content;
+  above_old = below_transitive old now (with_record now (record_bytes operation)) way.above_old (below_with now (record_bytes operation));
+  content = ap (λ (l : List Operation). with_records now (map record_bytes l)) (sym is) ∙ way.content;
 })
 
-pub all_taken : (old now : Operations) (all left : List Operation) → IsUnderWay old now all left → length left ≡ 0 → now ≡ with_records old (map rec all)
+pub all_taken : (old now : Operations) (all left : List Operation) → IsUnderWay old now all left → length left ≡ 0 → now ≡ with_records old (map record_bytes all)
 all_taken old now all [] way none = way.content
 all_taken old now all (x ∷ xs) way none = absurd (omega arith)
 
-pub taken_in_part : (old now new : Operations) (all left : List Operation) → IsContent now → IsUnderWay old now all left → new ≡ now → IsTakenInPart old (map rec all) new
+pub taken_in_part : (old now new : Operations) (all left : List Operation) → IsContent now → IsUnderWay old now all left → new ≡ now → IsTakenInPart old (map record_bytes all) new
 taken_in_part old now new all left is way same = rw same (record {
   content = is;
   above_old = way.above_old;
-  below_all = subst (λ (o : Operations). IsBelow now o) way.content (below_taken now (map rec left));
+  below_all = subst (λ (o : Operations). IsBelow now o) way.content (below_taken now (map record_bytes left));
 })
 
 -- above a content that retires a slice, none has it live
@@ -173,28 +173,28 @@ new_of_none o = refl
 -- Operations under way, and how many of those that were taken changed the content.
 pub record IsCounted (old now : Operations) (all left : List Operation) (new : ℕ) : Type 0 where
   pub way : IsUnderWay old now all left
-  pub counted : new + new_among now (map rec left) ≡ new_among old (map rec all)
+  pub counted : new + new_among now (map record_bytes left) ≡ new_among old (map record_bytes all)
 
 pub none_counted : (o : Operations) (all left : List Operation) → left ≡ all → IsCounted o o all left 0
-none_counted o all left is = record { way = at_first o all left is; counted = omega (arith, ap (λ (l : List Operation). new_among o (map rec l)) is) }
+none_counted o all left is = record { way = at_first o all left is; counted = omega (arith, ap (λ (l : List Operation). new_among o (map record_bytes l)) is) }
 
-pub one_counted : (old now next : Operations) (all left rest : List Operation) (operation : Operation) (new more : ℕ) → IsCounted old now all left new → left ≡ operation ∷ rest → next ≡ with_record now (rec operation)
-    → more ≡ new + (if changes now (rec operation) then 1 else 0) → IsCounted old next all rest more
+pub one_counted : (old now next : Operations) (all left rest : List Operation) (operation : Operation) (new more : ℕ) → IsCounted old now all left new → left ≡ operation ∷ rest → next ≡ with_record now (record_bytes operation)
+    → more ≡ new + (if changes now (record_bytes operation) then 1 else 0) → IsCounted old next all rest more
 one_counted old now next all left rest operation new more at is next_is more_is = record {
   way = one_taken old now next all left rest operation at.way is next_is;
-  counted = rw next_is (omega (arith, more_is, at.counted, ap (λ (l : List Operation). new_among now (map rec l)) is, new_in_turn now (rec operation) (map rec rest)));
+  counted = rw next_is (omega (arith, more_is, at.counted, ap (λ (l : List Operation). new_among now (map record_bytes l)) is, new_in_turn now (record_bytes operation) (map record_bytes rest)));
 }
 
-pub all_counted : (old now : Operations) (all left : List Operation) (new : ℕ) → IsCounted old now all left new → length left ≡ 0 → new ≡ new_among old (map rec all)
+pub all_counted : (old now : Operations) (all left : List Operation) (new : ℕ) → IsCounted old now all left new → length left ≡ 0 → new ≡ new_among old (map record_bytes all)
 all_counted old now all [] new at none = omega (arith, at.counted, new_of_none now)
 all_counted old now all (x ∷ xs) new at none = absurd (omega arith)
 
 -- no more than there were operations
 pub counted_below : (old now : Operations) (all left rest : List Operation) (operation : Operation) (new : ℕ) → IsCounted old now all left new → left ≡ operation ∷ rest
-    → new + (if changes now (rec operation) then 1 else 0) ≤ length all
+    → new + (if changes now (record_bytes operation) then 1 else 0) ≤ length all
 counted_below old now all left rest operation new at is =
-    let most = new_within old (map rec all) in
-    omega (arith, most, length-map all rec, at.counted, ap (λ (l : List Operation). new_among now (map rec l)) is, new_in_turn now (rec operation) (map rec rest))
+    let most = new_within old (map record_bytes all) in
+    omega (arith, most, length-map all record_bytes, at.counted, ap (λ (l : List Operation). new_among now (map record_bytes l)) is, new_in_turn now (record_bytes operation) (map record_bytes rest))
 
 -- ---- admissions drop none
 
@@ -204,16 +204,16 @@ covers_no_more o r q a = ap (λ b. is_admission q && b) (contains-insert nat_lis
 
 -- so with one that is not covered a content makes itself
 pub made_with_admission : (o : Operations) (r : List ℕ) → IsMade o → is_admission r ≡ true → is_covered o r ≡ false → IsMade (set.insert o r)
-made_with_admission o r made a free = made_of_uncovered (set.insert o r) (λ q h.
+made_with_admission o r content_of a free = made_of_uncovered (set.insert o r) (λ q h.
     covers_no_more o r q a
     ∙ either (is_covered o q ≡ false) (eq_by_cmp (slice_cmp nat_cmp) q r) (set.contains o q)
     (λ t. ap (is_covered o) (tied_is q r t) ∙ free)
-    (λ there. uncovered_of_made o made q there)
+    (λ there. uncovered_of_made o content_of q there)
     (sym (contains-insert nat_list_cmp_total o r q) ∙ h))
 
 -- and each one that changes the content brings one member more
 pub len_with : (o : Operations) (r : List ℕ) → IsMade o → is_admission r ≡ true → set.len (with_record o r) ≡ set.len o + (if changes o r then 1 else 0)
-len_with o r made a = by_known (set.contains o r || is_covered o r) refl
+len_with o r content_of a = by_known (set.contains o r || is_covered o r) refl
   where
     or_none_left : (x y : Bool) → (x || y) ≡ false → x ≡ false
     or_none_left true y h = absurd (true≢false h)
@@ -224,15 +224,15 @@ len_with o r made a = by_known (set.contains o r || is_covered o r) refl
     or_none_right false y h = h
 
     by_known : (b : Bool) → (set.contains o r || is_covered o r) ≡ b → set.len (with_record o r) ≡ set.len o + (if changes o r then 1 else 0)
-    by_known true e = ap set.len (with_known o r made e) ∙ rw (known_changes o r e) (omega arith)
+    by_known true e = ap set.len (with_known o r content_of e) ∙ rw (known_changes o r e) (omega arith)
     by_known false e =
         let absent : set.contains o r ≡ false = or_none_left (set.contains o r) (is_covered o r) e in
         let free : is_covered o r ≡ false = or_none_right (set.contains o r) (is_covered o r) e in
-        ap set.len (made_with_admission o r made a free) ∙ set.len-insert nat_list_cmp_total o r ∙ rw (absent, new_changes o r absent free) (omega arith)
+        ap set.len (made_with_admission o r content_of a free) ∙ set.len-insert nat_list_cmp_total o r ∙ rw (absent, new_changes o r absent free) (omega arith)
 
 pub grown : (o : Operations) (rs : List (List ℕ)) → IsMade o → ((r : List ℕ) → Contains rs r → is_admission r ≡ true) → set.len (with_records o rs) ≡ set.len o + new_among o rs
-grown o [] made all = omega (arith, new_of_none o)
-grown o (r ∷ rs) made all =
-    let one = len_with o r made (all r (0, omega arith, refl)) in
+grown o [] content_of all = omega (arith, new_of_none o)
+grown o (r ∷ rs) content_of all =
+    let one = len_with o r content_of (all r (0, omega arith, refl)) in
     let rest = grown (with_record o r) rs (made_again (set.insert o r)) (λ q h. all q (suc h.0, omega (arith, h.1), h.2)) in
     omega (arith, one, rest, new_in_turn o r rs)

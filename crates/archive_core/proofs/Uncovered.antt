@@ -13,7 +13,7 @@ use Rattle.std.specs.FinSet.{contains, from_list, contains-from_list, contains-i
 use Rattle.sha2.specs.Sha256.{sha256}
 use Rattle.archive_core.specs.Key.{IsKey, key_bytes}
 use Rattle.archive_core.specs.Valid.{key_of, IsValid}
-use Rattle.archive_core.specs.Record.{rec, admission_record, retirement_record, IsOperation}
+use Rattle.archive_core.specs.Record.{record_bytes, admission_record, retirement_record, IsOperation}
 use Rattle.archive_core.specs.Content.{Operations, is_admission, key_and_digest, covering, is_covered}
 use Rattle.archive_core.specs.InnerHeld.{IsHeld}
 use Rattle.archive_core.specs.InnerRange.{is_under}
@@ -21,7 +21,7 @@ use Rattle.archive_core.specs.declared.keys.Digest.{Digest}
 use Rattle.archive_core.specs.declared.keys.SliceKey.{SliceKey}
 use Rattle.archive_core.specs.declared.operations.Operation.{Operation}
 use Rattle.archive_core.specs.declared.operations.Operation.TheVariants.{Admit, Retire}
-use Rattle.archive_core.specs.declared.range.Kind.TheVariants.{Admission}
+use Rattle.archive_core.specs.declared.range.RecordKind.TheVariants.{Admission}
 use Rattle.archive_core.proofs.Compare.{length_key_bytes}
 use Rattle.archive_core.proofs.Records.{same_parts, length-key_of}
 use Rattle.archive_core.proofs.Made.{bytes_same, and_false}
@@ -29,7 +29,7 @@ use Rattle.archive_core.proofs.Falling.{filter_all, outside}
 use Rattle.archive_core.proofs.Put.{covered_slice}
 
 -- behind an admission no retirement stands
-none_behind : (slice front : List ℕ) (xs : List Operation) → AllByRecursion (λ r. slice_cmp nat_cmp (admission_record slice) r ≡ Less) (map rec xs) → list_any (eq_by_cmp (slice_cmp nat_cmp) (1 ∷ front)) (map rec xs) ≡ false
+none_behind : (slice front : List ℕ) (xs : List Operation) → AllByRecursion (λ r. slice_cmp nat_cmp (admission_record slice) r ≡ Less) (map record_bytes xs) → list_any (eq_by_cmp (slice_cmp nat_cmp) (1 ∷ front)) (map record_bytes xs) ≡ false
 none_behind slice front [] up = refl
 none_behind slice front (Admit other ∷ xs) up = none_behind slice front xs up.1
 none_behind slice front (Retire key digest ∷ xs) up = absurd (greater up.0)
@@ -39,21 +39,21 @@ none_behind slice front (Retire key digest ∷ xs) up = absurd (greater up.0)
 
 -- where the first of operations that ascend is no retirement, they cover nothing
 pub covers_none : (operations : List Operation) → IsHeld operations → ((key : SliceKey) (digest : Digest) → slice_get operations 0 ≡ Some (Retire key digest) → ⊥)
-    → (r : List ℕ) → is_covered (from_list (map rec operations)) r ≡ false
+    → (r : List ℕ) → is_covered (from_list (map record_bytes operations)) r ≡ false
 unfolding IsStrictlySortedBy
 covers_none [] held h r = ap (λ b. is_admission r && b) (contains-empty (slice_cmp nat_cmp) (covering r)) ∙ and_false (is_admission r)
 covers_none (Admit slice ∷ xs) held h r =
-    ap (λ b. is_admission r && b) (contains-from_list nat_list_cmp_total (map rec (Admit slice ∷ xs)) (covering r) ∙ none_behind slice (key_and_digest r) xs held.ascending.0)
+    ap (λ b. is_admission r && b) (contains-from_list nat_list_cmp_total (map record_bytes (Admit slice ∷ xs)) (covering r) ∙ none_behind slice (key_and_digest r) xs held.ascending.0)
     ∙ and_false (is_admission r)
 covers_none (Retire key digest ∷ xs) held h r = absurd (h key digest refl)
 
 -- and then nothing is dropped
-pub none_dropped : (o : Operations) (operations : List Operation) → ((r : List ℕ) → is_covered o r ≡ false) → filter (λ operation. not (is_covered o (rec operation))) operations ≡ operations
-none_dropped o operations none = filter_all (λ operation. not (is_covered o (rec operation))) operations (along operations)
+pub none_dropped : (o : Operations) (operations : List Operation) → ((r : List ℕ) → is_covered o r ≡ false) → filter (λ operation. not (is_covered o (record_bytes operation))) operations ≡ operations
+none_dropped o operations none = filter_all (λ operation. not (is_covered o (record_bytes operation))) operations (along operations)
   where
-    along : (xs : List Operation) → AllByRecursion (λ operation. not (is_covered o (rec operation)) ≡ true) xs
+    along : (xs : List Operation) → AllByRecursion (λ operation. not (is_covered o (record_bytes operation)) ≡ true) xs
     along [] = tt
-    along (x ∷ xs) = (ap not (none (rec x)), along xs)
+    along (x ∷ xs) = (ap not (none (record_bytes x)), along xs)
 
 tied_is : (q r : List ℕ) → eq_by_cmp (slice_cmp nat_cmp) q r ≡ true → q ≡ r
 tied_is q r h = bytes_same q r ((Equal-is (slice_cmp nat_cmp q r)).0 h)
@@ -85,7 +85,7 @@ other_key key digest slice is_key valid apart =
 
 -- so where no slice of its key is there, none of the operations is
 none_under : (key : SliceKey) (digest : Digest) (xs : List Operation) → IsKey key → AllByRecursion IsOperation xs → filter (is_under Admission key) xs ≡ []
-    → AllByRecursion (λ operation. not (is_covered (only key digest) (rec operation)) ≡ true) xs
+    → AllByRecursion (λ operation. not (is_covered (only key digest) (record_bytes operation)) ≡ true) xs
 none_under key digest [] is_key are none = tt
 none_under key digest (Retire other d ∷ xs) is_key are none = (refl, none_under key digest xs is_key are.1 none)
 none_under key digest (Admit slice ∷ xs) is_key are none = by (is_under Admission key (Admit slice)) refl none (none_under key digest xs is_key are.1)
@@ -94,14 +94,14 @@ none_under key digest (Admit slice ∷ xs) is_key are none = by (is_under Admiss
     some l h = cc
 
     by : (b : Bool) → is_under Admission key (Admit slice) ≡ b → cond b (Admit slice ∷ filter (is_under Admission key) xs) (filter (is_under Admission key) xs) ≡ []
-        → (filter (is_under Admission key) xs ≡ [] → AllByRecursion (λ operation. not (is_covered (only key digest) (rec operation)) ≡ true) xs)
-        → AllByRecursion (λ operation. not (is_covered (only key digest) (rec operation)) ≡ true) (Admit slice ∷ xs)
+        → (filter (is_under Admission key) xs ≡ [] → AllByRecursion (λ operation. not (is_covered (only key digest) (record_bytes operation)) ≡ true) xs)
+        → AllByRecursion (λ operation. not (is_covered (only key digest) (record_bytes operation)) ≡ true) (Admit slice ∷ xs)
     by true h none rest = absurd (some _ none)
     by false h none rest = (ap not (other_key key digest slice is_key are.0 h), rest none)
 
 -- whether a retirement leaves an operation
 abbrev pub left_by : SliceKey → Digest → Operation → Bool
-left_by key digest operation = not (is_covered (from_list (map rec (Retire key digest ∷ []))) (rec operation))
+left_by key digest operation = not (is_covered (from_list (map record_bytes (Retire key digest ∷ []))) (record_bytes operation))
 
 -- where none of its key is there, it leaves all
 all_left : (key : SliceKey) (digest : Digest) (xs : List Operation) → IsKey key → All IsOperation xs → filter (is_under Admission key) xs ≡ [] → filter (left_by key digest) xs ≡ xs

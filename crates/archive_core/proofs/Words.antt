@@ -6,7 +6,7 @@ use Rattle.std.specs.FinSet.{contains}
 use Rattle.sha2.specs.Sha256.{sha256}
 use Rattle.archive_core.specs.Valid.{key_of, IsValid}
 use Rattle.archive_core.specs.Record.{IsRecord, admission_record, retirement_record}
-use Rattle.archive_core.specs.Content.{Operations, is_admission, covering, is_covered, made, IsContent, IsBelow, IsLive}
+use Rattle.archive_core.specs.Content.{Operations, is_admission, covering, is_covered, content_of, IsContent, IsBelow, IsLive}
 use Rattle.archive_core.specs.declared.keys.SliceKey.{SliceKey}
 use Rattle.archive_core.proofs.Made.{either, or_left, or_right, from_made, made_again, uncovered_of_made}
 use Rattle.archive_core.proofs.Entries.{covering_admission}
@@ -16,7 +16,7 @@ pub covered_slice : (o : Operations) (slice : List ℕ) → IsValid slice → is
 covered_slice o slice valid = ap (contains o) (covering_admission slice valid)
 
 -- what a set of records makes is a content
-pub made_content : (o : Operations) → ((r : List ℕ) → contains o r ≡ true → IsRecord r) → IsContent (made o)
+pub made_content : (o : Operations) → ((r : List ℕ) → contains o r ≡ true → IsRecord r) → IsContent (content_of o)
 made_content o records = record { itself = made_again o; records = λ r h. records r (from_made o r h) }
 
 -- in a content each slice that is admitted is live

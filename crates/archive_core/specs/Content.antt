@@ -34,12 +34,12 @@ is_covered o r = is_admission r && set.contains o (covering r)
 
 -- the content that a set of operations makes: the set without the admissions that it covers. What was retired never
 -- comes back, as in the two-phase set (INRIA RR-7506, 2P-Set), and is not kept
-abbrev pub made : Operations → Operations
-made o = set.retain o (λ r. not (is_covered o r))
+abbrev pub content_of : Operations → Operations
+content_of o = set.retain o (λ r. not (is_covered o r))
 
 -- a set that makes itself
 abbrev pub IsMade : Operations → Type 0
-IsMade o = made o ≡ o
+IsMade o = content_of o ≡ o
 
 -- a content: a set that makes itself, whose members are records
 pub record IsContent (o : Operations) : Type 0 where
@@ -55,7 +55,7 @@ pub record IsBelow (o p : Operations) : Type 0 where
 
 -- the content after one operation was taken
 abbrev pub with_record : Operations → List ℕ → Operations
-with_record o r = made (set.insert o r)
+with_record o r = content_of (set.insert o r)
 
 -- whether taking an operation changes a content: it does where the operation is neither in it nor covered there
 unfoldable pub changes : Operations → List ℕ → Bool
@@ -78,7 +78,7 @@ pub record IsTakenInPart (o : Operations) (rs : List (List ℕ)) (mid : Operatio
 
 -- the join of two contents: what the operations of both make
 abbrev pub joined : Operations → Operations → Operations
-joined o p = made (set.union o p)
+joined o p = content_of (set.union o p)
 
 -- the same operations, in any order and with any repeats
 abbrev pub HaveSameMembers : List (List ℕ) → List (List ℕ) → Type 0

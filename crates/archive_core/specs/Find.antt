@@ -10,7 +10,7 @@ use Rattle.std.specs.FinSet as set
 use Rattle.sha2.specs.Sha256.{sha256}
 use Rattle.macho_image.specs.Contents.{is_dsym_image}
 use Rattle.archive_core.specs.Valid.{key_of}
-use Rattle.archive_core.specs.Record.{rec, admission_record, retirement_record, IsOperation}
+use Rattle.archive_core.specs.Record.{record_bytes, admission_record, retirement_record, IsOperation}
 use Rattle.archive_core.specs.Content.{Operations, IsLive, IsAnswering}
 use Rattle.archive_core.specs.declared.keys.ArchKey.{ArchKey}
 use Rattle.archive_core.specs.declared.keys.Digest.{Digest}
@@ -32,7 +32,7 @@ arch_cmp = then_cmp (on (λ arch. arch.cputype) nat_cmp) (on (λ arch. arch.subt
 
 -- operations by architecture, then by record
 abbrev pub find_cmp : Operation → Operation → Ordering
-find_cmp = then_cmp (on (λ operation. (key_in operation).arch) arch_cmp) (on rec (slice_cmp nat_cmp))
+find_cmp = then_cmp (on (λ operation. (key_in operation).arch) arch_cmp) (on record_bytes (slice_cmp nat_cmp))
 
 -- a retirement of the content under the UUID, or the admission of a slice that is live there
 abbrev pub IsFinding : Operations → List ℕ → Operation → Type 0

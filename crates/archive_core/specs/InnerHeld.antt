@@ -5,12 +5,12 @@ use Rattle.std.specs.List.Sorted.{IsStrictlySortedBy}
 use Rattle.std.specs.Ordering.{nat_cmp}
 use Rattle.std.specs.Cmp.Lexicographic.{slice_cmp}
 use Rattle.std.specs.FinSet as set
-use Rattle.archive_core.specs.Record.{rec, IsOperation}
+use Rattle.archive_core.specs.Record.{record_bytes, IsOperation}
 use Rattle.archive_core.specs.Content.{IsMade}
 use Rattle.archive_core.specs.declared.operations.Operation.{Operation}
 
 -- operations strictly ascending by their records, none of which another covers
 pub record IsHeld (operations : List Operation) : Type 0 where
-  pub ascending : IsStrictlySortedBy (slice_cmp nat_cmp) (map rec operations)
+  pub ascending : IsStrictlySortedBy (slice_cmp nat_cmp) (map record_bytes operations)
   pub are : AllByRecursion IsOperation operations
-  pub itself : IsMade (set.from_list (map rec operations))
+  pub itself : IsMade (set.from_list (map record_bytes operations))

@@ -7,8 +7,8 @@ use Rattle.archive_core.specs.Valid.{key_of}
 use Rattle.archive_core.specs.declared.keys.SliceKey.{SliceKey}
 use Rattle.archive_core.specs.declared.operations.Operation.{Operation}
 use Rattle.archive_core.specs.declared.operations.Operation.TheVariants.{Admit, Retire}
-use Rattle.archive_core.specs.declared.range.Kind.{Kind}
-use Rattle.archive_core.specs.declared.range.Kind.TheVariants.{Retirement, Admission}
+use Rattle.archive_core.specs.declared.range.RecordKind.{RecordKind}
+use Rattle.archive_core.specs.declared.range.RecordKind.TheVariants.{Retirement, Admission}
 use Rattle.archive_core.specs.declared.range.Scope.{Scope}
 use Rattle.archive_core.specs.declared.range.Scope.TheVariants.{OfKey, OfUuid}
 
@@ -23,7 +23,7 @@ bytes_within (OfKey _) key = key_bytes key
 bytes_within (OfUuid _) key = key.uuid
 
 -- how the records of a kind within a scope begin: the tag, the key or its UUID
-abbrev pub front : Kind → Scope → List ℕ
+abbrev pub front : RecordKind → Scope → List ℕ
 front Retirement scope = 1 ∷ scope_bytes scope
 front Admission scope = 2 ∷ scope_bytes scope
 
@@ -33,13 +33,13 @@ front_of scope (Admit slice) = 2 ∷ bytes_within scope (key_of slice)
 front_of scope (Retire key digest) = 1 ∷ bytes_within scope key
 
 -- whether an operation is of a kind and within a scope
-abbrev pub is_within : Kind → Scope → Operation → Bool
+abbrev pub is_within : RecordKind → Scope → Operation → Bool
 is_within kind scope operation = is_eq (slice_cmp nat_cmp (front_of scope operation) (front kind scope))
 
 -- whether an operation is of a kind and under a key
-abbrev pub is_under : Kind → SliceKey → Operation → Bool
+abbrev pub is_under : RecordKind → SliceKey → Operation → Bool
 is_under kind key = is_within kind (OfKey key)
 
 -- whether an operation is of a kind and under a UUID
-abbrev pub is_under_uuid : Kind → List ℕ → Operation → Bool
+abbrev pub is_under_uuid : RecordKind → List ℕ → Operation → Bool
 is_under_uuid kind uuid = is_within kind (OfUuid uuid)

@@ -8,8 +8,8 @@ use Rattle.archive_core.specs.Find.{key_in, is_key, is_kind}
 use Rattle.archive_core.specs.declared.keys.SliceKey.{SliceKey}
 use Rattle.archive_core.specs.declared.operations.Operation.{Operation}
 use Rattle.archive_core.specs.declared.operations.Operation.TheVariants.{Admit, Retire}
-use Rattle.archive_core.specs.declared.live.Tally.{Tally}
-use Rattle.archive_core.specs.declared.live.Tally.TheVariants.{Nothing, One, Several}
+use Rattle.archive_core.specs.declared.live.Answering.{Answering}
+use Rattle.archive_core.specs.declared.live.Answering.TheVariants.{Nothing, One, Several}
 
 -- a search finds the operations that are held under its UUID: no slice that is held is retired
 abbrev pub is_finding : List ℕ → Operation → Bool
@@ -29,7 +29,7 @@ unfoldable pub live_among : SliceKey → Bool → List Operation → List (List 
 live_among key dsym operations = filter_map (live_in key dsym) operations
 
 -- what is kept of slices: that there is none, the one, or that there are several
-abbrev pub IsTally : Tally → List (List ℕ) → Type 0
+abbrev pub IsTally : Answering → List (List ℕ) → Type 0
 IsTally Nothing slices = slices ≡ []
 IsTally (One slice) slices = slices ≡ slice ∷ []
 IsTally Several slices = 2 ≤ length slices

@@ -3,7 +3,7 @@
 use Rattle.std.specs.Prelude.{◌≡◌, ℕ, ◌+◌, List, ◌∷◌, true, false, ◌||◌, length, map, take, drop}
 use Rattle.std.specs.List.{list_all}
 use Rattle.std.specs.FinSet.{contains}
-use Rattle.archive_core.specs.Record.{rec}
+use Rattle.archive_core.specs.Record.{record_bytes}
 use Rattle.archive_core.specs.Content.{Operations, is_admission, covering, IsMade, with_records, new_among}
 use Rattle.archive_core.specs.declared.operations.Operation.{Operation}
 
@@ -22,24 +22,26 @@ pub record IsBeside (old admitted now seen : Operations) : Type 0 where
 
 -- the content with some admissions, and behind them with some retirements
 abbrev pub with_both : Operations → List Operation → List Operation → Operations
-with_both old admissions retirements = with_records (with_records old (map rec admissions)) (map rec retirements)
+with_both old admissions retirements = with_records (with_records old (map record_bytes admissions))
+    (map record_bytes retirements)
 
 -- Between no operations and all: what is left of them, and what came as admissions and as retirements, without those
 -- that were not new where they came.
 pub record IsParting (old : Operations) (all left admissions retirements : List Operation) (seen : Operations)
     : Type 0 where
-  pub only : list_all (λ operation. is_admission (rec operation)) admissions ≡ true
-  pub beside : IsBeside old (with_records old (map rec admissions)) (with_both old admissions retirements) seen
-  pub content : with_records (with_both old admissions retirements) (map rec left) ≡ with_records old (map rec all)
-  pub counted : (new_among old (map rec admissions) + length retirements)
-      + new_among (with_both old admissions retirements) (map rec left) ≡ new_among old (map rec all)
+  pub only : list_all (λ operation. is_admission (record_bytes operation)) admissions ≡ true
+  pub beside : IsBeside old (with_records old (map record_bytes admissions)) (with_both old admissions retirements) seen
+  pub content : with_records (with_both old admissions retirements) (map record_bytes left)
+      ≡ with_records old (map record_bytes all)
+  pub counted : (new_among old (map record_bytes admissions) + length retirements)
+      + new_among (with_both old admissions retirements) (map record_bytes left) ≡ new_among old (map record_bytes all)
 
 -- The admissions of a list and its retirements, without those that are not new where they come: they give the same
 -- content, and of the admissions as many are new.
 pub record IsParted (old : Operations) (all admissions retirements : List Operation) : Type 0 where
-  pub only : list_all (λ operation. is_admission (rec operation)) admissions ≡ true
-  pub content : with_both old admissions retirements ≡ with_records old (map rec all)
-  pub counted : new_among old (map rec admissions) + length retirements ≡ new_among old (map rec all)
+  pub only : list_all (λ operation. is_admission (record_bytes operation)) admissions ≡ true
+  pub content : with_both old admissions retirements ≡ with_records old (map record_bytes all)
+  pub counted : new_among old (map record_bytes admissions) + length retirements ≡ new_among old (map record_bytes all)
 
 -- with one operation more, the parts and the retirements seen are on the way, where they were with it left
 abbrev pub IsPut : Operations → Operation → List Operation → List Operation → Operations

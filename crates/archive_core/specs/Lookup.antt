@@ -30,7 +30,7 @@ file_address slice (Loaded load address) = option_and_then (λ base. unslid base
 
 -- what a slice itself tells of a place: the nearest symbol of that address, or none where it stands for no address
 abbrev pub IsOwn : List ℕ → Where → Option FoundRecord → Type 0
-IsOwn slice place own = MatchOption (file_address slice place) (own ≡ None) (λ address. FindsNearest slice address own)
+IsOwn slice asked own = MatchOption (file_address slice asked) (own ≡ None) (λ address. FindsNearest slice address own)
 
 -- a slice's digest, and what the slice tells
 pub record OwnRow : Type 0 where
@@ -38,9 +38,9 @@ pub record OwnRow : Type 0 where
   pub own : Option FoundRecord
 
 -- the row of a slice
-pub record IsOwnRow (place : Where) (slice : List ℕ) (row : OwnRow) : Type 0 where
+pub record IsOwnRow (asked : Where) (slice : List ℕ) (row : OwnRow) : Type 0 where
   pub digest_is : row.digest ≡ sha256 slice
-  pub own_is : IsOwn slice place row.own
+  pub own_is : IsOwn slice asked row.own
 
 -- an answer, without where its names lie: nothing answers, one slice tells a symbol or none, or several tell each its
 -- own
@@ -51,15 +51,15 @@ pub data AnswerRecord : Type 0 where
 
 -- what slices that answer tell together
 abbrev pub IsAnswerOf : Where → List (List ℕ) → AnswerRecord → Type 0
-IsAnswerOf place slices Unanswered = slices ≡ []
-IsAnswerOf place slices (Alone own) = (slice : List ℕ) × (slices ≡ slice ∷ []) × IsOwn slice place own
-IsAnswerOf place slices (Disputed rows) = (2 ≤ length slices) × AllZip (IsOwnRow place) slices rows
+IsAnswerOf asked slices Unanswered = slices ≡ []
+IsAnswerOf asked slices (Alone own) = (slice : List ℕ) × (slices ≡ slice ∷ []) × IsOwn slice asked own
+IsAnswerOf asked slices (Disputed rows) = (2 ≤ length slices) × AllZip (IsOwnRow asked) slices rows
 
 -- the answer of a content under a key: what its answering slices tell, in ascending order of their records
-pub record IsAnswer (o : Operations) (key : SliceKey) (place : Where) (answer : AnswerRecord) : Type 0 where
+pub record IsAnswer (o : Operations) (key : SliceKey) (asked : Where) (answer : AnswerRecord) : Type 0 where
   pub slices : List (List ℕ)
   pub answering : AreAnswering o key slices
-  pub answer_is : IsAnswerOf place slices answer
+  pub answer_is : IsAnswerOf asked slices answer
 
 -- two or more slices answer under a key
 pub record IsConflict (o : Operations) (key : SliceKey) : Type 0 where

@@ -9,7 +9,8 @@ use Rattle.std.specs.FinSet.{contains, union, contains-retain, contains-union, s
 use Rattle.std.specs.FinSet.{nat_cmp-IsAntisymmetric, slice_cmp-IsAntisymmetric}
 use Rattle.join_core.specs.Bound.{IsLeastAbove}
 use Rattle.archive_core.specs.Record.{IsRecord}
-use Rattle.archive_core.specs.Content.{Operations, is_admission, covering, is_covered, made, IsMade, IsContent, IsBelow}
+use Rattle.archive_core.specs.Content.{Operations, is_admission, covering, is_covered, content_of, IsMade, IsContent}
+use Rattle.archive_core.specs.Content.{IsBelow}
 use Rattle.archive_core.specs.Content.{joined}
 
 -- byte strings that the byte order ties are one
@@ -53,32 +54,32 @@ by_test P true f g = f refl
 by_test P false f g = g refl
 
 -- what is made has the members that are not covered
-pub contains_made : (o : Operations) (r : List ℕ) → contains (made o) r ≡ (contains o r && not (is_covered o r))
+pub contains_made : (o : Operations) (r : List ℕ) → contains (content_of o) r ≡ (contains o r && not (is_covered o r))
 contains_made o r = contains-retain o (λ x. not (is_covered o x)) r
     (λ x e. ap (λ y. not (is_covered o y)) (sym (bytes_same r x e)))
 
-pub from_made : (o : Operations) (r : List ℕ) → contains (made o) r ≡ true → contains o r ≡ true
+pub from_made : (o : Operations) (r : List ℕ) → contains (content_of o) r ≡ true → contains o r ≡ true
 from_made o r h = and_left _ _ (sym (contains_made o r) ∙ h)
 
-pub uncovered : (o : Operations) (r : List ℕ) → contains (made o) r ≡ true → is_covered o r ≡ false
+pub uncovered : (o : Operations) (r : List ℕ) → contains (content_of o) r ≡ true → is_covered o r ≡ false
 uncovered o r h = not_true _ (and_right _ _ (sym (contains_made o r) ∙ h))
 
 -- of what is made, no admission is covered
-pub uncovered_admission : (o : Operations) (r : List ℕ) → is_admission r ≡ true → contains (made o) r ≡ true
+pub uncovered_admission : (o : Operations) (r : List ℕ) → is_admission r ≡ true → contains (content_of o) r ≡ true
     → contains o (covering r) ≡ false
 uncovered_admission o r a h = ap (λ b. b && contains o (covering r)) (sym a) ∙ uncovered o r h
 
 -- it has each retirement
-pub kept : (o : Operations) (r : List ℕ) → is_admission r ≡ false → contains (made o) r ≡ contains o r
+pub kept : (o : Operations) (r : List ℕ) → is_admission r ≡ false → contains (content_of o) r ≡ contains o r
 kept o r h =
     contains_made o r ∙ ap (λ b. contains o r && not (b && contains o (covering r))) h ∙ and_true (contains o r)
 
 -- so it covers the same
-pub covers_same : (o : Operations) (r : List ℕ) → contains (made o) (covering r) ≡ contains o (covering r)
+pub covers_same : (o : Operations) (r : List ℕ) → contains (content_of o) (covering r) ≡ contains o (covering r)
 covers_same o r = kept o (covering r) refl
 
 -- and the admissions that no retirement covers
-pub free : (o : Operations) (r : List ℕ) → contains o (covering r) ≡ false → contains (made o) r ≡ contains o r
+pub free : (o : Operations) (r : List ℕ) → contains o (covering r) ≡ false → contains (content_of o) r ≡ contains o r
 free o r k =
     contains_made o r
     ∙ ap (λ b. contains o r && not (is_admission r && b)) k
@@ -86,12 +87,12 @@ free o r k =
     ∙ and_true (contains o r)
 
 -- what is made makes itself
-pub made_again : (o : Operations) → IsMade (made o)
-made_again o = same_set nat_list_cmp_total bytes_same (made (made o)) (made o) (λ r.
-    both_ways _ _ (from_made (made o) r) (λ h.
-    let same : is_covered (made o) r ≡ is_covered o r = ap (λ b. is_admission r && b) (covers_same o r) in
-    contains_made (made o) r
-    ∙ ap (λ b. b && not (is_covered (made o) r)) h
+pub made_again : (o : Operations) → IsMade (content_of o)
+made_again o = same_set nat_list_cmp_total bytes_same (content_of (content_of o)) (content_of o) (λ r.
+    both_ways _ _ (from_made (content_of o) r) (λ h.
+    let same : is_covered (content_of o) r ≡ is_covered o r = ap (λ b. is_admission r && b) (covers_same o r) in
+    contains_made (content_of o) r
+    ∙ ap (λ b. b && not (is_covered (content_of o) r)) h
     ∙ ap not (same ∙ uncovered o r h)))
 
 -- a content is below itself
@@ -131,7 +132,8 @@ pub below_antisymmetric : (o p : Operations) → IsContent o → IsContent p →
 below_antisymmetric o p a b = made_antisymmetric o p a.itself b.itself
 
 -- a set is below what a greater one makes
-pub below_made : (o u : Operations) → ((r : List ℕ) → contains o r ≡ true → contains u r ≡ true) → IsBelow o (made u)
+pub below_made : (o u : Operations) → ((r : List ℕ) → contains o r ≡ true → contains u r ≡ true)
+    → IsBelow o (content_of u)
 below_made o u into = record {
   retirements = λ r n h. kept u r n ∙ into r h;
   live = λ r a h _. by_test _ (contains u (covering r))

@@ -45,9 +45,9 @@ IsOperation (Admit slice) = IsValid slice
 IsOperation (Retire key digest) = IsKey key × (length digest.0 ≡ 32)
 
 -- the record of an operation
-abbrev pub rec : Operation → List ℕ
-rec (Admit slice) = admission_record slice
-rec (Retire key digest) = retirement_record key digest.0
+abbrev pub record_bytes : Operation → List ℕ
+record_bytes (Admit slice) = admission_record slice
+record_bytes (Retire key digest) = retirement_record key digest.0
 
 -- the operation that is lent
 abbrev pub operation_lent : Record → Operation
@@ -55,5 +55,5 @@ operation_lent (Lent_Admit slice) = Admit slice.now
 operation_lent (Lent_Retire key digest) = Retire key digest
 
 -- the record of an operation that is lent
-abbrev pub lent : Record → List ℕ
-lent operation = rec (operation_lent operation)
+abbrev pub lent_bytes : Record → List ℕ
+lent_bytes operation = record_bytes (operation_lent operation)

@@ -2,7 +2,7 @@
 ghost use Rattle.std.specs.Prelude.{◌≡◌, ◌<◌, ◌↔◌, IfOk, OnOk, OnErr, map, slice_index_or, []};
 ghost use Rattle.std.specs.FinSet as set;
 ghost use Rattle.join_core.specs.Listing.{listing};
-ghost use Rattle.archive_core.specs.Record.{rec, lent};
+ghost use Rattle.archive_core.specs.Record.{record_bytes, lent_bytes};
 ghost use Rattle.join_core.specs.Bound.{IsTowards};
 ghost use Rattle.archive_core.specs.Content.{Operations, IsContent, IsBelow, with_record, changes, joined};
 ghost use Rattle.archive_core.specs.Find.{IsFinds};
@@ -46,13 +46,14 @@ pub trait Archive: Join<Content = Contents> {
     /// alone; the operation is then dropped, and a caller that makes the call again has kept a copy
     /// (`Operation::copy`), or makes it again of the bytes that it came from.
     fn take(&mut self, operation: Operation) -> Result<bool, NoMemory>
-        ensures taken { OnOk result (Self.content self.new ≡ with_record (Self.content self.old) (rec operation)) }
-        ensures answer { IfOk result (λ changed. changed ≡ changes (Self.content self.old) (rec operation)) }
+        ensures taken { OnOk result (Self.content self.new
+            ≡ with_record (Self.content self.old) (record_bytes operation)) }
+        ensures answer { IfOk result (λ changed. changed ≡ changes (Self.content self.old) (record_bytes operation)) }
         ensures refused { OnErr result (Self.content self.new ≡ Self.content self.old) };
 
     /// Whether the operation is in the content.
     fn holds(&self, operation: &Operation) -> bool
-        ensures { result ≡ set.contains (Self.content self.now) (rec operation.now) };
+        ensures { result ≡ set.contains (Self.content self.now) (record_bytes operation.now) };
 
     /// The retirements and the live slices under a UUID, a row for each, by `cputype` and `subtype`,
     /// then in the order of their records. Refused for want of memory alone.
@@ -62,8 +63,8 @@ pub trait Archive: Join<Content = Contents> {
     /// What the answering slices of a key tell of an address: the live companions, if there are any,
     /// or else the other live slices. Refused for want of memory alone, which is asked for only where
     /// several answer.
-    fn lookup(&self, key: &SliceKey, place: Where) -> Result<Answer<'_>, NoMemory>
-        ensures answer { IfOk result (λ answer. IsAnswer (Self.content self.now) key.now place (answer_view answer)) }
+    fn lookup(&self, key: &SliceKey, asked: Where) -> Result<Answer<'_>, NoMemory>
+        ensures answer { IfOk result (λ answer. IsAnswer (Self.content self.now) key.now asked (answer_view answer)) }
         ensures memory { OnErr result (IsConflict (Self.content self.now) key.now) };
 
     /// Where symbols of a name stand in live slices: a row for each, by key, digest and address, then by the number
@@ -80,7 +81,7 @@ pub trait Archive: Join<Content = Contents> {
     /// The operation at an index, from 0 on, among all in ascending order of their records.
     fn record_at(&self, index: u64) -> Record<'_>
         requires { index < set.len (Self.content self.now) }
-        ensures { lent result ≡ slice_index_or (listing (Self.content self.now)) index [] };
+        ensures { lent_bytes result ≡ slice_index_or (listing (Self.content self.now)) index [] };
 
     ghost is_content_is: { (o : Operations) → Self.Join.is_content o ↔ IsContent o };
 

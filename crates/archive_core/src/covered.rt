@@ -1,5 +1,6 @@
 //! Slices that retirements cover. This is the one place that tells them, and no slice that is held is one.
-ghost use Rattle.std.specs.Prelude.{◌≡◌, ◌+◌, ◌<◌, ◌≤◌, ◌||◌, ℕ, List, [], ◌∷◌, ◌++◌, true, false, length, take, drop, map, filter, not};
+ghost use Rattle.std.specs.Prelude.{◌≡◌, ◌+◌, ◌<◌, ◌≤◌, ◌||◌, ℕ, List, [], ◌∷◌, ◌++◌, true, false, length, take, drop};
+ghost use Rattle.std.specs.Prelude.{map, filter, not};
 ghost use Rattle.std.specs.FinSet as set;
 ghost use Rattle.std.specs.Ordering.{nat_cmp};
 ghost use Rattle.std.specs.Cmp.Lexicographic.{slice_cmp};
@@ -8,13 +9,13 @@ ghost use Rattle.std.specs.List.Sorted.{IsStrictlySortedBy};
 ghost use Rattle.std.specs.Vec.{vec_capacity};
 ghost use Rattle.sha2.specs.Sha256.{sha256};
 ghost use Rattle.archive_core.specs.Valid.{key_of, IsValid};
-ghost use Rattle.archive_core.specs.Record.{rec, retirement_record, IsOperation};
+ghost use Rattle.archive_core.specs.Record.{record_bytes, retirement_record, IsOperation};
 ghost use Rattle.archive_core.specs.Content.{is_covered, changes};
 ghost use Rattle.archive_core.specs.InnerHeld.{IsHeld};
 ghost use Rattle.archive_core.specs.declared.operations.Operation.TheVariants.{Retire};
 
 use crate::plain::search;
-use crate::range::{Kind, Scope, has_retirement, place_of};
+use crate::range::{RecordKind, Scope, has_retirement, range_of};
 use crate::{Digest, Operation, Slice, SliceKey};
 use memory::Heap;
 use std::marker::Model;
@@ -31,14 +32,14 @@ impl<'a> Model for Lent<'a> {
     ghost use Rattle.std.specs.Cmp.Lexicographic.{slice_cmp};
     ghost use Rattle.std.specs.FinSet as set;
     ghost use Rattle.std.specs.Coded.{coded_list, coded_ℕ};
-    ghost use Rattle.archive_core.specs.Record.{rec};
+    ghost use Rattle.archive_core.specs.Record.{record_bytes};
     ghost use Rattle.archive_core.specs.InnerHeld.{IsHeld};
 
     ghost Value = { set.FinSet (slice_cmp nat_cmp) };
 
     ghost coded = { set.code (coded_list coded_ℕ) };
 
-    ghost view = { λ lent. set.from_list (map rec lent.operations.now) };
+    ghost view = { λ lent. set.from_list (map record_bytes lent.operations.now) };
 
     ghost invariant = { λ lent. IsHeld lent.operations.now };
 }
@@ -47,7 +48,7 @@ impl<'a> Model for Lent<'a> {
 fn retires(operations: &[Operation], slice: &Slice, near: &mut usize) -> bool
     requires { IsHeld operations.now }
     ensures { result
-        ≡ set.contains (set.from_list {R = slice_cmp nat_cmp} (map rec operations.now))
+        ≡ set.contains (set.from_list {R = slice_cmp nat_cmp} (map record_bytes operations.now))
         (retirement_record (key_of slice.now) (sha256 slice.now)) }
 {
     if !has_retirement(operations, near, slice.key()) {
@@ -60,7 +61,7 @@ impl<'a> Lent<'a> {
     // The operations of an archive.
     pub(crate) fn of(operations: &'a [Operation]) -> Lent<'a>
         requires { IsHeld operations.now }
-        ensures { result ≡ set.from_list (map rec operations.now) }
+        ensures { result ≡ set.from_list (map record_bytes operations.now) }
     {
         Lent { operations }
     }
@@ -90,7 +91,7 @@ impl<'a> Lent<'a> {
 
     // Whether a retirement covers the operation.
     pub(crate) fn covers(&self, operation: &Operation, near: &mut usize) -> bool
-        ensures { result ≡ is_covered self.now (rec operation.now) }
+        ensures { result ≡ is_covered self.now (record_bytes operation.now) }
     {
         match operation {
             Operation::Admit(slice) => self.retires(slice, near),
@@ -102,8 +103,8 @@ impl<'a> Lent<'a> {
     #[tactic(auto, unfolding(crate::specs::Content::changes))]
     pub(crate) fn knows(&self, operation: &Operation, near: &mut usize) -> bool
         ensures knows { result
-            ≡ (set.contains self.now (rec operation.now) || is_covered self.now (rec operation.now)) }
-        ensures changes { changes self.now (rec operation.now) ≡ not result }
+            ≡ (set.contains self.now (record_bytes operation.now) || is_covered self.now (record_bytes operation.now)) }
+        ensures changes { changes self.now (record_bytes operation.now) ≡ not result }
     {
         search(self.operations, operation).is_ok() || self.covers(operation, near)
     }
@@ -112,7 +113,7 @@ impl<'a> Lent<'a> {
 // Drops the operations that are covered. Where no retirement is lent, none is asked for.
 pub(crate) fn drop_covered(operations: &mut Vec<Operation, Heap>, by: &Lent<'_>)
     ensures items { operations.new.items
-        ≡ filter (λ operation. not (is_covered by.now (rec operation))) operations.old.items }
+        ≡ filter (λ operation. not (is_covered by.now (record_bytes operation))) operations.old.items }
     ensures capacity { vec_capacity operations.new ≡ vec_capacity operations.old }
     ensures bound { length operations.new.items ≤ length operations.old.items }
 {
@@ -141,15 +142,16 @@ fn drop_at(operations: &mut Vec<Operation, Heap>, index: usize)
 
 // Drops the slices that one retirement covers. They are looked for among those of its key alone.
 pub(crate) fn drop_retired(operations: &mut Vec<Operation, Heap>, key: &SliceKey, digest: &Digest)
-    requires ascending { IsStrictlySortedBy (slice_cmp nat_cmp) (map rec operations.old.items) }
+    requires ascending { IsStrictlySortedBy (slice_cmp nat_cmp) (map record_bytes operations.old.items) }
     requires are { AllByRecursion IsOperation operations.old.items }
     ensures { operations.new.items
-        ≡ filter (λ operation. not (is_covered (set.from_list (map rec (Retire key.now digest.now ∷ []))) (rec operation)))
+        ≡ filter (λ operation. not (is_covered (set.from_list (map record_bytes (Retire key.now digest.now ∷ [])))
+        (record_bytes operation)))
         operations.old.items }
 {
     let only = [retirement(*key, *digest)];
     let by = Lent::of(&only);
-    let (start, count) = place_of(operations, Kind::Admission, Scope::OfKey(*key));
+    let (start, count) = range_of(operations, RecordKind::Admission, Scope::OfKey(*key));
     let mut index = start + count;
     while index > start {
         index -= 1;

@@ -1,5 +1,6 @@
 //! What a search for a UUID tells, and what a list of all tells.
 use crate::{Digest, SliceKey};
+use macho_image::Image;
 
 /// A retirement, or a live slice.
 #[derive(Clone, Copy, Debug, PartialEq, Eq)]
@@ -21,4 +22,20 @@ pub enum FindState {
     Image,
     /// A live slice that is a companion with debug information: its `filetype` is MH_DSYM.
     Dsym,
+}
+
+impl FindState {
+    ghost use Rattle.std.specs.Prelude.{◌≡◌};
+    ghost use Rattle.archive_core.specs.Find.{state_of};
+
+    /// What a live slice is, by its image.
+    pub fn of_image(image: &Image<'_>) -> FindState
+        ensures { result ≡ state_of image.now }
+    {
+        if image.is_dsym() {
+            FindState::Dsym
+        } else {
+            FindState::Image
+        }
+    }
 }

@@ -1,6 +1,6 @@
 //! An operation beside the row that a search tells of it.
 ghost use Rattle.std.specs.Prelude.{◌≡◌, map, IfOk};
-ghost use Rattle.archive_core.specs.Find.{find_cmp, row_of, state_of};
+ghost use Rattle.archive_core.specs.Find.{find_cmp, row_of};
 ghost use Rattle.archive_core.specs.Lists.{list_cmp};
 ghost use Rattle.archive_core.specs.Record.{IsOperation, operation_lent};
 ghost use Rattle.archive_core.specs.declared.operations.Operation.TheVariants.{Admit, Retire};
@@ -13,12 +13,12 @@ use std::marker::Model;
 /// An operation that a search tells, beside its row, so that a slice is hashed once. A contract sees
 /// it as the operation.
 #[derive(Drop)]
-pub struct Finding<'a> {
+pub struct HashedRecord<'a> {
     operation: Record<'a>,
     row: FindRow,
 }
 
-impl<'a> Model for Finding<'a> {
+impl<'a> Model for HashedRecord<'a> {
     ghost use Rattle.std.specs.Prelude.{◌≡◌};
     ghost use Rattle.archive_core.specs.Find.{row_of};
     ghost use Rattle.archive_core.specs.Record.{operation_lent};
@@ -31,35 +31,35 @@ impl<'a> Model for Finding<'a> {
     ghost invariant = { λ finding. finding.row ≡ row_of (operation_lent finding.operation) };
 }
 
-impl<'a> Finding<'a> {
+impl<'a> HashedRecord<'a> {
     /// The operation with its row.
-    pub fn of(operation: &Record<'a>) -> Finding<'a>
+    pub fn of(operation: &Record<'a>) -> HashedRecord<'a>
         ensures finding { result ≡ operation_lent operation.now }
         ensures operation { IsOperation (operation_lent operation.now) }
     {
         match operation {
-            Record::Admit(slice) => Finding::of_slice(slice),
-            Record::Retire(key, digest) => Finding::of_retirement(*key, *digest),
+            Record::Admit(slice) => HashedRecord::of_slice(slice),
+            Record::Retire(key, digest) => HashedRecord::of_retirement(*key, *digest),
         }
     }
 
     // The admission of a slice, with its row.
-    fn of_slice(slice: &'a Slice) -> Finding<'a>
+    fn of_slice(slice: &'a Slice) -> HashedRecord<'a>
         ensures finding { result ≡ Admit slice.now }
         ensures operation { IsOperation (Admit slice.now) }
     {
-        Finding {
+        HashedRecord {
             operation: Record::Admit(slice),
             row: FindRow {
                 key: slice.key(),
                 digest: slice.digest(),
-                state: state_in(slice),
+                state: FindState::of_image(&slice.image()),
             },
         }
     }
 
     // A retirement, with its row.
-    fn of_retirement(key: SliceKey, digest: Digest) -> Finding<'a>
+    fn of_retirement(key: SliceKey, digest: Digest) -> HashedRecord<'a>
         ensures finding { result ≡ Retire key digest }
         ensures operation { IsOperation (Retire key digest) }
     {
@@ -68,7 +68,7 @@ impl<'a> Finding<'a> {
             digest,
             state: FindState::Retired,
         };
-        Finding {
+        HashedRecord {
             operation: Record::Retire(row.key, row.digest),
             row,
         }
@@ -82,7 +82,7 @@ impl<'a> Finding<'a> {
     }
 
     /// Compares by architecture, then by record.
-    pub fn compare(&self, other: &Finding<'_>) -> Ordering
+    pub fn compare(&self, other: &HashedRecord<'_>) -> Ordering
         ensures { result ≡ find_cmp self.now other.now }
     {
         let first = self.row.key.arch;
@@ -95,7 +95,7 @@ impl<'a> Finding<'a> {
     }
 
     /// Compares by UUID, then by architecture, then by record.
-    pub fn compare_all(&self, other: &Finding<'_>) -> Ordering
+    pub fn compare_all(&self, other: &HashedRecord<'_>) -> Ordering
         ensures { result ≡ list_cmp self.now other.now }
     {
         let first = self.row.key.uuid;
@@ -108,19 +108,8 @@ impl<'a> Finding<'a> {
 }
 
 /// The rows, in the order of their operations.
-pub fn rows_of(heap: Heap, findings: &[Finding<'_>]) -> Result<Vec<FindRow, Heap>, NoMemory>
+pub fn rows_of(heap: Heap, findings: &[HashedRecord<'_>]) -> Result<Vec<FindRow, Heap>, NoMemory>
     ensures { IfOk result (λ rows. rows.items ≡ map row_of findings.now) }
 {
     findings.iter().map(|finding| finding.row()).collect(heap)
-}
-
-// What a live slice is.
-fn state_in(slice: &Slice) -> FindState
-    ensures { result ≡ state_of slice.now }
-{
-    if slice.image().is_dsym() {
-        FindState::Dsym
-    } else {
-        FindState::Image
-    }
 }

@@ -13,8 +13,10 @@ ghost use Rattle.sha2.specs.Sha256.{sha256};
 ghost use Rattle.join_core.specs.Bound.{IsLeastAbove};
 ghost use Rattle.archive_core.specs.Key.{IsKey, key_bytes};
 ghost use Rattle.archive_core.specs.Valid.{IsValid, IsSliceFault, key_of};
-ghost use Rattle.archive_core.specs.Record.{IsRecord, Admits, IsOperation, rec, admission_record, retirement_record};
-ghost use Rattle.archive_core.specs.Content.{Operations, is_admission, is_covered, made, IsMade, IsContent, IsBelow};
+ghost use Rattle.archive_core.specs.Record.{IsRecord, Admits, IsOperation, record_bytes, admission_record};
+ghost use Rattle.archive_core.specs.Record.{retirement_record};
+ghost use Rattle.archive_core.specs.Content.{Operations, is_admission, is_covered, content_of, IsMade, IsContent};
+ghost use Rattle.archive_core.specs.Content.{IsBelow};
 ghost use Rattle.archive_core.specs.Content.{with_record, with_records};
 ghost use Rattle.archive_core.specs.Content.{changes, new_among, joined, HaveSameMembers, IsLive, IsTakenInPart};
 ghost use Rattle.archive_core.specs.Summary.{Entries, entry, summary, is_known, delta, DigestsTell};
@@ -64,9 +66,9 @@ pub fn no_record_begins_another()
 /// Each operation has a record, each record is that of an operation, and different operations have
 /// different records.
 pub fn one_record_each()
-    ensures is_record { (a : Operation) → IsOperation a → IsRecord (rec a) }
-    ensures is_operation { (r : List ℕ) → IsRecord r → (a : Operation) × IsOperation a × (rec a ≡ r) }
-    ensures one { (a b : Operation) → IsOperation a → IsOperation b → rec a ≡ rec b → a ≡ b }
+    ensures is_record { (a : Operation) → IsOperation a → IsRecord (record_bytes a) }
+    ensures is_operation { (r : List ℕ) → IsRecord r → (a : Operation) × IsOperation a × (record_bytes a ≡ r) }
+    ensures one { (a b : Operation) → IsOperation a → IsOperation b → record_bytes a ≡ record_bytes b → a ≡ b }
 {}
 
 /// The operations of a content have one list in the ascending byte order of their records, and `listing`, of which
@@ -126,7 +128,7 @@ pub fn join_gives_union<A: Archive>()
 
 /// The join of the contents that two sets of operations make is the content that both sets make together.
 pub fn migrate_joins()
-    ensures { (o p : Operations) → joined (made o) (made p) ≡ made (set.union o p) }
+    ensures { (o p : Operations) → joined (content_of o) (content_of p) ≡ content_of (set.union o p) }
 {}
 
 /// The content that a set of operations makes has those that it does not cover. It covers the admissions of those
@@ -134,9 +136,10 @@ pub fn migrate_joins()
 /// in a content is live.
 pub fn contents_in_words()
     ensures made { (o : Operations) (r : List ℕ)
-        → set.contains (made o) r ≡ (set.contains o r && not (is_covered o r)) }
-    ensures again { (o : Operations) → IsMade (made o) }
-    ensures content { (o : Operations) → ((r : List ℕ) → set.contains o r ≡ true → IsRecord r) → IsContent (made o) }
+        → set.contains (content_of o) r ≡ (set.contains o r && not (is_covered o r)) }
+    ensures again { (o : Operations) → IsMade (content_of o) }
+    ensures content { (o : Operations) → ((r : List ℕ) → set.contains o r ≡ true → IsRecord r)
+        → IsContent (content_of o) }
     ensures admission { (o : Operations) (slice : List ℕ)
         → IsValid slice
         → is_covered o (admission_record slice) ≡ set.contains o (retirement_record (key_of slice) (sha256 slice)) }
@@ -187,7 +190,7 @@ pub fn takes_in_any_order()
         → with_records o rs ≡ with_records o ss }
     ensures union { (o : Operations) (rs : List (List ℕ))
         → IsMade o
-        → with_records o rs ≡ joined o (made (set.from_list rs)) }
+        → with_records o rs ≡ joined o (content_of (set.from_list rs)) }
 {}
 
 /// How many records are new is counted in the order in which they come: each that changes what those before it left is
@@ -350,9 +353,9 @@ pub fn rows_count_answering()
 
 /// A content, a key and a place have one answer.
 pub fn one_answer()
-    ensures { (o : Operations) (key : SliceKey) (place : Where) (answer other : AnswerRecord)
-        → IsAnswer o key place answer
-        → IsAnswer o key place other
+    ensures { (o : Operations) (key : SliceKey) (asked : Where) (answer other : AnswerRecord)
+        → IsAnswer o key asked answer
+        → IsAnswer o key asked other
         → answer ≡ other }
 {
     one_nearest();
@@ -371,9 +374,9 @@ pub fn parts_in_words()
 /// The answer for a key, the rows of a UUID and those of a name depend on the records of that key, that UUID and that
 /// name alone: contents that are alike in these answer alike.
 pub fn answers_of_few_records()
-    ensures answer { (o p : Operations) (key : SliceKey) (place : Where) (answer : AnswerRecord)
+    ensures answer { (o p : Operations) (key : SliceKey) (asked : Where) (answer : AnswerRecord)
         → AreAlikeUnder (key_bytes key) o p
-        → IsAnswer o key place answer ↔ IsAnswer p key place answer }
+        → IsAnswer o key asked answer ↔ IsAnswer p key asked answer }
     ensures conflict { (o p : Operations) (key : SliceKey)
         → AreAlikeUnder (key_bytes key) o p
         → IsConflict o key ↔ IsConflict p key }
@@ -388,9 +391,9 @@ pub fn answers_of_few_records()
 /// What the part of a content that has all records under a key, or under a UUID, tells of it is what the whole content
 /// tells.
 pub fn part_answers_as_the_whole()
-    ensures answer { (o : Operations) (picks : List ℕ → Bool) (key : SliceKey) (place : Where) (answer : AnswerRecord)
+    ensures answer { (o : Operations) (picks : List ℕ → Bool) (key : SliceKey) (asked : Where) (answer : AnswerRecord)
         → ((r : List ℕ) → is_under (key_bytes key) r ≡ true → picks r ≡ true)
-        → IsAnswer (part o picks) key place answer ↔ IsAnswer o key place answer }
+        → IsAnswer (part o picks) key asked answer ↔ IsAnswer o key asked answer }
     ensures find { (o : Operations) (picks : List ℕ → Bool) (uuid : List ℕ) (rows : List FindRow)
         → ((r : List ℕ) → is_under uuid r ≡ true → picks r ≡ true)
         → IsFinds (part o picks) uuid rows ↔ IsFinds o uuid rows }

@@ -4,23 +4,26 @@ ghost use Rattle.std.specs.FinSet.{from_list};
 ghost use Rattle.archive_core.specs.Content.{IsContent};
 ghost use Rattle.archive_core.specs.InnerHeld.{IsHeld};
 ghost use Rattle.archive_core.specs.Lists.{IsList};
-ghost use Rattle.archive_core.specs.Record.{rec};
+ghost use Rattle.archive_core.specs.Record.{record_bytes};
 ghost use Rattle.archive_core.specs.declared.operations.Operation.{Operation};
 
-use crate::finding::{Finding, rows_of};
+use crate::finding::{HashedRecord, rows_of};
 use crate::{Archive, FindRow};
 use memory::{Heap, NoMemory};
 
 // The operations, each with its row, in the order of their records.
-fn gather<'a, A: Archive>(heap: Heap, archive: &'a A) -> Result<Vec<Finding<'a>, Heap>, NoMemory>
+fn gather<'a, A: Archive>(
+    heap: Heap,
+    archive: &'a A,
+) -> Result<Vec<HashedRecord<'a>, Heap>, NoMemory>
     ensures findings { IfOk result (λ findings. (operations : List Operation) → IsHeld operations
-        → from_list (map rec operations) ≡ A.content archive.now
+        → from_list (map record_bytes operations) ≡ A.content archive.now
         → findings.items ≡ operations) }
     ensures content { OnOk result (IsContent (A.content archive.now)) }
 {
     let mut findings = Vec::new(heap);
     'records: for index in 0..archive.len() {
-        findings.push(Finding::of(&archive.record_at(index)))?;
+        findings.push(HashedRecord::of(&archive.record_at(index)))?;
     }
     Ok(findings)
 }

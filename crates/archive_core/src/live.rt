@@ -27,7 +27,7 @@ impl<'a> Model for Asked<'a> {
 
 // What is kept of slices as they are counted: at most one of them is asked alone.
 #[derive(Drop)]
-pub(crate) enum Tally<'a> {
+pub(crate) enum Answering<'a> {
     Nothing,
     One(Asked<'a>),
     Several,
@@ -42,31 +42,31 @@ impl<'a> Asked<'a> {
     }
 
     // What the slice tells of a place.
-    pub(crate) fn own(&self, place: Where) -> Own<'a>
-        ensures { IsOwn self.now place (own_view result) }
+    pub(crate) fn own(&self, asked: Where) -> Own<'a>
+        ensures { IsOwn self.now asked (own_view result) }
     {
-        match file_address(self.slice, place) {
+        match file_address(self.slice, asked) {
             Some(address) => own_of(self.slice.nearest(address)),
             None => Own::NoSymbol,
         }
     }
 
     // The slice's digest and what it tells of a place.
-    pub(crate) fn row(&self, place: Where) -> (Digest, Own<'a>)
-        ensures { IsOwnRow place self.now (own_row result) }
+    pub(crate) fn row(&self, asked: Where) -> (Digest, Own<'a>)
+        ensures { IsOwnRow asked self.now (own_row result) }
     {
-        (self.slice.digest(), self.own(place))
+        (self.slice.digest(), self.own(asked))
     }
 }
 
-impl<'a> Tally<'a> {
+impl<'a> Answering<'a> {
     // The same with one slice more.
-    pub(crate) fn and(self, slice: Asked<'a>) -> Tally<'a>
+    pub(crate) fn and(self, slice: Asked<'a>) -> Answering<'a>
         ensures { (slices : List (List ℕ)) → IsTally self.entry slices → IsTally result (slices ++ slice.entry ∷ []) }
     {
         match self {
-            Tally::Nothing => Tally::One(slice),
-            Tally::One(_) | Tally::Several => Tally::Several,
+            Answering::Nothing => Answering::One(slice),
+            Answering::One(_) | Answering::Several => Answering::Several,
         }
     }
 }
@@ -96,10 +96,10 @@ fn own_of(found: Option<Found<'_>>) -> Own<'_>
 }
 
 /// The address in a slice's file that a place stands for.
-pub fn file_address(slice: &Slice, place: Where) -> Option<u64>
-    ensures { result ≡ file_address slice.now place }
+pub fn file_address(slice: &Slice, asked: Where) -> Option<u64>
+    ensures { result ≡ file_address slice.now asked }
 {
-    match place {
+    match asked {
         Where::File(address) => Some(address),
         Where::Loaded { load, address } => unslid(slice.image().text_base()?, load, address),
     }

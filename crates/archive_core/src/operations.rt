@@ -2,7 +2,7 @@
 ghost use Rattle.std.specs.Prelude.{◌≡◌, IfOk};
 ghost use Rattle.std.specs.Ordering.{nat_cmp};
 ghost use Rattle.std.specs.Cmp.Lexicographic.{slice_cmp};
-ghost use Rattle.archive_core.specs.Record.{rec, lent, operation_lent, admission, retirement_record};
+ghost use Rattle.archive_core.specs.Record.{record_bytes, lent_bytes, operation_lent, admission, retirement_record};
 ghost use Rattle.archive_core.specs.Find.{key_in};
 
 use crate::keys::compare_keys;
@@ -42,7 +42,7 @@ impl Operation {
 
     /// The operation, lent.
     pub fn lend(&self) -> Record<'_>
-        ensures record { lent result ≡ rec self.now }
+        ensures record { lent_bytes result ≡ record_bytes self.now }
         ensures operation { operation_lent result ≡ self.now }
     {
         match self {
@@ -72,7 +72,7 @@ impl Operation {
 
     /// Compares the records of two operations, byte by byte, without building them.
     pub fn compare(&self, other: &Operation) -> Ordering
-        ensures { result ≡ slice_cmp nat_cmp (rec self.now) (rec other.now) }
+        ensures { result ≡ slice_cmp nat_cmp (record_bytes self.now) (record_bytes other.now) }
     {
         match self {
             Operation::Admit(slice) => match other {
@@ -100,7 +100,7 @@ impl Operation {
 impl<'a> Record<'a> {
     /// Compares two records, byte by byte, without building them.
     pub fn compare(&self, other: &Record<'_>) -> Ordering
-        ensures { result ≡ slice_cmp nat_cmp (lent self.now) (lent other.now) }
+        ensures { result ≡ slice_cmp nat_cmp (lent_bytes self.now) (lent_bytes other.now) }
     {
         match self {
             Record::Admit(slice) => match other {

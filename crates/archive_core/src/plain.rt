@@ -7,7 +7,7 @@ ghost use Rattle.std.specs.Cmp.Lexicographic.{slice_cmp};
 ghost use Rattle.std.specs.List.{list_all, AllZip, AllByRecursion};
 ghost use Rattle.std.specs.List.Sorted.{IsPermutation, IsSortedBy, IsStrictlySortedBy, IsSearchInRange};
 ghost use Rattle.join_core.specs.InnerSearch.{IsFound};
-ghost use Rattle.archive_core.specs.Record.{rec, IsOperation};
+ghost use Rattle.archive_core.specs.Record.{record_bytes, IsOperation};
 ghost use Rattle.archive_core.specs.Content.{IsContent, IsTakenInPart, is_covered, changes};
 ghost use Rattle.archive_core.specs.Content.{with_record, with_records, joined};
 ghost use Rattle.archive_core.specs.InnerHeld.{IsHeld};
@@ -18,10 +18,12 @@ ghost use Rattle.archive_core.specs.Names.{name_view};
 ghost use Rattle.archive_core.specs.InnerNames.{names_of, names_among};
 
 use crate::covered::{Lent, drop_covered, drop_retired, retirement};
-use crate::finding::{Finding, rows_of};
-use crate::live::{Asked, Tally, answer_of_one, is_key, is_kind};
+use crate::finding::{HashedRecord, rows_of};
+use crate::live::{Answering, Asked, answer_of_one, is_key, is_kind};
 use crate::names::{has_name, put_in_order, rows_in};
-use crate::range::{Kind, is_companion, keep_digests_under, keep_each_table, under, under_uuid};
+use crate::range::{
+    RecordKind, is_companion, keep_digests_under, keep_each_table, under, under_uuid,
+};
 use crate::{
     Answer, Archive, Contents, Digest, FindRow, NameRow, Operation, Own, Record, Slice, SliceKey,
     Where,
@@ -51,14 +53,14 @@ impl Model for PlainArchive {
     ghost use Rattle.std.specs.Cmp.Lexicographic.{slice_cmp};
     ghost use Rattle.std.specs.FinSet as set;
     ghost use Rattle.std.specs.Coded.{coded_list, coded_ℕ};
-    ghost use Rattle.archive_core.specs.Record.{rec};
+    ghost use Rattle.archive_core.specs.Record.{record_bytes};
     ghost use Rattle.archive_core.specs.InnerHeld.{IsHeld};
 
     ghost Value = { set.FinSet (slice_cmp nat_cmp) };
 
     ghost coded = { set.code (coded_list coded_ℕ) };
 
-    ghost view = { λ archive. set.from_list (map rec archive.operations.items) };
+    ghost view = { λ archive. set.from_list (map record_bytes archive.operations.items) };
 
     ghost invariant = { λ archive. IsHeld archive.operations.items };
 }
@@ -69,18 +71,18 @@ const FEW: usize = 8;
 
 // Where an operation stands among others that ascend, or where it would go.
 pub(crate) fn search(operations: &[Operation], operation: &Operation) -> Result<usize, usize>
-    requires { IsStrictlySortedBy (slice_cmp nat_cmp) (map rec operations.now) }
+    requires { IsStrictlySortedBy (slice_cmp nat_cmp) (map record_bytes operations.now) }
     ensures bound { IsSearchInRange result (length operations.now) }
-    ensures found { IsFound (slice_cmp nat_cmp) (map rec operations.now) (rec operation.now) result }
+    ensures found { IsFound (slice_cmp nat_cmp) (map record_bytes operations.now) (record_bytes operation.now) result }
 {
     operations.binary_search_by(|held| held.compare(operation))
 }
 
 // The same, with the end tried first: operations that come in ascending order are not searched for.
 fn search_from_end(operations: &[Operation], operation: &Operation) -> Result<usize, usize>
-    requires { IsStrictlySortedBy (slice_cmp nat_cmp) (map rec operations.now) }
+    requires { IsStrictlySortedBy (slice_cmp nat_cmp) (map record_bytes operations.now) }
     ensures bound { IsSearchInRange result (length operations.now) }
-    ensures found { IsFound (slice_cmp nat_cmp) (map rec operations.now) (rec operation.now) result }
+    ensures found { IsFound (slice_cmp nat_cmp) (map record_bytes operations.now) (record_bytes operation.now) result }
 {
     if let Some(last) = operations.last() {
         if last.compare(operation).is_lt() {
@@ -93,7 +95,8 @@ fn search_from_end(operations: &[Operation], operation: &Operation) -> Result<us
 // Sorts operations by their records. Runs that ascend are merged, where there is memory for it.
 fn sort(operations: &mut Vec<Operation, Heap>)
     ensures permutation { IsPermutation operations.old.items operations.new.items }
-    ensures sorted { IsSortedBy (λ x y. is_lt (slice_cmp nat_cmp (rec x) (rec y))) operations.new.items }
+    ensures sorted { IsSortedBy (λ x y. is_lt (slice_cmp nat_cmp (record_bytes x)
+        (record_bytes y))) operations.new.items }
 {
     if operations.sort_by(|a, b| a.compare(b)).is_err() {
         operations.sort_unstable_by(|a, b| a.compare(b));
@@ -102,9 +105,9 @@ fn sort(operations: &mut Vec<Operation, Heap>)
 
 // Sorts operations by their records, and keeps each once.
 pub(crate) fn order(operations: &mut Vec<Operation, Heap>)
-    ensures ascending { IsStrictlySortedBy (slice_cmp nat_cmp) (map rec operations.new.items) }
-    ensures same { set.from_list {R = slice_cmp nat_cmp} (map rec operations.new.items)
-        ≡ set.from_list (map rec operations.old.items) }
+    ensures ascending { IsStrictlySortedBy (slice_cmp nat_cmp) (map record_bytes operations.new.items) }
+    ensures same { set.from_list {R = slice_cmp nat_cmp} (map record_bytes operations.new.items)
+        ≡ set.from_list (map record_bytes operations.old.items) }
     ensures are { AllByRecursion IsOperation operations.old.items → AllByRecursion IsOperation operations.new.items }
 {
     sort(operations);
@@ -171,7 +174,7 @@ impl PlainArchive {
         {
             return false;
         }
-        let slices = under(&self.operations, Kind::Admission, *key);
+        let slices = under(&self.operations, RecordKind::Admission, *key);
         match slices.len() {
             0 | 1 => false,
             2 => is_companion(&slices[0]) == is_companion(&slices[1]),
@@ -190,8 +193,8 @@ impl PlainArchive {
     /// Whether an operation is there, or admits a slice that a retirement covers: taking it would change nothing. A
     /// slice is hashed only where a retirement of its key stands.
     pub fn knows(&self, operation: &Operation) -> bool
-        ensures changes { changes self.now (rec operation.now) ≡ not result }
-        ensures same { result ≡ true → with_record self.now (rec operation.now) ≡ self.now }
+        ensures changes { changes self.now (record_bytes operation.now) ≡ not result }
+        ensures same { result ≡ true → with_record self.now (record_bytes operation.now) ≡ self.now }
     {
         self.lend().knows(operation, &mut 0)
     }
@@ -199,7 +202,8 @@ impl PlainArchive {
     // Whether the archive knows each of the operations: it is there, or covered.
     fn knows_each(&self, operations: &[Operation]) -> bool
         ensures knows { result
-            ≡ list_all (λ operation. set.contains self.now (rec operation) || is_covered self.now (rec operation))
+            ≡ list_all (λ operation. set.contains self.now (record_bytes operation) || is_covered self.now
+            (record_bytes operation))
             operations.now }
         ensures content { IsContent self.now }
     {
@@ -211,8 +215,8 @@ impl PlainArchive {
 
     // Takes an admission.
     fn admit(&mut self, slice: Slice) -> Result<bool, NoMemory>
-        ensures taken { OnOk result (self.new ≡ with_record self.old (rec (Admit slice))) }
-        ensures answer { IfOk result (λ changed. changed ≡ changes self.old (rec (Admit slice))) }
+        ensures taken { OnOk result (self.new ≡ with_record self.old (record_bytes (Admit slice))) }
+        ensures answer { IfOk result (λ changed. changed ≡ changes self.old (record_bytes (Admit slice))) }
         ensures refused { OnErr result (self.new ≡ self.old) }
     {
         if Lent::of(&self.operations).retires(&slice, &mut self.near) {
@@ -230,8 +234,8 @@ impl PlainArchive {
 
     // Takes a retirement. What it covers is dropped behind it, which is not refused.
     fn retire(&mut self, key: SliceKey, digest: Digest) -> Result<bool, NoMemory>
-        ensures taken { OnOk result (self.new ≡ with_record self.old (rec (Retire key digest))) }
-        ensures answer { IfOk result (λ changed. changed ≡ changes self.old (rec (Retire key digest))) }
+        ensures taken { OnOk result (self.new ≡ with_record self.old (record_bytes (Retire key digest))) }
+        ensures answer { IfOk result (λ changed. changed ≡ changes self.old (record_bytes (Retire key digest))) }
         ensures refused { OnErr result (self.new ≡ self.old) }
     {
         let retirement = retirement(key, digest);
@@ -247,13 +251,13 @@ impl PlainArchive {
 
     // Adds operations, each with its row.
     fn gather<'a>(
-        findings: &mut Vec<Finding<'a>, Heap>,
+        findings: &mut Vec<HashedRecord<'a>, Heap>,
         operations: &'a [Operation],
     ) -> Result<(), NoMemory>
         ensures { OnOk result (findings.new.items ≡ findings.old.items ++ operations.now) }
     {
         'operations: for operation in operations {
-            findings.push(Finding::of(&operation.lend()))?;
+            findings.push(HashedRecord::of(&operation.lend()))?;
         }
         Ok(())
     }
@@ -273,10 +277,10 @@ impl PlainArchive {
     }
 
     // The live slices of a key, companions or not, as far as one of them is asked alone.
-    fn tally<'a>(operations: &'a [Operation], key: &SliceKey, dsym: bool) -> Tally<'a>
+    fn tally<'a>(operations: &'a [Operation], key: &SliceKey, dsym: bool) -> Answering<'a>
         ensures { IsTally result (live_among key.now dsym operations.now) }
     {
-        let mut tally = Tally::Nothing;
+        let mut tally = Answering::Nothing;
         'operations: for operation in operations {
             if let Some(slice) = PlainArchive::live(operation, key, dsym) {
                 tally = tally.and(slice);
@@ -291,15 +295,15 @@ impl PlainArchive {
         operations: &'a [Operation],
         key: &SliceKey,
         dsym: bool,
-        place: Where,
+        asked: Where,
     ) -> Result<Vec<(Digest, Own<'a>), Heap>, NoMemory>
         ensures { IfOk result (λ rows.
-            AllZip (IsOwnRow place) (live_among key.now dsym operations.now) (map own_row rows.items)) }
+            AllZip (IsOwnRow asked) (live_among key.now dsym operations.now) (map own_row rows.items)) }
     {
         let mut rows = Vec::new(self.operations.allocator().clone()?);
         'operations: for operation in operations {
             if let Some(slice) = PlainArchive::live(operation, key, dsym) {
-                rows.push(slice.row(place))?;
+                rows.push(slice.row(asked))?;
             }
         }
         Ok(rows)
@@ -311,18 +315,20 @@ impl PlainArchive {
         operations: &'a [Operation],
         key: &SliceKey,
         dsym: bool,
-        tally: Tally<'a>,
-        place: Where,
+        tally: Answering<'a>,
+        asked: Where,
     ) -> Result<Answer<'a>, NoMemory>
         requires { IsTally tally (live_among key.now dsym operations.now) }
         ensures answer { IfOk result (λ answer.
-            IsAnswerOf place (live_among key.now dsym operations.now) (answer_view answer)) }
+            IsAnswerOf asked (live_among key.now dsym operations.now) (answer_view answer)) }
         ensures memory { OnErr result (2 ≤ length (live_among key.now dsym operations.now)) }
     {
         match tally {
-            Tally::Nothing => Ok(Answer::Unknown),
-            Tally::One(slice) => Ok(answer_of_one(slice.own(place))),
-            Tally::Several => Ok(Answer::Conflict(self.own_rows(operations, key, dsym, place)?)),
+            Answering::Nothing => Ok(Answer::Unknown),
+            Answering::One(slice) => Ok(answer_of_one(slice.own(asked))),
+            Answering::Several => Ok(Answer::Conflict(self.own_rows(
+                operations, key, dsym, asked,
+            )?)),
         }
     }
 
@@ -363,7 +369,7 @@ impl PlainArchive {
     // Copies of those operations that the archive does not know.
     fn copy_missing(&self, operations: &[Operation]) -> Result<Vec<Operation, Heap>, NoMemory>
         ensures { IfOk result (λ missing.
-            missing.items ≡ filter (λ operation. changes self.now (rec operation)) operations.now) }
+            missing.items ≡ filter (λ operation. changes self.now (record_bytes operation)) operations.now) }
     {
         let heap = self.operations.allocator();
         let mut missing = Vec::new(heap.clone()?);
@@ -381,8 +387,8 @@ impl PlainArchive {
     // Takes operations one after another.
     fn take_in_turn(&mut self, operations: Vec<Operation, Heap>) -> Result<(), NoMemory>
         requires { IsContent self.now }
-        ensures taken { OnOk result (self.new ≡ with_records self.old (map rec operations.items)) }
-        ensures refused { OnErr result (IsTakenInPart self.old (map rec operations.items) self.new) }
+        ensures taken { OnOk result (self.new ≡ with_records self.old (map record_bytes operations.items)) }
+        ensures refused { OnErr result (IsTakenInPart self.old (map record_bytes operations.items) self.new) }
     {
         'operations: for operation in operations {
             self.take(operation)?;
@@ -471,8 +477,8 @@ impl Archive for PlainArchive {
     }
 
     fn find(&self, uuid: &Uuid) -> Result<Vec<FindRow, Heap>, NoMemory> {
-        let retirements = under_uuid(&self.operations, Kind::Retirement, *uuid);
-        let admissions = under_uuid(&self.operations, Kind::Admission, *uuid);
+        let retirements = under_uuid(&self.operations, RecordKind::Retirement, *uuid);
+        let admissions = under_uuid(&self.operations, RecordKind::Admission, *uuid);
         let mut findings = Vec::new(self.operations.allocator().clone()?);
         PlainArchive::gather(&mut findings, retirements)?;
         PlainArchive::gather(&mut findings, admissions)?;
@@ -480,14 +486,14 @@ impl Archive for PlainArchive {
         rows_of(self.operations.allocator().clone()?, &findings)
     }
 
-    fn lookup(&self, key: &SliceKey, place: Where) -> Result<Answer<'_>, NoMemory> {
-        let admissions = under(&self.operations, Kind::Admission, *key);
+    fn lookup(&self, key: &SliceKey, asked: Where) -> Result<Answer<'_>, NoMemory> {
+        let admissions = under(&self.operations, RecordKind::Admission, *key);
         match PlainArchive::tally(admissions, key, true) {
-            Tally::Nothing => {
+            Answering::Nothing => {
                 let images = PlainArchive::tally(admissions, key, false);
-                self.answer_of(admissions, key, false, images, place)
+                self.answer_of(admissions, key, false, images, asked)
             }
-            companions => self.answer_of(admissions, key, true, companions, place),
+            companions => self.answer_of(admissions, key, true, companions, asked),
         }
     }
 

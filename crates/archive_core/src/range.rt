@@ -5,11 +5,11 @@ ghost use Rattle.std.specs.Cmp.Lexicographic.{slice_cmp};
 ghost use Rattle.std.specs.List.{AllByRecursion};
 ghost use Rattle.std.specs.List.Sorted.{IsStrictlySortedBy};
 ghost use Rattle.archive_core.specs.Key.{IsKey};
-ghost use Rattle.archive_core.specs.Record.{rec, IsOperation};
+ghost use Rattle.archive_core.specs.Record.{record_bytes, IsOperation};
 ghost use Rattle.archive_core.specs.InnerHeld.{IsHeld};
 ghost use Rattle.archive_core.specs.InnerRange.{front, front_of, scope_bytes, bytes_within};
 ghost use Rattle.archive_core.specs.InnerRange.{is_within, is_under, is_under_uuid};
-ghost use Rattle.archive_core.specs.declared.range.Kind.TheVariants.{Retirement};
+ghost use Rattle.archive_core.specs.declared.range.RecordKind.TheVariants.{Retirement};
 
 use crate::live::is_kind;
 use crate::{Operation, SliceKey, compare_keys};
@@ -19,7 +19,7 @@ use uuid::Uuid;
 
 // What an operation is. Retirements stand before admissions.
 #[derive(Clone, Copy)]
-pub(crate) enum Kind {
+pub(crate) enum RecordKind {
     Retirement,
     Admission,
 }
@@ -36,8 +36,8 @@ const STEPS: usize = 4;
 
 // Where the operations of a kind within a scope begin, and how many they are. They stand together. Where they would
 // stand behind all there is, that is seen at once, and else they are found by halving.
-pub(crate) fn place_of(operations: &[Operation], kind: Kind, scope: Scope) -> (usize, usize)
-    requires ascending { IsStrictlySortedBy (slice_cmp nat_cmp) (map rec operations.now) }
+pub(crate) fn range_of(operations: &[Operation], kind: RecordKind, scope: Scope) -> (usize, usize)
+    requires ascending { IsStrictlySortedBy (slice_cmp nat_cmp) (map record_bytes operations.now) }
     requires are { AllByRecursion IsOperation operations.now }
     ensures within { result.0 + result.1 ≤ length operations.now }
     ensures range { take result.1 (drop result.0 operations.now) ≡ filter (is_within kind scope) operations.now }
@@ -53,18 +53,22 @@ pub(crate) fn place_of(operations: &[Operation], kind: Kind, scope: Scope) -> (u
 }
 
 // The operations of a kind within a scope.
-fn within(operations: &[Operation], kind: Kind, scope: Scope) -> &[Operation]
+fn within(operations: &[Operation], kind: RecordKind, scope: Scope) -> &[Operation]
     requires { IsHeld operations.now }
     ensures { result.now ≡ filter (is_within kind scope) operations.now }
 {
-    let (start, count) = place_of(operations, kind, scope);
+    let (start, count) = range_of(operations, kind, scope);
     let (_, rest) = operations.split_at(start);
     let (within, _) = rest.split_at(count);
     within
 }
 
 // The operations of a kind under a key.
-pub(crate) fn under<'a>(operations: &'a [Operation], kind: Kind, key: SliceKey) -> &'a [Operation]
+pub(crate) fn under<'a>(
+    operations: &'a [Operation],
+    kind: RecordKind,
+    key: SliceKey,
+) -> &'a [Operation]
     requires { IsHeld operations.now }
     ensures range { result.now ≡ filter (is_under kind key) operations.now }
     ensures key { IsKey key }
@@ -74,24 +78,26 @@ pub(crate) fn under<'a>(operations: &'a [Operation], kind: Kind, key: SliceKey) 
 
 // Whether the retirements within a scope would go in at a place: what stands before it is below them, and what stands
 // from it on is above. Then none of them is there.
-fn is_gap(operations: &[Operation], place: usize, scope: &Scope) -> bool
+fn is_gap(operations: &[Operation], asked: usize, scope: &Scope) -> bool
     requires { IsHeld operations.now }
     ensures { result ≡ true → filter (is_within Retirement scope.now) operations.now ≡ [] }
 {
-    if place > operations.len() {
+    if asked > operations.len() {
         return false;
     }
-    if place > 0 && !compare(&operations[place - 1], Kind::Retirement, scope).is_lt() {
+    if asked > 0 && !compare(&operations[asked - 1], RecordKind::Retirement, scope).is_lt() {
         return false;
     }
-    if place < operations.len() && !compare(&operations[place], Kind::Retirement, scope).is_gt() {
+    if asked < operations.len()
+        && !compare(&operations[asked], RecordKind::Retirement, scope).is_gt()
+    {
         return false;
     }
     true
 }
 
-// Whether retirements of a key are there. They are looked for from the place on where those of another key were, so that
-// keys that ascend are found with few comparisons, and else by halving.
+// Whether retirements of a key are there. They are looked for from the place on where those of another key were, so
+// that keys that ascend are found with few comparisons, and else by halving.
 pub(crate) fn has_retirement(operations: &[Operation], near: &mut usize, key: SliceKey) -> bool
     requires { IsHeld operations.now }
     ensures none { result ≡ false → filter (is_under Retirement key) operations.now ≡ [] }
@@ -106,14 +112,14 @@ pub(crate) fn has_retirement(operations: &[Operation], near: &mut usize, key: Sl
     }
     *near = operations.partition_point(|operation| compare(
         operation,
-        Kind::Retirement,
+        RecordKind::Retirement,
         &scope,
     ).is_lt());
     !is_gap(operations, *near, &scope)
 }
 
 // The operations of a kind under a UUID, whatever the architecture.
-pub(crate) fn under_uuid(operations: &[Operation], kind: Kind, uuid: Uuid) -> &[Operation]
+pub(crate) fn under_uuid(operations: &[Operation], kind: RecordKind, uuid: Uuid) -> &[Operation]
     requires { IsHeld operations.now }
     ensures { result.now ≡ filter (is_under_uuid kind uuid) operations.now }
 {
@@ -125,7 +131,7 @@ pub(crate) fn keep_digests_under(operations: &mut [Operation], key: SliceKey)
     requires { IsHeld operations.old }
     ensures { operations.new ≡ operations.old }
 {
-    let (start, count) = place_of(operations, Kind::Admission, Scope::OfKey(key));
+    let (start, count) = range_of(operations, RecordKind::Admission, Scope::OfKey(key));
     let (_, rest) = operations.split_at_mut(start);
     let (under, _) = rest.split_at_mut(count);
     keep_each_digest(under);
@@ -159,14 +165,14 @@ pub(crate) fn is_companion(operation: &Operation) -> bool {
 }
 
 // Compares the kind and the key of an operation with a kind and a scope.
-fn compare(operation: &Operation, kind: Kind, scope: &Scope) -> Ordering
+fn compare(operation: &Operation, kind: RecordKind, scope: &Scope) -> Ordering
     ensures { result ≡ slice_cmp nat_cmp (front_of scope.now operation.now) (front kind scope.now) }
 {
     match (operation, kind) {
-        (Operation::Retire(key, _), Kind::Retirement) => compare_key(key, scope),
-        (Operation::Retire(_, _), Kind::Admission) => Ordering::Less,
-        (Operation::Admit(_), Kind::Retirement) => Ordering::Greater,
-        (Operation::Admit(slice), Kind::Admission) => compare_key(&slice.key(), scope),
+        (Operation::Retire(key, _), RecordKind::Retirement) => compare_key(key, scope),
+        (Operation::Retire(_, _), RecordKind::Admission) => Ordering::Less,
+        (Operation::Admit(_), RecordKind::Retirement) => Ordering::Greater,
+        (Operation::Admit(slice), RecordKind::Admission) => compare_key(&slice.key(), scope),
     }
 }
 

@@ -19,55 +19,55 @@ use std::marker::Model;
 
 // A key, in the order of its bytes.
 #[derive(Drop)]
-struct KeyPlace {
+struct OrderedKey {
     key: SliceKey,
 }
 
-impl Model for KeyPlace {
+impl Model for OrderedKey {
     ghost use Rattle.std.specs.Prelude.{ℕ, List};
     ghost use Rattle.archive_core.specs.Key.{key_bytes};
 
     ghost Value = { List ℕ };
 
-    ghost view = { λ place. key_bytes place.key };
+    ghost view = { λ asked. key_bytes asked.key };
 }
 
-impl KeyPlace {
+impl OrderedKey {
     // The place of a key.
-    fn of(key: SliceKey) -> KeyPlace
-        ensures place { result ≡ key_bytes key }
+    fn of(key: SliceKey) -> OrderedKey
+        ensures asked { result ≡ key_bytes key }
         ensures key { IsKey key }
     {
-        KeyPlace { key }
+        OrderedKey { key }
     }
 }
 
-impl PartialEq for KeyPlace {
+impl PartialEq for OrderedKey {
     ghost eq = { eq_by_cmp (slice_cmp nat_cmp) };
 
     ghost laws = { partial_equiv_from_equiv (eq_by_cmp_equiv nat_list_cmp_total) };
 
-    fn eq(&self, other: &KeyPlace) -> bool {
+    fn eq(&self, other: &OrderedKey) -> bool {
         self.cmp(other).is_eq()
     }
 }
 
-impl Eq for KeyPlace {
+impl Eq for OrderedKey {
     ghost laws = { eq_by_cmp_equiv nat_list_cmp_total };
 }
 
-impl PartialOrd for KeyPlace {
+impl PartialOrd for OrderedKey {
     ghost partial_cmp = { λ a b. Some (slice_cmp nat_cmp a b) };
 
     ghost laws = { partial_order_from_agreeing_total (slice_cmp nat_cmp) nat_list_cmp_total (λ _ _. refl)
         (λ _ _. refl) };
 
-    fn partial_cmp(&self, other: &KeyPlace) -> Option<Ordering> {
+    fn partial_cmp(&self, other: &OrderedKey) -> Option<Ordering> {
         Some(self.cmp(other))
     }
 }
 
-impl Ord for KeyPlace {
+impl Ord for OrderedKey {
     ghost cmp = { slice_cmp nat_cmp };
 
     ghost total = { nat_list_cmp_total };
@@ -76,7 +76,7 @@ impl Ord for KeyPlace {
 
     ghost matches_eq = { λ a b. refl };
 
-    fn cmp(&self, other: &KeyPlace) -> Ordering {
+    fn cmp(&self, other: &OrderedKey) -> Ordering {
         compare_keys(&self.key, &other.key)
     }
 }
@@ -148,7 +148,7 @@ impl Ord for Retired {
 // The retirements that came so far, and their keys.
 #[derive(Drop)]
 pub(crate) struct Seen {
-    keys: BTreeSet<KeyPlace, Heap>,
+    keys: BTreeSet<OrderedKey, Heap>,
     retired: BTreeSet<Retired, Heap>,
 }
 
@@ -185,9 +185,9 @@ impl Seen {
         ensures first { IfOk result (λ first.
             first ≡ not (set.contains self.old (retirement_record key.now digest.now.0))) }
     {
-        let place = KeyPlace::of(*key);
+        let asked = OrderedKey::of(*key);
         let retired = Retired::of(*key, *digest);
-        self.keys.insert(place)?;
+        self.keys.insert(asked)?;
         let first = self.retired.insert(retired)?;
         Ok(first)
     }
@@ -197,8 +197,8 @@ impl Seen {
         ensures { result
             ≡ set.contains self.now (retirement_record (key_of slice.now) (sha256 slice.now)) }
     {
-        let place = KeyPlace::of(slice.key());
-        if !self.keys.contains(&place) {
+        let asked = OrderedKey::of(slice.key());
+        if !self.keys.contains(&asked) {
             return false;
         }
         self.retired

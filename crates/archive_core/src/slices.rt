@@ -92,6 +92,14 @@ impl Beside {
 }
 
 impl<'a> CheckedSlice<'a> {
+    /// The slice of bytes that [`Slice::check`] has accepted, by what it found out of them.
+    pub fn of_checked(bytes: &'a [u8], facts: SliceFacts) -> CheckedSlice<'a>
+        requires { IsCheckedOf bytes.now facts }
+        ensures { result ≡ bytes.now }
+    {
+        CheckedSlice { bytes, facts }
+    }
+
     /// The bytes.
     pub fn bytes(&self) -> &'a [u8]
         ensures bytes { result.now ≡ self.now }

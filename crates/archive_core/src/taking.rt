@@ -1,7 +1,7 @@
 //! Taking many operations.
 ghost use Rattle.std.specs.Prelude.{◌≡◌, true, not, map, IfOk, OnOk, OnErr};
 ghost use Rattle.std.specs.List.{list_all};
-ghost use Rattle.archive_core.specs.Record.{rec};
+ghost use Rattle.archive_core.specs.Record.{record_bytes};
 ghost use Rattle.archive_core.specs.Content.{IsContent, IsTakenInPart, is_admission, with_records, new_among};
 
 use crate::parting::parts_of;
@@ -11,7 +11,7 @@ use memory::{Heap, NoMemory};
 
 // Whether the operation admits a slice.
 fn is_admission(operation: &Operation) -> bool
-    ensures { result ≡ is_admission (rec operation.now) }
+    ensures { result ≡ is_admission (record_bytes operation.now) }
 {
     match operation {
         Operation::Admit(_) => true,
@@ -21,14 +21,14 @@ fn is_admission(operation: &Operation) -> bool
 
 // Whether each of the operations admits a slice.
 fn are_admissions(operations: &[Operation]) -> bool
-    ensures { result ≡ list_all (λ operation. is_admission (rec operation)) operations.now }
+    ensures { result ≡ list_all (λ operation. is_admission (record_bytes operation)) operations.now }
 {
     operations.iter().all(|operation| is_admission(operation))
 }
 
 // Whether each of the operations is a retirement.
 fn are_retirements(operations: &[Operation]) -> bool
-    ensures { result ≡ list_all (λ operation. not (is_admission (rec operation))) operations.now }
+    ensures { result ≡ list_all (λ operation. not (is_admission (record_bytes operation))) operations.now }
 {
     operations.iter().all(|operation| !is_admission(operation))
 }
@@ -39,11 +39,11 @@ fn take_in_turn<A: Archive>(
     operations: Vec<Operation, Heap>,
 ) -> Result<u64, NoMemory>
     ensures taken { OnOk result
-        (A.content archive.new ≡ with_records (A.content archive.old) (map rec operations.items)) }
-    ensures counted { IfOk result (λ new. new ≡ new_among (A.content archive.old) (map rec operations.items)) }
+        (A.content archive.new ≡ with_records (A.content archive.old) (map record_bytes operations.items)) }
+    ensures counted { IfOk result (λ new. new ≡ new_among (A.content archive.old) (map record_bytes operations.items)) }
     ensures content { OnOk result (IsContent (A.content archive.new)) }
     ensures refused { OnErr result
-        (IsTakenInPart (A.content archive.old) (map rec operations.items) (A.content archive.new)) }
+        (IsTakenInPart (A.content archive.old) (map record_bytes operations.items) (A.content archive.new)) }
 {
     let _before = archive.len();
     let mut new = 0;
@@ -61,9 +61,9 @@ fn take_sorted<A: Archive + Drop>(
     mut operations: Vec<Operation, Heap>,
 ) -> Result<(), NoMemory>
     ensures taken { OnOk result
-        (A.content archive.new ≡ with_records (A.content archive.old) (map rec operations.items)) }
+        (A.content archive.new ≡ with_records (A.content archive.old) (map record_bytes operations.items)) }
     ensures refused { OnErr result
-        (IsTakenInPart (A.content archive.old) (map rec operations.items) (A.content archive.new)) }
+        (IsTakenInPart (A.content archive.old) (map record_bytes operations.items) (A.content archive.new)) }
 {
     let _before = archive.len();
     operations.sort_unstable_by(|a, b| a.compare(b));
@@ -78,12 +78,12 @@ fn take_admissions<A: Archive + Drop>(
     archive: &mut A,
     operations: Vec<Operation, Heap>,
 ) -> Result<u64, NoMemory>
-    requires { list_all (λ operation. is_admission (rec operation)) operations.items ≡ true }
+    requires { list_all (λ operation. is_admission (record_bytes operation)) operations.items ≡ true }
     ensures taken { OnOk result
-        (A.content archive.new ≡ with_records (A.content archive.old) (map rec operations.items)) }
-    ensures counted { IfOk result (λ new. new ≡ new_among (A.content archive.old) (map rec operations.items)) }
+        (A.content archive.new ≡ with_records (A.content archive.old) (map record_bytes operations.items)) }
+    ensures counted { IfOk result (λ new. new ≡ new_among (A.content archive.old) (map record_bytes operations.items)) }
     ensures refused { OnErr result
-        (IsTakenInPart (A.content archive.old) (map rec operations.items) (A.content archive.new)) }
+        (IsTakenInPart (A.content archive.old) (map record_bytes operations.items) (A.content archive.new)) }
 {
     let before = archive.len();
     take_sorted(archive, operations)?;
@@ -95,12 +95,12 @@ fn take_retirements<A: Archive + Drop>(
     archive: &mut A,
     mut operations: Vec<Operation, Heap>,
 ) -> Result<u64, NoMemory>
-    requires { list_all (λ operation. not (is_admission (rec operation))) operations.items ≡ true }
+    requires { list_all (λ operation. not (is_admission (record_bytes operation))) operations.items ≡ true }
     ensures taken { OnOk result
-        (A.content archive.new ≡ with_records (A.content archive.old) (map rec operations.items)) }
-    ensures counted { IfOk result (λ new. new ≡ new_among (A.content archive.old) (map rec operations.items)) }
+        (A.content archive.new ≡ with_records (A.content archive.old) (map record_bytes operations.items)) }
+    ensures counted { IfOk result (λ new. new ≡ new_among (A.content archive.old) (map record_bytes operations.items)) }
     ensures refused { OnErr result
-        (IsTakenInPart (A.content archive.old) (map rec operations.items) (A.content archive.new)) }
+        (IsTakenInPart (A.content archive.old) (map record_bytes operations.items) (A.content archive.new)) }
 {
     let _before = archive.len();
     order(&mut operations);
@@ -117,10 +117,10 @@ fn take_parts<A: Archive + Drop>(
     operations: Vec<Operation, Heap>,
 ) -> Result<u64, NoMemory>
     ensures taken { OnOk result
-        (A.content archive.new ≡ with_records (A.content archive.old) (map rec operations.items)) }
-    ensures counted { IfOk result (λ new. new ≡ new_among (A.content archive.old) (map rec operations.items)) }
+        (A.content archive.new ≡ with_records (A.content archive.old) (map record_bytes operations.items)) }
+    ensures counted { IfOk result (λ new. new ≡ new_among (A.content archive.old) (map record_bytes operations.items)) }
     ensures refused { OnErr result
-        (IsTakenInPart (A.content archive.old) (map rec operations.items) (A.content archive.new)) }
+        (IsTakenInPart (A.content archive.old) (map record_bytes operations.items) (A.content archive.new)) }
 {
     let _before = archive.len();
     let parts = parts_of(archive, operations)?;
@@ -144,10 +144,10 @@ pub fn take_each<A: Archive + Drop>(
     operations: Vec<Operation, Heap>,
 ) -> Result<u64, NoMemory>
     ensures taken { OnOk result
-        (A.content archive.new ≡ with_records (A.content archive.old) (map rec operations.items)) }
-    ensures counted { IfOk result (λ new. new ≡ new_among (A.content archive.old) (map rec operations.items)) }
+        (A.content archive.new ≡ with_records (A.content archive.old) (map record_bytes operations.items)) }
+    ensures counted { IfOk result (λ new. new ≡ new_among (A.content archive.old) (map record_bytes operations.items)) }
     ensures refused { OnErr result
-        (IsTakenInPart (A.content archive.old) (map rec operations.items) (A.content archive.new)) }
+        (IsTakenInPart (A.content archive.old) (map record_bytes operations.items) (A.content archive.new)) }
 {
     if are_admissions(&operations) {
         return take_admissions(archive, operations);

@@ -10,8 +10,8 @@ use Rattle.archive_core.specs.Content.{IsContent}
 use Rattle.archive_core.proofs.Made.{made_empty}
 use Rattle.archive_records.specs.Text.{written}
 use Rattle.exchange_model.specs.World.{Message, start}
-use Rattle.archive_exchange.specs.Keeping.{Keeping}
-use Rattle.archive_exchange.specs.Rehearsal.{IsSound, IsSite, Shows}
+use Rattle.archive_exchange.specs.SiteState.{SiteState}
+use Rattle.archive_exchange.specs.Rehearsal.{IsSound, IsSite, Represents}
 
 empty_content : IsContent set.empty
 empty_content = record { itself = made_empty; records = λ r h. absurd (true≢false (sym h ∙ contains-empty (slice_cmp nat_cmp) r)) }
@@ -19,7 +19,7 @@ empty_content = record { itself = made_empty; records = λ r h. absurd (true≢f
 no_message : (m : ℕ) (x : Message) → slice_get [] m ≡ Some x → IsSound x
 no_message m x h = cc
 
-pub none_shown : Shows [] [] start
+pub none_shown : Represents [] [] start
 none_shown = record {
   each = λ i site h. cc;
   sent = refl;
@@ -29,7 +29,7 @@ none_shown = record {
 }
 
 -- one empty site more
-pub shown_more : (sites : List Keeping) (site : Keeping) → Shows sites [] start → site ≡ record { held = set.empty; saved = written set.empty } → Shows (sites ++ site ∷ []) [] start
+pub shown_more : (sites : List SiteState) (site : SiteState) → Represents sites [] start → site ≡ record { held = set.empty; saved = written set.empty } → Represents (sites ++ site ∷ []) [] start
 shown_more sites site sh is = record {
   each = λ i s h. each sites i s (λ j t k. sh.each j t k) h;
   sent = refl;
@@ -39,16 +39,16 @@ shown_more sites site sh is = record {
 }
   where
     fresh : (i : ℕ) → IsSite start i site
-    fresh i = record { held = ap (λ (k : Keeping). k.held) is; saved = ap (λ (k : Keeping). k.saved) is }
+    fresh i = record { held = ap (λ (k : SiteState). k.held) is; saved = ap (λ (k : SiteState). k.saved) is }
 
     -- at the start all sites are alike, so that the number does not matter
-    each : (row : List Keeping) (i : ℕ) (s : Keeping) → ((j : ℕ) (t : Keeping) → slice_get row j ≡ Some t → IsSite start j t) → slice_get (row ++ site ∷ []) i ≡ Some s → IsSite start i s
-    each [] zero s all h = let P : Keeping → Type 0 = λ t. IsSite start zero t in let e : site ≡ s = cc in subst P e (fresh zero)
+    each : (row : List SiteState) (i : ℕ) (s : SiteState) → ((j : ℕ) (t : SiteState) → slice_get row j ≡ Some t → IsSite start j t) → slice_get (row ++ site ∷ []) i ≡ Some s → IsSite start i s
+    each [] zero s all h = let P : SiteState → Type 0 = λ t. IsSite start zero t in let e : site ≡ s = cc in subst P e (fresh zero)
     each [] (suc i) s all h = cc
     each (y ∷ row) zero s all h = all zero s h
     each (y ∷ row) (suc i) s all h =
         let r : IsSite start i s = each row i s (λ j t k. record { held = (all (suc j) t k).held; saved = (all (suc j) t k).saved }) h in
         record { held = r.held; saved = r.saved }
 
-pub one_longer : (xs ys : List Keeping) (x : Keeping) (n : ℕ) → ys ≡ xs ++ x ∷ [] → length xs ≡ n → length ys ≡ n + 1
+pub one_longer : (xs ys : List SiteState) (x : SiteState) (n : ℕ) → ys ≡ xs ++ x ∷ [] → length xs ≡ n → length ys ≡ n + 1
 one_longer xs ys x n e h = ap length e ∙ length-append xs (x ∷ []) ∙ ap (λ k. k + 1) h

@@ -69,11 +69,3 @@ has_parts_fat file e sound = record { kind = not_other (kind_of file) e; table =
 -- a slice begins as an image does
 pub valid_begins : (part : List ℕ) → IsValid part → true ≡ is_admissible part
 valid_begins part valid = sym (slice_begins part valid)
-
--- and what does so in an accepted file is a slice, so what is none does not
-pub faulty_begins : (part : List ℕ) → (is_admissible part ≡ true → IsValid part) → (IsValid part → ⊥) → false ≡ is_admissible part
-faulty_begins part slice none = by (is_admissible part) refl
-  where
-    by : (b : Bool) → is_admissible part ≡ b → false ≡ b
-    by true e = absurd (none (slice e))
-    by false e = refl

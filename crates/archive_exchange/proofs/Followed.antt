@@ -20,9 +20,9 @@ use Rattle.exchange_model.specs.World as model
 use Rattle.exchange_model.specs.World.{World, Event, File, Fault, Message, Content, Summary, site_of, records, fault_at_site, fault_of, effect, answer, unless, refused_or, happens, outcome, with_saved}
 use Rattle.archive_exchange.specs.File.{IsAcceptedFile, IsTakeFault, admissible, parts}
 use Rattle.archive_exchange.specs.Take.{admitted}
-use Rattle.archive_exchange.specs.Keeping.{Keeping, Says, HasJoined, IsDeliverFault, IsReplyFault, RepliesTo}
-use Rattle.archive_exchange.specs.Seen.{IsFile, Tells, fault_told, part_record}
-use Rattle.archive_exchange.specs.Rehearsal.{message_text, IsSound, Shows}
+use Rattle.archive_exchange.specs.SiteState.{SiteState, IsArchiveTextOf, HasJoined, IsDeliverFault, IsReplyFault, RepliesTo}
+use Rattle.archive_exchange.specs.ModelEvent.{IsFile, OutcomeIs, fault_told, part_record}
+use Rattle.archive_exchange.specs.Rehearsal.{message_text, IsSound, Represents}
 use Rattle.archive_exchange.specs.InnerEvents.{Follows, Happens}
 use Rattle.archive_exchange.specs.declared.fault.TakeFault.{TakeFault}
 use Rattle.archive_exchange.specs.declared.fault.TakeFault.TheVariants.{OutOfMemory}
@@ -37,26 +37,26 @@ use Rattle.archive_exchange.proofs.Gained.{content_gain, content_joined, recorde
 use Rattle.archive_exchange.proofs.Magics.{gives_no_summary, not_an_archive, not_a_summary}
 
 -- an event of a site that is there is refused for what is at the site alone
-here : (e : Event TakeFault) (sites : List Keeping) (old : Keeping) (w : World) → slice_get sites (site_of e) ≡ Some old → fault_of (length sites) w e ≡ fault_at_site w.messages e
+here : (e : Event TakeFault) (sites : List SiteState) (old : SiteState) (w : World) → slice_get sites (site_of e) ≡ Some old → fault_of (length sites) w e ≡ fault_at_site w.messages e
 here e sites old w at =
     ap (λ b. if b then fault_at_site w.messages e else Some model.NoSite) (lt-ltb (site_of e) (length sites) (slice_get_within sites (site_of e) old at))
 
-record Allowed (e : Event TakeFault) (old new : Keeping) (texts later : List (List ℕ)) (a : Outcome) (sites : List Keeping) (w : World) : Type 0 where
+record Allowed (e : Event TakeFault) (old new : SiteState) (texts later : List (List ℕ)) (a : Outcome) (sites : List SiteState) (w : World) : Type 0 where
   none : fault_at_site w.messages e ≡ None
-  shows : Shows (slice_set sites (site_of e) new) later (effect w e)
-  tells : Tells a (answer w e)
+  shows : Represents (slice_set sites (site_of e) new) later (effect w e)
+  tells : OutcomeIs a (answer w e)
 
-follow_by : (e : Event TakeFault) (old new : Keeping) (texts later : List (List ℕ)) (a : Outcome)
-    → ((sites : List Keeping) (w : World) → slice_get sites (site_of e) ≡ Some old → Shows sites texts w → Allowed e old new texts later a sites w)
+follow_by : (e : Event TakeFault) (old new : SiteState) (texts later : List (List ℕ)) (a : Outcome)
+    → ((sites : List SiteState) (w : World) → slice_get sites (site_of e) ≡ Some old → Represents sites texts w → Allowed e old new texts later a sites w)
     → Follows e old new texts later a
 follow_by e old new texts later a all = record {
   shows = λ sites w at sh.
       let p : Allowed e old new texts later a sites w = all sites w at sh in
-      let P : World → Type 0 = λ v. Shows (slice_set sites (site_of e) new) later v in
+      let P : World → Type 0 = λ v. Represents (slice_set sites (site_of e) new) later v in
       subst P (sym (ap (λ f. unless f w (effect w e)) (here e sites old w at ∙ p.none))) p.shows;
   tells = λ sites w at sh.
       let p : Allowed e old new texts later a sites w = all sites w at sh in
-      let P : model.Outcome TakeFault → Type 0 = λ v. Tells a v in
+      let P : model.Outcome TakeFault → Type 0 = λ v. OutcomeIs a v in
       subst P (sym (ap (λ f. refused_or f (answer w e)) (here e sites old w at ∙ p.none))) p.tells;
 }
 
@@ -65,31 +65,31 @@ record Barred (e : Event TakeFault) (a : Outcome) (w : World) : Type 0 where
   told : a ≡ told.Refused (fault_told why)
   is : fault_at_site w.messages e ≡ Some why
 
-refuse_by : (e : Event TakeFault) (old : Keeping) (texts : List (List ℕ)) (a : Outcome)
-    → ((sites : List Keeping) (w : World) → slice_get sites (site_of e) ≡ Some old → Shows sites texts w → Barred e a w)
+refuse_by : (e : Event TakeFault) (old : SiteState) (texts : List (List ℕ)) (a : Outcome)
+    → ((sites : List SiteState) (w : World) → slice_get sites (site_of e) ≡ Some old → Represents sites texts w → Barred e a w)
     → Follows e old old texts texts a
 refuse_by e old texts a all = record {
   shows = λ sites w at sh.
-      let P : World → Type 0 = λ v. Shows (slice_set sites (site_of e) old) texts v in
-      let Q : List Keeping → Type 0 = λ s. Shows s texts w in
+      let P : World → Type 0 = λ v. Represents (slice_set sites (site_of e) old) texts v in
+      let Q : List SiteState → Type 0 = λ s. Represents s texts w in
       subst P (sym (ap (λ g. unless g w (effect w e)) (here e sites old w at ∙ (all sites w at sh).is))) (subst Q (sym (set_same sites (site_of e) old at)) sh);
   tells = λ sites w at sh.
       let p : Barred e a w = all sites w at sh in
-      let P : Outcome → Type 0 = λ b. Tells b (outcome (length sites) w e) in
+      let P : Outcome → Type 0 = λ b. OutcomeIs b (outcome (length sites) w e) in
       subst P (sym p.told) (p.why, refl, ap (λ g. refused_or g (answer w e)) (here e sites old w at ∙ p.is));
 }
 
 -- the number of the messages is that of their texts
-sent_number : (sites : List Keeping) (texts : List (List ℕ)) (w : World) → Shows sites texts w → length texts ≡ length w.messages
+sent_number : (sites : List SiteState) (texts : List (List ℕ)) (w : World) → Represents sites texts w → length texts ≡ length w.messages
 sent_number sites texts w sh = ap length sh.sent ∙ length-map w.messages message_text
 
-unchanged : (sites : List Keeping) (i : ℕ) (old : Keeping) (texts : List (List ℕ)) (w : World) → slice_get sites i ≡ Some old → Shows sites texts w → Shows (slice_set sites i old) texts w
-unchanged sites i old texts w at sh = let Q : List Keeping → Type 0 = λ s. Shows s texts w in subst Q (sym (set_same sites i old at)) sh
+unchanged : (sites : List SiteState) (i : ℕ) (old : SiteState) (texts : List (List ℕ)) (w : World) → slice_get sites i ≡ Some old → Represents sites texts w → Represents (slice_set sites i old) texts w
+unchanged sites i old texts w at sh = let Q : List SiteState → Type 0 = λ s. Represents s texts w in subst Q (sym (set_same sites i old at)) sh
 
-pub took : (i : ℕ) (file : List ℕ) (is : File TakeFault) (texts : List (List ℕ)) (old new : Keeping) (a : Outcome)
+pub took : (i : ℕ) (file : List ℕ) (is : File TakeFault) (texts : List (List ℕ)) (old new : SiteState) (a : Outcome)
     → ((f : TakeFault) → IsAcceptedFile file → IsTakeFault file f → f ≡ OutOfMemory)
     → IsFile file is → IsAcceptedFile file → new.held ≡ admitted old.held (admissible file) → new.saved ≡ old.saved
-    → ((answer : model.Outcome TakeFault) → answer ≡ model.Took (model.rows old.held (map part_record (parts file))) → Tells a answer)
+    → ((answer : model.Outcome TakeFault) → answer ≡ model.Took (model.rows old.held (map part_record (parts file))) → OutcomeIs a answer)
     → Follows (model.Take i is) old new texts texts a
 took i file (Err f) texts old new a none is accepted held saved tell = absurd (is.1 (none f accepted is.0))
 took i file (Ok given) texts old new a none is accepted held saved tell =
@@ -104,7 +104,7 @@ took i file (Ok given) texts old new a none is accepted held saved tell =
     }))
 
 -- the fault of a file that is refused
-pub not_taken : (i : ℕ) (file : List ℕ) (is : File TakeFault) (texts : List (List ℕ)) (old : Keeping) (f : TakeFault)
+pub not_taken : (i : ℕ) (file : List ℕ) (is : File TakeFault) (texts : List (List ℕ)) (old : SiteState) (f : TakeFault)
     → ((g : TakeFault) → IsAcceptedFile file → IsTakeFault file g → g ≡ OutOfMemory)
     → ((g h : TakeFault) → IsTakeFault file g → IsTakeFault file h → g ≡ h)
     → IsFile file is → IsTakeFault file f → f ≢ OutOfMemory → Follows (model.Take i is) old old texts texts (told.Refused (fault.File f))
@@ -113,7 +113,7 @@ not_taken i file (Err g) texts old f none one is refused other =
     record { why = model.FileRefused g; told = ap (λ h. told.Refused (fault.File h)) (one f g refused is.0); is = refl })
 not_taken i file (Ok given) texts old f none one is refused other = absurd (other (none f is.0 refused))
 
-pub retired : (i : ℕ) (r : List ℕ) (texts : List (List ℕ)) (old new : Keeping) (b : Bool)
+pub retired : (i : ℕ) (r : List ℕ) (texts : List (List ℕ)) (old new : SiteState) (b : Bool)
     → IsRecord r → new.held ≡ with_record old.held r → new.saved ≡ old.saved → b ≡ changes old.held r
     → Follows (model.Retire i r) old new texts texts (told.Retired b)
 retired i r texts old new b is held saved answer = follow_by (model.Retire i r) old new texts texts (told.Retired b) (λ sites w at sh.
@@ -123,9 +123,9 @@ retired i r texts old new b is held saved answer = follow_by (model.Retire i r) 
       tells = ap (λ (c : Bool). model.Retired c) (sym (answer ∙ ap (λ o. changes o r) (sh.each i old at).held));
     })
 
-pub sent_full : (i : ℕ) (old : Keeping) (texts later : List (List ℕ)) → later ≡ texts ++ written old.held ∷ [] → Follows (model.Full i) old old texts later (told.Sent (length texts))
+pub sent_full : (i : ℕ) (old : SiteState) (texts later : List (List ℕ)) → later ≡ texts ++ written old.held ∷ [] → Follows (model.Full i) old old texts later (told.Sent (length texts))
 sent_full i old texts later is = follow_by (model.Full i) old old texts later (told.Sent (length texts)) (λ sites w at sh.
-    let P : List (List ℕ) → Type 0 = λ t. Shows (slice_set sites i old) t (model.with_sent w (Content (w.held i))) in
+    let P : List (List ℕ) → Type 0 = λ t. Represents (slice_set sites i old) t (model.with_sent w (Content (w.held i))) in
     record {
       none = refl;
       shows = subst P (ap (λ o. texts ++ written o ∷ []) (sym (sh.each i old at).held) ∙ sym is)
@@ -133,10 +133,10 @@ sent_full i old texts later is = follow_by (model.Full i) old old texts later (t
       tells = ap (λ (n : ℕ). model.Sent n) (sym (sent_number sites texts w sh));
     })
 
-pub asked : (i : ℕ) (old new : Keeping) (texts later : List (List ℕ)) → new.held ≡ old.held → new.saved ≡ written old.held → later ≡ texts ++ summary_text (summary old.held) ∷ []
+pub asked : (i : ℕ) (old new : SiteState) (texts later : List (List ℕ)) → new.held ≡ old.held → new.saved ≡ written old.held → later ≡ texts ++ summary_text (summary old.held) ∷ []
     → Follows (model.Ask i) old new texts later (told.Sent (length texts))
 asked i old new texts later held saved is = follow_by (model.Ask i) old new texts later (told.Sent (length texts)) (λ sites w at sh.
-    let P : List (List ℕ) → Type 0 = λ t. Shows (slice_set sites i new) t (model.with_sent (with_saved w i) (Summary (summary (w.held i)))) in
+    let P : List (List ℕ) → Type 0 = λ t. Represents (slice_set sites i new) t (model.with_sent (with_saved w i) (Summary (summary (w.held i)))) in
     record {
       none = refl;
       shows = subst P (ap (λ o. texts ++ summary_text (summary o) ∷ []) (sym (sh.each i old at).held) ∙ sym is)
@@ -145,15 +145,15 @@ asked i old new texts later held saved is = follow_by (model.Ask i) old new text
     })
 
 -- a reply to a message that is there
-replied_to : (i m : ℕ) (old : Keeping) (texts later : List (List ℕ)) (text reply : List ℕ) (sites : List Keeping) (w : World)
-    → slice_get sites i ≡ Some old → Shows sites texts w → RepliesTo text old.held reply → later ≡ texts ++ reply ∷ []
+replied_to : (i m : ℕ) (old : SiteState) (texts later : List (List ℕ)) (text reply : List ℕ) (sites : List SiteState) (w : World)
+    → slice_get sites i ≡ Some old → Represents sites texts w → RepliesTo text old.held reply → later ≡ texts ++ reply ∷ []
     → (x : Message) → slice_get w.messages m ≡ Some x → text ≡ message_text x → IsSound x
     → Allowed (model.Reply i m) old old texts later (told.Sent (length texts)) sites w
 replied_to i m old texts later text reply sites w at sh replies is (Content o) there same sound = absurd (gives_no_summary o (written o) replies.named (inl refl) (sym same ∙ replies.names.is))
 replied_to i m old texts later text reply sites w at sh replies is (Summary s) there same sound =
     let named : replies.named ≡ s = replies.alone s (record { entries = sound; is = same }) in
-    let P : List (List ℕ) → Type 0 = λ t. Shows (slice_set sites i old) t (model.with_sent w (Content (delta (w.held i) (model.entries_of (model.message_or (slice_get w.messages m)))))) in
-    let Q : Option Message → Type 0 = λ x. Shows (slice_set sites i old) (texts ++ written (delta (w.held i) (model.entries_of (model.message_or x))) ∷ []) (model.with_sent w (Content (delta (w.held i) (model.entries_of (model.message_or x))))) in
+    let P : List (List ℕ) → Type 0 = λ t. Represents (slice_set sites i old) t (model.with_sent w (Content (delta (w.held i) (model.entries_of (model.message_or (slice_get w.messages m)))))) in
+    let Q : Option Message → Type 0 = λ x. Represents (slice_set sites i old) (texts ++ written (delta (w.held i) (model.entries_of (model.message_or x))) ∷ []) (model.with_sent w (Content (delta (w.held i) (model.entries_of (model.message_or x))))) in
     record {
       none = ap (λ x. model.reply_fault {F = TakeFault} x) there;
       shows = subst P
@@ -165,7 +165,7 @@ replied_to i m old texts later text reply sites w at sh replies is (Summary s) t
       tells = ap (λ (n : ℕ). model.Sent n) (sym (sent_number sites texts w sh));
     }
 
-pub replied : (i m : ℕ) (old : Keeping) (texts later : List (List ℕ)) (text reply : List ℕ) → slice_get texts m ≡ Some text → RepliesTo text old.held reply → later ≡ texts ++ reply ∷ []
+pub replied : (i m : ℕ) (old : SiteState) (texts later : List (List ℕ)) (text reply : List ℕ) → slice_get texts m ≡ Some text → RepliesTo text old.held reply → later ≡ texts ++ reply ∷ []
     → Follows (model.Reply i m) old old texts later (told.Sent (length texts))
 replied i m old texts later text reply got replies is = follow_by (model.Reply i m) old old texts later (told.Sent (length texts)) (λ sites w at sh.
     let x : IsMessage w m text = message_at sites texts w m text sh got in
@@ -183,30 +183,30 @@ not_replied_to w i m text f refused (Content o) there same sound =
     }
 not_replied_to w i m text f refused (Summary s) there same sound = absurd (refused.2 (s, record { entries = sound; is = same }))
 
-pub not_replied : (i m : ℕ) (old : Keeping) (texts : List (List ℕ)) (text : List ℕ) (f : RecordFault) → slice_get texts m ≡ Some text → IsReplyFault text (reply.NotASummary f)
+pub not_replied : (i m : ℕ) (old : SiteState) (texts : List (List ℕ)) (text : List ℕ) (f : RecordFault) → slice_get texts m ≡ Some text → IsReplyFault text (reply.NotASummary f)
     → Follows (model.Reply i m) old old texts texts (told.Refused (fault.NotASummary f))
 not_replied i m old texts text f got refused = refuse_by (model.Reply i m) old texts (told.Refused (fault.NotASummary f)) (λ sites w at sh.
     let x : IsMessage w m text = message_at sites texts w m text sh got in
     not_replied_to w i m text f refused x.message x.is x.text_is x.sound)
 
 -- no such message
-pub no_reply : (i m : ℕ) (old : Keeping) (texts : List (List ℕ)) → slice_get texts m ≡ None → Follows (model.Reply i m) old old texts texts (told.Refused fault.NoMessage)
+pub no_reply : (i m : ℕ) (old : SiteState) (texts : List (List ℕ)) → slice_get texts m ≡ None → Follows (model.Reply i m) old old texts texts (told.Refused fault.NoMessage)
 no_reply i m old texts none = refuse_by (model.Reply i m) old texts (told.Refused fault.NoMessage) (λ sites w at sh.
     record { why = model.NoMessage; told = refl; is = ap (λ x. model.reply_fault {F = TakeFault} x) (no_message_at sites texts w m sh none) })
 
-pub no_delivery : (i m : ℕ) (old : Keeping) (texts : List (List ℕ)) → slice_get texts m ≡ None → Follows (model.Deliver i m) old old texts texts (told.Refused fault.NoMessage)
+pub no_delivery : (i m : ℕ) (old : SiteState) (texts : List (List ℕ)) → slice_get texts m ≡ None → Follows (model.Deliver i m) old old texts texts (told.Refused fault.NoMessage)
 no_delivery i m old texts none = refuse_by (model.Deliver i m) old texts (told.Refused fault.NoMessage) (λ sites w at sh.
     record { why = model.NoMessage; told = refl; is = ap (λ x. model.deliver_fault {F = TakeFault} x) (no_message_at sites texts w m sh none) })
 
 -- a delivery of a message that is there
-delivered_at : (i m : ℕ) (old new : Keeping) (texts : List (List ℕ)) (text : List ℕ) (sites : List Keeping) (w : World)
-    → slice_get sites i ≡ Some old → Shows sites texts w → HasJoined text old new
+delivered_at : (i m : ℕ) (old new : SiteState) (texts : List (List ℕ)) (text : List ℕ) (sites : List SiteState) (w : World)
+    → slice_get sites i ≡ Some old → Represents sites texts w → HasJoined text old new
     → (x : Message) → slice_get w.messages m ≡ Some x → text ≡ message_text x → IsSound x
     → Allowed (model.Deliver i m) old new texts texts told.Delivered sites w
 delivered_at i m old new texts text sites w at sh joins (Summary s) there same sound = absurd (gives_no_summary joins.message text s joins.gives.is same)
 delivered_at i m old new texts text sites w at sh joins (Content o) there same sound =
     let is : joins.message ≡ o = one_content text joins.message o joins.gives.content sound joins.gives.is (inl same) in
-    let Q : Option Message → Type 0 = λ x. Shows (slice_set sites i new) texts (model.with_held w i (joined (w.held i) (model.operations_of (model.message_or x)))) in
+    let Q : Option Message → Type 0 = λ x. Represents (slice_set sites i new) texts (model.with_held w i (joined (w.held i) (model.operations_of (model.message_or x)))) in
     record {
       none = ap (λ x. model.deliver_fault {F = TakeFault} x) there;
       shows = subst Q (sym there) (shows_held sites texts w i old new (joined (w.held i) o) at sh
@@ -214,7 +214,7 @@ delivered_at i m old new texts text sites w at sh joins (Content o) there same s
       tells = refl;
     }
 
-pub delivered : (i m : ℕ) (old new : Keeping) (texts : List (List ℕ)) (text : List ℕ) → slice_get texts m ≡ Some text → HasJoined text old new → Follows (model.Deliver i m) old new texts texts told.Delivered
+pub delivered : (i m : ℕ) (old new : SiteState) (texts : List (List ℕ)) (text : List ℕ) → slice_get texts m ≡ Some text → HasJoined text old new → Follows (model.Deliver i m) old new texts texts told.Delivered
 delivered i m old new texts text got joins = follow_by (model.Deliver i m) old new texts texts told.Delivered (λ sites w at sh.
     let x : IsMessage w m text = message_at sites texts w m text sh got in
     delivered_at i m old new texts text sites w at sh joins x.message x.is x.text_is x.sound)
@@ -231,17 +231,17 @@ not_delivered_at w i m text f refused (Summary s) there same sound =
     }
 not_delivered_at w i m text f refused (Content o) there same sound = absurd (refused.2 (o, record { content = sound; is = inl same }))
 
-pub not_delivered : (i m : ℕ) (old : Keeping) (texts : List (List ℕ)) (text : List ℕ) (f : RecordFault) → slice_get texts m ≡ Some text → IsDeliverFault text (deliver.Refused f)
+pub not_delivered : (i m : ℕ) (old : SiteState) (texts : List (List ℕ)) (text : List ℕ) (f : RecordFault) → slice_get texts m ≡ Some text → IsDeliverFault text (deliver.Refused f)
     → Follows (model.Deliver i m) old old texts texts (told.Refused (fault.Refused f))
 not_delivered i m old texts text f got refused = refuse_by (model.Deliver i m) old texts (told.Refused (fault.Refused f)) (λ sites w at sh.
     let x : IsMessage w m text = message_at sites texts w m text sh got in
     not_delivered_at w i m text f refused x.message x.is x.text_is x.sound)
 
-pub saves : (i : ℕ) (old new : Keeping) (texts : List (List ℕ)) → new.held ≡ old.held → new.saved ≡ written old.held → Follows (model.Save i) old new texts texts told.Saved
+pub saves : (i : ℕ) (old new : SiteState) (texts : List (List ℕ)) → new.held ≡ old.held → new.saved ≡ written old.held → Follows (model.Save i) old new texts texts told.Saved
 saves i old new texts held saved = follow_by (model.Save i) old new texts texts told.Saved (λ sites w at sh.
     record { none = refl; shows = shows_saved sites texts w i old new at sh held saved; tells = refl })
 
-pub stops : (i : ℕ) (old new : Keeping) (texts : List (List ℕ)) → Says old.saved new.held → new.saved ≡ old.saved → Follows (model.Stop i) old new texts texts told.Stopped
+pub stops : (i : ℕ) (old new : SiteState) (texts : List (List ℕ)) → IsArchiveTextOf old.saved new.held → new.saved ≡ old.saved → Follows (model.Stop i) old new texts texts told.Stopped
 stops i old new texts says saved = follow_by (model.Stop i) old new texts texts told.Stopped (λ sites w at sh.
     record {
       none = refl;
@@ -250,18 +250,18 @@ stops i old new texts says saved = follow_by (model.Stop i) old new texts texts 
     })
 
 -- among sites
-pub happens_at : (e : Event TakeFault) (old new : Keeping) (texts later : List (List ℕ)) (a : Outcome) (sites others : List Keeping)
+pub happens_at : (e : Event TakeFault) (old new : SiteState) (texts later : List (List ℕ)) (a : Outcome) (sites others : List SiteState)
     → Follows e old new texts later a → slice_get sites (site_of e) ≡ Some old → others ≡ slice_set sites (site_of e) new → Happens e sites others texts later a
 happens_at e old new texts later a sites others follows at is =
-    let P : List Keeping → Type 0 = λ s. Happens e sites s texts later a in
+    let P : List SiteState → Type 0 = λ s. Happens e sites s texts later a in
     subst P (sym is) (record {
       shows = λ w sh. follows.shows sites w at sh;
       tells = λ w sh. follows.tells sites w at sh;
     })
 
-pub happens_nowhere : (e : Event TakeFault) (texts : List (List ℕ)) (sites : List Keeping) → length sites ≤ site_of e → Happens e sites sites texts texts (told.Refused fault.NoSite)
+pub happens_nowhere : (e : Event TakeFault) (texts : List (List ℕ)) (sites : List SiteState) → length sites ≤ site_of e → Happens e sites sites texts texts (told.Refused fault.NoSite)
 happens_nowhere e texts sites out = record {
-  shows = λ w sh. let P : World → Type 0 = λ v. Shows sites texts v in subst P (sym (ap (λ g. unless g w (effect w e)) (no_site w))) sh;
+  shows = λ w sh. let P : World → Type 0 = λ v. Represents sites texts v in subst P (sym (ap (λ g. unless g w (effect w e)) (no_site w))) sh;
   tells = λ w sh. (model.NoSite, refl, ap (λ g. refused_or g (answer w e)) (no_site w));
 }
   where
@@ -269,12 +269,12 @@ happens_nowhere e texts sites out = record {
     no_site w = ap (λ b. if b then fault_at_site w.messages e else Some model.NoSite) (le-ltb (site_of e) (length sites) out)
 
 -- the same, told by an equal outcome
-pub follows_as : (e : Event TakeFault) (old new : Keeping) (texts later : List (List ℕ)) (a b : Outcome) → b ≡ a → Follows e old new texts later a → Follows e old new texts later b
+pub follows_as : (e : Event TakeFault) (old new : SiteState) (texts later : List (List ℕ)) (a b : Outcome) → b ≡ a → Follows e old new texts later a → Follows e old new texts later b
 follows_as e old new texts later a b is follows = let P : Outcome → Type 0 = λ x. Follows e old new texts later x in subst P (sym is) follows
 
 -- the same, where the site stays as it was
-pub kept_as : (e : Event TakeFault) (old new : Keeping) (texts later : List (List ℕ)) (a : Outcome) → new ≡ old → Follows e old old texts later a → Follows e old new texts later a
-kept_as e old new texts later a is follows = let P : Keeping → Type 0 = λ k. Follows e old k texts later a in subst P (sym is) follows
+pub kept_as : (e : Event TakeFault) (old new : SiteState) (texts later : List (List ℕ)) (a : Outcome) → new ≡ old → Follows e old old texts later a → Follows e old new texts later a
+kept_as e old new texts later a is follows = let P : SiteState → Type 0 = λ k. Follows e old k texts later a in subst P (sym is) follows
 
 pub deliver_ne : (d : DeliverFault) (f : RecordFault) → d ≡ deliver.Refused f → d ≢ deliver.OutOfMemory
 deliver_ne d f e q = cc

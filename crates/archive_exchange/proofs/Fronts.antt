@@ -1,6 +1,6 @@
 -- The first parts of a file taken, one more at a time.
 use Rattle.std.proofs.Common.{◌≡◌, ℕ, zero, suc, ◌+◌, Bool, true, cond, Result, Ok, Err, List, [], ◌∷◌, ◌++◌, length, take, drop, Some, slice_get, refl, sym, ap, ◌∙◌, subst, arith, add-one, length-append}
-use Rattle.std.specs.Prelude.{All, OnErr, filter}
+use Rattle.std.specs.Prelude.{OnErr, filter}
 use Rattle.std.proofs.lemmas.List.{take-append-drop, take_all}
 use Rattle.std.proofs.lemmas.List.Elements.{filter-append}
 use Rattle.std.proofs.Math.Seq.{take-append_seam}
@@ -8,12 +8,10 @@ use Rattle.fat_slices.specs.Kind.{kind_of, is_fat}
 use Rattle.fat_slices.specs.Slices.{slices}
 use Rattle.fat_slices.specs.declared.file_kind.FileKind.TheVariants.{Thin}
 use Rattle.archive_core.specs.Content.{Operations}
-use Rattle.archive_core.specs.Valid.{IsValid}
-use Rattle.archive_exchange.specs.File.{is_admissible, parts, admissible, IsAcceptedFile}
+use Rattle.archive_exchange.specs.File.{is_admissible, parts, admissible}
 use Rattle.archive_exchange.specs.Take.{admitted, taken_of, taken_rows, HoldsFirstParts}
 use Rattle.archive_exchange.specs.declared.taken.Taken.{Taken}
 use Rattle.archive_exchange.proofs.FileKinds.{thin_begins, parts_thin, parts_fat}
-use Rattle.archive_exchange.proofs.Files.{kept_is}
 use Rattle.archive_exchange.proofs.Rows.{admitted-append, taken_row, taken_rows-append}
 
 -- the first i parts are taken, and these are their rows
@@ -78,10 +76,6 @@ module _ (file u : List ℕ) (fat : is_fat (kind_of file) ≡ true) (bytes : u �
   slices_are : slices u ≡ parts file
   slices_are = ap slices bytes ∙ sym (parts_fat file fat)
 
-  pub valid_slice : (i : ℕ) (x : List ℕ) → IsAcceptedFile file → slice_get (slices u) i ≡ Some x → is_admissible x ≡ true → IsValid x
-  valid_slice i x accepted is begins =
-      kept_is IsValid (slices u) i x (subst (λ (xs : List (List ℕ)). All IsValid (filter is_admissible xs)) (sym slices_are) accepted.valid) is begins
-
   pub stopped_before : (i : ℕ) (old mid new : Operations) (rows : List Taken) → IsTaking (slices u) i old mid rows → new ≡ mid → HoldsFirstParts file old new
   stopped_before i old mid new rows before same = in_part file (slices u) i old new slices_are (same ∙ before.content)
 
@@ -99,10 +93,6 @@ module _ (file u : List ℕ) (fat : is_fat (kind_of file) ≡ true) (bytes : u �
 
 -- of a thin file
 module _ (file : List ℕ) (thin : kind_of file ≡ Thin) where
-  pub valid_thin : IsAcceptedFile file → IsValid file
-  valid_thin accepted =
-      kept_is IsValid (parts file) 0 file accepted.valid (ap (λ (xs : List (List ℕ)). slice_get xs 0) (parts_thin file thin)) (sym (thin_begins file thin))
-
   pub thin_content : (x : List ℕ) (old new : Operations) → x ≡ file → new ≡ admitted old (x ∷ []) → new ≡ admitted old (admissible file)
   thin_content x old new is new_is =
       new_is ∙ ap (λ (y : List ℕ). admitted old (y ∷ [])) is

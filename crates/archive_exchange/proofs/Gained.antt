@@ -1,5 +1,5 @@
 -- What a site gains are records of operations, and what a file's rows tell.
-use Rattle.std.proofs.Common.{◌≡◌, ℕ, zero, suc, ◌<◌, Bool, true, false, ◌||◌, List, [], ◌∷◌, map, slice_get, slice_index_or, refl, sym, ap, ◌∙◌, if◌then◌else◌, arith, inl}
+use Rattle.std.proofs.Common.{◌≡◌, ℕ, zero, suc, ◌<◌, Bool, true, false, List, [], ◌∷◌, map, slice_get, slice_index_or, refl, sym, ap, ◌∙◌, if◌then◌else◌, arith, inl}
 use Rattle.std.specs.Prelude.{filter, cond}
 use Rattle.std.specs.List.{All, AllByRecursion}
 use Rattle.std.specs.declared.option.Option.TheVariants.{None, Some}
@@ -23,7 +23,7 @@ use Rattle.exchange_model.proofs.Content.{taken_gain}
 use Rattle.exchange_model.proofs.Kept.{either}
 use Rattle.archive_exchange.specs.File.{IsAcceptedFile, is_admissible, admissible, parts}
 use Rattle.archive_exchange.specs.Take.{admitted, taken_of, taken_rows}
-use Rattle.archive_exchange.specs.Seen.{part_record, row_told}
+use Rattle.archive_exchange.specs.ModelEvent.{part_record, row_told}
 use Rattle.archive_exchange.specs.InnerEvents.{IsRecorded}
 use Rattle.archive_exchange.specs.declared.taken.Taken.TheVariants as taken
 use Rattle.archive_exchange.proofs.Files.{kept_is}

@@ -1,5 +1,6 @@
 pub mod FileKinds
 pub mod Files
+pub mod Found
 pub mod Accepting
 pub mod Rows
 pub mod Fronts

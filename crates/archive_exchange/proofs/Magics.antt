@@ -13,7 +13,7 @@ use Rattle.archive_records.specs.Text.{written, old_written, IsArchiveOf, summar
 use Rattle.archive_records.specs.Fault.{IsFault, IsSummaryFault}
 use Rattle.archive_records.proofs.Exact.{one_fault}
 use Rattle.archive_records.proofs.Magics.{is_bad}
-use Rattle.archive_exchange.specs.Seen.{other_magic}
+use Rattle.archive_exchange.specs.ModelEvent.{other_magic}
 
 apart : (a b : ℕ) → a ≡ b → a ≡ 65 → b ≡ 83 → ⊥
 apart a b e p q = omega arith

@@ -4,7 +4,7 @@ use Rattle.std.specs.declared.result.Result.TheVariants.{Ok, Err}
 use Rattle.archive_core.specs.Record.{retirement_record}
 use Rattle.exchange_model.specs.World as model
 use Rattle.archive_exchange.specs.File.{IsAcceptedFile, IsTakeFault, parts}
-use Rattle.archive_exchange.specs.Seen.{Seen, IsFile, IsSeen, AreSeen, part_record}
+use Rattle.archive_exchange.specs.ModelEvent.{ModelEvent, IsFile, IsSeen, AreSeen, part_record}
 use Rattle.archive_exchange.specs.InnerEvents.{SeenFile}
 use Rattle.archive_exchange.specs.declared.fault.TakeFault.{TakeFault}
 use Rattle.archive_exchange.specs.declared.fault.TakeFault.TheVariants.{OutOfMemory}
@@ -18,7 +18,7 @@ module _ (decide : (file : List ℕ) → IsAcceptedFile file ⊎ ((f : TakeFault
     | inr faulty ↦ (Err faulty.0, (faulty.2, faulty.1))
   ]
 
-  event_is : (event : Event) → (seen : Seen) × IsSeen event seen
+  event_is : (event : Event) → (seen : ModelEvent) × IsSeen event seen
   event_is (Take site file) = let f = file_is file.items in (model.Take site f.0, (f.0, f.1, refl))
   event_is (Retire site key digest) = (model.Retire site (retirement_record key digest.0), refl)
   event_is (Full site) = (model.Full site, refl)
@@ -28,7 +28,7 @@ module _ (decide : (file : List ℕ) → IsAcceptedFile file ⊎ ((f : TakeFault
   event_is (Save site) = (model.Save site, refl)
   event_is (Stop site) = (model.Stop site, refl)
 
-  pub events_are : (events : List Event) → (seen : List Seen) × AreSeen events seen
+  pub events_are : (events : List Event) → (seen : List ModelEvent) × AreSeen events seen
   events_are [] = ([], tt)
   events_are (event ∷ events) = ((event_is event).0 ∷ (events_are events).0, ((event_is event).1, (events_are events).1))
 
@@ -39,7 +39,7 @@ module _ (one : (file : List ℕ) (f g : TakeFault) → IsTakeFault file f → I
   one_file file (Err f) (Ok b) p q = absurd (p.1 (none file f q.0 p.0))
   one_file file (Err f) (Err g) p q = ap (λ x. Err x) (one file f g p.0 q.0)
 
-  one_event : (event : Event) (a b : Seen) → IsSeen event a → IsSeen event b → a ≡ b
+  one_event : (event : Event) (a b : ModelEvent) → IsSeen event a → IsSeen event b → a ≡ b
   one_event (Take site file) a b p q = p.2 ∙ ap (λ (f : SeenFile). model.Take site f) (one_file file.items p.0 q.0 p.1 q.1) ∙ sym q.2
   one_event (Retire site key digest) a b p q = p ∙ sym q
   one_event (Full site) a b p q = p ∙ sym q
@@ -49,7 +49,7 @@ module _ (one : (file : List ℕ) (f g : TakeFault) → IsTakeFault file f → I
   one_event (Save site) a b p q = p ∙ sym q
   one_event (Stop site) a b p q = p ∙ sym q
 
-  pub one_list : (events : List Event) (a b : List Seen) → AreSeen events a → AreSeen events b → a ≡ b
+  pub one_list : (events : List Event) (a b : List ModelEvent) → AreSeen events a → AreSeen events b → a ≡ b
   one_list [] [] [] p q = refl
   one_list [] [] (y ∷ b) p q = absurd q
   one_list [] (x ∷ a) b p q = absurd p

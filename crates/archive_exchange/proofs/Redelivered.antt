@@ -4,7 +4,7 @@ use Rattle.std.specs.FinSet.{union}
 use Rattle.archive_core.specs.Content.{Operations, IsContent, IsBelow, joined}
 use Rattle.archive_core.proofs.Made.{made_again, made_antisymmetric, below_transitive, below_left, below_right, joined_below}
 use Rattle.archive_records.proofs.Versions.{one_content}
-use Rattle.archive_exchange.specs.Keeping.{Keeping, Says, Gives, IsBetween, HasJoined, HasJoinedInPart}
+use Rattle.archive_exchange.specs.SiteState.{SiteState, IsArchiveTextOf, Gives, IsBetween, HasJoined, HasJoinedInPart}
 
 -- a content on the way joins to the same
 joined_again : (o p mid : Operations) → IsBetween o mid (joined o p) → joined mid p ≡ joined o p
@@ -20,20 +20,20 @@ pub one_message : (text : List ℕ) (o p : Operations) → Gives text o → Give
 one_message text o p a b = one_content text o p a.content b.content a.is b.is
 
 -- what a site saved gives what it begins again with, and is written of it
-pub begun_again : (old : Keeping) (held : Operations) (saved text : List ℕ) (o : Operations) → record { held = held; saved = saved } ≡ old → (p : Operations) × Says saved p → text ≡ saved → Gives text o → Says old.saved o
+pub begun_again : (old : SiteState) (held : Operations) (saved text : List ℕ) (o : Operations) → record { held = held; saved = saved } ≡ old → (p : Operations) × IsArchiveTextOf saved p → text ≡ saved → Gives text o → IsArchiveTextOf old.saved o
 begun_again old held saved text o is says same gives =
     let e : says.0 ≡ o = one_message text says.0 o (record { content = says.1.content; is = inl (same ∙ says.1.is) }) gives in
-    subst (λ (k : Keeping). Says k.saved o) is (subst (Says saved) e says.1)
+    subst (λ (k : SiteState). IsArchiveTextOf k.saved o) is (subst (IsArchiveTextOf saved) e says.1)
 
-pub above_old : (text : List ℕ) (old mid : Keeping) → HasJoinedInPart text old mid → IsBelow old.held mid.held
+pub above_old : (text : List ℕ) (old mid : SiteState) → HasJoinedInPart text old mid → IsBelow old.held mid.held
 above_old text old mid part = part.held.above_old
 
-pub below_asked : (text : List ℕ) (old mid new : Keeping) → HasJoinedInPart text old mid → HasJoined text old new → IsBelow mid.held new.held
+pub below_asked : (text : List ℕ) (old mid new : SiteState) → HasJoinedInPart text old mid → HasJoined text old new → IsBelow mid.held new.held
 below_asked text old mid new part whole =
     subst (IsBelow mid.held) (ap (joined old.held) (one_message text part.message whole.message part.gives whole.gives) ∙ sym whole.held)
     part.held.below_new
 
-pub asked_again : (text : List ℕ) (old mid new : Keeping) → IsContent old.held → HasJoinedInPart text old mid → HasJoined text mid new → HasJoined text old new
+pub asked_again : (text : List ℕ) (old mid new : SiteState) → IsContent old.held → HasJoinedInPart text old mid → HasJoined text mid new → HasJoined text old new
 asked_again text old mid new is part rest = record {
   message = part.message;
   gives = part.gives;

@@ -15,10 +15,10 @@ use Rattle.exchange_model.specs.World.{World, Event, Take, Retire, Full, Ask, Re
 use Rattle.exchange_model.specs.Reached.{is_accepted, senders}
 use Rattle.exchange_model.specs.Issued.{issues, AreRecords}
 use Rattle.exchange_model.proofs.Between.{and_left}
-use Rattle.archive_exchange.specs.Keeping.{Keeping}
-use Rattle.archive_exchange.specs.Seen.{IsSeen, AreSeen, Tells}
+use Rattle.archive_exchange.specs.SiteState.{SiteState}
+use Rattle.archive_exchange.specs.ModelEvent.{IsSeen, AreSeen, OutcomeIs}
 use Rattle.archive_exchange.specs.InnerEvents.{IsRecorded, Happens, HasRun}
-use Rattle.archive_exchange.specs.Rehearsal.{Shows}
+use Rattle.archive_exchange.specs.Rehearsal.{Represents}
 use Rattle.archive_exchange.specs.Alike.{AreAlike}
 use Rattle.archive_exchange.specs.declared.event.Event as code
 use Rattle.archive_exchange.specs.declared.event.Outcome as answered
@@ -42,7 +42,7 @@ seen_at (x ∷ events) (y ∷ seen) (suc i) event all at =
     let r : SeenAt seen i event = seen_at events seen i event all.1 at in
     record { e = r.e; at = r.at; is = r.is }
 
-zip_push : (xs : List answered.Outcome) (ys : List (Outcome TakeFault)) (x : answered.Outcome) (y : Outcome TakeFault) → AllZip Tells xs ys → Tells x y → AllZip Tells (xs ++ x ∷ []) (ys ++ y ∷ [])
+zip_push : (xs : List answered.Outcome) (ys : List (Outcome TakeFault)) (x : answered.Outcome) (y : Outcome TakeFault) → AllZip OutcomeIs xs ys → OutcomeIs x y → AllZip OutcomeIs (xs ++ x ∷ []) (ys ++ y ∷ [])
 zip_push [] [] x y all is = (is, tt)
 zip_push [] (b ∷ ys) x y all is = absurd all
 zip_push (a ∷ xs) [] x y all is = absurd all
@@ -74,14 +74,14 @@ module _ (sites : ℕ) (events : List (Event TakeFault)) where
         r (sym (ap (λ o. set.contains (issues o) r) there) ∙ has)
   ]
 
-pub none_run : (sites : ℕ) (events : List (Event TakeFault)) (kept : List Keeping) (texts : List (List ℕ)) (told : List answered.Outcome) → texts ≡ [] → told ≡ [] → Shows kept [] start → HasRun sites events 0 kept texts told
+pub none_run : (sites : ℕ) (events : List (Event TakeFault)) (kept : List SiteState) (texts : List (List ℕ)) (told : List answered.Outcome) → texts ≡ [] → told ≡ [] → Represents kept [] start → HasRun sites events 0 kept texts told
 none_run sites events kept texts told no_text no_answer sh =
     let P : List (List ℕ) → Type 0 = λ t. HasRun sites events 0 kept t told in
     let Q : List answered.Outcome → Type 0 = λ a. HasRun sites events 0 kept [] a in
     subst P (sym no_text) (subst Q (sym no_answer) (record { shows = sh; tells = tt; recorded = λ k r le. absurd (omega arith) }))
 
 -- one event more
-pub run_next : (sites : ℕ) (code_events : List code.Event) (events : List (Event TakeFault)) (i : ℕ) (event : code.Event) (kept others : List Keeping) (texts later : List (List ℕ)) (told after : List answered.Outcome) (answer : answered.Outcome)
+pub run_next : (sites : ℕ) (code_events : List code.Event) (events : List (Event TakeFault)) (i : ℕ) (event : code.Event) (kept others : List SiteState) (texts later : List (List ℕ)) (told after : List answered.Outcome) (answer : answered.Outcome)
     → AreSeen code_events events → slice_get code_events i ≡ Some event → length kept ≡ sites → HasRun sites events i kept texts told
     → ((e : Event TakeFault) → IsSeen event e → Happens e kept others texts later answer)
     → ((e : Event TakeFault) → IsSeen event e → site_of e < length kept → IsRecorded e)
@@ -91,11 +91,11 @@ run_next sites code_events events i event kept others texts later told after ans
     let r : SeenAt events i event = seen_at code_events events i event all at in
     let h : Happens r.e kept others texts later answer = happened r.e r.is in
     let P : ℕ → Type 0 = λ n. HasRun sites events n others later after in
-    let Q : Option (Event TakeFault) → Type 0 = λ o. Shows others later (stepped sites (state sites events i) o) in
-    let R : ℕ → Type 0 = λ n. Shows others later (happens n (state sites events i) r.e) in
-    let S : Option (Event TakeFault) → Type 0 = λ o. AllZip Tells after (outcomes sites events i ++ outcome_of sites (state sites events i) o) in
-    let T : List answered.Outcome → Type 0 = λ a. AllZip Tells a (outcomes sites events i ++ outcome sites (state sites events i) r.e ∷ []) in
-    let U : ℕ → Type 0 = λ n. Tells answer (outcome n (state sites events i) r.e) in
+    let Q : Option (Event TakeFault) → Type 0 = λ o. Represents others later (stepped sites (state sites events i) o) in
+    let R : ℕ → Type 0 = λ n. Represents others later (happens n (state sites events i) r.e) in
+    let S : Option (Event TakeFault) → Type 0 = λ o. AllZip OutcomeIs after (outcomes sites events i ++ outcome_of sites (state sites events i) o) in
+    let T : List answered.Outcome → Type 0 = λ a. AllZip OutcomeIs a (outcomes sites events i ++ outcome sites (state sites events i) r.e ∷ []) in
+    let U : ℕ → Type 0 = λ n. OutcomeIs answer (outcome n (state sites events i) r.e) in
     let V : ℕ → Type 0 = λ n. site_of r.e < n → IsRecorded r.e in
     subst P (sym (add-one i)) (record {
       shows = subst Q (sym r.at) (subst R number (h.shows (state sites events i) run.shows));
@@ -104,7 +104,7 @@ run_next sites code_events events i event kept others texts later told after ans
     })
 
 -- each issued operation is a record
-pub records_of : (sites : ℕ) (events : List (Event TakeFault)) (kept : List Keeping) (texts : List (List ℕ)) (told : List answered.Outcome) → HasRun sites events (length events) kept texts told → AreRecords sites events
+pub records_of : (sites : ℕ) (events : List (Event TakeFault)) (kept : List SiteState) (texts : List (List ℕ)) (told : List answered.Outcome) → HasRun sites events (length events) kept texts told → AreRecords sites events
 records_of sites events kept texts told run r issued = elim (cases_lt issued.number (length events)) [
   | inl lt ↦ run.recorded issued.number r (omega arith) issued.accepted issued.gives
   | inr ge ↦ absurd (true≢false (sym issued.accepted ∙ ap (λ o. is_accepted sites events (senders sites events issued.number) o) (slice_get_past events issued.number ge)))
@@ -115,20 +115,20 @@ alike o p is e =
     let P : Operations → Type 0 = λ q. AreAlike o q in
     subst P e (record {
       text = (written o, record { content = is; is = refl }, record { content = is; is = refl });
-      lookups = λ key place answer. (λ h. h, λ h. h);
+      lookups = λ key asked answer. (λ h. h, λ h. h);
       finds = λ uuid rows. (λ h. h, λ h. h);
       names = λ name rows. (λ h. h, λ h. h);
     })
 
 -- what a site holds is what is held at its number
-pub held_at : (kept : List Keeping) (texts : List (List ℕ)) (w : World) (i : ℕ) (site : Keeping) → Shows kept texts w → slice_get kept i ≡ Some site → site.held ≡ w.held i
+pub held_at : (kept : List SiteState) (texts : List (List ℕ)) (w : World) (i : ℕ) (site : SiteState) → Represents kept texts w → slice_get kept i ≡ Some site → site.held ≡ w.held i
 held_at kept texts w i site sh at = (sh.each i site at).held
 
 -- all events
-pub run_end : (sites : ℕ) (events : List (Event TakeFault)) (n : ℕ) (kept others : List Keeping) (texts later : List (List ℕ)) (told : List answered.Outcome)
+pub run_end : (sites : ℕ) (events : List (Event TakeFault)) (n : ℕ) (kept others : List SiteState) (texts later : List (List ℕ)) (told : List answered.Outcome)
     → HasRun sites events n kept texts told → n ≡ length events → others ≡ kept → later ≡ texts → HasRun sites events (length events) others later told
 run_end sites events n kept others texts later told run all same also =
     let P : ℕ → Type 0 = λ k. HasRun sites events k others later told in
-    let Q : List Keeping → Type 0 = λ s. HasRun sites events n s later told in
+    let Q : List SiteState → Type 0 = λ s. HasRun sites events n s later told in
     let R : List (List ℕ) → Type 0 = λ t. HasRun sites events n kept t told in
     subst P all (subst Q (sym same) (subst R (sym also) run))

@@ -11,8 +11,8 @@ use Rattle.std.proofs.lemmas.List.{map-append}
 use Rattle.archive_core.specs.Content.{Operations, IsContent}
 use Rattle.archive_records.specs.Text.{written}
 use Rattle.exchange_model.specs.World.{World, Message, updated, with_held, with_saved, with_sent}
-use Rattle.archive_exchange.specs.Keeping.{Keeping}
-use Rattle.archive_exchange.specs.Rehearsal.{message_text, IsSound, IsSite, Shows}
+use Rattle.archive_exchange.specs.SiteState.{SiteState}
+use Rattle.archive_exchange.specs.Rehearsal.{message_text, IsSound, IsSite, Represents}
 
 -- a list with one element set
 other : {X : Type 0} (xs : List X) (i j : ℕ) (x y : X) → j ≢ i → slice_get (slice_set xs i x) j ≡ Some y → slice_get xs j ≡ Some y
@@ -56,14 +56,14 @@ record IsElsewhere (w v : World) (j : ℕ) : Type 0 where
   held : v.held j ≡ w.held j
   saved : v.saved j ≡ w.saved j
 
-each_by : (sites : List Keeping) (w v : World) (i : ℕ) (new : Keeping)
-    → ((j : ℕ) (site : Keeping) → slice_get sites j ≡ Some site → IsSite w j site) → IsSite v i new → ((j : ℕ) → j ≢ i → IsElsewhere w v j)
-    → (j : ℕ) (site : Keeping) → slice_get (slice_set sites i new) j ≡ Some site → IsSite v j site
+each_by : (sites : List SiteState) (w v : World) (i : ℕ) (new : SiteState)
+    → ((j : ℕ) (site : SiteState) → slice_get sites j ≡ Some site → IsSite w j site) → IsSite v i new → ((j : ℕ) → j ≢ i → IsElsewhere w v j)
+    → (j : ℕ) (site : SiteState) → slice_get (slice_set sites i new) j ≡ Some site → IsSite v j site
 each_by sites w v i new each here elsewhere j site h = elim (j == i) as (λ b. (j == i) ≡ b → IsSite v j site) [
   | true ↦ λ e.
       let at : j ≡ i = eqb-true j i e in
       let P : ℕ → Type 0 = λ k. slice_get (slice_set sites i new) k ≡ Some site in
-      let Q : Keeping → Type 0 = λ s. IsSite v i s in
+      let Q : SiteState → Type 0 = λ s. IsSite v i s in
       let R : ℕ → Type 0 = λ k. IsSite v k site in
       subst R (sym at) (subst Q (same sites i new site (subst P at h)) here)
   | false ↦ λ e.
@@ -72,8 +72,8 @@ each_by sites w v i new each here elsewhere j site h = elim (j == i) as (λ b. (
       record { held = is.held ∙ sym (elsewhere j ne).held; saved = is.saved ∙ ap written (sym (elsewhere j ne).saved) }
 ] refl
 
-pub shows_held : (sites : List Keeping) (texts : List (List ℕ)) (w : World) (i : ℕ) (old new : Keeping) (o : Operations)
-    → slice_get sites i ≡ Some old → Shows sites texts w → new.held ≡ o → new.saved ≡ old.saved → IsContent o → Shows (slice_set sites i new) texts (with_held w i o)
+pub shows_held : (sites : List SiteState) (texts : List (List ℕ)) (w : World) (i : ℕ) (old new : SiteState) (o : Operations)
+    → slice_get sites i ≡ Some old → Represents sites texts w → new.held ≡ o → new.saved ≡ old.saved → IsContent o → Represents (slice_set sites i new) texts (with_held w i o)
 shows_held sites texts w i old new o at sh held saved is = record {
   each = each_by sites w (with_held w i o) i new sh.each
       (record { held = held ∙ sym (updated_same w.held i o); saved = saved ∙ (sh.each i old at).saved })
@@ -84,8 +84,8 @@ shows_held sites texts w i old new o at sh held saved is = record {
   sound = sh.sound;
 }
 
-pub shows_saved : (sites : List Keeping) (texts : List (List ℕ)) (w : World) (i : ℕ) (old new : Keeping)
-    → slice_get sites i ≡ Some old → Shows sites texts w → new.held ≡ old.held → new.saved ≡ written old.held → Shows (slice_set sites i new) texts (with_saved w i)
+pub shows_saved : (sites : List SiteState) (texts : List (List ℕ)) (w : World) (i : ℕ) (old new : SiteState)
+    → slice_get sites i ≡ Some old → Represents sites texts w → new.held ≡ old.held → new.saved ≡ written old.held → Represents (slice_set sites i new) texts (with_saved w i)
 shows_saved sites texts w i old new at sh held saved = record {
   each = each_by sites w (with_saved w i) i new sh.each
       (record {
@@ -106,7 +106,7 @@ sound_more [] m all is (suc k) x h = cc
 sound_more (y ∷ ms) m all is zero x h = all zero x h
 sound_more (y ∷ ms) m all is (suc k) x h = sound_more ms m (λ j. all (suc j)) is k x h
 
-pub shows_sent : (sites : List Keeping) (texts : List (List ℕ)) (w : World) (m : Message) → Shows sites texts w → IsSound m → Shows sites (texts ++ message_text m ∷ []) (with_sent w m)
+pub shows_sent : (sites : List SiteState) (texts : List (List ℕ)) (w : World) (m : Message) → Represents sites texts w → IsSound m → Represents sites (texts ++ message_text m ∷ []) (with_sent w m)
 shows_sent sites texts w m sh is = record {
   each = λ i site h. record { held = (sh.each i site h).held; saved = (sh.each i site h).saved };
   sent = ap (λ t. t ++ message_text m ∷ []) sh.sent ∙ sym (map-append message_text w.messages (m ∷ []));
@@ -122,7 +122,7 @@ pub record IsMessage (w : World) (m : ℕ) (text : List ℕ) : Type 0 where
   pub text_is : text ≡ message_text message
   pub sound : IsSound message
 
-pub message_at : (sites : List Keeping) (texts : List (List ℕ)) (w : World) (m : ℕ) (text : List ℕ) → Shows sites texts w → slice_get texts m ≡ Some text → IsMessage w m text
+pub message_at : (sites : List SiteState) (texts : List (List ℕ)) (w : World) (m : ℕ) (text : List ℕ) → Represents sites texts w → slice_get texts m ≡ Some text → IsMessage w m text
 message_at sites texts w m text sh h = by (slice_get w.messages m) refl (sym h ∙ ap (λ l. slice_get l m) sh.sent ∙ slice_get-map message_text w.messages m)
   where
     by : (o : Option Message) → slice_get w.messages m ≡ o → Some text ≡ option_map message_text o → IsMessage w m text
@@ -130,7 +130,7 @@ message_at sites texts w m text sh h = by (slice_get w.messages m) refl (sym h �
     by (Some x) e t = record { message = x; is = e; text_is = cc; sound = sh.sound m x e }
 
 -- where a text is not there, no message is
-pub no_message_at : (sites : List Keeping) (texts : List (List ℕ)) (w : World) (m : ℕ) → Shows sites texts w → slice_get texts m ≡ None → slice_get w.messages m ≡ None
+pub no_message_at : (sites : List SiteState) (texts : List (List ℕ)) (w : World) (m : ℕ) → Represents sites texts w → slice_get texts m ≡ None → slice_get w.messages m ≡ None
 no_message_at sites texts w m sh h = by (slice_get w.messages m) refl (sym h ∙ ap (λ l. slice_get l m) sh.sent ∙ slice_get-map message_text w.messages m)
   where
     by : (o : Option Message) → slice_get w.messages m ≡ o → None ≡ option_map message_text o → slice_get w.messages m ≡ None

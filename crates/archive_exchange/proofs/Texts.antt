@@ -1,5 +1,5 @@
 -- What follows where a text was read, and where a join stopped half way.
-use Rattle.std.proofs.Common.{◌≡◌, ◌≢◌, ℕ, List, refl, sym, ap, ◌∙◌, subst, arith, ◌⊎◌, inl, inr}
+use Rattle.std.proofs.Common.{◌≡◌, ◌≢◌, ℕ, List, refl, sym, ap, ◌∙◌, subst, ◌⊎◌, inl, inr}
 use Rattle.std.specs.declared.option.Option.TheVariants.{Some}
 use Rattle.std.specs.declared.result.Result.{Result}
 use Rattle.std.specs.declared.result.Result.TheVariants.{Ok, Err}
@@ -15,7 +15,7 @@ use Rattle.archive_records.specs.Fault.{IsFault, IsSummaryFault, IsOfText}
 use Rattle.archive_records.specs.Reading.{IsOfMachine}
 use Rattle.archive_records.specs.declared.fault.RecordFault.{RecordFault}
 use Rattle.archive_records.specs.declared.fault.RecordFaultKind.TheVariants.{Device, OutOfMemory}
-use Rattle.archive_exchange.specs.Keeping.{Keeping, Gives, IsArchiveText, IsBetween, Names, IsSummaryText, HasJoinedInPart}
+use Rattle.archive_exchange.specs.SiteState.{SiteState, Gives, IsArchiveText, IsBetween, Names, IsSummaryText, HasJoinedInPart}
 
 never : FailedIn 0 0 → ⊥
 never f = absurd cc
@@ -63,8 +63,8 @@ on_err P (Err e) p = p
 pub between_by : (o p mid : Operations) → IsContent o → IsContent p → IsTowards IsContent IsBelow o p mid → IsBetween o mid (joined o p)
 between_by o p mid a b way = record { content = way.content; above_old = way.above_old; below_new = way.below_join (joined o p) (is_join o p (joined o p) a b refl) }
 
-pub towards_by : (text : List ℕ) (old : Keeping) (held : Operations) (saved : List ℕ) (new o : Operations) → record { held = held; saved = saved } ≡ old → IsContent held → Gives text o → IsTowards IsContent IsBelow held o new
+pub towards_by : (text : List ℕ) (old : SiteState) (held : Operations) (saved : List ℕ) (new o : Operations) → record { held = held; saved = saved } ≡ old → IsContent held → Gives text o → IsTowards IsContent IsBelow held o new
     → (record { held = new; saved = saved } ≡ old) ⊎ HasJoinedInPart text old (record { held = new; saved = saved })
 towards_by text old held saved new o e is gives towards =
-    let P : Keeping → Type 0 = λ k. IsBetween k.held new (joined k.held o) in
-    inr (record { message = o; gives = gives; held = subst P e (between_by held o new is gives.content towards); saved = ap (λ (k : Keeping). k.saved) e })
+    let P : SiteState → Type 0 = λ k. IsBetween k.held new (joined k.held o) in
+    inr (record { message = o; gives = gives; held = subst P e (between_by held o new is gives.content towards); saved = ap (λ (k : SiteState). k.saved) e })

@@ -17,8 +17,8 @@ use Rattle.archive_exchange.specs.InnerTaking.{file_of}
 use Rattle.archive_exchange.specs.declared.checking.AcceptedFile.{AcceptedFile}
 use Rattle.archive_exchange.specs.declared.checking.AcceptedFile.TheVariants.{Thin, Universal}
 use Rattle.archive_exchange.specs.Take.{admitted, HoldsFirstParts}
-use Rattle.archive_exchange.specs.Keeping.{Keeping, IsWhole, IsBetween}
-use Rattle.archive_exchange.specs.Rehearsal.{Scene, AreSites, Shows}
+use Rattle.archive_exchange.specs.SiteState.{SiteState, IsWhole, IsBetween}
+use Rattle.archive_exchange.specs.Rehearsal.{RunState, AreSites, Represents}
 use Rattle.archive_exchange.proofs.Gained.{all_in, content_gain, recorded_retire}
 use Rattle.archive_exchange.proofs.Resumed.{grows, above_old, below_asked}
 
@@ -41,7 +41,7 @@ content_admitted o images is valid =
 -- what a file was accepted as is of its bytes
 pub file_is : (file : List ℕ) (a : AcceptedFile) → IsAcceptedAs file a → file_of a ≡ file
 file_is file (Thin slice) is = is.1
-file_is file (Universal universal) is = is.1
+file_is file (Universal universal found) is = is.1
 
 pub content_of_file : (file : List ℕ) (a : AcceptedFile) (o new : Operations) → IsContent o → IsAcceptedFile file → IsAcceptedAs file a → new ≡ admitted o (admissible (file_of a)) → IsContent new
 content_of_file file a o new is accepted as_is all =
@@ -70,7 +70,7 @@ if_err P (Ok x) all = tt
 if_err P (Err e) all = all e
 
 -- the sites of a rehearsal
-pub shown_whole : (sites : List Keeping) (texts : List (List ℕ)) (w : World) → Shows sites texts w → (i : ℕ) (site : Keeping) → slice_get sites i ≡ Some site → IsWhole site
+pub shown_whole : (sites : List SiteState) (texts : List (List ℕ)) (w : World) → Represents sites texts w → (i : ℕ) (site : SiteState) → slice_get sites i ≡ Some site → IsWhole site
 shown_whole sites texts w sh i site at =
     let is = sh.each i site at in
     record {
@@ -78,7 +78,7 @@ shown_whole sites texts w sh i site at =
       saved = (w.saved i, record { content = sh.saved i; is = is.saved });
     }
 
-pub read_whole : (sites : List Keeping) (texts : List (List ℕ)) (scene : Scene) (i : ℕ) (site : Keeping) → AreSites sites → record { sites = sites; messages = texts } ≡ scene → i < length scene.sites → site ≡ get_or sites i site → IsWhole site
+pub read_whole : (sites : List SiteState) (texts : List (List ℕ)) (scene : RunState) (i : ℕ) (site : SiteState) → AreSites sites → record { sites = sites; messages = texts } ≡ scene → i < length scene.sites → site ≡ get_or sites i site → IsWhole site
 read_whole sites texts scene i site are view lt is =
-    let P : Scene → Type 0 = λ s. i < length s.sites in
+    let P : RunState → Type 0 = λ s. i < length s.sites in
     are.whole i site (slice_get_read sites (length sites) i site refl (subst P (sym view) lt) is)

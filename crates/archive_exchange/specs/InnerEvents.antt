@@ -8,9 +8,9 @@ use Rattle.exchange_model.specs.World as model
 use Rattle.exchange_model.specs.World.{World, Event, site_of, happens, outcome, state, outcomes}
 use Rattle.exchange_model.specs.Reached.{is_accepted, senders}
 use Rattle.exchange_model.specs.Issued.{issues}
-use Rattle.archive_exchange.specs.Keeping.{Keeping}
-use Rattle.archive_exchange.specs.Seen.{Tells}
-use Rattle.archive_exchange.specs.Rehearsal.{Shows}
+use Rattle.archive_exchange.specs.SiteState.{SiteState}
+use Rattle.archive_exchange.specs.ModelEvent.{OutcomeIs}
+use Rattle.archive_exchange.specs.Rehearsal.{Represents}
 use Rattle.archive_exchange.specs.declared.event.Outcome.{Outcome}
 use Rattle.archive_exchange.specs.declared.fault.TakeFault.{TakeFault}
 
@@ -24,25 +24,25 @@ IsRecorded seen = (r : List ℕ) → set.contains (issues (Some seen)) r ≡ tru
 
 -- The event happens at a site: in each world that sites show, of which this one stands at the event's number, it leaves
 -- the sites as they are with this one, and is answered so.
-pub record Follows (e : Event TakeFault) (old new : Keeping) (texts later : List (List ℕ))
+pub record Follows (e : Event TakeFault) (old new : SiteState) (texts later : List (List ℕ))
     (answer : Outcome) : Type 0 where
-  pub shows : (sites : List Keeping) (w : World) → slice_get sites (site_of e) ≡ Some old → Shows sites texts w
-      → Shows (slice_set sites (site_of e) new) later (happens (length sites) w e)
-  pub tells : (sites : List Keeping) (w : World) → slice_get sites (site_of e) ≡ Some old → Shows sites texts w
-      → Tells answer (outcome (length sites) w e)
+  pub shows : (sites : List SiteState) (w : World) → slice_get sites (site_of e) ≡ Some old → Represents sites texts w
+      → Represents (slice_set sites (site_of e) new) later (happens (length sites) w e)
+  pub tells : (sites : List SiteState) (w : World) → slice_get sites (site_of e) ≡ Some old → Represents sites texts w
+      → OutcomeIs answer (outcome (length sites) w e)
 
 -- The event happens among sites: it leaves them so in each world that they show, and is answered so.
-pub record Happens (e : Event TakeFault) (sites others : List Keeping) (texts later : List (List ℕ))
+pub record Happens (e : Event TakeFault) (sites others : List SiteState) (texts later : List (List ℕ))
     (answer : Outcome) : Type 0 where
-  pub shows : (w : World) → Shows sites texts w → Shows others later (happens (length sites) w e)
-  pub tells : (w : World) → Shows sites texts w → Tells answer (outcome (length sites) w e)
+  pub shows : (w : World) → Represents sites texts w → Represents others later (happens (length sites) w e)
+  pub tells : (w : World) → Represents sites texts w → OutcomeIs answer (outcome (length sites) w e)
 
 -- What was run so far: the sites and messages show the state after the first n events, the outcomes tell theirs, and
 -- what the accepted ones of them issued are records of operations.
-pub record HasRun (sites : ℕ) (events : List (Event TakeFault)) (n : ℕ) (kept : List Keeping) (texts : List (List ℕ))
+pub record HasRun (sites : ℕ) (events : List (Event TakeFault)) (n : ℕ) (kept : List SiteState) (texts : List (List ℕ))
     (told : List Outcome) : Type 0 where
-  pub shows : Shows kept texts (state sites events n)
-  pub tells : AllZip Tells told (outcomes sites events n)
+  pub shows : Represents kept texts (state sites events n)
+  pub tells : AllZip OutcomeIs told (outcomes sites events n)
   pub recorded : (k : ℕ) (r : List ℕ) → suc k ≤ n
       → is_accepted sites events (senders sites events k) (slice_get events k) ≡ true
       → set.contains (issues (slice_get events k)) r ≡ true → IsRecord r

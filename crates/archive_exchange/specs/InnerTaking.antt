@@ -6,4 +6,4 @@ use Rattle.archive_exchange.specs.declared.checking.AcceptedFile.TheVariants.{Th
 -- the bytes of the file that was accepted
 abbrev pub file_of : AcceptedFile → List ℕ
 file_of (Thin slice) = slice
-file_of (Universal universal) = universal
+file_of (Universal universal found) = universal

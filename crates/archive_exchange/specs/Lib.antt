@@ -1,9 +1,9 @@
 pub mod Alike
 pub mod File
-pub mod Keeping
+pub mod SiteState
 pub mod Numbers
 pub mod Rehearsal
-pub mod Seen
+pub mod ModelEvent
 pub mod Take
 pub mod Accepted
 pub mod InnerEvents

@@ -5,22 +5,22 @@ use Rattle.archive_core.specs.Content.{IsContent}
 use Rattle.archive_records.specs.Entry.{AreEntries}
 use Rattle.archive_records.specs.Text.{written, summary_text}
 use Rattle.exchange_model.specs.World.{World, Message, Content, Summary}
-use Rattle.archive_exchange.specs.Keeping.{Keeping, keeping_code, IsWhole}
+use Rattle.archive_exchange.specs.SiteState.{SiteState, keeping_code, IsWhole}
 
 -- what the sites keep, in the order of their numbers, and the texts that were sent, in their order
-pub record Scene : Type 0 where
-  pub sites : List Keeping
+pub record RunState : Type 0 where
+  pub sites : List SiteState
   pub messages : List (List ℕ)
 
 -- a scene is stored as the pair of its parts
-abbrev pub scene_code : Coded Scene
+abbrev pub scene_code : Coded RunState
 scene_code =
-    code_by (List Keeping × List (List ℕ)) (coded× (coded_list keeping_code) (coded_list (coded_list coded_ℕ)))
+    code_by (List SiteState × List (List ℕ)) (coded× (coded_list keeping_code) (coded_list (coded_list coded_ℕ)))
     (λ s. (s.sites, s.messages)) (λ p. record { sites = p.0; messages = p.1 }) (λ _. refl)
 
 -- these are the sites of a rehearsal: each is whole, and a number of 32 bits counts them
-pub record AreSites (sites : List Keeping) : Type 0 where
-  pub whole : (i : ℕ) (site : Keeping) → slice_get sites i ≡ Some site → IsWhole site
+pub record AreSites (sites : List SiteState) : Type 0 where
+  pub whole : (i : ℕ) (site : SiteState) → slice_get sites i ≡ Some site → IsWhole site
   pub number : length sites < 2 ^ 32
 
 -- the text of a message: of a content or of a summary
@@ -34,13 +34,13 @@ IsSound (Content o) = IsContent o
 IsSound (Summary s) = AreEntries s
 
 -- a site keeps what the world has at this number: what it saved is the text of what is saved there
-pub record IsSite (w : World) (i : ℕ) (site : Keeping) : Type 0 where
+pub record IsSite (w : World) (i : ℕ) (site : SiteState) : Type 0 where
   pub held : site.held ≡ w.held i
   pub saved : site.saved ≡ written (w.saved i)
 
 -- the sites and the texts of the messages are those of the world, in which all is a content or a summary
-pub record Shows (sites : List Keeping) (texts : List (List ℕ)) (w : World) : Type 0 where
-  pub each : (i : ℕ) (site : Keeping) → slice_get sites i ≡ Some site → IsSite w i site
+pub record Represents (sites : List SiteState) (texts : List (List ℕ)) (w : World) : Type 0 where
+  pub each : (i : ℕ) (site : SiteState) → slice_get sites i ≡ Some site → IsSite w i site
   pub sent : texts ≡ map message_text w.messages
   pub held : (i : ℕ) → IsContent (w.held i)
   pub saved : (i : ℕ) → IsContent (w.saved i)

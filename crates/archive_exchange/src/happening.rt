@@ -2,7 +2,7 @@
 ghost use Rattle.std.specs.Prelude.{◌≡◌, ◌<◌, ◌++◌, ◌∷◌, [], ℕ, List, length, IfOk, OnOk};
 ghost use Rattle.archive_core.specs.Record.{retirement_record};
 ghost use Rattle.exchange_model.specs.World as model;
-ghost use Rattle.archive_exchange.specs.Seen.{Seen, IsFile, IsSeen};
+ghost use Rattle.archive_exchange.specs.ModelEvent.{ModelEvent, IsFile, IsSeen};
 ghost use Rattle.archive_exchange.specs.InnerEvents.{SeenFile, IsRecorded, Follows, Happens};
 
 use crate::laws::one_take_fault;
@@ -144,10 +144,10 @@ fn happen_at<A: Archive + Drop>(
     messages: &mut Vec<Message, Heap>,
     event: &Event,
 ) -> Result<Outcome, NoMemory>
-    ensures follows { IfOk result (λ outcome. (seen : Seen)
+    ensures follows { IfOk result (λ outcome. (seen : ModelEvent)
         → IsSeen event.now seen
         → Follows seen site.old site.new messages.old.items messages.new.items outcome) }
-    ensures recorded { OnOk result ((seen : Seen) → IsSeen event.now seen → IsRecorded seen) }
+    ensures recorded { OnOk result ((seen : ModelEvent) → IsSeen event.now seen → IsRecorded seen) }
 {
     match event {
         Event::Take { file, .. } => take(site, file),
@@ -168,10 +168,10 @@ pub(crate) fn happen<A: Archive + Drop>(
     event: &Event,
 ) -> Result<Outcome, NoMemory>
     ensures number { OnOk result (length sites.new.items ≡ length sites.old.items) }
-    ensures happens { IfOk result (λ outcome. (seen : Seen)
+    ensures happens { IfOk result (λ outcome. (seen : ModelEvent)
         → IsSeen event.now seen
         → Happens seen sites.old.items sites.new.items messages.old.items messages.new.items outcome) }
-    ensures recorded { OnOk result ((seen : Seen)
+    ensures recorded { OnOk result ((seen : ModelEvent)
         → IsSeen event.now seen
         → model.site_of seen < length sites.old.items
         → IsRecorded seen) }

@@ -14,7 +14,7 @@ ghost use Rattle.archive_core.specs.declared.lookup.Where.{Where};
 ghost use Rattle.exchange_model.specs.World.{Event, state};
 ghost use Rattle.exchange_model.specs.Reached.{had, reached, Reaches};
 ghost use Rattle.exchange_model.specs.Issued.{AreRecords};
-ghost use Rattle.archive_exchange.specs.Keeping.{Says};
+ghost use Rattle.archive_exchange.specs.SiteState.{IsArchiveTextOf};
 ghost use Rattle.archive_exchange.specs.Alike.{TookTheSame};
 
 use archive_core::laws::{contents_join, one_answer};
@@ -27,9 +27,9 @@ use exchange_model::laws::{reaching_in_words, records_make_contents, same_reache
 /// A clause is a phrase of that. What a site holds after a list of events is
 /// `(state sites events (length events)).held`, and [`run`](crate::run) proves that the program's sites hold it
 /// (`state`), so that its clause
-/// `same_operations_same_bytes` says the first half of them. That a site writes the bytes which `Says` names, that an
-/// archive's `lookup` gives an answer for which `IsAnswer` holds, and that a merge makes `joined`, are the contracts
-/// of `write_archive`, of `Archive::lookup`, and of `take_all`, `Site::deliver` and the command `merge`.
+/// `same_operations_same_bytes` says the first half of them. That a site writes the bytes which `IsArchiveTextOf`
+/// names, that an archive's `lookup` gives an answer for which `IsAnswer` holds, and that a merge makes `joined`, are
+/// the contracts of `write_archive`, of `Archive::lookup`, and of `take_all`, `Site::deliver` and the command `merge`.
 pub fn headline<F>()
     // After any list of events: the operations that a site took are those that an accepted event before the end gave
     // it, a file, a retirement or a message, and that no stop took from it since.
@@ -54,34 +54,35 @@ pub fn headline<F>()
         → TookTheSame sites events i others later j
         → AreRecords sites events
         → (text : List ℕ)
-        × Says text ((state sites events (length events)).held i)
-        × Says text ((state others later (length later)).held j) }
-    ensures one_text { (o : Operations) (text other : List ℕ) → Says text o → Says other o → text ≡ other }
+        × IsArchiveTextOf text ((state sites events (length events)).held i)
+        × IsArchiveTextOf text ((state others later (length later)).held j) }
+    ensures one_text { (o : Operations) (text other : List ℕ) → IsArchiveTextOf text o → IsArchiveTextOf other o
+        → text ≡ other }
 
     // And answer every lookup alike: a lookup has one answer.
     ensures same_answers { (sites others : ℕ) (events later : List (Event F)) (i j : ℕ)
         → TookTheSame sites events i others later j
-        → (key : SliceKey) (place : Where) (answer : AnswerRecord)
-        → IsAnswer ((state sites events (length events)).held i) key place answer
-        ↔ IsAnswer ((state others later (length later)).held j) key place answer }
-    ensures one_answer { (o : Operations) (key : SliceKey) (place : Where) (answer other : AnswerRecord)
-        → IsAnswer o key place answer
-        → IsAnswer o key place other
+        → (key : SliceKey) (asked : Where) (answer : AnswerRecord)
+        → IsAnswer ((state sites events (length events)).held i) key asked answer
+        ↔ IsAnswer ((state others later (length later)).held j) key asked answer }
+    ensures one_answer { (o : Operations) (key : SliceKey) (asked : Where) (answer other : AnswerRecord)
+        → IsAnswer o key asked answer
+        → IsAnswer o key asked other
         → answer ≡ other }
 
     // The nearest symbol as defined, or that there is none, where one slice answers; each slice's own, where several
     // do; none, where none does.
-    ensures nearest { (o : Operations) (key : SliceKey) (place : Where) (own : Option FoundRecord)
-        → IsAnswer o key place (Alone own)
-        ↔ ((slice : List ℕ) × AreAnswering o key (slice ∷ []) × IsOwn slice place own) }
-    ensures conflict { (o : Operations) (key : SliceKey) (place : Where) (rows : List OwnRow)
-        → IsAnswer o key place (Disputed rows)
+    ensures nearest { (o : Operations) (key : SliceKey) (asked : Where) (own : Option FoundRecord)
+        → IsAnswer o key asked (Alone own)
+        ↔ ((slice : List ℕ) × AreAnswering o key (slice ∷ []) × IsOwn slice asked own) }
+    ensures conflict { (o : Operations) (key : SliceKey) (asked : Where) (rows : List OwnRow)
+        → IsAnswer o key asked (Disputed rows)
         ↔ ((slices : List (List ℕ))
         × AreAnswering o key slices
         × (2 ≤ length slices)
-        × AllZip (IsOwnRow place) slices rows) }
-    ensures none { (o : Operations) (key : SliceKey) (place : Where)
-        → IsAnswer o key place Unanswered ↔ AreAnswering o key [] }
+        × AllZip (IsOwnRow asked) slices rows) }
+    ensures none { (o : Operations) (key : SliceKey) (asked : Where)
+        → IsAnswer o key asked Unanswered ↔ AreAnswering o key [] }
 
     // Merge is associative, commutative and idempotent, and gives the least content above both.
     ensures associative { (o p q : Operations)

@@ -10,9 +10,9 @@ ghost use Rattle.archive_core.specs.Content.{Operations, IsMade, IsContent, IsBe
 ghost use Rattle.archive_core.specs.Record.{admission_record, retirement_record};
 ghost use Rattle.archive_core.specs.Valid.{IsValid, key_of};
 ghost use Rattle.archive_exchange.specs.File.{IsAcceptedFile, IsTakeFault, is_admissible, admissible, parts};
-ghost use Rattle.archive_exchange.specs.Keeping.{Keeping, HasJoined, HasJoinedInPart};
+ghost use Rattle.archive_exchange.specs.SiteState.{SiteState, HasJoined, HasJoinedInPart};
 ghost use Rattle.archive_exchange.specs.Take.{admitted, taken_of, taken_rows, HoldsFirstParts};
-ghost use Rattle.archive_exchange.specs.Seen.{Seen, AreSeen};
+ghost use Rattle.archive_exchange.specs.ModelEvent.{ModelEvent, AreSeen};
 ghost use Rattle.archive_exchange.specs.declared.event.Event.{Event};
 ghost use Rattle.archive_exchange.specs.declared.fault.TakeFault.{TakeFault};
 ghost use Rattle.archive_exchange.specs.declared.fault.TakeFault.TheVariants.{OutOfMemory};
@@ -82,12 +82,12 @@ pub fn taking_resumed()
 /// A delivery that stopped half way left a content between the old one and the one asked for, and gives the latter when
 /// it is made again.
 pub fn delivery_resumed()
-    ensures above { (text : List ℕ) (old mid : Keeping) → HasJoinedInPart text old mid → IsBelow old.held mid.held }
-    ensures below { (text : List ℕ) (old mid new : Keeping)
+    ensures above { (text : List ℕ) (old mid : SiteState) → HasJoinedInPart text old mid → IsBelow old.held mid.held }
+    ensures below { (text : List ℕ) (old mid new : SiteState)
         → HasJoinedInPart text old mid
         → HasJoined text old new
         → IsBelow mid.held new.held }
-    ensures again { (text : List ℕ) (old mid new : Keeping)
+    ensures again { (text : List ℕ) (old mid new : SiteState)
         → IsContent old.held
         → HasJoinedInPart text old mid
         → HasJoined text mid new
@@ -96,8 +96,8 @@ pub fn delivery_resumed()
 
 /// Each list of events is one list to the definitions of `exchange_model`.
 pub fn one_meaning()
-    ensures some { (events : List Event) → (seen : List Seen) × AreSeen events seen }
-    ensures one { (events : List Event) (seen other : List Seen)
+    ensures some { (events : List Event) → (seen : List ModelEvent) × AreSeen events seen }
+    ensures one { (events : List Event) (seen other : List ModelEvent)
         → AreSeen events seen
         → AreSeen events other
         → seen ≡ other }

@@ -1,13 +1,13 @@
 //! Any list of events, on any number of sites.
 ghost use Rattle.std.specs.Prelude.{◌≡◌, ◌≤◌, ℕ, [], List, Some, suc, min, max, length, slice_get, IfOk};
 ghost use Rattle.std.specs.List.{AllZip};
-ghost use Rattle.archive_core.specs.Content.{IsBelow, made};
+ghost use Rattle.archive_core.specs.Content.{IsBelow, content_of};
 ghost use Rattle.exchange_model.specs.World.{start, state, outcomes};
 ghost use Rattle.exchange_model.specs.Reached.{reached};
 ghost use Rattle.exchange_model.specs.Issued.{AreIssued, IsDigestTelling, IsExchange, IsQuiet};
-ghost use Rattle.archive_exchange.specs.Keeping.{Keeping};
-ghost use Rattle.archive_exchange.specs.Seen.{Seen, OfEvents, Tells};
-ghost use Rattle.archive_exchange.specs.Rehearsal.{Shows};
+ghost use Rattle.archive_exchange.specs.SiteState.{SiteState};
+ghost use Rattle.archive_exchange.specs.ModelEvent.{ModelEvent, OfEvents, OutcomeIs};
+ghost use Rattle.archive_exchange.specs.Rehearsal.{Represents};
 ghost use Rattle.archive_exchange.specs.Alike.{AreAlike};
 ghost use Rattle.archive_exchange.specs.InnerEvents.{HasRun};
 
@@ -23,7 +23,7 @@ use memory::{Heap, NoMemory};
 /// Empty sites.
 fn empty_sites<A: Archive + Drop>(heap: &Heap, sites: u32) -> Result<Vec<Site<A>, Heap>, NoMemory>
     ensures number { IfOk result (λ row. length row.items ≡ sites) }
-    ensures empty { IfOk result (λ row. Shows row.items [] start) }
+    ensures empty { IfOk result (λ row. Represents row.items [] start) }
 {
     let mut row = Vec::new(heap.clone()?);
     'sites: for _ in 0..sites {
@@ -67,21 +67,21 @@ pub fn run<A: Archive + Drop>(
 
     // The world is the state after all events, its messages byte for byte, and the outcomes are those of the events.
     ensures state { IfOk result (λ done. OfEvents events.now (λ seen.
-        Shows done.0.sites done.0.messages (state sites seen (length seen)))) }
+        Represents done.0.sites done.0.messages (state sites seen (length seen)))) }
     ensures outcomes { IfOk result (λ done. OfEvents events.now (λ seen.
-        AllZip Tells done.1.items (outcomes sites seen (length seen)))) }
+        AllZip OutcomeIs done.1.items (outcomes sites seen (length seen)))) }
 
     // A site holds the content that the operations make which reach it.
-    ensures reached { IfOk result (λ done. OfEvents events.now (λ seen. (i : ℕ) (site : Keeping)
+    ensures reached { IfOk result (λ done. OfEvents events.now (λ seen. (i : ℕ) (site : SiteState)
         → slice_get done.0.sites i ≡ Some site
-        → site.held ≡ made (reached sites seen i))) }
+        → site.held ≡ content_of (reached sites seen i))) }
 
     // The headline: sites that the same operations reached, here or in any other run, hold the same content, write the
     // same bytes and answer every lookup alike.
     ensures same_operations_same_bytes { IfOk result (λ done. OfEvents events.now (λ seen.
-        (i : ℕ) (site : Keeping) (others : ℕ) (later : List Seen) (j : ℕ)
+        (i : ℕ) (site : SiteState) (others : ℕ) (later : List ModelEvent) (j : ℕ)
         → slice_get done.0.sites i ≡ Some site
-        → made (reached sites seen i) ≡ made (reached others later j)
+        → content_of (reached sites seen i) ≡ content_of (reached others later j)
         → AreAlike site.held ((state others later (length later)).held j))) }
 
     // Nothing is held or saved that was not issued.

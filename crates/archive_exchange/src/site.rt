@@ -7,9 +7,9 @@ ghost use Rattle.archive_core.specs.Summary.{Entries, summary, delta};
 ghost use Rattle.archive_records.specs.Text.{written, summary_text};
 ghost use Rattle.archive_exchange.specs.File.{IsAcceptedFile, IsTakeFault, admissible, parts};
 ghost use Rattle.archive_exchange.specs.Take.{admitted, taken_rows, HoldsFirstParts};
-ghost use Rattle.archive_exchange.specs.Keeping.{Says, Gives, IsWhole, IsBetween};
-ghost use Rattle.archive_exchange.specs.Keeping.{IsDeliverFault, HasJoined, HasJoinedInPart};
-ghost use Rattle.archive_exchange.specs.Keeping.{Names, RepliesTo, IsReplyFault};
+ghost use Rattle.archive_exchange.specs.SiteState.{IsArchiveTextOf, Gives, IsWhole, IsBetween};
+ghost use Rattle.archive_exchange.specs.SiteState.{IsDeliverFault, HasJoined, HasJoinedInPart};
+ghost use Rattle.archive_exchange.specs.SiteState.{Names, RepliesTo, IsReplyFault};
 
 use crate::taking::take_accepted;
 use crate::{DeliverFault, ReplyFault, TakeFault, Taken, check_file};
@@ -23,7 +23,7 @@ use std::marker::Model;
 
 /// The text of an archive.
 fn archive_text<A: Archive>(heap: Heap, archive: &A) -> Result<Vec<u8, Heap>, NoMemory>
-    ensures { IfOk result (λ text. Says text.items (A.content archive.now)) }
+    ensures { IfOk result (λ text. IsArchiveTextOf text.items (A.content archive.now)) }
 {
     let mut text = Grown::new(heap);
     match write_archive(archive, &mut text) {
@@ -102,9 +102,9 @@ pub struct Site<A: Archive> {
 }
 
 impl<A: Archive> Model for Site<A> {
-    ghost use Rattle.archive_exchange.specs.Keeping.{Keeping, keeping_code, IsWhole};
+    ghost use Rattle.archive_exchange.specs.SiteState.{SiteState, keeping_code, IsWhole};
 
-    ghost Value = { Keeping };
+    ghost Value = { SiteState };
 
     ghost coded = { keeping_code };
 
@@ -171,7 +171,7 @@ impl<A: Archive + Drop> Site<A> {
 
     /// The text of the archive.
     pub fn full(&self) -> Result<Vec<u8, Heap>, NoMemory>
-        ensures { IfOk result (λ text. Says text.items self.now.held) }
+        ensures { IfOk result (λ text. IsArchiveTextOf text.items self.now.held) }
     {
         archive_text(self.saved.allocator().clone()?, &self.archive)
     }
@@ -234,7 +234,7 @@ impl<A: Archive + Drop> Site<A> {
 
     /// Stops, and begins again: the archive becomes what the saved bytes say. Want of memory leaves the site as it was.
     pub fn stop(&mut self) -> Result<(), NoMemory>
-        ensures held { OnOk result (Says self.old.saved self.new.held) }
+        ensures held { OnOk result (IsArchiveTextOf self.old.saved self.new.held) }
         ensures saved { self.new.saved ≡ self.old.saved }
         ensures refused { OnErr result (self.new ≡ self.old) }
         ensures whole { IsWhole self.new }

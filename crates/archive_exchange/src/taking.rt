@@ -1,16 +1,15 @@
 //! The slices of a file taken into an archive.
 ghost use Rattle.std.specs.Prelude.{◌≡◌, ◌≢◌, [], ◌∷◌, true, IfOk, IfErr, OnOk, OnErr, filter, if◌then◌else◌};
-ghost use Rattle.archive_core.specs.Valid.{IsValid};
 ghost use Rattle.fat_slices.specs.Kind.{kind_of, is_fat};
-ghost use Rattle.archive_exchange.specs.Accepted.{IsAcceptedAs};
+ghost use Rattle.fat_slices.specs.Slices.{slices};
+ghost use Rattle.archive_exchange.specs.Accepted.{AreFound, IsAcceptedAs, IsFoundOf};
 ghost use Rattle.archive_exchange.specs.InnerTaking.{file_of};
 ghost use Rattle.archive_exchange.specs.File.{IsAcceptedFile, IsTakeFault, is_admissible, admissible, parts};
 ghost use Rattle.archive_exchange.specs.Take.{admitted, taken_of, taken_rows, HoldsFirstParts};
 
-use crate::checking::{AcceptedFile, check_file};
+use crate::checking::{AcceptedFile, MOST_PARTS, check_file};
 use crate::{TakeFault, Taken};
-use archive_core::laws::one_slice_fault;
-use archive_core::{Archive, Digest, Operation, Slice, SliceKey};
+use archive_core::{Archive, Digest, Operation, Slice, SliceFacts, SliceKey};
 use fat_slices::{FileKind, Universal};
 use memory::{Heap, NoMemory};
 
@@ -37,19 +36,26 @@ fn take_slice<A: Archive>(archive: &mut A, slice: Slice) -> Result<Taken, NoMemo
     Ok(taken_if(changed, key, digest))
 }
 
-/// Takes a part of an accepted file, and tells what became of it. Its bytes are copied. In such a file a part that is
-/// no slice does not begin as an image, and is skipped.
-fn take_part<A: Archive>(archive: &mut A, heap: Heap, part: &[u8]) -> Result<Taken, NoMemory>
-    requires { is_admissible part.now ≡ true → IsValid part.now }
+/// Takes a part of a file by what its check found out, and tells what became of it. Its bytes are copied. A part of
+/// which nothing was found is skipped.
+fn take_part<A: Archive>(
+    archive: &mut A,
+    heap: Heap,
+    part: &[u8],
+    found: Option<SliceFacts>,
+) -> Result<Taken, NoMemory>
+    requires { IsFoundOf part.now found }
     ensures content { OnOk result
         (A.content archive.new ≡ admitted (A.content archive.old) (filter is_admissible (part.now ∷ []))) }
     ensures row { IfOk result (λ row. row ∷ [] ≡ taken_rows (A.content archive.old) (part.now ∷ [])) }
     ensures refused { OnErr result (A.content archive.new ≡ A.content archive.old) }
 {
-    one_slice_fault();
-    match Slice::check(part) {
-        Ok(checked) => take_slice(archive, checked.admit(heap)?),
-        Err(_) => Ok(Taken::Skipped),
+    match found {
+        Some(facts) => {
+            let bytes = Vec::from_slice(heap, part)?;
+            take_slice(archive, Slice::of_checked(bytes, facts))
+        }
+        None => Ok(Taken::Skipped),
     }
 }
 
@@ -70,14 +76,15 @@ fn take_thin<A: Archive>(
     Ok(rows)
 }
 
-/// Takes the slices of an accepted universal file, in their order, each copied at its turn.
+/// Takes the slices of a universal file by what their check found out, in their order, each copied at its turn.
 fn take_universal<A: Archive>(
     archive: &mut A,
     heap: Heap,
     universal: &Universal<'_>,
+    found: &[Option<SliceFacts>; MOST_PARTS],
 ) -> Result<Vec<Taken, Heap>, NoMemory>
     requires fat { is_fat (kind_of universal.now) ≡ true }
-    requires accepted { IsAcceptedFile universal.now }
+    requires found { AreFound (slices universal.now) found.now }
     ensures content { OnOk result
         (A.content archive.new ≡ admitted (A.content archive.old) (admissible universal.now)) }
     ensures rows { IfOk result (λ rows. rows.items ≡ taken_rows (A.content archive.old) (parts universal.now)) }
@@ -85,7 +92,8 @@ fn take_universal<A: Archive>(
 {
     let mut rows = Vec::new(heap.clone()?);
     'parts: for index in 0..universal.len() {
-        let row = take_part(archive, heap.clone()?, universal.slice(index))?;
+        let facts = found[index as usize];
+        let row = take_part(archive, heap.clone()?, universal.slice(index), facts)?;
         rows.push(row)?;
     }
     Ok(rows)
@@ -98,8 +106,7 @@ pub(crate) fn take_accepted<A: Archive>(
     heap: Heap,
     accepted: &AcceptedFile<'_>,
 ) -> Result<Vec<Taken, Heap>, NoMemory>
-    requires accepted { IsAcceptedFile (file_of accepted.now) }
-    requires found { IsAcceptedAs (file_of accepted.now) accepted.now }
+    requires { IsAcceptedAs (file_of accepted.now) accepted.now }
     ensures content { OnOk result
         (A.content archive.new ≡ admitted (A.content archive.old) (admissible (file_of accepted.now))) }
     ensures rows { IfOk result (λ rows.
@@ -109,14 +116,16 @@ pub(crate) fn take_accepted<A: Archive>(
 {
     match accepted {
         AcceptedFile::Thin(slice) => take_thin(archive, heap.clone()?, slice.admit(heap)?),
-        AcceptedFile::Universal(universal) => take_universal(archive, heap, universal),
+        AcceptedFile::Universal(universal, found) => {
+            take_universal(archive, heap, universal, found)
+        }
     }
 }
 
 /// Takes the slices of a file, all or none, and gives a row a slice, in the order of the file.
 ///
-/// All slices are checked before one is taken. The bytes of a thin file are taken over without a copy; the slices of
-/// a universal file are copied one at a time. Memory is the vector's own.
+/// All slices are checked before one is taken, and each once. The bytes of a thin file are taken over without a copy;
+/// the slices of a universal file are copied one at a time. Memory is the vector's own.
 ///
 /// # Errors
 ///
@@ -145,7 +154,9 @@ pub fn take_file<A: Archive>(
             let facts = slice.facts();
             take_thin(archive, heap, Slice::of_checked(file, facts))?
         }
-        AcceptedFile::Universal(universal) => take_universal(archive, heap, &universal)?,
+        AcceptedFile::Universal(universal, found) => {
+            take_universal(archive, heap, &universal, &found)?
+        }
     };
     Ok(rows)
 }

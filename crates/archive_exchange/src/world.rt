@@ -1,6 +1,6 @@
 //! What a rehearsal leaves.
 ghost use Rattle.std.specs.Prelude.{◌≡◌, ◌<◌, Some, length, slice_get};
-ghost use Rattle.archive_exchange.specs.Keeping.{IsWhole};
+ghost use Rattle.archive_exchange.specs.SiteState.{IsWhole};
 ghost use Rattle.archive_exchange.specs.Rehearsal.{AreSites};
 
 use crate::Site;
@@ -17,9 +17,9 @@ pub struct World<A: Archive> {
 }
 
 impl<A: Archive> Model for World<A> {
-    ghost use Rattle.archive_exchange.specs.Rehearsal.{Scene, scene_code, AreSites};
+    ghost use Rattle.archive_exchange.specs.Rehearsal.{RunState, scene_code, AreSites};
 
-    ghost Value = { Scene };
+    ghost Value = { RunState };
 
     ghost coded = { scene_code };
 

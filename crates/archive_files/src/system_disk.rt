@@ -1,5 +1,6 @@
-//! Files of the system. What they hold is in no contract.
+//! Files of the system that are read. What they hold is in no contract, and which were opened is.
 
+use crate::call_log::CallLog;
 use archive_commands::CannotOpen;
 use byte_device::Reading;
 use memory::NoMemory;
@@ -13,23 +14,40 @@ use std::rt::Files;
 const PIECE: usize = 64 * 1024;
 
 /// The files of the system.
-#[derive(Clone, Copy)]
+#[derive(Drop)]
 pub struct SystemDisk<'a, F: Files> {
     pub alloc: Global,
-    pub files: &'a F,
+    files: &'a F,
+    opened: CallLog,
+}
+
+impl<'a, F: Files> SystemDisk<'a, F> {
+    ghost use Rattle.std.specs.Prelude.{◌≡◌, []};
+
+    /// These files, of which none was opened.
+    pub fn new(alloc: Global, files: &'a F) -> Self
+        ensures { result.opened.entries ≡ [] }
+    {
+        SystemDisk {
+            alloc,
+            files,
+            opened: CallLog::new(),
+        }
+    }
 }
 
 impl<'a, F: Files> Disk for SystemDisk<'a, F> {
-    ghost use Rattle.std.specs.Prelude.{None};
+    ghost use Rattle.std.specs.Prelude.{Some};
     ghost use Rattle.plan_commands.specs.Disks.FileAt.{Unknown};
 
     type Input = Reading<BufReader<F::File>>;
 
     ghost file_at = { λ _ _. Unknown };
 
-    ghost opened = { λ _. None };
+    ghost opened = { λ disk. Some disk.opened.entries };
 
     fn open(&mut self, path: &str) -> Result<Result<Self::Input, CannotOpen>, NoMemory> {
+        self.opened.note(path.as_bytes());
         let Ok(file) = fs::open(self.files, path) else {
             return Ok(Err(CannotOpen));
         };

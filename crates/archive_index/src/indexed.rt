@@ -10,8 +10,8 @@ use uuid::Uuid;
 /// An archive as a sorted list of operations, in which each slice has its table of addresses beside it, and its digest
 /// where a lookup of its key may tell it.
 ///
-/// A table is built before its slice is taken, unless that is there, and moves with it; a copy that a join takes in gets
-/// its own. So a lookup scans no symbols.
+/// A table is built before its slice is taken, unless that is there, and moves with it; a copy that a join takes in
+/// gets its own. So a lookup scans no symbols.
 #[derive(Drop)]
 pub struct IndexedArchive {
     held: PlainArchive,
@@ -111,8 +111,8 @@ impl Archive for IndexedArchive {
         self.held.find(uuid)
     }
 
-    fn lookup(&self, key: &SliceKey, place: Where) -> Result<Answer<'_>, NoMemory> {
-        self.held.lookup(key, place)
+    fn lookup(&self, key: &SliceKey, asked: Where) -> Result<Answer<'_>, NoMemory> {
+        self.held.lookup(key, asked)
     }
 
     fn find_name(&self, name: &[u8]) -> Result<Vec<NameRow<'_>, Heap>, NoMemory> {

@@ -7,7 +7,7 @@ use Rattle.std.specs.List.{Contains}
 use Rattle.std.specs.Cmp.Lexicographic.{nat_list_cmp_total}
 use Rattle.std.specs.FinSet as set
 use Rattle.std.specs.FinSet.{contains, contains-from_list, contains-empty, from_list_push, contains-insert}
-use Rattle.archive_core.specs.Content.{Operations, IsContent, IsMade, is_admission, key_and_digest, covering, is_covered, made, with_record}
+use Rattle.archive_core.specs.Content.{Operations, IsContent, IsMade, is_admission, key_and_digest, covering, is_covered, content_of, with_record}
 use Rattle.archive_core.proofs.Made.{made_of_uncovered, uncovered_of_made, made_part}
 use Rattle.join_core.specs.Listing.{listing}
 use Rattle.archive_records.specs.declared.format.Format.{Format}
@@ -163,7 +163,7 @@ drops_none Summary_file dropped e = e
 -- ---- the content of the records, with one more
 
 pub from_list-push : (records : List (List ℕ)) (x : List ℕ) (o : Operations) → o ≡ set.from_list records → AreApart Archive (records ++ x ∷ []) → with_record o x ≡ set.from_list (records ++ x ∷ [])
-from_list-push records x o e is = ap (λ (s : Operations). made (set.insert s x)) e ∙ ap made (sym (from_list_push nat_list_cmp_total bytes_same records x)) ∙ is
+from_list-push records x o e is = ap (λ (s : Operations). content_of (set.insert s x)) e ∙ ap content_of (sym (from_list_push nat_list_cmp_total bytes_same records x)) ∙ is
 
 -- and of a part of them
 pub part-push : (records : List (List ℕ)) (x : List ℕ) (o : Operations) → ((r : List ℕ) → contains o r ≡ true → contains (set_of records) r ≡ true) → AreApart Archive (records ++ x ∷ []) → with_record o x ≡ set.insert o x

@@ -10,13 +10,13 @@ use Rattle.archive_core.specs.Record.{IsRecord}
 use Rattle.archive_records.specs.declared.format.Format.{Format}
 use Rattle.archive_records.specs.declared.format.Format.TheVariants.{Archive, OldArchive, Operations as Operations_file, Summary as Summary_file}
 use Rattle.archive_records.specs.declared.kind.TextKind.TheVariants.{Archive as Archive_text}
-use Rattle.archive_records.specs.declared.side.Ahead.{Ahead}
-use Rattle.archive_records.specs.declared.side.Ahead.TheVariants.{Unread, Held, Ended}
-use Rattle.archive_records.specs.declared.side.Side.{Side}
+use Rattle.archive_records.specs.declared.side.Lookahead.{Lookahead}
+use Rattle.archive_records.specs.declared.side.Lookahead.TheVariants.{Unread, Held, Ended}
+use Rattle.archive_records.specs.declared.side.MergeInput.{MergeInput}
 use Rattle.archive_records.specs.Kind.{kind_of, may_follow}
 use Rattle.archive_records.specs.Text.{InOrder, last_of, kept}
 use Rattle.archive_records.specs.Reader.{set_of, RetireAlike, AreRetired, DropsLast}
-use Rattle.archive_records.specs.Turns.{Stands, Joins}
+use Rattle.archive_records.specs.MergeSteps.{Stands, Joins}
 use Rattle.archive_records.proofs.Forms.{long-retirement, long-admission}
 use Rattle.archive_records.proofs.Apart.{in_set, from_set, and_first, and_second, both_true, is_false, one_test, covering_below, contains-push, covered_push, same_as}
 use Rattle.archive_records.proofs.Contents.{same_bytes}
@@ -111,8 +111,8 @@ pub dropped_own : (f : Format) → kind_of f ≡ Archive_text → (dropped : Boo
 dropped_own f k dropped mine x d = dropped_of f k dropped (mine ++ x ∷ []) d ∙ ap (λ (r : List ℕ). is_covered (set_of (mine ++ x ∷ [])) r) (last_of-append [] mine (x ∷ [])) ∙ covered_push mine x
 
 -- the retirements that a side has read are those of its records but for one that it holds
-module _ (a b : Option (List ℕ)) (done : List (List ℕ)) (low : List ℕ) (s : Side) (p : Stands a b done low s) (q : List ℕ) where
-  retired_by : (h : Ahead) → s.ahead ≡ h → h ≢ Unread → (h ≡ Held → s.reader.last ≡ 1 ∷ q → ⊥) → contains (set_of s.reader.retired) (1 ∷ q) ≡ contains (set_of done) (1 ∷ q)
+module _ (a b : Option (List ℕ)) (done : List (List ℕ)) (low : List ℕ) (s : MergeInput) (p : Stands a b done low s) (q : List ℕ) where
+  retired_by : (h : Lookahead) → s.ahead ≡ h → h ≢ Unread → (h ≡ Held → s.reader.last ≡ 1 ∷ q → ⊥) → contains (set_of s.reader.retired) (1 ∷ q) ≡ contains (set_of done) (1 ∷ q)
   retired_by Unread e read other = absurd (read refl)
   retired_by Held e read other = retired_of s.reader.file p.archive s.reader.retired (done ++ s.reader.last ∷ []) (p.held e).0.retired_are q ∙ contains-push done s.reader.last (1 ∷ q) ∙ ap (λ b. b || contains (set_of done) (1 ∷ q)) (not_same (1 ∷ q) s.reader.last (other refl))
   retired_by Ended e read other = retired_of s.reader.file p.archive s.reader.retired done (p.ended e).0.retired_are q
@@ -145,7 +145,7 @@ module _ (out mine others : List (List ℕ)) (x : List ℕ) (j : Joins out mine 
       ])
 
   -- the other side has read its own, since what it holds is above
-  pub by_other : (a b : Option (List ℕ)) (low : List ℕ) (s : Side) → Stands a b others low s → s.ahead ≢ Unread → (s.ahead ≡ Held → may_follow Archive x s.reader.last ≡ true)
+  pub by_other : (a b : Option (List ℕ)) (low : List ℕ) (s : MergeInput) → Stands a b others low s → s.ahead ≢ Unread → (s.ahead ≡ Held → may_follow Archive x s.reader.last ≡ true)
       → is_covered (set_of (out ++ x ∷ [])) x ≡ (is_covered (set_of mine) x || is_covered (set_of s.reader.retired) x)
   by_other a b low s p read above = by_both ∙ ap (λ c. is_covered (set_of mine) x || c) (sym (elim (cases_Bool (is_admission x)) [
     | inl t ↦ ap (λ c. is_admission x && c) (retired_is a b others low s p (key_and_digest x) read (λ held e. false≢true (sym (below-self x) ∙ below-trans x (covering x) x (subst (λ (y : List ℕ). may_follow Archive x y ≡ true) e (above held)) (covering_below x t))))

@@ -4,23 +4,23 @@ use Rattle.std.proofs.lemmas.List.{append-nil}
 use Rattle.std.specs.List.{concat}
 use Rattle.std.specs.FinSet as set
 use Rattle.std.specs.Io.KnownBytes.{Consumes, IsAtEnd}
-use Rattle.archive_core.specs.Content.{Operations, joined, made}
+use Rattle.archive_core.specs.Content.{Operations, joined, content_of}
 use Rattle.archive_core.proofs.Made.{joined_made}
 use Rattle.archive_records.specs.declared.fault.RecordFaultKind.TheVariants.{Truncated}
 use Rattle.archive_records.specs.declared.fault.RecordFault.{RecordFault}
 use Rattle.archive_records.specs.declared.format.Format.{Format}
 use Rattle.archive_records.specs.declared.format.Format.TheVariants.{Archive, OldArchive, Operations as Operations_file, Summary as Summary_file}
 use Rattle.archive_records.specs.declared.kind.TextKind.TheVariants.{Archive as Archive_text}
-use Rattle.archive_records.specs.declared.side.Ahead.{Ahead}
-use Rattle.archive_records.specs.declared.side.Ahead.TheVariants.{Unread, Held, Ended}
-use Rattle.archive_records.specs.declared.side.Side.{Side}
+use Rattle.archive_records.specs.declared.side.Lookahead.{Lookahead}
+use Rattle.archive_records.specs.declared.side.Lookahead.TheVariants.{Unread, Held, Ended}
+use Rattle.archive_records.specs.declared.side.MergeInput.{MergeInput}
 use Rattle.archive_records.specs.Kind.{magic_of, kind_of, archive_format, may_follow}
 use Rattle.archive_records.specs.Text.{ending, text_of, taken_of, InOrder, AreApart, last_of}
 use Rattle.archive_records.specs.Fault.{is_end, IsFaultBehind, IsOfText}
 use Rattle.archive_records.specs.Front.{IsGoodFront, IsLongestFront}
 use Rattle.archive_records.specs.Merging.{HasMagic, IsArchiveText, AreGoodRecords, of_both}
 use Rattle.archive_records.specs.Reader.{set_of, Stopped}
-use Rattle.archive_records.specs.Turns.{Stands}
+use Rattle.archive_records.specs.MergeSteps.{Stands}
 use Rattle.archive_records.proofs.Holds.{holds}
 use Rattle.archive_records.proofs.Forms.{item-framed}
 use Rattle.archive_records.proofs.Puts.{concat-push}
@@ -56,7 +56,7 @@ text_magic t x =
     (s.format, s.archive, concat s.records ++ ending s.format (length s.records), s.whole)
 
 -- what is taken of records is what they make
-taken_made : (f : Format) → kind_of f ≡ Archive_text → (xs : List (List ℕ)) → InOrder f [] xs → AreApart f xs → set_of (taken_of f xs) ≡ made (set_of xs)
+taken_made : (f : Format) → kind_of f ≡ Archive_text → (xs : List (List ℕ)) → InOrder f [] xs → AreApart f xs → set_of (taken_of f xs) ≡ content_of (set_of xs)
 taken_made Archive k xs a apart = sym apart
 taken_made OldArchive k xs a apart = kept_set xs (in_order_of OldArchive k [] xs a)
 taken_made Operations_file k xs a apart = absurd (no_operations_text k)
@@ -66,7 +66,7 @@ taken_made Summary_file k xs a apart = absurd (no_summary_text k)
 pub both_taken : (f g : Format) → kind_of f ≡ Archive_text → kind_of g ≡ Archive_text → (xs ys : List (List ℕ)) → InOrder f [] xs → AreApart f xs → InOrder g [] ys → AreApart g ys → of_both xs ys ≡ joined (set_of (taken_of f xs)) (set_of (taken_of g ys))
 both_taken f g k l xs ys a p b q =
     sym (joined_made (set_of xs) (set_of ys))
-    ∙ ap (λ (o : Operations). joined o (made (set_of ys))) (sym (taken_made f k xs a p))
+    ∙ ap (λ (o : Operations). joined o (content_of (set_of ys))) (sym (taken_made f k xs a p))
     ∙ ap (joined (set_of (taken_of f xs))) (sym (taken_made g l ys b q))
 
 -- ---- fronts
@@ -143,19 +143,19 @@ module _ (f : Format) (archive : kind_of f ≡ Archive_text) where
 
 -- ---- the other side
 
-by_ahead : (s : Ahead) → (s ≡ Unread) ⊎ (s ≡ Held) ⊎ (s ≡ Ended)
+by_ahead : (s : Lookahead) → (s ≡ Unread) ⊎ (s ≡ Held) ⊎ (s ≡ Ended)
 by_ahead Unread = inl refl
 by_ahead Held = inr (inl refl)
 by_ahead Ended = inr (inr refl)
 
-unread_end : (s : Ahead) → s ≡ Unread → s ≡ Ended → ⊥
+unread_end : (s : Lookahead) → s ≡ Unread → s ≡ Ended → ⊥
 unread_end s p q = cc
 
-held_end : (s : Ahead) → s ≡ Held → s ≡ Ended → ⊥
+held_end : (s : Lookahead) → s ≡ Held → s ≡ Ended → ⊥
 held_end s p q = cc
 
 -- Its longest good front goes on above low: the text is whole, or what was read ends at low, or there is more.
-pub record GoesOn (t low : List ℕ) (done ys : List (List ℕ)) (ahead : Ahead) : Type 0 where
+pub record GoesOn (t low : List ℕ) (done ys : List (List ℕ)) (ahead : Lookahead) : Type 0 where
   pub more : List (List ℕ)
   pub is : ys ≡ done ++ more
   pub ordered : InOrder Archive low more
@@ -170,7 +170,7 @@ text_whole f t b done taken end =
     let k = taken_rest t (text_of f done) b taken in
     k.1 ∙ ap (λ (x : List ℕ). text_of f done ++ x) (k.2 end) ∙ append-nil (text_of f done)
 
-pub goes_on : (t low : List ℕ) (b : Option (List ℕ)) (done ys : List (List ℕ)) (side : Side) → Stands (Some t) b done low side → IsLongestFront side.reader.file t ys → GoesOn t low done ys side.ahead
+pub goes_on : (t low : List ℕ) (b : Option (List ℕ)) (done ys : List (List ℕ)) (side : MergeInput) → Stands (Some t) b done low side → IsLongestFront side.reader.file t ys → GoesOn t low done ys side.ahead
 goes_on t low b done ys side s l =
     let f : Format = side.reader.file in
     let ys_ordered : InOrder Archive [] ys = in_order_of f s.archive [] ys l.front.ordered in
@@ -210,7 +210,7 @@ goes_on t low b done ys side s l =
           record { more = []; is = u ∙ sym (append-nil done); ordered = tt; ended = λ _. u; place = inl (archive_text f s.archive t done h.0.ordered h.0.apart whole) }
     ]
 
-pub has_magic : (t low : List ℕ) (b : Option (List ℕ)) (done : List (List ℕ)) (side : Side) → Stands (Some t) b done low side → (rest : List ℕ) × (t ≡ magic_of side.reader.file ++ rest)
+pub has_magic : (t low : List ℕ) (b : Option (List ℕ)) (done : List (List ℕ)) (side : MergeInput) → Stands (Some t) b done low side → (rest : List ℕ) × (t ≡ magic_of side.reader.file ++ rest)
 has_magic t low b done side s =
     let magic : List ℕ = magic_of side.reader.file in
     elim (by_ahead side.ahead) [

@@ -9,8 +9,8 @@ use Rattle.std.specs.FinSet as set
 use Rattle.join_core.specs.Listing.{listing}
 use Rattle.join_core.proofs.Place.{len_listed}
 use Rattle.archive_core.specs.declared.operations.Operation.{Operation}
-use Rattle.archive_core.specs.Record.{IsOperation, rec}
-use Rattle.archive_core.specs.Content.{Operations, IsContent, made}
+use Rattle.archive_core.specs.Record.{IsOperation, record_bytes}
+use Rattle.archive_core.specs.Content.{Operations, IsContent, content_of}
 use Rattle.archive_core.specs.Summary.{Entries}
 use Rattle.archive_records.specs.Entry.{AreEntries}
 use Rattle.archive_records.specs.declared.fault.RecordFaultKind.{RecordFaultKind}
@@ -86,7 +86,7 @@ few_in Archive is xs a =
 few_in OldArchive is xs a =
     let b = in_order_old [] xs a in
     let kept_few : length (kept xs) ≤ length xs = kept_long xs in
-    let long : set.len (set.from_list {R = slice_cmp nat_cmp} (kept xs)) ≡ length (kept xs) = ap set.len (kept_set xs b) ∙ sym (length_written (made (set.from_list xs))) ∙ ap length (kept_records xs b) in
+    let long : set.len (set.from_list {R = slice_cmp nat_cmp} (kept xs)) ≡ length (kept xs) = ap set.len (kept_set xs b) ∙ sym (length_written (content_of (set.from_list xs))) ∙ ap length (kept_records xs b) in
     omega arith
 few_in Operations_file is xs a = absurd (no_operations_text is)
 few_in Summary_file is xs a = absurd (no_summary_text is)
@@ -384,14 +384,14 @@ archive_front content left failures old new (Err fault) h stopped other blames =
 -- a text is that of one list
 pub one_operations : (t : List ℕ) (xs ys : List Operation) → IsOperationsText t xs → IsOperationsText t ys → xs ≡ ys
 one_operations t xs ys p q =
-    let nil = append-nil (text_of Operations_file (map rec ys)) in
-    let same = same_records Operations_file t (map rec ys) [] (InOrder-operations [] ys q.are) tt (text_is t ys q ∙ sym nil) (λ _. refl) (map rec xs) [] (InOrder-operations [] xs p.are) tt (λ _. refl) (text_is t xs p ∙ sym (append-nil (text_of Operations_file (map rec xs)))) in
+    let nil = append-nil (text_of Operations_file (map record_bytes ys)) in
+    let same = same_records Operations_file t (map record_bytes ys) [] (InOrder-operations [] ys q.are) tt (text_is t ys q ∙ sym nil) (λ _. refl) (map record_bytes xs) [] (InOrder-operations [] xs p.are) tt (λ _. refl) (text_is t xs p ∙ sym (append-nil (text_of Operations_file (map record_bytes xs)))) in
     one_list xs ys p.are q.are same.0
 
 operations_text : (a b : Option (List ℕ)) (xs : List Operation) → AreRead a b xs → IfSome a (λ t. IsOperationsText t xs)
-operations_text a b xs h = found a (all_taken a b (text_of Operations_file (map rec xs)) h.taken h.at_end)
+operations_text a b xs h = found a (all_taken a b (text_of Operations_file (map record_bytes xs)) h.taken h.at_end)
   where
-    found : (a : Option (List ℕ)) → IfSome a (λ t. t ≡ text_of Operations_file (map rec xs)) → IfSome a (λ t. IsOperationsText t xs)
+    found : (a : Option (List ℕ)) → IfSome a (λ t. t ≡ text_of Operations_file (map record_bytes xs)) → IfSome a (λ t. IsOperationsText t xs)
     found None e = tt
     found (Some t) e = IsOperationsText-text t xs h.are e
 
@@ -402,7 +402,7 @@ operations_alone (Some t) b xs h = λ ys _ text. one_operations t xs ys (operati
 operations_machine : (a b : Option (List ℕ)) (fault : RecordFault) → HasStopped Operations_text a b fault → (fault.kind ≡ Truncated → IsAtEnd b) → IfSome a (λ t. (ys : List Operation) → All IsOperation ys → IsOperationsText t ys → IsOfMachine fault.kind)
 operations_machine None b fault stopped ended = tt
 operations_machine (Some t) b fault stopped ended = λ ys _ text.
-    machine_alone Operations_file t b (map rec ys) [] fault (stopped_in Operations_text t b fault stopped) ended (InOrder-operations [] ys text.are) tt (text_is t ys text ∙ sym (append-nil (text_of Operations_file (map rec ys)))) (λ _. refl) (λ _. refl)
+    machine_alone Operations_file t b (map record_bytes ys) [] fault (stopped_in Operations_text t b fault stopped) ended (InOrder-operations [] ys text.are) tt (text_is t ys text ∙ sym (append-nil (text_of Operations_file (map record_bytes ys)))) (λ _. refl) (λ _. refl)
 
 pub operations_whole : {R X : Type 0} (items : X → List Operation) (left : R → Option (List ℕ)) (failures : R → ℕ) (old new : R) (r : Result X RecordFault)
     → IfOk r (λ x. AreRead (left old) (left new) (items x)) → IfErr r (λ fault. HasStopped Operations_text (left old) (left new) fault) → FaultBlamesReader left failures old new r
@@ -419,10 +419,10 @@ operations_whole items left failures old new (Err fault) h stopped blames = (is_
 
 -- and it has no fault: behind it nothing is left
 pub operations_no_fault : (t : List ℕ) (xs : List Operation) (fault : RecordFault) → IsOperationsText t xs → IsOperationsFault t fault → ⊥
-operations_no_fault t xs fault p (inl m) = no_magic_fault Operations_file t (concat (map rec xs)) fault.kind p.whole m.0
+operations_no_fault t xs fault p (inl m) = no_magic_fault Operations_file t (concat (map record_bytes xs)) fault.kind p.whole m.0
 operations_no_fault t xs fault p (inr f) =
-    let nil = append-nil (text_of Operations_file (map rec xs)) in
-    no_fault_behind Operations_file t (map rec xs) [] (InOrder-operations [] xs p.are) tt (text_is t xs p ∙ sym nil) (λ _. refl) f.0 f.1 fault (λ counts. absurd (counts refl)) (λ _. refl) f.2 f.3
+    let nil = append-nil (text_of Operations_file (map record_bytes xs)) in
+    no_fault_behind Operations_file t (map record_bytes xs) [] (InOrder-operations [] xs p.are) tt (text_is t xs p ∙ sym nil) (λ _. refl) f.0 f.1 fault (λ counts. absurd (counts refl)) (λ _. refl) f.2 f.3
 
 -- ---- a summary that is read
 

@@ -31,10 +31,15 @@ pub mod Ascending
 pub mod Unions
 pub mod Covered
 pub mod Taken
-pub mod Turns
+pub mod MergeSteps
 pub mod Starts
 pub mod Fronts
 pub mod Places
 pub mod Orders
 pub mod Merges
 pub mod Sides
+pub mod Keyed
+pub mod Sought
+pub mod Stable
+pub mod RowsTold
+pub mod Made

@@ -5,7 +5,7 @@ use Rattle.std.proofs.lemmas.List.{append-nil}
 use Rattle.std.proofs.lemmas.List.Elements.{All-nil, All-cons, All-head, All-tail}
 use Rattle.std.specs.List.{concat}
 use Rattle.archive_core.specs.declared.operations.Operation.{Operation}
-use Rattle.archive_core.specs.Record.{IsOperation, rec}
+use Rattle.archive_core.specs.Record.{IsOperation, record_bytes}
 use Rattle.archive_core.proofs.Records.{record_of_operation, operation_of_record, one_operation}
 use Rattle.archive_records.specs.declared.format.Format.TheVariants.{Operations}
 use Rattle.archive_records.specs.Kind.{operations_magic, allows, may_follow}
@@ -16,29 +16,29 @@ any_order : (low x : List ℕ) → may_follow Operations low x ≡ true
 unfolding may_follow allows
 any_order low x = refl
 
-pub InOrder-operations : (low : List ℕ) (xs : List Operation) → All IsOperation xs → InOrder Operations low (map rec xs)
+pub InOrder-operations : (low : List ℕ) (xs : List Operation) → All IsOperation xs → InOrder Operations low (map record_bytes xs)
 InOrder-operations low [] h = tt
-InOrder-operations low (x ∷ xs) h = (record_of_operation x (All-head IsOperation x xs h), any_order low (rec x), InOrder-operations (rec x) xs (All-tail IsOperation x xs h))
+InOrder-operations low (x ∷ xs) h = (record_of_operation x (All-head IsOperation x xs h), any_order low (record_bytes x), InOrder-operations (record_bytes x) xs (All-tail IsOperation x xs h))
 
 -- records are those of operations
-pub operations_in : (low : List ℕ) (records : List (List ℕ)) → InOrder Operations low records → (xs : List Operation) × All IsOperation xs × (map rec xs ≡ records)
+pub operations_in : (low : List ℕ) (records : List (List ℕ)) → InOrder Operations low records → (xs : List Operation) × All IsOperation xs × (map record_bytes xs ≡ records)
 operations_in low [] h = ([], All-nil IsOperation, refl)
 operations_in low (r ∷ rs) h =
     let first = operation_of_record r h.0 in
     let rest = operations_in r rs h.2 in
-    (first.0 ∷ rest.0, All-cons IsOperation first.0 rest.0 first.1 rest.1, both (rec first.0) r (map rec rest.0) rs first.2 rest.2)
+    (first.0 ∷ rest.0, All-cons IsOperation first.0 rest.0 first.1 rest.1, both (record_bytes first.0) r (map record_bytes rest.0) rs first.2 rest.2)
   where
     both : (a b : List ℕ) (rs ss : List (List ℕ)) → a ≡ b → rs ≡ ss → a ∷ rs ≡ b ∷ ss
     both a b rs ss p q = cc
 
 -- of one list only
-pub one_list : (xs ys : List Operation) → All IsOperation xs → All IsOperation ys → map rec xs ≡ map rec ys → xs ≡ ys
+pub one_list : (xs ys : List Operation) → All IsOperation xs → All IsOperation ys → map record_bytes xs ≡ map record_bytes ys → xs ≡ ys
 one_list [] [] p q e = refl
 one_list [] (y ∷ ys) p q e = absurd cc
 one_list (x ∷ xs) [] p q e = absurd cc
 one_list (x ∷ xs) (y ∷ ys) p q e =
-    both x y xs ys (one_operation x y (All-head IsOperation x xs p) (All-head IsOperation y ys q) (heads (rec x) (rec y) (map rec xs) (map rec ys) e))
-    (one_list xs ys (All-tail IsOperation x xs p) (All-tail IsOperation y ys q) (tails (rec x) (rec y) (map rec xs) (map rec ys) e))
+    both x y xs ys (one_operation x y (All-head IsOperation x xs p) (All-head IsOperation y ys q) (heads (record_bytes x) (record_bytes y) (map record_bytes xs) (map record_bytes ys) e))
+    (one_list xs ys (All-tail IsOperation x xs p) (All-tail IsOperation y ys q) (tails (record_bytes x) (record_bytes y) (map record_bytes xs) (map record_bytes ys) e))
   where
     both : (a b : Operation) (rs ss : List Operation) → a ≡ b → rs ≡ ss → a ∷ rs ≡ b ∷ ss
     both a b rs ss p q = cc
@@ -51,8 +51,8 @@ one_list (x ∷ xs) (y ∷ ys) p q e =
 
 -- ---- their text
 
-pub IsOperationsText-text : (t : List ℕ) (xs : List Operation) → All IsOperation xs → t ≡ text_of Operations (map rec xs) → IsOperationsText t xs
-IsOperationsText-text t xs are e = record { are = are; whole = e ∙ ap (λ (x : List ℕ). operations_magic ++ x) (append-nil (concat (map rec xs))) }
+pub IsOperationsText-text : (t : List ℕ) (xs : List Operation) → All IsOperation xs → t ≡ text_of Operations (map record_bytes xs) → IsOperationsText t xs
+IsOperationsText-text t xs are e = record { are = are; whole = e ∙ ap (λ (x : List ℕ). operations_magic ++ x) (append-nil (concat (map record_bytes xs))) }
 
-pub text_is : (t : List ℕ) (xs : List Operation) → IsOperationsText t xs → t ≡ text_of Operations (map rec xs)
-text_is t xs text = text.whole ∙ ap (λ (x : List ℕ). operations_magic ++ x) (sym (append-nil (concat (map rec xs))))
+pub text_is : (t : List ℕ) (xs : List Operation) → IsOperationsText t xs → t ≡ text_of Operations (map record_bytes xs)
+text_is t xs text = text.whole ∙ ap (λ (x : List ℕ). operations_magic ++ x) (sym (append-nil (concat (map record_bytes xs))))

@@ -1,8 +1,8 @@
 -- From the bytes that a merge took to whole inputs.
 use Rattle.std.proofs.Common.{◌≡◌, ◌≢◌, ℕ, ◌^◌, ◌<◌, List, [], ◌∷◌, ◌++◌, length, Option, Some, None, Result, Ok, Err, refl, sym, ap, ◌∙◌, subst, arith, inl, inr, ◌⊎◌, length-append}
 use Rattle.std.specs.declared.cmp.Ordering.TheVariants.{Greater}
-use Rattle.archive_records.specs.declared.side.Ahead.TheVariants.{Held}
-use Rattle.archive_records.specs.declared.side.Side.{Side}
+use Rattle.archive_records.specs.declared.side.Lookahead.TheVariants.{Held}
+use Rattle.archive_records.specs.declared.side.MergeInput.{MergeInput}
 use Rattle.archive_records.specs.Front.{front_length}
 use Rattle.std.specs.Prelude.{IfSome}
 use Rattle.std.specs.FinSet as set
@@ -25,9 +25,9 @@ use Rattle.archive_records.specs.Fault.{IsOfText}
 use Rattle.archive_records.specs.Reading.{Blames, IsOfMachine, IsReadWhole}
 use Rattle.archive_records.specs.Reader.{HasReadAll, HasStopped, Stopped, IsReadTo, Position}
 use Rattle.archive_records.specs.Merging.{IsArchiveText, AreGoodRecords, LeftStops, RightStops, of_both, IsWrittenBefore, Stream, IsRefusedAlone, StopsBy, Merges}
-use Rattle.archive_records.specs.Turns.{StopsBeforeRecords, HasMagicRead, Stands, LeftStopped, RightStopped, WriteStopped, IsFull, LeftFull, RightFull, memory_behind, first_of, Leaves, BlamesBy, BlamesDevices, ByCause}
+use Rattle.archive_records.specs.MergeSteps.{StopsBeforeRecords, HasMagicRead, Stands, LeftStopped, RightStopped, WriteStopped, IsFull, LeftFull, RightFull, memory_behind, first_of, Leaves, BlamesBy, BlamesDevices, ByCause}
 use Rattle.archive_records.proofs.Puts.{length_written, concat-push}
-use Rattle.archive_records.proofs.Turns.{first_greater, first_held}
+use Rattle.archive_records.proofs.MergeSteps.{first_greater, first_held}
 use Rattle.archive_records.proofs.Apart.{apart_front}
 use Rattle.archive_records.proofs.Orders.{left_order, right_order}
 use Rattle.archive_records.proofs.Contents.{written_text}
@@ -66,7 +66,7 @@ front_in f low [] x a = tt
 front_in f low (y ∷ ys) x a = (a.0, a.1, front_in f y ys x a.2)
 
 -- memory was wanted for the record that a side holds
-held_stopped : (a b : Option (List ℕ)) (done : List (List ℕ)) (low : List ℕ) (s : Side) → Stands a b done low s → s.ahead ≡ Held → s.reader.count < 2 ^ 63 → Stopped s.reader.file a b done (memory_behind (front_length done))
+held_stopped : (a b : Option (List ℕ)) (done : List (List ℕ)) (low : List ℕ) (s : MergeInput) → Stands a b done low s → s.ahead ≡ Held → s.reader.count < 2 ^ 63 → Stopped s.reader.file a b done (memory_behind (front_length done))
 held_stopped a b done low s p held few =
     let h = (p.held held).0 in
     record {

@@ -12,14 +12,14 @@ use Rattle.join_core.specs.Listing.{listing}
 use Rattle.archive_records.specs.declared.fault.RecordFault.{RecordFault}
 use Rattle.archive_records.specs.declared.format.Format.{Format}
 use Rattle.archive_records.specs.declared.format.Format.TheVariants.{Archive}
-use Rattle.archive_records.specs.declared.side.Ahead.{Ahead}
-use Rattle.archive_records.specs.declared.side.Ahead.TheVariants.{Unread, Held, Ended}
-use Rattle.archive_records.specs.declared.side.Side.{Side}
+use Rattle.archive_records.specs.declared.side.Lookahead.{Lookahead}
+use Rattle.archive_records.specs.declared.side.Lookahead.TheVariants.{Unread, Held, Ended}
+use Rattle.archive_records.specs.declared.side.MergeInput.{MergeInput}
 use Rattle.archive_records.specs.Kind.{magic, magic_of, IsItem, may_follow}
 use Rattle.archive_records.specs.Text.{end_record, last_of, kept}
 use Rattle.archive_records.specs.Reader.{set_of, Stops}
 use Rattle.archive_records.specs.Merging.{Stream, IsTaken, IsMagicTaken, IsNext, IsOneMore, IsBehind, IsOut, IsInMagic, IsLeftBehind, IsRightBehind, all_of, of_both, most_records}
-use Rattle.archive_records.specs.Turns.{Stands, Joins, StopsBeforeRecords, HasMagicRead, LeftStopped, RightStopped, LeftFull, RightFull, first_by}
+use Rattle.archive_records.specs.MergeSteps.{Stands, Joins, StopsBeforeRecords, HasMagicRead, LeftStopped, RightStopped, LeftFull, RightFull, first_by}
 use Rattle.archive_records.proofs.Puts.{concat-push, length_written}
 use Rattle.archive_records.proofs.Forms.{item-no_end}
 use Rattle.archive_records.proofs.Ends.{end-is_end}
@@ -28,21 +28,21 @@ use Rattle.archive_records.proofs.Formats.{in_order_of, ending_of}
 use Rattle.archive_records.proofs.Places.{joins_listing, kept_listing, all_is}
 use Rattle.archive_records.proofs.Apart.{apart_front}
 use Rattle.archive_core.specs.Content.{Operations, is_covered}
-use Rattle.archive_records.proofs.Turns.{held_record, first_greater, first_held}
+use Rattle.archive_records.proofs.MergeSteps.{held_record, first_greater, first_held}
 
 -- ---- one side
 
 -- what was taken behind the records
-abbrev next_of : Ahead → List ℕ → List (List ℕ) → List ℕ
+abbrev next_of : Lookahead → List ℕ → List (List ℕ) → List ℕ
 next_of Unread x records = []
 next_of Held x records = x
 next_of Ended x records = end_record (length records)
 
-module _ {R : Type 0} (side : Stream R) (records : List (List ℕ)) (low : List ℕ) (s : Side) (p : Stands (side.bytes side.old) (side.bytes side.new) records low s) where
+module _ {R : Type 0} (side : Stream R) (records : List (List ℕ)) (low : List ℕ) (s : MergeInput) (p : Stands (side.bytes side.old) (side.bytes side.new) records low s) where
   abbrev next : List ℕ
   next = next_of s.ahead s.reader.last records
 
-  taken_by : (h : Ahead) → s.ahead ≡ h → IsTaken side records (next_of h s.reader.last records)
+  taken_by : (h : Lookahead) → s.ahead ≡ h → IsTaken side records (next_of h s.reader.last records)
   taken_by Unread e =
       let h = (p.unread e).0 in
       record {
@@ -74,7 +74,7 @@ module _ {R : Type 0} (side : Stream R) (records : List (List ℕ)) (low : List 
   taken_next : IsTaken side records next
   taken_next = taken_by s.ahead refl
 
-  next_by : (h : Ahead) → s.ahead ≡ h → h ≢ Unread → IsNext side low records (next_of h s.reader.last records)
+  next_by : (h : Lookahead) → s.ahead ≡ h → h ≢ Unread → IsNext side low records (next_of h s.reader.last records)
   next_by Unread e read = absurd (read refl)
   next_by Held e read = inl (held_record (side.bytes side.old) (side.bytes side.new) records low s p e, (p.held e).1)
   next_by Ended e read = inr (refl, (p.ended e).1)
@@ -82,7 +82,7 @@ module _ {R : Type 0} (side : Stream R) (records : List (List ℕ)) (low : List 
   next_is : s.ahead ≢ Unread → IsNext side low records next
   next_is read = next_by s.ahead refl read
 
-  more_by : (h : Ahead) → s.ahead ≡ h → h ≡ Held → IsItem Archive (next_of h s.reader.last records) × (may_follow Archive low (next_of h s.reader.last records) ≡ true)
+  more_by : (h : Lookahead) → s.ahead ≡ h → h ≡ Held → IsItem Archive (next_of h s.reader.last records) × (may_follow Archive low (next_of h s.reader.last records) ≡ true)
   more_by Unread e held = absurd cc
   more_by Held e held = (held_record (side.bytes side.old) (side.bytes side.new) records low s p e, (p.held e).1)
   more_by Ended e held = absurd cc
@@ -91,7 +91,7 @@ module _ {R : Type 0} (side : Stream R) (records : List (List ℕ)) (low : List 
   more_is held = more_by s.ahead refl held
 
   -- where it was not read on, its last record is low
-  turn_by : (h : Ahead) → s.ahead ≡ h → (h ≢ Unread → may_follow Archive (last_of [] records) low ≡ true)
+  turn_by : (h : Lookahead) → s.ahead ≡ h → (h ≢ Unread → may_follow Archive (last_of [] records) low ≡ true)
       → ((last_of [] records ≡ low) × (next_of h s.reader.last records ≡ [])) ⊎ ((may_follow Archive (last_of [] records) low ≡ true) × IsNext side low records (next_of h s.reader.last records))
   turn_by Unread e order = inl ((p.unread e).1, refl)
   turn_by Held e order = inr (order (λ t. absurd cc), next_by Held e (λ t. absurd cc))
@@ -109,14 +109,14 @@ greater_of : (x y : List ℕ) → may_follow Archive y x ≡ true → slice_cmp 
 greater_of x y below = nat_list_cmp_total.antisymm x y ∙ ap ordering_reverse (less_of y x below)
 
 -- which of two next records is first
-not_below : (l r : Ahead) (x y : List ℕ) (lefts rights : List (List ℕ)) → r ≢ Unread → first_by l r (slice_cmp nat_cmp x y) ≢ Greater → IsItem Archive (next_of r y rights) → may_follow Archive (next_of r y rights) (next_of l x lefts) ≡ true → ⊥
+not_below : (l r : Lookahead) (x y : List ℕ) (lefts rights : List (List ℕ)) → r ≢ Unread → first_by l r (slice_cmp nat_cmp x y) ≢ Greater → IsItem Archive (next_of r y rights) → may_follow Archive (next_of r y rights) (next_of l x lefts) ≡ true → ⊥
 not_below Held Held x y lefts rights read first item below = first (greater_of x y below)
 not_below Held Ended x y lefts rights read first item below = end_no_item (length rights) item
 not_below Held Unread x y lefts rights read first item below = read refl
 not_below Ended r x y lefts rights read first item below = first refl
 not_below Unread r x y lefts rights read first item below = first refl
 
-is_below : (l r : Ahead) (x y : List ℕ) (lefts rights : List (List ℕ)) → l ≢ Unread → r ≡ Held → first_by l r (slice_cmp nat_cmp x y) ≡ Greater → IsItem Archive (next_of l x lefts) → may_follow Archive (next_of r y rights) (next_of l x lefts) ≡ true
+is_below : (l r : Lookahead) (x y : List ℕ) (lefts rights : List (List ℕ)) → l ≢ Unread → r ≡ Held → first_by l r (slice_cmp nat_cmp x y) ≡ Greater → IsItem Archive (next_of l x lefts) → may_follow Archive (next_of r y rights) (next_of l x lefts) ≡ true
 is_below Held Held x y lefts rights read held first item = below-greater x y first
 is_below Held Ended x y lefts rights read held first item = absurd cc
 is_below Held Unread x y lefts rights read held first item = absurd cc
@@ -131,7 +131,7 @@ behind_is f records rest fault (inr (inl s)) = inr (s.0, s.2)
 behind_is f records rest fault (inr (inr s)) = inl s.2
 
 -- a held record that is not covered
-free_by : (h : Ahead) (o : Operations) (x : List ℕ) (records : List (List ℕ)) → h ≡ Held → is_covered o x ≡ false → is_covered o (next_of h x records) ≡ false
+free_by : (h : Lookahead) (o : Operations) (x : List ℕ) (records : List (List ℕ)) → h ≡ Held → is_covered o x ≡ false → is_covered o (next_of h x records) ≡ false
 free_by Unread o x records held free = absurd cc
 free_by Held o x records held free = free
 free_by Ended o x records held free = absurd cc

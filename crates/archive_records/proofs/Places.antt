@@ -20,13 +20,13 @@ use Rattle.archive_records.specs.declared.fault.RecordFault.{RecordFault}
 use Rattle.archive_records.specs.declared.format.Format.{Format}
 use Rattle.archive_records.specs.declared.format.Format.TheVariants.{Archive}
 use Rattle.archive_records.specs.declared.kind.TextKind.TheVariants.{Archive as Archive_text}
-use Rattle.archive_records.specs.declared.side.Side.{Side}
+use Rattle.archive_records.specs.declared.side.MergeInput.{MergeInput}
 use Rattle.archive_records.specs.Kind.{magic, magic_of, kind_of, may_follow}
 use Rattle.archive_records.specs.Text.{end_record, text_of, InOrder, last_of, written, kept}
 use Rattle.archive_records.specs.Fault.{IsOfText}
 use Rattle.archive_records.specs.Front.{IsLongestFront}
 use Rattle.archive_records.specs.Merging.{HasMagic, IsArchiveText, AreGoodRecords, LeftStops, RightStops, all_of, of_both, up_to, IsWrittenBefore}
-use Rattle.archive_records.specs.Turns.{Stands, Joins, StopsBeforeRecords, LeftStopped, RightStopped, WriteStopped, IsFull}
+use Rattle.archive_records.specs.MergeSteps.{Stands, Joins, StopsBeforeRecords, LeftStopped, RightStopped, WriteStopped, IsFull}
 use Rattle.archive_records.proofs.Contents.{order, contained, containing, listing_is, members_listed, sorted-InOrder, InOrder-set, are_records, content_is, written_text}
 use Rattle.archive_records.specs.Reader.{set_of}
 use Rattle.archive_records.proofs.Puts.{bytes_same}
@@ -179,17 +179,17 @@ no_magic t b fault known ended s m =
 pub text_begins : (f : Format) → kind_of f ≡ Archive_text → (t : List ℕ) → (rest : List ℕ) × (t ≡ magic_of f ++ rest) → HasMagic t
 text_begins f k t m = (f, k, m.0, m.1)
 
-pub side_begins : (t low : List ℕ) (b : Option (List ℕ)) (done : List (List ℕ)) (side : Side) → Stands (Some t) b done low side → HasMagic t
+pub side_begins : (t low : List ℕ) (b : Option (List ℕ)) (done : List (List ℕ)) (side : MergeInput) → Stands (Some t) b done low side → HasMagic t
 side_begins t low b done side s = text_begins side.reader.file s.archive t (has_magic t low b done side s)
 
 -- and its good records are those of its longest good front
-side_front : (t low : List ℕ) (b : Option (List ℕ)) (done xs : List (List ℕ)) (side : Side) → Stands (Some t) b done low side → AreGoodRecords t xs → IsLongestFront side.reader.file t xs
+side_front : (t low : List ℕ) (b : Option (List ℕ)) (done xs : List (List ℕ)) (side : MergeInput) → Stands (Some t) b done low side → AreGoodRecords t xs → IsLongestFront side.reader.file t xs
 side_front t low b done xs side s g = front_of side.reader.file s.archive t xs (has_magic t low b done side s) g
 
-side_ordered : (t low : List ℕ) (b : Option (List ℕ)) (done xs : List (List ℕ)) (side : Side) → Stands (Some t) b done low side → AreGoodRecords t xs → InOrder Archive [] xs
+side_ordered : (t low : List ℕ) (b : Option (List ℕ)) (done xs : List (List ℕ)) (side : MergeInput) → Stands (Some t) b done low side → AreGoodRecords t xs → InOrder Archive [] xs
 side_ordered t low b done xs side s g = in_order_of side.reader.file s.archive [] xs (side_front t low b done xs side s g).front.ordered
 
-side_goes : (t low : List ℕ) (b : Option (List ℕ)) (done xs : List (List ℕ)) (side : Side) → Stands (Some t) b done low side → AreGoodRecords t xs → GoesOn t low done xs side.ahead
+side_goes : (t low : List ℕ) (b : Option (List ℕ)) (done xs : List (List ℕ)) (side : MergeInput) → Stands (Some t) b done low side → AreGoodRecords t xs → GoesOn t low done xs side.ahead
 side_goes t low b done xs side s g = goes_on t low b done xs side s (side_front t low b done xs side s g)
 
 -- ---- both texts are known
@@ -313,7 +313,7 @@ module _ (t u : List ℕ) (b1 b2 w0 w1 : Option (List ℕ)) (xs ys : List (List 
 
   -- ---- both sides stand
 
-  module _ (out lefts rights : List (List ℕ)) (left right : Side) (l : Stands (Some t) b1 lefts (last_of [] out) left) (r : Stands (Some u) b2 rights (last_of [] out) right) (joins : Joins out lefts rights) where
+  module _ (out lefts rights : List (List ℕ)) (left right : MergeInput) (l : Stands (Some t) b1 lefts (last_of [] out) left) (r : Stands (Some u) b2 rights (last_of [] out) right) (joins : Joins out lefts rights) where
     left_goes : GoesOn t (last_of [] out) lefts xs left.ahead
     left_goes = side_goes t (last_of [] out) b1 lefts xs left l gx
 

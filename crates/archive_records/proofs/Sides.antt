@@ -6,7 +6,7 @@ use Rattle.std.specs.List.{concat}
 use Rattle.std.specs.FinSet as set
 use Rattle.join_core.specs.Listing.{listing}
 use Rattle.byte_device.specs.Writes.{WritesFirst}
-use Rattle.archive_core.specs.Content.{Operations, IsContent, joined, made}
+use Rattle.archive_core.specs.Content.{Operations, IsContent, joined, content_of}
 use Rattle.archive_core.proofs.Made.{joined_made}
 use Rattle.archive_records.specs.declared.fault.RecordFault.{RecordFault}
 use Rattle.archive_records.specs.declared.format.Format.{Format}
@@ -107,7 +107,7 @@ pub of_both_is : (o p : Operations) → of_both (listing o) (listing p) ≡ join
 of_both_is o p = ap (λ (x : Operations). joined x (set.from_list (listing p))) (sym (content_is o)) ∙ ap (joined o) (sym (content_is p))
 
 -- and it is that of the contents that they make
-pub of_both_made : (o p : Operations) → of_both (listing o) (listing p) ≡ joined (made o) (made p)
+pub of_both_made : (o p : Operations) → of_both (listing o) (listing p) ≡ joined (content_of o) (content_of p)
 of_both_made o p = of_both_is o p ∙ sym (joined_made o p)
 
 abbrev ForBoth : Option (List ℕ) → Option (List ℕ) → (List (List ℕ) → List (List ℕ) → Type 0) → Type 0

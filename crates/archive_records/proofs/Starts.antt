@@ -9,8 +9,8 @@ use Rattle.archive_records.specs.declared.format.Format.{Format}
 use Rattle.archive_records.specs.declared.format.Format.TheVariants.{Archive}
 use Rattle.archive_records.specs.declared.kind.TextKind.TheVariants.{Archive as Archive_text}
 use Rattle.archive_records.specs.declared.merging.Merge.{Merge}
-use Rattle.archive_records.specs.declared.side.Ahead.TheVariants.{Unread, Held, Ended}
-use Rattle.archive_records.specs.declared.side.Side.{Side}
+use Rattle.archive_records.specs.declared.side.Lookahead.TheVariants.{Unread, Held, Ended}
+use Rattle.archive_records.specs.declared.side.MergeInput.{MergeInput}
 use Rattle.archive_records.specs.Kind.{magic, magic_of, kind_of, may_follow}
 use Rattle.archive_records.specs.Text.{end_record, text_of, last_of, kept}
 use Rattle.archive_records.specs.Reader.{HasRead, Passes, Position, Stopped}
@@ -18,13 +18,13 @@ use Rattle.archive_records.specs.declared.fault.RecordFault.{RecordFault}
 use Rattle.archive_records.proofs.Steps.{HasRead-grows}
 use Rattle.archive_records.proofs.Formats.{follows_of}
 use Rattle.archive_records.proofs.Covered.{kept_none}
-use Rattle.archive_records.specs.Turns.{Stands, Joins, Merging, StopsBeforeRecords, HasMagicRead, LeftStopped, RightStopped, WriteStopped, LeftFull, RightFull, ByCause, HasStoppedMerge, Stops as MergeStops}
+use Rattle.archive_records.specs.MergeSteps.{Stands, Joins, Merging, StopsBeforeRecords, HasMagicRead, LeftStopped, RightStopped, WriteStopped, LeftFull, RightFull, ByCause, HasStoppedMerge, Stops as MergeStops}
 use Rattle.archive_records.specs.declared.fault.MergeCause.{MergeCause}
 use Rattle.archive_records.specs.declared.fault.MergeCause.TheVariants.{Left, Right, Write}
 use Rattle.archive_records.specs.declared.fault.MergeFault.{MergeFault}
 
 -- one record more was read of a side
-pub stands_held : (a b c : Option (List ℕ)) (done : List (List ℕ)) (before : Position) (side : Side) → kind_of before.file ≡ Archive_text → HasRead before.file a b done before → Passes b c before side.reader → side.ahead ≡ Held → Stands a c done (last_of [] done) side
+pub stands_held : (a b c : Option (List ℕ)) (done : List (List ℕ)) (before : Position) (side : MergeInput) → kind_of before.file ≡ Archive_text → HasRead before.file a b done before → Passes b c before side.reader → side.ahead ≡ Held → Stands a c done (last_of [] done) side
 stands_held a b c done before side k h s held = record {
   archive = ap kind_of s.file_is ∙ k;
   unread = λ t. absurd (held_unread (sym held ∙ t));
@@ -41,7 +41,7 @@ stands_held a b c done before side k h s held = record {
     held_ended : Held ≡ Ended → ⊥
     held_ended e = cc
 
-stands_start : (a b : Option (List ℕ)) (side : Side) → kind_of side.reader.file ≡ Archive_text → HasRead side.reader.file a b [] side.reader → side.ahead ≡ Unread → Stands a b [] [] side
+stands_start : (a b : Option (List ℕ)) (side : MergeInput) → kind_of side.reader.file ≡ Archive_text → HasRead side.reader.file a b [] side.reader → side.ahead ≡ Unread → Stands a b [] [] side
 stands_start a b side k h s = record { archive = k; unread = λ _. (h, refl); held = λ t. absurd (unread_not_held (sym s ∙ t)); ended = λ t. absurd (unread_not_ended (sym s ∙ t)) }
   where
     unread_not_held : Unread ≡ Held → ⊥
@@ -53,7 +53,7 @@ stands_start a b side k h s = record { archive = k; unread = λ _. (h, refl); he
 joins_start : Joins [] [] []
 joins_start = record { ordered = tt; from = λ z c. inl c; left = λ z c. c; right = λ z c. c }
 
-module _ (a1 b1 a2 b2 w0 w1 : Option (List ℕ)) (left right : Side) (f : kind_of left.reader.file ≡ Archive_text) (g : kind_of right.reader.file ≡ Archive_text) (h : HasRead left.reader.file a1 b1 [] left.reader) (k : HasRead right.reader.file a2 b2 [] right.reader) (s : left.ahead ≡ Unread) (t : right.ahead ≡ Unread) (x : List ℕ) (x_is : x ≡ magic) where
+module _ (a1 b1 a2 b2 w0 w1 : Option (List ℕ)) (left right : MergeInput) (f : kind_of left.reader.file ≡ Archive_text) (g : kind_of right.reader.file ≡ Archive_text) (h : HasRead left.reader.file a1 b1 [] left.reader) (k : HasRead right.reader.file a2 b2 [] right.reader) (s : left.ahead ≡ Unread) (t : right.ahead ≡ Unread) (x : List ℕ) (x_is : x ≡ magic) where
   pub merging_start : (written : ℕ) → written ≡ 0 + length x → Appends w0 w1 x → Merging a1 b1 a2 b2 w0 w1 (record { left = left; right = right; written = record { records = 0; bytes = written } })
   merging_start written n p = record {
     lefts = [];
@@ -132,7 +132,7 @@ module _ (a1 a2 w0 w1 b1 b2 c1 : Option (List ℕ)) (m : Merge) (p : Merging a1 
         gained = p.gained;
       }))
 
-  module _ (c2 : Option (List ℕ)) (left : Side) (read : left.ahead ≢ Unread) (stands : (done : List (List ℕ)) (low : List ℕ) → Stands a1 b1 done low m.left → Stands a1 c1 done low left) where
+  module _ (c2 : Option (List ℕ)) (left : MergeInput) (read : left.ahead ≢ Unread) (stands : (done : List (List ℕ)) (low : List ℕ) → Stands a1 b1 done low m.left → Stands a1 c1 done low left) where
     -- the right one did
     pub right_stops : (fault : RecordFault) (e : MergeFault) → e ≡ record { cause = Right fault; written = m.written.bytes } → ((done : List (List ℕ)) (low : List ℕ) → Stands a2 b2 done low m.right → Stopped m.right.reader.file a2 c2 done fault × (last_of [] done ≡ low))
         → HasStoppedMerge a1 c1 a2 c2 w0 w1 e
@@ -155,7 +155,7 @@ module _ (a1 a2 w0 w1 b1 b2 c1 : Option (List ℕ)) (m : Merge) (p : Merging a1 
         }))
 
     -- none did
-    pub both_read : (right : Side) → ((done : List (List ℕ)) (low : List ℕ) → Stands a2 b2 done low m.right → Stands a2 c2 done low right) → Merging a1 c1 a2 c2 w0 w1 (record { left = left; right = right; written = m.written })
+    pub both_read : (right : MergeInput) → ((done : List (List ℕ)) (low : List ℕ) → Stands a2 b2 done low m.right → Stands a2 c2 done low right) → Merging a1 c1 a2 c2 w0 w1 (record { left = left; right = right; written = m.written })
     both_read right stood = record {
       lefts = p.lefts;
       rights = p.rights;

@@ -12,8 +12,8 @@ use Rattle.archive_records.specs.Kind.{magic_of, IsItem, end_length, may_follow}
 use Rattle.archive_records.specs.Text.{end_record, ending, text_of, InOrder, last_of}
 use Rattle.archive_records.specs.Fault.{next, IsUnended, FailsNext, FailsBehind, Fails}
 use Rattle.archive_records.specs.Reading.{Blames}
-use Rattle.archive_records.specs.declared.next.Step.{Step}
-use Rattle.archive_records.specs.declared.next.Step.TheVariants.{End, Item}
+use Rattle.archive_records.specs.declared.next.NextRecord.{NextRecord}
+use Rattle.archive_records.specs.declared.next.NextRecord.TheVariants.{End, Item}
 use Rattle.archive_core.specs.declared.slices.SliceFacts.{SliceFacts}
 use Rattle.archive_records.specs.Reader.{IfEnd, IfItem, Position, set_of, RetireAlike, KeepsIn, AreRetired, IsCoveredThere, Passes, Finishes, StopsAt, HasRead, HasReadAll, Stopped, IsEnded, seen_as}
 use Rattle.archive_records.proofs.Apart.{apart_more, retired_more, drops_more, covered_alike, last_of-push}
@@ -116,11 +116,11 @@ module _ (file : Format) where
   }
 
 -- what holds at the end, and of an item, may be said in other words
-pub IfEnd-then : {P Q : Type 0} (step : Step) → IfEnd step P → (P → Q) → IfEnd step Q
+pub IfEnd-then : {P Q : Type 0} (step : NextRecord) → IfEnd step P → (P → Q) → IfEnd step Q
 IfEnd-then End p f = f p
 IfEnd-then (Item found) p f = tt
 
-pub IfItem-then : {P Q : Option SliceFacts → Type 0} (step : Step) → IfItem step P → ((found : Option SliceFacts) → P found → Q found) → IfItem step Q
+pub IfItem-then : {P Q : Option SliceFacts → Type 0} (step : NextRecord) → IfItem step P → ((found : Option SliceFacts) → P found → Q found) → IfItem step Q
 IfItem-then End p f = tt
 IfItem-then (Item found) p f = f found p
 

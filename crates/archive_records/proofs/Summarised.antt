@@ -1,5 +1,5 @@
 -- The entries that a summary keeps.
-use Rattle.std.proofs.Common.{◌≡◌, ℕ, ◌+◌, ◌<◌, Bool, true, false, cond, ◌||◌, List, [], ◌∷◌, ◌++◌, length, map, take, get_or, refl, sym, ap, ◌∙◌, subst, inl, inr, ◌⊎◌}
+use Rattle.std.proofs.Common.{◌≡◌, ℕ, ◌+◌, ◌<◌, Bool, true, false, cond, ◌||◌, List, [], ◌∷◌, ◌++◌, length, map, take, drop, get_or, ◌==◌, if◌then◌else◌, refl, sym, ap, ◌∙◌, subst, inl, inr, ◌⊎◌}
 use Rattle.std.specs.Ordering.{eq_by_cmp, is_lt}
 use Rattle.std.specs.declared.cmp.Ordering.TheVariants.{Less}
 use Rattle.std.specs.Cmp.{Equal-is, on_total}
@@ -15,15 +15,18 @@ use Rattle.std.specs.Prelude.{Result, Ok, Err, is_ok}
 use Rattle.join_core.specs.Listing.{listing}
 use Rattle.join_core.specs.InnerSearch.{IsFound}
 use Rattle.archive_core.specs.Record.{IsRecord}
-use Rattle.archive_core.specs.Content.{Operations, IsContent}
-use Rattle.archive_core.specs.Summary.{Entries, entry, summary}
+use Rattle.sha2.specs.Sha256.{sha256}
+use Rattle.archive_core.specs.Content.{Operations, IsContent, key_and_digest}
+use Rattle.archive_core.specs.Summary.{entry, summary}
 use Rattle.archive_core.proofs.Entries.{admission_entry, retirement_entry, length-entry}
 use Rattle.archive_core.proofs.Summaries.{member_of_entry}
 use Rattle.archive_records.specs.declared.entry.Entry.{Entry}
 use Rattle.archive_records.specs.Entry.{entry_bytes, IsEntry, AreEntries}
+use Rattle.archive_records.specs.declared.format.Format.TheVariants.{Archive}
+use Rattle.archive_records.specs.Text.{InOrder}
 use Rattle.archive_records.specs.Reader.{AreListed}
 use Rattle.archive_records.proofs.Puts.{bytes_same}
-use Rattle.archive_records.proofs.Contents.{order, along}
+use Rattle.archive_records.proofs.Contents.{order, along, InOrder-listing}
 
 -- the entry of a record
 tag_of : (r : List ℕ) → IsRecord r → (get_or (entry r) 0 0 ≡ 1) ⊎ (get_or (entry r) 0 0 ≡ 2)
@@ -101,20 +104,42 @@ unfolding IsStrictlySortedBy
 sorted_bytes [] h = tt
 sorted_bytes (x ∷ xs) h = (below_each x xs h.0, sorted_bytes xs h.1)
 
--- what sorting and dropping repeats leaves of the entries of a content
-module _ (o : Operations) (gathered moved kept : List Entry) (of : map entry_bytes gathered ≡ map entry (listing o)) (permuted : IsPermutation gathered moved) (once : kept ≡ dedup tie moved) where
-  any_kept : (p : List ℕ → Bool) → list_any p (map entry_bytes kept) ≡ list_any p (map entry (listing o))
+-- what sorting and dropping repeats leaves
+module _ (gathered moved kept : List Entry) (permuted : IsPermutation gathered moved) (once : kept ≡ dedup tie moved) where
+  any_kept : (p : List ℕ → Bool) → list_any p (map entry_bytes kept) ≡ list_any p (map entry_bytes gathered)
   any_kept p =
       ap (λ (xs : List Entry). list_any p (map entry_bytes xs)) once ∙ any_dedup p moved
-      ∙ sym (list_any-IsPermutation p (map entry_bytes gathered) (map entry_bytes moved) (IsPermutation-map entry_bytes gathered moved permuted)) ∙ ap (list_any p) of
+      ∙ sym (list_any-IsPermutation p (map entry_bytes gathered) (map entry_bytes moved) (IsPermutation-map entry_bytes gathered moved permuted))
 
-  pub summary_kept : set.from_list (map entry_bytes kept) ≡ summary o
-  unfolding summary
-  summary_kept = same_set nat_list_cmp_total bytes_same (set.from_list (map entry_bytes kept)) (set.from_list (map entry (listing o))) (λ q.
-      contains-from_list nat_list_cmp_total (map entry_bytes kept) q ∙ any_kept (eq_by_cmp order q) ∙ sym (contains-from_list nat_list_cmp_total (map entry (listing o)) q))
+  pub set_kept : set.from_list {R = order} (map entry_bytes kept) ≡ set.from_list (map entry_bytes gathered)
+  set_kept = same_set nat_list_cmp_total bytes_same (set.from_list (map entry_bytes kept)) (set.from_list (map entry_bytes gathered)) (λ q.
+      contains-from_list nat_list_cmp_total (map entry_bytes kept) q ∙ any_kept (eq_by_cmp order q) ∙ sym (contains-from_list nat_list_cmp_total (map entry_bytes gathered) q))
 
-  pub listed_kept : IsContent o → IsSortedBy (λ x y. is_lt (order (entry_bytes x) (entry_bytes y))) moved → AreListed (map entry_bytes kept)
-  listed_kept content sorted = record {
+  pub listed_kept : AllByRecursion IsEntry (map entry_bytes gathered) → IsSortedBy (λ x y. is_lt (order (entry_bytes x) (entry_bytes y))) moved → AreListed (map entry_bytes kept)
+  listed_kept all sorted = record {
     ascending = sorted_bytes kept (subst (IsStrictlySortedBy (λ x y. order (entry_bytes x) (entry_bytes y))) (sym once) (IsStrictlySortedBy-dedup (on_total entry_bytes nat_list_cmp_total) (λ x y. refl) moved sorted));
-    are = along IsEntry (map entry_bytes kept) (λ q e. AreEntries-summary o content q (ap (λ (s : Entries). set.contains s q) (sym summary_kept) ∙ contains-from_list nat_list_cmp_total (map entry_bytes kept) q ∙ e));
+    are = along IsEntry (map entry_bytes kept) (λ q e. AreEntries-listed (map entry_bytes gathered) all q (contains-from_list nat_list_cmp_total (map entry_bytes gathered) q ∙ sym (any_kept (eq_by_cmp order q)) ∙ e));
   }
+
+-- ---- the entries of a content
+
+ordered_entries : (low : List ℕ) (rs : List (List ℕ)) → InOrder Archive low rs → AllByRecursion IsEntry (map entry rs)
+ordered_entries low [] a = tt
+ordered_entries low (r ∷ rs) a = (is_entry r a.0, ordered_entries r rs a.2)
+
+pub entries_of_content : (o : Operations) (entries : List Entry) → IsContent o → map entry_bytes entries ≡ map entry (listing o) → AllByRecursion IsEntry (map entry_bytes entries)
+entries_of_content o entries content are = subst (AllByRecursion IsEntry) (sym are) (ordered_entries [] (listing o) (InOrder-listing o content))
+
+pub summary_of_entries : (o : Operations) (entries : List Entry) → map entry_bytes entries ≡ map entry (listing o) → set.from_list (map entry_bytes entries) ≡ summary o
+unfolding summary
+summary_of_entries o entries are = ap set.from_list are
+
+-- the entry of one record more
+pub entries_more : (before after : List Entry) (e : Entry) (records : List (List ℕ)) (r : List ℕ) → after ≡ before ++ e ∷ [] → entry_bytes e ≡ entry r → map entry_bytes before ≡ map entry records → map entry_bytes after ≡ map entry (records ++ r ∷ [])
+entries_more before after e records r grown of are =
+    ap (map entry_bytes) grown ∙ map-append entry_bytes before (e ∷ []) ∙ (λ i. are i ++ of i ∷ []) ∙ sym (map-append entry records (r ∷ []))
+
+-- the entry of an admission, by its key and the digest of its slice
+pub entry_of_admission : (bytes key digest : List ℕ) → get_or bytes 0 0 ≡ 2 → key ≡ take 24 (drop 1 bytes) → digest ≡ sha256 (drop 33 bytes) → 2 ∷ (key ++ digest) ≡ entry bytes
+unfolding entry key_and_digest
+entry_of_admission bytes key digest tag k d = (λ i. 2 ∷ (k i ++ d i)) ∙ sym (ap (λ n. if n == 2 then 2 ∷ (take 24 (drop 1 bytes) ++ sha256 (drop 33 bytes)) else bytes) tag)

@@ -5,7 +5,7 @@ use Rattle.std.proofs.lemmas.List.Elements.{Contains-append_left, Contains-push,
 use Rattle.archive_records.specs.declared.format.Format.TheVariants.{Archive}
 use Rattle.archive_records.specs.Kind.{may_follow, IsItem}
 use Rattle.archive_records.specs.Text.{last_of}
-use Rattle.archive_records.specs.Turns.{Joins}
+use Rattle.archive_records.specs.MergeSteps.{Joins}
 use Rattle.archive_records.proofs.Steps.{InOrder-push}
 
 pushed : (xs : List (List ℕ)) (x z : List ℕ) → x ≡ z → Contains (xs ++ x ∷ []) z

@@ -7,7 +7,7 @@ use Rattle.std.specs.FinSet as set
 use Rattle.join_core.specs.Listing.{listing}
 use Rattle.join_core.proofs.Listing.{listing_ascending}
 use Rattle.join_core.proofs.Retain.{listing_retain}
-use Rattle.archive_core.specs.Content.{Operations, IsContent, is_covered, made}
+use Rattle.archive_core.specs.Content.{Operations, IsContent, is_covered, content_of}
 use Rattle.archive_core.proofs.Made.{made_again, from_made}
 use Rattle.archive_records.specs.declared.fault.RecordFault.{RecordFault}
 use Rattle.archive_records.specs.declared.format.Format.{Format}
@@ -29,14 +29,14 @@ listing_of : (xs : List (List ℕ)) → InOrder Archive [] xs → listing (set_o
 listing_of xs a = listing_ascending nat_list_cmp_total bytes_same xs (sorted-InOrder [] xs a).1
 
 -- those that are kept are the members of what they make
-pub kept_records : (xs : List (List ℕ)) → InOrder Archive [] xs → listing (made (set_of xs)) ≡ kept xs
+pub kept_records : (xs : List (List ℕ)) → InOrder Archive [] xs → listing (content_of (set_of xs)) ≡ kept xs
 unfolding kept
 kept_records xs a =
     listing_retain nat_list_cmp_total bytes_same (λ r. not (is_covered (set_of xs) r)) (set_of xs)
     ∙ ap (λ (t : List (List ℕ)). filter (λ r. not (is_covered (set_of xs) r)) t) (listing_of xs a)
 
-pub kept_set : (xs : List (List ℕ)) → InOrder Archive [] xs → set_of (kept xs) ≡ made (set_of xs)
-kept_set xs a = ap set_of (sym (kept_records xs a)) ∙ sym (content_is (made (set_of xs)))
+pub kept_set : (xs : List (List ℕ)) → InOrder Archive [] xs → set_of (kept xs) ≡ content_of (set_of xs)
+kept_set xs a = ap set_of (sym (kept_records xs a)) ∙ sym (content_is (content_of (set_of xs)))
 
 filter_long : (p : List ℕ → Bool) (xs : List (List ℕ)) → length (filter p xs) ≤ length xs
 filter_long p [] = omega arith
@@ -60,7 +60,7 @@ pub old_written-records : (xs : List (List ℕ)) → InOrder Archive [] xs → o
 old_written-records xs a = old_written_text (set_of xs) ∙ ap (text_of OldArchive) (listing_of xs a)
 
 -- what operations make is a content
-pub made_content : (p : Operations) → AreOperations p → IsContent (made p)
+pub made_content : (p : Operations) → AreOperations p → IsContent (content_of p)
 made_content p are = record { itself = made_again p; records = λ r h. are r (from_made p r h) }
 
 -- ---- a text of either version
@@ -95,7 +95,7 @@ formed o text c (inr old) =
       ordered = old_in_order [] (listing p) a;
       apart = tt;
       whole = old.whole ∙ old_written_text p;
-      content = old.makes ∙ ap made (content_is p) ∙ sym (kept_set (listing p) a);
+      content = old.makes ∙ ap content_of (content_is p) ∙ sym (kept_set (listing p) a);
     }
 
 content_in : (f : Format) → kind_of f ≡ Archive_text → (xs : List (List ℕ)) → InOrder f [] xs → AreApart f xs → IsContent (set.from_list (taken_of f xs))

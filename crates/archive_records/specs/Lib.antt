@@ -1,4 +1,6 @@
 pub mod Entry
+pub mod Keys
+pub mod Names
 pub mod Kind
 pub mod Layout
 pub mod Text
@@ -8,4 +10,6 @@ pub mod Reading
 pub mod Writing
 pub mod Reader
 pub mod Merging
-pub mod Turns
+pub mod MergeSteps
+pub mod InnerNames
+pub mod InnerRows

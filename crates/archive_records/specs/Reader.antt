@@ -11,7 +11,7 @@ use Rattle.std.specs.Io.KnownBytes.{Consumes, IsAtEnd}
 use Rattle.archive_core.specs.declared.operations.Operation.{Operation}
 use Rattle.archive_core.specs.declared.slices.SliceFacts.{SliceFacts}
 use Rattle.archive_core.specs.Valid.{IsCheckedOf}
-use Rattle.archive_core.specs.Record.{IsOperation, rec, IsRecord, Admits, Retires}
+use Rattle.archive_core.specs.Record.{IsOperation, record_bytes, IsRecord, Admits, Retires}
 use Rattle.archive_core.specs.Content.{Operations, IsMade, is_covered}
 use Rattle.archive_core.specs.Part.{part}
 use Rattle.archive_records.specs.declared.format.Format.{Format}
@@ -22,8 +22,8 @@ use Rattle.archive_records.specs.declared.kind.TextKind.TheVariants.{Archive as 
 use Rattle.archive_records.specs.declared.kind.TextKind.TheVariants.{Operations as Operations_text}
 use Rattle.archive_records.specs.declared.kind.TextKind.TheVariants.{Summary as Summary_text}
 use Rattle.archive_records.specs.declared.buffer.Buffer.{Buffer}
-use Rattle.archive_records.specs.declared.next.Step.{Step}
-use Rattle.archive_records.specs.declared.next.Step.TheVariants.{End, Item}
+use Rattle.archive_records.specs.declared.next.NextRecord.{NextRecord}
+use Rattle.archive_records.specs.declared.next.NextRecord.TheVariants.{End, Item}
 use Rattle.archive_records.specs.declared.fault.RecordFaultKind.{RecordFaultKind}
 use Rattle.archive_records.specs.declared.fault.RecordFaultKind.TheVariants.{BadMagic, Truncated, BadTag, TooLarge}
 use Rattle.archive_records.specs.declared.fault.RecordFaultKind.TheVariants.{NotAscending, BadSlice}
@@ -100,12 +100,12 @@ IsFoundIn Operations_text item found = IsFound item found
 IsFoundIn Summary_text item found = IsEntry item
 
 -- what holds where the file ends
-abbrev pub IfEnd : Step → Type 0 → Type 0
+abbrev pub IfEnd : NextRecord → Type 0 → Type 0
 IfEnd End holds = holds
 IfEnd (Item _) holds = Unit {0}
 
 -- what holds of one item more
-abbrev pub IfItem : Step → (Option SliceFacts → Type 0) → Type 0
+abbrev pub IfItem : NextRecord → (Option SliceFacts → Type 0) → Type 0
 IfItem End holds = Unit {0}
 IfItem (Item found) holds = holds found
 
@@ -208,7 +208,7 @@ pub record StopsAt (a b : Option (List ℕ)) (before : Position) (fault : Record
 
 -- What came of one step: the end of the file, one item more, or why the reader stops.
 abbrev pub Advances : {R : Type 0} → (R → Option (List ℕ)) → (R → ℕ) → R → R → Position → Position
-    → Result Step RecordFault → Type 0
+    → Result NextRecord RecordFault → Type 0
 Advances left failures old new before after (Ok End) =
     Finishes (left old) (left new) before after × (failures new ≡ failures old)
 Advances left failures old new before after (Ok (Item found)) =
@@ -285,7 +285,7 @@ pub record IsReadTo (file : TextKind) (a b : Option (List ℕ)) (o : Operations)
 -- The text of these operations was read, to the end of the input.
 pub record AreRead (a b : Option (List ℕ)) (operations : List Operation) : Type 0 where
   pub few : length operations < 2 ^ 63
-  pub taken : Consumes a b (text_of Operations_file (map rec operations))
+  pub taken : Consumes a b (text_of Operations_file (map record_bytes operations))
   pub at_end : IsAtEnd b
   pub are : All IsOperation operations
 

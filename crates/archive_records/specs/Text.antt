@@ -9,8 +9,8 @@ use Rattle.std.specs.Cmp.Lexicographic.{slice_cmp}
 use Rattle.std.specs.FinSet as set
 use Rattle.join_core.specs.Listing.{listing}
 use Rattle.archive_core.specs.declared.operations.Operation.{Operation}
-use Rattle.archive_core.specs.Record.{IsOperation, IsRecord, rec}
-use Rattle.archive_core.specs.Content.{Operations, IsMade, is_covered, made}
+use Rattle.archive_core.specs.Record.{IsOperation, IsRecord, record_bytes}
+use Rattle.archive_core.specs.Content.{Operations, IsMade, is_covered, content_of}
 use Rattle.archive_core.specs.Summary.{Entries, entry}
 use Rattle.archive_records.specs.declared.format.Format.{Format}
 use Rattle.archive_records.specs.declared.format.Format.TheVariants.{Archive, OldArchive, Operations as Operations_file}
@@ -59,7 +59,7 @@ pub record IsOldText (o : Operations) (text : List ℕ) : Type 0 where
   pub operations : Operations
   pub are : AreOperations operations
   pub whole : text ≡ old_written operations
-  pub makes : o ≡ made operations
+  pub makes : o ≡ content_of operations
 
 -- the text is an archive's, and gives this content: it is written so, or of version 1
 abbrev pub IsArchiveOf : Operations → List ℕ → Type 0
@@ -83,7 +83,7 @@ summary_text s = summary_magic ++ (concat (listing s) ++ end_record (set.len s))
 -- the text of operations: the magic and their records, in their order and as often as they come
 pub record IsOperationsText (text : List ℕ) (operations : List Operation) : Type 0 where
   pub are : All IsOperation operations
-  pub whole : text ≡ operations_magic ++ concat (map rec operations)
+  pub whole : text ≡ operations_magic ++ concat (map record_bytes operations)
 
 -- items of the file, each of which may follow the one before it, and the first of which may follow low
 abbrev pub InOrder : Format → List ℕ → List (List ℕ) → Type 0

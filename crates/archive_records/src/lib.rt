@@ -24,8 +24,11 @@
 //! - `buffer`, `frame`, `next`, `retired`, `reader`: one record after another, each read over the last and compared
 //!   with it, and with the retirements before it;
 //! - `records`: one pass over them, and what is made of those that are taken;
-//! - `reading`, `part`: [`read_archive`], [`read_front`] and [`read_part`];
+//! - `reading`, `part`, `under_any`: [`read_archive`], [`read_front`] and [`read_part`], of which a part is kept;
+//! - `names`: [`read_names`], where symbols of a name stand, of which no slice is kept;
 //! - `operations`: [`read_ops`];
+//! - `rows`, `summarizing`: [`list_rows`] and [`summarize`], what an archive tells record by record, of which no slice
+//!   is kept;
 //! - `side`, `merging`, `streams`: [`merge_streams`], in the memory of one record of each side and of its retirements;
 //! - [`laws`]: what holds of texts and their faults.
 #![tactic(auto)]
@@ -39,6 +42,7 @@ mod head;
 mod kind;
 pub mod laws;
 mod merging;
+mod names;
 mod next;
 mod operations;
 mod part;
@@ -46,17 +50,24 @@ mod reader;
 mod reading;
 mod records;
 mod retired;
+mod rows;
 mod side;
 mod streams;
+mod summarizing;
 mod summary;
+mod under_any;
 mod writing;
 
 pub use entry::Entry;
 pub use fault::{MergeCause, MergeFault, RecordFault, RecordFaultKind};
 pub use head::key_front;
+pub use names::{OwnedNameRow, read_names};
 pub use operations::read_ops;
 pub use part::{Selects, Under, read_part};
 pub use reading::{read_archive, read_front};
+pub use rows::list_rows;
 pub use streams::merge_streams;
+pub use summarizing::summarize;
 pub use summary::{Summary, read_summary};
+pub use under_any::UnderAny;
 pub use writing::{Sizes, write_archive, write_delta, write_summary};

@@ -6,12 +6,13 @@ ghost use Rattle.std.specs.Prelude.{IfErr, MatchResult, true, false};
 ghost use Rattle.byte_device.specs.Devices.{FailedIn};
 ghost use Rattle.byte_device.specs.Writes.{WritesFirst};
 ghost use Rattle.archive_records.specs.Merging.{most_records, stream};
-ghost use Rattle.archive_records.specs.Turns.{BlamesDevices, Fits, HasStoppedMerge, IsRead, IsRefusedMore, IsWritten};
-ghost use Rattle.archive_records.specs.Turns.{Merging, TellsCovered, WriteStopped, cost_of, first_of};
+ghost use Rattle.archive_records.specs.MergeSteps.{BlamesDevices, Fits, HasStoppedMerge, IsRead, IsRefusedMore};
+ghost use Rattle.archive_records.specs.MergeSteps.{IsWritten};
+ghost use Rattle.archive_records.specs.MergeSteps.{Merging, TellsCovered, WriteStopped, cost_of, first_of};
 
 use crate::fault::{MergeCause, MergeFault};
 use crate::reader::MOST;
-use crate::side::{Ahead, Side};
+use crate::side::{Lookahead, MergeInput};
 use crate::writing::Sizes;
 use byte_device::{Sink, Source, WriteFault, put};
 use std::cmp::Ordering;
@@ -19,8 +20,8 @@ use std::cmp::Ordering;
 /// Two texts that are merged, and how much of their join was written.
 #[derive(Drop)]
 pub struct Merge {
-    pub left: Side,
-    pub right: Side,
+    pub left: MergeInput,
+    pub right: MergeInput,
     pub written: Sizes,
 }
 
@@ -55,24 +56,24 @@ impl Merge {
     /// Whether both texts were read to their ends.
     fn is_done(&self) -> bool
         requires { IsRead self.now }
-        ensures left { result ≡ true → self.now.left.ahead ≡ Ahead.Ended }
-        ensures right { result ≡ true → self.now.right.ahead ≡ Ahead.Ended }
-        ensures some { result ≡ false → self.now.left.ahead ≡ Ahead.Ended → self.now.right.ahead ≡ Ahead.Held }
+        ensures left { result ≡ true → self.now.left.ahead ≡ Lookahead.Ended }
+        ensures right { result ≡ true → self.now.right.ahead ≡ Lookahead.Ended }
+        ensures some { result ≡ false → self.now.left.ahead ≡ Lookahead.Ended → self.now.right.ahead ≡ Lookahead.Held }
     {
         match (self.left.ahead, self.right.ahead) {
-            (Ahead::Ended, Ahead::Ended) => true,
+            (Lookahead::Ended, Lookahead::Ended) => true,
             _ => false,
         }
     }
 }
 
 /// Which side's record is the next to be written: the left one's, both sides', or the right one's.
-fn first(left: &Side, right: &Side) -> Ordering
+fn first(left: &MergeInput, right: &MergeInput) -> Ordering
     ensures { result ≡ first_of left.now right.now }
 {
     match (left.ahead, right.ahead) {
-        (Ahead::Held, Ahead::Held) => left.reader.last().cmp(&right.reader.last()),
-        (Ahead::Held, _) => Ordering::Less,
+        (Lookahead::Held, Lookahead::Held) => left.reader.last().cmp(&right.reader.last()),
+        (Lookahead::Held, _) => Ordering::Less,
         _ => Ordering::Greater,
     }
 }
@@ -80,7 +81,7 @@ fn first(left: &Side, right: &Side) -> Ordering
 /// Whether a retirement of either side covers the record that is next. One of its own side does so in version 1 alone,
 /// where the reader tells it. All retirements stand before the admissions, so both sides' were read where an admission
 /// is next.
-fn is_covered(left: &Side, right: &Side) -> bool
+fn is_covered(left: &MergeInput, right: &MergeInput) -> bool
     ensures { TellsCovered left.now right.now result }
 {
     match first(left, right) {
@@ -93,7 +94,7 @@ fn is_covered(left: &Side, right: &Side) -> bool
 /// Leaves the side or sides that the record which is next comes from to be read on, as if it had been written.
 fn pass_over(m: &mut Merge)
     requires read { IsRead m.old }
-    requires some { m.old.left.ahead ≡ Ahead.Ended → m.old.right.ahead ≡ Ahead.Held }
+    requires some { m.old.left.ahead ≡ Lookahead.Ended → m.old.right.ahead ≡ Lookahead.Held }
     requires fits { Fits m.old }
     requires covered { TellsCovered m.old.left m.old.right true }
     ensures merging { (a1 b1 a2 b2 w0 w1 : Option (List ℕ)) → Merging a1 b1 a2 b2 w0 w1 m.old
@@ -102,17 +103,21 @@ fn pass_over(m: &mut Merge)
     ensures less { cost_of m.new < cost_of m.old }
 {
     match first(&m.left, &m.right) {
-        Ordering::Less => m.left.ahead = Ahead::Unread,
+        Ordering::Less => m.left.ahead = Lookahead::Unread,
         Ordering::Equal => {
-            m.left.ahead = Ahead::Unread;
-            m.right.ahead = Ahead::Unread;
+            m.left.ahead = Lookahead::Unread;
+            m.right.ahead = Lookahead::Unread;
         }
-        Ordering::Greater => m.right.ahead = Ahead::Unread,
+        Ordering::Greater => m.right.ahead = Lookahead::Unread,
     }
 }
 
 /// Writes the record that the side holds.
-fn put_held<W: Sink>(w: &mut W, written: &mut Sizes, side: &mut Side) -> Result<(), WriteFault>
+fn put_held<W: Sink>(
+    w: &mut W,
+    written: &mut Sizes,
+    side: &mut MergeInput,
+) -> Result<(), WriteFault>
     requires few { written.old.records + 1 < 2 ^ 64 }
     requires fits { written.old.bytes ≤ 8 + written.old.records * 2 ^ 64 }
     ensures ok { OnOk result (IsWritten (W.held w.old) (W.held w.new) written.old written.new side.old side.new) }
@@ -124,14 +129,14 @@ fn put_held<W: Sink>(w: &mut W, written: &mut Sizes, side: &mut Side) -> Result<
 {
     written.bytes = put(w, written.bytes, side.reader.last())?;
     written.records += 1;
-    side.ahead = Ahead::Unread;
+    side.ahead = Lookahead::Unread;
     Ok(())
 }
 
 /// Writes the record that is next, once, and leaves the side or sides that it came from to be read on.
 fn write_first<W: Sink>(w: &mut W, m: &mut Merge) -> Result<(), WriteFault>
     requires read { IsRead m.old }
-    requires some { m.old.left.ahead ≡ Ahead.Ended → m.old.right.ahead ≡ Ahead.Held }
+    requires some { m.old.left.ahead ≡ Lookahead.Ended → m.old.right.ahead ≡ Lookahead.Held }
     requires fits { Fits m.old }
     requires room { m.old.written.records < most_records }
     requires kept { TellsCovered m.old.left m.old.right false }
@@ -147,7 +152,7 @@ fn write_first<W: Sink>(w: &mut W, m: &mut Merge) -> Result<(), WriteFault>
     match first(&m.left, &m.right) {
         Ordering::Less => put_held(w, &mut m.written, &mut m.left),
         Ordering::Equal => {
-            m.right.ahead = Ahead::Unread;
+            m.right.ahead = Lookahead::Unread;
             put_held(w, &mut m.written, &mut m.left)
         }
         Ordering::Greater => put_held(w, &mut m.written, &mut m.right),
@@ -185,7 +190,7 @@ fn turn<R: Source, S: Source, W: Sink>(
 ) -> Result<(), MergeFault>
     requires fits { Fits m.old }
     requires read { IsRead m.old }
-    requires some { m.old.left.ahead ≡ Ahead.Ended → m.old.right.ahead ≡ Ahead.Held }
+    requires some { m.old.left.ahead ≡ Lookahead.Ended → m.old.right.ahead ≡ Lookahead.Held }
     ensures merging { (a1 a2 w0 : Option (List ℕ))
         → Merging a1 (R.left r1.old) a2 (S.left r2.old) w0 (W.held w.old) m.old
         → MatchResult result
@@ -225,8 +230,8 @@ pub fn merge_records<R: Source, S: Source, W: Sink>(
         (λ _. Merging a1 (R.left r1.new) a2 (S.left r2.new) w0 (W.held w.new) m.new)
         (λ e. HasStoppedMerge a1 (R.left r1.new) a2 (S.left r2.new) w0 (W.held w.new) e) }
     ensures fits { OnOk result (Fits m.new) }
-    ensures left_end { OnOk result (m.new.left.ahead ≡ Ahead.Ended) }
-    ensures right_end { OnOk result (m.new.right.ahead ≡ Ahead.Ended) }
+    ensures left_end { OnOk result (m.new.left.ahead ≡ Lookahead.Ended) }
+    ensures right_end { OnOk result (m.new.right.ahead ≡ Lookahead.Ended) }
     ensures devices { BlamesDevices (stream R.left R.failures r1.old r1.new) (stream S.left S.failures r2.old r2.new)
         (W.failures w.old) (W.failures w.new) result }
 {

@@ -23,7 +23,7 @@ use byte_device::Source;
 
 /// What the reader came to.
 #[derive(Clone, Copy)]
-pub enum Step {
+pub enum NextRecord {
     /// What ends the file.
     End,
     /// One item more. Of an admission it has what the check of the slice found out.
@@ -122,7 +122,7 @@ fn read_tested<R: Source>(
     chunk: &mut [u8],
     buffer: &mut Buffer,
     count: u64,
-) -> Result<Step, RecordFaultKind>
+) -> Result<NextRecord, RecordFaultKind>
     requires { 0 < length chunk.old }
     ensures within { buffer.new.at ≤ length buffer.new.bytes.items }
     ensures taken { Consumes (R.left r.old) (R.left r.new) (bytes_so_far buffer.new) }
@@ -139,10 +139,10 @@ fn read_tested<R: Source>(
 {
     let end = read_in_order(file, r, chunk, buffer, count)?;
     if end {
-        return Ok(Step::End);
+        return Ok(NextRecord::End);
     }
     match test_item(file, &buffer.bytes) {
-        Ok(found) => Ok(Step::Item(found)),
+        Ok(found) => Ok(NextRecord::Item(found)),
         Err(kind) => Err(kind),
     }
 }
@@ -161,7 +161,7 @@ pub fn read_next<R: Source>(
     chunk: &mut [u8],
     buffer: &mut Buffer,
     count: u64,
-) -> Result<Step, RecordFaultKind>
+) -> Result<NextRecord, RecordFaultKind>
     requires { 0 < length chunk.old }
     ensures taken { Consumes (R.left r.old) (R.left r.new) (bytes_so_far buffer.new) }
     ensures end { IfOk result (λ step. IfEnd step (bytes_so_far buffer.new ≡ ending file count)) }
@@ -180,7 +180,7 @@ pub fn read_next<R: Source>(
         Ok(step) => Ok(step),
         Err(kind) => {
             if ends_file(file, kind, buffer.at) {
-                Ok(Step::End)
+                Ok(NextRecord::End)
             } else {
                 Err(kind)
             }

@@ -2,7 +2,7 @@
 
 ghost use Rattle.std.specs.Prelude.{◌≡◌, ◌∷◌, ◌++◌, [], OnOk, IfOk, IfErr};
 ghost use Rattle.archive_core.specs.declared.operations.Operation.{Operation};
-ghost use Rattle.archive_core.specs.Record.{rec, IsOperation};
+ghost use Rattle.archive_core.specs.Record.{record_bytes, IsOperation};
 ghost use Rattle.archive_records.specs.declared.kind.TextKind.TheVariants.{Operations};
 ghost use Rattle.archive_records.specs.Reading.{ReadsWhole};
 ghost use Rattle.archive_records.specs.Reader.{FaultBlamesReader, HasStopped, IsFound, AreRead};
@@ -24,7 +24,7 @@ fn push_record(
 ) -> Result<(), NoMemory>
     requires { IsFound bytes.now found }
     ensures { OnOk result ((operation : Operation) × (operations.new.items ≡ operations.old.items ++ operation ∷ [])
-        × IsOperation operation × (rec operation ≡ bytes.now)) }
+        × IsOperation operation × (record_bytes operation ≡ bytes.now)) }
 {
     let operation = operation_of(heap.clone()?, bytes, found)?;
     operations.push(operation)?;
@@ -37,12 +37,12 @@ struct Listed(Vec<Operation, Heap>);
 
 impl FromRecords for Listed {
     ghost use Rattle.std.specs.Prelude.{◌≡◌, map, All};
-    ghost use Rattle.archive_core.specs.Record.{rec, IsOperation};
+    ghost use Rattle.archive_core.specs.Record.{record_bytes, IsOperation};
     ghost use Rattle.archive_records.specs.declared.kind.TextKind.TheVariants.{Operations};
 
     ghost file = { Operations };
 
-    ghost makes = { λ start records now. All IsOperation now.0.items × (map rec now.0.items ≡ records) };
+    ghost makes = { λ start records now. All IsOperation now.0.items × (map record_bytes now.0.items ≡ records) };
 
     fn kind() -> TextKind {
         TextKind::Operations

@@ -16,7 +16,7 @@ use crate::buffer::{Buffer, fill};
 use crate::fault::{RecordFault, RecordFaultKind};
 use crate::format::Format;
 use crate::kind::TextKind;
-use crate::next::{Step, read_next};
+use crate::next::{NextRecord, read_next};
 use crate::retired::Retired;
 use byte_device::{Failed, Source, is_at_end};
 use memory::{Heap, NoMemory};
@@ -195,12 +195,12 @@ impl RecordReader {
     }
 
     /// Reads the next record over the last, or else what ends the file.
-    pub fn advance<R: Source>(&mut self, r: &mut R) -> Result<Step, RecordFault>
+    pub fn advance<R: Source>(&mut self, r: &mut R) -> Result<NextRecord, RecordFault>
         ensures { Advances R.left R.failures r.old r.new self.old self.new result }
     {
         match read_next(self.file, r, &mut self.chunk, &mut self.buffer, self.count) {
-            Ok(Step::End) => Ok(Step::End),
-            Ok(Step::Item(found)) => {
+            Ok(NextRecord::End) => Ok(NextRecord::End),
+            Ok(NextRecord::Item(found)) => {
                 if self.count == MOST {
                     return Err(RecordFault::out_of_memory(self.offset));
                 }
@@ -215,7 +215,7 @@ impl RecordReader {
                 }
                 self.count += 1;
                 self.offset += self.buffer.bytes.len() as u128;
-                Ok(Step::Item(found))
+                Ok(NextRecord::Item(found))
             }
             Err(kind) => Err(RecordFault {
                 kind,

@@ -2,7 +2,7 @@
 
 ghost use Rattle.std.specs.Prelude.{◌≡◌, ◌≢◌, OnOk, IfOk, IfErr};
 ghost use Rattle.std.specs.Io.KnownBytes.{IsAtEnd};
-ghost use Rattle.archive_core.specs.Record.{rec, IsOperation};
+ghost use Rattle.archive_core.specs.Record.{record_bytes, IsOperation};
 ghost use Rattle.archive_core.specs.Content.{with_record};
 ghost use Rattle.archive_records.specs.declared.fault.RecordFaultKind.TheVariants.{Trailing};
 ghost use Rattle.archive_records.specs.declared.kind.TextKind.TheVariants.{Archive};
@@ -25,7 +25,7 @@ pub fn operation_of(
 ) -> Result<Operation, NoMemory>
     requires { IsFound bytes.now found }
     ensures valid { IfOk result (λ operation. IsOperation operation) }
-    ensures bytes { IfOk result (λ operation. rec operation ≡ bytes.now) }
+    ensures bytes { IfOk result (λ operation. record_bytes operation ≡ bytes.now) }
 {
     let Some(facts) = found else {
         return Ok(Operation::Retire(key_in(bytes), digest_in(bytes)));

@@ -11,7 +11,7 @@ ghost use Rattle.archive_records.specs.declared.format.Format.{Format};
 
 use crate::fault::RecordFault;
 use crate::kind::TextKind;
-use crate::next::Step;
+use crate::next::NextRecord;
 use crate::reader::RecordReader;
 use archive_core::SliceFacts;
 use byte_device::Source;
@@ -56,8 +56,8 @@ fn take_records<T: FromRecords, R: Source>(
     'taking: loop {
         let offset = reader.offset();
         let found = match reader.advance(r) {
-            Ok(Step::End) => return Ok(()),
-            Ok(Step::Item(found)) => found,
+            Ok(NextRecord::End) => return Ok(()),
+            Ok(NextRecord::Item(found)) => found,
             Err(fault) => return Err(fault),
         };
         if reader.dropped() {

@@ -13,11 +13,10 @@ ghost use Rattle.archive_records.specs.Reader.{Keeps, set_of};
 
 use crate::fault::RecordFaultKind;
 use crate::head::{
-    ADMISSION, ADMISSION_HEAD_LEN, RETIREMENT, RETIREMENT_LEN, key_in, tagged_bytes,
+    ADMISSION, ADMISSION_HEAD_LEN, RETIREMENT, RETIREMENT_LEN, key_in, slice_digest_in,
+    tagged_bytes,
 };
-use archive_core::Digest;
 use memory::{Heap, NoMemory};
-use sha2::{Digest as _, Sha256};
 use std::cmp::Ordering;
 use std::marker::Model;
 
@@ -82,8 +81,7 @@ fn covering_of(bytes: &[u8]) -> [u8; 57]
     requires { 33 ≤ length bytes.now }
     ensures { result ≡ covering bytes.now }
 {
-    let digest = Digest(Sha256::digest(&bytes[ADMISSION_HEAD_LEN..]));
-    tagged_bytes(RETIREMENT, &key_in(bytes), &digest)
+    tagged_bytes(RETIREMENT, &key_in(bytes), &slice_digest_in(bytes))
 }
 
 /// The record of a retirement.

@@ -6,18 +6,18 @@ ghost use Rattle.archive_records.specs.declared.kind.TextKind.TheVariants.{Archi
 ghost use Rattle.archive_records.specs.Kind.{kind_of};
 ghost use Rattle.archive_records.specs.Text.{last_of};
 ghost use Rattle.archive_records.specs.Reader.{FaultBlamesReader, HasRead, Stopped};
-ghost use Rattle.archive_records.specs.Turns.{Stands, StopsBeforeRecords, memory_for, weight};
+ghost use Rattle.archive_records.specs.MergeSteps.{Stands, StopsBeforeRecords, memory_for, weight};
 
 use crate::fault::RecordFault;
 use crate::kind::TextKind;
-use crate::next::Step;
+use crate::next::NextRecord;
 use crate::reader::RecordReader;
 use byte_device::Source;
 use memory::Heap;
 
 /// What is known of the next record.
 #[derive(Clone, Copy, Debug, PartialEq, Eq)]
-pub enum Ahead {
+pub enum Lookahead {
     /// It is to be read, over the last one, which had its turn.
     Unread,
     /// It was read, and has its turn when it is next.
@@ -28,17 +28,17 @@ pub enum Ahead {
 
 /// The text of an archive that is read record by record.
 #[derive(Drop)]
-pub struct Side {
+pub struct MergeInput {
     pub reader: RecordReader,
-    pub ahead: Ahead,
+    pub ahead: Lookahead,
 }
 
-impl Side {
+impl MergeInput {
     /// Reads the magic.
-    pub fn begin<R: Source>(heap: &Heap, r: &mut R) -> Result<Side, RecordFault>
+    pub fn begin<R: Source>(heap: &Heap, r: &mut R) -> Result<MergeInput, RecordFault>
         ensures read { IfOk result (λ side. HasRead side.reader.file (R.left r.old) (R.left r.new) [] side.reader) }
         ensures archive { IfOk result (λ side. kind_of side.reader.file ≡ Archive) }
-        ensures unread { IfOk result (λ side. side.ahead ≡ Ahead.Unread) }
+        ensures unread { IfOk result (λ side. side.ahead ≡ Lookahead.Unread) }
         ensures stops { IfErr result (StopsBeforeRecords (R.left r.old) (R.left r.new)) }
         ensures reader { FaultBlamesReader R.left R.failures r.old r.new result }
     {
@@ -46,9 +46,9 @@ impl Side {
             return Err(RecordFault::out_of_memory(0));
         };
         let reader = RecordReader::begin(buffers, TextKind::Archive, r)?;
-        Ok(Side {
+        Ok(MergeInput {
             reader,
-            ahead: Ahead::Unread,
+            ahead: Lookahead::Unread,
         })
     }
 
@@ -63,24 +63,24 @@ impl Side {
     fn advance<R: Source>(&mut self, r: &mut R) -> Result<(), RecordFault>
         requires archive { kind_of self.old.reader.file ≡ Archive }
         requires few { self.old.reader.count < 2 ^ 63 }
-        requires unread { self.old.ahead ≡ Ahead.Unread }
+        requires unread { self.old.ahead ≡ Lookahead.Unread }
         ensures stands { (a : Option (List ℕ)) (done : List (List ℕ))
             → HasRead self.old.reader.file a (R.left r.old) done self.old.reader
             → MatchResult result
             (λ _. Stands a (R.left r.new) done (last_of [] done) self.new)
             (λ fault. Stopped self.old.reader.file a (R.left r.new) done fault) }
         ensures archive { OnOk result (self.new.reader.file ≡ self.old.reader.file) }
-        ensures read { OnOk result (self.new.ahead ≢ Ahead.Unread) }
+        ensures read { OnOk result (self.new.ahead ≢ Lookahead.Unread) }
         ensures few { OnOk result (self.new.reader.count < 2 ^ 63) }
         ensures less { OnOk result (weight self.new < weight self.old) }
         ensures reader { FaultBlamesReader R.left R.failures r.old r.new result }
     {
         match self.reader.advance(r)? {
-            Step::End => {
+            NextRecord::End => {
                 self.reader.finish(r)?;
-                self.ahead = Ahead::Ended;
+                self.ahead = Lookahead::Ended;
             }
-            Step::Item(_) => self.ahead = Ahead::Held,
+            NextRecord::Item(_) => self.ahead = Lookahead::Held,
         }
         Ok(())
     }
@@ -94,16 +94,16 @@ impl Side {
             → MatchResult result
             (λ _. Stands a (R.left r.new) done low self.new)
             (λ fault. Stopped self.old.reader.file a (R.left r.new) done fault × (last_of [] done ≡ low)) }
-        ensures unread { OnErr result (self.old.ahead ≡ Ahead.Unread) }
+        ensures unread { OnErr result (self.old.ahead ≡ Lookahead.Unread) }
         ensures archive { OnOk result (self.new.reader.file ≡ self.old.reader.file) }
-        ensures read { OnOk result (self.new.ahead ≢ Ahead.Unread) }
+        ensures read { OnOk result (self.new.ahead ≢ Lookahead.Unread) }
         ensures few { OnOk result (self.new.reader.count < 2 ^ 63) }
         ensures less { OnOk result (weight self.new ≤ weight self.old) }
         ensures reader { FaultBlamesReader R.left R.failures r.old r.new result }
     {
         match self.ahead {
-            Ahead::Unread => self.advance(r),
-            Ahead::Held | Ahead::Ended => Ok(()),
+            Lookahead::Unread => self.advance(r),
+            Lookahead::Held | Lookahead::Ended => Ok(()),
         }
     }
 }

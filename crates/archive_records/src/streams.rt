@@ -4,12 +4,12 @@ ghost use Rattle.std.specs.Prelude.{◌≡◌, ℕ, List, Option, OnOk, IfOk, If
 ghost use Rattle.byte_device.specs.Devices.{FailedIn};
 ghost use Rattle.archive_records.specs.declared.fault.MergeCause.TheVariants.{Write};
 ghost use Rattle.archive_records.specs.Merging.{Merges, stream};
-ghost use Rattle.archive_records.specs.Turns.{BlamesDevices, Fits, Leaves, Merging, Stops};
+ghost use Rattle.archive_records.specs.MergeSteps.{BlamesDevices, Fits, Leaves, Merging, Stops};
 
 use crate::fault::{MergeCause, MergeFault, RecordFault};
 use crate::format::Format;
 use crate::merging::{Merge, merge_records};
-use crate::side::{Ahead, Side};
+use crate::side::{Lookahead, MergeInput};
 use crate::writing::{Sizes, put_end};
 use byte_device::{Sink, Source, put};
 use memory::Heap;
@@ -35,11 +35,11 @@ fn begin_both<R: Source, S: Source, W: Sink>(
     ensures devices { BlamesDevices (stream R.left R.failures r1.old r1.new) (stream S.left S.failures r2.old r2.new)
         (W.failures w.old) (W.failures w.new) result }
 {
-    let left = match Side::begin(heap, r1) {
+    let left = match MergeInput::begin(heap, r1) {
         Ok(side) => side,
         Err(fault) => return Err(before_the_magic(MergeCause::Left(fault))),
     };
-    let right = match Side::begin(heap, r2) {
+    let right = match MergeInput::begin(heap, r2) {
         Ok(side) => side,
         Err(fault) => return Err(before_the_magic(MergeCause::Right(fault))),
     };
@@ -59,8 +59,8 @@ fn begin_both<R: Source, S: Source, W: Sink>(
 /// Writes the end record.
 fn finish<W: Sink>(w: &mut W, m: &Merge) -> Result<Sizes, MergeFault>
     requires fits { Fits m.now }
-    requires left_end { m.now.left.ahead ≡ Ahead.Ended }
-    requires right_end { m.now.right.ahead ≡ Ahead.Ended }
+    requires left_end { m.now.left.ahead ≡ Lookahead.Ended }
+    requires right_end { m.now.right.ahead ≡ Lookahead.Ended }
     ensures leaves { (a1 b1 a2 b2 w0 : Option (List ℕ)) → Merging a1 b1 a2 b2 w0 (W.held w.old) m.now
         → Leaves a1 b1 a2 b2 w0 (W.held w.new) result }
     ensures unfailed { OnOk result (W.failures w.new ≡ W.failures w.old) }

@@ -2,10 +2,11 @@
 
 ghost use Rattle.std.specs.Prelude.{◌≡◌, map, IfOk, IfErr, OnOk};
 ghost use Rattle.std.specs.FinSet as set;
+ghost use Rattle.std.specs.List.{AllByRecursion};
 ghost use Rattle.join_core.specs.Listing.{listing};
 ghost use Rattle.archive_core.specs.Content.{IsContent};
 ghost use Rattle.archive_core.specs.Summary.{entry, summary};
-ghost use Rattle.archive_records.specs.Entry.{entry_bytes, AreEntries};
+ghost use Rattle.archive_records.specs.Entry.{entry_bytes, IsEntry, AreEntries};
 ghost use Rattle.archive_records.specs.declared.kind.TextKind.TheVariants.{Summary as SummaryFile};
 ghost use Rattle.std.specs.Io.KnownBytes.{IsAtEnd};
 ghost use Rattle.archive_records.specs.Reading.{ReadsWhole};
@@ -63,10 +64,19 @@ impl Summary {
     pub fn of<A: Archive>(heap: Heap, archive: &A) -> Result<Summary, NoMemory>
         ensures { IfOk result (λ made. made ≡ summary (A.content archive.now)) }
     {
-        let mut entries = entries_of(heap, archive)?;
+        let entries = entries_of(heap, archive)?;
+        Ok(Summary::of_entries(entries))
+    }
+
+    /// The summary of these entries, which may stand in any order, and several times.
+    pub(crate) fn of_entries(entries: Vec<Entry, Heap>) -> Summary
+        requires { AllByRecursion IsEntry (map entry_bytes entries.items) }
+        ensures { result ≡ set.from_list (map entry_bytes entries.items) }
+    {
+        let mut entries = entries;
         entries.sort_unstable_by(|a, b| a.compare(b));
         entries.dedup_by(|a, b| a.compare(b).is_eq());
-        Ok(Summary { entries })
+        Summary { entries }
     }
 
     /// The same summary once more. Refused for want of memory alone.

@@ -8,7 +8,7 @@ ghost use Rattle.join_core.specs.Listing.{listing};
 ghost use Rattle.byte_device.specs.Devices.{FailedIn};
 ghost use Rattle.byte_device.specs.Writes.{WritesFirst};
 ghost use Rattle.archive_core.specs.Content.{IsContent};
-ghost use Rattle.archive_core.specs.Record.{lent};
+ghost use Rattle.archive_core.specs.Record.{lent_bytes};
 ghost use Rattle.archive_core.specs.Summary.{delta};
 ghost use Rattle.archive_records.specs.Entry.{entry_bytes};
 ghost use Rattle.archive_records.specs.Kind.{magic, summary_magic};
@@ -84,12 +84,12 @@ fn put_both<W: Sink>(w: &mut W, done: u128, head: &[u8], body: &[u8]) -> Result<
 /// Writes the record behind the first `done` bytes of a text, and says how many there are then.
 fn put_record<W: Sink>(w: &mut W, done: u128, item: &Record<'_>) -> Result<u128, WriteFault>
     requires { done + 2 ^ 33 < 2 ^ 128 }
-    ensures ok { IfOk result (λ n. (n ≡ done + length (lent item.now))
-        × Appends (W.held w.old) (W.held w.new) (lent item.now)) }
+    ensures ok { IfOk result (λ n. (n ≡ done + length (lent_bytes item.now))
+        × Appends (W.held w.old) (W.held w.new) (lent_bytes item.now)) }
     ensures short { IfOk result (λ n. n ≤ done + 2 ^ 33) }
     ensures unfailed { OnOk result (W.failures w.new ≡ W.failures w.old) }
     ensures err { IfErr result (λ e. (k : ℕ) × (e.written ≡ done + k)
-        × WritesFirst (W.held w.old) (W.held w.new) (lent item.now) k) }
+        × WritesFirst (W.held w.old) (W.held w.new) (lent_bytes item.now) k) }
     ensures failed { IfErr result (λ _. FailedIn (W.failures w.old) (W.failures w.new)) }
 {
     match item {
@@ -213,13 +213,15 @@ fn put_missing_record<W: Sink>(
 ) -> Result<Sizes, WriteFault>
     requires room { done.bytes + 2 ^ 33 < 2 ^ 128 }
     requires few { done.records + 1 < 2 ^ 64 }
-    ensures ok { IfOk result (λ n. (n.bytes ≡ done.bytes + length (concat (missing summary.now (lent item.now ∷ []))))
-        × Appends (W.held w.old) (W.held w.new) (concat (missing summary.now (lent item.now ∷ [])))) }
-    ensures records { IfOk result (λ n. n.records ≡ done.records + length (missing summary.now (lent item.now ∷ []))) }
+    ensures ok { IfOk result (λ n. (n.bytes
+        ≡ done.bytes + length (concat (missing summary.now (lent_bytes item.now ∷ []))))
+        × Appends (W.held w.old) (W.held w.new) (concat (missing summary.now (lent_bytes item.now ∷ [])))) }
+    ensures records { IfOk result (λ n. n.records
+        ≡ done.records + length (missing summary.now (lent_bytes item.now ∷ []))) }
     ensures short { IfOk result (λ n. n.bytes ≤ done.bytes + 2 ^ 33) }
     ensures unfailed { OnOk result (W.failures w.new ≡ W.failures w.old) }
     ensures err { IfErr result (λ e. (k : ℕ) × (e.written ≡ done.bytes + k)
-        × WritesFirst (W.held w.old) (W.held w.new) (concat (missing summary.now (lent item.now ∷ []))) k) }
+        × WritesFirst (W.held w.old) (W.held w.new) (concat (missing summary.now (lent_bytes item.now ∷ []))) k) }
     ensures failed { IfErr result (λ _. FailedIn (W.failures w.old) (W.failures w.new)) }
 {
     if summary.has(&Entry::of(item)) {

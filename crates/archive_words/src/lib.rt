@@ -7,15 +7,18 @@
 //! - `archs`: the word of an architecture;
 //! - `numbers`: hex digits, and the word of an address;
 //! - `identities`: the words of a UUID and of a digest;
-//! - `words`: what a word is.
+//! - `words`: what a word is;
+//! - `lines`: the lines of a file that count, and the fields in which its words stand.
 #![tactic(auto)]
 
 mod archs;
 mod identities;
 pub mod laws;
+mod lines;
 pub mod machine;
 mod numbers;
 mod words;
 
+pub use lines::{cut_field, lines_that_count, number_of_lines};
 pub use numbers::Address;
 pub use words::{Spelled, Word};

@@ -2,7 +2,7 @@
 use Rattle.std.proofs.Common.{◌≡◌, ◌∙◌, ◌&&◌, ◌||◌, Bool, true, false, not, cond, refl, sym, ap, ap₂, subst}
 use Rattle.std.proofs.Common.{List, [], ◌∷◌, Option, Some, None, IsSome, is_some, option_map, true≢false, codes}
 use Rattle.std.proofs.Common.{if◌then◌else◌}
-use Rattle.std.specs.Prelude.{find, option_and_then, slice_get, unwrap_or}
+use Rattle.std.specs.Prelude.{⊤, find, option_and_then, slice_get, unwrap_or}
 use Rattle.std.specs.List.{list_all, list_any}
 use Rattle.std.specs.Option.{option_map_or}
 use Rattle.std.specs.Str.{bytes_eq}
@@ -16,12 +16,11 @@ use Rattle.clap.specs.Takes.{built_takes, entered_passes, is_given, is_valid, le
 use Rattle.clap.proofs.SimpleLemmas.{is_nil}
 use Rattle.clap.proofs.WalkLemmas.{both}
 use Rattle.command_line.specs.Commands.{symarch_command}
-use Rattle.command_line.specs.Lines.{Line, admit, all_spelled, all_spelled_at, apply, apply_line, are_accepted}
-use Rattle.command_line.specs.Lines.{asked_of, delta, delta_line, find as find_archive, find_line, has_form, have_forms}
-use Rattle.command_line.specs.Lines.{line_in, list, merge, migrate, migrate_line, name as name_symbol, name_line}
-use Rattle.command_line.specs.Lines.{named_command, new, of_five, of_three, of_two, optional_at, rehearse, retire}
-use Rattle.command_line.specs.Lines.{retire_line, spelled_at, spelled_if_there, summary, summary_line, symbolicate}
-use Rattle.command_line.specs.Lines.{symbolicate_line}
+use Rattle.command_line.specs.Lines.{Line, admit, all_spelled, all_spelled_at, apply, are_accepted, asked_of, delta}
+use Rattle.command_line.specs.Lines.{find as find_archive, find_line, frames, has_form, have_forms, line_in, list, merge}
+use Rattle.command_line.specs.Lines.{migrate, name as name_symbol, named_command, new, of_five, of_three, of_two}
+use Rattle.command_line.specs.Lines.{optional_at, rehearse, retire, retire_line, spelled_at, spelled_if_there, summary}
+use Rattle.command_line.specs.Lines.{symbolicate, symbolicate_line}
 use Rattle.archive_words.specs.Words.{address_of, arch_of, digest_of}
 use Rattle.command_line.proofs.Filled.{are_filled, found_passes, is_filled, lets_name, lets_stop, level}
 use Rattle.command_line.proofs.Filled.{want_values}
@@ -169,9 +168,24 @@ record InOrder (rules : List Rule) (rows : List Row) : Type 0 where
   filled : are_filled rows ≡ true
   forms : have_forms rows ≡ true
 
-there : (id : Text) (rules : List Rule) (rows : List Row) → InOrder rules rows → requires id rules ≡ true
-    → Stands id rows
-there id rules rows o asks = given_stands id rows (required_given id rules rows asks o.given) o.filled
+-- the command requires each of these
+requires_all : List Text → List Rule → Bool
+requires_all [] rules = true
+requires_all (id ∷ ids) rules = requires id rules && requires_all ids rules
+
+-- a word stands at each of these
+abbrev AllStand : List Text → List Row → Type 0
+AllStand [] rows = ⊤
+AllStand (id ∷ ids) rows = Stands id rows × AllStand ids rows
+
+all_stand : (ids : List Text) (rules : List Rule) (rows : List Row) → requires_all ids rules ≡ true
+    → InOrder rules rows → AllStand ids rows
+unfolding requires_all
+all_stand [] rules rows asks o = tt
+all_stand (id ∷ ids) rules rows asks o =
+    let parts = both (requires id rules) _ asks in
+    let given = required_given id rules rows parts.0 o.given in
+    (given_stands id rows given o.filled, all_stand ids rules rows parts.1 o)
 
 uuids : (rows : List Row) → have_forms rows ≡ true → has_form parsed (codes "UUID") rows ≡ true
 uuids rows has = (both _ _ has).0
@@ -188,158 +202,85 @@ numbers : (rows : List Row) → have_forms rows ≡ true
 numbers rows has = (both (has_form digest_of (codes "DIGEST") rows) _
     (both (has_form arch_of (codes "ARCH") rows) _ (both (has_form parsed (codes "UUID") rows) _ has).1).1).1
 
-one_some : (id : Text) (line : Text → Line) (rules : List Rule) (rows : List Row) → requires id rules ≡ true
-    → InOrder rules rows → IsSome (option_map line (first_of id rows))
+one_some : (id : Text) (line : Text → Line) (rules : List Rule) (rows : List Row)
+    → requires_all (id ∷ []) rules ≡ true → InOrder rules rows → IsSome (option_map line (first_of id rows))
 one_some id line rules rows asks o =
-    subst (λ x. IsSome (option_map line x)) (sym (there id rules rows o asks).first) refl
+    let at = all_stand (id ∷ []) rules rows asks o in
+    subst (λ x. IsSome (option_map line x)) (sym at.0.first) refl
 
--- IN and OUT are asked for, and what else
-asks_with : Bool → List Rule → Bool
-asks_with more rules = requires (codes "IN") rules && (requires (codes "OUT") rules && more)
+two_some : (id other : Text) (line : Text → Text → Line) (rules : List Rule) (rows : List Row)
+    → requires_all (id ∷ other ∷ []) rules ≡ true → InOrder rules rows
+    → IsSome (of_two line (first_of id rows) (first_of other rows))
+two_some id other line rules rows asks o =
+    let at = all_stand (id ∷ other ∷ []) rules rows asks o in
+    subst IsSome (sym (ap₂ (of_two line) at.0.first at.1.0.first)) refl
 
-files_some : (rules : List Rule) (rows : List Row) (line : Text → Text → List Text → Line)
-    → asks_with (requires (codes "FILE") rules) rules ≡ true → InOrder rules rows
+three_some : (id other third : Text) (line : Text → Text → Text → Line) (rules : List Rule) (rows : List Row)
+    → requires_all (id ∷ other ∷ third ∷ []) rules ≡ true → InOrder rules rows
+    → IsSome (of_three line (first_of id rows) (first_of other rows) (first_of third rows))
+three_some id other third line rules rows asks o =
+    let at = all_stand (id ∷ other ∷ third ∷ []) rules rows asks o in
+    subst IsSome (sym (three (of_three line) at.0.first at.1.0.first at.1.1.0.first)) refl
+
+files_some : (line : Text → Text → List Text → Line) (rules : List Rule) (rows : List Row)
+    → requires_all (codes "IN" ∷ codes "OUT" ∷ codes "FILE" ∷ []) rules ≡ true → InOrder rules rows
     → IsSome (of_three line (first_of (codes "IN") rows) (first_of (codes "OUT") rows) (all_of (codes "FILE") rows))
-unfolding asks_with
-files_some rules rows line asks o =
-    let parts = both (requires (codes "IN") rules) _ asks in
-    let rest = both (requires (codes "OUT") rules) _ parts.1 in
-    let input = there (codes "IN") rules rows o parts.0 in
-    let out = there (codes "OUT") rules rows o rest.0 in
-    let files = there (codes "FILE") rules rows o rest.1 in
-    subst IsSome (sym (three (of_three line) input.first out.first files.all)) refl
+files_some line rules rows asks o =
+    let at = all_stand (codes "IN" ∷ codes "OUT" ∷ codes "FILE" ∷ []) rules rows asks o in
+    subst IsSome (sym (three (of_three line) at.0.first at.1.0.first at.1.1.0.all)) refl
 
-apply_some : (rules : List Rule) (rows : List Row) → asks_with (requires (codes "OPS") rules) rules ≡ true
-    → InOrder rules rows
-    → IsSome (apply_line rows)
-unfolding asks_with
-apply_some rules rows asks o =
-    let parts = both (requires (codes "IN") rules) _ asks in
-    let rest = both (requires (codes "OUT") rules) _ parts.1 in
-    let input = there (codes "IN") rules rows o parts.0 in
-    let out = there (codes "OUT") rules rows o rest.0 in
-    let ops = there (codes "OPS") rules rows o rest.1 in
-    subst IsSome (sym (three (of_three apply) input.first out.first ops.first)) refl
-
-migrate_some : (rules : List Rule) (rows : List Row) → asks_with true rules ≡ true → InOrder rules rows
-    → IsSome (migrate_line rows)
-unfolding asks_with
-migrate_some rules rows asks o =
-    let parts = both (requires (codes "IN") rules) _ asks in
-    let input = there (codes "IN") rules rows o parts.0 in
-    let out = there (codes "OUT") rules rows o (both (requires (codes "OUT") rules) _ parts.1).0 in
-    subst IsSome (sym (ap₂ (of_two migrate) input.first out.first)) refl
-
--- ARCHIVE and OUT are asked for, and what else
-asks_archive : Bool → List Rule → Bool
-asks_archive more rules = requires (codes "ARCHIVE") rules && (requires (codes "OUT") rules && more)
-
-summary_some : (rules : List Rule) (rows : List Row) → asks_archive true rules ≡ true → InOrder rules rows
-    → IsSome (summary_line rows)
-unfolding asks_archive
-summary_some rules rows asks o =
-    let parts = both (requires (codes "ARCHIVE") rules) _ asks in
-    let archive = there (codes "ARCHIVE") rules rows o parts.0 in
-    let out = there (codes "OUT") rules rows o (both (requires (codes "OUT") rules) _ parts.1).0 in
-    subst IsSome (sym (ap₂ (of_two summary) archive.first out.first)) refl
-
-delta_some : (rules : List Rule) (rows : List Row)
-    → asks_archive (requires (codes "SUMMARY") rules) rules ≡ true → InOrder rules rows → IsSome (delta_line rows)
-unfolding asks_archive
-delta_some rules rows asks o =
-    let parts = both (requires (codes "ARCHIVE") rules) _ asks in
-    let rest = both (requires (codes "OUT") rules) _ parts.1 in
-    let archive = there (codes "ARCHIVE") rules rows o parts.0 in
-    let out = there (codes "OUT") rules rows o rest.0 in
-    let named = there (codes "SUMMARY") rules rows o rest.1 in
-    subst IsSome (sym (three (of_three delta) archive.first named.first out.first)) refl
-
--- an archive and a UUID are asked for, and what else
-asks_uuid : Text → Bool → List Rule → Bool
-asks_uuid archive more rules = requires archive rules && (requires (codes "UUID") rules && more)
-
-find_some : (rules : List Rule) (rows : List Row) → asks_uuid (codes "ARCHIVE") true rules ≡ true → InOrder rules rows
-    → IsSome (find_line rows)
-unfolding asks_uuid
+find_some : (rules : List Rule) (rows : List Row) → requires_all (codes "ARCHIVE" ∷ codes "UUID" ∷ []) rules ≡ true
+    → InOrder rules rows → IsSome (find_line rows)
 find_some rules rows asks o =
-    let parts = both (requires (codes "ARCHIVE") rules) _ asks in
-    let rest = both (requires (codes "UUID") rules) _ parts.1 in
-    let archive = there (codes "ARCHIVE") rules rows o parts.0 in
-    let uuid = stands_spelled parsed (codes "UUID") rows (there (codes "UUID") rules rows o rest.0)
-    (uuids rows o.forms) in
-    subst IsSome (sym (ap₂ (of_two find_archive) archive.first uuid.1)) refl
-
-asks_name : List Rule → Bool
-asks_name rules = requires (codes "ARCHIVE") rules && requires (codes "NAME") rules
-
-name_some : (rules : List Rule) (rows : List Row) → asks_name rules ≡ true → InOrder rules rows
-    → IsSome (name_line rows)
-unfolding asks_name
-name_some rules rows asks o =
-    let parts = both (requires (codes "ARCHIVE") rules) _ asks in
-    let archive = there (codes "ARCHIVE") rules rows o parts.0 in
-    let sought = there (codes "NAME") rules rows o parts.1 in
-    subst IsSome (sym (ap₂ (of_two name_symbol) archive.first sought.first)) refl
+    let at = all_stand (codes "ARCHIVE" ∷ codes "UUID" ∷ []) rules rows asks o in
+    let uuid = stands_spelled parsed (codes "UUID") rows at.1.0 (uuids rows o.forms) in
+    subst IsSome (sym (ap₂ (of_two find_archive) at.0.first uuid.1)) refl
 
 retire_some : (rules : List Rule) (rows : List Row)
-    → asks_with (asks_uuid (codes "ARCH") (requires (codes "DIGEST") rules) rules) rules ≡ true → InOrder rules rows
-    → IsSome (retire_line rows)
-unfolding asks_with asks_uuid
+    → requires_all (codes "IN" ∷ codes "OUT" ∷ codes "UUID" ∷ codes "ARCH" ∷ codes "DIGEST" ∷ []) rules ≡ true
+    → InOrder rules rows → IsSome (retire_line rows)
 retire_some rules rows asks o =
-    let parts = both (requires (codes "IN") rules) _ asks in
-    let more = both (requires (codes "OUT") rules) _ parts.1 in
-    let forms = both (requires (codes "ARCH") rules) _ more.1 in
-    let rest = both (requires (codes "UUID") rules) _ forms.1 in
-    let input = there (codes "IN") rules rows o parts.0 in
-    let out = there (codes "OUT") rules rows o more.0 in
-    let uuid = stands_spelled parsed (codes "UUID") rows (there (codes "UUID") rules rows o rest.0)
-    (uuids rows o.forms) in
-    let arch = stands_spelled arch_of (codes "ARCH") rows (there (codes "ARCH") rules rows o forms.0)
-    (archs rows o.forms) in
-    let digest = stands_spelled digest_of (codes "DIGEST") rows (there (codes "DIGEST") rules rows o rest.1)
-    (digests rows o.forms) in
-    subst IsSome (sym (λ i. of_five retire (input.first i) (out.first i) (uuid.1 i) (arch.1 i) (digest.1 i))) refl
+    let at =
+    all_stand (codes "IN" ∷ codes "OUT" ∷ codes "UUID" ∷ codes "ARCH" ∷ codes "DIGEST" ∷ []) rules rows asks o in
+    let uuid = stands_spelled parsed (codes "UUID") rows at.1.1.0 (uuids rows o.forms) in
+    let arch = stands_spelled arch_of (codes "ARCH") rows at.1.1.1.0 (archs rows o.forms) in
+    let digest = stands_spelled digest_of (codes "DIGEST") rows at.1.1.1.1.0 (digests rows o.forms) in
+    subst IsSome (sym (λ i. of_five retire (at.0.first i) (at.1.0.first i) (uuid.1 i) (arch.1 i) (digest.1 i))) refl
 
 symbolicate_some : (rules : List Rule) (rows : List Row)
-    → asks_uuid (codes "ARCHIVE") (requires (codes "ARCH") rules && requires (codes "ADDRESS") rules) rules ≡ true
+    → requires_all (codes "ARCHIVE" ∷ codes "UUID" ∷ codes "ARCH" ∷ codes "ADDRESS" ∷ []) rules ≡ true
     → InOrder rules rows → IsSome (symbolicate_line rows)
-unfolding asks_uuid
 symbolicate_some rules rows asks o =
-    let parts = both (requires (codes "ARCHIVE") rules) _ asks in
-    let more = both (requires (codes "UUID") rules) _ parts.1 in
-    let rest = both (requires (codes "ARCH") rules) _ more.1 in
+    let at = all_stand (codes "ARCHIVE" ∷ codes "UUID" ∷ codes "ARCH" ∷ codes "ADDRESS" ∷ []) rules rows asks o in
     let tests = both (has_form address_of (codes "HEX") rows) _ (numbers rows o.forms) in
-    let archive = there (codes "ARCHIVE") rules rows o parts.0 in
-    let uuid = stands_spelled parsed (codes "UUID") rows (there (codes "UUID") rules rows o more.0)
-    (uuids rows o.forms) in
-    let arch = stands_spelled arch_of (codes "ARCH") rows (there (codes "ARCH") rules rows o rest.0)
-    (archs rows o.forms) in
+    let uuid = stands_spelled parsed (codes "UUID") rows at.1.0 (uuids rows o.forms) in
+    let arch = stands_spelled arch_of (codes "ARCH") rows at.1.1.0 (archs rows o.forms) in
     let load = optional_spelled address_of (codes "HEX") rows tests.0 in
-    let addresses = stands_all_spelled address_of (codes "ADDRESS") rows
-    (there (codes "ADDRESS") rules rows o rest.1) tests.1 in
-    subst IsSome (sym (λ i. of_five symbolicate (archive.first i) (uuid.1 i) (arch.1 i) (load.1 i) (addresses.1 i)))
-    refl
+    let addresses = stands_all_spelled address_of (codes "ADDRESS") rows at.1.1.1.0 tests.1 in
+    subst IsSome (sym (λ i. of_five symbolicate (at.0.first i) (uuid.1 i) (arch.1 i) (load.1 i) (addresses.1 i))) refl
 
 -- ---- any of them
 
 -- the command of this name requires what its line asks for
 asks : Text → List Rule → Bool
 asks name rules =
-    if bytes_eq name (codes "new") then requires (codes "OUT") rules
-    else if bytes_eq name (codes "admit") then asks_with (requires (codes "FILE") rules) rules
+    if bytes_eq name (codes "new") then requires_all (codes "OUT" ∷ []) rules
+    else if bytes_eq name (codes "admit") then requires_all (codes "IN" ∷ codes "OUT" ∷ codes "FILE" ∷ []) rules
     else if bytes_eq name (codes "retire")
-    then asks_with (asks_uuid (codes "ARCH") (requires (codes "DIGEST") rules) rules) rules
-    else if bytes_eq name (codes "merge") then asks_with (requires (codes "FILE") rules) rules
-    else if bytes_eq name (codes "migrate") then asks_with true rules
-    else if bytes_eq name (codes "apply") then asks_with (requires (codes "OPS") rules) rules
-    else if bytes_eq name (codes "find") then asks_uuid (codes "ARCHIVE") true rules
-    else if bytes_eq name (codes "list") then requires (codes "ARCHIVE") rules
-    else if bytes_eq name (codes "name") then asks_name rules
+    then requires_all (codes "IN" ∷ codes "OUT" ∷ codes "UUID" ∷ codes "ARCH" ∷ codes "DIGEST" ∷ []) rules
+    else if bytes_eq name (codes "merge") then requires_all (codes "IN" ∷ codes "OUT" ∷ codes "FILE" ∷ []) rules
+    else if bytes_eq name (codes "migrate") then requires_all (codes "IN" ∷ codes "OUT" ∷ []) rules
+    else if bytes_eq name (codes "apply") then requires_all (codes "IN" ∷ codes "OUT" ∷ codes "OPS" ∷ []) rules
+    else if bytes_eq name (codes "find") then requires_all (codes "ARCHIVE" ∷ codes "UUID" ∷ []) rules
+    else if bytes_eq name (codes "list") then requires_all (codes "ARCHIVE" ∷ []) rules
+    else if bytes_eq name (codes "name") then requires_all (codes "ARCHIVE" ∷ codes "NAME" ∷ []) rules
     else if bytes_eq name (codes "symbolicate")
-    then asks_uuid (codes "ARCHIVE") (requires (codes "ARCH") rules && requires (codes "ADDRESS") rules) rules
-    else if bytes_eq name (codes "summary") then asks_archive true rules
-    else if bytes_eq name (codes "delta") then asks_archive (requires (codes "SUMMARY") rules) rules
-    else if bytes_eq name (codes "rehearse") then requires (codes "SCRIPT") rules
+    then requires_all (codes "ARCHIVE" ∷ codes "UUID" ∷ codes "ARCH" ∷ codes "ADDRESS" ∷ []) rules
+    else if bytes_eq name (codes "frames") then requires_all (codes "FRAMES" ∷ codes "ARCHIVE" ∷ []) rules
+    else if bytes_eq name (codes "summary") then requires_all (codes "ARCHIVE" ∷ codes "OUT" ∷ []) rules
+    else if bytes_eq name (codes "delta")
+    then requires_all (codes "ARCHIVE" ∷ codes "SUMMARY" ∷ codes "OUT" ∷ []) rules
+    else if bytes_eq name (codes "rehearse") then requires_all (codes "SCRIPT" ∷ []) rules
     else false
 
 chosen : (b p q : Bool) (x y : Option Line) → (p ≡ true → IsSome x) → (q ≡ true → IsSome y)
@@ -352,19 +293,25 @@ line_some : (name : Text) (rules : List Rule) (rows : List Row) → InOrder rule
 unfolding asks
 line_some name rules rows o =
     chosen (bytes_eq name (codes "new")) _ _ _ _ (λ is. one_some (codes "OUT") new rules rows is o)
-    (chosen (bytes_eq name (codes "admit")) _ _ _ _ (λ is. files_some rules rows admit is o)
+    (chosen (bytes_eq name (codes "admit")) _ _ _ _ (λ is. files_some admit rules rows is o)
     (chosen (bytes_eq name (codes "retire")) _ _ _ _ (λ is. retire_some rules rows is o)
-    (chosen (bytes_eq name (codes "merge")) _ _ _ _ (λ is. files_some rules rows merge is o)
-    (chosen (bytes_eq name (codes "migrate")) _ _ _ _ (λ is. migrate_some rules rows is o)
-    (chosen (bytes_eq name (codes "apply")) _ _ _ _ (λ is. apply_some rules rows is o)
+    (chosen (bytes_eq name (codes "merge")) _ _ _ _ (λ is. files_some merge rules rows is o)
+    (chosen (bytes_eq name (codes "migrate")) _ _ _ _ (λ is. two_some (codes "IN") (codes "OUT") migrate rules rows is o)
+    (chosen (bytes_eq name (codes "apply")) _ _ _ _
+    (λ is. three_some (codes "IN") (codes "OUT") (codes "OPS") apply rules rows is o)
     (chosen (bytes_eq name (codes "find")) _ _ _ _ (λ is. find_some rules rows is o)
     (chosen (bytes_eq name (codes "list")) _ _ _ _ (λ is. one_some (codes "ARCHIVE") list rules rows is o)
-    (chosen (bytes_eq name (codes "name")) _ _ _ _ (λ is. name_some rules rows is o)
+    (chosen (bytes_eq name (codes "name")) _ _ _ _
+    (λ is. two_some (codes "ARCHIVE") (codes "NAME") name_symbol rules rows is o)
     (chosen (bytes_eq name (codes "symbolicate")) _ _ _ _ (λ is. symbolicate_some rules rows is o)
-    (chosen (bytes_eq name (codes "summary")) _ _ _ _ (λ is. summary_some rules rows is o)
-    (chosen (bytes_eq name (codes "delta")) _ _ _ _ (λ is. delta_some rules rows is o)
+    (chosen (bytes_eq name (codes "frames")) _ _ _ _
+    (λ is. two_some (codes "FRAMES") (codes "ARCHIVE") frames rules rows is o)
+    (chosen (bytes_eq name (codes "summary")) _ _ _ _
+    (λ is. two_some (codes "ARCHIVE") (codes "OUT") summary rules rows is o)
+    (chosen (bytes_eq name (codes "delta")) _ _ _ _
+    (λ is. three_some (codes "ARCHIVE") (codes "SUMMARY") (codes "OUT") delta rules rows is o)
     (chosen (bytes_eq name (codes "rehearse")) _ _ _ _ (λ is. one_some (codes "SCRIPT") rehearse rules rows is o)
-    (λ is. absurd (true≢false (sym is)))))))))))))))
+    (λ is. absurd (true≢false (sym is))))))))))))))))
 
 -- ---- commands that are built
 
@@ -454,7 +401,7 @@ accepted_some a words sound accepted tests =
 -- ---- the program's command
 
 symarch_sound : IsSound (built symarch_command)
-unfolding symarch_command is_sound asks asks_with asks_uuid asks_name asks_archive
+unfolding symarch_command is_sound asks requires_all
 symarch_sound = record { needs_command = refl; has_help = refl; values = refl; commands = refl }
 
 -- a line that is accepted, in which each value has its form, asks for something

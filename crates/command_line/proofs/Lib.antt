@@ -1,4 +1,3 @@
-pub mod CommandLemmas
 pub mod Filled
 pub mod KeptInputs
 pub mod OnWords

@@ -6,8 +6,8 @@ use Rattle.uuid.proofs.OnLiterals.{uuid_on_literals}
 use Rattle.clap.specs.declared.error.kind.ErrorKind.TheVariants as kind
 use Rattle.clap.proofs.OnLiterals.{clap_on_literals}
 use Rattle.command_line.specs.Commands.{symarch_command}
-use Rattle.command_line.specs.Lines.{admit, are_accepted, error_kinds, find, is_in_order, line_of, merge, migrate}
-use Rattle.command_line.specs.Lines.{named_command, new, retire, symbolicate}
+use Rattle.command_line.specs.Lines.{admit, are_accepted, error_kinds, find, frames, is_in_order, line_of, merge}
+use Rattle.command_line.specs.Lines.{migrate, named_command, new, retire, symbolicate}
 use Rattle.archive_words.specs.Words.{address_of, arch_key, arch_of, digest_of}
 
 -- the program's name, which is the first word of each line
@@ -164,6 +164,15 @@ load_twice : are_accepted (symarch (codes "symbolicate" ∷ codes "--load" ∷ c
     ∷ codes "a" ∷ uuid_text ∷ codes "arm64" ∷ codes "10" ∷ [])) ≡ false
 unfolding are_accepted symarch_command clap_on_literals
 load_twice = refl
+
+-- FRAMES stands before ARCHIVE
+frames_accepted : are_accepted (symarch (codes "frames" ∷ codes "f" ∷ codes "a" ∷ [])) ≡ true
+unfolding are_accepted symarch_command clap_on_literals
+frames_accepted = refl
+
+frames_read : line_of (symarch (codes "frames" ∷ codes "f" ∷ codes "a" ∷ [])) ≡ Some (frames (codes "f") (codes "a"))
+unfolding named_command symarch_command clap_on_literals
+frames_read = refl
 
 -- ---- forms of words
 

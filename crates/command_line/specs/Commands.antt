@@ -33,73 +33,39 @@ needing_command a = record a { top = record a.top { subcommand_required = true }
 abbrev pub with_version : App → App
 with_version a = record a { top = record a.top { has_version = true } }
 
--- `new OUT`
-abbrev pub new_command : App
-new_command = with_rules (new_app (codes "new")) (one_value (codes "OUT") ∷ [])
+-- the command of this name, with these arguments
+abbrev pub command : Text → List Rule → App
+command name rules = with_rules (new_app name) rules
 
--- `admit IN OUT FILE...`
-abbrev pub admit_command : App
-admit_command = with_rules (new_app (codes "admit"))
-    (one_value (codes "IN") ∷ one_value (codes "OUT") ∷ several_values (codes "FILE") ∷ [])
-
--- `retire IN OUT UUID ARCH DIGEST`
-abbrev pub retire_command : App
-retire_command = with_rules (new_app (codes "retire"))
-    (one_value (codes "IN") ∷ one_value (codes "OUT") ∷ one_value (codes "UUID")
+-- the commands that write an archive
+abbrev pub update_commands : List App
+update_commands =
+    command (codes "new") (one_value (codes "OUT") ∷ [])
+    ∷ command (codes "admit") (one_value (codes "IN") ∷ one_value (codes "OUT") ∷ several_values (codes "FILE") ∷ [])
+    ∷ command (codes "retire") (one_value (codes "IN") ∷ one_value (codes "OUT") ∷ one_value (codes "UUID")
     ∷ one_value (codes "ARCH") ∷ one_value (codes "DIGEST") ∷ [])
+    ∷ command (codes "merge") (one_value (codes "IN") ∷ one_value (codes "OUT") ∷ several_values (codes "FILE") ∷ [])
+    ∷ command (codes "migrate") (one_value (codes "IN") ∷ one_value (codes "OUT") ∷ [])
+    ∷ command (codes "apply") (one_value (codes "IN") ∷ one_value (codes "OUT") ∷ one_value (codes "OPS") ∷ []) ∷ []
 
--- `merge IN OUT FILE...`
-abbrev pub merge_command : App
-merge_command = with_rules (new_app (codes "merge"))
-    (one_value (codes "IN") ∷ one_value (codes "OUT") ∷ several_values (codes "FILE") ∷ [])
-
--- `migrate IN OUT`
-abbrev pub migrate_command : App
-migrate_command = with_rules (new_app (codes "migrate"))
-    (one_value (codes "IN") ∷ one_value (codes "OUT") ∷ [])
-
--- `apply IN OUT OPS`
-abbrev pub apply_command : App
-apply_command = with_rules (new_app (codes "apply"))
-    (one_value (codes "IN") ∷ one_value (codes "OUT") ∷ one_value (codes "OPS") ∷ [])
-
--- `find ARCHIVE UUID`
-abbrev pub find_command : App
-find_command = with_rules (new_app (codes "find"))
-    (one_value (codes "ARCHIVE") ∷ one_value (codes "UUID") ∷ [])
-
--- `list ARCHIVE`
-abbrev pub list_command : App
-list_command = with_rules (new_app (codes "list")) (one_value (codes "ARCHIVE") ∷ [])
-
--- `name ARCHIVE NAME`
-abbrev pub name_command : App
-name_command = with_rules (new_app (codes "name"))
-    (one_value (codes "ARCHIVE") ∷ one_value (codes "NAME") ∷ [])
-
--- `symbolicate ARCHIVE UUID ARCH [--load HEX] ADDRESS...`
-abbrev pub symbolicate_command : App
-symbolicate_command = with_rules (new_app (codes "symbolicate"))
-    (one_value (codes "ARCHIVE") ∷ one_value (codes "UUID") ∷ one_value (codes "ARCH")
+-- the commands that ask an archive
+abbrev pub query_commands : List App
+query_commands =
+    command (codes "find") (one_value (codes "ARCHIVE") ∷ one_value (codes "UUID") ∷ [])
+    ∷ command (codes "list") (one_value (codes "ARCHIVE") ∷ [])
+    ∷ command (codes "name") (one_value (codes "ARCHIVE") ∷ one_value (codes "NAME") ∷ [])
+    ∷ command (codes "symbolicate") (one_value (codes "ARCHIVE") ∷ one_value (codes "UUID") ∷ one_value (codes "ARCH")
     ∷ one_option (codes "HEX") (codes "load") ∷ several_values (codes "ADDRESS") ∷ [])
+    ∷ command (codes "frames") (one_value (codes "FRAMES") ∷ one_value (codes "ARCHIVE") ∷ []) ∷ []
 
--- `summary ARCHIVE OUT`
-abbrev pub summary_command : App
-summary_command = with_rules (new_app (codes "summary"))
-    (one_value (codes "ARCHIVE") ∷ one_value (codes "OUT") ∷ [])
-
--- `delta ARCHIVE SUMMARY OUT`
-abbrev pub delta_command : App
-delta_command = with_rules (new_app (codes "delta"))
-    (one_value (codes "ARCHIVE") ∷ one_value (codes "SUMMARY") ∷ one_value (codes "OUT") ∷ [])
-
--- `rehearse SCRIPT`
-abbrev pub rehearse_command : App
-rehearse_command = with_rules (new_app (codes "rehearse")) (one_value (codes "SCRIPT") ∷ [])
+-- the commands by which sites exchange
+abbrev pub exchange_commands : List App
+exchange_commands =
+    command (codes "summary") (one_value (codes "ARCHIVE") ∷ one_value (codes "OUT") ∷ [])
+    ∷ command (codes "delta") (one_value (codes "ARCHIVE") ∷ one_value (codes "SUMMARY") ∷ one_value (codes "OUT") ∷ [])
+    ∷ command (codes "rehearse") (one_value (codes "SCRIPT") ∷ []) ∷ []
 
 -- the program's own
 unfoldable pub symarch_command : App
-symarch_command = needing_command (with_version
-    (with_commands (new_app (codes "symarch")) (new_command ∷ admit_command ∷ retire_command
-    ∷ merge_command ∷ migrate_command ∷ apply_command ∷ find_command ∷ list_command
-    ∷ name_command ∷ symbolicate_command ∷ summary_command ∷ delta_command ∷ rehearse_command ∷ [])))
+symarch_command = needing_command (with_version (with_commands (with_commands (with_commands (new_app (codes "symarch"))
+    update_commands) query_commands) exchange_commands))

@@ -1,3 +1,4 @@
 pub mod Commands
+pub mod InnerCommands
 pub mod Lines
 pub mod LineFaults

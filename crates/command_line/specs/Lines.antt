@@ -26,6 +26,7 @@ pub data Line : Type 0 where
   list : (archive : Text) → Line
   name : (archive sought : Text) → Line
   symbolicate : (archive : Text) (uuid : List ℕ) (arch : ArchKey) (load : Option ℕ) (addresses : List ℕ) → Line
+  frames : (crash archive : Text) → Line
   summary : (archive out : Text) → Line
   delta : (archive summary out : Text) → Line
   rehearse : (script : Text) → Line
@@ -42,6 +43,7 @@ inputs_of (find archive uuid) = archive ∷ []
 inputs_of (list archive) = archive ∷ []
 inputs_of (name archive sought) = archive ∷ []
 inputs_of (symbolicate archive uuid arch load addresses) = archive ∷ []
+inputs_of (frames crash archive) = crash ∷ archive ∷ []
 inputs_of (summary archive out) = archive ∷ []
 inputs_of (delta archive named out) = archive ∷ named ∷ []
 inputs_of (rehearse script) = script ∷ []
@@ -58,6 +60,7 @@ out_of (find archive uuid) = None
 out_of (list archive) = None
 out_of (name archive sought) = None
 out_of (symbolicate archive uuid arch load addresses) = None
+out_of (frames crash archive) = None
 out_of (summary archive out) = Some out
 out_of (delta archive named out) = Some out
 out_of (rehearse script) = None
@@ -176,6 +179,10 @@ symbolicate_line rows = of_five symbolicate (first_of (codes "ARCHIVE") rows)
     (spelled_at parsed (codes "UUID") rows) (spelled_at arch_of (codes "ARCH") rows)
     (optional_at address_of (codes "HEX") rows) (all_spelled_at address_of (codes "ADDRESS") rows)
 
+-- `frames FRAMES ARCHIVE`
+abbrev pub frames_line : List Row → Option Line
+frames_line rows = of_two frames (first_of (codes "FRAMES") rows) (first_of (codes "ARCHIVE") rows)
+
 -- `summary ARCHIVE OUT`
 abbrev pub summary_line : List Row → Option Line
 summary_line rows = of_two summary (first_of (codes "ARCHIVE") rows) (first_of (codes "OUT") rows)
@@ -204,6 +211,7 @@ query_line_in p =
     else if bytes_eq p.0 (codes "list") then list_line p.1
     else if bytes_eq p.0 (codes "name") then name_line p.1
     else if bytes_eq p.0 (codes "symbolicate") then symbolicate_line p.1
+    else if bytes_eq p.0 (codes "frames") then frames_line p.1
     else exchange_line_in p
 
 -- the same of all commands
@@ -266,6 +274,7 @@ plan_view (plan.List archive) = list (string_bytes archive)
 plan_view (plan.Name archive sought) = name (string_bytes archive) (string_bytes sought)
 plan_view (plan.Symbolicate archive uuid arch load addresses) =
     symbolicate (string_bytes archive) uuid arch load addresses.items
+plan_view (plan.Frames crash archive) = frames (string_bytes crash) (string_bytes archive)
 plan_view (plan.Summary archive out) = summary (string_bytes archive) (string_bytes out)
 plan_view (plan.Delta archive named out) = delta (string_bytes archive) (string_bytes named) (string_bytes out)
 plan_view (plan.Rehearse script) = rehearse (string_bytes script)

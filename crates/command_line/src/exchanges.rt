@@ -6,7 +6,7 @@ ghost use Rattle.command_line.specs.LineFaults.{Plans};
 
 use crate::line_faults::LineFault;
 use crate::plans::Plan;
-use crate::values::one_value;
+use crate::values::text_value;
 use clap::ArgMatches;
 use std::alloc::Global;
 
@@ -14,11 +14,9 @@ use std::alloc::Global;
 pub fn plan_summary(alloc: Global, matches: &ArgMatches) -> Result<Plan, LineFault>
     ensures { Plans (summary_line (rows_of (found_of matches.now))) result }
 {
-    let archive = one_value(alloc, matches, "ARCHIVE")?;
-    let out = one_value(alloc, matches, "OUT")?;
     Ok(Plan::Summary {
-        archive: String::from_str(alloc, archive)?,
-        out: String::from_str(alloc, out)?,
+        archive: text_value(alloc, matches, "ARCHIVE")?,
+        out: text_value(alloc, matches, "OUT")?,
     })
 }
 
@@ -26,13 +24,10 @@ pub fn plan_summary(alloc: Global, matches: &ArgMatches) -> Result<Plan, LineFau
 pub fn plan_delta(alloc: Global, matches: &ArgMatches) -> Result<Plan, LineFault>
     ensures { Plans (delta_line (rows_of (found_of matches.now))) result }
 {
-    let archive = one_value(alloc, matches, "ARCHIVE")?;
-    let summary = one_value(alloc, matches, "SUMMARY")?;
-    let out = one_value(alloc, matches, "OUT")?;
     Ok(Plan::Delta {
-        archive: String::from_str(alloc, archive)?,
-        summary: String::from_str(alloc, summary)?,
-        out: String::from_str(alloc, out)?,
+        archive: text_value(alloc, matches, "ARCHIVE")?,
+        summary: text_value(alloc, matches, "SUMMARY")?,
+        out: text_value(alloc, matches, "OUT")?,
     })
 }
 
@@ -40,8 +35,7 @@ pub fn plan_delta(alloc: Global, matches: &ArgMatches) -> Result<Plan, LineFault
 pub fn plan_rehearse(alloc: Global, matches: &ArgMatches) -> Result<Plan, LineFault>
     ensures { Plans (rehearse_line (rows_of (found_of matches.now))) result }
 {
-    let script = one_value(alloc, matches, "SCRIPT")?;
     Ok(Plan::Rehearse {
-        script: String::from_str(alloc, script)?,
+        script: text_value(alloc, matches, "SCRIPT")?,
     })
 }

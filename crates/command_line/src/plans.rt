@@ -68,6 +68,11 @@ pub enum Plan {
         load: Option<u64>,
         addresses: Vec<u64>,
     },
+    /// `frames FRAMES ARCHIVE`: to answer each frame of a crash, in the order of the lines of FRAMES.
+    Frames {
+        frames: String,
+        archive: String,
+    },
     /// `summary ARCHIVE OUT`: to write the summary of an archive.
     Summary {
         archive: String,
@@ -107,6 +112,10 @@ impl Plan {
             | Plan::Summary { archive: path, .. }
             | Plan::Rehearse { script: path } => Ok(vec![in alloc; path.as_str()]?),
             Plan::Apply { input, ops, .. } => Ok(vec![in alloc; input.as_str(), ops.as_str()]?),
+            Plan::Frames { frames, archive } => Ok(vec![in alloc;
+                frames.as_str(),
+                archive.as_str(),
+            ]?),
             Plan::Delta {
                 archive,
                 summary,
@@ -132,6 +141,7 @@ impl Plan {
             | Plan::List { .. }
             | Plan::Name { .. }
             | Plan::Symbolicate { .. }
+            | Plan::Frames { .. }
             | Plan::Rehearse { .. } => None,
         }
     }

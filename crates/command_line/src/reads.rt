@@ -12,7 +12,7 @@ use crate::commands::symarch_command;
 use crate::exchanges::{plan_delta, plan_rehearse, plan_summary};
 use crate::line_faults::{LineFault, parse_fault, refused};
 use crate::plans::Plan;
-use crate::queries::{plan_find, plan_list, plan_name, plan_symbolicate};
+use crate::queries::{plan_find, plan_frames, plan_list, plan_name, plan_symbolicate};
 use crate::updates::{plan_admit, plan_apply, plan_merge, plan_migrate, plan_new, plan_retire};
 use crate::values::is_among;
 use clap::ArgMatches;
@@ -48,6 +48,8 @@ fn plan_query_in(alloc: Global, name: &str, matches: &ArgMatches) -> Result<Plan
         plan_name(alloc, matches)
     } else if name == "symbolicate" {
         plan_symbolicate(alloc, matches)
+    } else if name == "frames" {
+        plan_frames(alloc, matches)
     } else {
         plan_exchange_in(alloc, name, matches)
     }

@@ -6,7 +6,7 @@ ghost use Rattle.command_line.specs.LineFaults.{Plans};
 
 use crate::line_faults::LineFault;
 use crate::plans::Plan;
-use crate::values::{copies, one_value, several_values, spelled_value};
+use crate::values::{copies, several_values, spelled_value, text_value};
 use clap::ArgMatches;
 use std::alloc::Global;
 
@@ -14,9 +14,8 @@ use std::alloc::Global;
 pub fn plan_new(alloc: Global, matches: &ArgMatches) -> Result<Plan, LineFault>
     ensures { Plans (new_line (rows_of (found_of matches.now))) result }
 {
-    let out = one_value(alloc, matches, "OUT")?;
     Ok(Plan::New {
-        out: String::from_str(alloc, out)?,
+        out: text_value(alloc, matches, "OUT")?,
     })
 }
 
@@ -24,13 +23,10 @@ pub fn plan_new(alloc: Global, matches: &ArgMatches) -> Result<Plan, LineFault>
 pub fn plan_admit(alloc: Global, matches: &ArgMatches) -> Result<Plan, LineFault>
     ensures { Plans (admit_line (rows_of (found_of matches.now))) result }
 {
-    let input = one_value(alloc, matches, "IN")?;
-    let out = one_value(alloc, matches, "OUT")?;
-    let files = several_values(alloc, matches, "FILE")?;
     Ok(Plan::Admit {
-        input: String::from_str(alloc, input)?,
-        out: String::from_str(alloc, out)?,
-        files: copies(alloc, files)?,
+        input: text_value(alloc, matches, "IN")?,
+        out: text_value(alloc, matches, "OUT")?,
+        files: copies(alloc, several_values(alloc, matches, "FILE")?)?,
     })
 }
 
@@ -38,17 +34,12 @@ pub fn plan_admit(alloc: Global, matches: &ArgMatches) -> Result<Plan, LineFault
 pub fn plan_retire(alloc: Global, matches: &ArgMatches) -> Result<Plan, LineFault>
     ensures { Plans (retire_line (rows_of (found_of matches.now))) result }
 {
-    let input = one_value(alloc, matches, "IN")?;
-    let out = one_value(alloc, matches, "OUT")?;
-    let uuid = spelled_value(alloc, matches, "UUID")?;
-    let arch = spelled_value(alloc, matches, "ARCH")?;
-    let digest = spelled_value(alloc, matches, "DIGEST")?;
     Ok(Plan::Retire {
-        input: String::from_str(alloc, input)?,
-        out: String::from_str(alloc, out)?,
-        uuid,
-        arch,
-        digest,
+        input: text_value(alloc, matches, "IN")?,
+        out: text_value(alloc, matches, "OUT")?,
+        uuid: spelled_value(alloc, matches, "UUID")?,
+        arch: spelled_value(alloc, matches, "ARCH")?,
+        digest: spelled_value(alloc, matches, "DIGEST")?,
     })
 }
 
@@ -56,13 +47,10 @@ pub fn plan_retire(alloc: Global, matches: &ArgMatches) -> Result<Plan, LineFaul
 pub fn plan_merge(alloc: Global, matches: &ArgMatches) -> Result<Plan, LineFault>
     ensures { Plans (merge_line (rows_of (found_of matches.now))) result }
 {
-    let input = one_value(alloc, matches, "IN")?;
-    let out = one_value(alloc, matches, "OUT")?;
-    let archives = several_values(alloc, matches, "FILE")?;
     Ok(Plan::Merge {
-        input: String::from_str(alloc, input)?,
-        out: String::from_str(alloc, out)?,
-        files: copies(alloc, archives)?,
+        input: text_value(alloc, matches, "IN")?,
+        out: text_value(alloc, matches, "OUT")?,
+        files: copies(alloc, several_values(alloc, matches, "FILE")?)?,
     })
 }
 
@@ -70,11 +58,9 @@ pub fn plan_merge(alloc: Global, matches: &ArgMatches) -> Result<Plan, LineFault
 pub fn plan_migrate(alloc: Global, matches: &ArgMatches) -> Result<Plan, LineFault>
     ensures { Plans (migrate_line (rows_of (found_of matches.now))) result }
 {
-    let input = one_value(alloc, matches, "IN")?;
-    let out = one_value(alloc, matches, "OUT")?;
     Ok(Plan::Migrate {
-        input: String::from_str(alloc, input)?,
-        out: String::from_str(alloc, out)?,
+        input: text_value(alloc, matches, "IN")?,
+        out: text_value(alloc, matches, "OUT")?,
     })
 }
 
@@ -82,12 +68,9 @@ pub fn plan_migrate(alloc: Global, matches: &ArgMatches) -> Result<Plan, LineFau
 pub fn plan_apply(alloc: Global, matches: &ArgMatches) -> Result<Plan, LineFault>
     ensures { Plans (apply_line (rows_of (found_of matches.now))) result }
 {
-    let input = one_value(alloc, matches, "IN")?;
-    let out = one_value(alloc, matches, "OUT")?;
-    let ops = one_value(alloc, matches, "OPS")?;
     Ok(Plan::Apply {
-        input: String::from_str(alloc, input)?,
-        out: String::from_str(alloc, out)?,
-        ops: String::from_str(alloc, ops)?,
+        input: text_value(alloc, matches, "IN")?,
+        out: text_value(alloc, matches, "OUT")?,
+        ops: text_value(alloc, matches, "OPS")?,
     })
 }

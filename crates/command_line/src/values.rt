@@ -12,14 +12,14 @@ use clap::ArgMatches;
 use std::alloc::{AllocError, Global};
 
 /// The value of a name, if it stands there.
-pub fn value<'a>(matches: &ArgMatches<'a>, id: &str) -> Option<&'a str>
+fn value<'a>(matches: &ArgMatches<'a>, id: &str) -> Option<&'a str>
     ensures { option_map (λ s. s.now) result ≡ first_of id.now (rows_of (found_of matches.now)) }
 {
     matches.get_str(id)
 }
 
 /// The values of a name, in the order of the words, if any stands there.
-pub fn values<'m, 'a>(matches: &'m ArgMatches<'a>, id: &str) -> Option<&'m [&'a str]>
+fn values<'m, 'a>(matches: &'m ArgMatches<'a>, id: &str) -> Option<&'m [&'a str]>
     ensures { option_map (λ s. map (λ v. v.now) s.now) result
         ≡ all_of id.now (rows_of (found_of matches.now)) }
 {
@@ -27,11 +27,7 @@ pub fn values<'m, 'a>(matches: &'m ArgMatches<'a>, id: &str) -> Option<&'m [&'a 
 }
 
 /// The value of a name that has to have one, as each line that `clap` accepts gives it.
-pub fn one_value<'a>(
-    alloc: Global,
-    matches: &ArgMatches<'a>,
-    id: &str,
-) -> Result<&'a str, LineFault>
+fn one_value<'a>(alloc: Global, matches: &ArgMatches<'a>, id: &str) -> Result<&'a str, LineFault>
     ensures ok { IfOk result (λ s. first_of id.now (rows_of (found_of matches.now)) ≡ Some s.now) }
     ensures err { IfErr result (λ e. (e ≡ LineFault.OutOfMemory)
         ⊎ (first_of id.now (rows_of (found_of matches.now)) ≡ None)) }
@@ -41,6 +37,17 @@ pub fn one_value<'a>(
         Some(word) => Ok(word),
         None => Err(missing(alloc, id)),
     }
+}
+
+/// A copy of the value of a name that has to have one.
+pub fn text_value(alloc: Global, matches: &ArgMatches, id: &str) -> Result<String, LineFault>
+    ensures ok { IfOk result (λ s. first_of id.now (rows_of (found_of matches.now)) ≡ Some (string_bytes s)) }
+    ensures err { IfErr result (λ e. (e ≡ LineFault.OutOfMemory)
+        ⊎ (first_of id.now (rows_of (found_of matches.now)) ≡ None)) }
+    ensures refusal { IfErr result IsRefusalUnlessMemory }
+{
+    let word = one_value(alloc, matches, id)?;
+    Ok(String::from_str(alloc, word)?)
 }
 
 /// The values of a name that has to have some, as each line that `clap` accepts gives them.

@@ -4,7 +4,7 @@ use mathlib.Core.Bool.{true≢false}
 use Rattle.std.specs.declared.option.Option.{Option}
 use Rattle.std.specs.declared.option.Option.TheVariants.{None, Some}
 use Rattle.std.specs.FinSet as set
-use Rattle.archive_core.specs.Content.{Operations, made, joined, IsBelow}
+use Rattle.archive_core.specs.Content.{Operations, content_of, joined, IsBelow}
 use Rattle.exchange_model.specs.World.{Event, Take, Retire, Deliver, Stop}
 use Rattle.exchange_model.specs.Reached.{is_stop, site_or, is_of, given}
 use Rattle.exchange_model.specs.Issued.{IsEntryTelling, IsExchange, IsQuiet, is_changing}
@@ -36,7 +36,7 @@ module _ {F : Type 0} (sites : ℕ) (events : List (Event F)) where
             let still : is_changing (slice_get events n) ≡ false = only (is_changing (slice_get events n)) (ap (λ b. is_changing (slice_get events n) && b) (sym at) ∙ h) in
             let both : (is_stop (slice_get events n) ≡ false) × (g ≡ set.empty) = idle_at n (slice_get events n) still in
             ap (λ b. if b then saving sites events n i else joined (had n i) g) both.0
-            ∙ ap (joined (had n i)) both.1 ∙ ap made (union_nothing (had n i)) ∙ (holding_content sites events n i)
+            ∙ ap (joined (had n i)) both.1 ∙ ap content_of (union_nothing (had n i)) ∙ (holding_content sites events n i)
         | false ↦ λ _. refl
       ] refl
     where

@@ -4,7 +4,7 @@ use Rattle.std.specs.declared.result.Result.TheVariants.{Ok}
 use Rattle.std.specs.declared.option.Option.{Option}
 use Rattle.std.specs.declared.option.Option.TheVariants.{None, Some}
 use Rattle.std.specs.FinSet as set
-use Rattle.archive_core.specs.Content.{Operations, made}
+use Rattle.archive_core.specs.Content.{Operations, content_of}
 use Rattle.archive_core.specs.Summary.{summary, delta}
 use Rattle.exchange_model.specs.World.{Event, Take, Retire, Full, Ask, Reply, Deliver, Content, Summary, operations_of}
 use Rattle.exchange_model.specs.Reached.{is_accepted, is_sending, is_of, is_kept, site_or, senders, asked, message_sent, carried, given, reaching, had_within, had, reached}
@@ -69,7 +69,7 @@ module _ {F : Type 0} (sites : ℕ) (events : List (Event F)) where
   within zero zero i h = refl
   within zero (suc n) i h = absurd (omega arith)
   within (suc depth) n i h =
-      ap made (reaching_same (had_within sites events depth) (holding sites events) n (λ f l x. within depth f x (omega arith)) i)
+      ap content_of (reaching_same (had_within sites events depth) (holding sites events) n (λ f l x. within depth f x (omega arith)) i)
       ∙ sym (both_by sites events n i).held
 
   -- what a site holds is what it had
@@ -80,8 +80,8 @@ module _ {F : Type 0} (sites : ℕ) (events : List (Event F)) where
   reaching_had n i = reaching_same (had sites events) (holding sites events) n (λ f l x. had_holds f x) i
 
   -- it is the content that the operations make which reach the site
-  pub had_made : (n i : ℕ) → had sites events n i ≡ made (reaching sites events (had sites events) i n)
-  had_made n i = had_holds n i ∙ (both_by sites events n i).held ∙ ap made (sym (reaching_had n i))
+  pub had_made : (n i : ℕ) → had sites events n i ≡ content_of (reaching sites events (had sites events) i n)
+  had_made n i = had_holds n i ∙ (both_by sites events n i).held ∙ ap content_of (sym (reaching_had n i))
 
-  pub held_reached : (i : ℕ) → holding sites events (length events) i ≡ made (reached sites events i)
-  held_reached i = (both_by sites events (length events) i).held ∙ ap made (sym (reaching_had (length events) i))
+  pub held_reached : (i : ℕ) → holding sites events (length events) i ≡ content_of (reached sites events i)
+  held_reached i = (both_by sites events (length events) i).held ∙ ap content_of (sym (reaching_had (length events) i))

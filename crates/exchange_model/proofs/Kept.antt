@@ -8,7 +8,7 @@ use Rattle.std.specs.Ordering.{nat_cmp}
 use Rattle.std.specs.Cmp.Lexicographic.{slice_cmp, nat_list_cmp_total}
 use Rattle.std.specs.FinSet as set
 use Rattle.std.specs.FinSet.{contains-empty, contains-union}
-use Rattle.archive_core.specs.Content.{Operations, made, joined, IsContent, IsBelow, IsMade}
+use Rattle.archive_core.specs.Content.{Operations, content_of, joined, IsContent, IsBelow, IsMade}
 use Rattle.archive_core.specs.Summary.{Entries, delta}
 use Rattle.exchange_model.specs.World.{Event, Take, Retire, Full, Reply, Deliver, operations_of}
 use Rattle.exchange_model.specs.Reached.{is_stop, is_of, saves, stops, is_accepted, senders, carried, message_sent, asked, given}
@@ -31,7 +31,7 @@ module _ {F : Type 0} (sites : ℕ) (events : List (Event F)) where
   pub holding_content : (n i : ℕ) → IsMade (holding sites events n i)
   holding_content n i =
       let b = both_by sites events n i in
-      ap made b.held ∙ made_again _ ∙ sym b.held
+      ap content_of b.held ∙ made_again _ ∙ sym b.held
 
   none_issued : AreIssued sites events set.empty
   none_issued r h = absurd (true≢false (sym h ∙ contains-empty (slice_cmp nat_cmp) r))

@@ -10,7 +10,7 @@ use Rattle.std.proofs.lemmas.Bool.{eqb-true}
 use Rattle.std.proofs.lemmas.Option.{slice_get-map}
 use Rattle.std.proofs.lemmas.List.{append-nil, map-append}
 use Rattle.std.specs.FinSet as set
-use Rattle.archive_core.specs.Content.{Operations, made, with_records, joined}
+use Rattle.archive_core.specs.Content.{Operations, content_of, with_records, joined}
 use Rattle.archive_core.specs.Summary.{summary, delta}
 use Rattle.exchange_model.specs.World.{World, Event, Take, Retire, Full, Ask, Reply, Deliver, Save, Stop, site_of, records, Message, Content, is_summary, operations_of, entries_of, Fault, NoSite, NotASummary, NotAContent, FileRefused, reply_fault, deliver_fault, fault_of, message_or, effect, unless, happens, stepped, state}
 use Rattle.exchange_model.specs.Reached.{is_ask, is_sending, is_saving, is_stop, site_or, from_ask, from_other, is_accepted, senders, is_of, saves, asked, message_sent, carried, given}
@@ -137,7 +137,7 @@ module _ {F : Type 0} (sites : ℕ) (events : List (Event F)) where
       | false ↦ λ e. refl
     ] refl
 
-    taken_as : (s i : ℕ) (rs : List (List ℕ)) → made (w.held i) ≡ w.held i
+    taken_as : (s i : ℕ) (rs : List (List ℕ)) → content_of (w.held i) ≡ w.held i
         → (if i == s then with_records (w.held s) rs else w.held i) ≡ (if i == s then joined (w.held i) (set.from_list rs) else w.held i)
     taken_as s i rs is = elim (i == s) as (λ b. (i == s) ≡ b → (if b then with_records (w.held s) rs else w.held i) ≡ (if b then joined (w.held i) (set.from_list rs) else w.held i)) [
       | true ↦ λ e. ap (λ j. with_records (w.held j) rs) (sym (eqb-true i s e)) ∙ taken_gain (w.held i) rs is
@@ -145,18 +145,18 @@ module _ {F : Type 0} (sites : ℕ) (events : List (Event F)) where
     ] refl
 
     -- what an accepted event leaves at a site
-    held_as : (e : Event F) (n i : ℕ) → senders sites events n ≡ fs → made (w.held i) ≡ w.held i
+    held_as : (e : Event F) (n i : ℕ) → senders sites events n ≡ fs → content_of (w.held i) ≡ w.held i
         → (effect w e).held i ≡ (if i == site_of e then (if is_stop (Some e) then w.saved i else joined (w.held i) (given sites events holding n (Some e))) else w.held i)
-    held_as (Take s (Err f)) n i now is = sym (if_same (i == s) _ _ (ap made (union_nothing (w.held i)) ∙ is))
+    held_as (Take s (Err f)) n i now is = sym (if_same (i == s) _ _ (ap content_of (union_nothing (w.held i)) ∙ is))
     held_as (Take s (Ok parts)) n i now is = taken_as s i (records parts) is
     held_as (Retire s r) n i now is = taken_as s i (r ∷ []) is
-    held_as (Full s) n i now is = sym (if_same (i == s) _ _ (ap made (union_nothing (w.held i)) ∙ is))
-    held_as (Ask s) n i now is = sym (if_same (i == s) _ _ (ap made (union_nothing (w.held i)) ∙ is))
-    held_as (Reply s m) n i now is = sym (if_same (i == s) _ _ (ap made (union_nothing (w.held i)) ∙ is))
+    held_as (Full s) n i now is = sym (if_same (i == s) _ _ (ap content_of (union_nothing (w.held i)) ∙ is))
+    held_as (Ask s) n i now is = sym (if_same (i == s) _ _ (ap content_of (union_nothing (w.held i)) ∙ is))
+    held_as (Reply s m) n i now is = sym (if_same (i == s) _ _ (ap content_of (union_nothing (w.held i)) ∙ is))
     held_as (Deliver s m) n i now is =
         same_site (λ j. joined (w.held j) (operations_of (message_or (slice_get w.messages m)))) (λ j. joined (w.held j) (carried sites events holding (slice_get (senders sites events n) m))) i s (w.held i)
         (ap (joined (w.held s)) (ap (λ o. operations_of (message_or o)) (got m) ∙ carried_as (slice_get fs m) ∙ ap (λ l. carried sites events holding (slice_get l m)) (sym now)))
-    held_as (Save s) n i now is = sym (if_same (i == s) _ _ (ap made (union_nothing (w.held i)) ∙ is))
+    held_as (Save s) n i now is = sym (if_same (i == s) _ _ (ap content_of (union_nothing (w.held i)) ∙ is))
     held_as (Stop s) n i now is = same_site w.saved w.saved i s (w.held i) refl
 
     saved_as : (e : Event F) (i : ℕ) → (effect w e).saved i ≡ (if (i == site_of e) && is_saving (Some e) then w.held i else w.saved i)
@@ -205,7 +205,7 @@ module _ {F : Type 0} (sites : ℕ) (events : List (Event F)) where
       ∙ sym (map-append sent fs (if is_accepted sites events fs (slice_get events n) && is_sending (slice_get events n) then n ∷ [] else []))
 
   -- what event number n leaves at a site
-  pub held_next : (n i : ℕ) → made (holding n i) ≡ holding n i
+  pub held_next : (n i : ℕ) → content_of (holding n i) ≡ holding n i
       → holding (suc n) i ≡ (if is_of sites events i n then (if is_stop (slice_get events n) then saving n i else joined (holding n i) (given sites events holding n (slice_get events n))) else holding n i)
   held_next n i is =
       let w : World = state sites events n in

@@ -5,7 +5,7 @@ use Rattle.std.specs.declared.option.Option.{Option}
 use Rattle.std.specs.declared.option.Option.TheVariants.{None, Some}
 use Rattle.std.specs.declared.result.Result.TheVariants.{Ok, Err}
 use Rattle.std.specs.FinSet as set
-use Rattle.archive_core.specs.Content.{Operations, made}
+use Rattle.archive_core.specs.Content.{Operations, content_of}
 use Rattle.archive_core.specs.Summary.{Entries, summary, delta}
 use Rattle.exchange_model.specs.World.{Event, Take, Retire, Full, Ask, Reply, Deliver, Save, Stop}
 use Rattle.exchange_model.specs.World.{site_of, records, Message, Content, Summary, operations_of}
@@ -127,7 +127,7 @@ module _ {F : Type 0} (sites : ℕ) (events : List (Event F)) where
   -- what site i had by n, where a message is followed back through at most that many others
   abbrev pub had_within : ℕ → ℕ → ℕ → Operations
   had_within zero n i = set.empty
-  had_within (suc depth) n i = made (reaching (had_within depth) i n)
+  had_within (suc depth) n i = content_of (reaching (had_within depth) i n)
 
   -- what site i had by n: a message is sent by an earlier event, so n steps back are enough
   abbrev pub had : ℕ → ℕ → Operations

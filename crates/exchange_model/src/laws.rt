@@ -7,7 +7,7 @@ ghost use Rattle.std.specs.Prelude.{◌≡◌, ◌↔◌, ◌≤◌, ℕ, suc, m
 ghost use Rattle.std.specs.Prelude.{is_none, List, length, map, take, slice_get};
 ghost use Rattle.std.specs.declared.option.Option.{Option};
 ghost use Rattle.std.specs.FinSet as set;
-ghost use Rattle.archive_core.specs.Content.{Operations, IsContent, IsBelow, made, with_records};
+ghost use Rattle.archive_core.specs.Content.{Operations, IsContent, IsBelow, content_of, with_records};
 ghost use Rattle.exchange_model.specs.World.{World, Event, Fault, Refused, Skipped, fault_of, effect};
 ghost use Rattle.exchange_model.specs.World.{happens, answer, outcome, state, row_of, rows, records};
 ghost use Rattle.exchange_model.specs.Reached.{is_accepted, senders, message_sent, had, reaching, reached, Reaches};
@@ -65,18 +65,18 @@ pub fn reaching_in_words<F>()
 /// of them.
 pub fn reached_is_held<F>()
     ensures end { (sites : ℕ) (events : List (Event F)) (i : ℕ)
-        → (state sites events (length events)).held i ≡ made (reached sites events i) }
+        → (state sites events (length events)).held i ≡ content_of (reached sites events i) }
     ensures each { (sites : ℕ) (events : List (Event F)) (n i : ℕ)
         → (state sites events n).held i ≡ had sites events n i }
     // What was had is what reached, of messages that what was had makes.
     ensures meant { (sites : ℕ) (events : List (Event F)) (n i : ℕ)
-        → had sites events n i ≡ made (reaching sites events (had sites events) i n) }
+        → had sites events n i ≡ content_of (reaching sites events (had sites events) i n) }
 {}
 
 /// Sites that operations reached which make the same content hold the same, after one list of events or after two.
 pub fn same_reached<F>()
     ensures { (sites others : ℕ) (events later : List (Event F)) (i j : ℕ)
-        → made (reached sites events i) ≡ made (reached others later j)
+        → content_of (reached sites events i) ≡ content_of (reached others later j)
         → (state sites events (length events)).held i ≡ (state others later (length later)).held j }
 {}
 

@@ -8,11 +8,11 @@ use Rattle.fat_slices.specs.declared.file_kind.FileKind.TheVariants.{Thin, Unive
 
 -- uint32_t: the number in the four bytes from a place
 unfoldable pub u32_at : List ℕ → ℕ → ℕ
-u32_at bytes place = big_number 4 (drop place bytes)
+u32_at bytes index = big_number 4 (drop index bytes)
 
 -- uint64_t: the number in the eight bytes from a place
 unfoldable pub u64_at : List ℕ → ℕ → ℕ
-u64_at bytes place = big_number 8 (drop place bytes)
+u64_at bytes index = big_number 8 (drop index bytes)
 
 -- fat_header (8 bytes: magic 0, nfat_arch 4): the number of entries of the table behind it
 abbrev pub nfat_arch : List ℕ → ℕ

@@ -12,12 +12,12 @@ use crate::fat_header::nfat_arch;
 pub(crate) fn first_outside(file: &[u8]) -> Option<u32>
     requires { HasTable file.now }
     ensures { MatchOption result (HasNone (IsOutside file.now) (nfat_arch file.now))
-        (λ place. IsFirst (IsOutside file.now) (nfat_arch file.now) place) }
+        (λ index. IsFirst (IsOutside file.now) (nfat_arch file.now) index) }
 {
-    for place in 0..nfat_arch(file) {
-        let arch = arch_at(file, place);
+    for index in 0..nfat_arch(file) {
+        let arch = arch_at(file, index);
         if arch.offset as u128 + arch.size as u128 > file.len() as u128 {
-            return Some(place);
+            return Some(index);
         }
     }
     None
@@ -27,11 +27,11 @@ pub(crate) fn first_outside(file: &[u8]) -> Option<u32>
 pub(crate) fn first_too_large(file: &[u8]) -> Option<u32>
     requires { HasTable file.now }
     ensures { MatchOption result (HasNone (IsTooLarge file.now) (nfat_arch file.now))
-        (λ place. IsFirst (IsTooLarge file.now) (nfat_arch file.now) place) }
+        (λ index. IsFirst (IsTooLarge file.now) (nfat_arch file.now) index) }
 {
-    for place in 0..nfat_arch(file) {
-        if arch_at(file, place).size > u32::MAX as u64 {
-            return Some(place);
+    for index in 0..nfat_arch(file) {
+        if arch_at(file, index).size > u32::MAX as u64 {
+            return Some(index);
         }
     }
     None

@@ -23,14 +23,14 @@ pub(crate) struct FatArch {
 }
 
 /// Where the entry at a place of a table stands in a file of a kind, in bytes from the start.
-pub(crate) fn arch_place(kind: FileKind, place: u32) -> usize
-    ensures { result ≡ 8 + arch_size kind * place }
+pub(crate) fn arch_place(kind: FileKind, index: u32) -> usize
+    ensures { result ≡ 8 + arch_size kind * index }
 {
     let size = match kind {
         FileKind::Universal64 => FAT_ARCH_64_LEN,
         FileKind::Thin | FileKind::Universal | FileKind::Other => FAT_ARCH_LEN,
     };
-    FAT_HEADER_LEN + size * place as usize
+    FAT_HEADER_LEN + size * index as usize
 }
 
 /// The `fat_arch` that begins the bytes.
@@ -57,13 +57,13 @@ fn fat_arch_64(entry: &[u8]) -> FatArch
 
 /// The entry at a place.
 #[tactic(auto, unfolding(crate::specs::Layout::arch_at))]
-pub(crate) fn arch_at(file: &[u8], place: u32) -> FatArch
+pub(crate) fn arch_at(file: &[u8], index: u32) -> FatArch
     requires table { HasTable file.now }
-    requires inside { place < nfat_arch file.now }
-    ensures { result ≡ arch_at file.now place }
+    requires inside { index < nfat_arch file.now }
+    ensures { result ≡ arch_at file.now index }
 {
     let kind = kind(file);
-    let entry = file.split_at(arch_place(kind, place)).1;
+    let entry = file.split_at(arch_place(kind, index)).1;
     match kind {
         FileKind::Universal64 => fat_arch_64(entry),
         FileKind::Thin | FileKind::Universal | FileKind::Other => fat_arch(entry),

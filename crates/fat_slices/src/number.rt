@@ -7,18 +7,18 @@ use byteorder::{BigEndian, ByteOrder};
 
 /// The number in the four bytes from a place.
 #[tactic(auto, unfolding(crate::specs::Layout::u32_at))]
-pub(crate) fn number32(bytes: &[u8], place: usize) -> u32
-    requires { place + 4 ≤ length bytes.now }
-    ensures { result ≡ u32_at bytes.now place }
+pub(crate) fn number32(bytes: &[u8], index: usize) -> u32
+    requires { index + 4 ≤ length bytes.now }
+    ensures { result ≡ u32_at bytes.now index }
 {
-    BigEndian::read_u32(&bytes[place..])
+    BigEndian::read_u32(&bytes[index..])
 }
 
 /// The number in the eight bytes from a place.
 #[tactic(auto, unfolding(crate::specs::Layout::u64_at))]
-pub(crate) fn number64(bytes: &[u8], place: usize) -> u64
-    requires { place + 8 ≤ length bytes.now }
-    ensures { result ≡ u64_at bytes.now place }
+pub(crate) fn number64(bytes: &[u8], index: usize) -> u64
+    requires { index + 8 ≤ length bytes.now }
+    ensures { result ≡ u64_at bytes.now index }
 {
-    BigEndian::read_u64(&bytes[place..])
+    BigEndian::read_u64(&bytes[index..])
 }

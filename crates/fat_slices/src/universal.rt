@@ -38,11 +38,11 @@ impl<'a> Universal<'a> {
         ensures bytes { IfOk result (λ universal. universal ≡ file.now) }
     {
         check_table(file)?;
-        if let Some(place) = first_outside(file) {
-            return Err(FatFault::SliceOutside(place));
+        if let Some(index) = first_outside(file) {
+            return Err(FatFault::SliceOutside(index));
         }
-        if let Some(place) = first_too_large(file) {
-            return Err(FatFault::TooLarge(place));
+        if let Some(index) = first_too_large(file) {
+            return Err(FatFault::TooLarge(index));
         }
         Ok(Universal { file })
     }
@@ -65,11 +65,11 @@ impl<'a> Universal<'a> {
 
     /// The slice that the entry at a place of the table names, counted from 0. It is any bytes, none among them.
     #[tactic(auto, using(crate::proofs::Parts::of_slices))]
-    pub fn slice(&self, place: u32) -> &'a [u8]
-        requires { place < length (slices self.now) }
-        ensures part { slice_get (slices self.now) place ≡ Some result.now }
+    pub fn slice(&self, index: u32) -> &'a [u8]
+        requires { index < length (slices self.now) }
+        ensures part { slice_get (slices self.now) index ≡ Some result.now }
         ensures small { length result.now < 2 ^ 32 }
     {
-        slice_part(self.file, arch_at(self.file, place))
+        slice_part(self.file, arch_at(self.file, index))
     }
 }

@@ -1,36 +1,84 @@
 -- A line that is carried out over files of the system.
-use Rattle.std.specs.Prelude.{◌≡◌, ℕ, Bool, List, Option, None, Result, Ok, Err, if◌then◌else◌}
-use Rattle.command_line.specs.Lines.{Line}
+use Rattle.std.specs.Prelude.{◌≡◌, ◌⊎◌, ℕ, Bool, List, [], Option, Some, None, Result, Ok, Err, if◌then◌else◌}
+use Rattle.std.specs.Option.{option_to_list}
+use Rattle.std.specs.Io.KnownBytes.{Appends}
+use Rattle.clap.specs.Words.{Text}
+use Rattle.command_line.specs.Lines.{Line, inputs_of, out_of}
 use Rattle.archive_records.specs.Merging.{stream}
 use Rattle.archive_commands.specs.declared.failures.Failure.{Failure}
 use Rattle.archive_commands.specs.declared.failures.Failure.TheVariants.{Command, CannotCreate}
 use Rattle.archive_commands.specs.declared.faults.CommandFault.{CommandFault}
 use Rattle.archive_commands.specs.declared.faults.CommandFault.TheVariants.{Input, Output, Report, OutOfMemory}
 use Rattle.archive_commands.specs.declared.faults.Status.{Status}
-use Rattle.archive_commands.specs.Outputs.{Writer}
-use Rattle.plan_commands.specs.Disks.{Carried, Unknown}
+use Rattle.archive_commands.specs.Outputs.{Writer, Takes, writer}
+use Rattle.archive_files.specs.OutFiles.{IsPath, account}
+use Rattle.plan_commands.specs.Disks.{AreFirstOpened, Carried, Unknown}
 
 -- what is told of a command that ended so: where the file of OUT was not created, that is why OUT failed
-abbrev pub told_of : Bool → Result Status CommandFault → Result Status Failure
-told_of is_not_created (Ok status) = Ok status
-told_of is_not_created (Err (Input place why)) = Err (Command (Input place why))
-told_of is_not_created (Err (Output n)) = Err (if is_not_created then CannotCreate (record {}) else Command (Output n))
-told_of is_not_created (Err (Report n)) = Err (Command (Report n))
-told_of is_not_created (Err OutOfMemory) = Err (Command OutOfMemory)
+abbrev pub command_fault_of : Bool → Result Status CommandFault → Result Status Failure
+command_fault_of is_not_created (Ok status) = Ok status
+command_fault_of is_not_created (Err (Input place why)) = Err (Command (Input place why))
+command_fault_of is_not_created (Err (Output n)) = Err (if is_not_created then CannotCreate (record {}) else Command
+    (Output n))
+command_fault_of is_not_created (Err (Report n)) = Err (Command (Report n))
+command_fault_of is_not_created (Err OutOfMemory) = Err (Command OutOfMemory)
 
--- The command of a line ended over files of which nothing is known, and this is told of it.
-pub record IsCarriedOut {S W : Type 0} (left : S → Option (List ℕ)) (failures : S → ℕ) (held : W → Option (List ℕ))
-    (out_failures : W → ℕ) (line : Line) (report : Writer) (told : Result Status Failure) : Type 0 where
-  pub out_old : W
-  pub out_new : W
+-- What was called of the system in a command: the paths that were opened, before it and after it, the inputs that were
+-- found to be other files than OUT's, the one that was found to be OUT's own, the paths at which a file was created or
+-- was to be, and OUT then. The functions tell what an input has left and how often it failed, and what is known of OUT
+-- and how often it failed.
+pub record Calls (S W : Type 0) : Type 0 where
+  pub left : S → Option (List ℕ)
+  pub failures : S → ℕ
+  pub held : W → Option (List ℕ)
+  pub out_failures : W → ℕ
+  pub opened_old : List Text
+  pub opened_new : List Text
+  pub others : List Text
+  pub same : List Text
+  pub created : List Text
   pub is_not_created : Bool
-  pub ended : Result Status CommandFault
-  pub carried : Carried left failures (λ _. Unknown) None None line (stream held out_failures out_old out_new) report
-      ended
-  pub told_is : told ≡ told_of is_not_created ended
+  pub out : W
 
--- There was no memory to begin the command.
-pub record IsUnbegun (report : Writer) (told : Result Status Failure) : Type 0 where
+abbrev pub calls_of : {S W : Type 0} → (S → Option (List ℕ)) → (S → ℕ) → (W → Option (List ℕ)) → (W → ℕ) → List Text
+    → List Text → List Text → List Text → List Text → Bool → W → Calls S W
+calls_of left failures held out_failures opened_old opened_new others same created is_not_created out = record {
+  left = left;
+  failures = failures;
+  held = held;
+  out_failures = out_failures;
+  opened_old = opened_old;
+  opened_new = opened_new;
+  others = others;
+  same = same;
+  created = created;
+  is_not_created = is_not_created;
+  out = out;
+}
+
+-- The command of a line ended over files of which nothing is known, and this is told of it. OUT has the path of the
+-- line, unless an input's file is there. If it took a text, or first bytes of one, it was created there and nowhere
+-- else; if it took none and did not fail, nowhere.
+pub record IsCarriedOut {S W : Type 0} (calls : Calls S W) (line : Line) (report : Writer)
+    (told : Result Status Failure) : Type 0 where
+  pub path : Option Text
+  pub begun : W
+  pub ended : Result Status CommandFault
+  pub path_is : IsPath (out_of line) (inputs_of line) calls.others calls.same path
+  pub begun_is : calls.held begun ≡ Some (account path [])
+  pub begun_unfailed : calls.out_failures begun ≡ 0
+  pub carried : Carried calls.left calls.failures (λ _. Unknown) (Some calls.opened_old) (Some calls.opened_new) line
+      (stream calls.held calls.out_failures begun calls.out) report ended
+  pub created : (text : List ℕ) → Appends (calls.held begun) (calls.held calls.out) text
+      → (calls.created ≡ []) ⊎ (calls.created ≡ option_to_list path)
+  pub untouched : Takes (writer calls.held calls.out_failures begun calls.out) [] → calls.created ≡ []
+  pub told_is : told ≡ command_fault_of calls.is_not_created ended
+
+-- There was no memory to begin the command: no file was created, and nothing is told.
+pub record IsUnbegun {S W : Type 0} (calls : Calls S W) (line : Line) (report : Writer)
+    (told : Result Status Failure) : Type 0 where
   pub wanting : told ≡ Err (Command OutOfMemory)
+  pub opened : AreFirstOpened (Some calls.opened_old) (Some calls.opened_new) (inputs_of line)
+  pub uncreated : calls.created ≡ []
   pub report_same : report.new ≡ report.old
   pub report_unfailed : report.failures_new ≡ report.failures_old

@@ -21,8 +21,8 @@ pub record PassesTests (has_uuid has_symtab : Bool) (command : List ℕ) : Type 
   pub symtab : (is_symtab command && nat_lt (length command) 24) ≡ false
   pub one_symtab : (is_symtab command && has_symtab) ≡ false
 
-pub passes_tests : (place : ℕ) (has_uuid has_symtab : Bool) (command : List ℕ) → command_fault place has_uuid has_symtab command ≡ None → PassesTests has_uuid has_symtab command
-passes_tests place has_uuid has_symtab command fine =
+pub passes_tests : (index : ℕ) (has_uuid has_symtab : Bool) (command : List ℕ) → command_fault index has_uuid has_symtab command ≡ None → PassesTests has_uuid has_symtab command
+passes_tests index has_uuid has_symtab command fine =
     let first = not_taken (is_segment command && nat_lt (length command) (72 + 80 * nsects command)) _ _ fine in
     let second = not_taken (is_uuid command && nat_lt (length command) 24) _ _ first.1 in
     let third = not_taken (is_uuid command && has_uuid) _ _ second.1 in
@@ -31,9 +31,9 @@ passes_tests place has_uuid has_symtab command fine =
     record { segment = first.0; uuid = second.0; one_uuid = third.0; symtab = fourth.0; one_symtab = fifth.0 }
 
 -- a command without a fault has room for what its kind holds
-pub room_of : (place : ℕ) (has_uuid has_symtab : Bool) (command : List ℕ) → 8 ≤ length command → command_fault place has_uuid has_symtab command ≡ None → HasRoom command
-room_of place has_uuid has_symtab command long fine =
-    let passes = passes_tests place has_uuid has_symtab command fine in
+pub room_of : (index : ℕ) (has_uuid has_symtab : Bool) (command : List ℕ) → 8 ≤ length command → command_fault index has_uuid has_symtab command ≡ None → HasRoom command
+room_of index has_uuid has_symtab command long fine =
+    let passes = passes_tests index has_uuid has_symtab command fine in
     record {
       long = long;
       sections = λ segment. not_below _ _ (rw segment at passes.segment);

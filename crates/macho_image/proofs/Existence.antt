@@ -44,19 +44,19 @@ cut_or_none bytes = elim (cases_lt (length bytes) 8) [
 abbrev Ends : List ℕ → ℕ → Type 0
 Ends area count = ((fault : ImageFault) × IsFirstFault area count fault) ⊎ ((commands : List (List ℕ)) × AreCommands area count commands)
 
-walk_on : (steps : ℕ) (area : List ℕ) (place count : ℕ) (rest : List ℕ) (uuid : Option (List ℕ)) (symtab : Option Symtab) → place + steps ≡ count → Reached area place rest uuid symtab → Ends area count
-walk_on zero area place count rest uuid symtab e reached =
-    let all = reached_all area place count rest uuid symtab reached (omega arith) in
+walk_on : (steps : ℕ) (area : List ℕ) (index count : ℕ) (rest : List ℕ) (uuid : Option (List ℕ)) (symtab : Option Symtab) → index + steps ≡ count → Reached area index rest uuid symtab → Ends area count
+walk_on zero area index count rest uuid symtab e reached =
+    let all = reached_all area index count rest uuid symtab reached (omega arith) in
     inr (all.commands, all.sound)
-walk_on (suc steps) area place count rest uuid symtab e reached = elim (cut_or_none rest) [
-  | inr none ↦ inl (BadCommand place, reached_end area place rest uuid symtab reached count (omega arith) none)
-  | inl cut ↦ by_fault cut (command_fault place (is_some uuid) (is_some symtab) cut.command) refl (walk_on steps area (place + 1) count cut.after (option_or uuid (uuid_among (cut.command ∷ []))) (option_or symtab (symtab_among (cut.command ∷ []))) (omega arith))
+walk_on (suc steps) area index count rest uuid symtab e reached = elim (cut_or_none rest) [
+  | inr none ↦ inl (BadCommand index, reached_end area index rest uuid symtab reached count (omega arith) none)
+  | inl cut ↦ by_fault cut (command_fault index (is_some uuid) (is_some symtab) cut.command) refl (walk_on steps area (index + 1) count cut.after (option_or uuid (uuid_among (cut.command ∷ []))) (option_or symtab (symtab_among (cut.command ∷ []))) (omega arith))
 ]
   where
-    by_fault : (cut : IsCut rest) (o : Option ImageFault) → command_fault place (is_some uuid) (is_some symtab) cut.command ≡ o
-        → (Reached area (place + 1) cut.after (option_or uuid (uuid_among (cut.command ∷ []))) (option_or symtab (symtab_among (cut.command ∷ []))) → Ends area count) → Ends area count
-    by_fault cut None fine more = more (reached_next area place rest uuid symtab reached cut.command cut.after cut.whole cut.begins fine)
-    by_fault cut (Some fault) faulty more = inl (fault, reached_fault area place rest uuid symtab reached cut.command cut.after cut.whole cut.begins count fault (omega arith) faulty)
+    by_fault : (cut : IsCut rest) (o : Option ImageFault) → command_fault index (is_some uuid) (is_some symtab) cut.command ≡ o
+        → (Reached area (index + 1) cut.after (option_or uuid (uuid_among (cut.command ∷ []))) (option_or symtab (symtab_among (cut.command ∷ []))) → Ends area count) → Ends area count
+    by_fault cut None fine more = more (reached_next area index rest uuid symtab reached cut.command cut.after cut.whole cut.begins fine)
+    by_fault cut (Some fault) faulty more = inl (fault, reached_fault area index rest uuid symtab reached cut.command cut.after cut.whole cut.begins count fault (omega arith) faulty)
 
 pub image_or_fault : (bytes : List ℕ) → IsImage bytes ⊎ ((fault : ImageFault) × IsImageFault bytes fault)
 image_or_fault bytes = by_header (header_fault bytes) refl

@@ -10,11 +10,11 @@ use Rattle.macho_image.specs.Commands.{IsCommand, IsFront}
 use Rattle.macho_image.specs.Inner.{HasNoCommand}
 
 -- a number is that of the bytes in front, whatever follows them
-pub u32_at-append : (xs ys : List ℕ) (place : ℕ) → place + 4 ≤ length xs → u32_at (xs ++ ys) place ≡ u32_at xs place
+pub u32_at-append : (xs ys : List ℕ) (index : ℕ) → index + 4 ≤ length xs → u32_at (xs ++ ys) index ≡ u32_at xs index
 unfolding u32_at
-u32_at-append xs ys place h =
-    let moved : drop place (xs ++ ys) ≡ drop place xs ++ ys = drop-append-le place xs ys (omega arith) in
-    ap (little_number 4) moved ∙ little_from-append 4 (drop place xs) ys (omega (arith, length-drop place xs))
+u32_at-append xs ys index h =
+    let moved : drop index (xs ++ ys) ≡ drop index xs ++ ys = drop-append-le index xs ys (omega arith) in
+    ap (little_number 4) moved ∙ little_from-append 4 (drop index xs) ys (omega (arith, length-drop index xs))
 
 -- two commands in front of the same bytes are the same
 pub same_command : (x y r t : List ℕ) → IsCommand x → IsCommand y → x ++ r ≡ y ++ t → (x ≡ y) × (r ≡ t)

@@ -77,14 +77,14 @@ pub ruleset of_commands = (one_command, no_command, not_a_command)
 pub first_commands-front : (count : ℕ) (area : List ℕ) (cs : List (List ℕ)) → IsFront area count cs → first_commands count area ≡ cs
 first_commands-front count area cs front = cut_front count cs front.rest area front.number front.each front.begins
 
-module _ (bytes area : List ℕ) (count : ℕ) (header : header_fault bytes ≡ None) (number : count ≡ ncmds bytes) (place : area ≡ command_bytes bytes) where
+module _ (bytes area : List ℕ) (count : ℕ) (header : header_fault bytes ≡ None) (number : count ≡ ncmds bytes) (index : area ≡ command_bytes bytes) where
   -- a fault of the walk is that of the image
   pub faulty_walk : (fault : ImageFault) → IsFirstFault area count fault → IsImageFault bytes fault
-  faulty_walk fault first = inr (inl (header, rw (place, number) at first))
+  faulty_walk fault first = inr (inl (header, rw (index, number) at first))
 
   module _ (uuid : Option (List ℕ)) (symtab : Option Symtab) (read : AreContents area count uuid symtab) where
     here : AreCommands (command_bytes bytes) (ncmds bytes) read.commands
-    here = rw (place, number) at read.sound
+    here = rw (index, number) at read.sound
 
     -- as is the lack of a UUID
     pub no_uuid_walk : uuid ≡ None → IsImageFault bytes NoUuid

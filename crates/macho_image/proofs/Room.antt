@@ -24,17 +24,17 @@ length-first_commands (suc count) area = by_test (nat_le 8 (u32_at area 4) && na
         omega (arith, below, length-append (take (u32_at area 4) area) (concat (first_commands count (drop (u32_at area 4) area))), length-take (u32_at area 4) area, length-drop (u32_at area 4) area)
 
 -- sections have room in their commands
-sections_fit : (place : ℕ) (cs : List (List ℕ)) → AllByRecursion HasRoom cs → 80 * length (flat_map sections_in (filter_map segment_of (load_commands_from place cs))) ≤ length (concat cs)
+sections_fit : (index : ℕ) (cs : List (List ℕ)) → AllByRecursion HasRoom cs → 80 * length (flat_map sections_in (filter_map segment_of (load_commands_from index cs))) ≤ length (concat cs)
 unfolding load_commands_from
-sections_fit place [] h = omega arith
-sections_fit place (c ∷ cs) h =
-    rw (segments-cons place c cs) (by_kind (is_segment c) refl (filter_map segment_of (load_commands_from (place + length c) cs)) (sections_fit (place + length c) cs h.1))
+sections_fit index [] h = omega arith
+sections_fit index (c ∷ cs) h =
+    rw (segments-cons index c cs) (by_kind (is_segment c) refl (filter_map segment_of (load_commands_from (index + length c) cs)) (sections_fit (index + length c) cs h.1))
   where
     by_kind : (b : Bool) → is_segment c ≡ b → (rest : List SegmentRecord) → 80 * length (flat_map sections_in rest) ≤ length (concat cs)
-        → 80 * length (flat_map sections_in (cond b (record { place = place; bytes = c } ∷ rest) rest)) ≤ length (c ++ concat cs)
+        → 80 * length (flat_map sections_in (cond b (record { index = index; bytes = c } ∷ rest) rest)) ≤ length (c ++ concat cs)
     by_kind false e rest below = omega (arith, below, length-append c (concat cs))
     by_kind true e rest below =
-        let segment : SegmentRecord = record { place = place; bytes = c } in
+        let segment : SegmentRecord = record { index = index; bytes = c } in
         omega (arith, below, h.0.sections e, length-sections_in segment, length-append c (concat cs), length-append (sections_in segment) (flat_map sections_in rest))
 
 -- each command has eight bytes

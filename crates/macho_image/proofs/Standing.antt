@@ -16,48 +16,48 @@ use Rattle.macho_image.proofs.Told.{commands-room}
 -- a segment stands in an image at its place, and has room for its sections
 record IsSegmentOf (image : List ℕ) (segment : SegmentRecord) : Type 0 where
   rest : List ℕ
-  stands : drop segment.place image ≡ segment.bytes ++ rest
+  stands : drop segment.index image ≡ segment.bytes ++ rest
   room : 72 + 80 * nsects segment.bytes ≤ length segment.bytes
 
-segments_stand : (image : List ℕ) (place : ℕ) (cs : List (List ℕ)) (tail : List ℕ) → AllByRecursion HasRoom cs → drop place image ≡ concat cs ++ tail
-    → AllByRecursion (IsSegmentOf image) (filter_map segment_of (load_commands_from place cs))
+segments_stand : (image : List ℕ) (index : ℕ) (cs : List (List ℕ)) (tail : List ℕ) → AllByRecursion HasRoom cs → drop index image ≡ concat cs ++ tail
+    → AllByRecursion (IsSegmentOf image) (filter_map segment_of (load_commands_from index cs))
 unfolding load_commands_from
-segments_stand image place [] tail room stands = tt
-segments_stand image place (c ∷ cs) tail room stands =
-    rw (segments-cons place c cs) (by_kind (is_segment c) refl (filter_map segment_of (load_commands_from (place + length c) cs)) (segments_stand image (place + length c) cs tail room.1 next))
+segments_stand image index [] tail room stands = tt
+segments_stand image index (c ∷ cs) tail room stands =
+    rw (segments-cons index c cs) (by_kind (is_segment c) refl (filter_map segment_of (load_commands_from (index + length c) cs)) (segments_stand image (index + length c) cs tail room.1 next))
   where
-    here : drop place image ≡ c ++ (concat cs ++ tail)
+    here : drop index image ≡ c ++ (concat cs ++ tail)
     here = stands ∙ append_assoc c (concat cs) tail
 
-    next : drop (place + length c) image ≡ concat cs ++ tail
-    next = sym (drop-drop (length c) place image) ∙ ap (drop (length c)) here ∙ drop_at c (concat cs ++ tail) (length c) refl
+    next : drop (index + length c) image ≡ concat cs ++ tail
+    next = sym (drop-drop (length c) index image) ∙ ap (drop (length c)) here ∙ drop_at c (concat cs ++ tail) (length c) refl
 
-    by_kind : (b : Bool) → is_segment c ≡ b → (rest : List SegmentRecord) → AllByRecursion (IsSegmentOf image) rest → AllByRecursion (IsSegmentOf image) (cond b (record { place = place; bytes = c } ∷ rest) rest)
+    by_kind : (b : Bool) → is_segment c ≡ b → (rest : List SegmentRecord) → AllByRecursion (IsSegmentOf image) rest → AllByRecursion (IsSegmentOf image) (cond b (record { index = index; bytes = c } ∷ rest) rest)
     by_kind false e rest more = more
     by_kind true e rest more = (record { rest = concat cs ++ tail; stands = here; room = room.0.sections e }, more)
 
 -- sections that stand one behind another
-records_stand : (image : List ℕ) (count place : ℕ) (bytes rest : List ℕ) → 80 * count ≤ length bytes → drop place image ≡ bytes ++ rest
-    → AllByRecursion (IsSectionOf image) (section_records count place bytes)
+records_stand : (image : List ℕ) (count index : ℕ) (bytes rest : List ℕ) → 80 * count ≤ length bytes → drop index image ≡ bytes ++ rest
+    → AllByRecursion (IsSectionOf image) (section_records count index bytes)
 unfolding section_records section_at section_record
-records_stand image zero place bytes rest room stands = tt
-records_stand image (suc count) place bytes rest room stands = (
+records_stand image zero index bytes rest room stands = tt
+records_stand image (suc count) index bytes rest room stands = (
   record {
-    stands = ap (section_record place) stands ∙ section_record-append place bytes rest (omega arith);
-    room = omega (arith, ap length stands, length-append bytes rest, length-drop place image);
+    stands = ap (section_record index) stands ∙ section_record-append index bytes rest (omega arith);
+    room = omega (arith, ap length stands, length-append bytes rest, length-drop index image);
   },
-  records_stand image count (place + 80) (drop 80 bytes) rest (omega (arith, length-drop 80 bytes)) next,
+  records_stand image count (index + 80) (drop 80 bytes) rest (omega (arith, length-drop 80 bytes)) next,
 )
   where
-    next : drop (place + 80) image ≡ drop 80 bytes ++ rest
-    next = sym (drop-drop 80 place image) ∙ ap (drop 80) stands ∙ drop-append-le 80 bytes rest (omega arith)
+    next : drop (index + 80) image ≡ drop 80 bytes ++ rest
+    next = sym (drop-drop 80 index image) ∙ ap (drop 80) stands ∙ drop-append-le 80 bytes rest (omega arith)
 
 -- those of a segment
 sections_in-stand : (image : List ℕ) (segment : SegmentRecord) → IsSegmentOf image segment → AllByRecursion (IsSectionOf image) (sections_in segment)
 unfolding sections_in
 sections_in-stand image segment is =
-    records_stand image (nsects segment.bytes) (segment.place + 72) (drop 72 segment.bytes) is.rest (omega (arith, is.room, length-drop 72 segment.bytes))
-    (sym (drop-drop 72 segment.place image) ∙ ap (drop 72) is.stands ∙ drop-append-le 72 segment.bytes is.rest (omega (arith, is.room)))
+    records_stand image (nsects segment.bytes) (segment.index + 72) (drop 72 segment.bytes) is.rest (omega (arith, is.room, length-drop 72 segment.bytes))
+    (sym (drop-drop 72 segment.index image) ∙ ap (drop 72) is.stands ∙ drop-append-le 72 segment.bytes is.rest (omega (arith, is.room)))
 
 -- and of several
 all_stand : (image : List ℕ) (segments : List SegmentRecord) → AllByRecursion (IsSegmentOf image) segments → AllByRecursion (IsSectionOf image) (flat_map sections_in segments)
@@ -96,7 +96,7 @@ module _ (image : List ℕ) (room : AllByRecursion HasRoom (commands image)) whe
   unfolding sections
   each_section = all_stand image (segments image) each_segment
 
-pub segment_stands : (image : List ℕ) (segment : SegmentRecord) → IsImage image → Contains (segments image) segment → take (length segment.bytes) (drop segment.place image) ≡ segment.bytes
+pub segment_stands : (image : List ℕ) (segment : SegmentRecord) → IsImage image → Contains (segments image) segment → take (length segment.bytes) (drop segment.index image) ≡ segment.bytes
 segment_stands image segment sound member =
     let is = All-contains (IsSegmentOf image) (segments image) segment (All-from_recursion _ _ (each_segment image (commands-room image sound))) member in
     ap (take (length segment.bytes)) is.stands ∙ take_at segment.bytes is.rest (length segment.bytes) refl

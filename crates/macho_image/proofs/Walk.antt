@@ -16,12 +16,12 @@ use Rattle.macho_image.proofs.CommandFaults.{room_of}
 use Rattle.std.proofs.lemmas.Option.{none-some}
 
 -- Before this place stand commands without a fault, the rest is behind them, and they say this.
-pub record Reached (area : List ℕ) (place : ℕ) (rest : List ℕ) (uuid : Option (List ℕ)) (symtab : Option Symtab) : Type 0 where
+pub record Reached (area : List ℕ) (index : ℕ) (rest : List ℕ) (uuid : Option (List ℕ)) (symtab : Option Symtab) : Type 0 where
   pub before : List (List ℕ)
-  pub number : length before ≡ place
+  pub number : length before ≡ index
   pub each : AllByRecursion IsCommand before
   pub begins : area ≡ concat before ++ rest
-  pub fine : NoneBelow area place
+  pub fine : NoneBelow area index
   pub room : AllByRecursion HasRoom before
   pub uuid_is : uuid ≡ uuid_among before
   pub symtab_is : symtab ≡ symtab_among before
@@ -56,7 +56,7 @@ last_same (a ∷ xs) (b ∷ ys) x y h e =
     let heads : a ≡ b = cc in
     (cc (heads, below.0), below.1)
 
-module _ (area : List ℕ) (place : ℕ) (rest : List ℕ) (uuid : Option (List ℕ)) (symtab : Option Symtab) (reached : Reached area place rest uuid symtab) where
+module _ (area : List ℕ) (index : ℕ) (rest : List ℕ) (uuid : Option (List ℕ)) (symtab : Option Symtab) (reached : Reached area index rest uuid symtab) where
   -- what was seen, as a list has it
   seen_uuid : is_some uuid ≡ list_any is_uuid reached.before
   seen_uuid = ap is_some reached.uuid_is ∙ is_some-found uuid_bytes is_uuid reached.before
@@ -65,9 +65,9 @@ module _ (area : List ℕ) (place : ℕ) (rest : List ℕ) (uuid : Option (List 
   seen_symtab = ap is_some reached.symtab_is ∙ is_some-found symtab_fields is_symtab reached.before
 
   -- where no command is left, that is the first fault
-  pub reached_end : (count : ℕ) → place < count → HasNoCommand rest → IsFirstFault area count (BadCommand place)
+  pub reached_end : (count : ℕ) → index < count → HasNoCommand rest → IsFirstFault area count (BadCommand index)
   reached_end count h none = (
-    place,
+    index,
     h,
     reached.fine,
     inl (
@@ -84,7 +84,7 @@ module _ (area : List ℕ) (place : ℕ) (rest : List ℕ) (uuid : Option (List 
 
   module _ (command after : List ℕ) (whole : IsCommand command) (cut : rest ≡ command ++ after) where
     -- the commands with this one
-    front_more : IsFront area (place + 1) (reached.before ++ command ∷ [])
+    front_more : IsFront area (index + 1) (reached.before ++ command ∷ [])
     front_more = record {
       number = length-append reached.before (command ∷ []) ∙ omega (arith, reached.number);
       each = each_more IsCommand reached.before command reached.each whole;
@@ -94,45 +94,45 @@ module _ (area : List ℕ) (place : ℕ) (rest : List ℕ) (uuid : Option (List 
     }
 
     -- the fault of this command is the first
-    pub reached_fault : (count : ℕ) (fault : ImageFault) → place < count → command_fault place (is_some uuid) (is_some symtab) command ≡ Some fault → IsFirstFault area count fault
+    pub reached_fault : (count : ℕ) (fault : ImageFault) → index < count → command_fault index (is_some uuid) (is_some symtab) command ≡ Some fault → IsFirstFault area count fault
     reached_fault count fault h e = (
-      place,
+      index,
       h,
       reached.fine,
       inr (
         reached.before,
         command,
         front_more,
-        ap (λ b. command_fault place b (list_any is_symtab reached.before) command) (sym seen_uuid) ∙ ap (λ b. command_fault place (is_some uuid) b command) (sym seen_symtab) ∙ e,
+        ap (λ b. command_fault index b (list_any is_symtab reached.before) command) (sym seen_uuid) ∙ ap (λ b. command_fault index (is_some uuid) b command) (sym seen_symtab) ∙ e,
       ),
     )
 
     -- any command at this place is this one
-    this_one : (xs : List (List ℕ)) (x : List ℕ) → IsFront area (place + 1) (xs ++ x ∷ []) → (reached.before ≡ xs) × (command ≡ x)
+    this_one : (xs : List (List ℕ)) (x : List ℕ) → IsFront area (index + 1) (xs ++ x ∷ []) → (reached.before ≡ xs) × (command ≡ x)
     this_one xs x front =
-        let same = one_front area (place + 1) (reached.before ++ command ∷ []) (xs ++ x ∷ []) front_more front in
+        let same = one_front area (index + 1) (reached.before ++ command ∷ []) (xs ++ x ∷ []) front_more front in
         last_same reached.before xs command x (omega (arith, reached.number, front.number, length-append xs (x ∷ []))) same
 
     -- a command without a fault leads on
-    pub reached_next : command_fault place (is_some uuid) (is_some symtab) command ≡ None
-        → Reached area (place + 1) after (option_or uuid (uuid_among (command ∷ []))) (option_or symtab (symtab_among (command ∷ [])))
+    pub reached_next : command_fault index (is_some uuid) (is_some symtab) command ≡ None
+        → Reached area (index + 1) after (option_or uuid (uuid_among (command ∷ []))) (option_or symtab (symtab_among (command ∷ [])))
     unfolding front_more
     reached_next fine = record {
       before = reached.before ++ command ∷ [];
       number = front_more.number;
       each = front_more.each;
       begins = front_more.begins;
-      fine = below_more (λ j. (fault : ImageFault) → IsFaultAt area j fault → ⊥) place reached.fine (λ fault wrong. elim wrong [
+      fine = below_more (λ j. (fault : ImageFault) → IsFaultAt area j fault → ⊥) index reached.fine (λ fault wrong. elim wrong [
         | inl none ↦ none.0 (reached.before ++ command ∷ [], front_more)
         | inr at ↦
             let same = this_one at.0 at.1 at.2 in
-            let clear : command_fault place (list_any is_uuid at.0) (list_any is_symtab at.0) at.1 ≡ None =
-            ap (λ xs. command_fault place (list_any is_uuid xs) (list_any is_symtab xs) at.1) (sym same.0)
-            ∙ ap (λ x. command_fault place (list_any is_uuid reached.before) (list_any is_symtab reached.before) x) (sym same.1)
-            ∙ ap (λ b. command_fault place b (list_any is_symtab reached.before) command) (sym seen_uuid) ∙ ap (λ b. command_fault place (is_some uuid) b command) (sym seen_symtab) ∙ fine in
+            let clear : command_fault index (list_any is_uuid at.0) (list_any is_symtab at.0) at.1 ≡ None =
+            ap (λ xs. command_fault index (list_any is_uuid xs) (list_any is_symtab xs) at.1) (sym same.0)
+            ∙ ap (λ x. command_fault index (list_any is_uuid reached.before) (list_any is_symtab reached.before) x) (sym same.1)
+            ∙ ap (λ b. command_fault index b (list_any is_symtab reached.before) command) (sym seen_uuid) ∙ ap (λ b. command_fault index (is_some uuid) b command) (sym seen_symtab) ∙ fine in
             none-some fault (sym clear ∙ at.3)
       ]);
-      room = each_more HasRoom reached.before command reached.room (room_of place (is_some uuid) (is_some symtab) command whole.long fine);
+      room = each_more HasRoom reached.before command reached.room (room_of index (is_some uuid) (is_some symtab) command whole.long fine);
       uuid_is = ap (λ o. option_or o (uuid_among (command ∷ []))) reached.uuid_is ∙ sym (found-append uuid_bytes is_uuid reached.before (command ∷ []));
       symtab_is = ap (λ o. option_or o (symtab_among (command ∷ []))) reached.symtab_is ∙ sym (found-append symtab_fields is_symtab reached.before (command ∷ []));
     }
@@ -142,8 +142,8 @@ pub reached_start : (area : List ℕ) → Reached area 0 area None None
 reached_start area = record { before = []; number = refl; each = tt; room = tt; begins = refl; fine = λ j h. absurd (omega arith); uuid_is = refl; symtab_is = refl }
 
 -- at the end, these are all commands
-pub reached_all : (area : List ℕ) (place count : ℕ) (rest : List ℕ) (uuid : Option (List ℕ)) (symtab : Option Symtab) → Reached area place rest uuid symtab → place ≡ count → AreContents area count uuid symtab
-reached_all area place count rest uuid symtab reached e =
+pub reached_all : (area : List ℕ) (index count : ℕ) (rest : List ℕ) (uuid : Option (List ℕ)) (symtab : Option Symtab) → Reached area index rest uuid symtab → index ≡ count → AreContents area count uuid symtab
+reached_all area index count rest uuid symtab reached e =
     let all : Reached area count rest uuid symtab = subst (λ n. Reached area n rest uuid symtab) e reached in
     record {
       commands = all.before;

@@ -38,7 +38,7 @@ nsects segment = u32_at segment 64
 
 -- a segment_command_64 with the sections behind it: its place in the image, in bytes from the start, and its bytes
 pub record SegmentRecord : Type 0 where
-  pub place : ℕ
+  pub index : ℕ
   pub bytes : List ℕ
 
 -- a command has its eight bytes, a segment_command_64 (72 bytes) each section_64 (80 bytes) behind it, and a

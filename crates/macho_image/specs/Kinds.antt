@@ -8,17 +8,17 @@ use Rattle.macho_image.specs.declared.load_command.LoadCommand.TheVariants.{Uuid
 
 -- the command of these bytes, which stand at a place of the image, by its cmd
 unfoldable pub load_command : ℕ → List ℕ → LoadCommand
-load_command place command =
-    if is_segment command then Segment (record { place = place; bytes = command })
+load_command index command =
+    if is_segment command then Segment (record { index = index; bytes = command })
     else if is_uuid command then Uuid (uuid_bytes command)
     else if is_symtab command then Symtab (symtab_fields command)
     else Other command
 
 -- commands that stand one behind another from a place on
 unfoldable pub load_commands_from : ℕ → List (List ℕ) → List LoadCommand
-load_commands_from place [] = []
-load_commands_from place (command ∷ commands) =
-    load_command place command ∷ load_commands_from (place + length command) commands
+load_commands_from index [] = []
+load_commands_from index (command ∷ commands) =
+    load_command index command ∷ load_commands_from (index + length command) commands
 
 -- the load commands of an image, which follow its header of 32 bytes
 abbrev pub load_commands : List ℕ → List LoadCommand

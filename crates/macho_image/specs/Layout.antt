@@ -5,15 +5,15 @@ use Rattle.byteorder.specs.Endian.{little_number}
 
 -- uint32_t: the number in the four bytes from a place
 unfoldable pub u32_at : List ℕ → ℕ → ℕ
-u32_at bytes place = little_number 4 (drop place bytes)
+u32_at bytes index = little_number 4 (drop index bytes)
 
 -- uint64_t: the number in the eight bytes from a place
 unfoldable pub u64_at : List ℕ → ℕ → ℕ
-u64_at bytes place = little_number 8 (drop place bytes)
+u64_at bytes index = little_number 8 (drop index bytes)
 
 -- char[16]: what stands before the first NUL of the sixteen bytes from a place, or all of them
 abbrev pub name_at : List ℕ → ℕ → List ℕ
-name_at bytes place = before_first (λ b. b == 0) (take 16 (drop place bytes))
+name_at bytes index = before_first (λ b. b == 0) (take 16 (drop index bytes))
 
 -- MH_MAGIC_64 (0xfeedfacf), as the bytes of a little-endian image begin
 abbrev pub magic : List ℕ

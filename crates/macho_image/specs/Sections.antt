@@ -10,7 +10,7 @@ use Rattle.macho_image.specs.Kinds.{segments}
 
 -- section_64: its place in the image, in bytes from the start, and segname, sectname, addr and size
 pub record SectionRecord : Type 0 where
-  pub place : ℕ
+  pub index : ℕ
   pub segment : List ℕ
   pub section : List ℕ
   pub addr : ℕ
@@ -18,9 +18,9 @@ pub record SectionRecord : Type 0 where
 
 -- the section_64 that begins the bytes, which stand at a place of the image
 unfoldable pub section_record : ℕ → List ℕ → SectionRecord
-section_record place bytes =
+section_record index bytes =
     record {
-      place = place;
+      index = index;
       segment = name_at bytes 16;
       section = name_at bytes 0;
       addr = u64_at bytes 32;
@@ -29,22 +29,22 @@ section_record place bytes =
 
 -- the section_64 at a place of the image
 unfoldable pub section_at : List ℕ → ℕ → SectionRecord
-section_at image place = section_record place (drop place image)
+section_at image index = section_record index (drop index image)
 
 -- a section stands in an image at its place
 pub record IsSectionOf (image : List ℕ) (section : SectionRecord) : Type 0 where
-  pub stands : section_at image section.place ≡ section
-  pub room : section.place + 80 ≤ length image
+  pub stands : section_at image section.index ≡ section
+  pub room : section.index + 80 ≤ length image
 
 -- so many of them, 80 bytes each
 unfoldable pub section_records : ℕ → ℕ → List ℕ → List SectionRecord
-section_records zero place bytes = []
-section_records (suc count) place bytes =
-    section_record place bytes ∷ section_records count (place + 80) (drop 80 bytes)
+section_records zero index bytes = []
+section_records (suc count) index bytes =
+    section_record index bytes ∷ section_records count (index + 80) (drop 80 bytes)
 
 -- the sections of a segment directly follow its segment_command_64; laws.section_places says where each one stands
 unfoldable pub sections_in : SegmentRecord → List SectionRecord
-sections_in segment = section_records (nsects segment.bytes) (segment.place + 72) (drop 72 segment.bytes)
+sections_in segment = section_records (nsects segment.bytes) (segment.index + 72) (drop 72 segment.bytes)
 
 -- the sections of an image, in the order of its load commands; laws.standing says that each stands at its place
 unfoldable pub sections : List ℕ → List SectionRecord

@@ -87,13 +87,13 @@ pub(crate) fn split_command(bytes: &[u8]) -> Option<(&[u8], &[u8])>
 impl<'a> LoadCommand<'a> {
     /// The command of these bytes, which stand at a place of the image.
     #[tactic(auto, unfolding(crate::specs::Kinds::load_command))]
-    pub(crate) fn of(place: u32, bytes: &'a [u8]) -> LoadCommand<'a>
+    pub(crate) fn of(index: u32, bytes: &'a [u8]) -> LoadCommand<'a>
         requires room { HasRoom bytes.now }
-        requires small { place + length bytes.now < 2 ^ 32 }
-        ensures { result ≡ load_command place bytes.now }
+        requires small { index + length bytes.now < 2 ^ 32 }
+        ensures { result ≡ load_command index bytes.now }
     {
         match cmd(bytes) {
-            LC_SEGMENT_64 => LoadCommand::Segment(SegmentCommand64::of(place, bytes)),
+            LC_SEGMENT_64 => LoadCommand::Segment(SegmentCommand64::of(index, bytes)),
             LC_UUID => LoadCommand::Uuid(uuid_in(bytes)),
             LC_SYMTAB => LoadCommand::Symtab(symtab_in(bytes)),
             _ => LoadCommand::Other(OtherCommand { bytes }),

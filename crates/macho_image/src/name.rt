@@ -25,10 +25,10 @@ fn before_nul(field: &[u8]) -> &[u8]
 }
 
 /// The name in the sixteen bytes from a place.
-pub(crate) fn name(bytes: &[u8], place: usize) -> &[u8]
-    requires { place + 16 ≤ length bytes.now }
-    ensures { result.now ≡ name_at bytes.now place }
+pub(crate) fn name(bytes: &[u8], index: usize) -> &[u8]
+    requires { index + 16 ≤ length bytes.now }
+    ensures { result.now ≡ name_at bytes.now index }
 {
-    let (_, field) = bytes.split_at(place);
+    let (_, field) = bytes.split_at(index);
     before_nul(&field[..NAME_LEN])
 }

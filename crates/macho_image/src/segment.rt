@@ -32,7 +32,7 @@ pub(crate) fn is_short(segment: &[u8]) -> bool
 /// A segment, which has room for its sections. A contract sees its place in the image, and its bytes.
 #[derive(Drop)]
 pub struct SegmentCommand64<'a> {
-    place: u32,
+    index: u32,
     bytes: &'a [u8],
 }
 
@@ -42,28 +42,28 @@ impl<'a> Model for SegmentCommand64<'a> {
 
     ghost Value = { SegmentRecord };
 
-    ghost view = { λ s. record { place = s.place; bytes = s.bytes.now } };
+    ghost view = { λ s. record { index = s.index; bytes = s.bytes.now } };
 
     ghost invariant = { λ s. (72 + 80 * nsects s.bytes.now ≤ length s.bytes.now)
-        × (s.place + length s.bytes.now < 2 ^ 32) };
+        × (s.index + length s.bytes.now < 2 ^ 32) };
 }
 
 impl<'a> SegmentCommand64<'a> {
     /// The segment of these bytes, which stand at a place of the image.
-    pub(crate) fn of(place: u32, bytes: &'a [u8]) -> SegmentCommand64<'a>
+    pub(crate) fn of(index: u32, bytes: &'a [u8]) -> SegmentCommand64<'a>
         requires room { 72 + 80 * nsects bytes.now ≤ length bytes.now }
-        requires small { place + length bytes.now < 2 ^ 32 }
-        ensures place { result.place ≡ place }
+        requires small { index + length bytes.now < 2 ^ 32 }
+        ensures index { result.index ≡ index }
         ensures bytes { result.bytes ≡ bytes.now }
     {
-        SegmentCommand64 { place, bytes }
+        SegmentCommand64 { index, bytes }
     }
 
     /// Where it stands, in bytes from the start of the image.
-    pub fn place(&self) -> u32
-        ensures { result ≡ self.now.place }
+    pub fn index(&self) -> u32
+        ensures { result ≡ self.now.index }
     {
-        self.place
+        self.index
     }
 
     /// All its bytes, those of its sections among them.
@@ -102,7 +102,7 @@ impl<'a> SegmentCommand64<'a> {
         ensures { result ≡ sections_in self.now }
     {
         SegmentSections {
-            place: self.place + SEGMENT_COMMAND_64_LEN as u32,
+            index: self.index + SEGMENT_COMMAND_64_LEN as u32,
             rest: self.bytes.split_at(SEGMENT_COMMAND_64_LEN).1,
             left: nsects(self.bytes),
         }
@@ -112,7 +112,7 @@ impl<'a> SegmentCommand64<'a> {
 /// The sections of one segment. A contract sees the list of those that are left.
 #[derive(Drop)]
 pub struct SegmentSections<'a> {
-    place: u32,
+    index: u32,
     rest: &'a [u8],
     left: u32,
 }
@@ -123,9 +123,9 @@ impl<'a> Model for SegmentSections<'a> {
 
     ghost Value = { List SectionRecord };
 
-    ghost view = { λ s. section_records s.left s.place s.rest.now };
+    ghost view = { λ s. section_records s.left s.index s.rest.now };
 
-    ghost invariant = { λ s. (80 * s.left ≤ length s.rest.now) × (s.place + length s.rest.now < 2 ^ 32) };
+    ghost invariant = { λ s. (80 * s.left ≤ length s.rest.now) × (s.index + length s.rest.now < 2 ^ 32) };
 }
 
 impl<'a> SegmentSections<'a> {
@@ -135,7 +135,7 @@ impl<'a> SegmentSections<'a> {
         ensures { result ≡ [] }
     {
         SegmentSections {
-            place: 0,
+            index: 0,
             rest: &[],
             left: 0,
         }
@@ -157,8 +157,8 @@ impl<'a> Iterator for SegmentSections<'a> {
         if self.left == 0 {
             return None;
         }
-        let section = Section::first_of(self.place, self.rest);
-        self.place += SECTION_64_LEN as u32;
+        let section = Section::first_of(self.index, self.rest);
+        self.index += SECTION_64_LEN as u32;
         self.rest = self.rest.split_at(SECTION_64_LEN).1;
         self.left -= 1;
         Some(section)

@@ -186,8 +186,8 @@ both_true : (a b : Bool) → (a && b) ≡ true → (a ≡ true) × (b ≡ true)
 both_true true b h = (refl, h)
 both_true false b h = absurd (cc h)
 
-is_in : (start size place : ℕ) → (nat_le start place && nat_lt place (start + size)) ≡ true → (start ≤ place) × (place < start + size)
-is_in start size place h = (low start place (nat_lt place (start + size)) h, high (nat_le start place) place (start + size) h)
+is_in : (start size index : ℕ) → (nat_le start index && nat_lt index (start + size)) ≡ true → (start ≤ index) × (index < start + size)
+is_in start size index h = (low start index (nat_lt index (start + size)) h, high (nat_le start index) index (start + size) h)
   where
     low : (a b : ℕ) (t : Bool) → (nat_le a b && t) ≡ true → a ≤ b
     low a b t h = grind (arith, nat_tests)
@@ -195,8 +195,8 @@ is_in start size place h = (low start place (nat_lt place (start + size)) h, hig
     high : (t : Bool) (a b : ℕ) → (t && nat_lt a b) ≡ true → a < b
     high t a b h = grind (arith, nat_tests)
 
-in_is : (start size place : ℕ) → start ≤ place → place < start + size → (nat_le start place && nat_lt place (start + size)) ≡ true
-in_is start size place l h = both (nat_le start place) (nat_lt place (start + size)) (low start place l) (high place (start + size) h)
+in_is : (start size index : ℕ) → start ≤ index → index < start + size → (nat_le start index && nat_lt index (start + size)) ≡ true
+in_is start size index l h = both (nat_le start index) (nat_lt index (start + size)) (low start index l) (high index (start + size) h)
   where
     both : (a b : Bool) → a ≡ true → b ≡ true → (a && b) ≡ true
     both true b e f = f
@@ -216,10 +216,10 @@ equal_from Greater h = absurd (cc h)
 tied_from : (strings : List ℕ) (start size : ℕ) (best c : Candidate) → is_tied strings start size best c ≡ true → IsTied strings start size best c
 tied_from strings start size best c h =
     let parts = both_true (begins_in start size c) _ h in
-    let place = is_in start size c.strx parts.0 in
+    let index = is_in start size c.strx parts.0 in
     record {
-      low = place.0;
-      high = place.1;
+      low = index.0;
+      high = index.1;
       alike = alike_from size (tuple_of strings c) (tuple_of strings best) (equal_from (beginning_cmp size (tuple_of strings c) (tuple_of strings best)) parts.1);
     }
 
@@ -370,9 +370,9 @@ module _ (strings : List ℕ) (size start : ℕ) (among : Candidate → Type 0) 
   unfolding tuple_of
   below_end end = record { member = is.member; first = λ c a. by_place c a (cases_lt c.strx start) }
     where
-      no_name : (place : ℕ) → length strings ≤ place → name_of strings place ≡ []
+      no_name : (index : ℕ) → length strings ≤ index → name_of strings index ≡ []
       no_name zero l = refl
-      no_name (suc place) l = name_behind strings (suc place) (omega arith) ∙ ap (before_first (λ b. b == 0)) (drop_all (suc place) strings l)
+      no_name (suc index) l = name_behind strings (suc index) (omega arith) ∙ ap (before_first (λ b. b == 0)) (drop_all (suc index) strings l)
 
       by_place : (c : Candidate) → among c → (c.strx < start) ⊎ (start ≤ c.strx) → tuple_cmp (tuple_of strings c) (tuple_of strings best) ≢ Less
       by_place c a (inl l) = is.first c a l

@@ -46,16 +46,16 @@ no_row = record { value = 0; strx = 0; sect = 0; external = false }
 
 -- the rows before a place come before those from there on
 abbrev pub IsCut : List Candidate → ℕ → Type 0
-IsCut rows place = (i j : ℕ) (d : Candidate) → i < place → place ≤ j → j < length rows → Precedes (slice_index_or rows i d) (slice_index_or rows j d)
+IsCut rows index = (i j : ℕ) (d : Candidate) → i < index → index ≤ j → j < length rows → Precedes (slice_index_or rows i d) (slice_index_or rows j d)
 
-pub cut_next : (rows : List Candidate) (place end : ℕ) → AreSorted rows → IsCut rows place → place < end → end ≤ length rows
-    → ((k : ℕ) (d : Candidate) → place ≤ k → k < end → IsBeside (slice_index_or rows k d) (slice_index_or rows place d))
-    → ((d : Candidate) → end < length rows → IsBeside (slice_index_or rows end d) (slice_index_or rows place d) → ⊥)
+pub cut_next : (rows : List Candidate) (index end : ℕ) → AreSorted rows → IsCut rows index → index < end → end ≤ length rows
+    → ((k : ℕ) (d : Candidate) → index ≤ k → k < end → IsBeside (slice_index_or rows k d) (slice_index_or rows index d))
+    → ((d : Candidate) → end < length rows → IsBeside (slice_index_or rows end d) (slice_index_or rows index d) → ⊥)
     → IsCut rows end
-cut_next rows place end sorted cut some within beside other i j d l m h = by_place (cases_lt i place)
+cut_next rows index end sorted cut some within beside other i j d l m h = by_place (cases_lt i index)
   where
-    onward : Precedes (slice_index_or rows place d) (slice_index_or rows end d)
-    onward = elim (sorted place end d some (omega (arith, m, h))) [ inl p ↦ p | inr b ↦ absurd (other d (omega (arith, m, h)) (sym b.0, sym b.1)) ]
+    onward : Precedes (slice_index_or rows index d) (slice_index_or rows end d)
+    onward = elim (sorted index end d some (omega (arith, m, h))) [ inl p ↦ p | inr b ↦ absurd (other d (omega (arith, m, h)) (sym b.0, sym b.1)) ]
 
     from_end : (end < j) ⊎ (j ≤ end) → Precedes (slice_index_or rows end d) (slice_index_or rows j d) ⊎ IsBeside (slice_index_or rows end d) (slice_index_or rows j d)
     from_end (inl k) = sorted end j d k h
@@ -63,11 +63,11 @@ cut_next rows place end sorted cut some within beside other i j d l m h = by_pla
         let same : end ≡ j = omega (arith, m, k) in
         inr (ap (λ n. (slice_index_or rows n d).sect) same, ap (λ n. (slice_index_or rows n d).value) same)
 
-    by_place : (i < place) ⊎ (place ≤ i) → Precedes (slice_index_or rows i d) (slice_index_or rows j d)
+    by_place : (i < index) ⊎ (index ≤ i) → Precedes (slice_index_or rows i d) (slice_index_or rows j d)
     by_place (inl k) = cut i j d k (omega (arith, some, m)) h
     by_place (inr k) =
-        beside_first (slice_index_or rows i d) (slice_index_or rows place d) (slice_index_or rows j d) (beside i d k l)
-        (far (slice_index_or rows place d) (slice_index_or rows end d) (slice_index_or rows j d) onward (from_end (cases_lt end j)))
+        beside_first (slice_index_or rows i d) (slice_index_or rows index d) (slice_index_or rows j d) (beside i d k l)
+        (far (slice_index_or rows index d) (slice_index_or rows end d) (slice_index_or rows j d) onward (from_end (cases_lt end j)))
 
 -- before the first
 pub firsts_start : (strings : List ℕ) (rows others : List Candidate) → AreFirsts strings (take 0 rows) (take 0 others)
@@ -78,49 +78,49 @@ firsts_start strings rows others = record {
 }
 
 -- in a piece of a list
-in_piece : (rows : List Candidate) (place size : ℕ) (c : Candidate) → Contains (take size (drop place rows)) c
-    → (k : ℕ) × (place ≤ k) × (k < place + size) × (k < length rows) × (slice_index_or rows k c ≡ c)
-in_piece rows place size c h =
-    let short = length-take size (drop place rows) in
-    let rest = length-drop place rows in (
-      place + h.0,
+in_piece : (rows : List Candidate) (index size : ℕ) (c : Candidate) → Contains (take size (drop index rows)) c
+    → (k : ℕ) × (index ≤ k) × (k < index + size) × (k < length rows) × (slice_index_or rows k c ≡ c)
+in_piece rows index size c h =
+    let short = length-take size (drop index rows) in
+    let rest = length-drop index rows in (
+      index + h.0,
       omega arith,
       omega (arith, h.1, short),
       omega (arith, h.1, short, rest),
-      sym (get_or-drop place rows h.0 c) ∙ sym (get_or-take size (drop place rows) h.0 c (omega (arith, h.1, short))) ∙ h.2,
+      sym (get_or-drop index rows h.0 c) ∙ sym (get_or-take size (drop index rows) h.0 c (omega (arith, h.1, short))) ∙ h.2,
     )
 
 -- one group more
-pub firsts_next : (strings : List ℕ) (rows firsts : List Candidate) (place size : ℕ) (row : Candidate) → IsCut rows place
-    → ((k : ℕ) (d : Candidate) → place ≤ k → k < place + size → IsBeside (slice_index_or rows k d) (slice_index_or rows place d))
-    → IsFirstRow strings (Contains (take size (drop place rows))) row → AreFirsts strings (take place rows) firsts
-    → AreFirsts strings (take (place + size) rows) (firsts ++ row ∷ [])
-firsts_next strings rows firsts place size row cut beside first are = record {
+pub firsts_next : (strings : List ℕ) (rows firsts : List Candidate) (index size : ℕ) (row : Candidate) → IsCut rows index
+    → ((k : ℕ) (d : Candidate) → index ≤ k → k < index + size → IsBeside (slice_index_or rows k d) (slice_index_or rows index d))
+    → IsFirstRow strings (Contains (take size (drop index rows))) row → AreFirsts strings (take index rows) firsts
+    → AreFirsts strings (take (index + size) rows) (firsts ++ row ∷ [])
+firsts_next strings rows firsts index size row cut beside first are = record {
   members = λ r h. subst (λ xs. Contains xs r) (sym parts) (elim (Contains-push_cases firsts row r h) [
-    | inl k ↦ Contains-append_left (take place rows) group r (are.members r k)
-    | inr e ↦ subst (Contains (take place rows ++ group)) e (Contains-append_right (take place rows) group row first.member)
+    | inl k ↦ Contains-append_left (take index rows) group r (are.members r k)
+    | inr e ↦ subst (Contains (take index rows ++ group)) e (Contains-append_right (take index rows) group row first.member)
   ]);
-  each = λ c h. covered c (Contains-append_cases (take place rows) group c (subst (λ xs. Contains xs c) parts h));
+  each = λ c h. covered c (Contains-append_cases (take index rows) group c (subst (λ xs. Contains xs c) parts h));
   falling = λ i j d l h. by_last i j d l h (cases_lt j (length firsts));
 }
   where
     group : List Candidate
-    group = take size (drop place rows)
+    group = take size (drop index rows)
 
-    parts : take (place + size) rows ≡ take place rows ++ group
-    parts = take-add place size rows
+    parts : take (index + size) rows ≡ take index rows ++ group
+    parts = take-add index size rows
 
     head : Candidate
-    head = slice_index_or rows place no_row
+    head = slice_index_or rows index no_row
 
     beside_head : (c : Candidate) → Contains group c → IsBeside c head
     beside_head c h =
-        let w = in_piece rows place size c h in
+        let w = in_piece rows index size c h in
         let told = beside w.0 no_row w.1 w.2 in
         let same = get_or_default rows w.0 no_row c w.3 ∙ w.4 in
         subst (λ x. IsBeside x head) same told
 
-    covered : (c : Candidate) → Contains (take place rows) c ⊎ Contains group c
+    covered : (c : Candidate) → Contains (take index rows) c ⊎ Contains group c
         → (r : Candidate) × Contains (firsts ++ row ∷ []) r × IsBeside r c × (tuple_cmp (tuple_of strings c) (tuple_of strings r) ≢ Less)
     covered c (inl h) = let w = are.each c h in (w.0, Contains-append_left firsts (row ∷ []) w.0 w.1, w.2, w.3)
     covered c (inr h) =
@@ -132,10 +132,10 @@ firsts_next strings rows firsts place size row cut beside first are = record {
     before_row : (r : Candidate) → Contains firsts r → Precedes r row
     before_row r h =
         let w = are.members r h in
-        let g = in_piece rows place size row first.member in
-        let l : w.0 < place = omega (arith, w.1, length-take place rows) in
-        let in_rows : w.0 < length rows = omega (arith, w.1, length-take place rows) in
-        let left = get_or_default rows w.0 no_row r in_rows ∙ sym (get_or-take place rows w.0 r l) ∙ w.2 in
+        let g = in_piece rows index size row first.member in
+        let l : w.0 < index = omega (arith, w.1, length-take index rows) in
+        let in_rows : w.0 < length rows = omega (arith, w.1, length-take index rows) in
+        let left = get_or_default rows w.0 no_row r in_rows ∙ sym (get_or-take index rows w.0 r l) ∙ w.2 in
         let right = get_or_default rows g.0 no_row row g.3 ∙ g.4 in
         subst (λ x. Precedes x row) left (subst (Precedes (slice_index_or rows w.0 no_row)) right (cut w.0 g.0 no_row l g.1 g.3))
 
@@ -156,46 +156,46 @@ pub record Added (strings : List ℕ) (old items : List Candidate) (kept end : �
   pub cut : IsCut old end
   pub firsts : AreFirsts strings (take end old) (take (kept + 1) (slice_set items kept row))
 
-pub group_added : (strings : List ℕ) (old items rows : List Candidate) (kept place end : ℕ) (row : Candidate) → AreSorted old
-    → kept ≤ place → place ≤ length items → length items ≡ length old → drop place items ≡ drop place old → IsCut old place
-    → AreFirsts strings (take place old) (take kept items) → rows ≡ items → place < end → end ≤ length rows
-    → ((k : ℕ) (d : Candidate) → place ≤ k → k < end → IsBeside (slice_index_or rows k d) (slice_index_or rows place d))
-    → ((d : Candidate) → end < length rows → IsBeside (slice_index_or rows end d) (slice_index_or rows place d) → ⊥)
-    → IsFirstRow strings (Contains (take (end - place) (drop place rows))) row → Added strings old items kept end row
-group_added strings old items rows kept place end row sorted low high size rest cut are same some within beside other first = record {
+pub group_added : (strings : List ℕ) (old items rows : List Candidate) (kept index end : ℕ) (row : Candidate) → AreSorted old
+    → kept ≤ index → index ≤ length items → length items ≡ length old → drop index items ≡ drop index old → IsCut old index
+    → AreFirsts strings (take index old) (take kept items) → rows ≡ items → index < end → end ≤ length rows
+    → ((k : ℕ) (d : Candidate) → index ≤ k → k < end → IsBeside (slice_index_or rows k d) (slice_index_or rows index d))
+    → ((d : Candidate) → end < length rows → IsBeside (slice_index_or rows end d) (slice_index_or rows index d) → ⊥)
+    → IsFirstRow strings (Contains (take (end - index) (drop index rows))) row → Added strings old items kept end row
+group_added strings old items rows kept index end row sorted low high size rest cut are same some within beside other first = record {
   rest = drop-set-lt end items kept row (omega arith) ∙ onward;
-  cut = cut_next old place end sorted cut some (omega (arith, within, long, size)) beside_old other_old;
+  cut = cut_next old index end sorted cut some (omega (arith, within, long, size)) beside_old other_old;
   firsts = subst (AreFirsts strings (take end old)) (sym (take_more_set items kept row (omega (arith, low, some, within, long))))
       (subst (λ n. AreFirsts strings (take n old) (take kept items ++ row ∷ [])) up
-      (firsts_next strings old (take kept items) place (end - place) row cut (λ k d l h. beside_old k d l (omega (arith, h, up)))
-      (subst (λ xs. IsFirstRow strings (Contains (take (end - place) xs)) row) (ap (drop place) same ∙ rest) first) are));
+      (firsts_next strings old (take kept items) index (end - index) row cut (λ k d l h. beside_old k d l (omega (arith, h, up)))
+      (subst (λ xs. IsFirstRow strings (Contains (take (end - index) xs)) row) (ap (drop index) same ∙ rest) first) are));
 }
   where
     long : length rows ≡ length items
     long = ap length same
 
-    up : place + (end - place) ≡ end
+    up : index + (end - index) ≡ end
     up = omega (arith, some)
 
     onward : drop end items ≡ drop end old
-    onward = ap (λ n. drop n items) (sym up) ∙ sym (drop-drop (end - place) place items) ∙ ap (drop (end - place)) rest ∙ drop-drop (end - place) place old ∙ ap (λ n. drop n old) up
+    onward = ap (λ n. drop n items) (sym up) ∙ sym (drop-drop (end - index) index items) ∙ ap (drop (end - index)) rest ∙ drop-drop (end - index) index old ∙ ap (λ n. drop n old) up
 
-    at_place : (k : ℕ) (d : Candidate) → place ≤ k → slice_index_or rows k d ≡ slice_index_or old k d
+    at_place : (k : ℕ) (d : Candidate) → index ≤ k → slice_index_or rows k d ≡ slice_index_or old k d
     at_place k d l =
-        let far : place + (k - place) ≡ k = omega (arith, l) in
-        ap (λ xs. slice_index_or xs k d) same ∙ ap (λ n. slice_index_or items n d) (sym far) ∙ sym (get_or-drop place items (k - place) d)
-        ∙ ap (λ xs. slice_index_or xs (k - place) d) rest ∙ get_or-drop place old (k - place) d ∙ ap (λ n. slice_index_or old n d) far
+        let far : index + (k - index) ≡ k = omega (arith, l) in
+        ap (λ xs. slice_index_or xs k d) same ∙ ap (λ n. slice_index_or items n d) (sym far) ∙ sym (get_or-drop index items (k - index) d)
+        ∙ ap (λ xs. slice_index_or xs (k - index) d) rest ∙ get_or-drop index old (k - index) d ∙ ap (λ n. slice_index_or old n d) far
 
-    beside_old : (k : ℕ) (d : Candidate) → place ≤ k → k < end → IsBeside (slice_index_or old k d) (slice_index_or old place d)
+    beside_old : (k : ℕ) (d : Candidate) → index ≤ k → k < end → IsBeside (slice_index_or old k d) (slice_index_or old index d)
     beside_old k d l h =
-        subst (λ x. IsBeside x (slice_index_or old place d)) (at_place k d l)
-        (subst (IsBeside (slice_index_or rows k d)) (at_place place d (omega arith)) (beside k d l h))
+        subst (λ x. IsBeside x (slice_index_or old index d)) (at_place k d l)
+        (subst (IsBeside (slice_index_or rows k d)) (at_place index d (omega arith)) (beside k d l h))
 
-    other_old : (d : Candidate) → end < length old → IsBeside (slice_index_or old end d) (slice_index_or old place d) → ⊥
+    other_old : (d : Candidate) → end < length old → IsBeside (slice_index_or old end d) (slice_index_or old index d) → ⊥
     other_old d l h =
         other d (omega (arith, l, long, size))
-        (subst (λ x. IsBeside x (slice_index_or rows place d)) (sym (at_place end d (omega (arith, some))))
-        (subst (IsBeside (slice_index_or old end d)) (sym (at_place place d (omega arith))) h))
+        (subst (λ x. IsBeside x (slice_index_or rows index d)) (sym (at_place end d (omega (arith, some))))
+        (subst (IsBeside (slice_index_or old end d)) (sym (at_place index d (omega arith))) h))
 
 -- the order in which the rows stood at first does not count
 pub firsts_of_sorted : (strings : List ℕ) (rows sorted firsts : List Candidate) → IsPermutation rows sorted → AreFirsts strings sorted firsts → AreFirsts strings rows firsts

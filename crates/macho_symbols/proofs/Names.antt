@@ -36,31 +36,31 @@ some_byte b bs n =
     rw next (positive (length (b ∷ take n bs)) (omega arith))
 
 -- a name has a byte where its first one is no NUL
-named_if : (strings : List ℕ) (place : ℕ) → place < length strings → nat_lt 0 (length (before_first (λ b. b == 0) (drop place strings))) ≡ not (slice_index strings place == 0)
-named_if [] place h = absurd (omega arith)
+named_if : (strings : List ℕ) (index : ℕ) → index < length strings → nat_lt 0 (length (before_first (λ b. b == 0) (drop index strings))) ≡ not (slice_index strings index == 0)
+named_if [] index h = absurd (omega arith)
 named_if (b ∷ bs) zero h = by_first (b == 0) refl
   where
     by_first : (t : Bool) → (b == 0) ≡ t → nat_lt 0 (length (before_first (λ b. b == 0) (b ∷ bs))) ≡ not (b == 0)
     by_first true e = rw e refl
     by_first false e = rw e (some_byte b bs (prefix_len (λ x. not (x == 0)) bs))
-named_if (b ∷ bs) (suc place) h = named_if bs place (omega arith)
+named_if (b ∷ bs) (suc index) h = named_if bs index (omega arith)
 
 -- there is none past the string table
-named_past : (strings : List ℕ) (place : ℕ) → length strings ≤ place → nat_lt 0 (length (before_first (λ b. b == 0) (drop place strings))) ≡ false
+named_past : (strings : List ℕ) (index : ℕ) → length strings ≤ index → nat_lt 0 (length (before_first (λ b. b == 0) (drop index strings))) ≡ false
 named_past [] zero h = refl
-named_past [] (suc place) h = refl
+named_past [] (suc index) h = refl
 named_past (b ∷ bs) zero h = absurd (omega arith)
-named_past (b ∷ bs) (suc place) h = named_past bs place (omega arith)
+named_past (b ∷ bs) (suc index) h = named_past bs index (omega arith)
 
 not_zero : (n : ℕ) → 0 < n → (n == 0) ≡ false
 not_zero n h = grind (arith, nat_tests)
 
 -- so much for the names of symbols
-pub first_byte : (strings : List ℕ) (place : ℕ) → 0 < place → place < length strings → not (slice_index strings place == 0) ≡ nat_lt 0 (length (name_of strings place))
-first_byte strings place h l = rw (not_zero place h) (sym (named_if strings place l))
+pub first_byte : (strings : List ℕ) (index : ℕ) → 0 < index → index < length strings → not (slice_index strings index == 0) ≡ nat_lt 0 (length (name_of strings index))
+first_byte strings index h l = rw (not_zero index h) (sym (named_if strings index l))
 
-pub no_name : (strings : List ℕ) (place : ℕ) → place ≡ 0 → false ≡ nat_lt 0 (length (name_of strings place))
-no_name strings place h = rw h refl
+pub no_name : (strings : List ℕ) (index : ℕ) → index ≡ 0 → false ≡ nat_lt 0 (length (name_of strings index))
+no_name strings index h = rw h refl
 
-pub no_first_byte : (strings : List ℕ) (place : ℕ) → 0 < place → length strings ≤ place → false ≡ nat_lt 0 (length (name_of strings place))
-no_first_byte strings place h l = rw (not_zero place h) (sym (named_past strings place l))
+pub no_first_byte : (strings : List ℕ) (index : ℕ) → 0 < index → length strings ≤ index → false ≡ nat_lt 0 (length (name_of strings index))
+no_first_byte strings index h l = rw (not_zero index h) (sym (named_past strings index l))

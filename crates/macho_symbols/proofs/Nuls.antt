@@ -7,31 +7,31 @@ use Rattle.macho_symbols.proofs.Pieces.{before}
 use Rattle.macho_symbols.proofs.Overlaps.{before_drop, before_take}
 
 -- it is the same from all places between another one and it
-pub same_nul : (strings : List ℕ) (earlier place : ℕ) → earlier ≤ place → place ≤ nul_from strings earlier → nul_from strings place ≡ nul_from strings earlier
-same_nul strings earlier place h l =
-    let k = place - earlier in
-    let behind : drop k (drop earlier strings) ≡ drop place strings = drop-drop k earlier strings ∙ ap (λ n. drop n strings) (omega (arith, h)) in
-    let rest : before (drop place strings) ≡ drop k (before (drop earlier strings)) =
+pub same_nul : (strings : List ℕ) (earlier index : ℕ) → earlier ≤ index → index ≤ nul_from strings earlier → nul_from strings index ≡ nul_from strings earlier
+same_nul strings earlier index h l =
+    let k = index - earlier in
+    let behind : drop k (drop earlier strings) ≡ drop index strings = drop-drop k earlier strings ∙ ap (λ n. drop n strings) (omega (arith, h)) in
+    let rest : before (drop index strings) ≡ drop k (before (drop earlier strings)) =
     ap before (sym behind) ∙ before_drop k (drop earlier strings) (omega (arith, h, l)) in
     omega (arith, h, l, ap length rest, length-drop k (before (drop earlier strings)))
 
 -- where the first bytes from a place have one, it is there
-pub nul_within : (strings : List ℕ) (place size : ℕ) → length (before (take size (drop place strings))) < size
-    → place + length (before (take size (drop place strings))) ≡ nul_from strings place
-nul_within strings place size h =
-    omega (arith, h, ap length (before_take size (drop place strings)), length-take size (before (drop place strings)))
+pub nul_within : (strings : List ℕ) (index size : ℕ) → length (before (take size (drop index strings))) < size
+    → index + length (before (take size (drop index strings))) ≡ nul_from strings index
+nul_within strings index size h =
+    omega (arith, h, ap length (before_take size (drop index strings)), length-take size (before (drop index strings)))
 
 -- and where they have none, it is the one behind them
-pub nul_behind : (strings : List ℕ) (place size : ℕ) → size ≤ length (before (take size (drop place strings)))
-    → nul_from strings (place + size) ≡ nul_from strings place
-nul_behind strings place size h =
-    same_nul strings place (place + size) (omega arith) (omega (arith, h, ap length (before_take size (drop place strings)), length-take size (before (drop place strings))))
+pub nul_behind : (strings : List ℕ) (index size : ℕ) → size ≤ length (before (take size (drop index strings)))
+    → nul_from strings (index + size) ≡ nul_from strings index
+nul_behind strings index size h =
+    same_nul strings index (index + size) (omega arith) (omega (arith, h, ap length (before_take size (drop index strings)), length-take size (before (drop index strings))))
 
 -- the places of the blocks before a place, and that of the first NUL at or behind an earlier one
-pub record NulPlacesTo (strings places : List ℕ) (place known : ℕ) : Type 0 where
-  pub at : place ≡ 4096 * length places
+pub record NulPlacesTo (strings places : List ℕ) (index known : ℕ) : Type 0 where
+  pub at : index ≡ 4096 * length places
   pub each : (block : ℕ) → block < length places → slice_index places block ≡ nul_from strings (4096 * block)
-  pub last : (earlier : ℕ) × (earlier ≤ place) × (known ≡ nul_from strings earlier)
+  pub last : (earlier : ℕ) × (earlier ≤ index) × (known ≡ nul_from strings earlier)
 
 index_kept : (xs : List ℕ) (y i : ℕ) → i < length xs → slice_index (xs ++ y ∷ []) i ≡ slice_index xs i
 index_kept [] y i h = absurd (omega (arith, h))
@@ -48,13 +48,13 @@ pub nul_places_none : (strings : List ℕ) (known : ℕ) → known ≡ length (b
 nul_places_none strings known h =
     record { at = omega arith; each = λ block l. absurd (omega (arith, l)); last = (0, omega arith, omega (arith, h)) }
 
-pub nul_places_pushed : (strings places : List ℕ) (place known next : ℕ) → NulPlacesTo strings places place known → next ≡ nul_from strings place
-    → NulPlacesTo strings (places ++ next ∷ []) (place + 4096) next
-nul_places_pushed strings places place known next p h =
+pub nul_places_pushed : (strings places : List ℕ) (index known next : ℕ) → NulPlacesTo strings places index known → next ≡ nul_from strings index
+    → NulPlacesTo strings (places ++ next ∷ []) (index + 4096) next
+nul_places_pushed strings places index known next p h =
     record {
       at = omega (arith, p.at, length-append places (next ∷ []));
       each = λ block l. by_block block (cases_lt block (length places)) l;
-      last = (place, omega arith, h);
+      last = (index, omega arith, h);
     }
   where
     by_block : (block : ℕ) → (block < length places) ⊎ (length places ≤ block) → block < length (places ++ next ∷ [])
@@ -65,7 +65,7 @@ nul_places_pushed strings places place known next p h =
         index_pushed places next block here ∙ h ∙ ap (nul_from strings) (omega (arith, here, p.at))
 
 -- all that there is from a place on tells the same
-pub nul_in_all : (strings : List ℕ) (place size : ℕ) → size ≡ length (drop place strings)
-    → place + length (before (take size (drop place strings))) ≡ nul_from strings place
-nul_in_all strings place size h =
-    ap (λ rest. place + length (before rest)) (take_all size (drop place strings) (omega (arith, h)))
+pub nul_in_all : (strings : List ℕ) (index size : ℕ) → size ≡ length (drop index strings)
+    → index + length (before (take size (drop index strings))) ≡ nul_from strings index
+nul_in_all strings index size h =
+    ap (λ rest. index + length (before rest)) (take_all size (drop index strings) (omega (arith, h)))

@@ -94,60 +94,60 @@ module _ (image : List ℕ) (rows : List Candidate) (are : AreRows image rows) w
             (subst (λ t. tuple_cmp t (tuple_of (strings_of image) r.0) ≢ Less) w.2 r.3);
       }
 
-  module _ (number address place : ℕ)
-      (point : IsPartitionPoint (λ r. is_before number address r ≡ true) (λ r. is_before number address r ≡ false) rows place) where
+  module _ (number address index : ℕ)
+      (point : IsPartitionPoint (λ r. is_before number address r ≡ true) (λ r. is_before number address r ≡ false) rows index) where
     -- a candidate of the section that is not above the address has its row at the place or behind
-    behind : (c : Tuple) (w : HasRow (strings_of image) rows c) (d : Candidate) → c.sect ≡ number → c.value ≤ address → place ≤ w.at
-    behind c w d s v = by_place (cases_lt w.at place)
+    behind : (c : Tuple) (w : HasRow (strings_of image) rows c) (d : Candidate) → c.sect ≡ number → c.value ≤ address → index ≤ w.at
+    behind c w d s v = by_place (cases_lt w.at index)
       where
         row : Candidate
         row = slice_index_or rows w.at d
 
-        by_place : (w.at < place) ⊎ (place ≤ w.at) → place ≤ w.at
+        by_place : (w.at < index) ⊎ (index ≤ w.at) → index ≤ w.at
         by_place (inr l) = l
         by_place (inl l) =
             absurd (true_false (sym (point.0 w.at d (omega arith) l) ∙ not_before_own number address row.sect row.value (w.sect d ∙ s) (omega (arith, w.value d, v))))
 
-    pub found_at_place : (e : Candidate) → place < length rows → (slice_index_or rows place e).sect ≡ number
-        → IsFirst (λ c. Contains (candidates image) c × (c.sect ≡ number) × (c.value ≤ address)) (tuple_of (strings_of image) (slice_index_or rows place e))
+    pub found_at_place : (e : Candidate) → index < length rows → (slice_index_or rows index e).sect ≡ number
+        → IsFirst (λ c. Contains (candidates image) c × (c.sect ≡ number) × (c.value ≤ address)) (tuple_of (strings_of image) (slice_index_or rows index e))
     unfolding tuple_of
     found_at_place e l s = record {
       member = (
-        row_to image row (are.members row (Contains-get_or rows place e l)),
+        row_to image row (are.members row (Contains-get_or rows index e l)),
         s,
-        not_above number address row.sect row.value s (point.1 place e (omega arith) l),
+        not_above number address row.sect row.value s (point.1 index e (omega arith) l),
       );
-      first = λ c h. let w = row_of c h.0 in by_place c h.1 w (behind c w e h.1 h.2) (cases_lt place w.at);
+      first = λ c h. let w = row_of c h.0 in by_place c h.1 w (behind c w e h.1 h.2) (cases_lt index w.at);
     }
       where
         row : Candidate
-        row = slice_index_or rows place e
+        row = slice_index_or rows index e
 
-        by_place : (c : Tuple) → c.sect ≡ number → (w : HasRow (strings_of image) rows c) → place ≤ w.at → (place < w.at) ⊎ (w.at ≤ place)
+        by_place : (c : Tuple) → c.sect ≡ number → (w : HasRow (strings_of image) rows c) → index ≤ w.at → (index < w.at) ⊎ (w.at ≤ index)
             → tuple_cmp c (tuple_of (strings_of image) row) ≢ Less
         by_place c n w m (inr k) =
-            let same : w.at ≡ place = omega arith in
+            let same : w.at ≡ index = omega arith in
             subst (λ i. tuple_cmp c (tuple_of (strings_of image) (slice_index_or rows i e)) ≢ Less) same (w.first e)
-        by_place c n w m (inl k) = by_value (are.falling place w.at e k w.within)
+        by_place c n w m (inl k) = by_value (are.falling index w.at e k w.within)
           where
             by_value : Precedes row (slice_index_or rows w.at e) → tuple_cmp c (tuple_of (strings_of image) row) ≢ Less
             by_value (inl p) = absurd (omega (arith, p, w.sect e, n, s))
             by_value (inr p) = greater_first c (tuple_of (strings_of image) row) (omega (arith, p.1, w.value e))
 
-    pub none_at_end : length rows ≤ place → (c : Tuple) → Contains (candidates image) c × (c.sect ≡ number) × (c.value ≤ address) → ⊥
+    pub none_at_end : length rows ≤ index → (c : Tuple) → Contains (candidates image) c × (c.sect ≡ number) × (c.value ≤ address) → ⊥
     none_at_end l c h =
         let w = row_of c h.0 in
         omega (arith, w.within, behind c w (record { value = 0; strx = 0; sect = 0; external = false }) h.1 h.2)
 
-    pub none_at_place : (e : Candidate) → place < length rows → (slice_index_or rows place e).sect ≢ number
+    pub none_at_place : (e : Candidate) → index < length rows → (slice_index_or rows index e).sect ≢ number
         → (c : Tuple) → Contains (candidates image) c × (c.sect ≡ number) × (c.value ≤ address) → ⊥
-    none_at_place e l s c h = by_place (cases_lt place w.at)
+    none_at_place e l s c h = by_place (cases_lt index w.at)
       where
         row : Candidate
-        row = slice_index_or rows place e
+        row = slice_index_or rows index e
 
         beyond : number < row.sect
-        beyond = above_number number address row.sect row.value s (point.1 place e (omega arith) l)
+        beyond = above_number number address row.sect row.value s (point.1 index e (omega arith) l)
 
         w : HasRow (strings_of image) rows c
         w = row_of c h.0
@@ -156,10 +156,10 @@ module _ (image : List ℕ) (rows : List Candidate) (are : AreRows image rows) w
         by_order (inl p) = omega (arith, p, beyond, w.sect e, h.1)
         by_order (inr p) = omega (arith, p.0, beyond, w.sect e, h.1)
 
-        by_place : (place < w.at) ⊎ (w.at ≤ place) → ⊥
-        by_place (inl k) = by_order (are.falling place w.at e k w.within)
+        by_place : (index < w.at) ⊎ (w.at ≤ index) → ⊥
+        by_place (inl k) = by_order (are.falling index w.at e k w.within)
         by_place (inr k) =
-            let same : w.at ≡ place = omega (arith, k, behind c w e h.1 h.2) in
+            let same : w.at ≡ index = omega (arith, k, behind c w e h.1 h.2) in
             s (ap (λ i. (slice_index_or rows i e).sect) (sym same) ∙ w.sect e ∙ h.1)
 
 -- rows before come before the others

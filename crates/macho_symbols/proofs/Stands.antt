@@ -44,19 +44,19 @@ true_false h = cc
 
 module _ (image : List ℕ) (extents : List Extent) (are : AreExtents image extents) (address : ℕ) where
   -- none stands for it in a section that it does not lie in
-  pub none_outside : (place : ℕ) (d : Extent) → place < length extents → is_within address (slice_index_or extents place d) ≡ false
-      → (c : Tuple) → StandsFor image address c × (c.sect ≡ place + 1) → ⊥
-  none_outside place d l outside c h =
+  pub none_outside : (index : ℕ) (d : Extent) → index < length extents → is_within address (slice_index_or extents index d) ≡ false
+      → (c : Tuple) → StandsFor image address c × (c.sect ≡ index + 1) → ⊥
+  none_outside index d l outside c h =
       let inside = (stands_in image address c h.0.1).1 in
       let at_number = ap (λ n. is_in_section image n address) h.1 in
-      true_false (sym inside ∙ at_number ∙ within_extent image extents are place address d l ∙ outside)
+      true_false (sym inside ∙ at_number ∙ within_extent image extents are index address d l ∙ outside)
 
   -- in a section that it lies in each that is not above it stands for it
-  pub first_inside : (place : ℕ) (d : Extent) (r : Option Tuple) → place < length extents → is_within address (slice_index_or extents place d) ≡ true
-      → IsFirstNotAbove image (place + 1) address r → IsFirstIn image (place + 1) address r
-  first_inside place d r l inside first =
-      let here = within_extent image extents are place address d l ∙ inside in
-      first_of_same (λ c. Contains (candidates image) c × (c.sect ≡ place + 1) × (c.value ≤ address)) (λ c. StandsFor image address c × (c.sect ≡ place + 1)) r
+  pub first_inside : (index : ℕ) (d : Extent) (r : Option Tuple) → index < length extents → is_within address (slice_index_or extents index d) ≡ true
+      → IsFirstNotAbove image (index + 1) address r → IsFirstIn image (index + 1) address r
+  first_inside index d r l inside first =
+      let here = within_extent image extents are index address d l ∙ inside in
+      first_of_same (λ c. Contains (candidates image) c × (c.sect ≡ index + 1) × (c.value ≤ address)) (λ c. StandsFor image address c × (c.sect ≡ index + 1)) r
       (λ c h. ((h.0, can_stand image address c h.2 (ap (λ n. is_in_section image n address) h.1 ∙ here)), h.1))
       (λ c h. (h.0.0, h.1, (stands_in image address c h.0.1).0))
       first
@@ -69,24 +69,24 @@ none_at_start image address c h =
     true_false (sym (stands_in image address c h.0.1).1 ∙ ap (λ n. is_in_section image n address) none)
 
 -- one section more
-pub one_section_more : (image : List ℕ) (address place : ℕ) (best next : Option Tuple)
-    → IsFirstOrNone (λ c. StandsFor image address c × (c.sect ≤ place)) best → IsFirstIn image (place + 1) address next
-    → IsFirstOrNone (λ c. StandsFor image address c × (c.sect ≤ place + 1)) (first_of_two best next)
-one_section_more image address place best next first more =
-    first_of_same (λ c. (StandsFor image address c × (c.sect ≤ place)) ⊎ (StandsFor image address c × (c.sect ≡ place + 1))) _ (first_of_two best next)
+pub one_section_more : (image : List ℕ) (address index : ℕ) (best next : Option Tuple)
+    → IsFirstOrNone (λ c. StandsFor image address c × (c.sect ≤ index)) best → IsFirstIn image (index + 1) address next
+    → IsFirstOrNone (λ c. StandsFor image address c × (c.sect ≤ index + 1)) (first_of_two best next)
+one_section_more image address index best next first more =
+    first_of_same (λ c. (StandsFor image address c × (c.sect ≤ index)) ⊎ (StandsFor image address c × (c.sect ≡ index + 1))) _ (first_of_two best next)
     (λ c e. elim e [ inl h ↦ (h.0, omega (arith, h.1)) | inr h ↦ (h.0, omega (arith, h.1)) ])
-    (λ c h. elim (cases_lt place c.sect) [ inl l ↦ inr (h.0, omega (arith, l, h.1)) | inr l ↦ inl (h.0, l) ])
+    (λ c h. elim (cases_lt index c.sect) [ inl l ↦ inr (h.0, omega (arith, l, h.1)) | inr l ↦ inl (h.0, l) ])
     (first_of_both _ _ best next first more)
 
 -- after the last section all were seen
-pub all_sections : (image : List ℕ) (extents : List Extent) (address place : ℕ) (best : Option Tuple) → AreExtents image extents → length extents ≤ place
+pub all_sections : (image : List ℕ) (extents : List Extent) (address index : ℕ) (best : Option Tuple) → AreExtents image extents → length extents ≤ index
     → ((c : Tuple) → Contains (candidates image) c → c.sect < 256)
-    → IsFirstOrNone (λ c. StandsFor image address c × (c.sect ≤ place)) best → IsNearest image address best
+    → IsFirstOrNone (λ c. StandsFor image address c × (c.sect ≤ index)) best → IsNearest image address best
 unfolding is_in_section
-all_sections image extents address place best are end numbered first =
+all_sections image extents address index best are end numbered first =
     first_of_same _ (StandsFor image address) best (λ c h. h.0) (λ c h. (h, seen c h (cases_lt (length extents) c.sect))) first
   where
-    seen : (c : Tuple) → StandsFor image address c → (length extents < c.sect) ⊎ (c.sect ≤ length extents) → c.sect ≤ place
+    seen : (c : Tuple) → StandsFor image address c → (length extents < c.sect) ⊎ (c.sect ≤ length extents) → c.sect ≤ index
     seen c h (inl l) =
         let past = section_past image extents are c.sect l (numbered c h.0) in
         absurd (true_false (sym (stands_in image address c h.1).1 ∙ ap (λ o. option_map_or (is_inside address) o false) past))

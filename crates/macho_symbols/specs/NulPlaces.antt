@@ -4,7 +4,7 @@ use Rattle.std.specs.List.{before_first}
 
 -- the place of the first NUL at or behind a place, or of the table's end where there is none
 abbrev pub nul_from : List ℕ → ℕ → ℕ
-nul_from strings place = place + length (before_first (λ b. b == 0) (drop place strings))
+nul_from strings index = index + length (before_first (λ b. b == 0) (drop index strings))
 
 -- for each 4096 bytes of a string table, the place of the first NUL at or behind their beginning
 pub record AreNulPlaces (strings places : List ℕ) : Type 0 where

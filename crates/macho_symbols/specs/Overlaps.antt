@@ -61,13 +61,13 @@ first_cut strings size (Some b) c = Some (cond (is_lt (cut_cmp size (tuple_of st
 
 -- one of some whose name has that many bytes, which no other name goes below in them, and the first of those whose
 -- names begin before a place
-pub record IsFirstBelow (strings : List ℕ) (size place : ℕ) (among : Candidate → Type 0)
+pub record IsFirstBelow (strings : List ℕ) (size index : ℕ) (among : Candidate → Type 0)
     (found : Candidate) : Type 0 where
   pub member : among found
   pub long : size ≤ length (tuple_of strings found).name
   pub beginning : (other : Candidate) → among other
       → beginning_cmp size (tuple_of strings other) (tuple_of strings found) ≢ Less
-  pub first : (other : Candidate) → among other → other.strx < place
+  pub first : (other : Candidate) → among other → other.strx < index
       → tuple_cmp (tuple_of strings other) (tuple_of strings found) ≢ Less
 
 -- whether a name begins in so many bytes from a place on

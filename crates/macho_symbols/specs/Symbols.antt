@@ -19,7 +19,7 @@ strings_of image = take (table_of image).strsize (drop (table_of image).stroff i
 -- the name from a place of the string table, up to its first NUL or the table's end; 0, and a place past it, is the
 -- empty name
 abbrev pub name_of : List ℕ → ℕ → List ℕ
-name_of strings place = if place == 0 then [] else before_first (λ b. b == 0) (drop place strings)
+name_of strings index = if index == 0 then [] else before_first (λ b. b == 0) (drop index strings)
 
 -- the name of an entry
 unfoldable pub name_in : List ℕ → List ℕ → List ℕ

@@ -31,8 +31,8 @@ impl Candidate {
     fn begins_in(&self, start: usize, size: usize) -> bool
         ensures { result ≡ begins_in start size self.now }
     {
-        let place = self.strx as usize;
-        start <= place && place - start < size
+        let index = self.strx as usize;
+        start <= index && index - start < size
     }
 
     /// Whether its name begins in so many bytes from a place on, and as many first bytes tell it not from

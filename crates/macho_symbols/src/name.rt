@@ -54,15 +54,15 @@ pub(crate) struct Name<'a> {
 
 impl<'a> Name<'a> {
     /// The name from a place of the string table.
-    pub(crate) fn at(strings: &'a [u8], place: u32) -> Name<'a>
-        ensures { name_view result ≡ name_of strings.now place }
+    pub(crate) fn at(strings: &'a [u8], index: u32) -> Name<'a>
+        ensures { name_view result ≡ name_of strings.now index }
     {
-        let place = place as usize;
-        if place == 0 || strings.len() <= place {
+        let index = index as usize;
+        if index == 0 || strings.len() <= index {
             return Name { from: &[] };
         }
         Name {
-            from: strings.split_at(place).1,
+            from: strings.split_at(index).1,
         }
     }
 

@@ -12,15 +12,15 @@ const BLOCK_SIZE: usize = 4096;
 
 /// The place of the first NUL at or behind a place, where that of an earlier place is known: what lies between
 /// the two is not looked at again.
-fn next_nul(strings: &[u8], place: usize, known: usize) -> usize
-    requires within { place ≤ length strings.now }
-    requires known { (earlier : ℕ) × (earlier ≤ place) × (known ≡ nul_from strings.now earlier) }
-    ensures { result ≡ nul_from strings.now place }
+fn next_nul(strings: &[u8], index: usize, known: usize) -> usize
+    requires within { index ≤ length strings.now }
+    requires known { (earlier : ℕ) × (earlier ≤ index) × (known ≡ nul_from strings.now earlier) }
+    ensures { result ≡ nul_from strings.now index }
 {
-    if place <= known {
+    if index <= known {
         return known;
     }
-    place + before_nul(strings.split_at(place).1).len()
+    index + before_nul(strings.split_at(index).1).len()
 }
 
 /// The place of the first NUL at or behind the beginning of each block of a string table. It reads each byte
@@ -29,40 +29,40 @@ pub(crate) fn collect_nul_places(heap: Heap, strings: &[u8]) -> Result<Vec<usize
     ensures { IfOk result (λ places. AreNulPlaces strings.now places.items) }
 {
     let mut places = Vec::new(heap);
-    let mut place = 0;
+    let mut index = 0;
     let mut known = before_nul(strings).len();
-    while place < strings.len() {
-        known = next_nul(strings, place, known);
+    while index < strings.len() {
+        known = next_nul(strings, index, known);
         places.push(known)?;
-        place += BLOCK_SIZE;
+        index += BLOCK_SIZE;
     }
     Ok(places)
 }
 
 /// The place of the first NUL at or behind a place. It looks at no byte behind that place's block.
-fn nul_from(strings: &[u8], nul_places: &[usize], place: usize) -> usize
+fn nul_from(strings: &[u8], nul_places: &[usize], index: usize) -> usize
     requires places { AreNulPlaces strings.now nul_places.now }
-    requires within { place ≤ length strings.now }
-    ensures { result ≡ nul_from strings.now place }
+    requires within { index ≤ length strings.now }
+    ensures { result ≡ nul_from strings.now index }
 {
-    let rest = strings.split_at(place).1;
-    let size = rest.len().min(BLOCK_SIZE - place % BLOCK_SIZE);
+    let rest = strings.split_at(index).1;
+    let size = rest.len().min(BLOCK_SIZE - index % BLOCK_SIZE);
     let before = before_nul(rest.split_at(size).0).len();
     if before < size || size == rest.len() {
-        return place + before;
+        return index + before;
     }
-    nul_places[place / BLOCK_SIZE + 1]
+    nul_places[index / BLOCK_SIZE + 1]
 }
 
 /// The name from a place of the string table.
-pub(crate) fn name_from<'b>(strings: &'b [u8], nul_places: &[usize], place: u32) -> &'b [u8]
+pub(crate) fn name_from<'b>(strings: &'b [u8], nul_places: &[usize], index: u32) -> &'b [u8]
     requires { AreNulPlaces strings.now nul_places.now }
-    ensures { result.now ≡ name_of strings.now place }
+    ensures { result.now ≡ name_of strings.now index }
 {
-    let place = place as usize;
-    if place == 0 || strings.len() <= place {
+    let index = index as usize;
+    if index == 0 || strings.len() <= index {
         return &[];
     }
-    let end = nul_from(strings, nul_places, place);
-    strings.split_at(place).1.split_at(end - place).0
+    let end = nul_from(strings, nul_places, index);
+    strings.split_at(index).1.split_at(end - index).0
 }

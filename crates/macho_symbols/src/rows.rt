@@ -75,17 +75,17 @@ fn collect_rows(heap: Heap, symbols: &Symbols<'_>) -> Result<Vec<Candidate, Heap
 }
 
 /// The place behind the row at a place and those beside it.
-fn group_end(rows: &[Candidate], place: usize) -> usize
-    requires { place < length rows.now }
-    ensures behind { place < result }
+fn group_end(rows: &[Candidate], index: usize) -> usize
+    requires { index < length rows.now }
+    ensures behind { index < result }
     ensures within { result ≤ length rows.now }
-    ensures beside { (k : ℕ) (d : Candidate) → place ≤ k → k < result →
-        IsBeside (slice_index_or rows.now k d) (slice_index_or rows.now place d) }
+    ensures beside { (k : ℕ) (d : Candidate) → index ≤ k → k < result →
+        IsBeside (slice_index_or rows.now k d) (slice_index_or rows.now index d) }
     ensures other { (d : Candidate) → result < length rows.now →
-        IsBeside (slice_index_or rows.now result d) (slice_index_or rows.now place d) → ⊥ }
+        IsBeside (slice_index_or rows.now result d) (slice_index_or rows.now index d) → ⊥ }
 {
-    let head = rows[place];
-    for end in place + 1..rows.len() {
+    let head = rows[index];
+    for end in index + 1..rows.len() {
         if !rows[end].is_beside(&head) {
             return end;
         }
@@ -99,12 +99,12 @@ fn keep_firsts(rows: &mut Vec<Candidate, Heap>, strings: &[u8])
     ensures { AreFirsts strings.now rows.old.items rows.new.items }
 {
     let mut kept = 0;
-    let mut place = 0;
-    while place < rows.len() {
-        let end = group_end(rows, place);
-        rows[kept] = first_of(&rows[place..end], strings);
+    let mut index = 0;
+    while index < rows.len() {
+        let end = group_end(rows, index);
+        rows[kept] = first_of(&rows[index..end], strings);
         kept += 1;
-        place = end;
+        index = end;
     }
     rows.truncate(kept);
 }
@@ -138,11 +138,11 @@ pub(crate) fn first_not_above(rows: &[Candidate], number: usize, address: u64) -
     ensures { (image : List ℕ) → AreRows image rows.now →
         IsFirstNotAbove image number address (option_map (tuple_of (strings_of image)) result) }
 {
-    let place = place_of(rows, number, address);
-    if place >= rows.len() {
+    let index = place_of(rows, number, address);
+    if index >= rows.len() {
         return None;
     }
-    let row = rows[place];
+    let row = rows[index];
     if row.sect as usize != number {
         return None;
     }

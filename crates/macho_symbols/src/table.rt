@@ -92,15 +92,15 @@ impl AddressTable {
 
     /// The first candidate that can stand for an address among those of one section, which is counted from 0
     /// here.
-    fn first_in(&self, place: usize, address: u64, image: &[u8]) -> Option<Candidate>
+    fn first_in(&self, index: usize, address: u64, image: &[u8]) -> Option<Candidate>
         requires table { IsTableOf self.now image.now }
-        requires place { place < length self.now.extents }
-        ensures { IsFirstIn image.now (place + 1) address (option_map (tuple_of (strings_of image.now)) result) }
+        requires index { index < length self.now.extents }
+        ensures { IsFirstIn image.now (index + 1) address (option_map (tuple_of (strings_of image.now)) result) }
     {
-        if !self.extents[place].contains(address) {
+        if !self.extents[index].contains(address) {
             return None;
         }
-        first_not_above(&self.rows, place + 1, address)
+        first_not_above(&self.rows, index + 1, address)
     }
 
     /// The nearest candidate of an address.
@@ -110,8 +110,8 @@ impl AddressTable {
     {
         let strings = self.strings(image);
         let mut best = None;
-        for place in 0..self.extents.len() {
-            best = first_of_two(best, self.first_in(place, address, image), strings);
+        for index in 0..self.extents.len() {
+            best = first_of_two(best, self.first_in(index, address, image), strings);
         }
         best
     }

@@ -1,11 +1,11 @@
 -- Inputs that are opened one after another.
 use Rattle.std.proofs.Common.{◌≡◌, ◌∙◌, ℕ, ◌+◌, ◌<◌, List, [], ◌∷◌, ◌++◌, length, take, map, get_or, suc, refl, ap, sym}
-use Rattle.std.proofs.Common.{Option, Some, None, Result, append_assoc, subst}
-use Rattle.std.proofs.lemmas.List.{take_more, map-append}
+use Rattle.std.proofs.Common.{Option, Some, None, Result, Ok, Err, OnErr, append_assoc, subst}
+use Rattle.std.proofs.lemmas.List.{map_more, take-map}
 use Rattle.std.specs.List.{AllZip}
 use Rattle.clap.specs.Words.{Text}
 use Rattle.archive_commands.specs.declared.faults.CannotOpen.{CannotOpen}
-use Rattle.plan_commands.specs.Disks.{AreOpened, FileAt, IsOpened, opened_with}
+use Rattle.plan_commands.specs.Disks.{AreFirstOpened, AreOpened, FileAt, IsOpened, opened_with}
 
 -- relations hold along lists with one more element each
 zip_more : {A B : Type 0} (R : A → B → Type 0) (xs : List A) (ys : List B) (x : A) (y : B)
@@ -22,7 +22,7 @@ pub inputs_more : {S X : Type 0} (left : S → Option (List ℕ)) (failures : S 
     → IsOpened left failures (last (f (get_or xs i d))) y
     → AreOpened left failures first (map f (take (i + 1) xs)) zs
 inputs_more left failures f xs i ys zs d y first last lt is same all one =
-    rw (take_more xs i d lt, map-append f (take i xs) (get_or xs i d ∷ []), is)
+    rw (map_more f xs i d lt, is)
     (zip_more (λ path input. IsOpened left failures (first path) input) (map f (take i xs)) ys (f (get_or xs i d)) y all
     (subst (λ at. IsOpened left failures (at (f (get_or xs i d))) y) same one))
 
@@ -33,13 +33,23 @@ pub opened_more : {X : Type 0} (f : X → Text) (xs : List X) (i : ℕ) (d : X) 
 opened_more f xs i d first last new lt before is =
     is ∙ ap (λ o. opened_with o (f (get_or xs i d) ∷ [])) before
     ∙ both first
-    ∙ ap (opened_with first)
-    (sym (map-append f (take i xs) (get_or xs i d ∷ [])) ∙ ap (map f) (sym (take_more xs i d lt)))
+    ∙ ap (opened_with first) (sym (map_more f xs i d lt))
   where
     both : (o : Option (List Text)) → opened_with (opened_with o (map f (take i xs))) (f (get_or xs i d) ∷ [])
         ≡ opened_with o (map f (take i xs) ++ f (get_or xs i d) ∷ [])
     both None = refl
     both (Some p) = ap (λ q. Some q) (append_assoc p (map f (take i xs)) (f (get_or xs i d) ∷ []))
+
+on_err : {T E P : Type 0} (r : Result T E) → P → OnErr r P
+on_err (Ok value) p = tt
+on_err (Err e) p = p
+
+-- and no other was, if the call ends here
+pub first_opened : {X T E : Type 0} (f : X → Text) (xs : List X) (i : ℕ) (d : X) (r : Result T E)
+    (first last new : Option (List Text)) → i < length xs → last ≡ opened_with first (map f (take i xs))
+    → new ≡ opened_with last (f (get_or xs i d) ∷ []) → OnErr r (AreFirstOpened first new (map f xs))
+first_opened f xs i d r first last new lt before is =
+    on_err r (i + 1, opened_more f xs i d first last new lt before is ∙ ap (opened_with first) (sym (take-map f (i + 1) xs)))
 
 -- as many inputs are opened as there are paths
 pub as_many : {A B : Type 0} (R : A → B → Type 0) (xs : List A) (ys : List B) → AllZip R xs ys → length ys ≡ length xs

@@ -1,6 +1,6 @@
 -- Files by their paths.
 use Rattle.std.specs.Prelude.{◌≡◌, ℕ, List, ◌++◌, Option, Some, None, Result, Err, IsErr, MatchResult, ⊤}
-use Rattle.std.specs.Prelude.{option_map}
+use Rattle.std.specs.Prelude.{option_map, take}
 use Rattle.std.specs.List.{AllZip}
 use Rattle.clap.specs.Words.{Text}
 use Rattle.command_line.specs.Lines.{Line, inputs_of}
@@ -41,6 +41,11 @@ AreOpened left failures file_at paths inputs =
 abbrev pub opened_with : Option (List Text) → List Text → Option (List Text)
 opened_with opened paths = option_map (λ before. before ++ paths) opened
 
+-- The files at the first of these paths were opened, each once and in their order.
+abbrev pub AreFirstOpened : Option (List Text) → Option (List Text) → List Text → Type 0
+AreFirstOpened opened_old opened_new paths =
+    (count : ℕ) × (opened_new ≡ opened_with opened_old (take count paths))
+
 -- The files at the paths of a line were opened, each once and in the order of the words, and its command ended so over
 -- them.
 pub record Carried {S W : Type 0} (left : S → Option (List ℕ)) (failures : S → ℕ) (file_at : Text → FileAt)
@@ -52,10 +57,11 @@ pub record Carried {S W : Type 0} (left : S → Option (List ℕ)) (failures : S
   pub opened : opened_new ≡ opened_with opened_old (inputs_of line)
   pub executes : Executes line (readers left failures old new) out report result
 
--- There was no memory to open the files, and nothing was written.
-pub record IsUnbegun {W : Type 0} (out : Stream W) (report : Writer) (result : Result Status CommandFault)
-    : Type 0 where
+-- There was no memory to open the files of a line, or the others of them, and nothing was written.
+pub record IsUnbegun {W : Type 0} (opened_old opened_new : Option (List Text)) (line : Line) (out : Stream W)
+    (report : Writer) (result : Result Status CommandFault) : Type 0 where
   pub wanting : result ≡ Err OutOfMemory
+  pub opened : AreFirstOpened opened_old opened_new (inputs_of line)
   pub out_same : out.new ≡ out.old
   pub report_same : report.new ≡ report.old
   pub report_unfailed : report.failures_new ≡ report.failures_old

@@ -14,6 +14,7 @@ use Rattle.archive_commands.specs.Apply.{apply}
 use Rattle.archive_commands.specs.Delta.{delta}
 use Rattle.archive_commands.specs.Ends.{Ends, EndsReport, Query}
 use Rattle.archive_commands.specs.Find.{find}
+use Rattle.archive_commands.specs.Frames.{frames}
 use Rattle.archive_commands.specs.Inputs.{Reader}
 use Rattle.archive_commands.specs.List.{list}
 use Rattle.archive_commands.specs.MergeStreams.{EndsMerge}
@@ -52,6 +53,8 @@ Executes (line.list _) (archive ∷ _) out report result = EndsQuery (list archi
 Executes (line.name _ sought) (archive ∷ _) out report result = EndsQuery (name archive sought) out report result
 Executes (line.symbolicate _ uuid arch load addresses) (archive ∷ _) out report result =
     EndsQuery (symbolicate archive (key_of uuid arch) load addresses) out report result
+Executes (line.frames _ _) (crash ∷ archive ∷ _) out report result =
+    EndsQuery (frames crash archive) out report result
 Executes (line.summary _ _) (archive ∷ _) out report result = Ends (summary archive) (writer_of out) report result
 Executes (line.delta _ _ _) (archive ∷ named ∷ _) out report result =
     Ends (delta archive named) (writer_of out) report result

@@ -8,8 +8,8 @@ ghost use Rattle.command_line.specs.Lines.{apply, delta, inputs_of, plan_view};
 ghost use Rattle.plan_commands.specs.Executes.{Executes, key_of};
 
 use archive_commands::{
-    CannotOpen, CommandFault, Status, run_admit, run_apply, run_delta, run_find, run_list,
-    run_merge, run_migrate, run_name, run_new, run_rehearse, run_retire, run_summary,
+    CannotOpen, CommandFault, Status, run_admit, run_apply, run_delta, run_find, run_frames,
+    run_list, run_merge, run_migrate, run_name, run_new, run_rehearse, run_retire, run_summary,
     run_symbolicate,
 };
 use archive_core::{ArchKey, Archive, SliceKey};
@@ -101,8 +101,8 @@ pub fn execute<A: Archive + Drop, L: Archive + Drop, S: Source, W: Sink, P: Sink
         Plan::Migrate { .. } => run_migrate::<A, _, _, _>(heap, first, out, report),
         Plan::Apply { .. } => apply::<A, _, _, _>(heap, first, others, out, report),
         Plan::Find { uuid, .. } => run_find::<A, _, _>(heap, first, uuid, report),
-        Plan::List { .. } => run_list::<A, _, _>(heap, first, report),
-        Plan::Name { name, .. } => run_name::<A, _, _>(heap, first, name.as_bytes(), report),
+        Plan::List { .. } => run_list(heap, first, report),
+        Plan::Name { name, .. } => run_name(heap, first, name.as_bytes(), report),
         Plan::Symbolicate {
             uuid,
             arch,
@@ -110,7 +110,11 @@ pub fn execute<A: Archive + Drop, L: Archive + Drop, S: Source, W: Sink, P: Sink
             addresses,
             ..
         } => { run_symbolicate::<L, _, _>(heap, first, &key(uuid, arch), *load, addresses, report) }
-        Plan::Summary { .. } => run_summary::<A, _, _, _>(heap, first, out, report),
+        Plan::Frames { .. } => match others {
+            [archive] => run_frames::<L, _, _>(heap, first, archive, report),
+            _ => unreachable!(),
+        },
+        Plan::Summary { .. } => run_summary(heap, first, out, report),
         Plan::Delta { .. } => delta::<A, _, _, _>(heap, first, others, out, report),
         Plan::Rehearse { .. } => run_rehearse::<A, _, _>(heap, first, report),
     }

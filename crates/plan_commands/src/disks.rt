@@ -1,11 +1,12 @@
 //! Files by their paths, and a plan that is carried out over them.
 
-ghost use Rattle.std.specs.Prelude.{◌≡◌, ◌⊎◌, ◌∷◌, [], List, Option, IfOk, OnOk, map};
+ghost use Rattle.std.specs.Prelude.{◌≡◌, ◌⊎◌, ◌∷◌, [], List, Option, IfOk, OnErr, OnOk, map};
 ghost use Rattle.clap.specs.Words.{Text};
 ghost use Rattle.archive_records.specs.Merging.{stream};
 ghost use Rattle.archive_commands.specs.Outputs.{writer};
 ghost use Rattle.command_line.specs.Lines.{plan_view};
-ghost use Rattle.plan_commands.specs.Disks.{AreOpened, Carried, FileAt, IsOpened, IsUnbegun, opened_with};
+ghost use Rattle.plan_commands.specs.Disks.{AreFirstOpened, AreOpened, Carried, FileAt, IsOpened, IsUnbegun};
+ghost use Rattle.plan_commands.specs.Disks.{opened_with};
 
 use crate::commands::execute;
 use archive_commands::{CannotOpen, CommandFault, Status};
@@ -25,12 +26,12 @@ pub trait Disk {
     // The paths that were opened, in their order, where they are known.
     ghost opened: { Self → Option (List Text) };
 
-    /// Opens the file at a path, if that can be done.
+    /// Opens the file at a path, if that can be done. Where memory is wanting it was opened too.
     fn open(&mut self, path: &str) -> Result<Result<Self::Input, CannotOpen>, NoMemory>
         ensures input { IfOk result
             (λ input. IsOpened Self.Input.left Self.Input.failures (file_at self.old path.now) input) }
         ensures files { file_at self.new ≡ file_at self.old }
-        ensures opened { OnOk result (opened self.new ≡ opened_with (opened self.old) (path.now ∷ [])) };
+        ensures opened { opened self.new ≡ opened_with (opened self.old) (path.now ∷ []) };
 }
 
 /// Opens the files at these paths.
@@ -43,6 +44,8 @@ fn open_all<D: Disk>(
         (map (λ p. p.now) paths.now) inputs.items) }
     ensures opened { OnOk result
         (D.opened disk.new ≡ opened_with (D.opened disk.old) (map (λ p. p.now) paths.now)) }
+    ensures first { OnErr result
+        (AreFirstOpened (D.opened disk.old) (D.opened disk.new) (map (λ p. p.now) paths.now)) }
 {
     let mut inputs = Vec::new(alloc);
     'paths: for path in paths {
@@ -60,8 +63,8 @@ pub fn execute_on<A: Archive + Drop, L: Archive + Drop, D: Disk, W: Sink, P: Sin
     out: &mut W,
     report: &mut P,
 ) -> Result<Status, CommandFault>
-    ensures { IsUnbegun (stream W.held W.failures out.old out.new)
-        (writer P.held P.failures report.old report.new) result
+    ensures { IsUnbegun (D.opened disk.old) (D.opened disk.new) (plan_view plan.now)
+        (stream W.held W.failures out.old out.new) (writer P.held P.failures report.old report.new) result
         ⊎ Carried D.Input.left D.Input.failures (D.file_at disk.old) (D.opened disk.old) (D.opened disk.new)
         (plan_view plan.now) (stream W.held W.failures out.old out.new)
         (writer P.held P.failures report.old report.new) result }

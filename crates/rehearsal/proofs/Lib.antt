@@ -1,6 +1,5 @@
-pub mod FieldLemmas
 pub mod NumberLemmas
 pub mod Sequels
-pub mod Scripts
+pub mod Places
 pub mod Meant
 pub mod EventLemmas

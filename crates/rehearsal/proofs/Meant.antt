@@ -3,7 +3,7 @@ use Rattle.std.proofs.Common.{◌≡◌, ◌∙◌, sym, ap, ap₂, refl, arith,
 use Rattle.std.proofs.Common.{Option, Some, None, Result, Ok, Err}
 use Rattle.std.proofs.lemmas.Bool.{cond-true, lt-ltb, ltb-true}
 use Rattle.rehearsal.specs.Events.{Act, line_act, line_sites}
-use Rattle.rehearsal.specs.Lines.{Line, counting, line_count}
+use Rattle.archive_words.specs.Lines.{Line, counting, line_count}
 use Rattle.rehearsal.specs.Script.{IsScript, Wrong, event_then, events_of, most_events, onto, script_in, script_of, sites_then, wrong}
 use Rattle.rehearsal.specs.declared.script.ScriptFault.TheVariants.{TooManyEvents}
 

@@ -11,7 +11,7 @@ use Rattle.archive_core.specs.declared.keys.SliceKey.{SliceKey}
 use Rattle.archive_exchange.specs.declared.event.Event.{Event}
 use Rattle.archive_exchange.specs.declared.event.Event.TheVariants as event
 use Rattle.archive_words.specs.Words.{arch_of, digest_of}
-use Rattle.rehearsal.specs.Lines.{Field, Line, fields}
+use Rattle.archive_words.specs.Lines.{Field, Line, fields}
 use Rattle.rehearsal.specs.Numbers.{number_of}
 
 -- ---- what an event asks for

@@ -1,4 +1,3 @@
-pub mod Lines
 pub mod Numbers
 pub mod Events
 pub mod Script

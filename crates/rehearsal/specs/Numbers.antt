@@ -3,7 +3,7 @@ use Rattle.std.specs.Prelude.{ℕ, Bool, ◌==◌, ◌&&◌, ◌||◌, ◌^◌, 
 use Rattle.std.specs.Prelude.{Option, Some, None}
 use Rattle.std.specs.Str.{all_ascii_digits}
 use Rattle.std.specs.Str.Parse.{digits_value}
-use Rattle.rehearsal.specs.Lines.{Field}
+use Rattle.archive_words.specs.Lines.{Field}
 
 -- decimal digits, one at least, the first of several not `0`
 abbrev pub is_decimal : Field → Bool

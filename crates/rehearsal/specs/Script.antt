@@ -3,7 +3,7 @@ use Rattle.std.specs.Prelude.{◌≡◌, ◌+◌, ℕ, ◌≤◌, List, [], ◌�
 use Rattle.std.specs.Prelude.{Option, Some, None, Result, Ok, Err}
 use Rattle.archive_exchange.specs.declared.event.Event.{Event}
 use Rattle.rehearsal.specs.Events.{Act, act_of, line_act, line_sites}
-use Rattle.rehearsal.specs.Lines.{Line, counting, line_count}
+use Rattle.archive_words.specs.Lines.{Line, counting, line_count}
 use Rattle.rehearsal.specs.declared.script.ScriptError.{ScriptError}
 use Rattle.rehearsal.specs.declared.script.ScriptError.TheVariants.{Faulty, OutOfMemory}
 use Rattle.rehearsal.specs.declared.script.ScriptFault.{ScriptFault}
@@ -58,9 +58,9 @@ abbrev pub acts : List Event → List Act
 acts events = map act_of events
 
 -- the error tells what is wrong, want of memory aside
-abbrev pub Tells : {T : Type 0} → Result T Wrong → ScriptError → Type 0
-Tells read (Faulty fault line) = read ≡ Err (fault, line)
-Tells read OutOfMemory = ⊤
+abbrev pub IsErrorOf : {T : Type 0} → Result T Wrong → ScriptError → Type 0
+IsErrorOf read (Faulty fault line) = read ≡ Err (fault, line)
+IsErrorOf read OutOfMemory = ⊤
 
 -- the first line that counts says how many sites, each further one is the next of these events, and they are few enough
 pub record IsScript (bytes : List ℕ) (sites : ℕ) (events : List Act) : Type 0 where

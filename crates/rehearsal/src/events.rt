@@ -6,14 +6,13 @@ ghost use Rattle.uuid.specs.Text.{parsed};
 ghost use Rattle.archive_words.specs.Words.{arch_of, digest_of};
 ghost use Rattle.rehearsal.specs.Events.{act_at, act_of, fields_act, fields_sites, file_of, line_act, line_sites};
 ghost use Rattle.rehearsal.specs.Events.{message_act, plain_act, retire_act, take_act, word_act};
-ghost use Rattle.rehearsal.specs.Lines.{parts};
+ghost use Rattle.archive_words.specs.Lines.{parts};
 ghost use Rattle.rehearsal.specs.Numbers.{number_of};
 
-use crate::lines::cut_field;
 use crate::numbers::read_number;
 use archive_core::{ArchKey, Digest, SliceKey};
 use archive_exchange::Event;
-use archive_words::Word;
+use archive_words::{Word, cut_field};
 use hex::FromHexError;
 use memory::{Heap, NoMemory};
 use std::alloc::AllocError;

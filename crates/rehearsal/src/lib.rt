@@ -1,7 +1,6 @@
 //! The scripts of rehearsals: a number of sites, and what happens at them.
 //!
 //! - `script`: what a script says, and why bytes are none;
-//! - `lines`: the lines of a script that count, and their fields;
 //! - `numbers`: decimal numbers;
 //! - `events`: what a line asks for;
 //! - `reading`: a script, read;
@@ -10,7 +9,6 @@
 
 mod events;
 pub mod laws;
-mod lines;
 mod numbers;
 mod reading;
 mod script;

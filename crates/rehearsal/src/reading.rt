@@ -1,13 +1,13 @@
 //! A script, read.
 
 ghost use Rattle.std.specs.Prelude.{◌≡◌, ◌+◌, ◌<◌, ◌^◌, All, IfErr, IfOk, Ok};
-ghost use Rattle.rehearsal.specs.Lines.{seen};
-ghost use Rattle.rehearsal.specs.Script.{Tells, acts, events_of, script_of};
+ghost use Rattle.archive_words.specs.Lines.{seen};
+ghost use Rattle.rehearsal.specs.Script.{IsErrorOf, acts, events_of, script_of};
 
 use crate::events::{read_event, read_sites};
-use crate::lines::{lines_that_count, number_of_lines};
 use crate::script::{Script, ScriptError, ScriptFault};
 use archive_exchange::Event;
+use archive_words::{lines_that_count, number_of_lines};
 use memory::Heap;
 
 /// The most events of a script.
@@ -22,7 +22,7 @@ const MOST_BYTES: usize = usize::MAX / 2;
 /// asked for as the lines are read, so want of it may be told of bytes that are no script.
 pub fn read_script(heap: Heap, bytes: &[u8]) -> Result<Script, ScriptError>
     ensures script { IfOk result (λ script. script_of bytes.now ≡ Ok (script.sites, acts script.events.items)) }
-    ensures fault { IfErr result (Tells (script_of bytes.now)) }
+    ensures fault { IfErr result (IsErrorOf (script_of bytes.now)) }
 {
     if bytes.len() > MOST_BYTES {
         return Err(ScriptError::OutOfMemory);
@@ -53,7 +53,7 @@ fn faulty(fault: ScriptFault, before: u64) -> ScriptError
 fn read_events(heap: Heap, lines: &[(usize, &[u8])]) -> Result<Vec<Event, Heap>, ScriptError>
     requires { All (λ line. line.0 + 1 < 2 ^ 64) lines.now }
     ensures ok { IfOk result (λ events. events_of 0 (seen lines.now) ≡ Ok (acts events.items)) }
-    ensures err { IfErr result (Tells (events_of 0 (seen lines.now))) }
+    ensures err { IfErr result (IsErrorOf (events_of 0 (seen lines.now))) }
 {
     let mut events = Vec::new(heap.clone()?);
     'lines: for line in lines {

@@ -15,7 +15,7 @@ use Rattle.std.proofs.lemmas.List.Elements.{All-nil, All-cons}
 use Rattle.std.proofs.lemmas.List.Sums.{length-filter}
 use Rattle.std.proofs.lemmas.Map.Keys.{sorted_head, sorted_tail}
 use Rattle.archive_core.specs.Content.{Operations}
-use Rattle.archive_core.specs.Record.{rec}
+use Rattle.archive_core.specs.Record.{record_bytes}
 use Rattle.archive_core.specs.Find.{is_arch, is_dsym, is_image, answering_count, arch_cmp, find_cmp, key_in, row_of, IsFinds}
 use Rattle.archive_core.specs.Find.{is_key}
 use Rattle.archive_core.specs.Lists.{list_cmp, IsList, rows_under}
@@ -217,7 +217,7 @@ by_key Greater a r e g = cc
 rows_above : (operation : Operation) (others : List Operation) → AllByRecursion (λ other. list_cmp operation other ≡ Less) others → AllByRecursion (λ other. key_cmp (row_of operation).key other.key ≢ Greater) (map row_of others)
 rows_above operation [] above = tt
 rows_above operation (other ∷ others) above =
-    (by_key (slice_cmp nat_cmp (key_in operation).uuid (key_in other).uuid) (arch_cmp (key_in operation).arch (key_in other).arch) (slice_cmp nat_cmp (rec operation) (rec other)) above.0, rows_above operation others above.1)
+    (by_key (slice_cmp nat_cmp (key_in operation).uuid (key_in other).uuid) (arch_cmp (key_in operation).arch (key_in other).arch) (slice_cmp nat_cmp (record_bytes operation) (record_bytes other)) above.0, rows_above operation others above.1)
 
 ascends : (operations : List Operation) → IsStrictlySortedBy list_cmp operations → Ascends (map row_of operations)
 ascends [] up = tt

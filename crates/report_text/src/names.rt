@@ -1,10 +1,11 @@
 //! The lines of `name`.
 ghost use Rattle.std.specs.Prelude.{◌≡◌, map, IfOk, string_bytes};
-ghost use Rattle.archive_core.specs.Names.{name_view};
+ghost use Rattle.archive_records.specs.Names.{owned_name_view};
 ghost use Rattle.report_text.specs.Names.{name_lines};
 
 use crate::{Escaped, Text};
 use archive_core::NameRow;
+use archive_records::OwnedNameRow;
 use archive_words::{Address, Spelled};
 use memory::{Heap, NoMemory};
 use std::fmt;
@@ -28,13 +29,14 @@ impl<'r, 'a> fmt::Display for Text<&'r NameRow<'a>> {
 }
 
 /// The lines of `name`: one for each place where a symbol of the name stands, in the order of the rows.
-pub fn name_lines(heap: Heap, rows: &[NameRow<'_>]) -> Result<String<Heap>, NoMemory>
-    ensures { IfOk result (λ text. string_bytes text ≡ name_lines (map name_view rows.now)) }
+pub fn name_lines(heap: Heap, rows: &[OwnedNameRow]) -> Result<String<Heap>, NoMemory>
+    ensures { IfOk result (λ text. string_bytes text ≡ name_lines (map owned_name_view rows.now)) }
 {
     let mut text = String::new(heap);
     'rows: for row in rows {
-        let row = Text(row);
-        writeln!(text, "{row}")?;
+        let lent = row.lend();
+        let line = Text(&lent);
+        writeln!(text, "{line}")?;
     }
     Ok(text)
 }

@@ -1,5 +1,5 @@
 -- How the program ends.
-use Rattle.std.specs.Prelude.{◌≡◌, ℕ, true, List, [], ◌∷◌, Option, Some, Result, ◌⊎◌}
+use Rattle.std.specs.Prelude.{◌≡◌, ◌≢◌, ◌⊎◌, ℕ, true, List, [], ◌∷◌, Option, Some, Result}
 use Rattle.clap.specs.Words.{IsAmong, Text}
 use Rattle.clap.specs.declared.error.kind.ErrorKind.TheVariants.{DisplayHelp, DisplayVersion}
 use Rattle.command_line.specs.Lines.{Line, are_accepted, error_kinds, is_in_order, line_of}
@@ -9,7 +9,7 @@ use Rattle.archive_commands.specs.declared.failures.Failure.{Failure}
 use Rattle.archive_commands.specs.declared.faults.Status.{Status}
 use Rattle.archive_commands.specs.Outputs.{Writer}
 use Rattle.plan_commands.specs.Statuses.{status_of}
-use Rattle.file_commands.specs.Files.{IsCarriedOut}
+use Rattle.file_commands.specs.Files.{Calls, IsCarriedOut, IsUnbegun}
 
 -- the exit status of a line that gives no plan
 abbrev pub status_of_line : LineFault → ℕ
@@ -17,29 +17,43 @@ status_of_line (fault.Help _) = 0
 status_of_line (fault.Refused _) = 3
 status_of_line fault.OutOfMemory = 4
 
--- The words ask for a line, it was carried out over files of the system, and this is the exit status.
-pub record Ran {S W : Type 0} (left : S → Option (List ℕ)) (failures : S → ℕ) (held : W → Option (List ℕ))
-    (out_failures : W → ℕ) (words : List Text) (status : ℕ) : Type 0 where
+-- Nothing was called of the system, and nothing reported.
+pub record IsIdle {S W : Type 0} (calls : Calls S W) (report : Writer) : Type 0 where
+  pub opened : calls.opened_new ≡ calls.opened_old
+  pub uncreated : calls.created ≡ []
+  pub unreported : report.new ≡ report.old
+  pub unfailed : report.failures_new ≡ report.failures_old
+
+-- The words are accepted and ask for this line, it was carried out over files of the system, unless there was no memory
+-- to begin it, and the exit status is that of how it ended.
+pub record Ran {S W : Type 0} (calls : Calls S W) (words : List Text) (report : Writer) (status : ℕ) : Type 0 where
   pub line : Line
-  pub report : Writer
   pub ended : Result Status Failure
+  pub accepted : error_kinds words ≡ []
   pub line_is : Some line ≡ line_of words
-  pub carried : IsCarriedOut left failures held out_failures line report ended
+  pub carried : IsUnbegun calls line report ended ⊎ IsCarriedOut calls line report ended
   pub status_is : status ≡ status_of ended
 
--- This is the exit status of words. Where the command line accepts them, and they are in order, what they ask for was
--- carried out. Memory may be wanting in each case.
-pub record EndsWords {S W : Type 0} (left : S → Option (List ℕ)) (failures : S → ℕ) (held : W → Option (List ℕ))
-    (out_failures : W → ℕ) (words : List Text) (status : ℕ) : Type 0 where
-  pub accepted : are_accepted words ≡ true → is_in_order words ≡ true
-      → (status ≡ 4) ⊎ Ran left failures held out_failures words status
-  pub refused : ¬ IsAmong DisplayHelp (error_kinds words) → ¬ IsAmong DisplayVersion (error_kinds words)
-      → (status ≡ 4) ⊎ (status ≡ 3) ⊎ Ran left failures held out_failures words status
-  pub help : error_kinds words ≡ DisplayHelp ∷ [] → (status ≡ 4) ⊎ (status ≡ 0)
-  pub version : error_kinds words ≡ DisplayVersion ∷ [] → (status ≡ 4) ⊎ (status ≡ 0)
+-- the words are not accepted, or a value has not its form, or OUT is an input
+abbrev pub HasNoPlan : List Text → Type 0
+HasNoPlan words = are_accepted words ≡ true → is_in_order words ≡ true → ⊥
 
--- This is the exit status of some words, or of words that could not be read.
-abbrev pub EndsProgram : {S W : Type 0} → (S → Option (List ℕ)) → (S → ℕ) → (W → Option (List ℕ)) → (W → ℕ) → ℕ
-    → Type 0
-EndsProgram left failures held out_failures status =
-    ((words : List Text) × EndsWords left failures held out_failures words status) ⊎ (status ≡ 3) ⊎ (status ≡ 4)
+-- The words are refused.
+pub record IsRefused (words : List Text) (status : ℕ) : Type 0 where
+  pub no_plan : HasNoPlan words
+  pub no_help : error_kinds words ≢ DisplayHelp ∷ []
+  pub no_version : error_kinds words ≢ DisplayVersion ∷ []
+  pub status_is : status ≡ 3
+
+-- The words ask for help or for the version.
+pub record IsHelped (words : List Text) (status : ℕ) : Type 0 where
+  pub no_plan : HasNoPlan words
+  pub asked : ¬ IsAmong DisplayHelp (error_kinds words) → ¬ IsAmong DisplayVersion (error_kinds words) → ⊥
+  pub status_is : status ≡ 0
+
+-- How the program ends with these words: what they ask for was carried out; or they are refused, or ask for help, or
+-- memory is wanting, and nothing was called.
+abbrev pub EndsWords : {S W : Type 0} → Calls S W → List Text → Writer → ℕ → Type 0
+EndsWords calls words report status =
+    Ran calls words report status
+    ⊎ (IsIdle calls report × (IsRefused words status ⊎ IsHelped words status ⊎ (status ≡ 4)))

@@ -8,8 +8,23 @@
 mod refused_line;
 mod run;
 
+use archive_files::SystemFiles;
+use byte_device::Writing;
+use std::fs::File;
 use std::process::ExitCode;
+use std::{env, io};
 
 fn main(rt: HostRuntime) -> ExitCode {
-    run::run(&rt)
+    // Where a standard stream is closed, one of these takes its place, and not OUT, which would get what is printed.
+    let _input = File::open(&rt, "/dev/null");
+    let _output = File::open(&rt, "/dev/null");
+    let _error = File::open(&rt, "/dev/null");
+    let mut files = SystemFiles::new(rt.alloc(), &rt);
+    let mut report = Writing::new(io::writer(&rt));
+    run::run(&rt, words(&rt), &mut files, &mut report)
+}
+
+/// The words of the command line, of which the first is the program's name.
+fn words<R: env::Env + AllocGlobal>(rt: &R) -> io::Result<Vec<String>> {
+    Ok(env::args(rt)?.collect(rt.alloc())?)
 }

@@ -1,41 +1,76 @@
-//! The program over the words, the files and the standard streams that it is started with.
+//! The program over its words, the files of the system and its report.
 
-ghost use Rattle.std.specs.Prelude.{◌≡◌, ◌≢◌, ◌⊎◌, map, string_bytes};
+ghost use Rattle.std.specs.Prelude.{◌≡◌, ◌≢◌, MatchResult, map, option_map, string_bytes};
 ghost use Rattle.std.specs.Process.{exit_status};
 ghost use Rattle.std.specs.IoError.{error_kind};
+ghost use Rattle.archive_commands.specs.Outputs.{writer};
+ghost use Rattle.archive_files.specs.OutFiles.{AreFresh, is_not_created};
+ghost use Rattle.file_commands.specs.Files.{calls_of};
 ghost use Rattle.plan_commands.specs.Statuses.{status_of};
-ghost use Rattle.symarch.specs.Ends.{EndsProgram, EndsWords, status_of_line};
+ghost use Rattle.symarch.specs.Ends.{EndsWords, IsIdle, status_of_line};
 
 use crate::refused_line::RefusedLine;
 use archive_commands::{CommandFault, Failure, Status};
-use archive_files::OutFile;
-use byte_device::{Reading, Sink, Source, Writing};
+use archive_files::{OutFile, SystemFiles};
+use byte_device::{Reading, Sink, Source};
 use command_line::{LineFault, plan};
 use file_commands::execute;
 use plan_commands::status_of;
 use std::fmt::Display;
-use std::fs::File;
+use std::io;
 use std::io::{BufReader, ErrorKind};
 use std::process::ExitCode;
-use std::rt::{Env, Files};
-use std::{env, io};
+use std::rt::Files;
 
 /// The exit status of a command line that is refused.
 const BAD_LINE: u8 = 3;
 
-/// Carries out what the words of the command line ask for, and tells the exit status.
-pub fn run<'r, R: Files + Env + Print + Eprint + AllocGlobal>(rt: &'r R) -> ExitCode
-    ensures { EndsProgram ⟦<Reading<BufReader<R::File>> as Source>⟧.left
-        ⟦<Reading<BufReader<R::File>> as Source>⟧.failures ⟦<OutFile<'r, R> as Sink>⟧.held
-        ⟦<OutFile<'r, R> as Sink>⟧.failures (exit_status result) }
+/// Carries out what the words of the command line ask for over these files, with the report going to `report`, and
+/// tells the exit status. What else is said goes to the standard streams.
+pub fn run<'f, R: Print + Eprint + AllocGlobal, F: Files, P: Sink>(
+    rt: &R,
+    words: io::Result<Vec<String>>,
+    files: &mut SystemFiles<'f, F>,
+    report: &mut P,
+) -> ExitCode
+    requires { AreFresh files.old.others.entries files.old.same.entries
+        (option_map string_bytes files.old.out.path) files.old.out.state files.old.out.created.entries }
+    ensures { let calls = calls_of ⟦<Reading<BufReader<F::File>> as Source>⟧.left
+        ⟦<Reading<BufReader<F::File>> as Source>⟧.failures ⟦<OutFile<'f, F> as Sink>⟧.held
+        ⟦<OutFile<'f, F> as Sink>⟧.failures files.old.disk.opened.entries files.new.disk.opened.entries
+        files.new.others.entries files.new.same.entries files.new.out.created.entries
+        (is_not_created files.new.out.state) files.new.out in
+        let told = writer P.held P.failures report.old report.new in
+        MatchResult words (λ read. EndsWords calls (map string_bytes read.items) told (exit_status result))
+        (λ error. IsIdle calls told
+        × (error_kind error ≡ ErrorKind.OutOfMemory → exit_status result ≡ 4)
+        × (error_kind error ≢ ErrorKind.OutOfMemory → exit_status result ≡ 3)) }
 {
-    // Where a standard stream is closed, one of these takes its place, and not OUT, which would get what is printed.
-    let _input = File::open(rt, "/dev/null");
-    let _output = File::open(rt, "/dev/null");
-    let _error = File::open(rt, "/dev/null");
-    match env::args(rt) {
-        Ok(words) => run_words(rt, words),
+    match words {
+        Ok(words) => run_words(rt, &words, files, report),
         Err(error) => refuse_words(rt, &error),
+    }
+}
+
+fn run_words<'f, R: Print + Eprint + AllocGlobal, F: Files, P: Sink>(
+    rt: &R,
+    words: &[String],
+    files: &mut SystemFiles<'f, F>,
+    report: &mut P,
+) -> ExitCode
+    requires { AreFresh files.old.others.entries files.old.same.entries
+        (option_map string_bytes files.old.out.path) files.old.out.state files.old.out.created.entries }
+    ensures { let calls = calls_of ⟦<Reading<BufReader<F::File>> as Source>⟧.left
+        ⟦<Reading<BufReader<F::File>> as Source>⟧.failures ⟦<OutFile<'f, F> as Sink>⟧.held
+        ⟦<OutFile<'f, F> as Sink>⟧.failures files.old.disk.opened.entries files.new.disk.opened.entries
+        files.new.others.entries files.new.same.entries files.new.out.created.entries
+        (is_not_created files.new.out.state) files.new.out in
+        EndsWords calls (map string_bytes words.now) (writer P.held P.failures report.old report.new)
+        (exit_status result) }
+{
+    match plan(rt.alloc(), words) {
+        Ok(plan) => end(rt, execute(files, &plan, report)),
+        Err(fault) => refuse(rt, fault),
     }
 }
 
@@ -49,28 +84,6 @@ fn refuse_words<R: Eprint>(rt: &R, error: &io::Error) -> ExitCode
     } else {
         let refused = RefusedLine("error: invalid word: expected UTF-8 text\n");
         end_with(rt, refused, BAD_LINE)
-    }
-}
-
-fn run_words<'r, R: Files + Print + Eprint + AllocGlobal>(rt: &'r R, words: env::Args) -> ExitCode
-    ensures { EndsProgram ⟦<Reading<BufReader<R::File>> as Source>⟧.left
-        ⟦<Reading<BufReader<R::File>> as Source>⟧.failures ⟦<OutFile<'r, R> as Sink>⟧.held
-        ⟦<OutFile<'r, R> as Sink>⟧.failures (exit_status result) }
-{
-    match words.collect::<Vec<String>>(rt.alloc()) {
-        Ok(words) => run_line(rt, &words),
-        Err(_) => end(rt, Err(Failure::Command(CommandFault::OutOfMemory))),
-    }
-}
-
-fn run_line<'r, R: Files + Print + Eprint + AllocGlobal>(rt: &'r R, words: &[String]) -> ExitCode
-    ensures { EndsWords ⟦<Reading<BufReader<R::File>> as Source>⟧.left
-        ⟦<Reading<BufReader<R::File>> as Source>⟧.failures ⟦<OutFile<'r, R> as Sink>⟧.held
-        ⟦<OutFile<'r, R> as Sink>⟧.failures (map string_bytes words.now) (exit_status result) }
-{
-    match plan(rt.alloc(), words) {
-        Ok(plan) => end(rt, execute(rt, &plan, &mut Writing::new(io::writer(rt)))),
-        Err(fault) => refuse(rt, fault),
     }
 }
 

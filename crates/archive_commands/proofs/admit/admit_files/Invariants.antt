@@ -5,7 +5,7 @@ use Rattle.archive_commands.proofs.admit.admit_files.Given as goal
 
 abbrev pub invariant-files : goal.invariant-files
 invariant-files g l = record {
-  taken : HasTaken (take l.place (readers g.S.Source.left g.S.Source.failures l.fn.files l.files)) (g.A.Join.content l.initial.archive) (g.A.Join.content l.archive) l.rows.items;
+  taken : HasTaken (take l.index (readers g.S.Source.left g.S.Source.failures l.fn.files l.files)) (g.A.Join.content l.initial.archive) (g.A.Join.content l.archive) l.rows.items;
   unfailed : EachUnfailed (readers g.S.Source.left g.S.Source.failures l.fn.files l.files);
-  rest : drop l.place l.files ≡ drop l.place l.fn.files;
+  rest : drop l.index l.files ≡ drop l.index l.fn.files;
 }

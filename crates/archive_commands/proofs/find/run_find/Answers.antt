@@ -15,7 +15,7 @@ returns g c =
     let uuid = c.args.uuid.now in
     let picks = is_under c.as_bytes.result.now in
     let found = subst (λ (o : Operations). IsFinds o uuid rows) kept.kept c.in_ok-rows.ensures in
-    reported _ _ _ _ c.tell.result _ _ c.in_ok-archive.ensures.unfailed
+    reported _ _ _ _ c.publish_report.result _ _ c.in_ok-archive.ensures.unfailed
     (record {
       content = kept.whole;
       rows = rows;
@@ -25,4 +25,4 @@ returns g c =
       status_is = c.status_of.ensures ∙ ap find_status c.deref-2.ensures.value;
       text_is = c.deref-3.ensures ∙ c.in_ok-text.ensures ∙ ap find_lines c.deref.ensures.value;
     })
-    c.tell.ensures
+    c.publish_report.ensures

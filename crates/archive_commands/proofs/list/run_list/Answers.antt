@@ -5,14 +5,16 @@ use Rattle.archive_commands.proofs.Endings.{reported}
 use Rattle.archive_commands.proofs.list.run_list.Goals as goal
 
 pub returns : goal.returns
-returns g c = reported _ _ _ _ c.tell.result _ _ c.in_ok-archive.ensures.unfailed
+returns g c =
+    let held = c.in_ok-rows.ensures.rows in
+    reported _ _ _ _ c.publish_report.result _ _ c.in_ok-rows.ensures.unfailed
     (record {
-      content = g.A.Join.content c.in_ok-archive.archive;
+      content = held.content;
       rows = c.in_ok-rows.rows.items;
-      is_content = c.in_ok-archive.ensures.content;
-      archive_is = c.in_ok-archive.ensures.text;
-      lists = c.in_ok-rows.ensures;
+      is_content = held.is_content;
+      archive_is = held.text;
+      lists = held.is_true;
       status_is = c.status_of.ensures ∙ ap find_status c.deref-2.ensures.value;
       text_is = c.deref-3.ensures ∙ c.in_ok-text.ensures ∙ ap list_lines c.deref.ensures.value;
     })
-    c.tell.ensures
+    c.publish_report.ensures

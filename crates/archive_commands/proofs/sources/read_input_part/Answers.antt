@@ -1,6 +1,12 @@
+use Rattle.archive_commands.proofs.Lent.{of_lent}
 use Rattle.archive_commands.proofs.sources.read_input_part.Goals as goal
 
-pub returns-in-Ok-read_part-clause-kept : goal.returns-in-Ok-read_part-clause-kept
-returns-in-Ok-read_part-clause-kept g c =
-    let m = c.in-Ok-read_part.ensures in
-    rw c.in-Ok.is (record { whole = m.meaning; is_content = m.whole.is; text = m.whole.text; kept = m.kept })
+pub returns-in-Ok-clause-kept : goal.returns-in-Ok-clause-kept
+returns-in-Ok-clause-kept g c =
+    let m = c.in-Ok.ensures in
+    record {
+      whole = m.meaning;
+      is_content = m.whole.is;
+      text = of_lent c.args.input.now c.in_ok-source.source.now g.R.Source.left _ c.in_ok-source.ensures.source m.whole.text;
+      kept = m.kept;
+    }

@@ -5,12 +5,14 @@ use Rattle.archive_commands.proofs.Endings.{given_out}
 use Rattle.archive_commands.proofs.summary.run_summary.Goals as goal
 
 pub returns : goal.returns
-returns g c = given_out _ _ _ _ _ c.publish_summary.result _ _ c.in_ok-archive.ensures.unfailed
+returns g c =
+    let held = c.in_ok-summary.ensures.entries in
+    given_out _ _ _ _ _ c.publish_summary.result _ _ c.in_ok-summary.ensures.unfailed
     (record {
-      content = g.A.Join.content c.in_ok-archive.archive;
-      is_content = c.in_ok-archive.ensures.content;
-      archive_is = c.in_ok-archive.ensures.text;
-      text_is = ap summary_text c.in_ok-summary.ensures;
-      told_is = ap summary_report_of c.in_ok-summary.ensures;
+      content = held.content;
+      is_content = held.is_content;
+      archive_is = held.text;
+      text_is = ap summary_text held.is_true;
+      told_is = ap summary_report_of held.is_true;
     })
     c.publish_summary.ensures

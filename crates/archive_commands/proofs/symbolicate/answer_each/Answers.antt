@@ -11,7 +11,7 @@ addresses-preserved g c =
     let address = slice_index_or addresses place 0 in
     let answer = c.in_ok-answer.answer in
     let lt : place < length addresses = omega arith in
-    let is_answer = subst (λ at. IsAnswer content c.args.key.now at (answer_view answer)) c.place_of.ensures c.in_ok-answer.ensures.answer in
+    let is_answer = subst (λ at. IsAnswer content c.args.key.now at (answer_view answer)) c.asked_of.ensures c.in_ok-answer.ensures.answer in
     more_told content c.args.key.now c.args.load (take place addresses) (take (place + 1) addresses) c.addresses.status c.status_behind-status.result
     (string_bytes c.addresses.text) (string_bytes c.push_answer.new.text) address answer
     c.addresses.invariant (take_more addresses place lt) is_answer c.status_behind-status.ensures c.in_ok-push_answer.ensures

@@ -17,7 +17,7 @@ returns g c =
     subst (λ (content : Operations). TellsAddresses content key c.args.load c.args.addresses.now c.in_ok-status.status (string_bytes c.in_ok-status.text))
     kept.kept c.in_ok-status.ensures in
     let same = part_alike kept.whole picks (key_bytes key) (λ r h. ap (λ (front : List ℕ). is_under front r) c.key_front-front.ensures ∙ h) in
-    reported _ _ _ _ c.tell.result _ _ c.in_ok-archive.ensures.unfailed
+    reported _ _ _ _ c.publish_report.result _ _ c.in_ok-archive.ensures.unfailed
     (makes_answered _ key c.args.load c.args.addresses.now kept.whole c.in_ok-status.status c.deref.result.now (string_bytes c.in_ok-status.text)
     kept.is_content kept.text (told_alike (part kept.whole picks) kept.whole key c.args.load c.args.addresses.now c.in_ok-status.status (string_bytes c.in_ok-status.text) same told) c.deref.ensures)
-    c.tell.ensures
+    c.publish_report.ensures

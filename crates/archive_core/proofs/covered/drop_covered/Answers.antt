@@ -7,7 +7,7 @@ use Rattle.archive_core.specs.declared.covered.Lent.{Lent}
 use Rattle.archive_core.specs.declared.operations.Operation.{Operation}
 use Rattle.archive_core.specs.contracts.covered.fn.drop_covered.retain as closure
 use Rattle.archive_core.specs.Content.{is_covered}
-use Rattle.archive_core.specs.Record.{rec}
+use Rattle.archive_core.specs.Record.{record_bytes}
 use Rattle.archive_core.proofs.Uncovered.{none_dropped}
 use Rattle.archive_core.proofs.covered.drop_covered.Goals as goal
 
@@ -30,11 +30,11 @@ module _ {X F : Type 0} (R : F → X → Bool → F → Type 0) (I : F → Type 
 
 pub returns-clause-items : goal.returns-clause-items
 returns-clause-items c =
-    let test = λ (operation : Operation). not (is_covered c.args.by.now (rec operation)) in
+    let test = λ (operation : Operation). not (is_covered c.args.by.now (record_bytes operation)) in
     kept _ (λ f. (closure.captures f).by ≡ c.args.by) test (λ f x b f' i k.
-    let told : b ≡ not (is_covered (closure.captures f).by.now (rec x)) = search rules in
+    let told : b ≡ not (is_covered (closure.captures f).by.now (record_bytes x)) = search rules in
     let same : (closure.captures f').by ≡ (closure.captures f).by = search rules in
-    (told ∙ ap (λ (by : Bor Lent). not (is_covered by.now (rec x))) i, same ∙ i)) _ refl _ _ c.retain.ensures.filtered
+    (told ∙ ap (λ (by : Bor Lent). not (is_covered by.now (record_bytes x))) i, same ∙ i)) _ refl _ _ c.retain.ensures.filtered
 
 pub returns-then-not-has_retirements-clause-items : goal.returns-then-not-has_retirements-clause-items
 returns-then-not-has_retirements-clause-items c = sym (none_dropped c.args.by.now c.args.operations.now.items (c.has_retirements.ensures.none c.if-not-has_retirements.true))

@@ -3,7 +3,7 @@ use Rattle.std.proofs.lemmas.List.{take-append-drop, drop-drop}
 use Rattle.std.proofs.lemmas.List.Elements.{filter-append}
 use Rattle.std.specs.FinSet.{from_list}
 use Rattle.archive_core.specs.Content.{is_covered}
-use Rattle.archive_core.specs.Record.{rec}
+use Rattle.archive_core.specs.Record.{record_bytes}
 use Rattle.archive_core.specs.declared.operations.Operation.{Operation}
 use Rattle.archive_core.specs.declared.operations.Operation.TheVariants.{Retire}
 use Rattle.archive_core.proofs.Falling.{no_shorter, stays, goes}
@@ -17,13 +17,13 @@ of-by-requires c = rw c.retirement.ensures.retirement (held_alone (Retire c.args
 pub loop-index-init : goal.loop-index-init
 loop-index-init c =
     let old = c.args.operations.now.items in
-    let start = c.place_of-start.result.0 in
-    let count = c.place_of-start.result.1 in
-    let run = rw c.deref.ensures.value at c.place_of-start.ensures.range in
+    let start = c.range_of-start.result.0 in
+    let count = c.range_of-start.result.1 in
+    let run = rw c.deref.ensures.value at c.range_of-start.ensures.range in
     let behind = back_left c.args.key.now c.args.digest.now old start count c.retirement.ensures.operation.0 c.requires.are run in
     record {
       from = omega arith;
-      old = rw c.deref.ensures.value at c.place_of-start.ensures.within;
+      old = rw c.deref.ensures.value at c.range_of-start.ensures.within;
       items = sym (ap (λ l. take (start + count) old ++ l) (rw (drop-drop count start old) at behind) ∙ take-append-drop (start + count) old);
     }
 
@@ -36,8 +36,8 @@ drop_at-requires c = omega (arith, no_shorter _ _ _ c.loop-index.index c.loop-in
 pub loop-index-preserved-then-covers : goal.loop-index-preserved-then-covers
 loop-index-preserved-then-covers c =
     let kept = left_by c.args.key.now c.args.digest.now in
-    let only = c.of-by.ensures ∙ ap (λ (o : Operation). from_list (map rec (o ∷ []))) c.retirement.ensures.retirement in
-    let test : kept c.index.result.now ≡ false = ap (λ s. not (is_covered s (rec c.index.result.now))) (sym only) ∙ ap not (sym c.covers.ensures ∙ c.if-covers.true) in
+    let only = c.of-by.ensures ∙ ap (λ (o : Operation). from_list (map record_bytes (o ∷ []))) c.retirement.ensures.retirement in
+    let test : kept c.index.result.now ≡ false = ap (λ s. not (is_covered s (record_bytes c.index.result.now))) (sym only) ∙ ap not (sym c.covers.ensures ∙ c.if-covers.true) in
     record {
       from = omega arith;
       old = omega (arith, c.loop-index.invariant.old);
@@ -47,8 +47,8 @@ loop-index-preserved-then-covers c =
 pub loop-index-preserved : goal.loop-index-preserved
 loop-index-preserved c =
     let kept = left_by c.args.key.now c.args.digest.now in
-    let only = c.of-by.ensures ∙ ap (λ (o : Operation). from_list (map rec (o ∷ []))) c.retirement.ensures.retirement in
-    let test : kept c.index.result.now ≡ true = ap (λ s. not (is_covered s (rec c.index.result.now))) (sym only) ∙ ap not (sym c.covers.ensures ∙ c.if-covers.false) in
+    let only = c.of-by.ensures ∙ ap (λ (o : Operation). from_list (map record_bytes (o ∷ []))) c.retirement.ensures.retirement in
+    let test : kept c.index.result.now ≡ true = ap (λ s. not (is_covered s (record_bytes c.index.result.now))) (sym only) ∙ ap not (sym c.covers.ensures ∙ c.if-covers.false) in
     record {
       from = omega arith;
       old = omega (arith, c.loop-index.invariant.old);
@@ -58,12 +58,12 @@ loop-index-preserved c =
 pub returns : goal.returns
 returns c =
     let old = c.args.operations.now.items in
-    let start = c.place_of-start.result.0 in
-    let run = rw c.deref.ensures.value at c.place_of-start.ensures.range in
+    let start = c.range_of-start.result.0 in
+    let run = rw c.deref.ensures.value at c.range_of-start.ensures.range in
     let kept = left_by c.args.key.now c.args.digest.now in
     let at : c.loop-index.index ≡ start = omega (arith, c.loop-index.invariant.from) in
     c.loop-index.invariant.items
     ∙ ap (λ n. take n old ++ filter kept (drop n old)) at
-    ∙ ap (λ l. l ++ filter kept (drop start old)) (sym (front_left c.args.key.now c.args.digest.now old start c.place_of-start.result.1 c.retirement.ensures.operation.0 c.requires.are run))
+    ∙ ap (λ l. l ++ filter kept (drop start old)) (sym (front_left c.args.key.now c.args.digest.now old start c.range_of-start.result.1 c.retirement.ensures.operation.0 c.requires.are run))
     ∙ sym (filter-append kept (take start old) (drop start old))
     ∙ ap (filter kept) (take-append-drop start old)

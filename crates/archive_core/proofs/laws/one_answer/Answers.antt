@@ -30,38 +30,38 @@ module _ (one : (image : List ℕ) (address : ℕ) (found other : Option Tuple) 
   one_own slice None f g a b = a ∙ sym b
   one_own slice (Some address) f g a b = a.2 ∙ ap (option_map (found_of slice address)) (one slice address a.0 b.0 a.1 b.1) ∙ sym b.2
 
-  one_row : (place : Where) (slice : List ℕ) (row other : OwnRow) → IsOwnRow place slice row → IsOwnRow place slice other → row ≡ other
-  one_row place slice row other a b =
+  one_row : (asked : Where) (slice : List ℕ) (row other : OwnRow) → IsOwnRow asked slice row → IsOwnRow asked slice other → row ≡ other
+  one_row asked slice row other a b =
       let digest : row.digest ≡ other.digest = a.digest_is ∙ sym b.digest_is in
-      let own = one_own slice (file_address slice place) row.own other.own a.own_is b.own_is in
+      let own = one_own slice (file_address slice asked) row.own other.own a.own_is b.own_is in
       λ i. record { digest = digest i; own = own i }
 
-  one_rows : (place : Where) (slices : List (List ℕ)) (rows others : List OwnRow) → AllZip (IsOwnRow place) slices rows → AllZip (IsOwnRow place) slices others → rows ≡ others
-  one_rows place [] [] [] a b = refl
-  one_rows place [] [] (y ∷ ys) a b = absurd b
-  one_rows place [] (x ∷ xs) others a b = absurd a
-  one_rows place (s ∷ slices) [] others a b = absurd a
-  one_rows place (s ∷ slices) (x ∷ xs) [] a b = absurd b
-  one_rows place (s ∷ slices) (x ∷ xs) (y ∷ ys) a b = λ i. one_row place s x y a.0 b.0 i ∷ one_rows place slices xs ys a.1 b.1 i
+  one_rows : (asked : Where) (slices : List (List ℕ)) (rows others : List OwnRow) → AllZip (IsOwnRow asked) slices rows → AllZip (IsOwnRow asked) slices others → rows ≡ others
+  one_rows asked [] [] [] a b = refl
+  one_rows asked [] [] (y ∷ ys) a b = absurd b
+  one_rows asked [] (x ∷ xs) others a b = absurd a
+  one_rows asked (s ∷ slices) [] others a b = absurd a
+  one_rows asked (s ∷ slices) (x ∷ xs) [] a b = absurd b
+  one_rows asked (s ∷ slices) (x ∷ xs) (y ∷ ys) a b = λ i. one_row asked s x y a.0 b.0 i ∷ one_rows asked slices xs ys a.1 b.1 i
 
-  one_answer_of : (place : Where) (slices : List (List ℕ)) (answer other : AnswerRecord) → IsAnswerOf place slices answer → IsAnswerOf place slices other → answer ≡ other
-  one_answer_of place slices Unanswered Unanswered a b = refl
-  one_answer_of place slices Unanswered (Alone own) a b = absurd (none_one slices b.0 a b.1)
-  one_answer_of place slices Unanswered (Disputed rows) a b = absurd (none_several slices a b.0)
-  one_answer_of place slices (Alone own) Unanswered a b = absurd (none_one slices a.0 b a.1)
-  one_answer_of place slices (Alone own) (Alone more) a b =
+  one_answer_of : (asked : Where) (slices : List (List ℕ)) (answer other : AnswerRecord) → IsAnswerOf asked slices answer → IsAnswerOf asked slices other → answer ≡ other
+  one_answer_of asked slices Unanswered Unanswered a b = refl
+  one_answer_of asked slices Unanswered (Alone own) a b = absurd (none_one slices b.0 a b.1)
+  one_answer_of asked slices Unanswered (Disputed rows) a b = absurd (none_several slices a b.0)
+  one_answer_of asked slices (Alone own) Unanswered a b = absurd (none_one slices a.0 b a.1)
+  one_answer_of asked slices (Alone own) (Alone more) a b =
       let same : a.0 ≡ b.0 = let e : a.0 ∷ [] ≡ b.0 ∷ [] = sym a.1 ∙ b.1 in cc in
-      ap Alone (one_own a.0 (file_address a.0 place) own more a.2 (subst (λ s. IsOwn s place more) (sym same) b.2))
-  one_answer_of place slices (Alone own) (Disputed rows) a b = absurd (one_several slices a.0 a.1 b.0)
-  one_answer_of place slices (Disputed rows) Unanswered a b = absurd (none_several slices b a.0)
-  one_answer_of place slices (Disputed rows) (Alone own) a b = absurd (one_several slices b.0 b.1 a.0)
-  one_answer_of place slices (Disputed rows) (Disputed others) a b = ap Disputed (one_rows place slices rows others a.1 b.1)
+      ap Alone (one_own a.0 (file_address a.0 asked) own more a.2 (subst (λ s. IsOwn s asked more) (sym same) b.2))
+  one_answer_of asked slices (Alone own) (Disputed rows) a b = absurd (one_several slices a.0 a.1 b.0)
+  one_answer_of asked slices (Disputed rows) Unanswered a b = absurd (none_several slices b a.0)
+  one_answer_of asked slices (Disputed rows) (Alone own) a b = absurd (one_several slices b.0 b.1 a.0)
+  one_answer_of asked slices (Disputed rows) (Disputed others) a b = ap Disputed (one_rows asked slices rows others a.1 b.1)
 
-  one_answer : (o : Operations) (key : SliceKey) (place : Where) (answer other : AnswerRecord) → IsAnswer o key place answer → IsAnswer o key place other → answer ≡ other
-  one_answer o key place answer other a b =
+  one_answer : (o : Operations) (key : SliceKey) (asked : Where) (answer other : AnswerRecord) → IsAnswer o key asked answer → IsAnswer o key asked other → answer ≡ other
+  one_answer o key asked answer other a b =
       let same = one_with_members (on_texts admission_record) a.slices b.slices a.answering.ascending b.answering.ascending
       (λ s h. (b.answering.exactly s).1 ((a.answering.exactly s).0 h)) (λ s h. (a.answering.exactly s).1 ((b.answering.exactly s).0 h)) in
-      one_answer_of place a.slices answer other a.answer_is (subst (λ slices. IsAnswerOf place slices other) (sym same) b.answer_is)
+      one_answer_of asked a.slices answer other a.answer_is (subst (λ slices. IsAnswerOf asked slices other) (sym same) b.answer_is)
 
 pub returns : goal.returns
 returns c = one_answer c.one_nearest.ensures.one

@@ -9,7 +9,7 @@ use Rattle.std.proofs.lemmas.List.{get_or-map}
 use Rattle.std.proofs.lemmas.Option.{slice_get-get_or}
 use Rattle.join_core.specs.InnerSearch.{IsFound}
 use Rattle.join_core.proofs.Search.{searched_last}
-use Rattle.archive_core.specs.Record.{rec}
+use Rattle.archive_core.specs.Record.{record_bytes}
 use Rattle.archive_core.specs.declared.operations.Operation.{Operation}
 use Rattle.archive_core.proofs.plain.search_from_end.Goals as goal
 
@@ -22,15 +22,15 @@ some_none : (last : Operation) → Some last ≡ None → ⊥
 some_none last h = cc
 
 -- an operation above the last goes to the end
-at_end : (operations : List Operation) (last operation : Operation) → IsStrictlySortedBy (slice_cmp nat_cmp) (map rec operations) → Some last ≡ slice_get operations (length operations - 1) → is_lt (slice_cmp nat_cmp (rec last) (rec operation)) ≡ true → IsFound (slice_cmp nat_cmp) (map rec operations) (rec operation) (Err (length operations))
+at_end : (operations : List Operation) (last operation : Operation) → IsStrictlySortedBy (slice_cmp nat_cmp) (map record_bytes operations) → Some last ≡ slice_get operations (length operations - 1) → is_lt (slice_cmp nat_cmp (record_bytes last) (record_bytes operation)) ≡ true → IsFound (slice_cmp nat_cmp) (map record_bytes operations) (record_bytes operation) (Err (length operations))
 at_end [] last operation up is below = absurd (some_none last is)
 at_end (x ∷ xs) last operation up is below =
     let lt : length (x ∷ xs) - 1 < length (x ∷ xs) = omega arith in
     let at : Some last ≡ Some (get_or (x ∷ xs) (length (x ∷ xs) - 1) x) = is ∙ slice_get-get_or (x ∷ xs) (length (x ∷ xs) - 1) x lt in
     let same : last ≡ get_or (x ∷ xs) (length (x ∷ xs) - 1) x = cc in
-    let long : length (map rec (x ∷ xs)) ≡ length (x ∷ xs) = length-map (x ∷ xs) rec in
-    let end : get_or (map rec (x ∷ xs)) (length (x ∷ xs) - 1) (rec x) ≡ rec last = get_or-map rec (x ∷ xs) (length (x ∷ xs) - 1) x (rec x) lt ∙ ap rec (sym same) in
-    rw long at (searched_last nat_list_cmp_total (map rec (x ∷ xs)) (rec operation) (rec x) up (rw long (omega arith)) (rw (long, end) (less _ below)))
+    let long : length (map record_bytes (x ∷ xs)) ≡ length (x ∷ xs) = length-map (x ∷ xs) record_bytes in
+    let end : get_or (map record_bytes (x ∷ xs)) (length (x ∷ xs) - 1) (record_bytes x) ≡ record_bytes last = get_or-map record_bytes (x ∷ xs) (length (x ∷ xs) - 1) x (record_bytes x) lt ∙ ap record_bytes (sym same) in
+    rw long at (searched_last nat_list_cmp_total (map record_bytes (x ∷ xs)) (record_bytes operation) (record_bytes x) up (rw long (omega arith)) (rw (long, end) (less _ below)))
 
 pub returns-then-is_lt-clause-found : goal.returns-then-is_lt-clause-found
 returns-then-is_lt-clause-found c =

@@ -3,7 +3,7 @@ use Rattle.std.proofs.Common.{Bool, true, false, refl, ◌≡◌, ◌∷◌, ◌
 use Rattle.std.specs.Vec.Iter.{into_iter_items, into_iter_len}
 use Rattle.std.proofs.lemmas.Result.{err_from_is_err_and}
 use Rattle.archive_core.specs.Content.{IsTakenInPart, changes, new_among}
-use Rattle.archive_core.specs.Record.{rec}
+use Rattle.archive_core.specs.Record.{record_bytes}
 use Rattle.archive_core.specs.declared.operations.Operation.{Operation}
 use Rattle.archive_core.proofs.Held.{content_with}
 use Rattle.archive_core.proofs.Taken.{one_counted, all_counted, counted_below, taken_in_part}
@@ -18,7 +18,7 @@ overflow_add-new g c =
     let at = c.operations in
     let steps : into_iter_items at.operation-iterator ≡ c.in-Some.operation ∷ into_iter_items c.next.new.self = c.in-Some.ensures.steps.0 in
     let least = counted_below (g.A.Join.content c.args.archive.now) (g.A.Join.content at.archive) (into_iter_items c.into_iter-operation-iterator.result) (into_iter_items at.operation-iterator) (into_iter_items c.next.new.self) c.in-Some.operation at.new at.invariant.way steps in
-    let more : c.from-new.result ≡ (if changes (g.A.Join.content at.archive) (rec c.in-Some.operation) then 1 else 0) = c.from-new.ensures ∙ byte_is c.in_ok-changed.changed ∙ ap (λ b. if b then 1 else 0) c.in_ok-changed.ensures.answer in
+    let more : c.from-new.result ≡ (if changes (g.A.Join.content at.archive) (record_bytes c.in-Some.operation) then 1 else 0) = c.from-new.ensures ∙ byte_is c.in_ok-changed.changed ∙ ap (λ b. if b then 1 else 0) c.in_ok-changed.ensures.answer in
     let all : length (into_iter_items c.into_iter-operation-iterator.result) ≡ length c.args.operations.items = ap length c.into_iter-operation-iterator.ensures.into_iter_gives.0 in
     omega (arith, least, more, all, c.args.operations.ok.0, c.args.operations.ok.1, c.args.operations.small)
 
@@ -30,7 +30,7 @@ operations-preserved g c =
     let steps : left ≡ c.in-Some.operation ∷ rest = c.in-Some.ensures.steps.0 in
     let now = g.A.Join.content at.archive in
     let next = g.A.Join.content c.take.new.self in
-    let more : c.from-new.result ≡ (if changes now (rec c.in-Some.operation) then 1 else 0) = c.from-new.ensures ∙ byte_is c.in_ok-changed.changed ∙ ap (λ b. if b then 1 else 0) c.in_ok-changed.ensures.answer in
+    let more : c.from-new.result ≡ (if changes now (record_bytes c.in-Some.operation) then 1 else 0) = c.from-new.ensures ∙ byte_is c.in_ok-changed.changed ∙ ap (λ b. if b then 1 else 0) c.in_ok-changed.ensures.answer in
     record {
       can = tt;
       finite = tt;
@@ -49,7 +49,7 @@ returns-in_err-changed-clause-refused g c =
     let old = g.A.Join.content c.args.archive.now in
     let new = g.A.Join.content c.take.new.self in
     let part = taken_in_part old (g.A.Join.content c.operations.archive) new (into_iter_items c.into_iter-operation-iterator.result) (into_iter_items c.operations.operation-iterator) c.operations.invariant.content c.operations.invariant.way.way c.in_err-changed.ensures.refused in
-    rw p.1 (subst (λ (all : List Operation). IsTakenInPart old (map rec all) new) c.into_iter-operation-iterator.ensures.into_iter_gives.0 part)
+    rw p.1 (subst (λ (all : List Operation). IsTakenInPart old (map record_bytes all) new) c.into_iter-operation-iterator.ensures.into_iter_gives.0 part)
 
 pub returns-clause-counted : goal.returns-clause-counted
 returns-clause-counted g c =
@@ -60,4 +60,4 @@ returns-clause-counted g c =
     let long : into_iter_len at.operation-iterator ≡ length left = at.invariant.long in
     let none : length left ≡ 0 = omega (arith, long, c.in-None.ensures.steps) in
     all_counted old (g.A.Join.content at.archive) all left at.new at.invariant.way none
-    ∙ ap (λ (l : List Operation). new_among old (map rec l)) c.into_iter-operation-iterator.ensures.into_iter_gives.0
+    ∙ ap (λ (l : List Operation). new_among old (map record_bytes l)) c.into_iter-operation-iterator.ensures.into_iter_gives.0

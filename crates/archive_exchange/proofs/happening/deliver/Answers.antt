@@ -1,5 +1,5 @@
 use Rattle.std.proofs.Common.{subst, arith}
-use Rattle.archive_exchange.specs.Keeping.{IsDeliverFault}
+use Rattle.archive_exchange.specs.SiteState.{IsDeliverFault}
 use Rattle.archive_exchange.specs.declared.fault.DeliverFault.{DeliverFault}
 use Rattle.archive_exchange.proofs.Followed.{delivered, not_delivered, kept_as, deliver_ne, sent_at}
 use Rattle.archive_exchange.proofs.happening.deliver.Goals as goal

@@ -1,5 +1,5 @@
 use Rattle.std.proofs.Common.{subst, arith}
-use Rattle.archive_exchange.specs.Keeping.{IsReplyFault}
+use Rattle.archive_exchange.specs.SiteState.{IsReplyFault}
 use Rattle.archive_exchange.specs.declared.fault.ReplyFault.{ReplyFault}
 use Rattle.archive_exchange.proofs.Followed.{replied, not_replied, follows_as, sent_at}
 use Rattle.archive_exchange.proofs.happening.reply.Goals as goal

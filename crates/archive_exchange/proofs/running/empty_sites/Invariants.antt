@@ -1,7 +1,7 @@
 use Rattle.std.proofs.Common.{◌≡◌, [], length}
 use Rattle.exchange_model.specs.World.{start}
-use Rattle.archive_exchange.specs.Rehearsal.{Shows}
+use Rattle.archive_exchange.specs.Rehearsal.{Represents}
 use Rattle.archive_exchange.proofs.running.empty_sites.Given as goal
 
 abbrev pub invariant-sites : goal.invariant-sites
-invariant-sites g l = record { number : length l.row.items ≡ l.counter; empty : Shows l.row.items [] start }
+invariant-sites g l = record { number : length l.row.items ≡ l.counter; empty : Represents l.row.items [] start }

@@ -1,6 +1,6 @@
 use Rattle.std.proofs.Common.{◌≡◌, length, refl, sym, ◌∙◌, arith}
 use Rattle.std.proofs.lemmas.Slice.Zip.{AllZip-long}
-use Rattle.archive_exchange.specs.Seen.{IsSeen}
+use Rattle.archive_exchange.specs.ModelEvent.{IsSeen}
 use Rattle.std.proofs.lemmas.Option.{slice_get_read}
 use Rattle.archive_exchange.proofs.Runs.{none_run, run_next, run_end}
 use Rattle.archive_exchange.proofs.Whole.{shown_whole}

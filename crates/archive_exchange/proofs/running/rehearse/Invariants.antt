@@ -1,5 +1,5 @@
 use Rattle.std.proofs.Common.{◌≡◌, length}
-use Rattle.archive_exchange.specs.Seen.{OfEvents}
+use Rattle.archive_exchange.specs.ModelEvent.{OfEvents}
 use Rattle.archive_exchange.specs.InnerEvents.{HasRun}
 use Rattle.archive_exchange.proofs.running.rehearse.Given as goal
 

@@ -1,5 +1,7 @@
-use Rattle.std.proofs.Common.{◌≡◌, ◌∙◌, refl, arith}
-use Rattle.archive_exchange.proofs.Fronts.{errs, taking_none, taking_more, valid_slice, stopped_before, stopped_behind, all_content, all_rows}
+use Rattle.std.proofs.Common.{◌≡◌, ◌<◌, ◌∙◌, refl, arith}
+use Rattle.fat_slices.specs.Slices.{slices}
+use Rattle.archive_exchange.proofs.Fronts.{errs, taking_none, taking_more, stopped_before, stopped_behind, all_content, all_rows}
+use Rattle.archive_exchange.proofs.Found.{found_at}
 use Rattle.archive_exchange.proofs.taking.take_universal.Goals as goal
 
 pub parts-init : goal.parts-init
@@ -11,7 +13,8 @@ parts-preserved g c =
 
 pub take_part-requires : goal.take_part-requires
 take_part-requires g c =
-    valid_slice c.args.universal.now c.args.universal.now c.requires.fat refl c.parts.index c.slice.result.now c.requires.accepted c.slice.ensures.part
+    let room : c.parts.index < 32 = omega (arith, c.len-index-end.ensures.few) in
+    found_at (slices c.args.universal.now) c.args.found.now c.parts.index c.slice.result.now c.index-found-index.result c.requires.found c.slice.ensures.part c.type_inv.found room
 
 pub returns-in_err-clone-2-clause-stopped : goal.returns-in_err-clone-2-clause-stopped
 returns-in_err-clone-2-clause-stopped g c =

@@ -1,5 +1,5 @@
 use Rattle.std.proofs.Common.{◌≡◌, ℕ, List, Option}
-use Rattle.archive_records.specs.Turns.{Merging, Fits, IsRead, cost_of}
+use Rattle.archive_records.specs.MergeSteps.{Merging, Fits, IsRead, cost_of}
 use Rattle.archive_records.proofs.merging.merge_records.Given as goal
 
 abbrev pub invariant-turns : goal.invariant-turns

@@ -1,5 +1,5 @@
 use Rattle.std.proofs.Common.{sym}
-use Rattle.archive_records.proofs.Turns.{pass_left, pass_both, pass_right}
+use Rattle.archive_records.proofs.MergeSteps.{pass_left, pass_both, pass_right}
 use Rattle.archive_records.proofs.merging.pass_over.Goals as goal
 
 pub returns-in-Less-clause-merging : goal.returns-in-Less-clause-merging

@@ -1,5 +1,5 @@
 use Rattle.std.proofs.lemmas.Result.{err_from_is_err_and}
-use Rattle.archive_records.proofs.Turns.{full_stops}
+use Rattle.archive_records.proofs.MergeSteps.{full_stops}
 use Rattle.archive_records.proofs.merging.turn.Goals as goal
 
 pub returns-in_err-test_number-clause-merging : goal.returns-in_err-test_number-clause-merging

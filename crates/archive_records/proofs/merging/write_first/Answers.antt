@@ -1,5 +1,5 @@
 use Rattle.std.proofs.Common.{sym}
-use Rattle.archive_records.proofs.Turns.{left_turn, both_turn, right_turn}
+use Rattle.archive_records.proofs.MergeSteps.{left_turn, both_turn, right_turn}
 use Rattle.archive_records.proofs.merging.write_first.Goals as goal
 
 pub returns-in-Less-clause-merging : goal.returns-in-Less-clause-merging

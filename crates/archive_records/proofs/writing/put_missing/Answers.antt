@@ -2,7 +2,7 @@ use Rattle.std.proofs.Common.{◌<◌, length, arith, ◌∙◌}
 use Rattle.std.proofs.lemmas.List.{take_all}
 use Rattle.std.proofs.lemmas.Result.{err_from_is_err_and}
 use Rattle.join_core.specs.Listing.{listing}
-use Rattle.archive_core.specs.Record.{lent}
+use Rattle.archive_core.specs.Record.{lent_bytes}
 use Rattle.archive_records.proofs.Puts.{length_written, missing_more, missing_stops, missing_count, few_missing}
 use Rattle.archive_records.proofs.writing.put_missing.Goals as goal
 
@@ -20,7 +20,7 @@ putting-preserved g c =
     let s = c.args.summary.now in
     let lt : c.putting.i < length (listing o) = omega (arith, length_written o, c.len-i-end.ensures.len, c.putting-test.true) in
     let e = c.in_ok-sizes.ensures.ok in
-    let one = few_missing s (lent c.record_at.result) in
+    let one = few_missing s (lent_bytes c.record_at.result) in
     let m = missing_more s (listing o) c.putting.i _ lt c.record_at.ensures c.args.done c.putting.sizes.bytes c.in_ok-sizes.sizes.bytes _ _ _ c.putting.invariant.is e.0 c.putting.invariant.gained e.1 in
     record {
       fits = omega (arith, c.in_ok-sizes.ensures.short, c.putting.invariant.fits);

@@ -1,12 +1,12 @@
 use Rattle.std.proofs.Common.{sym, ap, ◌∙◌}
-use Rattle.archive_core.specs.Record.{lent}
+use Rattle.archive_core.specs.Record.{lent_bytes}
 use Rattle.archive_records.proofs.Puts.{head_and_slice, ok_along, err_along}
 use Rattle.archive_records.proofs.writing.put_record.Goals as goal
 
 pub returns-in-Admit-clause-ok : goal.returns-in-Admit-clause-ok
 returns-in-Admit-clause-ok g c =
-    ok_along c.put_both.result c.args.done _ _ _ _ (head_and_slice c.admission_head.result c.bytes.result.now c.in-Admit.slice.now c.admission_head.ensures.head c.bytes.ensures.bytes ∙ sym (ap lent c.in-Admit.is)) c.put_both.ensures.ok
+    ok_along c.put_both.result c.args.done _ _ _ _ (head_and_slice c.admission_head.result c.bytes.result.now c.in-Admit.slice.now c.admission_head.ensures.head c.bytes.ensures.bytes ∙ sym (ap lent_bytes c.in-Admit.is)) c.put_both.ensures.ok
 
 pub returns-in-Admit-clause-err : goal.returns-in-Admit-clause-err
 returns-in-Admit-clause-err g c =
-    err_along c.put_both.result c.args.done _ _ _ _ (head_and_slice c.admission_head.result c.bytes.result.now c.in-Admit.slice.now c.admission_head.ensures.head c.bytes.ensures.bytes ∙ sym (ap lent c.in-Admit.is)) c.put_both.ensures.err
+    err_along c.put_both.result c.args.done _ _ _ _ (head_and_slice c.admission_head.result c.bytes.result.now c.in-Admit.slice.now c.admission_head.ensures.head c.bytes.ensures.bytes ∙ sym (ap lent_bytes c.in-Admit.is)) c.put_both.ensures.err

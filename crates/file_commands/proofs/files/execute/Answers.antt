@@ -1,23 +1,46 @@
-use Rattle.std.proofs.Common.{◌∙◌, ap, inl, inr}
-use Rattle.archive_files.specs.OutFiles.{is_not_created}
-use Rattle.file_commands.specs.Files.{told_of}
+use Rattle.std.proofs.Common.{◌≡◌, ◌∙◌, ℕ, List, [], ◌++◌, Some, ap, inl, inr, option_map, string_bytes, subst, sym}
+use Rattle.std.specs.Io.KnownBytes.{Appends}
+use Rattle.archive_files.specs.OutFiles.{account, is_not_created, is_untouched, place}
+use Rattle.file_commands.specs.Files.{command_fault_of}
+use Rattle.file_commands.proofs.Places.{carried_from, created_there, first_from, nothing_given, took_none, uncreated}
 use Rattle.file_commands.proofs.files.execute.Goals as goal
 
 pub returns : goal.returns
 returns g c =
-    let state = is_not_created c.execute_on-ended.new.out.state in
+    let before = c.begin.new.files.out in
+    let out = c.execute_on-ended.new.out in
+    let state = is_not_created out.state in
+    let after = option_map string_bytes out.path in
+    let path = option_map string_bytes before.path in
+    let none = nothing_given before.given.entries before.failures (sym before.first ∙ c.begin.ensures.untouched) in
+    let begun : Some (account path before.given.entries) ≡ Some (account path []) =
+    ap (λ bytes. Some (place path ++ bytes)) none.0 in
+    let known : (bytes : List ℕ)
+    → Appends (Some (account path before.given.entries)) (Some (account after out.given.entries)) bytes
+    → Appends (Some (account path [])) (Some (account after out.given.entries)) bytes =
+    λ bytes took. subst (λ held. Appends held (Some (account after out.given.entries)) bytes) begun took in
     elim c.execute_on-ended.ensures [
       | inl unbegun ↦ inl (record {
-        wanting = c.told.ensures ∙ ap (told_of state) unbegun.wanting;
+        wanting = c.told.ensures ∙ ap (command_fault_of state) unbegun.wanting;
+        opened = first_from _ _ _ _ c.begin.ensures.opened unbegun.opened;
+        uncreated = uncreated (is_untouched out.state) after out.created.entries
+            (ap (λ o. is_untouched o.state) unbegun.out_same ∙ c.begin.ensures.untouched) out.place;
         report_same = unbegun.report_same;
         report_unfailed = unbegun.report_unfailed;
       })
       | inr carried ↦ inr (record {
-        out_old = c.new-out.result;
-        out_new = c.execute_on-ended.new.out;
-        is_not_created = state;
+        path = path;
+        begun = before;
         ended = c.execute_on-ended.result;
-        carried = carried;
+        path_is = c.in_ok-begin.ensures.path;
+        begun_is = begun;
+        begun_unfailed = none.1;
+        carried = carried_from _ _ _ _ _ _ _ _ _ c.begin.ensures.opened carried;
+        created = λ text took. created_there (is_untouched out.state) path after out.created.entries out.given.entries
+            text out.place (known text took);
+        untouched = λ takes. uncreated (is_untouched out.state) after out.created.entries
+            (out.first ∙ took_none path after out.given.entries out.failures (known [] takes.0) (takes.1 ∙ none.1))
+            out.place;
         told_is = c.told.ensures;
       })
     ]

@@ -1,6 +1,6 @@
 use Rattle.std.proofs.Common.{◌≡◌, IfOk, ap, option_map, subst}
 use Rattle.rehearsal.specs.Events.{act_of, fields_act}
-use Rattle.rehearsal.proofs.FieldLemmas.{no_fields, text_fields}
+use Rattle.archive_words.proofs.Fields.{no_fields, text_fields}
 use Rattle.rehearsal.proofs.events.read_event.Goals as goal
 
 pub returns-in-Ok : goal.returns-in-Ok

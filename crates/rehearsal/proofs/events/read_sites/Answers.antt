@@ -1,6 +1,6 @@
 use Rattle.std.proofs.Common.{◌∙◌, ap}
 use Rattle.rehearsal.specs.Events.{fields_sites}
-use Rattle.rehearsal.proofs.FieldLemmas.{no_fields, text_fields}
+use Rattle.archive_words.proofs.Fields.{no_fields, text_fields}
 use Rattle.rehearsal.proofs.events.read_sites.Goals as goal
 
 pub returns-in-Ok : goal.returns-in-Ok

@@ -1,21 +1,21 @@
 use Rattle.std.proofs.Common.{◌∙◌, ◌+◌, ap, arith, drop, length, option_map, subst, sym}
 use Rattle.std.proofs.lemmas.List.{length_push}
 use Rattle.rehearsal.specs.Events.{act_of}
-use Rattle.rehearsal.specs.Lines.{seen}
-use Rattle.rehearsal.specs.Script.{Tells, acts, events_of}
+use Rattle.archive_words.specs.Lines.{seen}
+use Rattle.rehearsal.specs.Script.{IsErrorOf, acts, events_of}
 use Rattle.rehearsal.proofs.Sequels.{behind, no_event, one_more, too_many}
 use Rattle.rehearsal.proofs.reading.read_events.Goals as goal
 
 pub returns-in_default-clause-err : goal.returns-in_default-clause-err
 returns-in_default-clause-err c =
     let none = sym (ap (option_map act_of) c.in_default.is) ∙ c.in_ok-event.ensures in
-    subst (Tells (events_of 0 (seen c.args.lines.now))) (sym c.faulty.ensures)
+    subst (IsErrorOf (events_of 0 (seen c.args.lines.now))) (sym c.faulty.ensures)
     (no_event c.args.lines.now c.lines.line-index _ (acts c.lines.events.items) _ (omega arith) none c.lines.invariant.sequel)
 
 pub returns-then-len-ge-MOST_EVENTS-clause-err : goal.returns-then-len-ge-MOST_EVENTS-clause-err
 returns-then-len-ge-MOST_EVENTS-clause-err c =
     let means = sym (ap (option_map act_of) c.in-Some.is) ∙ c.in_ok-event.ensures in
-    subst (Tells (events_of 0 (seen c.args.lines.now))) (sym c.faulty-then-len-ge-MOST_EVENTS.ensures)
+    subst (IsErrorOf (events_of 0 (seen c.args.lines.now))) (sym c.faulty-then-len-ge-MOST_EVENTS.ensures)
     (too_many c.args.lines.now c.lines.line-index _ _ (acts c.lines.events.items) _ (omega arith) means (omega (arith, c.lines.events.ok.0)) c.lines.invariant.sequel)
 
 pub lines-preserved : goal.lines-preserved

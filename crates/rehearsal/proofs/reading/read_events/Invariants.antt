@@ -1,5 +1,5 @@
 use Rattle.std.proofs.Common.{◌≡◌, ◌≤◌, drop, length}
-use Rattle.rehearsal.specs.Lines.{seen}
+use Rattle.archive_words.specs.Lines.{seen}
 use Rattle.rehearsal.specs.Script.{acts, events_of}
 use Rattle.rehearsal.proofs.Sequels.{behind}
 use Rattle.rehearsal.proofs.reading.read_events.Given as goal

@@ -3,7 +3,7 @@ use Rattle.std.specs.Ordering.{nat_cmp}
 use Rattle.std.specs.Cmp.Lexicographic.{slice_cmp}
 use Rattle.std.specs.FinSet as set
 use Rattle.archive_core.specs.Content.{is_covered, IsMade}
-use Rattle.archive_core.specs.Record.{rec, admission_record}
+use Rattle.archive_core.specs.Record.{record_bytes, admission_record}
 use Rattle.archive_core.specs.declared.operations.Operation.TheVariants.{Admit}
 use Rattle.archive_core.proofs.Made.{or_left, or_right}
 use Rattle.archive_core.proofs.Held.{records_insert}
@@ -51,7 +51,7 @@ returns-in_ok-insert-in-Err-clause-taken c =
     let o = c.args.self.now in
     let slice = c.args.slice in
     let free : is_covered o (admission_record slice) ≡ false = covered_slice o slice c.retires.ensures.valid ∙ rw (c.of.ensures, c.deref.ensures.value, c.self.view_is) at (sym c.retires.ensures.retires ∙ c.if-retires.false) in
-    ap (λ items. set.from_list {R = slice_cmp nat_cmp} (map rec items)) c.in_ok-insert-in-Err.ensures.items
+    ap (λ items. set.from_list {R = slice_cmp nat_cmp} (map record_bytes items)) c.in_ok-insert-in-Err.ensures.items
     ∙ records_insert c.self.inside.operations.items c.in-Err.index (Admit slice)
     ∙ ap (λ s. set.insert s (admission_record slice)) c.self.view_is
     ∙ sym (made_with_admission o (admission_record slice) (subst IsMade c.self.view_is c.self.invariant.itself) refl free)

@@ -20,10 +20,10 @@ operations-preserved c =
     elim c.match-live.branch [
       | in-Some+in_ok-push w ↦
           let grown = one_more c.args.key.now c.args.dsym operations i a c.operations-test.true c.operation-item.is c.live.result w.in-Some.slice c.live.ensures w.in-Some.is in
-          subst (λ slices. AllZip (IsOwnRow c.args.place) slices (map own_row rows)) (sym grown)
-          (rows_more c.args.place before c.operations.rows.items rows w.in-Some.slice w.row.result c.operations.invariant w.row.ensures (ap (λ v. v.items) w.rows-is ∙ w.in_ok-push.ensures.items))
+          subst (λ slices. AllZip (IsOwnRow c.args.asked) slices (map own_row rows)) (sym grown)
+          (rows_more c.args.asked before c.operations.rows.items rows w.in-Some.slice w.row.result c.operations.invariant w.row.ensures (ap (λ v. v.items) w.rows-is ∙ w.in_ok-push.ensures.items))
       | in_default w ↦
           let same = none_more c.args.key.now c.args.dsym operations i a c.operations-test.true c.operation-item.is c.live.result c.live.ensures w.in_default.is in
-          subst (λ slices. AllZip (IsOwnRow c.args.place) slices (map own_row rows)) (sym same)
-          (subst (λ items. AllZip (IsOwnRow c.args.place) before (map own_row items)) (sym (ap (λ v. v.items) w.rows-is)) c.operations.invariant)
+          subst (λ slices. AllZip (IsOwnRow c.args.asked) slices (map own_row rows)) (sym same)
+          (subst (λ items. AllZip (IsOwnRow c.args.asked) before (map own_row items)) (sym (ap (λ v. v.items) w.rows-is)) c.operations.invariant)
     ]

@@ -6,4 +6,4 @@ use Rattle.archive_core.proofs.plain.PlainArchive.own_rows.Given as goal
 
 -- the rows of the live slices among the operations so far
 abbrev pub invariant-operations : goal.invariant-operations
-invariant-operations l = AllZip (IsOwnRow l.place) (live_among l.key l.dsym (take l.operation-index l.operations)) (map own_row l.rows.items)
+invariant-operations l = AllZip (IsOwnRow l.asked) (live_among l.key l.dsym (take l.operation-index l.operations)) (map own_row l.rows.items)

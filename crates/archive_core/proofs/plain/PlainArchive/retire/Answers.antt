@@ -4,7 +4,7 @@ use Rattle.std.specs.Cmp.Lexicographic.{slice_cmp}
 use Rattle.std.specs.FinSet as set
 use Rattle.join_core.specs.InnerSearch.{IsPlaceFor}
 use Rattle.archive_core.specs.Content.{is_covered, IsMade, with_record}
-use Rattle.archive_core.specs.Record.{rec, retirement_record}
+use Rattle.archive_core.specs.Record.{record_bytes, retirement_record}
 use Rattle.archive_core.specs.declared.operations.Operation.TheVariants.{Retire}
 use Rattle.archive_core.proofs.Made.{or_left}
 use Rattle.archive_core.proofs.Put.{held_retirement}
@@ -15,17 +15,17 @@ use Rattle.archive_core.proofs.plain.PlainArchive.retire.Goals as goal
 pub drop_retired-requires-clause-ascending : goal.drop_retired-requires-clause-ascending
 drop_retired-requires-clause-ascending c =
     let operations = c.self.inside.operations.items in
-    let place : IsPlaceFor (slice_cmp nat_cmp) (map rec operations) (rec c.retirement-retirement.result) c.in-Err.index = rw (← c.deref.ensures.value) c.in-Err.ensures.found.absent in
-    rw (c.in_ok-insert-in-Err.ensures.items, map_insert operations c.in-Err.index c.retirement-retirement.result) place.ascending
+    let asked : IsPlaceFor (slice_cmp nat_cmp) (map record_bytes operations) (record_bytes c.retirement-retirement.result) c.in-Err.index = rw (← c.deref.ensures.value) c.in-Err.ensures.found.absent in
+    rw (c.in_ok-insert-in-Err.ensures.items, map_insert operations c.in-Err.index c.retirement-retirement.result) asked.ascending
 
 pub invariant_of-self-in-Err : goal.invariant_of-self-in-Err
 invariant_of-self-in-Err c =
     let operations = c.self.inside.operations.items in
     let one = c.retirement-retirement.ensures.operation in
-    let place : IsPlaceFor (slice_cmp nat_cmp) (map rec operations) (retirement_record c.args.key c.args.digest.0) c.in-Err.index =
-    subst (λ x. IsPlaceFor (slice_cmp nat_cmp) (map rec operations) (rec x) c.in-Err.index) c.retirement-retirement.ensures.retirement (rw (← c.deref.ensures.value) c.in-Err.ensures.found.absent) in
+    let asked : IsPlaceFor (slice_cmp nat_cmp) (map record_bytes operations) (retirement_record c.args.key c.args.digest.0) c.in-Err.index =
+    subst (λ x. IsPlaceFor (slice_cmp nat_cmp) (map record_bytes operations) (record_bytes x) c.in-Err.index) c.retirement-retirement.ensures.retirement (rw (← c.deref.ensures.value) c.in-Err.ensures.found.absent) in
     rw (c.drop_retired.ensures, c.in_ok-insert-in-Err.ensures.items, c.retirement-retirement.ensures.retirement)
-    (held_retirement operations c.in-Err.index (Retire c.args.key c.args.digest) c.self.invariant one refl place).held
+    (held_retirement operations c.in-Err.index (Retire c.args.key c.args.digest) c.self.invariant one refl asked).held
 
 pub returns-in-Ok-clause-taken : goal.returns-in-Ok-clause-taken
 returns-in-Ok-clause-taken c =
@@ -46,9 +46,9 @@ returns-in_ok-insert-in-Err-clause-taken c =
     let operations = c.self.inside.operations.items in
     let r = retirement_record c.args.key c.args.digest.0 in
     let one = c.retirement-retirement.ensures.operation in
-    let place : IsPlaceFor (slice_cmp nat_cmp) (map rec operations) r c.in-Err.index =
-    subst (λ x. IsPlaceFor (slice_cmp nat_cmp) (map rec operations) (rec x) c.in-Err.index) c.retirement-retirement.ensures.retirement (rw (← c.deref.ensures.value) c.in-Err.ensures.found.absent) in
-    let all = held_retirement operations c.in-Err.index (Retire c.args.key c.args.digest) c.self.invariant one refl place in
+    let asked : IsPlaceFor (slice_cmp nat_cmp) (map record_bytes operations) r c.in-Err.index =
+    subst (λ x. IsPlaceFor (slice_cmp nat_cmp) (map record_bytes operations) (record_bytes x) c.in-Err.index) c.retirement-retirement.ensures.retirement (rw (← c.deref.ensures.value) c.in-Err.ensures.found.absent) in
+    let all = held_retirement operations c.in-Err.index (Retire c.args.key c.args.digest) c.self.invariant one refl asked in
     rw (c.drop_retired.ensures, c.in_ok-insert-in-Err.ensures.items, c.retirement-retirement.ensures.retirement)
     (all.is ∙ ap (λ s. with_record s r) c.self.view_is)
 

@@ -2,7 +2,7 @@ use Rattle.std.proofs.Common.{◌≡◌, ◌∷◌, List, length, map, refl, ap,
 use Rattle.std.specs.Vec.Iter.{into_iter_items, into_iter_len}
 use Rattle.std.proofs.lemmas.Result.{err_from_is_err_and}
 use Rattle.archive_core.specs.Content.{IsTakenInPart}
-use Rattle.archive_core.specs.Record.{rec}
+use Rattle.archive_core.specs.Record.{record_bytes}
 use Rattle.archive_core.specs.declared.operations.Operation.{Operation}
 use Rattle.archive_core.proofs.Held.{content_with}
 use Rattle.archive_core.proofs.Taken.{at_first, one_taken, taken_in_part}
@@ -33,4 +33,4 @@ pub returns-in_err-take-clause-refused : goal.returns-in_err-take-clause-refused
 returns-in_err-take-clause-refused c =
     let p = err_from_is_err_and c.from_residual.result c.from_residual.ensures.1 in
     let part = taken_in_part c.args.self.now c.operations.self c.take.new.self (into_iter_items c.into_iter-operation-iterator.result) (into_iter_items c.operations.operation-iterator) c.operations.invariant.content c.operations.invariant.way c.in_err-take.ensures.refused in
-    rw p.1 (subst (λ (all : List Operation). IsTakenInPart c.args.self.now (map rec all) c.take.new.self) c.into_iter-operation-iterator.ensures.into_iter_gives.0 part)
+    rw p.1 (subst (λ (all : List Operation). IsTakenInPart c.args.self.now (map record_bytes all) c.take.new.self) c.into_iter-operation-iterator.ensures.into_iter_gives.0 part)

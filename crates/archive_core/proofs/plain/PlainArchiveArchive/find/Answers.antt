@@ -5,7 +5,7 @@ use Rattle.std.proofs.lemmas.Result.{IfOk-weaker}
 use Rattle.std.specs.Ordering.{is_lt}
 use Rattle.archive_core.specs.Find.{find_cmp, row_of, IsFinds}
 use Rattle.archive_core.specs.InnerRange.{is_under_uuid}
-use Rattle.archive_core.specs.declared.range.Kind.TheVariants.{Retirement, Admission}
+use Rattle.archive_core.specs.declared.range.RecordKind.TheVariants.{Retirement, Admission}
 use Rattle.archive_core.proofs.Ranges.{two_runs}
 use Rattle.archive_core.proofs.Scanned.{find_total, finds_sorted}
 use Rattle.archive_core.proofs.plain.PlainArchiveArchive.find.Goals as goal

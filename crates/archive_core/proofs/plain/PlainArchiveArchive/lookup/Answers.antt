@@ -4,7 +4,7 @@ use Rattle.archive_core.specs.InnerScan.{live_among}
 use Rattle.archive_core.specs.Lookup.{IsAnswer, IsAnswerOf, answer_view}
 use Rattle.archive_core.proofs.Lookups.{companions_answer, images_answer, some_of_tally}
 use Rattle.archive_core.specs.InnerRange.{is_under}
-use Rattle.archive_core.specs.declared.range.Kind.TheVariants.{Admission}
+use Rattle.archive_core.specs.declared.range.RecordKind.TheVariants.{Admission}
 use Rattle.archive_core.proofs.Ranges.{live_under}
 use Rattle.archive_core.proofs.plain.PlainArchiveArchive.lookup.Goals as goal
 
@@ -17,7 +17,7 @@ returns-in-Nothing-clause-answer c =
     let under = c.under-admissions.ensures.range ∙ ap (filter (is_under Admission key)) c.deref.ensures.value in
     let none = sym (live_under key true operations) ∙ ap (live_among key true) (sym under) ∙ c.in-Nothing.ensures in
     let answering = images_answer o key operations c.self.invariant c.self.view_is c.under-admissions.ensures.key none in
-    IfOk-weaker c.answer_of.result (λ answer. IsAnswerOf c.args.place slices (answer_view answer)) (λ answer. IsAnswer o key c.args.place (answer_view answer))
+    IfOk-weaker c.answer_of.result (λ answer. IsAnswerOf c.args.asked slices (answer_view answer)) (λ answer. IsAnswer o key c.args.asked (answer_view answer))
     (λ answer is. record { slices = slices; answering = answering; answer_is = is })
     (rw (under, live_under key false operations) at c.answer_of.ensures.answer)
 
@@ -46,7 +46,7 @@ returns-in_default c =
     let answering = companions_answer o key operations c.self.invariant c.self.view_is c.under-admissions.ensures.key some in
     record {
       answer =
-          IfOk-weaker c.answer_of-in_default.result (λ answer. IsAnswerOf c.args.place slices (answer_view answer)) (λ answer. IsAnswer o key c.args.place (answer_view answer))
+          IfOk-weaker c.answer_of-in_default.result (λ answer. IsAnswerOf c.args.asked slices (answer_view answer)) (λ answer. IsAnswer o key c.args.asked (answer_view answer))
           (λ answer is. record { slices = slices; answering = answering; answer_is = is })
           (rw (under, live_under key true operations) at c.answer_of-in_default.ensures.answer);
       memory =

@@ -17,8 +17,8 @@ returns-then-not-contains c =
     let retired : List (List ℕ) = c.self.inside.retired.keys in
     let digest : List ℕ = sha256 c.args.slice.now in
     let absent : contains (from_list {R = slice_cmp nat_cmp} keys) (key_bytes c.key.result) ≡ false =
-    sym (held_by keys (key_bytes c.key.result)) ∙ ap (λ (k : List ℕ). list_any (λ x. eq_by_cmp (slice_cmp nat_cmp) k x) keys) (sym c.of-place.ensures.place) ∙ sym c.if-not-contains.ensures in
-    let none = unkeyed (from_list keys) (from_list retired) c.key.result digest c.of-place.ensures.key c.self.invariant absent in
+    sym (held_by keys (key_bytes c.key.result)) ∙ ap (λ (k : List ℕ). list_any (λ x. eq_by_cmp (slice_cmp nat_cmp) k x) keys) (sym c.of-asked.ensures.asked) ∙ sym c.if-not-contains.ensures in
+    let none = unkeyed (from_list keys) (from_list retired) c.key.result digest c.of-asked.ensures.key c.self.invariant absent in
     sym (ap (λ (s : Operations). contains s (retirement_record (key_of c.args.slice.now) digest)) (sym c.self.view_is)
     ∙ ap (λ k. contains (from_list {R = slice_cmp nat_cmp} retired) (retirement_record k digest)) (sym c.key.ensures)
     ∙ none)

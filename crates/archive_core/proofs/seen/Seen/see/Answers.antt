@@ -13,19 +13,19 @@ pub invariant_of-self-in_err-first : goal.invariant_of-self-in_err-first
 invariant_of-self-in_err-first c =
     let keys : List (List ℕ) = c.self.inside.keys.keys in
     let retired : List (List ℕ) = c.self.inside.retired.keys in
-    let more = inserted keys c.insert.new.self.keys c.of-place.result c.in_ok-insert.ensures.updates.0 in
+    let more = inserted keys c.insert.new.self.keys c.of-asked.result c.in_ok-insert.ensures.updates.0 in
     subst (λ (rs : List (List ℕ)). IsKeyed (from_list c.insert.new.self.keys) (from_list rs)) (sym c.in_err-first.ensures.err)
-    (subst (λ (ks : Operations). IsKeyed ks (from_list retired)) (sym more) (keyed_more (from_list keys) (from_list retired) c.of-place.result c.self.invariant))
+    (subst (λ (ks : Operations). IsKeyed ks (from_list retired)) (sym more) (keyed_more (from_list keys) (from_list retired) c.of-asked.result c.self.invariant))
 
 pub invariant_of-self-2 : goal.invariant_of-self-2
 invariant_of-self-2 c =
     let keys : List (List ℕ) = c.self.inside.keys.keys in
     let retired : List (List ℕ) = c.self.inside.retired.keys in
-    let more = inserted keys c.insert.new.self.keys c.of-place.result c.in_ok-insert.ensures.updates.0 in
+    let more = inserted keys c.insert.new.self.keys c.of-asked.result c.in_ok-insert.ensures.updates.0 in
     let one = inserted retired c.insert-2.new.self.keys c.of-retired.result c.in_ok-first.ensures.updates.0 in
-    let key = ap (λ (r : List ℕ). take 24 (drop 1 r)) c.of-retired.ensures ∙ key_of_retirement c.args.key.now c.args.digest.now.0 c.of-place.ensures.key ∙ sym c.of-place.ensures.place in
+    let key = ap (λ (r : List ℕ). take 24 (drop 1 r)) c.of-retired.ensures ∙ key_of_retirement c.args.key.now c.args.digest.now.0 c.of-asked.ensures.key ∙ sym c.of-asked.ensures.asked in
     subst (λ (rs : Operations). IsKeyed (from_list c.insert.new.self.keys) rs) (sym one)
-    (subst (λ (ks : Operations). IsKeyed ks (set.insert (from_list retired) c.of-retired.result)) (sym more) (keyed_insert (from_list keys) (from_list retired) c.of-place.result c.of-retired.result c.self.invariant key))
+    (subst (λ (ks : Operations). IsKeyed ks (set.insert (from_list retired) c.of-retired.result)) (sym more) (keyed_insert (from_list keys) (from_list retired) c.of-asked.result c.of-retired.result c.self.invariant key))
 
 pub returns-clause-seen : goal.returns-clause-seen
 returns-clause-seen c =

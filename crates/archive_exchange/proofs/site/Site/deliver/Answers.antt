@@ -1,6 +1,6 @@
 use Rattle.std.proofs.Common.{sym, ap, ◌∙◌, subst}
 use Rattle.archive_core.specs.Content.{IsContent, joined}
-use Rattle.archive_exchange.specs.Keeping.{Keeping}
+use Rattle.archive_exchange.specs.SiteState.{SiteState}
 use Rattle.archive_exchange.proofs.Texts.{on_err, towards_by}
 use Rattle.archive_exchange.proofs.Gained.{content_joined}
 use Rattle.archive_exchange.proofs.Whole.{whole_as}
@@ -15,8 +15,8 @@ pub returns-clause-joined : goal.returns-clause-joined
 returns-clause-joined g c = record {
   message = g.A.Join.content c.in_ok-other.other;
   gives = c.in_ok-other.ensures.gives;
-  held = c.in_ok-take_all.ensures.joined ∙ ap (λ (k : Keeping). joined k.held (g.A.Join.content c.in_ok-other.other)) c.self.view_is;
-  saved = ap (λ (k : Keeping). k.saved) c.self.view_is;
+  held = c.in_ok-take_all.ensures.joined ∙ ap (λ (k : SiteState). joined k.held (g.A.Join.content c.in_ok-other.other)) c.self.view_is;
+  saved = ap (λ (k : SiteState). k.saved) c.self.view_is;
 }
 
 pub invariant_of-self-2 : goal.invariant_of-self-2

@@ -1,5 +1,5 @@
 use Rattle.archive_exchange.specs.File.{admissible}
-use Rattle.archive_exchange.specs.Keeping.{Keeping, IsBetween}
+use Rattle.archive_exchange.specs.SiteState.{SiteState, IsBetween}
 use Rattle.archive_exchange.specs.Take.{admitted}
 use Rattle.std.proofs.Common.{subst}
 use Rattle.archive_exchange.proofs.Whole.{whole_as, content_of_file, between_parts, between_none, if_err}
@@ -7,7 +7,7 @@ use Rattle.archive_exchange.proofs.site.Site.take_file.Goals as goal
 
 pub returns-in_err-clone-clause-between : goal.returns-in_err-clone-clause-between
 returns-in_err-clone-clause-between g c =
-    let P : Keeping → Type 0 = λ k. IsBetween k.held (g.A.Join.content c.self.inside.archive) (admitted k.held (admissible c.args.file.now)) in
+    let P : SiteState → Type 0 = λ k. IsBetween k.held (g.A.Join.content c.self.inside.archive) (admitted k.held (admissible c.args.file.now)) in
     if_err _ c.from_residual-in_err-clone.result (λ fault _. subst P c.self.view_is
     (between_none (g.A.Join.content c.self.inside.archive) (admissible c.args.file.now) c.self.invariant.held))
 
@@ -18,7 +18,7 @@ returns-in_err-rows-clause-whole g c =
 
 pub returns-in_err-rows-clause-between : goal.returns-in_err-rows-clause-between
 returns-in_err-rows-clause-between g c =
-    let P : Keeping → Type 0 = λ k. IsBetween k.held (g.A.Join.content c.take_accepted.new.archive) (admitted k.held (admissible c.args.file.now)) in
+    let P : SiteState → Type 0 = λ k. IsBetween k.held (g.A.Join.content c.take_accepted.new.archive) (admitted k.held (admissible c.args.file.now)) in
     if_err _ c.from_residual-in_err-rows.result (λ fault _. subst P c.self.view_is
     (between_parts c.args.file.now c.in_ok-accepted.accepted (g.A.Join.content c.self.inside.archive) (g.A.Join.content c.take_accepted.new.archive) c.self.invariant.held c.in_ok-accepted.ensures.accepted c.in_ok-accepted.ensures.found c.in_err-rows.ensures.stopped))
 

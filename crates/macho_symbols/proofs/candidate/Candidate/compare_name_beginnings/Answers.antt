@@ -8,4 +8,4 @@ use Rattle.macho_symbols.proofs.candidate.Candidate.compare_name_beginnings.Goal
 pub returns-then-self-other : goal.returns-then-self-other
 returns-then-self-other c =
     let own = take c.args.size (name_of c.args.strings.now c.args.self.now.strx) in
-    sym (tied_itself (lists_total nat_cmp_total) own) ∙ ap (λ place. slice_cmp nat_cmp own (take c.args.size (name_of c.args.strings.now place))) c.if-self-other.true
+    sym (tied_itself (lists_total nat_cmp_total) own) ∙ ap (λ index. slice_cmp nat_cmp own (take c.args.size (name_of c.args.strings.now index))) c.if-self-other.true

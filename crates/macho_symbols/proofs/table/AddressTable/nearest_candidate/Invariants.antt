@@ -6,5 +6,5 @@ use Rattle.macho_symbols.specs.Halving.{IsFirstOrNone}
 use Rattle.macho_symbols.specs.Views.{tuple_of}
 use Rattle.macho_symbols.proofs.table.AddressTable.nearest_candidate.Given as goal
 
-abbrev pub invariant-loop-place : goal.invariant-loop-place
-invariant-loop-place l = IsFirstOrNone (λ c. StandsFor l.image l.address c × (c.sect ≤ l.place)) (option_map (tuple_of (strings_of l.image)) l.best)
+abbrev pub invariant-loop-index : goal.invariant-loop-index
+invariant-loop-index l = IsFirstOrNone (λ c. StandsFor l.image l.address c × (c.sect ≤ l.index)) (option_map (tuple_of (strings_of l.image)) l.best)

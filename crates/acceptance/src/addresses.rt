@@ -1,0 +1,41 @@
+//! The addresses that words of a case spell.
+//!
+//! A word is `0xHEX`, or `0xHEX..0xHEX/N`: from the first to before the second in steps of N.
+
+use crate::faults::CaseFault;
+use crate::parts::number;
+use std::alloc::Global;
+
+/// The addresses of the words.
+pub fn addresses_of(alloc: Global, words: &str) -> Result<Vec<u64>, CaseFault> {
+    let mut addresses = Vec::new(alloc);
+    for word in words.split(' ') {
+        push_word(&mut addresses, word)?;
+    }
+    Ok(addresses)
+}
+
+// The addresses of a word.
+fn push_word(addresses: &mut Vec<u64>, word: &str) -> Result<(), CaseFault> {
+    let Some((from, rest)) = word.split_once("..") else {
+        addresses.push(address(word)?)?;
+        return Ok(());
+    };
+    let (to, step) = rest.split_once('/').ok_or(CaseFault::BadLine)?;
+    push_steps(addresses, address(from)?, address(to)?, number(step)?)
+}
+
+// The addresses from one to before another in steps.
+fn push_steps(addresses: &mut Vec<u64>, from: u64, to: u64, step: u64) -> Result<(), CaseFault> {
+    let count = to.saturating_sub(from).div_ceil(step.max(1));
+    for place in 0..count {
+        addresses.push(from.saturating_add(place.saturating_mul(step)))?;
+    }
+    Ok(())
+}
+
+/// The address that a word spells.
+pub fn address(word: &str) -> Result<u64, CaseFault> {
+    let digits = word.strip_prefix("0x").ok_or(CaseFault::BadLine)?;
+    Ok(u64::from_str_radix(digits, 16)?)
+}

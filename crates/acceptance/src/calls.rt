@@ -1,0 +1,215 @@
+//! What a case asks for: a plan, or a call below the commands.
+
+use crate::addresses::addresses_of;
+use crate::archives::{tell_front, tell_operations, tell_summary, tell_whole};
+use crate::changes::tell_change;
+use crate::desk::{Desk, Tried};
+use crate::ends::{End, Left};
+use crate::faults::{CaseFault, Ended};
+use crate::heaps::{Texts, tell_heaps};
+use crate::images::{tell_fat, tell_image, tell_kind, tell_named, tell_nearest, tell_slice};
+use crate::pairs::tell_pairs;
+use crate::parts::{bytes_of, number};
+use crate::selections::{Picked, tell_part};
+use crate::streams::{Failing, tell_reading, tell_writing};
+use crate::subjects::{Act, ArchiveAct, Change, SiteAct};
+use crate::words::first_word;
+use crate::worlds::tell_world;
+use archive_core::{Archive, PlainArchive};
+use archive_index::IndexedArchive;
+use command_line::Plan;
+use memory::Heap;
+use rehearsal::read_script;
+
+/// A call below the commands.
+#[derive(Clone, Copy)]
+pub struct Call<'t> {
+    verb: &'t str,
+    /// The file that it is made over.
+    name: &'t str,
+    /// What it is given, and what is asked.
+    words: &'t str,
+}
+
+/// What a case asks for.
+#[derive(Clone, Copy)]
+pub enum Task<'t> {
+    Run(&'t Plan),
+    Call(Call<'t>),
+}
+
+impl<'t> Task<'t> {
+    /// The call of a verb, over the file that the first of its words names.
+    pub fn of_verb(verb: &'t str, words: &'t str) -> Task<'t> {
+        let (name, words) = first_word(words);
+        Task::Call(Call { verb, name, words })
+    }
+
+    /// Whether OUT is written while the inputs are read, as by `merge` of one FILE.
+    pub fn writes_as_it_reads(self) -> bool {
+        match self {
+            Task::Run(Plan::Merge { files, .. }) => files.len() == 1,
+            _ => false,
+        }
+    }
+}
+
+impl<'a> Desk<'a> {
+    /// Carries out what a case asks for, on the archive that is tried.
+    pub fn carry_out(self, task: Task<'a>) -> Result<Left, CaseFault> {
+        match self.tried {
+            Tried::Plain => self.carry_out_on::<PlainArchive>(task),
+            Tried::Indexed => self.carry_out_on::<IndexedArchive>(task),
+        }
+    }
+
+    fn carry_out_on<A: Archive + Drop>(self, task: Task<'a>) -> Result<Left, CaseFault> {
+        match task {
+            Task::Run(plan) => Ok(self.run::<A>(plan)?),
+            Task::Call(call) => {
+                let mut told = String::new(self.alloc);
+                let end = End::of_call(self.call::<A>(call, &mut told)?);
+                let report = told.into_bytes();
+                let out = Vec::new(self.alloc);
+                Ok(Left { end, out, report })
+            }
+        }
+    }
+
+    // Makes a call, and tells what it gives.
+    fn call<A: Archive + Drop>(
+        self,
+        call: Call<'a>,
+        told: &mut String,
+    ) -> Result<Ended, CaseFault> {
+        let bytes = self.named(call.name)?;
+        Ok(match call.verb {
+            "kind" => tell_kind(bytes, told),
+            "fat" => tell_fat(bytes, told),
+            "image" => tell_image(bytes, told),
+            "check" => tell_slice(self.heap()?, bytes, told),
+            "nearest" => {
+                let addresses = addresses_of(self.alloc, call.words)?;
+                tell_nearest(self.heap()?, bytes, &addresses, told)
+            }
+            "named" => {
+                let name = bytes_of(self.alloc, self.store, call.words)?;
+                tell_named(bytes, &name, told)
+            }
+            "reading" => {
+                let (failing, size) = failing_of(call.words)?;
+                tell_reading(bytes, failing, size, told)
+            }
+            "writing" => {
+                let (failing, size) = failing_of(call.words)?;
+                tell_writing(bytes, failing, size, told)
+            }
+            _ => return self.call_on_source::<A>(call, told),
+        })
+    }
+
+    // Makes a call that reads a file piece by piece.
+    fn call_on_source<A: Archive + Drop>(
+        self,
+        call: Call<'a>,
+        told: &mut String,
+    ) -> Result<Ended, CaseFault> {
+        let mut source = self.source(call.name)?;
+        Ok(match call.verb {
+            "front" => tell_front::<A>(self.heap()?, &mut source, told),
+            "whole" => tell_whole::<A>(self.heap()?, &mut source, told),
+            "part" => match Picked::of_words(call.words) {
+                Ok((picked, questions)) => {
+                    tell_part::<A>(self.heap()?, picked, questions, &mut source, told)
+                }
+                Err(fault) => return Err(fault),
+            },
+            "operations" => tell_operations(self.heap()?, &mut source, told),
+            "summary" => tell_summary(self.heap()?, &mut source, told),
+            _ => return self.call_on_archives::<A>(call, told),
+        })
+    }
+
+    // Makes a call on archives, or at sites.
+    fn call_on_archives<A: Archive + Drop>(
+        self,
+        call: Call<'a>,
+        told: &mut String,
+    ) -> Result<Ended, CaseFault> {
+        let bytes = self.named(call.name)?;
+        Ok(match call.verb {
+            "pairs" => {
+                let (pairs, seed) = first_word(call.words);
+                tell_pairs::<A>(bytes, number(pairs)?, number(seed)?, told)
+            }
+            "heaps" => tell_heaps::<A>(self.texts(call)?, told),
+            "world" => {
+                let script = read_script(Heap::new(self.alloc)?, bytes).ok();
+                let script = script.ok_or(CaseFault::BadLine)?;
+                let sites = call.words.parse::<u32>()?;
+                tell_world::<A>(self.heap()?, &script, sites, told)
+            }
+            _ => tell_change::<A>(self.change(call)?, told),
+        })
+    }
+
+    // A call on an archive, or at a site, of which the words say the rest.
+    fn change(self, call: Call<'a>) -> Result<Change<'a>, CaseFault> {
+        let (act, words) = self.act(call)?;
+        let (input, questions) = match act {
+            Act::OnArchive(ArchiveAct::Ask) => ("-", words),
+            _ => first_word(words),
+        };
+        Ok(Change {
+            alloc: self.alloc,
+            held: self.named(call.name)?,
+            act,
+            input: self.given(input)?,
+            growths: self.limits.growths,
+            questions,
+        })
+    }
+
+    // What is done to an archive, or at a site, and the words behind that.
+    fn act(self, call: Call<'a>) -> Result<(Act<'a>, &'a str), CaseFault> {
+        if call.verb != "site" {
+            let act = ArchiveAct::of_verb(call.verb).ok_or(CaseFault::BadLine)?;
+            return Ok((Act::OnArchive(act), call.words));
+        }
+        let (saved, words) = first_word(call.words);
+        let (verb, words) = first_word(words);
+        let act = SiteAct::of_verb(verb).ok_or(CaseFault::BadLine)?;
+        Ok((Act::AtSite(act, self.given(saved)?), words))
+    }
+
+    // Two archives and operations, of which the words say the rest.
+    fn texts(self, call: Call<'a>) -> Result<Texts<'a>, CaseFault> {
+        let (other, operations) = first_word(call.words);
+        Ok(Texts {
+            alloc: self.alloc,
+            one: self.named(call.name)?,
+            other: self.given(other)?,
+            operations: self.given(operations)?,
+        })
+    }
+
+    // What a call is given: the bytes of a file, or nothing.
+    fn given(self, name: &str) -> Result<&'a [u8], CaseFault> {
+        match name {
+            "-" => Ok(&[]),
+            _ => self.named(name),
+        }
+    }
+
+    // The bytes of a file that has to be there.
+    fn named(self, name: &str) -> Result<&'a [u8], CaseFault> {
+        self.bytes(name).ok_or(CaseFault::BadLine)
+    }
+}
+
+// How a stream fails, and how many bytes move at a time.
+fn failing_of(words: &str) -> Result<(Failing, usize), CaseFault> {
+    let (failing, size) = first_word(words);
+    let failing = Failing::of_word(failing).ok_or(CaseFault::BadLine)?;
+    Ok((failing, number(size)? as usize))
+}

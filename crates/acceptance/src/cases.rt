@@ -1,0 +1,339 @@
+//! The lines of cases. A case is a line, and what has to come of it stands behind it, in lines that begin with two
+//! spaces. A line is cut into words at each space; `words` has the form of a word with spaces, `"-[A b]"`.
+//!
+//! Files in memory, and what holds for the next case alone:
+//!
+//! - an empty line, and one that begins with `#`, say nothing;
+//! - `file NAME PART..` keeps bytes under a name, and tells their number; `parts` has the forms of PART;
+//! - `line NAME TEXT` puts a line of text behind a file, and tells the number of its bytes;
+//! - `same NAME PART..` tells whether a file has these bytes, or where the two differ first;
+//! - `hold pieces N`: inputs give at most N bytes at a time;
+//! - `hold growths N`: N growths are granted; `hold bytes N`: growths of N bytes in all are granted to a command, or to
+//!   a call that reads;
+//! - `hold out N`, `hold report N`: OUT, or the report, fails when it took N bytes;
+//! - `hold cut NAME N`: a file has its first N bytes alone; `hold read NAME N`: it fails when it gave N bytes;
+//! - `each cut NAME`, `each read NAME`, `each out`, `each report`, `each pieces N` carry the next case out at each
+//!   place, and tell places in a row that have one outcome in one line;
+//! - `each growth` carries it out with 0, 1, .. growths until none is refused, and tells how many runs met a refusal on
+//!   either archive. A refused run leaves its report empty and OUT empty or whole; one that writes as it reads leaves a
+//!   beginning. The first run that meets none ends as with ample memory, be it with a fault of its input. Where no run
+//!   meets one, the sweep shows nothing, and is `WRONG`; that a call takes no memory is shown by `hold growths 0`.
+//!
+//! Files of the system, in a folder of this run's own:
+//!
+//! - `lay NAME..` writes files in memory to the folder; `fetch NAME` reads one of the folder into memory, and tells the
+//!   number of its bytes, or that it is not there;
+//! - `link hard NEW OLD` and `link soft NEW OLD` make a link to a file of the folder;
+//! - `program WORD..` carries a command line out over files of the system, and tells the report, the fault and the
+//!   status. A word that begins with `@` names a file of the folder. Of `hold` it heeds `report` alone.
+//!
+//! The program over files in memory, whose report stands behind `|`:
+//!
+//! - `plan WORD..` tells what a command line asks for, or why it is refused; `-` stands for no words;
+//! - `run WORD..` carries a command line out, and tells the report, the length and the SHA-256 of OUT, the fault and
+//!   the status. OUT is kept as a file where it took bytes.
+//!
+//! Calls below the commands. What one gives stands behind `|`, or is `nothing`, and its fault stands in a line of its
+//! own, `Truncated at 8`:
+//!
+//! - `kind NAME`: the kind of a file;
+//! - `fat NAME`: a universal file, a line for each slice: `slice 0: 28 bytes SHA256`;
+//! - `image NAME`: an image: `UUID ARCH image` (or `dsym`), `text base 0x..` (or `-`), `symtab SYMOFF NSYMS STROFF
+//!   STRSIZE` (or `-`), `commands N`, and a line for each section: `section 1 __TEXT,__text from 0x.., SIZE addresses`;
+//! - `check NAME`: a slice, by `Slice::check` and `Slice::admit`: `UUID ARCH SHA256`;
+//! - `nearest NAME ADDRESS..`: the nearest symbol by the scan and by the table: `0x.. NAME + OFFSET (SEGMENT,SECTION)
+//!   in section 1`, or `0x.. -`; `addresses` has the forms of ADDRESS;
+//! - `named NAME PART..`: each symbol of a name, as `nearest` tells it, at its own address;
+//! - `front NAME`: an archive's text, read from the front of a file: `2 records, 106 bytes are left`, with `then it
+//!   fails` where the reader fails behind them;
+//! - `whole NAME`, `operations NAME`, `summary NAME`: an archive's text, operations and a summary, read to their ends:
+//!   `2 records, 2 entries`, where the entries are those of its summary, `3 operations`, `2 entries`;
+//! - `part NAME UUID QUESTION..`, `part NAME UUID ARCH QUESTION..`: an archive's text, read to its end, of which the
+//!   records of a UUID, or of a key, are kept: each, as `admit UUID ARCH SHA256` or `retire ..`, then `2 records`, the
+//!   length and the SHA-256 of their text, and their answers. Where memory is held, it is that of the reading;
+//! - `pairs IMAGE N SEED`: N random pairs of archives, made of an image, which are merged as they come and joined as
+//!   values: the length and the SHA-256 of all that was merged;
+//! - `reading NAME FAILING N`: four pulls of N bytes from a reader of std over a file, of which the second call fails:
+//!   `moved 1` or `failed` for each, and the number of the reader's calls. FAILING is `interrupted`, `other`, `idle`
+//!   (it moves no byte) or `never`;
+//! - `writing NAME FAILING N`: a file, pushed in pieces of N bytes to a writer of std that fails so, and what that has
+//!   then;
+//! - `room N`: what memory with N growths holds: the numbers that one vector takes, and which of three vectors take
+//!   one, before and after a growth more is granted; `room-of-bytes N`: how many numbers of 8 bytes one vector takes in
+//!   memory with N bytes;
+//! - `heaps ARCHIVE OTHER OPS`: two archives, each in a memory of its own, one of which is wanting. Operations are
+//!   copied from a memory that is wanting to another one, and then to one that is wanting. The archive joins the other
+//!   where its own memory is wanting, and then where the other's is, and takes the operations; the other takes them
+//!   where the archive's is. And the same of the join by value;
+//! - `world SCRIPT N`: `run` of a script's events on N sites: their number, and the length and the SHA-256 of the text
+//!   that each site holds.
+//!
+//! Calls that may change an archive. Behind what each gives stand the length and the SHA-256 of the text of what is
+//! held then, of a site also of what it saved, and the answers to the questions; `questions` has the forms of QUESTION:
+//!
+//! - `ask ARCHIVE QUESTION..`: the answers alone;
+//! - `take ARCHIVE OPS QUESTION..`: the operations of a file, taken into an archive in turn: `admit UUID ARCH SHA256
+//!   new` or `retire ..`, where the word at the end is `new` if that changed the archive, `held` if it was there, or
+//!   else `covered`; then `2 records`;
+//! - `join ARCHIVE OTHER QUESTION..`: an archive before and after it is joined with another: `2 records, all of the
+//!   other: no`;
+//! - `take-each ARCHIVE OPS QUESTION..`, `absorb ARCHIVE OTHER QUESTION..`: the same, with the operations taken
+//!   together, `2 new`, and the other archive joined by value;
+//! - `site HELD SAVED CALL INPUT QUESTION..`: a call of a site that saved the archive SAVED, and holds HELD beside it:
+//!   `new` (an empty site in its place), `take`, `retire` (the slice that INPUT is), `full`, `ask`, `reply`, `deliver`,
+//!   `save` or `stop`; `-` stands for no INPUT.
+//!
+//! Where growths are held, those of the call alone count. Where one is refused, what is held and saved has to be what
+//! the call promises, and to answer as an archive does that is read from its text; calls that take no memory have to
+//! succeed; and the call made again has to end as it ends at once, and to come to the same.
+//!
+//! Each case is carried out on the plain archive and on the indexed one, and has to end alike; what is told is of the
+//! first. A case that is not swept is carried out on the first with inputs in pieces of 1 byte, too, and on the second
+//! in pieces of 7. A report of more than 40 lines is told as their number and the SHA-256 of all: `5000 lines SHA256`.
+//! What contradicts itself is told in a line that has the word `WRONG`.
+
+use crate::calls::Task;
+use crate::desk::{Desk, Tried};
+use crate::ends::Left;
+use crate::faults::CaseFault;
+use crate::folder::Folder;
+use crate::growths::{tell_room, tell_room_of_bytes};
+use crate::limits::{Front, Limits, Sweep};
+use crate::parts::{bytes_of, number};
+use crate::store::Store;
+use crate::sweeps::{tell_growths, tell_sweep};
+use crate::tellings::{tell_left, tell_line_fault, tell_same};
+use crate::words::{first_word, words_of};
+use command_line::{LineFault, Plan, plan};
+use memory::NoMemory;
+use std::alloc::Global;
+use std::mem;
+use std::rt::Files;
+
+// How often the next case is carried out.
+#[derive(Clone, Copy)]
+enum Mode<'t> {
+    Once,
+    Growths,
+    Sweep(Sweep<'t>),
+}
+
+// Files in memory, and what holds for the next case.
+#[derive(Drop)]
+struct Bench<'t> {
+    alloc: Global,
+    store: Store,
+    limits: Limits<'t>,
+    mode: Mode<'t>,
+}
+
+/// Carries out the cases of a text, and tells what came of each. One that cannot be carried out is passed over.
+pub fn carry_out<R: Files + AllocGlobal>(
+    alloc: Global,
+    folder: &Folder<'_, R>,
+    text: &str,
+    told: &mut String,
+) -> Result<(), NoMemory> {
+    let mut bench = Bench {
+        alloc,
+        store: Store::new(alloc),
+        limits: Limits::AMPLE,
+        mode: Mode::Once,
+    };
+    for line in text.lines() {
+        if line.starts_with("  ") {
+            continue;
+        }
+        writeln!(told, "{line}")?;
+        if let Err(fault) = bench.read_line(line, folder, told) {
+            writeln!(told, "  WRONG: not carried out, {fault}")?;
+        }
+    }
+    Ok(())
+}
+
+impl<'t> Bench<'t> {
+    fn read_line<R: Files + AllocGlobal>(
+        &mut self,
+        line: &'t str,
+        folder: &Folder<'_, R>,
+        told: &mut String,
+    ) -> Result<(), CaseFault> {
+        if line.is_empty() || line.starts_with('#') {
+            return Ok(());
+        }
+        let (verb, words) = line.split_once(' ').unwrap_or((line, ""));
+        match verb {
+            "file" => self.keep(words, told),
+            "line" => self.keep_line(words, told),
+            "same" => self.compare(words, told),
+            "hold" => self.hold(words),
+            "each" => self.sweep(words),
+            "lay" => folder.lay(&self.store, words),
+            "fetch" => folder.fetch(&mut self.store, words, told),
+            "link" => folder.link(words),
+            "program" => self.run_over_files(words, folder, told),
+            "room-of-bytes" => Ok(tell_room_of_bytes(self.alloc, number(words)?, told)?),
+            "room" => Ok(tell_room(self.alloc, number(words)?, told)?),
+            "plan" => self.plan(words, told),
+            "run" => self.run(words, told),
+            _ => self.carry(Task::of_verb(verb, words), None, told),
+        }
+    }
+
+    // Keeps bytes under a name.
+    fn keep(&mut self, words: &str, told: &mut String) -> Result<(), CaseFault> {
+        let (name, parts) = first_word(words);
+        let bytes = bytes_of(self.alloc, &self.store, parts)?;
+        writeln!(told, "  {} bytes", bytes.len())?;
+        self.store.keep(self.alloc, name, bytes)
+    }
+
+    // Puts a line of text behind a file, which may be new.
+    fn keep_line(&mut self, words: &str, told: &mut String) -> Result<(), CaseFault> {
+        let (name, text) = words.split_once(' ').unwrap_or((words, ""));
+        let mut bytes = Vec::new(self.alloc);
+        if let Some(before) = self.store.bytes(name) {
+            bytes.extend_from_slice(before)?;
+        }
+        bytes.extend_from_slice(text.as_bytes())?;
+        bytes.push(b'\n')?;
+        writeln!(told, "  {} bytes", bytes.len())?;
+        self.store.keep(self.alloc, name, bytes)
+    }
+
+    // Tells whether a file has these bytes.
+    fn compare(&self, words: &str, told: &mut String) -> Result<(), CaseFault> {
+        let (name, parts) = first_word(words);
+        let bytes = bytes_of(self.alloc, &self.store, parts)?;
+        Ok(tell_same(self.store.named(name)?, &bytes, told)?)
+    }
+
+    // Sets a limit of the next case.
+    fn hold(&mut self, words: &'t str) -> Result<(), CaseFault> {
+        let (what, value) = words.split_once(' ').ok_or(CaseFault::BadLine)?;
+        match what {
+            "cut" => self.limits.cut = Some(front(value)?),
+            "read" => self.limits.read = Some(front(value)?),
+            _ => return self.hold_number(what, number(value)?),
+        }
+        Ok(())
+    }
+
+    fn hold_number(&mut self, what: &str, number: u64) -> Result<(), CaseFault> {
+        match what {
+            "pieces" => self.limits.pieces = number as usize,
+            "growths" => self.limits.growths = number,
+            "bytes" => self.limits.bytes = number,
+            "out" => self.limits.out = number as usize,
+            "report" => self.limits.report = number as usize,
+            _ => return Err(CaseFault::BadLine),
+        }
+        Ok(())
+    }
+
+    // Makes the next case a sweep.
+    fn sweep(&mut self, words: &'t str) -> Result<(), CaseFault> {
+        let (what, value) = words.split_once(' ').unwrap_or((words, ""));
+        self.mode = match what {
+            "cut" => Mode::Sweep(Sweep::Cut(value)),
+            "read" => Mode::Sweep(Sweep::Read(value)),
+            "pieces" => Mode::Sweep(Sweep::Pieces(number(value)? as usize)),
+            "out" => Mode::Sweep(Sweep::Out),
+            "report" => Mode::Sweep(Sweep::Report),
+            "growth" => Mode::Growths,
+            _ => return Err(CaseFault::BadLine),
+        };
+        Ok(())
+    }
+
+    // What the words of a line ask for, which stand behind the program's name.
+    fn planned(&self, words: &str) -> Result<Plan, LineFault> {
+        let mut line = Vec::new(self.alloc);
+        line.push("symarch")?;
+        if words != "-" {
+            line.extend_from_slice(&words_of(self.alloc, words)?)?;
+        }
+        plan(self.alloc, &line)
+    }
+
+    // Tells what a command line asks for.
+    fn plan(&self, words: &str, told: &mut String) -> Result<(), CaseFault> {
+        match self.planned(words) {
+            Ok(plan) => writeln!(told, "  {plan:?}")?,
+            Err(fault) => tell_line_fault(&fault, told)?,
+        }
+        Ok(())
+    }
+
+    // Carries out a command line.
+    fn run(&mut self, words: &str, told: &mut String) -> Result<(), CaseFault> {
+        match self.planned(words) {
+            Ok(plan) => self.carry(Task::Run(&plan), plan.out(), told),
+            Err(fault) => Ok(tell_line_fault(&fault, told)?),
+        }
+    }
+
+    // Carries out a command line over files of the system, whose report may fail.
+    fn run_over_files<R: Files + AllocGlobal>(
+        &mut self,
+        words: &str,
+        folder: &Folder<'_, R>,
+        told: &mut String,
+    ) -> Result<(), CaseFault> {
+        let most = mem::replace(&mut self.limits, Limits::AMPLE).report;
+        folder.run(words, most, told)
+    }
+
+    // Carries out a case, keeps what it left in OUT under its name, and sets what holds for the next one back.
+    fn carry(&mut self, task: Task, out: Option<&str>, told: &mut String) -> Result<(), CaseFault> {
+        let mode = mem::replace(&mut self.mode, Mode::Once);
+        let limits = mem::replace(&mut self.limits, Limits::AMPLE);
+        let desk = Desk {
+            alloc: self.alloc,
+            store: &self.store,
+            limits,
+            tried: Tried::Plain,
+        };
+        match mode {
+            Mode::Growths => tell_growths(desk, task, told),
+            Mode::Sweep(sweep) => tell_sweep(desk, sweep, task, told),
+            Mode::Once => {
+                let left = desk.carry_out(task)?;
+                tell_left(&left, told)?;
+                tell_others(desk, task, &left, told)?;
+                self.keep_out(out, left.out)
+            }
+        }
+    }
+
+    // Keeps OUT under its name, where it took bytes.
+    fn keep_out(&mut self, name: Option<&str>, out: Vec<u8>) -> Result<(), CaseFault> {
+        match name {
+            Some(name) if !out.is_empty() => self.store.keep(self.alloc, name, out),
+            _ => Ok(()),
+        }
+    }
+}
+
+// The name and the number of a limit on a file.
+fn front(words: &str) -> Result<Front<'_>, CaseFault> {
+    let (name, len) = words.split_once(' ').ok_or(CaseFault::BadLine)?;
+    let len = number(len)? as usize;
+    Ok(Front { name, len })
+}
+
+// Tells where it makes a difference that the archive is the other one, or that the inputs come in small pieces.
+fn tell_others(desk: Desk, task: Task, left: &Left, told: &mut String) -> Result<(), CaseFault> {
+    for (tried, pieces) in [(Tried::Plain, 1), (Tried::Indexed, 7)] {
+        let mut other = Desk { tried, ..desk };
+        other.limits.pieces = pieces;
+        if !other.carry_out(task)?.is_as(left) {
+            writeln!(
+                told,
+                "  WRONG: another end on {tried:?} with inputs in pieces of {pieces}"
+            )?;
+        }
+    }
+    Ok(())
+}

@@ -1,0 +1,49 @@
+//! A plan, carried out over files in memory.
+
+use crate::desk::Desk;
+use crate::ends::{End, Left};
+use archive_commands::CannotOpen;
+use archive_core::Archive;
+use byte_device::{Pieces, Short};
+use command_line::Plan;
+use memory::{Heap, NoMemory};
+use plan_commands::{Disk, execute_on};
+
+impl<'a> Disk for Desk<'a> {
+    ghost use Rattle.std.specs.Prelude.{None, is_some, option_map, if◌then◌else◌};
+    ghost use Rattle.std.specs.BTreeMap.{get_by_text};
+    ghost use Rattle.plan_commands.specs.Disks.{Unknown, file_of};
+
+    type Input = Pieces<'a>;
+
+    // Of files nothing is known where one of them is cut.
+    ghost file_at = { λ desk path. if is_some desk.limits.cut then Unknown
+        else file_of (option_map (λ v. v.items) (get_by_text desk.store.now.files path)) };
+
+    ghost opened = { λ _. None };
+
+    fn open(&mut self, path: &str) -> Result<Result<Pieces<'a>, CannotOpen>, NoMemory> {
+        Ok(self.input(path))
+    }
+}
+
+impl<'a> Desk<'a> {
+    /// Carries out a plan.
+    pub fn run<A: Archive + Drop>(mut self, plan: &Plan) -> Result<Left, NoMemory> {
+        let mut out = Short::new(Heap::new(self.alloc)?, self.limits.out);
+        let mut report = Short::new(Heap::new(self.alloc)?, self.limits.report);
+        let ended = execute_on::<A, A, _, _, _>(
+            self.alloc,
+            self.heap()?,
+            &mut self,
+            plan,
+            &mut out,
+            &mut report,
+        );
+        Ok(Left {
+            end: End::of_command(ended),
+            out: out.as_slice().to_vec(self.alloc)?,
+            report: report.as_slice().to_vec(self.alloc)?,
+        })
+    }
+}

@@ -1,0 +1,71 @@
+//! What a case goes over: files in memory, and what its devices give and take.
+
+ghost use Rattle.std.specs.Prelude.{◌≡◌, None, option_map};
+ghost use Rattle.std.specs.BTreeMap.{get_by_text};
+ghost use Rattle.plan_commands.specs.Disks.{IsOpened, file_of};
+
+use crate::faults::CaseFault;
+use crate::limits::Limits;
+use crate::store::Store;
+use archive_commands::CannotOpen;
+use byte_device::{Pieces, Source};
+use memory::{Heap, NoMemory};
+use std::alloc::Global;
+
+/// The archive that a case is tried on.
+#[derive(Clone, Copy, Debug)]
+pub enum Tried {
+    Plain,
+    Indexed,
+}
+
+impl Tried {
+    /// Both, of which the first one's answers are told, and another answer of the other.
+    pub const BOTH: [Tried; 2] = [Tried::Plain, Tried::Indexed];
+}
+
+/// What a case goes over.
+#[derive(Clone, Copy)]
+pub struct Desk<'a> {
+    pub alloc: Global,
+    pub store: &'a Store,
+    pub limits: Limits<'a>,
+    pub tried: Tried,
+}
+
+impl<'a> Desk<'a> {
+    /// Memory with the growths and the bytes that are granted.
+    pub fn heap(self) -> Result<Heap, NoMemory> {
+        let heap = Heap::with_growths(self.alloc, self.limits.growths)?;
+        heap.grant_bytes(self.limits.bytes);
+        Ok(heap)
+    }
+
+    /// A file that is read, as far as it is not cut.
+    pub fn input(self, name: &str) -> Result<Pieces<'a>, CannotOpen>
+        ensures { self.entry.limits.cut ≡ None
+            → IsOpened ⟦<Pieces<'a> as Source>⟧.left ⟦<Pieces<'a> as Source>⟧.failures
+            (file_of (option_map (λ v. v.items) (get_by_text self.entry.store.now.files name.now))) result }
+    {
+        let Some(bytes) = self.bytes(name) else {
+            return Err(CannotOpen);
+        };
+        let size = self.limits.pieces.max(1);
+        Ok(Pieces::new(bytes, size, self.limits.given_of(name)))
+    }
+
+    /// The same of a file that has to be there.
+    pub fn source(self, name: &str) -> Result<Pieces<'a>, CaseFault> {
+        self.input(name).ok().ok_or(CaseFault::BadLine)
+    }
+
+    /// The bytes of a file, as far as it is not cut.
+    pub fn bytes(self, name: &str) -> Option<&'a [u8]>
+        ensures { self.entry.limits.cut ≡ None → option_map (λ b. b.now) result
+            ≡ option_map (λ v. v.items) (get_by_text self.entry.store.now.files name.now) }
+    {
+        let bytes = self.store.bytes(name)?;
+        let most = self.limits.most_of(name).min(bytes.len());
+        Some(&bytes[..most])
+    }
+}

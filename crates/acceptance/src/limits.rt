@@ -1,0 +1,94 @@
+//! What devices give and take, and how far a sweep goes.
+
+ghost use Rattle.std.specs.Prelude.{◌≡◌, None};
+
+/// A file of which only first bytes count.
+#[derive(Clone, Copy)]
+pub struct Front<'t> {
+    pub name: &'t str,
+    pub len: usize,
+}
+
+impl Front<'_> {
+    // How many first bytes of a file count.
+    fn len_of(front: Option<Front<'_>>, name: &str) -> usize
+        ensures { front.entry ≡ None → result ≡ usize.MAX }
+    {
+        match front {
+            Some(front) if front.name == name => front.len,
+            _ => usize::MAX,
+        }
+    }
+}
+
+/// What the devices of a run give and take.
+#[derive(Clone, Copy)]
+pub struct Limits<'t> {
+    /// How many bytes an input gives at a time, at least one.
+    pub pieces: usize,
+    /// How many growths of memory are granted.
+    pub growths: u64,
+    /// How many bytes of memory are granted to a command, or to a call that reads.
+    pub bytes: u64,
+    /// How many bytes OUT takes before it fails.
+    pub out: usize,
+    /// How many bytes the report takes before it fails.
+    pub report: usize,
+    /// A file that ends early.
+    pub cut: Option<Front<'t>>,
+    /// A file that fails when it gave so many bytes.
+    pub read: Option<Front<'t>>,
+}
+
+impl Limits<'_> {
+    pub const AMPLE: Limits<'static> = Limits {
+        pieces: usize::MAX,
+        growths: u64::MAX,
+        bytes: u64::MAX,
+        out: usize::MAX,
+        report: usize::MAX,
+        cut: None,
+        read: None,
+    };
+
+    /// How many bytes a file has at most.
+    pub fn most_of(&self, name: &str) -> usize
+        ensures { self.now.cut ≡ None → result ≡ usize.MAX }
+    {
+        Front::len_of(self.cut, name)
+    }
+
+    /// How many bytes a file gives before it fails.
+    pub fn given_of(&self, name: &str) -> usize {
+        Front::len_of(self.read, name)
+    }
+}
+
+/// Which device of a run is tried at each place.
+#[derive(Clone, Copy)]
+pub enum Sweep<'t> {
+    /// A file is cut to each length.
+    Cut(&'t str),
+    /// A file fails after each number of bytes.
+    Read(&'t str),
+    /// OUT fails after each number of bytes.
+    Out,
+    /// The report fails after each number of bytes.
+    Report,
+    /// The inputs come in pieces of each size up to this one.
+    Pieces(usize),
+}
+
+impl<'t> Sweep<'t> {
+    /// The limits at a place of the sweep.
+    pub fn limits(self, mut limits: Limits<'t>, len: usize) -> Limits<'t> {
+        match self {
+            Sweep::Cut(name) => limits.cut = Some(Front { name, len }),
+            Sweep::Read(name) => limits.read = Some(Front { name, len }),
+            Sweep::Out => limits.out = len,
+            Sweep::Report => limits.report = len,
+            Sweep::Pieces(_) => limits.pieces = len,
+        }
+        limits
+    }
+}

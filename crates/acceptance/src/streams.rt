@@ -1,0 +1,117 @@
+//! Streams of std that fail once.
+
+ghost use Rattle.std.specs.Prelude.{◌≡◌, IfOk, IfSome};
+
+use crate::faults::Ended;
+use crate::tellings::tell_text;
+use byte_device::{Failed, Reading, Sink, Source, Writing};
+use memory::NoMemory;
+use std::io::{self, Error, ErrorKind, Read, Write};
+
+/// How the second call of a stream ends, if otherwise than the others.
+#[derive(Clone, Copy)]
+pub enum Failing {
+    Never,
+    /// It moves no byte.
+    Idle,
+    Kind(ErrorKind),
+}
+
+impl Failing {
+    /// What a word of a case says.
+    pub fn of_word(word: &str) -> Option<Failing> {
+        match word {
+            "never" => Some(Failing::Never),
+            "idle" => Some(Failing::Idle),
+            "interrupted" => Some(Failing::Kind(ErrorKind::Interrupted)),
+            "other" => Some(Failing::Kind(ErrorKind::Other)),
+            _ => None,
+        }
+    }
+}
+
+// A stream that counts its calls.
+#[derive(Drop)]
+struct FailsOnce<S> {
+    stream: S,
+    failing: Failing,
+    calls: u8,
+}
+
+impl<S> FailsOnce<S> {
+    // How this call fails, if it does.
+    fn failure(&mut self) -> Option<io::Result<usize>>
+        ensures { IfSome result (λ failed. IfOk failed (λ n. n ≡ 0)) }
+    {
+        self.calls = self.calls.saturating_add(1);
+        match self.failing {
+            _ if self.calls != 2 => None,
+            Failing::Never => None,
+            Failing::Idle => Some(Ok(0)),
+            Failing::Kind(kind) => Some(Err(Error::from(kind))),
+        }
+    }
+}
+
+impl<R: Read> Read for FailsOnce<R> {
+    fn read(&mut self, buf: &mut [u8]) -> io::Result<usize> {
+        match self.failure() {
+            Some(failed) => failed,
+            None => self.stream.read(buf),
+        }
+    }
+}
+
+impl<W: Write> Write for FailsOnce<W> {
+    fn write(&mut self, buf: &[u8]) -> io::Result<usize> {
+        match self.failure() {
+            Some(failed) => failed,
+            None => self.stream.write(buf),
+        }
+    }
+
+    fn flush(&mut self) -> io::Result<()> {
+        self.stream.flush()
+    }
+}
+
+// How often a stream is asked.
+const CALLS: usize = 4;
+
+/// Tells what four pulls of so many bytes come to, from a reader of std over a file.
+pub fn tell_reading(file: &[u8], failing: Failing, size: usize, told: &mut String) -> Ended {
+    let mut reader = FailsOnce {
+        stream: file,
+        failing,
+        calls: 0,
+    };
+    let mut piece = Vec::new(*told.allocator());
+    piece.resize(size, 0u8)?;
+    let mut device = Reading::new(&mut reader);
+    for _ in 0..CALLS {
+        tell_moved(device.pull(&mut piece), told)?;
+    }
+    Ok(writeln!(told, "{} calls", reader.calls)?)
+}
+
+/// Tells what the pushes of a file in pieces of so many bytes come to, to a writer of std, and what that has then.
+pub fn tell_writing(file: &[u8], failing: Failing, size: usize, told: &mut String) -> Ended {
+    let mut writer = FailsOnce {
+        stream: Vec::new(*told.allocator()),
+        failing,
+        calls: 0,
+    };
+    let mut device = Writing::new(&mut writer);
+    for piece in file.chunks(size.max(1)) {
+        tell_moved(device.push(piece), told)?;
+    }
+    writeln!(told, "{} calls", writer.calls)?;
+    Ok(tell_text(&writer.stream, told)?)
+}
+
+fn tell_moved(moved: Result<usize, Failed>, told: &mut String) -> Result<(), NoMemory> {
+    match moved {
+        Ok(n) => writeln!(told, "moved {n}"),
+        Err(Failed) => writeln!(told, "failed"),
+    }
+}

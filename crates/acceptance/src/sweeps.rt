@@ -1,0 +1,143 @@
+//! One case at each place of a device.
+
+use crate::calls::Task;
+use crate::desk::{Desk, Tried};
+use crate::ends::Left;
+use crate::faults::CaseFault;
+use crate::limits::Sweep;
+use crate::outcomes::Outcome;
+use memory::NoMemory;
+
+// Places in a row with one outcome.
+#[derive(Clone, Copy, PartialEq, Eq)]
+struct Group {
+    first: usize,
+    last: usize,
+    outcome: Outcome,
+}
+
+/// Carries out a case at each place of a sweep, the last of which is the uncut one, and tells the places in groups of
+/// one outcome.
+pub fn tell_sweep<'a>(
+    desk: Desk<'a>,
+    sweep: Sweep<'a>,
+    task: Task,
+    told: &mut String,
+) -> Result<(), CaseFault> {
+    let whole = desk.carry_out(task)?;
+    let groups = sweep_places(desk, sweep, task, &whole)?;
+    tell_groups(&groups, told)?;
+    let tried = Tried::Indexed;
+    if sweep_places(Desk { tried, ..desk }, sweep, task, &whole)? != groups {
+        writeln!(told, "  WRONG: other outcomes on {tried:?}")?;
+    }
+    Ok(())
+}
+
+// Carries out a case at each place, and groups them.
+fn sweep_places<'a>(
+    desk: Desk<'a>,
+    sweep: Sweep<'a>,
+    task: Task,
+    whole: &Left,
+) -> Result<Vec<Group>, CaseFault> {
+    let mut groups = Vec::new(desk.alloc);
+    for place in 0..=last_place(desk, sweep, whole)? {
+        let limits = sweep.limits(desk.limits, place);
+        let left = Desk { limits, ..desk }.carry_out(task)?;
+        add_place(&mut groups, place, Outcome::at(place, &left, whole))?;
+    }
+    Ok(groups)
+}
+
+fn tell_groups(groups: &[Group], told: &mut String) -> Result<(), NoMemory> {
+    for group in groups {
+        write!(told, "  {}", group.first)?;
+        if group.first < group.last {
+            write!(told, " to {}", group.last)?;
+        }
+        writeln!(told, ": {}", group.outcome)?;
+    }
+    Ok(())
+}
+
+// The place at which nothing is cut any more, and no device fails.
+fn last_place(desk: Desk, sweep: Sweep, whole: &Left) -> Result<usize, CaseFault> {
+    match sweep {
+        Sweep::Cut(name) => Ok(desk.store.named(name)?.len()),
+        Sweep::Read(name) => Ok(desk.store.named(name)?.len().saturating_add(1)),
+        Sweep::Out => Ok(whole.out.len()),
+        Sweep::Report => Ok(whole.report.len()),
+        Sweep::Pieces(most) => Ok(most),
+    }
+}
+
+// Adds a place to the last group, where it has its outcome, or else as a new one.
+fn add_place(groups: &mut Vec<Group>, place: usize, outcome: Outcome) -> Result<(), NoMemory> {
+    if let Some(group) = groups.last_mut()
+        && group.outcome == outcome
+    {
+        group.last = place;
+        return Ok(());
+    }
+    groups.push(Group {
+        first: place,
+        last: place,
+        outcome,
+    })?;
+    Ok(())
+}
+
+// How many growths are granted at most before a sweep of them gives up.
+const MOST_GROWTHS: u64 = 100_000;
+
+/// Carries out a case on either archive with each number of growths from 0 on, until it meets no refusal, however it
+/// ends then, and tells how many met one. A sweep that meets none shows nothing.
+pub fn tell_growths(desk: Desk, task: Task, told: &mut String) -> Result<(), CaseFault> {
+    let whole = desk.carry_out(task)?;
+    for tried in Tried::BOTH {
+        tell_refusals(Desk { tried, ..desk }, task, &whole, told)?;
+    }
+    Ok(())
+}
+
+fn tell_refusals(
+    mut desk: Desk,
+    task: Task,
+    whole: &Left,
+    told: &mut String,
+) -> Result<(), CaseFault> {
+    let tried = desk.tried;
+    for growths in 0..MOST_GROWTHS {
+        desk.limits.growths = growths;
+        let left = desk.carry_out(task)?;
+        if !left.end.wants_memory() {
+            return tell_last_growth(tried, growths, left.is_as(whole), told);
+        }
+        if !left.may_want_memory(whole, task.writes_as_it_reads()) {
+            writeln!(
+                told,
+                "  WRONG: growth {growths} was refused on {tried:?}, and something was written"
+            )?;
+        }
+    }
+    Ok(writeln!(told, "  WRONG: every run was refused on {tried:?}")?)
+}
+
+// Tells how many runs met a refusal, and whether the first that met none left what ample memory leaves.
+fn tell_last_growth(
+    tried: Tried,
+    growths: u64,
+    same: bool,
+    told: &mut String,
+) -> Result<(), CaseFault> {
+    if growths == 0 {
+        return Ok(writeln!(told, "  WRONG on {tried:?}: no growth was refused")?);
+    }
+    let wrong = if same { "" } else { "WRONG on " };
+    let end = if same { "the same" } else { "not the same" };
+    Ok(writeln!(
+        told,
+        "  {wrong}{tried:?}: {growths} refusals, then {end} as with ample memory"
+    )?)
+}

@@ -1,0 +1,145 @@
+-- A stable order of what is made of elements is that of the elements.
+use Rattle.std.proofs.Common.{◌≡◌, Bool, true, false, not, ◌&&◌, cond, List, [], ◌∷◌, ◌++◌, map, filter, refl, sym, ap, ◌∙◌, subst}
+use Rattle.std.specs.Cmp.{IsStrictWeakOrder}
+use Rattle.std.specs.List.Sorted.{IsPermutation, IsStableBy, ties}
+use Rattle.std.proofs.lemmas.Bool.{false≢true}
+use Rattle.std.proofs.lemmas.List.Elements.{filter-append}
+use Rattle.std.proofs.lemmas.List.Sorted.{IsPermutation-refl, IsPermutation-cons, IsPermutation-trans, IsPermutation-middle}
+
+-- elements in the order of what is made of them, those that pass a test as they stood
+pub record Lifted {P X : Type 0} (f : P → X) (at : X → P → Bool) (ps : List P) (ys : List X) : Type 0 where
+  pub told : List P
+  pub are : ys ≡ map f told
+  pub stable : (x : X) → filter (at x) told ≡ filter (at x) ps
+  pub moved : IsPermutation ps told
+
+module _ {P X : Type 0} (f : P → X) (same : X → X → Bool) (itself : (x : X) → same x x ≡ true) (alike : (x y : X) → same x y ≡ true → (z : X) → same x z ≡ same y z) where
+  abbrev at : X → P → Bool
+  at x p = same x (f p)
+
+  -- the first of the elements that are made the same as this one
+  record Split (y : X) (ps : List P) (zs : List X) : Type 0 where
+    before : List P
+    here : P
+    after : List P
+    whole : ps ≡ before ++ here ∷ after
+    is : f here ≡ y
+    none : filter (at y) before ≡ []
+    rest : zs ≡ map f (filter (at y) after)
+
+  split_by : (y : X) (p : P) (ps : List P) (zs : List X) (b : Bool) → at y p ≡ b → (y ∷ zs ≡ map f (filter (at y) ps) → Split y ps zs)
+      → y ∷ zs ≡ map f (cond b (p ∷ filter (at y) ps) (filter (at y) ps)) → Split y (p ∷ ps) zs
+  split_by y p ps zs true h rest e = record { before = []; here = p; after = ps; whole = refl; is = cc; none = refl; rest = cc }
+  split_by y p ps zs false h rest e =
+      let s = rest e in
+      record {
+        before = p ∷ s.before;
+        here = s.here;
+        after = s.after;
+        whole = ap (λ (qs : List P). p ∷ qs) s.whole;
+        is = s.is;
+        none = ap (λ b. cond b (p ∷ filter (at y) s.before) (filter (at y) s.before)) h ∙ s.none;
+        rest = s.rest;
+      }
+
+  split : (y : X) (ps : List P) (zs : List X) → y ∷ zs ≡ map f (filter (at y) ps) → Split y ps zs
+  split y [] zs e = absurd cc
+  split y (p ∷ ps) zs e = split_by y p ps zs (at y p) refl (split y ps zs) e
+
+  module _ (y : X) (ys : List X) (ps : List P) (h : (x : X) → filter (same x) (y ∷ ys) ≡ map f (filter (at x) ps)) (s : Split y ps (filter (same y) ys)) where
+    around : (x : X) → filter (at x) ps ≡ filter (at x) s.before ++ cond (at x s.here) (s.here ∷ filter (at x) s.after) (filter (at x) s.after)
+    around x = ap (filter (at x)) s.whole ∙ filter-append (at x) s.before (s.here ∷ s.after)
+
+    none_before : (x : X) → same x y ≡ true → filter (at x) s.before ≡ []
+    none_before x e = (λ i. filter (λ p. alike x y e (f p) i) s.before) ∙ s.none
+
+    without : (x : X) → filter (same x) ys ≡ map f (filter (at x) (s.before ++ s.after))
+    without x = by (same x y) refl
+      where
+        here : at x s.here ≡ same x y
+        here = ap (same x) s.is
+
+        by : (b : Bool) → same x y ≡ b → filter (same x) ys ≡ map f (filter (at x) (s.before ++ s.after))
+        by true e =
+            let front : filter (at x) ps ≡ s.here ∷ filter (at x) s.after = around x ∙ (λ i. none_before x e i ++ cond ((here ∙ e) i) (s.here ∷ filter (at x) s.after) (filter (at x) s.after)) in
+            let all : y ∷ filter (same x) ys ≡ f s.here ∷ map f (filter (at x) s.after) = sym (ap (λ b. cond b (y ∷ filter (same x) ys) (filter (same x) ys)) e) ∙ h x ∙ ap (map f) front in
+            let rest : filter (same x) ys ≡ map f (filter (at x) s.after) = cc in
+            rest ∙ sym (ap (map f) (filter-append (at x) s.before s.after ∙ ap (λ (qs : List P). qs ++ filter (at x) s.after) (none_before x e)))
+        by false e =
+            sym (ap (λ b. cond b (y ∷ filter (same x) ys) (filter (same x) ys)) e) ∙ h x
+            ∙ ap (map f) (around x ∙ ap (λ b. filter (at x) s.before ++ cond b (s.here ∷ filter (at x) s.after) (filter (at x) s.after)) (here ∙ e) ∙ sym (filter-append (at x) s.before s.after))
+
+    with_it : (told : List P) (x : X) → filter (at x) told ≡ filter (at x) (s.before ++ s.after) → filter (at x) (s.here ∷ told) ≡ filter (at x) ps
+    with_it told x e = by (at x s.here) refl
+      where
+        parts : filter (at x) told ≡ filter (at x) s.before ++ filter (at x) s.after
+        parts = e ∙ filter-append (at x) s.before s.after
+
+        by : (b : Bool) → at x s.here ≡ b → filter (at x) (s.here ∷ told) ≡ filter (at x) ps
+        by true b =
+            let none = none_before x (sym (ap (same x) s.is) ∙ b) in
+            ap (λ c. cond c (s.here ∷ filter (at x) told) (filter (at x) told)) b
+            ∙ ap (λ (qs : List P). s.here ∷ qs) (parts ∙ ap (λ (qs : List P). qs ++ filter (at x) s.after) none)
+            ∙ sym (around x ∙ (λ i. none i ++ cond (b i) (s.here ∷ filter (at x) s.after) (filter (at x) s.after)))
+        by false b =
+            ap (λ c. cond c (s.here ∷ filter (at x) told) (filter (at x) told)) b ∙ parts
+            ∙ sym (around x ∙ ap (λ c. filter (at x) s.before ++ cond c (s.here ∷ filter (at x) s.after) (filter (at x) s.after)) b)
+
+    moved_with : (told : List P) → IsPermutation (s.before ++ s.after) told → IsPermutation ps (s.here ∷ told)
+    moved_with told e = subst (λ (qs : List P). IsPermutation qs (s.here ∷ told)) (sym s.whole)
+        (IsPermutation-trans (s.before ++ s.here ∷ s.after) (s.here ∷ (s.before ++ s.after)) (s.here ∷ told) (IsPermutation-middle s.before s.here s.after) (IsPermutation-cons s.here (s.before ++ s.after) told e))
+
+    grown : Lifted f at (s.before ++ s.after) ys → Lifted f at ps (y ∷ ys)
+    grown l = record {
+      told = s.here ∷ l.told;
+      are = (λ i. sym s.is i ∷ l.are i);
+      stable = λ x. with_it l.told x (l.stable x);
+      moved = moved_with l.told l.moved;
+    }
+
+  lift : (ys : List X) (ps : List P) → ((x : X) → filter (same x) ys ≡ map f (filter (at x) ps)) → Lifted f at ps ys
+  lift [] [] h = record { told = []; are = refl; stable = λ x. refl; moved = IsPermutation-refl [] }
+  lift [] (p ∷ ps) h = absurd (some (h (f p) ∙ ap (λ b. map f (cond b (p ∷ filter (at (f p)) ps) (filter (at (f p)) ps))) (itself (f p))))
+    where
+      some : [] ≡ f p ∷ map f (filter (at (f p)) ps) → ⊥
+      some e = cc
+  lift (y ∷ ys) ps h =
+      let s = split y ps (filter (same y) ys) (sym (ap (λ b. cond b (y ∷ filter (same y) ys) (filter (same y) ys)) (itself y)) ∙ h y) in
+      grown y ys ps h s (lift ys (s.before ++ s.after) (without y ys ps h s))
+
+map_filter : {P X : Type 0} (f : P → X) (p : X → Bool) (xs : List P) → filter p (map f xs) ≡ map f (filter (λ x. p (f x)) xs)
+map_filter f p [] = refl
+map_filter f p (x ∷ xs) = by (p (f x)) (map_filter f p xs)
+  where
+    by : (b : Bool) → filter p (map f xs) ≡ map f (filter (λ x. p (f x)) xs) → cond b (f x ∷ filter p (map f xs)) (filter p (map f xs)) ≡ map f (cond b (x ∷ filter (λ x. p (f x)) xs) (filter (λ x. p (f x)) xs))
+    by true e = ap (λ ys. f x ∷ ys) e
+    by false e = e
+
+module _ {X : Type 0} (lt : X → X → Bool) (o : IsStrictWeakOrder lt) where
+  not_both : (b : Bool) → (b ≡ true → b ≡ false) → (not b && not b) ≡ true
+  not_both true h = sym (h refl)
+  not_both false h = refl
+
+  tied : (x : X) → ties lt x x ≡ true
+  tied x = not_both (lt x x) (o.one_way x x)
+
+  neither : (a b : Bool) → (not a && not b) ≡ true → (a ≡ false) × (b ≡ false)
+  neither true b h = absurd (false≢true h)
+  neither false true h = absurd (false≢true h)
+  neither false false h = (refl, refl)
+
+  one_test : (a b : Bool) → (a ≡ false → b ≡ false) → (b ≡ false → a ≡ false) → a ≡ b
+  one_test false b f g = sym (f refl)
+  one_test true true f g = refl
+  one_test true false f g = absurd (false≢true (sym (g refl)))
+
+  tied_alike : (x y : X) → ties lt x y ≡ true → (z : X) → ties lt x z ≡ ties lt y z
+  tied_alike x y h z =
+      let n = neither (lt x y) (lt y x) h in
+      let below : lt x z ≡ lt y z = one_test (lt x z) (lt y z) (λ e. o.chain y x z n.1 e) (λ e. o.chain x y z n.0 e) in
+      let above : lt z x ≡ lt z y = one_test (lt z x) (lt z y) (λ e. o.chain z x y e n.0) (λ e. o.chain z y x e n.1) in
+      λ i. not (below i) && not (above i)
+
+  -- what is made of elements was put in a stable order, and so the elements can be
+  pub lifted : {P : Type 0} (f : P → X) (ps : List P) (ys : List X) → IsStableBy lt (map f ps) ys → Lifted f (λ x p. ties lt x (f p)) ps ys
+  lifted f ps ys stable = lift f (ties lt) tied tied_alike ys ps (λ x. stable x ∙ map_filter f (ties lt x) ps)

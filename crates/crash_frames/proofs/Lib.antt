@@ -1,0 +1,3 @@
+pub mod FourFields
+pub mod Sequels
+pub mod Meant

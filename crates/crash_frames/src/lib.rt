@@ -1,0 +1,15 @@
+//! The frames of a crash: at which address of which image each of them is.
+//!
+//! - `frame`: a frame, and why bytes are no frames;
+//! - `fields`: the frame that a line tells;
+//! - `reading`: frames, read;
+//! - [`laws`]: what holds of frames.
+#![tactic(auto)]
+
+mod fields;
+mod frame;
+pub mod laws;
+mod reading;
+
+pub use frame::{Frame, FramesError};
+pub use reading::read_frames;
