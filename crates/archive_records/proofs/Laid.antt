@@ -1,13 +1,12 @@
 -- Bytes that are laid over those of the last record.
-use Rattle.std.proofs.Common.{◌≡◌, ℕ, ◌+◌, ◌<◌, ◌≤◌, List, [], ◌∷◌, ◌++◌, length, take, drop, Option, refl, sym, ap, ◌∙◌, arith, length-append, length-take, append_assoc}
-use Rattle.std.proofs.lemmas.List.{take_at, drop_at, drop-drop}
+use Rattle.std.proofs.Common.{◌≡◌, ◌≢◌, ℕ, ◌+◌, ◌<◌, ◌≤◌, List, [], ◌∷◌, ◌++◌, length, take, drop, Option, refl, sym, ap, ◌∙◌, arith, length-append, length-take, append_assoc}
+use Rattle.std.proofs.lemmas.List.{take_at, drop_at, drop-drop, take-append-le, take-take}
 use Rattle.std.proofs.Math.Seq.{take-add, take-nil}
 use Rattle.std.proofs.Math.ListN.{drop_of_length-le}
 use Rattle.std.specs.declared.cmp.Ordering.{Ordering}
 use Rattle.std.specs.declared.cmp.Ordering.TheVariants.{Less, Equal, Greater}
 use Rattle.std.specs.Ordering.{nat_cmp, ordering_then}
 use Rattle.std.specs.Cmp.Lexicographic.{slice_cmp}
-use Rattle.std.specs.Io.KnownBytes.{Consumes}
 use Rattle.byte_device.proofs.Known.{Consumes-then}
 use Rattle.archive_records.specs.declared.buffer.Buffer.{Buffer}
 use Rattle.archive_records.specs.Reader.{Fills, bytes_so_far, Over}
@@ -37,25 +36,96 @@ pub rest_laid : (items m : List ℕ) (at : ℕ) → at ≤ length items → drop
 rest_laid items m at le =
     ap (drop (at + length m)) (sym (append_assoc (take at items) m (drop (at + length m) items))) ∙ drop_at (take at items ++ m) (drop (at + length m) items) (at + length m) (omega (arith, length-append (take at items) m, length-take at items))
 
+-- what is compared next decides only where what was compared before is the same
+then_decided : (d x y : Ordering) → (d ≡ Equal → x ≡ y) → ordering_then d x ≡ ordering_then d y
+then_decided Less x y p = refl
+then_decided Equal x y p = p refl
+then_decided Greater x y p = refl
+
+then_equal : (a b : Ordering) → ordering_then a b ≡ Equal → a ≡ Equal
+then_equal Less b e = e
+then_equal Equal b e = refl
+then_equal Greater b e = e
+
+then_differs : (d x : Ordering) → d ≢ Equal → d ≡ ordering_then d x
+then_differs Less x p = refl
+then_differs Equal x p = absurd (p refl)
+then_differs Greater x p = refl
+
+-- the last record's front and what came, which grew by m
+grown : (last front m : List ℕ) (at : ℕ) → length front ≡ at → slice_cmp nat_cmp (take (at + length m) last) (front ++ m)
+    ≡ ordering_then (slice_cmp nat_cmp (take at last) front) (slice_cmp nat_cmp (take (length m) (drop at last)) m)
+grown last front m at len =
+    ap (λ (t : List ℕ). slice_cmp nat_cmp t (front ++ m)) (take-add at (length m) last)
+    ∙ cmp_parts (take at last) (take (length m) (drop at last)) front m (omega (arith, length-take at last, len))
+    (λ lt. ap (take (length m)) (drop_of_length-le last (omega (arith, length-take at last, len))) ∙ take-nil (length m))
+
+grown_over : (last : List ℕ) (b n : Buffer) (m : List ℕ) → b.at ≤ length b.bytes.items → n.at ≡ b.at + length m → bytes_so_far n ≡ bytes_so_far b ++ m → Over last b
+    → ordering_then b.order (slice_cmp nat_cmp (take (length m) (drop b.at last)) m) ≡ slice_cmp nat_cmp (take n.at last) (bytes_so_far n)
+grown_over last b n m le at front o =
+    ap (λ (d : Ordering). ordering_then d (slice_cmp nat_cmp (take (length m) (drop b.at last)) m)) o.order
+    ∙ sym (grown last (bytes_so_far b) m b.at (omega (arith, length-take b.at b.bytes.items)))
+    ∙ ap (λ (k : ℕ). slice_cmp nat_cmp (take k last) (bytes_so_far b ++ m)) (sym at)
+    ∙ ap (slice_cmp nat_cmp (take n.at last)) (sym front)
+
 pub Over-laid : (last : List ℕ) (b n : Buffer) (m : List ℕ) (order : Ordering) → b.at ≤ length b.bytes.items → n.at ≡ b.at + length m → n.bytes.items ≡ take b.at b.bytes.items ++ (m ++ drop (b.at + length m) b.bytes.items)
     → n.order ≡ ordering_then b.order order → order ≡ slice_cmp nat_cmp (take (length m) (drop b.at b.bytes.items)) m → Over last b → Over last n
 Over-laid last b n m order le at items then is o =
     let rest : drop n.at n.bytes.items ≡ drop (b.at + length m) b.bytes.items = rw (at, items) (rest_laid b.bytes.items m b.at le) in
     let front : bytes_so_far n ≡ take b.at b.bytes.items ++ m = rw (at, items) (bytes_so_far_laid b.bytes.items m b.at le) in
-    let parts : slice_cmp nat_cmp (take b.at last ++ take (length m) (drop b.at last)) (take b.at b.bytes.items ++ m) ≡ ordering_then (slice_cmp nat_cmp (take b.at last) (take b.at b.bytes.items)) (slice_cmp nat_cmp (take (length m) (drop b.at last)) m) =
-    cmp_parts (take b.at last) (take (length m) (drop b.at last)) (take b.at b.bytes.items) m (omega (arith, length-take b.at last, length-take b.at b.bytes.items))
-    (λ lt. ap (take (length m)) (drop_of_length-le last (omega (arith, length-take b.at last, length-take b.at b.bytes.items))) ∙ take-nil (length m)) in
+    let next : Ordering = slice_cmp nat_cmp (take (length m) (drop b.at last)) m in
     record {
-      rest = rest ∙ drop_add b.at (length m) b.bytes.items ∙ ap (drop (length m)) o.rest ∙ sym (drop_add b.at (length m) last) ∙ ap (λ (k : ℕ). drop k last) (sym at);
-      order = then ∙ ap (λ x. ordering_then x order) o.order ∙ ap (ordering_then (slice_cmp nat_cmp (take b.at last) (bytes_so_far b))) (is ∙ ap (λ (t : List ℕ). slice_cmp nat_cmp (take (length m) t) m) o.rest) ∙ sym parts
-          ∙ ap (λ (t : List ℕ). slice_cmp nat_cmp t (take b.at b.bytes.items ++ m)) (sym (take-add b.at (length m) last) ∙ ap (λ (k : ℕ). take k last) (sym at)) ∙ ap (slice_cmp nat_cmp (take n.at last)) (sym front);
+      rest = λ e. rest ∙ drop_add b.at (length m) b.bytes.items ∙ ap (drop (length m)) (o.rest (then_equal b.order order (sym then ∙ e))) ∙ sym (drop_add b.at (length m) last) ∙ ap (λ (k : ℕ). drop k last) (sym at);
+      order = then
+          ∙ then_decided b.order order next (λ e. is ∙ ap (λ (t : List ℕ). slice_cmp nat_cmp (take (length m) t) m) (o.rest e))
+          ∙ grown_over last b n m le at front o;
     }
 
-pub Fills-laid : (a b c : Option (List ℕ)) (old : List ℕ) (f n : Buffer) (m : List ℕ) → f.at ≤ length f.bytes.items → n.at ≡ f.at + length m → n.bytes.items ≡ take f.at f.bytes.items ++ (m ++ drop (f.at + length m) f.bytes.items)
-    → Fills a b old (bytes_so_far f) → Consumes b c m → Fills a c old (bytes_so_far n)
-Fills-laid a b c old f n m le at items p q =
-    let front : bytes_so_far n ≡ take f.at f.bytes.items ++ m = rw (at, items) (bytes_so_far_laid f.bytes.items m f.at le) in
-    record { more = p.more ++ m; grows = front ∙ ap (λ (t : List ℕ). t ++ m) p.grows ∙ append_assoc old p.more m; taken = Consumes-then a b c p.more m p.taken q }
+pub Over-behind : (last : List ℕ) (b n : Buffer) (m : List ℕ) → b.at ≤ length b.bytes.items → n.at ≡ b.at + length m → bytes_so_far n ≡ bytes_so_far b ++ m
+    → n.order ≡ b.order → b.order ≢ Equal → Over last b → Over last n
+Over-behind last b n m le at front same differs o = record {
+  rest = λ e. absurd (differs (sym same ∙ e));
+  order = same ∙ then_differs b.order (slice_cmp nat_cmp (take (length m) (drop b.at last)) m) differs ∙ grown_over last b n m le at front o;
+}
+
+Fills-then : (a b c : Option (List ℕ)) (x y z : List ℕ) → Fills a b x y → Fills b c y z → Fills a c x z
+Fills-then a b c x y z p q = record {
+  more = p.more ++ q.more;
+  grows = q.grows ∙ ap (λ (t : List ℕ). t ++ q.more) p.grows ∙ append_assoc x p.more q.more;
+  taken = Consumes-then a b c p.more q.more p.taken q.taken;
+}
+
+-- what a pull put behind what came, in a buffer of len bytes
+pub bytes_behind : (items pulled after rest : List ℕ) (at len k : ℕ) → at ≤ length items → at + k ≤ len → k ≤ length pulled → take (at + k) (take len (take at items ++ (pulled ++ after) ++ rest)) ≡ take at items ++ take k pulled
+bytes_behind items pulled after rest at len k le in_len bound =
+    take-take (at + k) len (take at items ++ (pulled ++ after) ++ rest) in_len
+    ∙ ap (take (at + k)) (append_assoc (take at items) (pulled ++ after) rest ∙ ap (λ (t : List ℕ). take at items ++ t) (append_assoc pulled after rest))
+    ∙ take-add at k (take at items ++ (pulled ++ (after ++ rest)))
+    ∙ ap (λ (t : List ℕ). t ++ take k (drop at (take at items ++ (pulled ++ (after ++ rest))))) (take_at (take at items) (pulled ++ (after ++ rest)) at (omega (arith, length-take at items)))
+    ∙ ap (λ (t : List ℕ). take at items ++ take k t) (drop_at (take at items) (pulled ++ (after ++ rest)) at (omega (arith, length-take at items)))
+    ∙ ap (λ (t : List ℕ). take at items ++ t) (take-append-le k pulled (after ++ rest) bound)
+
+pub bytes_before : (items behind rest : List ℕ) (at len : ℕ) → at ≤ length items → at ≤ len → take at (take len (take at items ++ behind ++ rest)) ≡ take at items
+bytes_before items behind rest at len le in_len =
+    take-take at len (take at items ++ behind ++ rest) in_len
+    ∙ ap (take at) (append_assoc (take at items) behind rest)
+    ∙ take_at (take at items) (behind ++ rest) at (omega (arith, length-take at items))
+
+-- more room changes nothing
+pub Over-room : (last : List ℕ) (b n : Buffer) → n.bytes.items ≡ b.bytes.items → n.at ≡ b.at → n.order ≡ b.order → Over last b → Over last n
+Over-room last b n items at order o = record {
+  rest = λ e. ap (λ (k : ℕ). drop k n.bytes.items) at ∙ ap (drop b.at) items ∙ o.rest (sym order ∙ e) ∙ ap (λ (k : ℕ). drop k last) (sym at);
+  order = order ∙ o.order ∙ ap (λ (k : ℕ). slice_cmp nat_cmp (take k last) (bytes_so_far b)) (sym at) ∙ ap (slice_cmp nat_cmp (take n.at last)) (sym (ap (λ (k : ℕ). take k n.bytes.items) at ∙ ap (take b.at) items));
+}
+
+pub Fills-room : (left_old left_mid left_new : Option (List ℕ)) (old new : List ℕ) (b n : Buffer) → n.bytes.items ≡ b.bytes.items → n.at ≡ b.at
+    → Fills left_old left_mid old (bytes_so_far b) → Fills left_mid left_new (bytes_so_far n) new → Fills left_old left_new old new
+Fills-room left_old left_mid left_new old new b n items at p q =
+    Fills-then left_old left_mid left_new old (bytes_so_far b) new p (record {
+      more = q.more;
+      grows = q.grows ∙ ap (λ (t : List ℕ). t ++ q.more) (ap (λ (k : ℕ). take k n.bytes.items) at ∙ ap (take b.at) items);
+      taken = q.taken;
+    })
 
 pub length-bytes_so_far : (b : Buffer) → b.at ≤ length b.bytes.items → length (bytes_so_far b) ≡ b.at
 length-bytes_so_far b le = omega (arith, length-take b.at b.bytes.items)

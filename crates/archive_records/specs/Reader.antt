@@ -4,6 +4,7 @@ use Rattle.std.specs.Prelude.{◌≡◌, ◌≢◌, ℕ, ◌+◌, ◌*◌, ◌^�
 use Rattle.std.specs.Prelude.{take, drop, map, All, Option, Some, None, Result, Ok, Err, MatchResult, ◌⊎◌}
 use Rattle.std.specs.List.{concat, AllByRecursion}
 use Rattle.std.specs.List.Sorted.{IsStrictlySortedBy}
+use Rattle.std.specs.declared.cmp.Ordering.TheVariants.{Equal}
 use Rattle.std.specs.Ordering.{nat_cmp}
 use Rattle.std.specs.Cmp.Lexicographic.{slice_cmp}
 use Rattle.std.specs.FinSet as set
@@ -47,9 +48,10 @@ pub record Fills (left_old left_new : Option (List ℕ)) (old new : List ℕ) : 
 abbrev pub bytes_so_far : Buffer → List ℕ
 bytes_so_far b = take b.at b.bytes.items
 
--- Behind what came stands the rest of the last record, and the order is that of the last record's front and what came.
+-- The order is that of the last record's front and what came, and as long as these are the same the rest of the last
+-- record stands behind them.
 pub record Over (last : List ℕ) (b : Buffer) : Type 0 where
-  pub rest : drop b.at b.bytes.items ≡ drop b.at last
+  pub rest : b.order ≡ Equal → drop b.at b.bytes.items ≡ drop b.at last
   pub order : b.order ≡ slice_cmp nat_cmp (take b.at last) (bytes_so_far b)
 
 -- What a fault says of the bytes that came: a device that failed, and want of memory, leave a part of a record.

@@ -1,9 +1,12 @@
 //! Bytes from a source that are read over those of the last record.
 
-ghost use Rattle.std.specs.Prelude.{◌≡◌, ◌+◌, ◌^◌, ◌<◌, ◌≤◌, ◌++◌, OnOk, OnErr, IfErr};
+ghost use Rattle.std.specs.Prelude.{◌≡◌, ◌≢◌, ◌+◌, ◌^◌, ◌<◌, ◌≤◌, ◌++◌, OnOk, OnErr, IfOk, IfErr};
 ghost use Rattle.std.specs.Prelude.{ℕ, List, length, take, drop, vec_capacity};
 ghost use Rattle.std.specs.Ordering.{nat_cmp, ordering_then};
 ghost use Rattle.std.specs.Cmp.Lexicographic.{slice_cmp};
+ghost use Rattle.std.specs.Io.KnownBytes.{IsAtEnd};
+ghost use Rattle.std.specs.declared.cmp.Ordering.TheVariants.{Equal};
+ghost use Rattle.byte_device.specs.Devices.{CountsFailure};
 ghost use Rattle.archive_records.specs.declared.fault.RecordFaultKind.TheVariants.{Truncated};
 ghost use Rattle.archive_records.specs.Reader.{BlamesReader, Fills, bytes_so_far, seen_as, Over};
 
@@ -49,7 +52,78 @@ fn write_over(under: &mut Vec<u8, Heap>, at: usize, order: Ordering, bytes: &[u8
     order
 }
 
-/// Reads this many bytes over the buffer, pulled piece by piece into the chunk.
+/// Pulls a piece of a record into the chunk, and writes it over the last one.
+fn pull_over<R: Source>(r: &mut R, chunk: &mut [u8], buffer: &mut Buffer) -> Result<usize, Failed>
+    requires within { buffer.old.at ≤ length buffer.old.bytes.items }
+    requires room { buffer.old.at + length chunk.old ≤ vec_capacity buffer.old.bytes }
+    ensures within { buffer.new.at ≤ length buffer.new.bytes.items }
+    ensures fills { Fills (R.left r.old) (R.left r.new) (bytes_so_far buffer.old) (bytes_so_far buffer.new) }
+    ensures over { (last : List ℕ) → Over last buffer.old → Over last buffer.new }
+    ensures ok { IfOk result (λ n. buffer.new.at ≡ buffer.old.at + n) }
+    ensures bound { IfOk result (λ n. n ≤ length chunk.old) }
+    ensures end { IfOk result (λ n. n ≡ 0 → 0 < length chunk.old → IsAtEnd (R.left r.new)) }
+    ensures err { OnErr result (buffer.new.at ≡ buffer.old.at) }
+    ensures count { CountsFailure (R.failures r.old) (R.failures r.new) result }
+{
+    let n = r.pull(chunk)?;
+    buffer.order = write_over(&mut buffer.bytes, buffer.at, buffer.order, &chunk[..n]);
+    buffer.at += n;
+    Ok(n)
+}
+
+/// Makes the bytes this many, within their room, where they are fewer.
+fn lengthen(bytes: &mut Vec<u8, Heap>, count: usize)
+    requires room { count ≤ vec_capacity bytes.old }
+    ensures long { count ≤ length bytes.new.items }
+    ensures front { (at : ℕ) → at ≤ length bytes.old.items → take at bytes.new.items ≡ take at bytes.old.items }
+{
+    if bytes.len() < count {
+        bytes.resize(count, 0).unwrap();
+    }
+}
+
+/// Pulls a piece of a record of which the last one differs straight behind what came of it.
+fn pull_behind<R: Source>(r: &mut R, want: usize, buffer: &mut Buffer) -> Result<usize, Failed>
+    requires within { buffer.old.at ≤ length buffer.old.bytes.items }
+    requires room { buffer.old.at + want ≤ vec_capacity buffer.old.bytes }
+    requires differs { buffer.old.order ≢ Equal }
+    ensures within { buffer.new.at ≤ length buffer.new.bytes.items }
+    ensures fills { Fills (R.left r.old) (R.left r.new) (bytes_so_far buffer.old) (bytes_so_far buffer.new) }
+    ensures over { (last : List ℕ) → Over last buffer.old → Over last buffer.new }
+    ensures ok { IfOk result (λ n. buffer.new.at ≡ buffer.old.at + n) }
+    ensures bound { IfOk result (λ n. n ≤ want) }
+    ensures end { IfOk result (λ n. n ≡ 0 → 0 < want → IsAtEnd (R.left r.new)) }
+    ensures err { OnErr result (buffer.new.at ≡ buffer.old.at) }
+    ensures count { CountsFailure (R.failures r.old) (R.failures r.new) result }
+{
+    let end = buffer.at + want;
+    lengthen(&mut buffer.bytes, end);
+    let n = r.pull(&mut buffer.bytes[buffer.at..end])?;
+    buffer.at += n;
+    Ok(n)
+}
+
+/// Pulls a piece of a record, of the chunk's length at most.
+fn pull_piece<R: Source>(r: &mut R, chunk: &mut [u8], buffer: &mut Buffer) -> Result<usize, Failed>
+    requires within { buffer.old.at ≤ length buffer.old.bytes.items }
+    requires room { buffer.old.at + length chunk.old ≤ vec_capacity buffer.old.bytes }
+    ensures within { buffer.new.at ≤ length buffer.new.bytes.items }
+    ensures fills { Fills (R.left r.old) (R.left r.new) (bytes_so_far buffer.old) (bytes_so_far buffer.new) }
+    ensures over { (last : List ℕ) → Over last buffer.old → Over last buffer.new }
+    ensures ok { IfOk result (λ n. buffer.new.at ≡ buffer.old.at + n) }
+    ensures bound { IfOk result (λ n. n ≤ length chunk.old) }
+    ensures end { IfOk result (λ n. n ≡ 0 → 0 < length chunk.old → IsAtEnd (R.left r.new)) }
+    ensures err { OnErr result (buffer.new.at ≡ buffer.old.at) }
+    ensures count { CountsFailure (R.failures r.old) (R.failures r.new) result }
+{
+    match buffer.order {
+        Ordering::Equal => pull_over(r, chunk, buffer),
+        _ => pull_behind(r, chunk.len(), buffer),
+    }
+}
+
+/// Reads this many bytes over the buffer, in pieces of the chunk's length at most. They come through the chunk for as
+/// long as the last record may be the same, and behind that straight into the buffer.
 pub fn fill<R: Source>(
     r: &mut R,
     chunk: &mut [u8],
@@ -74,12 +148,9 @@ pub fn fill<R: Source>(
         if let Err(_) = buffer.bytes.reserve(missing) {
             return Err(RecordFaultKind::OutOfMemory);
         }
-        match r.pull(&mut chunk[..want]) {
+        match pull_piece(r, &mut chunk[..want], buffer) {
             Ok(0) => return Err(RecordFaultKind::Truncated),
-            Ok(n) => {
-                buffer.order = write_over(&mut buffer.bytes, buffer.at, buffer.order, &chunk[..n]);
-                buffer.at += n;
-            }
+            Ok(_) => {}
             Err(Failed) => return Err(RecordFaultKind::Device),
         }
     }

@@ -1,29 +1,27 @@
-use Rattle.std.proofs.Common.{arith, ◌∙◌, ◌≡◌, ◌+◌, ◌++◌, take, drop, length, length-take, length-append, ℕ, List, sym, ap, subst, refl}
-use Rattle.std.proofs.lemmas.List.{take-append-le}
-use Rattle.std.specs.Ordering.{nat_cmp}
-use Rattle.std.specs.Cmp.Lexicographic.{slice_cmp}
-use Rattle.std.specs.Io.KnownBytes.{Consumes}
-use Rattle.archive_records.proofs.Laid.{Over-laid, Fills-laid}
+use Rattle.std.proofs.Common.{refl, ◌∙◌, arith, length-take}
+use Rattle.archive_records.proofs.Laid.{Over-room, Fills-room}
 use Rattle.archive_records.proofs.buffer.fill.Goals as goal
 
 pub filling-preserved : goal.filling-preserved
 filling-preserved g c =
-    let a = rw c.reserve.ensures.items at c.write_over-buffer.ensures.written in
-    let o = rw c.reserve.ensures.items at c.write_over-buffer.ensures.order in
-    let b = c.in-Ok.ensures.bytes in
-    let n = c.in-Ok.n in
-    let f = c.filling.buffer in
-    let m : List ℕ = take n (c.pull.new.buf ++ drop c.min-want.result c.filling.chunk) in
     let i = c.filling.invariant in
-    let same : m ≡ take n c.pull.new.buf = take-append-le n c.pull.new.buf (drop c.min-want.result c.filling.chunk) c.in-Ok.ensures.bound in
-    let bound = c.in-Ok.ensures.bound in
-    let len : length m ≡ n = ap length same ∙ omega (arith, length-take n c.pull.new.buf) in
-    let at : f.at + n ≡ f.at + length m = ap (λ (k : ℕ). f.at + k) (sym len) in
-    let lt = c.filling-test.true in
+    let p = c.pull_piece.ensures in
     record {
-      within = rw a (omega (arith, length-append (take f.at f.bytes.items) (m ++ drop (f.at + length m) f.bytes.items), length-append m (drop (f.at + length m) f.bytes.items), length-take f.at f.bytes.items));
-      below = omega (arith, c.min-want.ensures, length-take c.min-want.result c.filling.chunk);
-      fills = Fills-laid _ _ _ _ f (record { bytes = c.write_over-buffer.new.under; at = f.at + n; order = c.write_over-buffer.result }) m i.within at a i.fills (subst (λ (t : List ℕ). Consumes (g.R.Source.left c.filling.r) (g.R.Source.left c.pull.new.self) t) (sym same) b.0);
-      over = λ last p. Over-laid last f (record { bytes = c.write_over-buffer.new.under; at = f.at + n; order = c.write_over-buffer.result }) m (slice_cmp nat_cmp (take (length m) (drop f.at f.bytes.items)) m) i.within at a o refl (i.over last p);
+      within = p.within;
+      below = omega (arith, c.in-Ok.ensures.ok, c.in-Ok.ensures.bound, c.min-want.ensures, length-take c.min-want.result c.filling.chunk);
+      fills = Fills-room _ _ _ _ _ c.filling.buffer (record { bytes = c.reserve.new.self; at = c.filling.buffer.at; order = c.filling.buffer.order }) c.reserve.ensures.items refl i.fills p.fills;
+      over = λ last o. p.over last (Over-room last c.filling.buffer (record { bytes = c.reserve.new.self; at = c.filling.buffer.at; order = c.filling.buffer.order }) c.reserve.ensures.items refl refl (i.over last o));
       unfailed = c.in-Ok.ensures.count.1 ∙ i.unfailed;
     }
+
+pub returns-in-Ok-eq0-clause-fills : goal.returns-in-Ok-eq0-clause-fills
+returns-in-Ok-eq0-clause-fills g c = Fills-room _ _ _ _ _ c.filling.buffer (record { bytes = c.reserve.new.self; at = c.filling.buffer.at; order = c.filling.buffer.order }) c.reserve.ensures.items refl c.filling.invariant.fills c.pull_piece.ensures.fills
+
+pub returns-in-Ok-eq0-clause-over : goal.returns-in-Ok-eq0-clause-over
+returns-in-Ok-eq0-clause-over g c = λ last o. c.pull_piece.ensures.over last (Over-room last c.filling.buffer (record { bytes = c.reserve.new.self; at = c.filling.buffer.at; order = c.filling.buffer.order }) c.reserve.ensures.items refl refl (c.filling.invariant.over last o))
+
+pub returns-in-Err-pull_piece-clause-fills : goal.returns-in-Err-pull_piece-clause-fills
+returns-in-Err-pull_piece-clause-fills g c = Fills-room _ _ _ _ _ c.filling.buffer (record { bytes = c.reserve.new.self; at = c.filling.buffer.at; order = c.filling.buffer.order }) c.reserve.ensures.items refl c.filling.invariant.fills c.pull_piece.ensures.fills
+
+pub returns-in-Err-pull_piece-clause-over : goal.returns-in-Err-pull_piece-clause-over
+returns-in-Err-pull_piece-clause-over g c = λ last o. c.pull_piece.ensures.over last (Over-room last c.filling.buffer (record { bytes = c.reserve.new.self; at = c.filling.buffer.at; order = c.filling.buffer.order }) c.reserve.ensures.items refl refl (c.filling.invariant.over last o))
