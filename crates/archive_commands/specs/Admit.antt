@@ -16,17 +16,17 @@ use Rattle.archive_commands.specs.Inputs.{HoldsArchive, IsFileRefused, IsFirstRe
 abbrev pub images_of : List (List ℕ) → List (List ℕ)
 images_of files = flat_map admissible files
 
--- the rows of the file at a place, from a slice on
+-- the rows of the file of this number among those of the words, from a slice on
 unfoldable pub file_rows : ℕ → ℕ → List Taken → List AdmitRow
-file_rows place slice [] = []
-file_rows place slice (taken ∷ rest) =
-    record { file = place; slice = slice; taken = taken } ∷ file_rows place (slice + 1) rest
+file_rows index slice [] = []
+file_rows index slice (taken ∷ rest) =
+    record { file = index; slice = slice; taken = taken } ∷ file_rows index (slice + 1) rest
 
--- the rows of files from a place on, each over what those before it left
+-- the rows of files from this number on, each over what those before it left
 unfoldable pub admit_rows : Operations → ℕ → List (List ℕ) → List AdmitRow
-admit_rows o place [] = []
-admit_rows o place (file ∷ files) =
-    file_rows place 0 (taken_rows o (parts file)) ++ admit_rows (admitted o (admissible file)) (place + 1) files
+admit_rows o index [] = []
+admit_rows o index (file ∷ files) =
+    file_rows index 0 (taken_rows o (parts file)) ++ admit_rows (admitted o (admissible file)) (index + 1) files
 
 -- The files are accepted, and the content has their images now; these are their rows.
 pub record HasTaken {S : Type 0} (files : List (Reader S)) (old new : Operations) (rows : List AdmitRow) : Type 0 where

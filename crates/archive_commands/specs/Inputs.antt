@@ -165,18 +165,18 @@ IsAccepted input = (bytes : List ℕ) × IsAcceptedFile bytes × Holds input byt
 abbrev pub IsFrames : {S : Type 0} → Reader S → Type 0
 IsFrames input = (said : List Frame) × Gives input (λ bytes. frames_of bytes ≡ Ok said)
 
--- the archive at this place of the words is refused
+-- the archive of this number among those of the words is refused
 abbrev pub IsRefusedArchive : {S : Type 0} → ℕ → Reader S → Place → Why → Type 0
-IsRefusedArchive place input at why = (at ≡ Archive place) × IsArchiveRefused input why
+IsRefusedArchive index input at why = (at ≡ Archive index) × IsArchiveRefused input why
 
--- the file at this place is refused
+-- the file of this number is refused
 abbrev pub IsRefusedFile : {S : Type 0} → ℕ → Reader S → Place → Why → Type 0
-IsRefusedFile place input at why = (at ≡ File place) × IsFileRefused input why
+IsRefusedFile index input at why = (at ≡ File index) × IsFileRefused input why
 
--- the bytes of the file at this place are refused
+-- the bytes of the file of this number are refused
 abbrev pub IsRefusedBytes : ℕ → List ℕ → Place → Why → Type 0
-IsRefusedBytes place bytes at why =
-    (at ≡ File place) × (fault : TakeFault) × (why ≡ Take fault) × (fault ≢ TakeOutOfMemory) × IsTakeFault bytes fault
+IsRefusedBytes index bytes at why =
+    (at ≡ File index) × (fault : TakeFault) × (why ≡ Take fault) × (fault ≢ TakeOutOfMemory) × IsTakeFault bytes fault
 
 -- the operations file is refused
 abbrev pub IsRefusedOps : {S : Type 0} → Reader S → Place → Why → Type 0

@@ -55,7 +55,7 @@ EndsStreamed left right out report (Err OutOfMemory) =
     ((e : MergeFault) × Merges left right out (Err e) × IsTold e OutOfMemory × Takes report [])
     ⊎ ((sizes : Sizes) × Merges left right out (Ok sizes) × Takes report [])
 
--- The input at this place was not opened: nothing was read, and nothing written.
+-- This input was not opened: nothing was read, and nothing written.
 pub record IsUnopened {R S W : Type 0} (input : Reader R) (file : Reader S) (at : Place) (out : Stream W)
     (report : Writer) (result : Result Status CommandFault) : Type 0 where
   pub told : result ≡ Err (Input at NotOpened)

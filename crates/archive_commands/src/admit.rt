@@ -20,7 +20,7 @@ use byte_device::{Sink, Source};
 use memory::{Heap, NoMemory};
 use report_text::{AdmitRow, admit_lines};
 
-/// The refusal of a file at a place, whose bytes have this fault.
+/// The refusal of the file of this number, whose bytes have this fault.
 fn refusal(index: u64, fault: TakeFault) -> CommandFault
     ensures refused { (bytes : List ℕ) → IsTakeFault bytes fault
         → IsRefusal (IsRefusedBytes index bytes) (Unit {0}) result }
@@ -31,7 +31,7 @@ fn refusal(index: u64, fault: TakeFault) -> CommandFault
     }
 }
 
-/// Takes the slices of the file at a place, whose bytes these are.
+/// Takes the slices of the file of this number, whose bytes these are.
 fn take_bytes<A: Archive>(
     archive: &mut A,
     index: u64,
@@ -48,7 +48,7 @@ fn take_bytes<A: Archive>(
     }
 }
 
-/// Adds a row a slice of the file at a place.
+/// Adds a row for each slice of the file of this number.
 fn push_rows(rows: &mut Vec<AdmitRow, Heap>, index: u64, taken: &[Taken]) -> Result<(), NoMemory>
     ensures { OnOk result (rows.new.items ≡ rows.old.items ++ file_rows index 0 taken.now) }
 {
@@ -62,7 +62,7 @@ fn push_rows(rows: &mut Vec<AdmitRow, Heap>, index: u64, taken: &[Taken]) -> Res
     Ok(())
 }
 
-/// Takes the slices of the file at a place, and adds their rows.
+/// Takes the slices of the file of this number, and adds their rows.
 fn admit_file<A: Archive, S: Source>(
     heap: &Heap,
     archive: &mut A,

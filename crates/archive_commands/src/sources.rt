@@ -27,7 +27,7 @@ use crash_frames::{Frame, FramesError, read_frames};
 use memory::Heap;
 use rehearsal::{Script, ScriptError, read_script};
 
-/// The source of an input, or its refusal at this place where it could not be opened.
+/// The source of an input, or its refusal where it could not be opened.
 pub(crate) fn opened<S>(
     input: &mut Result<S, CannotOpen>,
     at: Place,
@@ -42,7 +42,7 @@ pub(crate) fn opened<S>(
     }
 }
 
-/// The refusal of an input at a place, whose text has this fault or whose reader failed.
+/// The refusal of an input, whose text has this fault or whose reader failed.
 pub(crate) fn refusal(at: Place, fault: RecordFault) -> CommandFault
     ensures refused { IsRefusal (λ index why. (index ≡ at) × (why ≡ Record fault) × (fault.kind ≢ RecordOutOfMemory))
         (fault.kind ≡ RecordOutOfMemory) result }
@@ -53,7 +53,7 @@ pub(crate) fn refusal(at: Place, fault: RecordFault) -> CommandFault
     }
 }
 
-/// Reads the archive at a place among those of the words.
+/// Reads the archive of this number among those of the words.
 pub(crate) fn read_input<A: Archive + Drop, R: Source>(
     heap: Heap,
     index: u64,
@@ -75,7 +75,7 @@ pub(crate) fn read_input<A: Archive + Drop, R: Source>(
     }
 }
 
-/// Reads the archive at a place among those of the words, and keeps the records that are picked.
+/// Reads the archive of this number among those of the words, and keeps the records that are picked.
 pub(crate) fn read_input_part<A: Archive + Drop, S: Selects, R: Source>(
     heap: Heap,
     index: u64,
@@ -137,7 +137,7 @@ pub(crate) fn read_entries<R: Source>(
     }
 }
 
-/// Reads the bytes of the input that stands at a place, to its end.
+/// Reads the bytes of an input to its end.
 fn read_bytes<S: Source>(
     heap: Heap,
     at: Place,
@@ -157,7 +157,7 @@ fn read_bytes<S: Source>(
     }
 }
 
-/// Reads the bytes of the file at a place among the words.
+/// Reads the bytes of the file of this number among the words.
 pub(crate) fn read_file<S: Source>(
     heap: Heap,
     index: u64,
