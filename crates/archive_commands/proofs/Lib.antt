@@ -13,6 +13,7 @@ pub mod OperationLists
 pub mod Answered
 pub mod Viewed
 pub mod Migrated
+pub mod Outcomes
 pub mod NameTold
 pub mod ListTold
 pub mod FindTold

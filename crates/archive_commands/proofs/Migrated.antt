@@ -1,10 +1,9 @@
 -- What `migrate` and `merge` make of archives of version 1.
-use Rattle.std.proofs.Common.{◌≡◌, ℕ, List, [], ◌∷◌, Option, Some, Result, Ok, Err, refl, sym, ap, ◌∙◌, inl, inr}
-use Rattle.std.specs.FinSet as set
+use Rattle.std.proofs.Common.{◌≡◌, ℕ, List, [], ◌∷◌, refl, sym, ap, ◌∙◌, inl, inr}
 use Rattle.std.specs.List.{AllByRecursion, AllZip}
 use Rattle.archive_core.specs.Content.{Operations, IsContent, content_of, joined}
 use Rattle.archive_records.specs.Text.{AreOperations, written, old_written}
-use Rattle.archive_records.proofs.Versions.{one_content, made_content}
+use Rattle.archive_records.proofs.Versions.{one_content}
 use Rattle.archive_commands.specs.Inputs.{Reader, IsGiven, IsGivenArchive, HoldsArchive}
 use Rattle.archive_commands.specs.Merge.{MakesMerged, merged}
 use Rattle.archive_commands.proofs.Viewed.{given_content}

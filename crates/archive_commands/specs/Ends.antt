@@ -24,6 +24,11 @@ pub record MakesArchive (Makes : Operations → List ℕ → Type 0) (text told 
   pub text_is : text ≡ written content
   pub told_is : told ≡ report_of content lines
 
+-- what two commands make is the same: one OUT and one report
+abbrev pub MakeOne : (List ℕ → List ℕ → Type 0) → (List ℕ → List ℕ → Type 0) → Type 0
+MakeOne Makes Others = (text told other other_told : List ℕ) → Makes text told → Others other other_told
+    → (text ≡ other) × (told ≡ other_told)
+
 -- The inputs are accepted, and what they make is published.
 pub record Carries (Makes : List ℕ → List ℕ → Type 0) (out report : Writer)
     (result : Result Status CommandFault) : Type 0 where

@@ -1,5 +1,5 @@
 -- What `merge` makes of archives.
-use Rattle.std.specs.Prelude.{◌≡◌, ℕ, ◌+◌, List, [], fold, map}
+use Rattle.std.specs.Prelude.{◌≡◌, ℕ, ◌+◌, List, [], fold}
 use Rattle.std.specs.List.{AllByRecursion, AllZip}
 use Rattle.std.specs.FinSet as set
 use Rattle.archive_core.specs.Content.{Operations, IsContent, joined}

@@ -11,7 +11,8 @@
 //!   `summary`, `delta`, `rehearse`: a command each;
 //! - [`admit_laws`], [`retire_laws`], [`merge_laws`], [`migrate_laws`], [`apply_laws`], [`find_laws`], [`list_laws`],
 //!   [`name_laws`], [`symbolicate_laws`], [`frames_laws`], [`exchange_laws`], [`rehearse_laws`]: what the definitions
-//! of   the commands say in the words of their user.
+//!   of the commands say in the words of their user;
+//! - [`outcome_laws`]: what a command makes of accepted inputs is one OUT and one report.
 #![tactic(auto)]
 
 mod admit;
@@ -35,6 +36,7 @@ pub mod migrate_laws;
 mod name;
 pub mod name_laws;
 mod new;
+pub mod outcome_laws;
 mod publish;
 mod rehearse;
 pub mod rehearse_laws;
