@@ -1,5 +1,5 @@
 -- The search in an address table and its building: the words of inner functions. No contract of a public one has them.
-use Rattle.std.specs.Prelude.{ℕ, Bool, List, ◌≡◌, ◌+◌, ◌≤◌, ◌<◌, ◌==◌, ◌&&◌, ◌||◌, nat_lt, nat_le, cond}
+use Rattle.std.specs.Prelude.{ℕ, Bool, List, ◌≡◌, ◌+◌, ◌-◌, ◌*◌, ◌^◌, ◌≤◌, ◌<◌, ◌==◌, ◌&&◌, ◌||◌, nat_lt, nat_le, cond}
 use Rattle.std.specs.Prelude.{length, slice_index_or, Option, Some, None, MatchOption, Contains, ◌⊎◌}
 use Rattle.std.specs.Ordering.{ordering_then, nat_cmp, bool_cmp, is_lt}
 use Rattle.std.specs.declared.cmp.Ordering.{Ordering}
@@ -14,6 +14,11 @@ abbrev pub row_cmp : Candidate → Candidate → Ordering
 row_cmp c d =
     ordering_then (nat_cmp c.sect d.sect)
     (ordering_then (nat_cmp d.value c.value) (ordering_then (bool_cmp d.external c.external) (nat_cmp c.strx d.strx)))
+
+-- the same order as one of numbers: 8 bits of the section, 64 of how far the value is below the greatest, one of whether it
+-- is no external symbol, and 32 of the place of the name
+abbrev pub row_number : Candidate → ℕ
+row_number c = ((c.sect * 2 ^ 64 + (2 ^ 64 - 1 - c.value)) * 2 + cond c.external 0 1) * 2 ^ 32 + c.strx
 
 -- sections rise along the rows, and in a section no value is above one before it
 abbrev pub AreSorted : List Candidate → Type 0

@@ -7,7 +7,7 @@ ghost use Rattle.std.specs.Option.{option_map, option_to_list};
 ghost use Rattle.macho_symbols.specs.Symbols.{strings_of};
 ghost use Rattle.macho_symbols.specs.Views.{tuple_of, rows_of};
 ghost use Rattle.macho_symbols.specs.declared.candidate.Candidate.{Candidate};
-ghost use Rattle.macho_symbols.specs.Halving.{row_cmp, is_before, AreSorted, IsFirstNotAbove};
+ghost use Rattle.macho_symbols.specs.Halving.{row_cmp, row_number, is_before, AreSorted, IsFirstNotAbove};
 ghost use Rattle.macho_symbols.specs.Rows.{IsBeside, AreFirsts, AreFalling, AreRows};
 
 use crate::candidate::Candidate;
@@ -18,22 +18,25 @@ use memory::{Heap, NoMemory};
 use std::cmp::Ordering;
 
 impl Candidate {
-    /// The section and the value in one number, which rises along the rows of a table.
-    fn rank(&self) -> u128
-        ensures value { result ≡ self.now.sect * 2 ^ 64 + (2 ^ 64 - 1 - self.now.value) }
-        ensures small { self.now.value < 2 ^ 64 }
+    /// All that the order of rows looks at in one number: the section, how far the value is below the greatest, whether it
+    /// is no external symbol, and the place of the name.
+    fn row_number(&self) -> u128
+        ensures number { result ≡ row_number self.now }
+        ensures value { self.now.value < 2 ^ 64 }
+        ensures place { self.now.strx < 2 ^ 32 }
     {
-        u128::from(self.sect) * 0x1_0000_0000_0000_0000 + u128::from(u64::MAX - self.value)
+        let fall = u128::from(self.sect) * 0x1_0000_0000_0000_0000
+            + u128::from(u64::MAX - self.value);
+        let kind = fall * 2 + u128::from(!self.external);
+        kind * 0x1_0000_0000 + u128::from(self.strx)
     }
 
-    /// Compares two candidates by section, value, kind and the place of the name. No name is read.
+    /// Compares two candidates by section, value, kind and the place of the name. No name is read. It has no branch, since
+    /// a sort asks it where nothing foretells the answer.
     fn compare_rows(&self, other: &Candidate) -> Ordering
         ensures { result ≡ row_cmp self.now other.now }
     {
-        self.rank()
-            .cmp(&other.rank())
-            .then(other.external.cmp(&self.external))
-            .then(self.strx.cmp(&other.strx))
+        self.row_number().cmp(&other.row_number())
     }
 
     /// Whether it has the section and the value of another one.
