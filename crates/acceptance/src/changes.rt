@@ -3,7 +3,7 @@
 use crate::archives::read;
 use crate::faults::{CallFault, Ended};
 use crate::questions::answers_of;
-use crate::subjects::{Act, Change, Seen, Subject};
+use crate::subjects::{Act, Change, Observation, Subject};
 use crate::tellings::tell_text;
 use archive_core::Archive;
 use memory::{Heap, NoMemory};
@@ -36,7 +36,7 @@ pub fn tell_change<A: Archive + Drop>(change: Change, told: &mut String) -> Ende
     ended
 }
 
-fn tell_seen(seen: &Seen, change: Change, told: &mut String) -> Result<(), NoMemory> {
+fn tell_seen(seen: &Observation, change: Change, told: &mut String) -> Result<(), NoMemory> {
     told.push_str("held: ")?;
     tell_text(&seen.held, told)?;
     if let Act::AtSite(_, _) = change.act {
@@ -47,7 +47,11 @@ fn tell_seen(seen: &Seen, change: Change, told: &mut String) -> Result<(), NoMem
 }
 
 // Tells where an archive that is read from the text of another one answers otherwise.
-fn tell_other_answers<A: Archive + Drop>(seen: &Seen, change: Change, told: &mut String) -> Ended {
+fn tell_other_answers<A: Archive + Drop>(
+    seen: &Observation,
+    change: Change,
+    told: &mut String,
+) -> Ended {
     let heap = Heap::new(change.alloc)?;
     let archive: A = read(heap.clone()?, &seen.held)?;
     if answers_of(&heap, &archive, change.questions, told)? != seen.answers {
@@ -57,7 +61,10 @@ fn tell_other_answers<A: Archive + Drop>(seen: &Seen, change: Change, told: &mut
 }
 
 // What is seen before the call.
-fn seen_before<A: Archive + Drop>(change: Change, told: &mut String) -> Result<Seen, CallFault> {
+fn seen_before<A: Archive + Drop>(
+    change: Change,
+    told: &mut String,
+) -> Result<Observation, CallFault> {
     let heap = Heap::new(change.alloc)?;
     Subject::<A>::begin(&heap, change)?.see(&heap, change, told)
 }
@@ -66,7 +73,7 @@ fn seen_before<A: Archive + Drop>(change: Change, told: &mut String) -> Result<S
 fn seen_after<A: Archive + Drop>(
     change: Change,
     told: &mut String,
-) -> Result<(Ended, Seen), CallFault> {
+) -> Result<(Ended, Observation), CallFault> {
     let heap = Heap::new(change.alloc)?;
     let mut subject = Subject::<A>::begin(&heap, change)?;
     let mut aside = String::new(change.alloc);
@@ -94,9 +101,9 @@ fn tell_stopped<A: Archive + Drop>(change: Change, told: &mut String) -> Ended {
 // Whether what is held is between what was held before and what is held in the end, and what is saved one of the two.
 fn is_between<A: Archive + Drop>(
     change: Change,
-    before: &Seen,
-    stopped: &Seen,
-    whole: &Seen,
+    before: &Observation,
+    stopped: &Observation,
+    whole: &Observation,
 ) -> Result<bool, CallFault> {
     let least: A = read(Heap::new(change.alloc)?, &before.held)?;
     let held: A = read(Heap::new(change.alloc)?, &stopped.held)?;

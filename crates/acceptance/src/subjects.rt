@@ -128,15 +128,15 @@ pub enum Subject<A: Archive> {
 
 /// What is seen of it: the texts of what is held and of what is saved, and the answers.
 #[derive(Drop)]
-pub struct Seen {
+pub struct Observation {
     pub held: Vec<u8>,
     pub saved: Vec<u8>,
     pub answers: String,
 }
 
-impl Seen {
+impl Observation {
     /// Whether the same is seen.
-    pub fn is_as(&self, other: &Seen) -> bool {
+    pub fn is_as(&self, other: &Observation) -> bool {
         self.held == other.held && self.saved == other.saved && self.answers == other.answers
     }
 }
@@ -176,7 +176,7 @@ impl<A: Archive + Drop> Subject<A> {
         heap: &Heap,
         change: Change,
         told: &mut String,
-    ) -> Result<Seen, CallFault> {
+    ) -> Result<Observation, CallFault> {
         heap.grant(0);
         let held = text_of(change.alloc, self.archive())?;
         heap.grant(u64::MAX);
@@ -186,7 +186,7 @@ impl<A: Archive + Drop> Subject<A> {
             site.stop()?;
             saved = text_of(change.alloc, site.archive())?;
         }
-        Ok(Seen {
+        Ok(Observation {
             held,
             saved,
             answers,

@@ -20,7 +20,7 @@ use Rattle.join_core.proofs.Merge.{along_members}
 use Rattle.join_core.proofs.Place.{len_listed}
 use Rattle.archive_core.specs.Record.{record_bytes, IsOperation, IsRecord}
 use Rattle.archive_core.specs.Content.{Operations, IsContent}
-use Rattle.archive_core.specs.Find.{key_in, find_cmp, row_of, IsFinding, IsFinds}
+use Rattle.archive_core.specs.Find.{key_in, find_cmp, row_of, IsFoundUnder, IsFinds}
 use Rattle.archive_core.specs.Lists.{list_cmp, IsListed, IsList, rows_under}
 use Rattle.archive_core.specs.InnerHeld.{IsHeld}
 use Rattle.archive_core.specs.declared.find.FindRow.{FindRow}
@@ -108,7 +108,7 @@ rows_of_under uuid (x ∷ xs) = by (bytes_eq (key_in x).uuid uuid) (rows_of_unde
     by false e = e
 
 -- what is told under a UUID is under it
-pub found_under : (o : Operations) (uuid : List ℕ) (a : Operation) → IsFinding o uuid a → (key_in a).uuid ≡ uuid
+pub found_under : (o : Operations) (uuid : List ℕ) (a : Operation) → IsFoundUnder o uuid a → (key_in a).uuid ≡ uuid
 found_under o uuid (Admit slice) h = h.0
 found_under o uuid (Retire key digest) h = h.0
 
@@ -147,13 +147,13 @@ part_of_list o uuid rows list = record {
   rows_are = ap (rows_under uuid) list.rows_are ∙ sym (rows_of_under uuid list.operations);
 }
   where
-    to : (a : Operation) → Contains (filter (under uuid) list.operations) a → IsOperation a × IsFinding o uuid a
+    to : (a : Operation) → Contains (filter (under uuid) list.operations) a → IsOperation a × IsFoundUnder o uuid a
     to a h =
         let kept = in_filter (under uuid) list.operations a h in
         let told = (list.exactly a).0 kept.0 in
-        (told.0, subst (λ u. IsFinding o u a) ((bytes_eq-Decides (key_in a).uuid uuid).0 kept.1) told.1)
+        (told.0, subst (λ u. IsFoundUnder o u a) ((bytes_eq-Decides (key_in a).uuid uuid).0 kept.1) told.1)
 
-    back : (a : Operation) → IsOperation a × IsFinding o uuid a → Contains (filter (under uuid) list.operations) a
+    back : (a : Operation) → IsOperation a × IsFoundUnder o uuid a → Contains (filter (under uuid) list.operations) a
     back a h =
         let is = found_under o uuid a h.1 in
-        to_filter (under uuid) list.operations a ((list.exactly a).1 (h.0, subst (λ u. IsFinding o u a) (sym is) h.1)) ((bytes_eq-Decides (key_in a).uuid uuid).1 is)
+        to_filter (under uuid) list.operations a ((list.exactly a).1 (h.0, subst (λ u. IsFoundUnder o u a) (sym is) h.1)) ((bytes_eq-Decides (key_in a).uuid uuid).1 is)

@@ -20,7 +20,7 @@ use Rattle.archive_core.specs.Content.{Operations, IsContent, IsLive, IsAnswerin
 use Rattle.archive_core.specs.Find.{AreAnswering}
 use Rattle.archive_core.specs.InnerHeld.{IsHeld}
 use Rattle.archive_core.specs.Find.{is_key, is_kind}
-use Rattle.archive_core.specs.InnerScan.{is_live_kind, live_in, live_among, IsTally}
+use Rattle.archive_core.specs.InnerScan.{is_live_kind, live_in, live_among, IsAnsweringOf}
 use Rattle.archive_core.specs.Lookup.{IsOwnRow, own_row}
 use Rattle.archive_core.specs.declared.keys.Digest.{Digest}
 use Rattle.archive_core.specs.declared.keys.SliceKey.{SliceKey}
@@ -207,7 +207,7 @@ rows_more asked slices old new slice row all one is =
     subst (AllZip (IsOwnRow asked) (slices ++ slice ∷ [])) (sym (ap (map own_row) is ∙ map-append own_row old (row ∷ []))) (zip_more (IsOwnRow asked) slices (map own_row old) slice (own_row row) all one)
 
 -- where not nothing is kept of slices, there are some
-pub some_of_tally : (tally : Answering) (slices : List (List ℕ)) → IsTally tally slices → (tally ≡ Nothing → ⊥) → slices ≡ [] → ⊥
-some_of_tally Nothing slices h some none = some refl
-some_of_tally (One slice) slices h some none = let apart : slice ∷ [] ≡ [] = sym h ∙ none in cc
-some_of_tally Several slices h some none = let empty : length slices ≡ 0 = ap length none in omega arith
+pub some_of_answering : (answering : Answering) (slices : List (List ℕ)) → IsAnsweringOf answering slices → (answering ≡ Nothing → ⊥) → slices ≡ [] → ⊥
+some_of_answering Nothing slices h some none = some refl
+some_of_answering (One slice) slices h some none = let apart : slice ∷ [] ≡ [] = sym h ∙ none in cc
+some_of_answering Several slices h some none = let empty : length slices ≡ 0 = ap length none in omega arith

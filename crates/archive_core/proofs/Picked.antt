@@ -11,7 +11,7 @@ use Rattle.archive_core.specs.Key.{key_bytes}
 use Rattle.archive_core.specs.Valid.{key_of}
 use Rattle.archive_core.specs.Record.{admission, admission_record, retirement_record}
 use Rattle.archive_core.specs.Content.{Operations, IsContent, IsLive, IsAnswering}
-use Rattle.archive_core.specs.Find.{IsFinding, IsFinds, AreAnswering}
+use Rattle.archive_core.specs.Find.{IsFoundUnder, IsFinds, AreAnswering}
 use Rattle.archive_core.specs.Lookup.{AnswerRecord, IsAnswer, IsConflict}
 use Rattle.archive_core.specs.Names.{NameRecord, IsNameRow, IsNames}
 use Rattle.archive_core.specs.Part.{is_under, part, AreAlikeUnder, AreAlikeNamed}
@@ -89,11 +89,11 @@ uuid_first uuid key e =
     let more : List ℕ = to_be_bytes w32 key.arch.cputype ++ to_be_bytes w32 key.arch.subtype in
     (more, ap (λ (t : List ℕ). t ++ more) e)
 
-finding_alike : (o p : Operations) (uuid : List ℕ) (a : Operation) → AreAlikeUnder uuid o p → IsFinding o uuid a → IsFinding p uuid a
-finding_alike o p uuid (Admit slice) same is =
+found_alike : (o p : Operations) (uuid : List ℕ) (a : Operation) → AreAlikeUnder uuid o p → IsFoundUnder o uuid a → IsFoundUnder p uuid a
+found_alike o p uuid (Admit slice) same is =
     let first = uuid_first uuid (key_of slice) is.0 in
     (is.0, live_alike uuid first.0 o p (key_of slice) slice first.1 same is.1)
-finding_alike o p uuid (Retire key digest) same is =
+found_alike o p uuid (Retire key digest) same is =
     let first = uuid_first uuid key is.0 in
     (is.0, sym (same (retirement_record key digest.0) (retirement_under uuid first.0 key digest.0 first.1)) ∙ is.1)
 
@@ -102,8 +102,8 @@ finds_alike o p uuid rows same is = record {
   operations = is.operations;
   ascending = is.ascending;
   exactly = λ a. (
-    λ h. let told = (is.exactly a).0 h in (told.0, finding_alike o p uuid a same told.1),
-    λ h. (is.exactly a).1 (h.0, finding_alike p o uuid a (alike_back uuid o p same) h.1),
+    λ h. let told = (is.exactly a).0 h in (told.0, found_alike o p uuid a same told.1),
+    λ h. (is.exactly a).1 (h.0, found_alike p o uuid a (alike_back uuid o p same) h.1),
   );
   rows_are = is.rows_are;
 }

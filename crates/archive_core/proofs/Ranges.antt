@@ -21,7 +21,7 @@ use Rattle.archive_core.specs.Valid.{key_of}
 use Rattle.archive_core.specs.Record.{record_bytes, admission, admission_record, retirement_record, IsOperation}
 use Rattle.archive_core.specs.InnerHeld.{IsHeld}
 use Rattle.archive_core.specs.Find.{is_key}
-use Rattle.archive_core.specs.InnerScan.{is_finding, is_live_kind, live_in, live_among}
+use Rattle.archive_core.specs.InnerScan.{is_found_under, is_live_kind, live_in, live_among}
 use Rattle.archive_core.specs.declared.keys.SliceKey.{SliceKey}
 use Rattle.archive_core.specs.declared.operations.Operation.{Operation}
 use Rattle.archive_core.specs.declared.operations.Operation.TheVariants.{Admit, Retire}
@@ -221,17 +221,17 @@ none_behind uuid slice (Retire key digest ∷ xs) up = cc
 
 -- so what a search tells stands in two runs: the retirements under the UUID, and the admissions
 pub two_runs : (uuid : List ℕ) (xs : List Operation) → IsStrictlySortedBy (slice_cmp nat_cmp) (map record_bytes xs)
-    → filter (is_under_uuid Retirement uuid) xs ++ filter (is_under_uuid Admission uuid) xs ≡ filter (is_finding uuid) xs
+    → filter (is_under_uuid Retirement uuid) xs ++ filter (is_under_uuid Admission uuid) xs ≡ filter (is_found_under uuid) xs
 unfolding IsStrictlySortedBy
 two_runs uuid [] up = refl
 two_runs uuid (Retire key digest ∷ xs) up =
-    in_front (is_under_uuid Retirement uuid (Retire key digest)) (bytes_eq key.uuid uuid) (Retire key digest) (filter (is_under_uuid Retirement uuid) xs) (filter (is_under_uuid Admission uuid) xs) (filter (is_finding uuid) xs)
+    in_front (is_under_uuid Retirement uuid (Retire key digest)) (bytes_eq key.uuid uuid) (Retire key digest) (filter (is_under_uuid Retirement uuid) xs) (filter (is_under_uuid Admission uuid) xs) (filter (is_found_under uuid) xs)
     (same_test 1 key.uuid uuid) (two_runs uuid xs up.1)
 two_runs uuid (Admit slice ∷ xs) up =
     let admissions = filter (is_under_uuid Admission uuid) in
     let none = none_behind uuid slice xs up.0 in
-    let rest : admissions xs ≡ filter (is_finding uuid) xs = sym (ap (λ l. l ++ admissions xs) none) ∙ two_runs uuid xs up.1 in
+    let rest : admissions xs ≡ filter (is_found_under uuid) xs = sym (ap (λ l. l ++ admissions xs) none) ∙ two_runs uuid xs up.1 in
     ap (λ l. l ++ admissions (Admit slice ∷ xs)) none
     ∙ sym (append-nil (admissions (Admit slice ∷ xs)))
-    ∙ in_front (is_under_uuid Admission uuid (Admit slice)) (bytes_eq (key_of slice).uuid uuid) (Admit slice) (admissions xs) [] (filter (is_finding uuid) xs)
+    ∙ in_front (is_under_uuid Admission uuid (Admit slice)) (bytes_eq (key_of slice).uuid uuid) (Admit slice) (admissions xs) [] (filter (is_found_under uuid) xs)
     (same_test 2 (key_of slice).uuid uuid) (append-nil (admissions xs) ∙ rest)

@@ -20,8 +20,8 @@ use Rattle.std.proofs.lemmas.Map.Keys.{IsDistinct-from_sorted, IsDistinct-IsPerm
 use Rattle.archive_core.specs.Valid.{key_of}
 use Rattle.archive_core.specs.Record.{record_bytes, IsOperation}
 use Rattle.archive_core.specs.Content.{Operations, IsContent}
-use Rattle.archive_core.specs.Find.{key_in, arch_cmp, find_cmp, IsFinding, row_of, IsFinds}
-use Rattle.archive_core.specs.InnerScan.{is_finding}
+use Rattle.archive_core.specs.Find.{key_in, arch_cmp, find_cmp, IsFoundUnder, row_of, IsFinds}
+use Rattle.archive_core.specs.InnerScan.{is_found_under}
 use Rattle.archive_core.specs.InnerHeld.{IsHeld}
 use Rattle.archive_core.specs.declared.find.FindRow.{FindRow}
 use Rattle.archive_core.specs.declared.operations.Operation.{Operation}
@@ -222,13 +222,13 @@ operation_there operations a known is_a h = among operations known (sym (contain
         at false e rest more = in_rest x xs a (more rest)
 
 -- what is held under the UUID is what a search tells
-finding_by_test : (o : Operations) (uuid : List ℕ) (a : Operation) → IsContent o → IsOperation a → contains o (record_bytes a) ≡ true → is_finding uuid a ≡ true → IsFinding o uuid a
-finding_by_test o uuid (Admit slice) content valid there h = ((bytes_eq-Decides (key_of slice).uuid uuid).0 h, live_in_content o slice content valid there)
-finding_by_test o uuid (Retire key digest) content is there h = ((bytes_eq-Decides key.uuid uuid).0 h, there)
+found_by_test : (o : Operations) (uuid : List ℕ) (a : Operation) → IsContent o → IsOperation a → contains o (record_bytes a) ≡ true → is_found_under uuid a ≡ true → IsFoundUnder o uuid a
+found_by_test o uuid (Admit slice) content valid there h = ((bytes_eq-Decides (key_of slice).uuid uuid).0 h, live_in_content o slice content valid there)
+found_by_test o uuid (Retire key digest) content is there h = ((bytes_eq-Decides key.uuid uuid).0 h, there)
 
-test_of_finding : (o : Operations) (uuid : List ℕ) (a : Operation) → IsFinding o uuid a → (contains o (record_bytes a) ≡ true) × (is_finding uuid a ≡ true)
-test_of_finding o uuid (Admit slice) h = (h.1.admitted, (bytes_eq-Decides (key_of slice).uuid uuid).1 h.0)
-test_of_finding o uuid (Retire key digest) h = (h.1, (bytes_eq-Decides key.uuid uuid).1 h.0)
+test_of_found : (o : Operations) (uuid : List ℕ) (a : Operation) → IsFoundUnder o uuid a → (contains o (record_bytes a) ≡ true) × (is_found_under uuid a ≡ true)
+test_of_found o uuid (Admit slice) h = (h.1.admitted, (bytes_eq-Decides (key_of slice).uuid uuid).1 h.0)
+test_of_found o uuid (Retire key digest) h = (h.1, (bytes_eq-Decides key.uuid uuid).1 h.0)
 
 -- operations that are told: all that have a fact, strictly ascending
 pub record AreTold (R : Operation → Operation → Ordering) (P : Operation → Type 0) (told : List Operation) : Type 0 where
@@ -262,9 +262,9 @@ module _ (o : Operations) (R : Operation → Operation → Ordering) (total : Is
 
 -- the told operations of a plain archive, sorted, are those that a search tells
 pub finds_sorted : (o : Operations) (uuid : List ℕ) (operations told : List Operation) → IsHeld operations → from_list (map record_bytes operations) ≡ o
-    → IsPermutation (filter (is_finding uuid) operations) told → IsSorted find_cmp told → IsFinds o uuid (map row_of told)
+    → IsPermutation (filter (is_found_under uuid) operations) told → IsSorted find_cmp told → IsFinds o uuid (map row_of told)
 finds_sorted o uuid operations told held is permuted sorted =
-    let are = told_sorted o find_cmp find_total untied_records (is_finding uuid) (IsFinding o uuid) (λ a. finding_by_test o uuid a (subst IsContent is (content_of_held operations held))) (test_of_finding o uuid) operations told held is permuted sorted in
+    let are = told_sorted o find_cmp find_total untied_records (is_found_under uuid) (IsFoundUnder o uuid) (λ a. found_by_test o uuid a (subst IsContent is (content_of_held operations held))) (test_of_found o uuid) operations told held is permuted sorted in
     record { operations = told; ascending = are.ascending; exactly = are.exactly; rows_are = refl }
 
 -- a content and a UUID have one list of rows

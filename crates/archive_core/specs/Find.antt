@@ -35,9 +35,9 @@ abbrev pub find_cmp : Operation → Operation → Ordering
 find_cmp = then_cmp (on (λ operation. (key_in operation).arch) arch_cmp) (on record_bytes (slice_cmp nat_cmp))
 
 -- a retirement of the content under the UUID, or the admission of a slice that is live there
-abbrev pub IsFinding : Operations → List ℕ → Operation → Type 0
-IsFinding o uuid (Admit slice) = ((key_of slice).uuid ≡ uuid) × IsLive o (key_of slice) slice
-IsFinding o uuid (Retire key digest) = (key.uuid ≡ uuid) × (set.contains o (retirement_record key digest.0) ≡ true)
+abbrev pub IsFoundUnder : Operations → List ℕ → Operation → Type 0
+IsFoundUnder o uuid (Admit slice) = ((key_of slice).uuid ≡ uuid) × IsLive o (key_of slice) slice
+IsFoundUnder o uuid (Retire key digest) = (key.uuid ≡ uuid) × (set.contains o (retirement_record key digest.0) ≡ true)
 
 -- a live slice is a companion by its filetype MH_DSYM, or else an image
 abbrev pub state_of : List ℕ → FindState
@@ -61,7 +61,7 @@ row_of operation = record { key = key_in operation; digest = digest_in operation
 pub record IsFinds (o : Operations) (uuid : List ℕ) (rows : List FindRow) : Type 0 where
   pub operations : List Operation
   pub ascending : IsStrictlySortedBy find_cmp operations
-  pub exactly : (a : Operation) → Contains operations a ↔ (IsOperation a × IsFinding o uuid a)
+  pub exactly : (a : Operation) → Contains operations a ↔ (IsOperation a × IsFoundUnder o uuid a)
   pub rows_are : rows ≡ map row_of operations
 
 -- the state of a live companion

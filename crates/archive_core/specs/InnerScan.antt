@@ -12,8 +12,8 @@ use Rattle.archive_core.specs.declared.live.Answering.{Answering}
 use Rattle.archive_core.specs.declared.live.Answering.TheVariants.{Nothing, One, Several}
 
 -- a search finds the operations that are held under its UUID: no slice that is held is retired
-abbrev pub is_finding : List ℕ → Operation → Bool
-is_finding uuid operation = bytes_eq (key_in operation).uuid uuid
+abbrev pub is_found_under : List ℕ → Operation → Bool
+is_found_under uuid operation = bytes_eq (key_in operation).uuid uuid
 
 -- a slice that is held is live; it is under the key, and of the kind
 unfoldable pub is_live_kind : SliceKey → Bool → List ℕ → Bool
@@ -29,7 +29,7 @@ unfoldable pub live_among : SliceKey → Bool → List Operation → List (List 
 live_among key dsym operations = filter_map (live_in key dsym) operations
 
 -- what is kept of slices: that there is none, the one, or that there are several
-abbrev pub IsTally : Answering → List (List ℕ) → Type 0
-IsTally Nothing slices = slices ≡ []
-IsTally (One slice) slices = slices ≡ slice ∷ []
-IsTally Several slices = 2 ≤ length slices
+abbrev pub IsAnsweringOf : Answering → List (List ℕ) → Type 0
+IsAnsweringOf Nothing slices = slices ≡ []
+IsAnsweringOf (One slice) slices = slices ≡ slice ∷ []
+IsAnsweringOf Several slices = 2 ≤ length slices

@@ -7,7 +7,7 @@ use Rattle.std.specs.Cmp.Lexicographic.{slice_cmp}
 use Rattle.std.specs.List.Sorted.{IsStrictlySortedBy}
 use Rattle.archive_core.specs.Record.{IsOperation}
 use Rattle.archive_core.specs.Content.{Operations}
-use Rattle.archive_core.specs.Find.{key_in, find_cmp, IsFinding, row_of}
+use Rattle.archive_core.specs.Find.{key_in, find_cmp, IsFoundUnder, row_of}
 use Rattle.archive_core.specs.declared.find.FindRow.{FindRow}
 use Rattle.archive_core.specs.declared.operations.Operation.{Operation}
 
@@ -17,7 +17,7 @@ list_cmp = then_cmp (on (λ operation. (key_in operation).uuid) (slice_cmp nat_c
 
 -- a search for the UUID of the operation tells it
 abbrev pub IsListed : Operations → Operation → Type 0
-IsListed o operation = IsFinding o (key_in operation).uuid operation
+IsListed o operation = IsFoundUnder o (key_in operation).uuid operation
 
 -- what a list of all tells: one row for each retirement and each live slice, by UUID, then by architecture, then by
 -- record

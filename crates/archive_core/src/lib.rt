@@ -19,7 +19,7 @@
 //! - `seen`: retirements that came, and the slices that they cover;
 //! - `parting`: the admissions of a list, and behind them its retirements;
 //! - `taking`: many operations at once;
-//! - `finding`: an operation beside the row that a search tells of it;
+//! - `hashed`: an operation beside the row that a search tells of it;
 //! - `lists`: what a list of all tells;
 //! - `live`: slices that answer under a key, and what they tell;
 //! - `range`: the operations of one kind under one key;
@@ -31,7 +31,7 @@ mod archives;
 mod covered;
 mod faults;
 mod find;
-mod finding;
+mod hashed;
 mod keys;
 pub mod laws;
 mod lists;

@@ -7,7 +7,7 @@ ghost use Rattle.archive_core.specs.Lists.{IsList};
 ghost use Rattle.archive_core.specs.Record.{record_bytes};
 ghost use Rattle.archive_core.specs.declared.operations.Operation.{Operation};
 
-use crate::finding::{HashedRecord, rows_of};
+use crate::hashed::{HashedRecord, rows_of};
 use crate::{Archive, FindRow};
 use memory::{Heap, NoMemory};
 
@@ -16,16 +16,16 @@ fn gather<'a, A: Archive>(
     heap: Heap,
     archive: &'a A,
 ) -> Result<Vec<HashedRecord<'a>, Heap>, NoMemory>
-    ensures findings { IfOk result (λ findings. (operations : List Operation) → IsHeld operations
+    ensures hashed { IfOk result (λ hashed. (operations : List Operation) → IsHeld operations
         → from_list (map record_bytes operations) ≡ A.content archive.now
-        → findings.items ≡ operations) }
+        → hashed.items ≡ operations) }
     ensures content { OnOk result (IsContent (A.content archive.now)) }
 {
-    let mut findings = Vec::new(heap);
+    let mut hashed = Vec::new(heap);
     'records: for index in 0..archive.len() {
-        findings.push(HashedRecord::of(&archive.record_at(index)))?;
+        hashed.push(HashedRecord::of(&archive.record_at(index)))?;
     }
-    Ok(findings)
+    Ok(hashed)
 }
 
 /// The retirements and the live slices of an archive, a row for each, by UUID, then by `cputype` and `subtype`, then
@@ -34,7 +34,7 @@ fn gather<'a, A: Archive>(
 pub fn list<A: Archive>(heap: Heap, archive: &A) -> Result<Vec<FindRow, Heap>, NoMemory>
     ensures { IfOk result (λ rows. IsList (A.content archive.now) rows.items) }
 {
-    let mut findings = gather(heap.clone()?, archive)?;
-    findings.sort_unstable_by(|a, b| a.compare_all(b));
-    rows_of(heap, &findings)
+    let mut hashed = gather(heap.clone()?, archive)?;
+    hashed.sort_unstable_by(|a, b| a.compare_all(b));
+    rows_of(heap, &hashed)
 }

@@ -5,7 +5,7 @@ ghost use Rattle.macho_symbols.specs.Views.{found_view};
 ghost use Rattle.archive_core.specs.Lookup.{IsOwn, IsOwnRow, Alone, file_address, unslid};
 ghost use Rattle.archive_core.specs.Lookup.{own_view, own_row, answer_view};
 ghost use Rattle.archive_core.specs.Find.{is_key, is_kind};
-ghost use Rattle.archive_core.specs.InnerScan.{IsTally};
+ghost use Rattle.archive_core.specs.InnerScan.{IsAnsweringOf};
 
 use crate::{Answer, Digest, Own, Slice, SliceKey, Where};
 use macho_symbols::Found;
@@ -62,7 +62,7 @@ impl<'a> Asked<'a> {
 impl<'a> Answering<'a> {
     // The same with one slice more.
     pub(crate) fn and(self, slice: Asked<'a>) -> Answering<'a>
-        ensures { (slices : List (List ℕ)) → IsTally self.entry slices → IsTally result (slices ++ slice.entry ∷ []) }
+        ensures { (slices : List (List ℕ)) → IsAnsweringOf self.entry slices → IsAnsweringOf result (slices ++ slice.entry ∷ []) }
     {
         match self {
             Answering::Nothing => Answering::One(slice),

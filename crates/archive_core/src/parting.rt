@@ -5,7 +5,7 @@ ghost use Rattle.archive_core.specs.InnerTaking.{IsPut, IsParted};
 ghost use Rattle.archive_core.specs.declared.operations.Operation.TheVariants.{Admit, Retire};
 
 use crate::covered::retirement;
-use crate::seen::Seen;
+use crate::seen::SeenRetirements;
 use crate::{Archive, Digest, Operation, Slice, SliceKey};
 use memory::{Heap, NoMemory};
 
@@ -30,7 +30,7 @@ impl Parts {
     }
 
     // Puts an admission behind the others, where none of the retirements before it covers it.
-    fn admit(&mut self, seen: &Seen, slice: Slice) -> Result<(), NoMemory>
+    fn admit(&mut self, seen: &SeenRetirements, slice: Slice) -> Result<(), NoMemory>
         ensures { OnOk result ((old : Operations)
             → IsPut old (Admit slice) self.old.admissions.items self.old.retirements.items seen.now
             self.new.admissions.items self.new.retirements.items seen.now) }
@@ -47,7 +47,7 @@ impl Parts {
     fn retire<A: Archive>(
         &mut self,
         archive: &A,
-        seen: &mut Seen,
+        seen: &mut SeenRetirements,
         key: SliceKey,
         digest: Digest,
     ) -> Result<(), NoMemory>
@@ -68,7 +68,7 @@ impl Parts {
     fn put<A: Archive>(
         &mut self,
         archive: &A,
-        seen: &mut Seen,
+        seen: &mut SeenRetirements,
         operation: Operation,
     ) -> Result<(), NoMemory>
         ensures { OnOk result (IsPut (A.content archive.now) operation
@@ -92,7 +92,7 @@ pub(crate) fn parts_of<A: Archive>(
 {
     let _before = archive.len();
     let mut parts = Parts::none(operations.allocator())?;
-    let mut seen = Seen::none(operations.allocator())?;
+    let mut seen = SeenRetirements::none(operations.allocator())?;
     'operations: for operation in operations {
         parts.put(archive, &mut seen, operation)?;
     }

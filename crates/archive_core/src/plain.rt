@@ -11,14 +11,14 @@ ghost use Rattle.archive_core.specs.Record.{record_bytes, IsOperation};
 ghost use Rattle.archive_core.specs.Content.{IsContent, IsTakenInPart, is_covered, changes};
 ghost use Rattle.archive_core.specs.Content.{with_record, with_records, joined};
 ghost use Rattle.archive_core.specs.InnerHeld.{IsHeld};
-ghost use Rattle.archive_core.specs.InnerScan.{live_in, live_among, IsTally};
+ghost use Rattle.archive_core.specs.InnerScan.{live_in, live_among, IsAnsweringOf};
 ghost use Rattle.archive_core.specs.declared.operations.Operation.TheVariants.{Admit, Retire};
 ghost use Rattle.archive_core.specs.Lookup.{IsOwnRow, IsAnswerOf, own_row, answer_view};
 ghost use Rattle.archive_core.specs.Names.{name_view};
 ghost use Rattle.archive_core.specs.InnerNames.{names_of, names_among};
 
 use crate::covered::{Lent, drop_covered, drop_retired, retirement};
-use crate::finding::{HashedRecord, rows_of};
+use crate::hashed::{HashedRecord, rows_of};
 use crate::live::{Answering, Asked, answer_of_one, is_key, is_kind};
 use crate::names::{has_name, put_in_order, rows_in};
 use crate::range::{
@@ -251,13 +251,13 @@ impl PlainArchive {
 
     // Adds operations, each with its row.
     fn gather<'a>(
-        findings: &mut Vec<HashedRecord<'a>, Heap>,
+        hashed: &mut Vec<HashedRecord<'a>, Heap>,
         operations: &'a [Operation],
     ) -> Result<(), NoMemory>
-        ensures { OnOk result (findings.new.items ≡ findings.old.items ++ operations.now) }
+        ensures { OnOk result (hashed.new.items ≡ hashed.old.items ++ operations.now) }
     {
         'operations: for operation in operations {
-            findings.push(HashedRecord::of(&operation.lend()))?;
+            hashed.push(HashedRecord::of(&operation.lend()))?;
         }
         Ok(())
     }
@@ -277,16 +277,16 @@ impl PlainArchive {
     }
 
     // The live slices of a key, companions or not, as far as one of them is asked alone.
-    fn tally<'a>(operations: &'a [Operation], key: &SliceKey, dsym: bool) -> Answering<'a>
-        ensures { IsTally result (live_among key.now dsym operations.now) }
+    fn answering<'a>(operations: &'a [Operation], key: &SliceKey, dsym: bool) -> Answering<'a>
+        ensures { IsAnsweringOf result (live_among key.now dsym operations.now) }
     {
-        let mut tally = Answering::Nothing;
+        let mut answering = Answering::Nothing;
         'operations: for operation in operations {
             if let Some(slice) = PlainArchive::live(operation, key, dsym) {
-                tally = tally.and(slice);
+                answering = answering.and(slice);
             }
         }
-        tally
+        answering
     }
 
     // What each of the live slices of a key, companions or not, tells of a place.
@@ -315,15 +315,15 @@ impl PlainArchive {
         operations: &'a [Operation],
         key: &SliceKey,
         dsym: bool,
-        tally: Answering<'a>,
+        answering: Answering<'a>,
         asked: Where,
     ) -> Result<Answer<'a>, NoMemory>
-        requires { IsTally tally (live_among key.now dsym operations.now) }
+        requires { IsAnsweringOf answering (live_among key.now dsym operations.now) }
         ensures answer { IfOk result (λ answer.
             IsAnswerOf asked (live_among key.now dsym operations.now) (answer_view answer)) }
         ensures memory { OnErr result (2 ≤ length (live_among key.now dsym operations.now)) }
     {
-        match tally {
+        match answering {
             Answering::Nothing => Ok(Answer::Unknown),
             Answering::One(slice) => Ok(answer_of_one(slice.own(asked))),
             Answering::Several => Ok(Answer::Conflict(self.own_rows(
@@ -479,18 +479,18 @@ impl Archive for PlainArchive {
     fn find(&self, uuid: &Uuid) -> Result<Vec<FindRow, Heap>, NoMemory> {
         let retirements = under_uuid(&self.operations, RecordKind::Retirement, *uuid);
         let admissions = under_uuid(&self.operations, RecordKind::Admission, *uuid);
-        let mut findings = Vec::new(self.operations.allocator().clone()?);
-        PlainArchive::gather(&mut findings, retirements)?;
-        PlainArchive::gather(&mut findings, admissions)?;
-        findings.sort_unstable_by(|a, b| a.compare(b));
-        rows_of(self.operations.allocator().clone()?, &findings)
+        let mut hashed = Vec::new(self.operations.allocator().clone()?);
+        PlainArchive::gather(&mut hashed, retirements)?;
+        PlainArchive::gather(&mut hashed, admissions)?;
+        hashed.sort_unstable_by(|a, b| a.compare(b));
+        rows_of(self.operations.allocator().clone()?, &hashed)
     }
 
     fn lookup(&self, key: &SliceKey, asked: Where) -> Result<Answer<'_>, NoMemory> {
         let admissions = under(&self.operations, RecordKind::Admission, *key);
-        match PlainArchive::tally(admissions, key, true) {
+        match PlainArchive::answering(admissions, key, true) {
             Answering::Nothing => {
-                let images = PlainArchive::tally(admissions, key, false);
+                let images = PlainArchive::answering(admissions, key, false);
                 self.answer_of(admissions, key, false, images, asked)
             }
             companions => self.answer_of(admissions, key, true, companions, asked),

@@ -147,12 +147,12 @@ impl Ord for Retired {
 
 // The retirements that came so far, and their keys.
 #[derive(Drop)]
-pub(crate) struct Seen {
+pub(crate) struct SeenRetirements {
     keys: BTreeSet<OrderedKey, Heap>,
     retired: BTreeSet<Retired, Heap>,
 }
 
-impl Model for Seen {
+impl Model for SeenRetirements {
     ghost use Rattle.std.specs.Ordering.{nat_cmp};
     ghost use Rattle.std.specs.Cmp.Lexicographic.{slice_cmp};
     ghost use Rattle.std.specs.FinSet as set;
@@ -168,12 +168,12 @@ impl Model for Seen {
     ghost invariant = { λ seen. IsKeyed (set.from_list seen.keys.keys) (set.from_list seen.retired.keys) };
 }
 
-impl Seen {
+impl SeenRetirements {
     // No retirements.
-    pub(crate) fn none(heap: &Heap) -> Result<Seen, NoMemory>
+    pub(crate) fn none(heap: &Heap) -> Result<SeenRetirements, NoMemory>
         ensures { IfOk result (λ seen. seen ≡ set.empty) }
     {
-        Ok(Seen {
+        Ok(SeenRetirements {
             keys: BTreeSet::new(heap.clone()?),
             retired: BTreeSet::new(heap.clone()?),
         })

@@ -32,7 +32,7 @@ use Rattle.archive_exchange.specs.declared.fault.ReplyFault.TheVariants as reply
 use Rattle.archive_exchange.specs.declared.event.EventFault.TheVariants as fault
 use Rattle.archive_exchange.specs.declared.event.Outcome.{Outcome}
 use Rattle.archive_exchange.specs.declared.event.Outcome.TheVariants as told
-use Rattle.archive_exchange.proofs.Scenes.{set_same, shows_held, shows_saved, shows_sent, message_at, no_message_at, IsMessage}
+use Rattle.archive_exchange.proofs.RunStates.{set_same, shows_held, shows_saved, shows_sent, message_at, no_message_at, IsMessage}
 use Rattle.archive_exchange.proofs.Gained.{content_gain, content_joined, recorded_take, recorded_retire, content_seen}
 use Rattle.archive_exchange.proofs.Magics.{gives_no_summary, not_an_archive, not_a_summary}
 

@@ -9,7 +9,7 @@ pub mod Redelivered
 pub mod RowPlaces
 pub mod FaultLaws
 pub mod Texts
-pub mod Scenes
+pub mod RunStates
 pub mod Gained
 pub mod Whole
 pub mod Magics

@@ -78,7 +78,7 @@ shown_whole sites texts w sh i site at =
       saved = (w.saved i, record { content = sh.saved i; is = is.saved });
     }
 
-pub read_whole : (sites : List SiteState) (texts : List (List ℕ)) (scene : RunState) (i : ℕ) (site : SiteState) → AreSites sites → record { sites = sites; messages = texts } ≡ scene → i < length scene.sites → site ≡ get_or sites i site → IsWhole site
-read_whole sites texts scene i site are view lt is =
+pub read_whole : (sites : List SiteState) (texts : List (List ℕ)) (state : RunState) (i : ℕ) (site : SiteState) → AreSites sites → record { sites = sites; messages = texts } ≡ state → i < length state.sites → site ≡ get_or sites i site → IsWhole site
+read_whole sites texts state i site are view lt is =
     let P : RunState → Type 0 = λ s. i < length s.sites in
     are.whole i site (slice_get_read sites (length sites) i site refl (subst P (sym view) lt) is)

@@ -5,17 +5,17 @@ use Rattle.archive_core.specs.Content.{IsContent}
 use Rattle.archive_records.specs.Entry.{AreEntries}
 use Rattle.archive_records.specs.Text.{written, summary_text}
 use Rattle.exchange_model.specs.World.{World, Message, Content, Summary}
-use Rattle.archive_exchange.specs.SiteState.{SiteState, keeping_code, IsWhole}
+use Rattle.archive_exchange.specs.SiteState.{SiteState, site_state_code, IsWhole}
 
 -- what the sites keep, in the order of their numbers, and the texts that were sent, in their order
 pub record RunState : Type 0 where
   pub sites : List SiteState
   pub messages : List (List ℕ)
 
--- a scene is stored as the pair of its parts
-abbrev pub scene_code : Coded RunState
-scene_code =
-    code_by (List SiteState × List (List ℕ)) (coded× (coded_list keeping_code) (coded_list (coded_list coded_ℕ)))
+-- a state is stored as the pair of its parts
+abbrev pub run_state_code : Coded RunState
+run_state_code =
+    code_by (List SiteState × List (List ℕ)) (coded× (coded_list site_state_code) (coded_list (coded_list coded_ℕ)))
     (λ s. (s.sites, s.messages)) (λ p. record { sites = p.0; messages = p.1 }) (λ _. refl)
 
 -- these are the sites of a rehearsal: each is whole, and a number of 32 bits counts them

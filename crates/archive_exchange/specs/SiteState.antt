@@ -19,9 +19,9 @@ pub record SiteState : Type 0 where
   pub held : set.FinSet (slice_cmp nat_cmp)
   pub saved : List ℕ
 
--- a site's keeping is stored as the pair of its parts
-abbrev pub keeping_code : Coded SiteState
-keeping_code =
+-- what a site has is stored as the pair of its parts
+abbrev pub site_state_code : Coded SiteState
+site_state_code =
     code_by (set.FinSet (slice_cmp nat_cmp) × List ℕ) (coded× (set.code (coded_list coded_ℕ)) (coded_list coded_ℕ))
     (λ k. (k.held, k.saved)) (λ p. record { held = p.0; saved = p.1 }) (λ _. refl)
 

@@ -102,11 +102,11 @@ pub struct Site<A: Archive> {
 }
 
 impl<A: Archive> Model for Site<A> {
-    ghost use Rattle.archive_exchange.specs.SiteState.{SiteState, keeping_code, IsWhole};
+    ghost use Rattle.archive_exchange.specs.SiteState.{SiteState, site_state_code, IsWhole};
 
     ghost Value = { SiteState };
 
-    ghost coded = { keeping_code };
+    ghost coded = { site_state_code };
 
     ghost view = { λ site. record { held = A.content site.archive; saved = site.saved.items } };
 

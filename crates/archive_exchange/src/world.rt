@@ -17,11 +17,11 @@ pub struct World<A: Archive> {
 }
 
 impl<A: Archive> Model for World<A> {
-    ghost use Rattle.archive_exchange.specs.Rehearsal.{RunState, scene_code, AreSites};
+    ghost use Rattle.archive_exchange.specs.Rehearsal.{RunState, run_state_code, AreSites};
 
     ghost Value = { RunState };
 
-    ghost coded = { scene_code };
+    ghost coded = { run_state_code };
 
     ghost view = { λ world. record { sites = world.sites.items; messages = world.messages.items } };
 

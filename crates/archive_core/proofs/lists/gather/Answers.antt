@@ -13,11 +13,11 @@ records-preserved g c = λ operations held is.
     let lt : i < length operations = omega (arith, length_held operations o held is, c.len-index-end.ensures.len, c.records-test.true) in
     let at = lent_at operations o i a held is lt c.of.ensures.operation c.record_at.ensures in
     c.in_ok-push.ensures.items
-    ∙ (λ j. c.records.invariant operations held is j ++ c.of.ensures.finding j ∷ [])
+    ∙ (λ j. c.records.invariant operations held is j ++ c.of.ensures.seen_as j ∷ [])
     ∙ sym (front operations i a lt at)
 
-pub returns-clause-findings : goal.returns-clause-findings
-returns-clause-findings g c = λ operations held is.
+pub returns-clause-hashed : goal.returns-clause-hashed
+returns-clause-hashed g c = λ operations held is.
     let o = g.A.Join.content c.args.archive.now in
     c.records.invariant operations held is
     ∙ take_all c.records.index operations (omega (arith, length_held operations o held is, c.len-index-end.ensures.len, c.records-test.false))

@@ -9,4 +9,4 @@ use Rattle.archive_core.proofs.lists.gather.Given as goal
 abbrev pub invariant-records : goal.invariant-records
 invariant-records g l = (operations : List Operation) → IsHeld operations
     → from_list (map record_bytes operations) ≡ g.A.Join.content l.archive
-    → l.findings.items ≡ take l.index operations
+    → l.hashed.items ≡ take l.index operations

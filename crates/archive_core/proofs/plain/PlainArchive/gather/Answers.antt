@@ -4,11 +4,11 @@ use Rattle.archive_core.proofs.plain.PlainArchive.gather.Goals as goal
 
 pub operations-preserved : goal.operations-preserved
 operations-preserved c =
-    let old = c.args.findings.now.items in
+    let old = c.args.hashed.now.items in
     let operations = c.args.operations.now in
     let i = c.operations.operation-index in
     let a = c.operation-item.result in
     c.in_ok-push.ensures.items
-    ∙ (λ j. c.operations.invariant j ++ (c.of.ensures.finding ∙ c.lend.ensures.operation) j ∷ [])
+    ∙ (λ j. c.operations.invariant j ++ (c.of.ensures.seen_as ∙ c.lend.ensures.operation) j ∷ [])
     ∙ append_assoc old (take i operations) (a ∷ [])
     ∙ ap (λ l. old ++ l) (sym (front operations i a c.operations-test.true c.operation-item.is))

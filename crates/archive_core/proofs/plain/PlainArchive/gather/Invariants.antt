@@ -3,4 +3,4 @@ use Rattle.archive_core.proofs.plain.PlainArchive.gather.Given as goal
 
 -- what was there, and the operations so far
 abbrev pub invariant-operations : goal.invariant-operations
-invariant-operations l = l.findings.items ≡ l.initial.findings.items ++ take l.operation-index l.operations
+invariant-operations l = l.hashed.items ≡ l.initial.hashed.items ++ take l.operation-index l.operations

@@ -2,7 +2,7 @@ use Rattle.std.proofs.Common.{◌≤◌, ◌∙◌, sym, ap, filter, true, false
 use Rattle.std.proofs.lemmas.Result.{IfOk-weaker, on_err_weaker}
 use Rattle.archive_core.specs.InnerScan.{live_among}
 use Rattle.archive_core.specs.Lookup.{IsAnswer, IsAnswerOf, answer_view}
-use Rattle.archive_core.proofs.Lookups.{companions_answer, images_answer, some_of_tally}
+use Rattle.archive_core.proofs.Lookups.{companions_answer, images_answer, some_of_answering}
 use Rattle.archive_core.specs.InnerRange.{is_under}
 use Rattle.archive_core.specs.declared.range.RecordKind.TheVariants.{Admission}
 use Rattle.archive_core.proofs.Ranges.{live_under}
@@ -41,8 +41,8 @@ returns-in_default c =
     let operations = c.self.inside.operations.items in
     let slices = live_among key true operations in
     let under = c.under-admissions.ensures.range ∙ ap (filter (is_under Admission key)) c.deref.ensures.value in
-    let tally = rw (under, live_under key true operations) at c.tally.ensures in
-    let some = some_of_tally c.tally.result slices tally c.in_default.not-Nothing in
+    let answering = rw (under, live_under key true operations) at c.answering.ensures in
+    let some = some_of_answering c.answering.result slices answering c.in_default.not-Nothing in
     let answering = companions_answer o key operations c.self.invariant c.self.view_is c.under-admissions.ensures.key some in
     record {
       answer =

@@ -9,7 +9,7 @@ use Rattle.archive_core.specs.Valid.{key_of}
 use Rattle.archive_core.specs.Record.{retirement_record}
 use Rattle.archive_core.specs.Content.{Operations}
 use Rattle.archive_core.proofs.Keyed.{held_by, unkeyed}
-use Rattle.archive_core.proofs.seen.Seen.covers.Goals as goal
+use Rattle.archive_core.proofs.seen.SeenRetirements.covers.Goals as goal
 
 pub returns-then-not-contains : goal.returns-then-not-contains
 returns-then-not-contains c =

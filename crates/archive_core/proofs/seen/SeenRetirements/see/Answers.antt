@@ -7,7 +7,7 @@ use Rattle.archive_core.specs.Record.{retirement_record}
 use Rattle.archive_core.specs.Content.{Operations}
 use Rattle.archive_core.specs.InnerTaking.{IsKeyed}
 use Rattle.archive_core.proofs.Keyed.{held_by, inserted, keyed_insert, keyed_more, key_of_retirement}
-use Rattle.archive_core.proofs.seen.Seen.see.Goals as goal
+use Rattle.archive_core.proofs.seen.SeenRetirements.see.Goals as goal
 
 pub invariant_of-self-in_err-first : goal.invariant_of-self-in_err-first
 invariant_of-self-in_err-first c =

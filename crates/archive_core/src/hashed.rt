@@ -26,15 +26,15 @@ impl<'a> Model for HashedRecord<'a> {
 
     ghost Value = { Operation };
 
-    ghost view = { λ finding. operation_lent finding.operation };
+    ghost view = { λ hashed. operation_lent hashed.operation };
 
-    ghost invariant = { λ finding. finding.row ≡ row_of (operation_lent finding.operation) };
+    ghost invariant = { λ hashed. hashed.row ≡ row_of (operation_lent hashed.operation) };
 }
 
 impl<'a> HashedRecord<'a> {
     /// The operation with its row.
     pub fn of(operation: &Record<'a>) -> HashedRecord<'a>
-        ensures finding { result ≡ operation_lent operation.now }
+        ensures seen_as { result ≡ operation_lent operation.now }
         ensures operation { IsOperation (operation_lent operation.now) }
     {
         match operation {
@@ -45,7 +45,7 @@ impl<'a> HashedRecord<'a> {
 
     // The admission of a slice, with its row.
     fn of_slice(slice: &'a Slice) -> HashedRecord<'a>
-        ensures finding { result ≡ Admit slice.now }
+        ensures seen_as { result ≡ Admit slice.now }
         ensures operation { IsOperation (Admit slice.now) }
     {
         HashedRecord {
@@ -60,7 +60,7 @@ impl<'a> HashedRecord<'a> {
 
     // A retirement, with its row.
     fn of_retirement(key: SliceKey, digest: Digest) -> HashedRecord<'a>
-        ensures finding { result ≡ Retire key digest }
+        ensures seen_as { result ≡ Retire key digest }
         ensures operation { IsOperation (Retire key digest) }
     {
         let row = FindRow {
@@ -108,8 +108,8 @@ impl<'a> HashedRecord<'a> {
 }
 
 /// The rows, in the order of their operations.
-pub fn rows_of(heap: Heap, findings: &[HashedRecord<'_>]) -> Result<Vec<FindRow, Heap>, NoMemory>
-    ensures { IfOk result (λ rows. rows.items ≡ map row_of findings.now) }
+pub fn rows_of(heap: Heap, hashed: &[HashedRecord<'_>]) -> Result<Vec<FindRow, Heap>, NoMemory>
+    ensures { IfOk result (λ rows. rows.items ≡ map row_of hashed.now) }
 {
-    findings.iter().map(|finding| finding.row()).collect(heap)
+    hashed.iter().map(|one| one.row()).collect(heap)
 }

@@ -1,8 +1,8 @@
 use Rattle.std.proofs.Common.{refl, sym, subst, take, ◌+◌}
-use Rattle.archive_core.specs.InnerScan.{live_among, IsTally}
+use Rattle.archive_core.specs.InnerScan.{live_among, IsAnsweringOf}
 use Rattle.archive_core.proofs.Lookups.{one_more, none_more}
-use Rattle.archive_core.proofs.plain.PlainArchive.tally.Goals.{in-Some, in_default}
-use Rattle.archive_core.proofs.plain.PlainArchive.tally.Goals as goal
+use Rattle.archive_core.proofs.plain.PlainArchive.answering.Goals.{in-Some, in_default}
+use Rattle.archive_core.proofs.plain.PlainArchive.answering.Goals as goal
 
 pub operations-init : goal.operations-init
 unfolding live_among
@@ -18,8 +18,8 @@ operations-preserved c =
     elim c.match-live.branch [
       | in-Some w ↦
           let grown = one_more c.args.key.now c.args.dsym operations i a c.operations-test.true c.operation-item.is c.live.result w.in-Some.slice c.live.ensures w.in-Some.is in
-          subst (λ f. IsTally f after) (sym w.tally-is) (subst (IsTally w.and-tally.result) (sym grown) (w.and-tally.ensures before c.operations.invariant))
+          subst (λ f. IsAnsweringOf f after) (sym w.answering-is) (subst (IsAnsweringOf w.and-answering.result) (sym grown) (w.and-answering.ensures before c.operations.invariant))
       | in_default w ↦
           let same = none_more c.args.key.now c.args.dsym operations i a c.operations-test.true c.operation-item.is c.live.result c.live.ensures w.in_default.is in
-          subst (λ f. IsTally f after) (sym w.tally-is) (subst (IsTally c.operations.tally) (sym same) c.operations.invariant)
+          subst (λ f. IsAnsweringOf f after) (sym w.answering-is) (subst (IsAnsweringOf c.operations.answering) (sym same) c.operations.invariant)
     ]
