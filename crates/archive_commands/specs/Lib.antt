@@ -14,6 +14,7 @@ pub mod List
 pub mod Name
 pub mod Symbolicate
 pub mod Frames
+pub mod InnerFrames
 pub mod Summary
 pub mod Delta
 pub mod Rehearse

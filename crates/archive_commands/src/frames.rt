@@ -1,53 +1,20 @@
 //! `frames FRAMES ARCHIVE`.
-ghost use Rattle.std.specs.Prelude.{◌≡◌, IfOk, map, string_bytes};
 ghost use Rattle.archive_commands.specs.Ends.{EndsReport};
-ghost use Rattle.archive_commands.specs.Frames.{TellsFrames, frames};
+ghost use Rattle.archive_commands.specs.Frames.{frames};
 ghost use Rattle.archive_commands.specs.Inputs.{reader};
 ghost use Rattle.archive_commands.specs.Outputs.{writer};
 
+use crate::asked_frames::{FrameQuestions, in_key_order};
 use crate::faults::{CannotOpen, CommandFault, Status};
-use crate::publish::publish_report;
-use crate::sources::{read_crash, read_input_part};
-use crate::symbolicate::{asked_of, status_behind};
-use archive_core::{Archive, SliceKey};
-use archive_records::UnderAny;
+use crate::publish::publish_bytes;
+use crate::sources::{answer_input, read_crash};
+use archive_core::Archive;
 use byte_device::{Sink, Source};
-use crash_frames::Frame;
-use memory::{Heap, NoMemory};
-use report_text::push_answer;
-
-/// The keys of the frames.
-fn keys_of(heap: Heap, frames: &[Frame]) -> Result<Vec<SliceKey, Heap>, NoMemory>
-    ensures { IfOk result (λ keys. keys.items ≡ map (λ frame. frame.key) frames.now) }
-{
-    let mut keys = Vec::new(heap);
-    'frames: for frame in frames {
-        keys.push(frame.key)?;
-    }
-    Ok(keys)
-}
-
-/// The lines of the answers to the frames, with how a command ends that prints them.
-fn answer_frames<A: Archive>(
-    heap: Heap,
-    archive: &A,
-    frames: &[Frame],
-) -> Result<(Status, String<Heap>), NoMemory>
-    ensures { IfOk result (λ told. TellsFrames (A.content archive.now) frames.now told.0 (string_bytes told.1)) }
-{
-    let mut status = Status::Done;
-    let mut text = String::new(heap);
-    'frames: for frame in frames {
-        let answer = archive.lookup(&frame.key, asked_of(frame.load, frame.address))?;
-        status = status_behind(status, &answer);
-        push_answer(&mut text, frame.address, &answer)?;
-    }
-    Ok((status, text))
-}
+use memory::Heap;
 
 /// Writes for each frame of FRAMES what `symbolicate` writes for its address to the report, in the order of the lines.
-/// FRAMES is read to its end first, and then ARCHIVE in one pass, of which the part under the keys of all frames is
-/// kept. Where FRAMES has no frame ARCHIVE is read and tested all the same.
+/// FRAMES is read to its end first, and then ARCHIVE in one pass, of which the slices under one key are held at a time.
+/// Where FRAMES has no frame ARCHIVE is read and tested all the same.
 ///
 /// The status is `Done` where each answer is one symbol, and else `Partial`.
 ///
@@ -65,9 +32,9 @@ pub fn run_frames<A: Archive + Drop, R: Source, P: Sink>(
         (writer P.held P.failures report.old report.new) result }
 {
     let frames = read_crash(heap.clone()?, crash)?;
-    let keys = keys_of(heap.clone()?, &frames)?;
-    let under = UnderAny::of(heap.clone()?, &keys)?;
-    let archive: A = read_input_part(heap.clone()?, 0, &under, archive)?;
-    let (status, text) = answer_frames(heap, &archive, &frames)?;
-    publish_report(status, &text, report)
+    let asked = in_key_order(heap.clone()?, &frames)?;
+    let questions = FrameQuestions::of(heap.clone()?, &asked)?;
+    let told = answer_input::<A, FrameQuestions<'_>, R>(heap.clone()?, questions, archive)?;
+    let (status, lines) = told.in_line_order(heap)?;
+    publish_bytes(status, &lines, report)
 }

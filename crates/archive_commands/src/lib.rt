@@ -7,6 +7,7 @@
 //! - `failures`: the line that the program says where it fails;
 //! - `sources`: the inputs;
 //! - `publish`: the end of each command;
+//! - `asked_frames`: frames, as questions in the order of their keys;
 //! - `new`, `admit`, `retire`, `merge`, `migrate`, `apply`, `find`, `list`, `name`, `symbolicate`, `frames`,
 //!   `summary`, `delta`, `rehearse`: a command each;
 //! - [`admit_laws`], [`retire_laws`], [`merge_laws`], [`migrate_laws`], [`apply_laws`], [`find_laws`], [`list_laws`],
@@ -19,6 +20,7 @@ mod admit;
 pub mod admit_laws;
 mod apply;
 pub mod apply_laws;
+mod asked_frames;
 mod delta;
 pub mod exchange_laws;
 mod failures;

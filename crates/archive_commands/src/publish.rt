@@ -76,7 +76,18 @@ pub(crate) fn publish_report<P: Sink>(
 ) -> Result<Status, CommandFault>
     ensures { Reports (writer P.held P.failures report.old report.new) status text.now result }
 {
-    match push_all(report, text.as_bytes()) {
+    publish_bytes(status, text.as_bytes(), report)
+}
+
+/// The same of a text by its bytes.
+pub(crate) fn publish_bytes<P: Sink>(
+    status: Status,
+    bytes: &[u8],
+    report: &mut P,
+) -> Result<Status, CommandFault>
+    ensures { Reports (writer P.held P.failures report.old report.new) status bytes.now result }
+{
+    match push_all(report, bytes) {
         Ok(()) => Ok(status),
         Err(fault) => Err(CommandFault::Report(fault.written)),
     }

@@ -1,11 +1,12 @@
 //! The inputs of a command, each opened beforehand and refused at its turn.
-ghost use Rattle.std.specs.Prelude.{◌≡◌, ◌≢◌, Ok, OnOk, IfOk, IfErr, IsErrAnd, IsOkAnd, MatchResult};
+ghost use Rattle.std.specs.Prelude.{◌≡◌, ◌≢◌, [], Ok, OnOk, IfOk, IfErr, IsErrAnd, IsOkAnd, MatchResult};
 ghost use Rattle.std.specs.Borrow.{sem};
-ghost use Rattle.archive_core.specs.Content.{IsContent};
+ghost use Rattle.archive_core.specs.Content.{IsContent, Operations};
 ghost use Rattle.archive_core.specs.Lists.{IsList};
 ghost use Rattle.archive_core.specs.Summary.{summary};
 ghost use Rattle.archive_records.specs.declared.fault.RecordFaultKind.TheVariants.{OutOfMemory as RecordOutOfMemory};
 ghost use Rattle.archive_records.specs.Entry.{AreEntries};
+ghost use Rattle.archive_records.specs.Keys.{AreInOrder};
 ghost use Rattle.archive_records.specs.Text.{IsOperationsText, summary_text};
 ghost use Rattle.crash_frames.specs.Frames.{frames_of};
 ghost use Rattle.rehearsal.specs.Script.{acts, script_of};
@@ -19,8 +20,8 @@ ghost use Rattle.archive_commands.specs.InnerSources.{LendsSource};
 use crate::faults::{CannotOpen, CommandFault, Place, Why};
 use archive_core::{Archive, FindRow, Operation};
 use archive_records::{
-    RecordFault, RecordFaultKind, Selects, Summary, list_rows, read_archive, read_ops, read_part,
-    read_summary, summarize,
+    Questions, RecordFault, RecordFaultKind, Selects, Summary, answer_by_key, list_rows,
+    read_archive, read_ops, read_part, read_summary, summarize,
 };
 use byte_device::{ReadFault, Source, read_to_end};
 use crash_frames::{Frame, FramesError, read_frames};
@@ -93,6 +94,29 @@ pub(crate) fn read_input_part<A: Archive + Drop, S: Selects, R: Source>(
     let source = opened(input, at)?;
     match read_part(heap, select, source) {
         Ok(archive) => Ok(archive),
+        Err(fault) => Err(refusal(at, fault)),
+    }
+}
+
+/// Reads the archive that questions are put to, and answers these.
+pub(crate) fn answer_input<A: Archive + Drop, Q: Questions + Drop, R: Source>(
+    heap: Heap,
+    questions: Q,
+    input: &mut Result<R, CannotOpen>,
+) -> Result<Q, CommandFault>
+    requires order { AreInOrder (Q.left questions) }
+    requires start { (o : Operations) → Q.answered questions o questions }
+    ensures answered { IfOk result (λ told. HoldsContent (reader R.left R.failures input.old input.new)
+        (λ o. (Q.left told ≡ []) × Q.answered questions o told)) }
+    ensures unfailed { OnOk result (Unfailed (reader R.left R.failures input.old input.new)) }
+    ensures refused { IfErr result
+        (IsRefusal (IsRefusedArchive 0 (reader R.left R.failures input.old input.new))
+        (Unfailed (reader R.left R.failures input.old input.new))) }
+{
+    let at = Place::Archive(0);
+    let source = opened(input, at)?;
+    match answer_by_key::<A, Q, R>(heap, questions, source) {
+        Ok(told) => Ok(told),
         Err(fault) => Err(refusal(at, fault)),
     }
 }

@@ -26,7 +26,7 @@ use Rattle.archive_records.proofs.Contents.{order, same_bytes}
 use Rattle.archive_records.proofs.Apart.{from_set, is_false, same_as}
 
 -- what is below another does not begin with more
-begins_below : (n : ℕ) (x y : List ℕ) → order x y ≡ Less → is_lt (order (take n y) (take n x)) ≡ false
+pub begins_below : (n : ℕ) (x y : List ℕ) → order x y ≡ Less → is_lt (order (take n y) (take n x)) ≡ false
 begins_below zero x y h = refl
 begins_below (suc n) [] [] h = refl
 begins_below (suc n) [] (b ∷ bs) h = refl

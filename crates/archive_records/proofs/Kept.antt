@@ -47,7 +47,7 @@ module _ (picks : List ℕ → Bool) (records : List (List ℕ)) (x : List ℕ) 
   new q = contains_part (set.from_list (records ++ x ∷ [])) picks q ∙ ap (λ b. b && picks q) (with_one records x q)
 
   pub picked_more : picks x ≡ true → MakeThemselves Archive_text (records ++ x ∷ []) → (p : Operations) → p ≡ with_record o x → p ≡ part (set.from_list (records ++ x ∷ [])) picks
-  picked_more passes apart p e = e ∙ part-push records x o (λ r h. within (set.contains (set.from_list {R = slice_cmp nat_cmp} records) r) (picks r) (sym (old r) ∙ h)) apart ∙ same_set nat_list_cmp_total bytes_same (set.insert o x) (part (set.from_list (records ++ x ∷ [])) picks) (λ q.
+  picked_more passes apart p e = e ∙ part-push records x o (λ r h. within (set.contains (set.from_list {R = slice_cmp nat_cmp} records) r) (picks r) (sym (old r) ∙ h)) apart.0 ∙ same_set nat_list_cmp_total bytes_same (set.insert o x) (part (set.from_list (records ++ x ∷ [])) picks) (λ q.
       contains-insert nat_list_cmp_total o x q
       ∙ ap (λ b. eq_by_cmp (slice_cmp nat_cmp) q x || b) (old q)
       ∙ taken_in (eq_by_cmp (slice_cmp nat_cmp) q x) (set.contains (set.from_list {R = slice_cmp nat_cmp} records) q) (picks q) (λ h. ap picks (tied q x h) ∙ passes)

@@ -38,7 +38,7 @@ pub mod Places
 pub mod Orders
 pub mod Merges
 pub mod Sides
-pub mod Keyed
+pub mod Questioned
 pub mod Sought
 pub mod Stable
 pub mod RowsTold

@@ -1,7 +1,7 @@
 -- What is taken of records, with one more.
 use Rattle.std.proofs.Common.{◌≡◌, ℕ, Bool, true, false, List, [], ◌∷◌, ◌++◌, refl, sym, ap, ◌∙◌, subst}
 use Rattle.std.proofs.lemmas.Bool.{false≢true}
-use Rattle.archive_core.specs.Content.{is_covered, IsMade}
+use Rattle.archive_core.specs.Content.{is_covered, content_of, IsMade}
 use Rattle.archive_core.proofs.Made.{made_again}
 use Rattle.archive_records.specs.declared.format.Format.{Format}
 use Rattle.archive_records.specs.declared.format.Format.TheVariants.{Archive, OldArchive, Operations, Summary}
@@ -10,7 +10,8 @@ use Rattle.archive_records.specs.Text.{InOrder, AreApart, last_of, taken_of}
 use Rattle.archive_records.specs.Reader.{set_of, DropsLast, MakeThemselves}
 use Rattle.archive_records.proofs.Apart.{covered_push, covered_apart, last_of-push}
 use Rattle.archive_records.proofs.Formats.{in_order_old}
-use Rattle.archive_records.proofs.Versions.{kept_set}
+use Rattle.archive_records.proofs.Contents.{are_records, InOrder-listing}
+use Rattle.archive_records.proofs.Versions.{kept_set, kept_records, made_content}
 use Rattle.archive_records.proofs.Covered.{kept_none, kept_push, kept_pass}
 
 pub taken_none : (file : Format) → taken_of file [] ≡ []
@@ -36,9 +37,13 @@ module _ (records : List (List ℕ)) (x : List ℕ) where
   taken_pass Operations a apart d = absurd (false≢true (sym d))
   taken_pass Summary a apart d = absurd (false≢true (sym d))
 
--- those that are taken make themselves
+-- those that are taken make themselves, and ascend
 pub made_taken : (file : Format) (records : List (List ℕ)) → InOrder file [] records → AreApart file records → MakeThemselves (kind_of file) (taken_of file records)
-made_taken Archive records a apart = apart
-made_taken OldArchive records a apart = subst IsMade (sym (kept_set records (in_order_old [] records a))) (made_again (set_of records))
+made_taken Archive records a apart = (apart, a)
+made_taken OldArchive records a apart =
+    let b = in_order_old [] records a in (
+      subst IsMade (sym (kept_set records b)) (made_again (set_of records)),
+      subst (InOrder Archive []) (kept_records records b) (InOrder-listing (content_of (set_of records)) (made_content (set_of records) (are_records records b))),
+    )
 made_taken Operations records a apart = tt
 made_taken Summary records a apart = tt

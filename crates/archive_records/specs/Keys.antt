@@ -1,18 +1,23 @@
--- The records under any of several keys.
-use Rattle.std.specs.Prelude.{◌↔◌, ℕ, List, Bool, map, Contains}
+-- Questions under keys, which are answered key by key.
+use Rattle.std.specs.Prelude.{List, [], ◌∷◌, Option, Some, None}
 use Rattle.std.specs.Ordering.{nat_cmp}
 use Rattle.std.specs.Cmp.Lexicographic.{slice_cmp}
-use Rattle.std.specs.List.{list_any}
-use Rattle.std.specs.List.Sorted.{IsStrictlySortedBy}
+use Rattle.std.specs.List.Sorted.{IsSortedByKey}
 use Rattle.archive_core.specs.declared.keys.SliceKey.{SliceKey}
+use Rattle.archive_core.specs.declared.lookup.Where.{Where}
 use Rattle.archive_core.specs.Key.{key_bytes}
-use Rattle.archive_core.specs.Part.{is_under}
+use Rattle.archive_core.specs.Content.{Operations}
+use Rattle.archive_core.specs.Lookup.{AnswerRecord, IsAnswer}
 
--- these are the bytes of the keys, ascending, each once
-pub record AreFronts (keys : List SliceKey) (fronts : List (List ℕ)) : Type 0 where
-  pub ascending : IsStrictlySortedBy (slice_cmp nat_cmp) fronts
-  pub exactly : (front : List ℕ) → Contains fronts front ↔ Contains (map key_bytes keys) front
+-- the keys stand in the order of their bytes, and may come several times
+abbrev pub AreInOrder : List SliceKey → Type 0
+AreInOrder keys = IsSortedByKey key_bytes (slice_cmp nat_cmp) keys
 
--- the bytes behind the tag of a record begin with some of these: the record is under some of the keys
-unfoldable pub is_under_any : List (List ℕ) → List ℕ → Bool
-is_under_any fronts r = list_any (λ front. is_under front r) fronts
+-- the first of the keys, where there is one
+abbrev pub first_key : List SliceKey → Option SliceKey
+first_key [] = None
+first_key (key ∷ keys) = Some key
+
+-- what the one content answers under the key the other one answers
+abbrev pub AnswersAs : SliceKey → Operations → Operations → Type 0
+AnswersAs key o p = (asked : Where) (answer : AnswerRecord) → IsAnswer o key asked answer → IsAnswer p key asked answer

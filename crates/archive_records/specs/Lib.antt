@@ -13,3 +13,4 @@ pub mod Merging
 pub mod MergeSteps
 pub mod InnerNames
 pub mod InnerRows
+pub mod InnerKeys

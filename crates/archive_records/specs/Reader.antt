@@ -291,9 +291,9 @@ pub record AreRead (a b : Option (List ℕ)) (operations : List Operation) : Typ
   pub at_end : IsAtEnd b
   pub are : All IsOperation operations
 
--- of an archive the records that are taken make themselves
+-- of an archive the records that are taken make themselves, and each is above the one before it
 abbrev pub MakeThemselves : TextKind → List (List ℕ) → Type 0
-MakeThemselves Archive_text records = IsMade (set.from_list records)
+MakeThemselves Archive_text records = IsMade (set.from_list records) × InOrder Archive [] records
 MakeThemselves Operations_text records = Unit {0}
 MakeThemselves Summary_text records = Unit {0}
 

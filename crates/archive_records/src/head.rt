@@ -17,6 +17,9 @@ use byteorder::{BigEndian, ByteOrder};
 use sha2::{Digest as _, Sha256};
 use uuid::Uuid;
 
+/// How many bytes stand before the first record.
+pub const MAGIC_LEN: u128 = 8;
+
 pub const RETIREMENT: u8 = 1;
 
 pub const ADMISSION: u8 = 2;

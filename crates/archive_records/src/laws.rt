@@ -6,10 +6,6 @@ ghost use Rattle.std.specs.FinSet as set;
 ghost use Rattle.byte_device.specs.Writes.{WritesFirst};
 ghost use Rattle.join_core.specs.Listing.{listing};
 ghost use Rattle.archive_core.specs.Content.{Operations, IsContent, joined, content_of};
-ghost use Rattle.archive_core.specs.Key.{key_bytes};
-ghost use Rattle.archive_core.specs.Part.{is_under, part, AreAlikeUnder};
-ghost use Rattle.archive_core.specs.declared.keys.SliceKey.{SliceKey};
-ghost use Rattle.archive_records.specs.Keys.{AreFronts, is_under_any};
 ghost use Rattle.archive_records.specs.declared.fault.RecordFaultKind.TheVariants.{TooLarge, NotAscending, BadSlice};
 ghost use Rattle.archive_records.specs.declared.fault.RecordFaultKind.TheVariants.{KeyMismatch, BadCount, Trailing};
 ghost use Rattle.archive_records.specs.declared.fault.RecordFaultKind.TheVariants.{BadMagic, Truncated};
@@ -247,19 +243,4 @@ pub fn stopped_merge_of_texts<R: Source, S: Source, W: Sink>()
         → right.bytes right.old ≡ Some u
         → Merges left right out (Err fault)
         → WritesFirst (out.bytes out.old) (out.bytes out.new) (written (joined o p)) fault.written }
-{}
-
-/// What is under any of several keys is what is under some of them. So the part of a content under all of them has what
-/// the content has under each: the part of that part under one of the keys is the part of the content under it.
-pub fn under_any_in_words()
-    ensures some { (keys : List SliceKey) (fronts : List (List ℕ)) → AreFronts keys fronts → (r : List ℕ)
-        → (is_under_any fronts r ≡ true)
-        ↔ ((key : SliceKey) × Contains keys key × (is_under (key_bytes key) r ≡ true)) }
-    ensures alike { (o : Operations) (keys : List SliceKey) (fronts : List (List ℕ)) → AreFronts keys fronts
-        → (key : SliceKey) → Contains keys key
-        → AreAlikeUnder (key_bytes key) (part o (is_under_any fronts)) o }
-    ensures each { (o : Operations) (keys : List SliceKey) (fronts : List (List ℕ)) → AreFronts keys fronts
-        → (key : SliceKey) → Contains keys key
-        → part (part o (is_under_any fronts)) (is_under (key_bytes key)) ≡ part o (is_under (key_bytes key)) }
-    ensures one { (keys : List SliceKey) (a b : List (List ℕ)) → AreFronts keys a → AreFronts keys b → a ≡ b }
 {}

@@ -24,7 +24,8 @@
 //! - `buffer`, `frame`, `next`, `retired`, `reader`: one record after another, each read over the last and compared
 //!   with it, and with the retirements before it;
 //! - `records`: one pass over them, and what is made of those that are taken;
-//! - `reading`, `part`, `under_any`: [`read_archive`], [`read_front`] and [`read_part`], of which a part is kept;
+//! - `reading`, `part`: [`read_archive`], [`read_front`] and [`read_part`], of which a part is kept;
+//! - `keyed`: [`answer_by_key`], questions under keys, in the memory of the slices under one of them;
 //! - `names`: [`read_names`], where symbols of a name stand, of which no slice is kept;
 //! - `operations`: [`read_ops`];
 //! - `rows`, `summarizing`: [`list_rows`] and [`summarize`], what an archive tells record by record, of which no slice
@@ -39,6 +40,7 @@ mod fault;
 mod format;
 mod frame;
 mod head;
+mod keyed;
 mod kind;
 pub mod laws;
 mod merging;
@@ -55,12 +57,12 @@ mod side;
 mod streams;
 mod summarizing;
 mod summary;
-mod under_any;
 mod writing;
 
 pub use entry::Entry;
 pub use fault::{MergeCause, MergeFault, RecordFault, RecordFaultKind};
 pub use head::key_front;
+pub use keyed::{Questions, answer_by_key};
 pub use names::{OwnedNameRow, read_names};
 pub use operations::read_ops;
 pub use part::{Selects, Under, read_part};
@@ -69,5 +71,4 @@ pub use rows::list_rows;
 pub use streams::merge_streams;
 pub use summarizing::summarize;
 pub use summary::{Summary, read_summary};
-pub use under_any::UnderAny;
 pub use writing::{Sizes, write_archive, write_delta, write_summary};

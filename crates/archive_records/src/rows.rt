@@ -14,15 +14,12 @@ ghost use Rattle.archive_records.specs.Reader.{FaultBlamesReader, HasStopped, Is
 ghost use Rattle.archive_records.specs.InnerRows.{AreRowsOf, HasReadContent, IsRowOf};
 
 use crate::fault::RecordFault;
-use crate::head::{ADMISSION_HEAD_LEN, digest_in, key_in};
+use crate::head::{ADMISSION_HEAD_LEN, MAGIC_LEN, digest_in, key_in};
 use crate::kind::TextKind;
 use crate::records::{FromRecords, read_records};
 use archive_core::{CheckedSlice, FindRow, FindState, SliceFacts, compare_keys};
 use byte_device::Source;
 use memory::{Heap, NoMemory};
-
-/// How many bytes stand before the first record.
-const MAGIC_LEN: u128 = 8;
 
 /// The row of a retirement.
 fn row_of_retirement(bytes: &[u8]) -> FindRow
