@@ -1,5 +1,5 @@
 //! The frames of a crash, as questions in the order of their keys.
-ghost use Rattle.std.specs.Prelude.{◌≡◌, ◌≤◌, ℕ, List, All, IfOk, if◌then◌else◌, flat_map, length, map, set, slice_range};
+ghost use Rattle.std.specs.Prelude.{◌≡◌, ◌≤◌, All, IfOk, if◌then◌else◌, flat_map, length, map, set, slice_range};
 ghost use Rattle.std.specs.Prelude.{string_bytes};
 ghost use Rattle.std.specs.List.{list_all};
 ghost use Rattle.archive_records.specs.Keys.{AreInOrder};

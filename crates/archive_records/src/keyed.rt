@@ -36,8 +36,8 @@ pub trait Questions {
     fn next_key(&self) -> Option<SliceKey>
         ensures { result ≡ first_key (left self.now) };
 
-    /// Answers the next question, where one is left, by an archive that answers under its key. Refused for want of memory
-    /// alone.
+    /// Answers the next question, where one is left, by an archive that answers under its key. Refused for want of
+    /// memory alone.
     fn answer<A: Archive>(&mut self, archive: &A) -> Result<(), NoMemory>
         ensures left { OnOk result (left self.new ≡ drop 1 (left self.old)) }
         ensures answered { OnOk result ((start : Self) (o : Operations)
