@@ -28,8 +28,8 @@ fn push_word(addresses: &mut Vec<u64>, word: &str) -> Result<(), CaseFault> {
 // The addresses from one to before another in steps.
 fn push_steps(addresses: &mut Vec<u64>, from: u64, to: u64, step: u64) -> Result<(), CaseFault> {
     let count = to.saturating_sub(from).div_ceil(step.max(1));
-    for place in 0..count {
-        addresses.push(from.saturating_add(place.saturating_mul(step)))?;
+    for index in 0..count {
+        addresses.push(from.saturating_add(index.saturating_mul(step)))?;
     }
     Ok(())
 }

@@ -18,9 +18,9 @@ pub fn tell_kind(file: &[u8], told: &mut String) -> Ended {
 /// Tells the slices of a universal file.
 pub fn tell_fat(file: &[u8], told: &mut String) -> Ended {
     let universal = Universal::read(file)?;
-    for place in 0..universal.len() {
-        write!(told, "slice {place}: ")?;
-        tell_text(universal.slice(place), told)?;
+    for index in 0..universal.len() {
+        write!(told, "slice {index}: ")?;
+        tell_text(universal.slice(index), told)?;
     }
     if universal.is_empty() != (universal.len() == 0) {
         writeln!(told, "WRONG: it is said to be empty")?;

@@ -77,7 +77,7 @@ fn cut<'a>(bytes: &'a [u8], range: &str) -> Result<&'a [u8], CaseFault> {
     bytes.get(from..to).ok_or(CaseFault::BadLine)
 }
 
-// The bytes with others at these places, where the counters went on so many times.
+// The bytes with others at these offsets, where the counters went on so many times.
 fn changed(alloc: Global, bytes: &[u8], changes: &str, time: u64) -> Result<Vec<u8>, CaseFault> {
     let mut changed = bytes.to_vec(alloc)?;
     for change in changes.split('@') {
@@ -88,17 +88,17 @@ fn changed(alloc: Global, bytes: &[u8], changes: &str, time: u64) -> Result<Vec<
 
 // Makes a change, `AT=VALUE`.
 fn make_change(alloc: Global, bytes: &mut [u8], change: &str, time: u64) -> Result<(), CaseFault> {
-    let (place, value) = change.split_once('=').ok_or(CaseFault::BadLine)?;
-    let place = number(place)? as usize;
-    put(bytes, place, &value_of(alloc, value, time)?)
+    let (offset, value) = change.split_once('=').ok_or(CaseFault::BadLine)?;
+    let offset = number(offset)? as usize;
+    put(bytes, offset, &value_of(alloc, value, time)?)
 }
 
-// Puts bytes at a place of others.
-fn put(bytes: &mut [u8], place: usize, new: &[u8]) -> Result<(), CaseFault> {
-    if place > bytes.len() || new.len() > bytes.len() - place {
+// Puts bytes over others, from an offset on.
+fn put(bytes: &mut [u8], offset: usize, new: &[u8]) -> Result<(), CaseFault> {
+    if offset > bytes.len() || new.len() > bytes.len() - offset {
         return Err(CaseFault::BadLine);
     }
-    bytes[place..place + new.len()].copy_from_slice(new);
+    bytes[offset..offset + new.len()].copy_from_slice(new);
     Ok(())
 }
 

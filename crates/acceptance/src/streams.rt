@@ -14,7 +14,7 @@ pub enum Failing {
     Never,
     /// It moves no byte.
     Idle,
-    Kind(ErrorKind),
+    Error(ErrorKind),
 }
 
 impl Failing {
@@ -23,8 +23,8 @@ impl Failing {
         match word {
             "never" => Some(Failing::Never),
             "idle" => Some(Failing::Idle),
-            "interrupted" => Some(Failing::Kind(ErrorKind::Interrupted)),
-            "other" => Some(Failing::Kind(ErrorKind::Other)),
+            "interrupted" => Some(Failing::Error(ErrorKind::Interrupted)),
+            "other" => Some(Failing::Error(ErrorKind::Other)),
             _ => None,
         }
     }
@@ -48,7 +48,7 @@ impl<S> FailsOnce<S> {
             _ if self.calls != 2 => None,
             Failing::Never => None,
             Failing::Idle => Some(Ok(0)),
-            Failing::Kind(kind) => Some(Err(Error::from(kind))),
+            Failing::Error(kind) => Some(Err(Error::from(kind))),
         }
     }
 }

@@ -88,6 +88,6 @@ pub fn tell_same(left: &[u8], right: &[u8], told: &mut String) -> Result<(), NoM
     if left == right {
         return writeln!(told, "  yes, {} bytes", left.len());
     }
-    let place = left.iter().zip(right).take_while(|(l, r)| l == r).count();
-    writeln!(told, "  NO, they differ at {place}")
+    let offset = left.iter().zip(right).take_while(|(l, r)| l == r).count();
+    writeln!(told, "  NO, they differ at {offset}")
 }
