@@ -1,11 +1,13 @@
 -- How the rows of a table come about.
-use Rattle.std.proofs.Common.{◌↔◌, false, ◌≡◌, ◌≢◌, ℕ, ◌+◌, ◌-◌, ◌<◌, ◌≤◌, ◌⊎◌, inl, inr, List, [], ◌∷◌, ◌++◌, length, take, drop, sym, ap, ◌∙◌, arith, subst, Option, Some, None, Contains, slice_index_or, append_assoc, length-take, length-drop, length-append, slice_set}
+use Rattle.std.proofs.Common.{false, ◌≡◌, ◌≢◌, ℕ, ◌+◌, ◌-◌, ◌<◌, ◌≤◌, ◌⊎◌, inl, inr, List, [], ◌∷◌, ◌++◌, length, take, drop, sym, ap, ◌∙◌, arith, subst, Option, Some, None, Contains, slice_index_or, append_assoc, length-take, length-drop, length-append, slice_set}
 use Rattle.std.specs.List.{filter_map, cons_option}
+use Rattle.std.specs.List.Sorted.{IsPermutation}
 use Rattle.std.specs.Option.{option_to_list}
 use Rattle.std.specs.declared.cmp.Ordering.TheVariants.{Less}
 use Rattle.std.proofs.lemmas.Bool.{cases_lt}
 use Rattle.std.proofs.lemmas.List.{append-nil, get_or_append_left, get_or-take, get_or-drop, get_or_default, get_or_push, drop-set-lt, drop-drop, take_more_set}
 use Rattle.std.proofs.lemmas.List.Elements.{Contains-append_left, Contains-append_right, Contains-append_cases, Contains-push, Contains-push_cases, Contains-get_or}
+use Rattle.std.proofs.lemmas.List.Sorted.{IsPermutation-sym, Contains-permutation}
 use Rattle.std.proofs.Math.Seq.{take-add}
 use Rattle.macho_symbols.specs.Nearest.{tuple_cmp}
 use Rattle.macho_symbols.specs.Views.{tuple_of}
@@ -196,9 +198,9 @@ group_added strings old items rows kept index end row sorted low high size rest 
         (subst (IsBeside (slice_index_or old end d)) (sym (at_place index d (omega arith))) h))
 
 -- the order in which the rows stood at first does not count
-pub firsts_of_sorted : (strings : List ℕ) (rows sorted firsts : List Candidate) → ((r : Candidate) → Contains sorted r ↔ Contains rows r) → AreFirsts strings sorted firsts → AreFirsts strings rows firsts
-firsts_of_sorted strings rows sorted firsts same are = record {
-  members = λ r h. (same r).0 (are.members r h);
-  each = λ c h. are.each c ((same c).1 h);
+pub firsts_of_sorted : (strings : List ℕ) (rows sorted firsts : List Candidate) → IsPermutation rows sorted → AreFirsts strings sorted firsts → AreFirsts strings rows firsts
+firsts_of_sorted strings rows sorted firsts permuted are = record {
+  members = λ r h. Contains-permutation sorted rows r (IsPermutation-sym rows sorted permuted) (are.members r h);
+  each = λ c h. are.each c (Contains-permutation rows sorted c permuted h);
   falling = are.falling;
 }

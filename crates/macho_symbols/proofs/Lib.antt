@@ -13,7 +13,6 @@ pub mod Members
 pub mod Orders
 pub mod RowMembers
 pub mod RowLemmas
-pub mod Placed
 pub mod ExtentLemmas
 pub mod Stands
 pub mod Beginnings

@@ -1,63 +1,53 @@
 -- Rows in order, cut at a section and an address.
-use Rattle.std.proofs.Common.{◌≡◌, ◌≢◌, ℕ, ◌-◌, ◌/◌, ◌%◌, ◌^◌, map, ◌<◌, ◌≤◌, ◌&&◌, ◌||◌, ◌==◌, true, false, nat_lt, List, length, refl, sym, ap, ◌∙◌, ◌⊎◌, inl, inr, arith, slice_index_or, subst, Contains}
+use Rattle.std.proofs.Common.{◌≡◌, ◌≢◌, ℕ, ◌<◌, ◌≤◌, ◌&&◌, ◌||◌, ◌==◌, true, false, nat_lt, List, length, refl, sym, ap, ◌∙◌, ◌⊎◌, inl, inr, arith, slice_index_or, subst, Contains}
 use Rattle.std.specs.Ordering.{is_lt, ordering_then, nat_cmp, bool_cmp, MatchOrdering}
 use Rattle.std.specs.Cmp.Lexicographic.{slice_cmp}
 use Rattle.std.specs.declared.cmp.Ordering.{Ordering}
 use Rattle.std.specs.declared.cmp.Ordering.TheVariants.{Less, Equal, Greater}
-use Rattle.std.specs.List.Sorted.{IsPartitionedBy, IsPartitionPoint, IsSorted}
-use Rattle.std.proofs.lemmas.Cmp.{ranked, nat_cmp_total}
+use Rattle.std.specs.List.Sorted.{IsPartitionedBy, IsPartitionPoint, IsSortedByKey}
+use Rattle.std.specs.Cmp.{IsTotalOrder, bool_cmp_total}
+use Rattle.std.proofs.lemmas.Cmp.{ranked, nat_cmp_total, on_total, then_total, back_total}
 use Rattle.std.proofs.lemmas.List.Sorted.{ranks_by, sorted_far}
 use Rattle.std.proofs.lemmas.List.Elements.{Contains-get_or}
-use Rattle.std.proofs.lemmas.List.{get_or_default, get_or-map, length-map}
+use Rattle.std.proofs.lemmas.List.{get_or_default}
 use Rattle.std.proofs.lemmas.Bool.{cases_lt}
 use Rattle.std.proofs.lemmas.Bool.Decides.{nat_tests}
 use Rattle.macho_symbols.specs.Symbols.{Tuple, strings_of, candidates}
 use Rattle.macho_symbols.specs.Nearest.{tuple_cmp, IsFirst}
 use Rattle.macho_symbols.specs.Views.{tuple_of}
-use Rattle.macho_symbols.specs.Halving.{row_of_number, is_before, AreSorted}
+use Rattle.macho_symbols.specs.Halving.{row_cmp, is_before, AreSorted}
 use Rattle.macho_symbols.specs.Rows.{Precedes, IsBeside, AreRows, AreFalling}
 use Rattle.macho_symbols.specs.declared.candidate.Candidate.{Candidate}
 use Rattle.macho_symbols.proofs.RowMembers.{row_to, row_from}
 
--- of a section and how far a value is below the greatest in one number, a greater one is of a later section, or of the same
--- one and of no greater value
-parts_in_order : (p q : ℕ) → p ≤ q
-    → ((p / 2 ^ 64 < q / 2 ^ 64) ⊎ ((p / 2 ^ 64 ≡ q / 2 ^ 64) × (2 ^ 64 - 1 - q % 2 ^ 64 < 2 ^ 64 - 1 - p % 2 ^ 64)))
-    ⊎ ((p / 2 ^ 64 ≡ q / 2 ^ 64) × (2 ^ 64 - 1 - p % 2 ^ 64 ≡ 2 ^ 64 - 1 - q % 2 ^ 64))
-parts_in_order p q l = elim (cases_lt (p / 2 ^ 64) (q / 2 ^ 64)) [
-  | inl k ↦ inl (inl k)
-  | inr k ↦ by_value (omega (arith, l, k)) (cases_lt (p % 2 ^ 64) (q % 2 ^ 64))
-]
-  where
-    by_value : p / 2 ^ 64 ≡ q / 2 ^ 64 → (p % 2 ^ 64 < q % 2 ^ 64) ⊎ (q % 2 ^ 64 ≤ p % 2 ^ 64)
-        → ((p / 2 ^ 64 < q / 2 ^ 64) ⊎ ((p / 2 ^ 64 ≡ q / 2 ^ 64) × (2 ^ 64 - 1 - q % 2 ^ 64 < 2 ^ 64 - 1 - p % 2 ^ 64)))
-        ⊎ ((p / 2 ^ 64 ≡ q / 2 ^ 64) × (2 ^ 64 - 1 - p % 2 ^ 64 ≡ 2 ^ 64 - 1 - q % 2 ^ 64))
-    by_value e (inl k) = inl (inr (e, omega (arith, k)))
-    by_value e (inr k) = inr (e, omega (arith, l, e, k))
+pub rows_total : IsTotalOrder row_cmp
+rows_total =
+    then_total (on_total (λ c. c.sect) nat_cmp_total)
+    (then_total (back_total (on_total (λ c. c.value) nat_cmp_total))
+    (then_total (back_total (on_total (λ c. c.external) bool_cmp_total)) (on_total (λ c. c.strx) nat_cmp_total)))
 
-numbers_in_order : (n m : ℕ) → n ≤ m → Precedes (row_of_number n) (row_of_number m) ⊎ IsBeside (row_of_number n) (row_of_number m)
-numbers_in_order n m l = parts_in_order (n / 2 ^ 32 / 2 ^ 24) (m / 2 ^ 32 / 2 ^ 24) (omega (arith, l))
+-- the first part of an order decides
+low_first : (x y : ℕ) (o p : Ordering) → MatchOrdering o (x < y) (x ≡ y) (y < x) → is_lt (ordering_then o p) ≡ false → (y < x) ⊎ ((y ≡ x) × (is_lt p ≡ false))
+low_first x y Less p m h = absurd (cc h)
+low_first x y Equal p m h = inr (sym m, h)
+low_first x y Greater p m h = inl m
 
-no_less : (n m : ℕ) → is_lt (nat_cmp m n) ≡ false → n ≤ m
-no_less n m e = by_rank (nat_cmp m n) (ranked m n (nat_cmp m n) refl) e
+-- what does not come before a row has a later section, or the same one and no greater value
+in_order : (r s : Candidate) → is_lt (row_cmp s r) ≡ false → Precedes r s ⊎ IsBeside r s
+in_order r s h = by_section (low_first s.sect r.sect (nat_cmp s.sect r.sect) _ (ranked s.sect r.sect (nat_cmp s.sect r.sect) refl) h)
   where
-    by_rank : (o : Ordering) → MatchOrdering o (m < n) (m ≡ n) (n < m) → is_lt o ≡ false → n ≤ m
-    by_rank Less r e = absurd (cc e)
-    by_rank Equal r e = omega (arith, r)
-    by_rank Greater r e = omega (arith, r)
+    by_value : {P : Type 0} → r.sect ≡ s.sect → (s.value < r.value) ⊎ ((s.value ≡ r.value) × P) → Precedes r s ⊎ IsBeside r s
+    by_value e (inl l) = inl (inr (e, l))
+    by_value e (inr p) = inr (e, sym p.0)
 
--- the candidates of numbers that rise are in the order of rows
-pub rows_of_sorted : (numbers : List ℕ) → IsSorted nat_cmp numbers → AreSorted (map row_of_number numbers)
-rows_of_sorted numbers ordered i j d h l =
-    subst (λ r. Precedes r (slice_index_or (map row_of_number numbers) j d) ⊎ IsBeside r (slice_index_or (map row_of_number numbers) j d))
-    (sym (get_or-map row_of_number numbers i 0 d (omega (arith, within, h))))
-    (subst (λ s. Precedes (row_of_number (slice_index_or numbers i 0)) s ⊎ IsBeside (row_of_number (slice_index_or numbers i 0)) s)
-    (sym (get_or-map row_of_number numbers j 0 d within))
-    (numbers_in_order (slice_index_or numbers i 0) (slice_index_or numbers j 0) (no_less (slice_index_or numbers i 0) (slice_index_or numbers j 0)
-    (sorted_far (λ n m. is_lt (nat_cmp n m)) (ranks_by nat_cmp_total (λ n. n)) numbers ordered i j 0 (omega (arith, h)) within))))
-  where
-    within : j < length numbers
-    within = omega (arith, l, length-map numbers row_of_number)
+    by_section : (r.sect < s.sect) ⊎ ((r.sect ≡ s.sect) × (is_lt (ordering_then (nat_cmp r.value s.value) (ordering_then (bool_cmp r.external s.external) (nat_cmp s.strx r.strx))) ≡ false)) → Precedes r s ⊎ IsBeside r s
+    by_section (inl l) = inl (inl l)
+    by_section (inr e) = by_value e.0 (low_first r.value s.value (nat_cmp r.value s.value) _ (ranked r.value s.value (nat_cmp r.value s.value) refl) e.1)
+
+pub rows_sorted : (rows : List Candidate) → IsSortedByKey (λ r. r) row_cmp rows → AreSorted rows
+rows_sorted rows ordered i j d h l =
+    in_order (slice_index_or rows i d) (slice_index_or rows j d)
+    (sorted_far (λ r s. is_lt (row_cmp r s)) (ranks_by rows_total (λ r. r)) rows ordered i j d (omega arith) l)
 
 true_false : true ≡ false → ⊥
 true_false h = cc

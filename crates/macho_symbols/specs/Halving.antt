@@ -1,47 +1,24 @@
 -- The search in an address table and its building: the words of inner functions. No contract of a public one has them.
-use Rattle.std.specs.Prelude.{ℕ, Bool, List, ◌≡◌, ◌+◌, ◌-◌, ◌/◌, ◌%◌, ◌^◌, ◌≤◌, ◌<◌, ◌==◌, ◌&&◌, ◌||◌}
-use Rattle.std.specs.Prelude.{nat_lt, nat_le, cond, bit_and, if◌then◌else◌, length, slice_index_or}
-use Rattle.std.specs.Prelude.{Option, Some, None, MatchOption, Contains, ◌⊎◌}
-use Rattle.std.specs.List.{filter_map}
-use Rattle.std.specs.Ordering.{is_lt}
-use Rattle.macho_symbols.specs.Symbols.{Tuple, candidates, name_of, is_in_section, entries_of}
-use Rattle.macho_symbols.specs.Nlist.{n_type, n_sect, n_value}
+use Rattle.std.specs.Prelude.{ℕ, Bool, List, ◌≡◌, ◌+◌, ◌-◌, ◌*◌, ◌^◌, ◌≤◌, ◌<◌, ◌==◌, ◌&&◌, ◌||◌, nat_lt, nat_le, cond}
+use Rattle.std.specs.Prelude.{length, slice_index_or, Option, Some, None, MatchOption, Contains, ◌⊎◌}
+use Rattle.std.specs.Ordering.{ordering_then, nat_cmp, bool_cmp, is_lt}
+use Rattle.std.specs.declared.cmp.Ordering.{Ordering}
+use Rattle.macho_symbols.specs.Symbols.{Tuple, candidates}
 use Rattle.macho_symbols.specs.Nearest.{tuple_cmp, IsFirst, StandsFor}
 use Rattle.macho_symbols.specs.Rows.{Precedes, IsBeside}
-use Rattle.macho_symbols.specs.Views.{row_at}
 use Rattle.macho_symbols.specs.declared.candidate.Candidate.{Candidate}
 use Rattle.macho_symbols.specs.declared.extents.Extent.{Extent}
 
--- the candidate of a number, by whose order rows are sorted: 8 bits of its section, 64 of how far its value is below
--- the greatest, 24 that say whether it is no external symbol, and 32 of the place of its name
-abbrev pub row_of_number : ℕ → Candidate
-row_of_number n =
-    let kind = n / 2 ^ 32 in
-    let place = kind / 2 ^ 24 in
-    record {
-      value = 2 ^ 64 - 1 - place % 2 ^ 64;
-      strx = n % 2 ^ 32;
-      sect = place / 2 ^ 64;
-      external = kind % 2 ^ 24 == 0;
-    }
+-- the order in which rows are sorted: by section, by falling value, external before local, by the place of the name
+abbrev pub row_cmp : Candidate → Candidate → Ordering
+row_cmp c d =
+    ordering_then (nat_cmp c.sect d.sect)
+    (ordering_then (nat_cmp d.value c.value) (ordering_then (bool_cmp d.external c.external) (nat_cmp c.strx d.strx)))
 
--- whether an entry is a candidate if it has a name
-unfoldable pub is_placed : List ℕ → List ℕ → Bool
-is_placed image entry =
-    (bit_and (n_type entry) 0xe0 == 0) && (bit_and (n_type entry) 0x0e == 0x0e)
-    && is_in_section image (n_sect entry) (n_value entry)
-
--- the candidate that an entry is if it has a name
-unfoldable pub placed_in : List ℕ → List ℕ → Option Candidate
-placed_in image entry = if is_placed image entry then Some (row_at entry) else None
-
--- the entries of an image that are candidates if they have names, in the order of its symbol table
-unfoldable pub placed_rows : List ℕ → List Candidate
-placed_rows image = filter_map (placed_in image) (entries_of image)
-
--- whether a row has a name
-abbrev pub is_named : List ℕ → Candidate → Bool
-is_named strings row = nat_lt 0 (length (name_of strings row.strx))
+-- the same order as one of numbers: 8 bits of the section, 64 of how far the value is below the greatest, one of whether it
+-- is no external symbol, and 32 of the place of the name
+abbrev pub row_number : Candidate → ℕ
+row_number c = ((c.sect * 2 ^ 64 + (2 ^ 64 - 1 - c.value)) * 2 + cond c.external 0 1) * 2 ^ 32 + c.strx
 
 -- sections rise along the rows, and in a section no value is above one before it
 abbrev pub AreSorted : List Candidate → Type 0

@@ -18,19 +18,17 @@ name_view n = before_first (λ b. b == 0) n.from.now
 unfoldable pub tuple_of : List ℕ → Candidate → Tuple
 tuple_of strings c = record { value = c.value; external = c.external; name = name_of strings c.strx; sect = c.sect }
 
--- an entry as a candidate, with the place of its name
-abbrev pub row_at : List ℕ → Candidate
-row_at entry =
-    record {
+-- an entry that is a candidate, with the place of its name
+unfoldable pub row_in : List ℕ → List ℕ → Option Candidate
+row_in image entry =
+    if is_candidate image entry
+    then Some (record {
       value = n_value entry;
       strx = n_strx entry;
       sect = n_sect entry;
       external = bit_and (n_type entry) 0x01 == 1;
-    }
-
--- an entry that is a candidate
-unfoldable pub row_in : List ℕ → List ℕ → Option Candidate
-row_in image entry = if is_candidate image entry then Some (row_at entry) else None
+    })
+    else None
 
 -- the candidates of an image with the places of their names, in the order of its symbol table
 unfoldable pub rows_of : List ℕ → List Candidate

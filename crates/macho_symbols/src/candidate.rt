@@ -5,7 +5,6 @@ ghost use Rattle.std.specs.Ordering.{ordering_then, nat_cmp, bool_cmp, is_lt};
 ghost use Rattle.std.specs.Cmp.Lexicographic.{slice_cmp};
 ghost use Rattle.macho_symbols.specs.Symbols.{name_of};
 ghost use Rattle.macho_symbols.specs.Nearest.{tuple_cmp};
-ghost use Rattle.macho_symbols.specs.Halving.{is_named};
 ghost use Rattle.macho_symbols.specs.Overlaps.{beginning_cmp, cut_cmp, first_row, first_cut};
 ghost use Rattle.macho_symbols.specs.Views.{name_view, tuple_of};
 
@@ -27,13 +26,6 @@ impl Candidate {
         ensures { name_view result ≡ name_of strings.now self.now.strx }
     {
         Name::at(strings, self.strx)
-    }
-
-    /// Whether its name has a byte.
-    pub(crate) fn is_named(&self, strings: &[u8]) -> bool
-        ensures { result ≡ is_named strings.now self.now }
-    {
-        !self.name(strings).is_empty()
     }
 
     /// Compares the names of two candidates. A name that both have is not read.

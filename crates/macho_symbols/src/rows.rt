@@ -1,14 +1,13 @@
 //! The candidates of an image in the order of an address table.
 
-ghost use Rattle.std.specs.Prelude.{◌≡◌, ◌<◌, ◌++◌, ℕ, List, IfOk, map, filter, Contains, ◌↔◌};
+ghost use Rattle.std.specs.Prelude.{◌≡◌, ◌+◌, ◌-◌, ◌*◌, ◌<◌, ◌^◌, ◌++◌, ℕ, List, IfOk};
 ghost use Rattle.std.specs.Prelude.{true, false, length, ◌≤◌, Decides, slice_index_or};
 ghost use Rattle.std.specs.List.Sorted.{IsPartitionPoint};
 ghost use Rattle.std.specs.Option.{option_map, option_to_list};
 ghost use Rattle.macho_symbols.specs.Symbols.{strings_of};
 ghost use Rattle.macho_symbols.specs.Views.{tuple_of, rows_of};
 ghost use Rattle.macho_symbols.specs.declared.candidate.Candidate.{Candidate};
-ghost use Rattle.macho_symbols.specs.Halving.{row_of_number, placed_rows, is_named, is_before, AreSorted};
-ghost use Rattle.macho_symbols.specs.Halving.{IsFirstNotAbove};
+ghost use Rattle.macho_symbols.specs.Halving.{row_cmp, row_number, is_before, AreSorted, IsFirstNotAbove};
 ghost use Rattle.macho_symbols.specs.Rows.{IsBeside, AreFirsts, AreFalling, AreRows};
 
 use crate::candidate::Candidate;
@@ -16,32 +15,28 @@ use crate::group::first_of;
 use crate::scan::Scan;
 use crate::symbols::Symbols;
 use memory::{Heap, NoMemory};
+use std::cmp::Ordering;
 
 impl Candidate {
-    /// The number by which its row is sorted: the section, how far the value is below the greatest, whether it is no
-    /// external symbol, and where the name begins. Numbers are compared without a branch, and nothing foretells the
-    /// answer.
+    /// All that the order of rows looks at in one number: the section, how far the value is below the greatest, whether it
+    /// is no external symbol, and the place of the name.
     fn row_number(&self) -> u128
-        ensures { row_of_number result ≡ self.now }
+        ensures number { result ≡ row_number self.now }
+        ensures value { self.now.value < 2 ^ 64 }
+        ensures place { self.now.strx < 2 ^ 32 }
     {
-        let fall = u128::from(u64::MAX - self.value);
-        let place = u128::from(self.sect) * 0x1_0000_0000_0000_0000 + fall;
-        let kind = place * 0x100_0000 + u128::from(!self.external);
+        let fall = u128::from(self.sect) * 0x1_0000_0000_0000_0000
+            + u128::from(u64::MAX - self.value);
+        let kind = fall * 2 + u128::from(!self.external);
         kind * 0x1_0000_0000 + u128::from(self.strx)
     }
 
-    /// The candidate of a number.
-    fn of_row_number(number: u128) -> Candidate
-        ensures { result ≡ row_of_number number }
+    /// Compares two candidates by section, value, kind and the place of the name. No name is read. It has no branch, since
+    /// a sort asks it where nothing foretells the answer.
+    fn compare_rows(&self, other: &Candidate) -> Ordering
+        ensures { result ≡ row_cmp self.now other.now }
     {
-        let kind = number / 0x1_0000_0000;
-        let place = kind / 0x100_0000;
-        Candidate {
-            value: u64::MAX - (place % 0x1_0000_0000_0000_0000) as u64,
-            strx: (number % 0x1_0000_0000) as u32,
-            sect: (place / 0x1_0000_0000_0000_0000) as u8,
-            external: kind % 0x100_0000 == 0,
-        }
+        self.row_number().cmp(&other.row_number())
     }
 
     /// Whether it has the section and the value of another one.
@@ -60,57 +55,26 @@ impl Candidate {
     }
 }
 
-/// Adds the number of a row, if there is one.
-fn push_number(numbers: &mut Vec<u128, Heap>, row: Option<Candidate>) -> Result<(), NoMemory>
-    ensures { IfOk result (λ _.
-        map row_of_number numbers.new.items ≡ map row_of_number numbers.old.items ++ option_to_list row) }
+/// Adds a row, if there is one.
+fn push_some(rows: &mut Vec<Candidate, Heap>, row: Option<Candidate>) -> Result<(), NoMemory>
+    ensures { IfOk result (λ _. rows.new.items ≡ rows.old.items ++ option_to_list row) }
 {
     if let Some(row) = row {
-        numbers.push(row.row_number())?;
+        rows.push(row)?;
     }
     Ok(())
 }
 
-/// The numbers of the entries that are candidates if they have names, in the order of the symbol table.
-fn collect_numbers(heap: Heap, symbols: &Symbols<'_>) -> Result<Vec<u128, Heap>, NoMemory>
-    ensures { IfOk result (λ numbers. map row_of_number numbers.items ≡ placed_rows symbols.now) }
+/// The candidates, in the order of the symbol table.
+fn collect_rows(heap: Heap, symbols: &Symbols<'_>) -> Result<Vec<Candidate, Heap>, NoMemory>
+    ensures { IfOk result (λ rows. rows.items ≡ rows_of symbols.now) }
 {
     let scan = Scan::new(symbols);
-    let mut numbers = Vec::new(heap);
+    let mut rows = Vec::new(heap);
     for entry in symbols.entries() {
-        push_number(&mut numbers, scan.placed(entry))?;
+        push_some(&mut rows, scan.candidate(entry))?;
     }
-    Ok(numbers)
-}
-
-/// Keeps the numbers of those that have names. Names are looked at behind the sort, since the order of addresses is
-/// nearly that of the string table.
-fn keep_named(numbers: &mut Vec<u128, Heap>, strings: &[u8])
-    ensures { numbers.new.items ≡ filter (λ number. is_named strings.now (row_of_number number)) numbers.old.items }
-{
-    numbers.retain(|number| Candidate::of_row_number(*number).is_named(strings));
-}
-
-/// The candidates of these numbers.
-fn candidates_of(heap: Heap, numbers: &[u128]) -> Result<Vec<Candidate, Heap>, NoMemory>
-    ensures { IfOk result (λ rows. rows.items ≡ map row_of_number numbers.now) }
-{
-    numbers
-        .iter()
-        .map(|number| Candidate::of_row_number(*number))
-        .collect(heap)
-}
-
-/// The candidates, in the order of rows.
-fn collect_rows(heap: Heap, symbols: &Symbols<'_>) -> Result<Vec<Candidate, Heap>, NoMemory>
-    ensures same { IfOk result (λ rows.
-        (row : Candidate) → Contains rows.items row ↔ Contains (rows_of symbols.now) row) }
-    ensures order { IfOk result (λ rows. AreSorted rows.items) }
-{
-    let mut numbers = collect_numbers(heap.clone()?, symbols)?;
-    numbers.sort_unstable();
-    keep_named(&mut numbers, symbols.strings());
-    candidates_of(heap, &numbers)
+    Ok(rows)
 }
 
 /// The place behind the row at a place and those beside it.
@@ -156,6 +120,7 @@ pub(crate) fn sorted_rows(
     ensures { IfOk result (λ rows. AreRows symbols.now rows.items) }
 {
     let mut rows = collect_rows(heap, symbols)?;
+    rows.sort_unstable_by(|a, b| a.compare_rows(b));
     keep_firsts(&mut rows, symbols.strings());
     rows.shrink_to_fit();
     Ok(rows)

@@ -6,8 +6,7 @@ ghost use Rattle.macho_image.specs.Sections.{section_of};
 ghost use Rattle.macho_image.specs.SectionViews.{section_view};
 ghost use Rattle.macho_symbols.specs.Symbols.{strings_of, is_in_section, name_in, is_candidate, candidate_in};
 ghost use Rattle.macho_symbols.specs.Found.{found_of};
-ghost use Rattle.macho_symbols.specs.Halving.{is_placed, placed_in};
-ghost use Rattle.macho_symbols.specs.Views.{name_view, row_at, row_in, tuple_of, found_view};
+ghost use Rattle.macho_symbols.specs.Views.{name_view, row_in, tuple_of, found_view};
 
 use crate::candidate::Candidate;
 use crate::found::Found;
@@ -35,19 +34,6 @@ impl<'a> Model for Scan<'a> {
     ghost view = { λ s. s.symbols };
 
     ghost invariant = { λ s. AreByNumber s.symbols s.sections };
-}
-
-/// An entry as a candidate.
-fn row_at(entry: &[u8]) -> Candidate
-    requires { 16 ≤ length entry.now }
-    ensures { result ≡ row_at entry.now }
-{
-    Candidate {
-        value: n_value(entry),
-        strx: n_strx(entry),
-        sect: n_sect(entry),
-        external: n_type(entry) & N_EXT == 1,
-    }
 }
 
 impl<'a> Scan<'a> {
@@ -79,17 +65,6 @@ impl<'a> Scan<'a> {
         }
     }
 
-    /// Whether an entry is a candidate if it has a name.
-    #[tactic(auto, unfolding(crate::specs::Halving::is_placed))]
-    fn is_placed(&self, entry: &[u8]) -> bool
-        requires { 16 ≤ length entry.now }
-        ensures { result ≡ is_placed self.now entry.now }
-    {
-        n_type(entry) & N_STAB == 0
-            && n_type(entry) & N_TYPE == N_SECT
-            && self.is_in_section(n_sect(entry), n_value(entry))
-    }
-
     /// The name of an entry.
     #[tactic(auto, unfolding(crate::specs::Symbols::name_in))]
     fn name(&self, entry: &[u8]) -> Name<'a>
@@ -100,24 +75,15 @@ impl<'a> Scan<'a> {
     }
 
     /// Whether an entry is a candidate.
+    #[tactic(auto, unfolding(crate::specs::Symbols::is_candidate))]
     fn is_candidate(&self, entry: &[u8]) -> bool
         requires { 16 ≤ length entry.now }
         ensures { result ≡ is_candidate self.now entry.now }
     {
-        self.is_placed(entry) && !self.name(entry).is_empty()
-    }
-
-    /// The candidate that an entry is if it has a name.
-    #[tactic(auto, unfolding(crate::specs::Halving::placed_in))]
-    pub(crate) fn placed(&self, entry: &[u8]) -> Option<Candidate>
-        requires { 16 ≤ length entry.now }
-        ensures { result ≡ placed_in self.now entry.now }
-    {
-        if self.is_placed(entry) {
-            Some(row_at(entry))
-        } else {
-            None
-        }
+        n_type(entry) & N_STAB == 0
+            && n_type(entry) & N_TYPE == N_SECT
+            && self.is_in_section(n_sect(entry), n_value(entry))
+            && !self.name(entry).is_empty()
     }
 
     /// The candidate that an entry is, if it is one.
@@ -127,11 +93,15 @@ impl<'a> Scan<'a> {
         ensures row { result ≡ row_in self.now entry.now }
         ensures tuple { option_map (tuple_of (strings_of self.now)) result ≡ candidate_in self.now entry.now }
     {
-        if self.is_candidate(entry) {
-            Some(row_at(entry))
-        } else {
-            None
+        if !self.is_candidate(entry) {
+            return None;
         }
+        Some(Candidate {
+            value: n_value(entry),
+            strx: n_strx(entry),
+            sect: n_sect(entry),
+            external: n_type(entry) & N_EXT == 1,
+        })
     }
 
     /// The names of the segment and of the section of a number, empty where there is no such section.
