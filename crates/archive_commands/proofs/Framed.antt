@@ -1,10 +1,14 @@
 -- What is told of frames that are asked in the order of their keys.
-use Rattle.std.proofs.Common.{◌≡◌, ℕ, suc, ◌+◌, ◌-◌, ◌<◌, ◌≤◌, Bool, ◌&&◌, if◌then◌else◌, List, [], ◌∷◌, ◌++◌, length, map, take, drop, set, get_or, Some, Result, Err, refl, sym, ap, ◌∙◌, subst, arith, inl, inr, ◌⊎◌, length-append}
+use Rattle.std.proofs.Common.{◌≡◌, ℕ, suc, false, ◌+◌, ◌-◌, ◌<◌, ◌≤◌, Bool, ◌&&◌, if◌then◌else◌, List, [], ◌∷◌, ◌++◌, length, map, take, drop, set, get_or, Some, Result, Err, refl, sym, ap, ◌∙◌, subst, arith, inl, inr, ◌⊎◌, length-append}
 use Rattle.std.specs.Prelude.{slice_get, slice_range}
 use Rattle.std.specs.List.{AllByRecursion, AllZip, Contains, flat_map, list_all}
 use Rattle.std.specs.List.Sorted.{IsPermutation, IsSortedBy}
-use Rattle.std.specs.Ordering.{nat_cmp, is_lt}
-use Rattle.std.specs.Cmp.Lexicographic.{slice_cmp}
+use Rattle.std.specs.Ordering.{nat_cmp, is_lt, ordering_then}
+use Rattle.std.specs.declared.cmp.Ordering.{Ordering}
+use Rattle.std.specs.declared.cmp.Ordering.TheVariants.{Less, Equal, Greater}
+use Rattle.std.specs.Cmp.{IsTotalOrder}
+use Rattle.std.specs.Cmp.Lexicographic.{slice_cmp, nat_list_cmp_total}
+use Rattle.std.proofs.lemmas.Cmp.{nat_cmp_total, on_total, then_total}
 use Rattle.std.proofs.lemmas.Bool.{cases_lt}
 use Rattle.std.proofs.lemmas.List.{get_or-map, get_or_append_left, get_or_default, get_or_push, get_or-set_same, get_or-set_other, length-map, length-set, take_all, drop_at, take-append-le, drop-append-le, length-drop}
 use Rattle.std.proofs.lemmas.List.Sorted.{Contains-permutation, IsPermutation-sym}
@@ -26,7 +30,7 @@ use Rattle.archive_commands.specs.declared.faults.Status.{Status}
 use Rattle.archive_commands.specs.declared.faults.Status.TheVariants.{Done, Partial}
 use Rattle.archive_commands.specs.Ends.{EndsReport}
 use Rattle.archive_commands.specs.Frames.{IsFrameAnswered, TellsFrames, RefusesFrames}
-use Rattle.archive_commands.specs.InnerFrames.{AreLines, AreNumbered, AreTold, IsTold}
+use Rattle.archive_commands.specs.InnerFrames.{AreLines, AreNumbered, AreTold, IsTold, asked_cmp}
 use Rattle.archive_commands.specs.Inputs.{Reader, IsRefusal, IsRefusedFrames, IsUntouched, Unfailed, failures_of}
 use Rattle.archive_commands.specs.Outputs.{Writer, Takes}
 use Rattle.archive_commands.specs.Symbolicate.{Answered, asked_of, is_symbol, answers_text}
@@ -81,15 +85,24 @@ lines_of frames asked moved are permuted = λ one. (
         let lt = slice_get_within frames one.line one.frame at in
         (one.line, omega (arith, are.long, lt), are.each one.line one lt ∙ ap (numbered one.line) (get_or_from_slice_get frames one.line one.frame one.frame at))
 
+pub asked_total : IsTotalOrder asked_cmp
+asked_total = then_total (on_total (λ (a : AskedFrame). key_bytes a.frame.key) nat_list_cmp_total) (on_total (λ (a : AskedFrame). a.frame.address) nat_cmp_total)
+
+-- the first part of an order
+no_less_first : (a b : Ordering) → is_lt (ordering_then a b) ≡ false → is_lt a ≡ false
+no_less_first Less b h = h
+no_less_first Equal b h = refl
+no_less_first Greater b h = refl
+
 -- they stand in the order of their keys
-pub keys_in_order : (asked : List AskedFrame) → IsSortedBy (λ (a b : AskedFrame). is_lt (slice_cmp nat_cmp (key_bytes a.frame.key) (key_bytes b.frame.key))) asked → AreInOrder (map key_of_asked asked)
+pub keys_in_order : (asked : List AskedFrame) → IsSortedBy (λ (a b : AskedFrame). is_lt (asked_cmp a b)) asked → AreInOrder (map key_of_asked asked)
 keys_in_order [] sorted = λ j d _ below. absurd (omega (arith, below))
 keys_in_order (first ∷ asked) sorted = λ j d _ below.
     let all : List AskedFrame = first ∷ asked in
     let within : j + 1 < length all = omega (arith, below, length-map all key_of_asked) in
     let next : get_or (map key_of_asked all) (j + 1) d ≡ (get_or all (j + 1) first).frame.key = get_or-map key_of_asked all (j + 1) first d within in
     let one : get_or (map key_of_asked all) j d ≡ (get_or all j first).frame.key = get_or-map key_of_asked all j first d (omega (arith, within)) in
-    (λ i. is_lt (slice_cmp nat_cmp (key_bytes (next i)) (key_bytes (one i)))) ∙ sorted j first (omega arith) within
+    (λ i. is_lt (slice_cmp nat_cmp (key_bytes (next i)) (key_bytes (one i)))) ∙ no_less_first _ _ (sorted j first (omega arith) within)
 
 -- ---- one question after another
 

@@ -1,6 +1,10 @@
 -- Frames that are asked in the order of their keys: the words of inner functions. No contract of a public one has them.
 use Rattle.std.specs.Prelude.{◌≡◌, ◌↔◌, ◌⊎◌, ℕ, ◌<◌, ◌≤◌, List, Some, Contains, get_or, length, slice_get, slice_range}
+use Rattle.std.specs.Ordering.{nat_cmp, ordering_then}
+use Rattle.std.specs.Cmp.Lexicographic.{slice_cmp}
+use Rattle.std.specs.declared.cmp.Ordering.{Ordering}
 use Rattle.archive_core.specs.Content.{Operations}
+use Rattle.archive_core.specs.Key.{key_bytes}
 use Rattle.crash_frames.specs.declared.frame.Frame.{Frame}
 use Rattle.report_text.specs.Answers.{answer_lines}
 use Rattle.archive_commands.specs.declared.asked_frames.AskedFrame.{AskedFrame}
@@ -17,6 +21,11 @@ pub record AreNumbered (frames : List Frame) (asked : List AskedFrame) : Type 0 
 -- the frames with their numbers, in any order
 abbrev pub AreLines : List Frame → List AskedFrame → Type 0
 AreLines frames asked = (one : AskedFrame) → Contains asked one ↔ (slice_get frames one.line ≡ Some one.frame)
+
+-- the order in which frames are asked: by key, and under one key by address
+abbrev pub asked_cmp : AskedFrame → AskedFrame → Ordering
+asked_cmp a b =
+    ordering_then (slice_cmp nat_cmp (key_bytes a.frame.key) (key_bytes b.frame.key)) (nat_cmp a.frame.address b.frame.address)
 
 -- What was told of a frame is what the content tells of it.
 pub record IsTold (content : Operations) (text : List ℕ) (frame : Frame) (told : ToldFrame) : Type 0 where

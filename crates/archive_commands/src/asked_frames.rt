@@ -4,7 +4,7 @@ ghost use Rattle.std.specs.Prelude.{string_bytes};
 ghost use Rattle.std.specs.List.{list_all};
 ghost use Rattle.archive_records.specs.Keys.{AreInOrder};
 ghost use Rattle.archive_commands.specs.declared.faults.Status.TheVariants.{Done, Partial};
-ghost use Rattle.archive_commands.specs.InnerFrames.{AreLines, AreNumbered};
+ghost use Rattle.archive_commands.specs.InnerFrames.{AreLines, AreNumbered, asked_cmp};
 ghost use Rattle.archive_commands.specs.Symbolicate.{is_symbol};
 
 use crate::faults::Status;
@@ -14,12 +14,24 @@ use archive_records::Questions;
 use crash_frames::Frame;
 use memory::{Heap, NoMemory};
 use report_text::push_answer;
+use std::cmp::Ordering;
 
 /// A frame, behind how many others it comes.
 #[derive(Clone, Copy)]
 pub(crate) struct AskedFrame {
     line: usize,
     frame: Frame,
+}
+
+impl AskedFrame {
+    /// Compares two frames by their keys, and under one key by their addresses: what is told of near ones stands near.
+    fn compare(&self, other: &AskedFrame) -> Ordering
+        ensures { result ≡ asked_cmp self.now other.now }
+    {
+        compare_keys(&self.frame.key, &other.frame.key).then(
+            self.frame.address.cmp(&other.frame.address),
+        )
+    }
 }
 
 /// What was told of a frame: where its lines stand, and whether its answer is one symbol.
@@ -62,7 +74,7 @@ pub(crate) fn in_key_order(heap: Heap, frames: &[Frame]) -> Result<Vec<AskedFram
     ensures order { IfOk result (λ asked. AreInOrder (map (λ one. one.frame.key) asked.items)) }
 {
     let mut asked = numbered(heap, frames)?;
-    asked.sort_unstable_by(|a, b| compare_keys(&a.frame.key, &b.frame.key));
+    asked.sort_unstable_by(|a, b| a.compare(b));
     Ok(asked)
 }
 

@@ -10,7 +10,7 @@ use clap::{Arg, ArgAction, Command};
 use std::alloc::{AllocError, Global};
 
 /// The number of the program, of which the first part is the version of the archives that it writes.
-const VERSION: &str = "2.2.2";
+const VERSION: &str = "2.2.3";
 
 /// An argument of a command: the name that it has there, and its help.
 #[derive(Clone, Copy)]

@@ -32,7 +32,7 @@ fn frames_among(heap: Heap, lines: &[(usize, &[u8])]) -> Result<Vec<Frame, Heap>
     ensures ok { IfOk result (λ frames. frames_in (seen lines.now) ≡ Ok frames.items) }
     ensures err { IfErr result (IsErrorOf (frames_in (seen lines.now))) }
 {
-    let mut frames = Vec::new(heap);
+    let mut frames = Vec::with_capacity(heap, lines.len())?;
     'lines: for line in lines {
         let Some(frame) = read_frame(line.1) else {
             return Err(FramesError::BadFrame {

@@ -1,11 +1,11 @@
 -- How the rows of a table come about.
-use Rattle.std.proofs.Common.{false, ◌≡◌, ◌≢◌, ℕ, ◌+◌, ◌-◌, ◌<◌, ◌≤◌, ◌⊎◌, inl, inr, List, [], ◌∷◌, ◌++◌, length, take, drop, sym, ap, ◌∙◌, arith, subst, Option, Some, None, Contains, slice_index_or, append_assoc, length-take, length-drop, length-append, slice_set}
+use Rattle.std.proofs.Common.{◌↔◌, false, ◌≡◌, ◌≢◌, ℕ, ◌+◌, ◌-◌, ◌<◌, ◌≤◌, ◌⊎◌, inl, inr, List, [], ◌∷◌, ◌++◌, length, take, drop, sym, ap, ◌∙◌, arith, subst, Option, Some, None, Contains, slice_index_or, append_assoc, length-take, length-drop, length-append, slice_set}
 use Rattle.std.specs.List.{filter_map, cons_option}
 use Rattle.std.specs.List.Sorted.{IsPermutation}
 use Rattle.std.specs.Option.{option_to_list}
 use Rattle.std.specs.declared.cmp.Ordering.TheVariants.{Less}
 use Rattle.std.proofs.lemmas.Bool.{cases_lt}
-use Rattle.std.proofs.lemmas.List.{append-nil, get_or_append_left, get_or-take, get_or-drop, get_or_default, get_or_push, drop-set-lt, drop-drop, take_more_set}
+use Rattle.std.proofs.lemmas.List.{append-nil, at_drop_more, at_drop_all, get_or_append_left, get_or-take, get_or-drop, get_or_default, get_or_push, drop-set-lt, drop-drop, take_more_set}
 use Rattle.std.proofs.lemmas.List.Elements.{Contains-append_left, Contains-append_right, Contains-append_cases, Contains-push, Contains-push_cases, Contains-get_or}
 use Rattle.std.proofs.lemmas.List.Sorted.{IsPermutation-sym, Contains-permutation}
 use Rattle.std.proofs.Math.Seq.{take-add}
@@ -16,17 +16,23 @@ use Rattle.macho_symbols.specs.Rows.{Precedes, IsBeside, AreFirsts}
 use Rattle.macho_symbols.specs.Halving.{AreSorted}
 use Rattle.macho_symbols.specs.declared.candidate.Candidate.{Candidate}
 
--- one entry more
-pub row_added : (pick : List ℕ → Option Candidate) (rows more : List Candidate) (o : Option Candidate) (e : List ℕ) (es : List (List ℕ))
-    → o ≡ pick e → more ≡ rows ++ option_to_list o → more ++ filter_map pick es ≡ rows ++ filter_map pick (e ∷ es)
-row_added pick rows more None e es told new =
-    ap (λ rs. rs ++ filter_map pick es) (new ∙ append-nil rows) ∙ ap (λ o. rows ++ cons_option o (filter_map pick es)) told
-row_added pick rows more (Some row) e es told new =
-    ap (λ rs. rs ++ filter_map pick es) new ∙ append_assoc rows (row ∷ []) (filter_map pick es) ∙ ap (λ o. rows ++ cons_option o (filter_map pick es)) told
+picked : (pick : ℕ → Option Candidate) (rows more : List Candidate) (o : Option Candidate) (key : ℕ) (keys : List ℕ)
+    → o ≡ pick key → more ≡ rows ++ option_to_list o → more ++ filter_map pick keys ≡ rows ++ filter_map pick (key ∷ keys)
+picked pick rows more None key keys told new =
+    ap (λ rs. rs ++ filter_map pick keys) (new ∙ append-nil rows) ∙ ap (λ o. rows ++ cons_option o (filter_map pick keys)) told
+picked pick rows more (Some row) key keys told new =
+    ap (λ rs. rs ++ filter_map pick keys) new ∙ append_assoc rows (row ∷ []) (filter_map pick keys) ∙ ap (λ o. rows ++ cons_option o (filter_map pick keys)) told
 
--- after the last entry
-pub rows_end : (pick : List ℕ → Option Candidate) (rows : List Candidate) (es : List (List ℕ)) (all : List Candidate) → es ≡ [] → rows ++ filter_map pick es ≡ all → rows ≡ all
-rows_end pick rows es all h e = sym (append-nil rows) ∙ ap (λ rest. rows ++ filter_map pick rest) (sym h) ∙ e
+-- one key more
+pub row_added : (pick : ℕ → Option Candidate) (keys : List ℕ) (i : ℕ) (rows more : List Candidate) (o : Option Candidate) (d : ℕ)
+    → o ≡ pick (slice_index_or keys i d) → more ≡ rows ++ option_to_list o → i < length keys
+    → more ++ filter_map pick (drop (i + 1) keys) ≡ rows ++ filter_map pick (drop i keys)
+row_added pick keys i rows more o d told new l =
+    picked pick rows more o (slice_index_or keys i d) (drop (i + 1) keys) told new ∙ sym (at_drop_more (λ ks. rows ++ filter_map pick ks) keys i d l)
+
+-- after the last key
+pub rows_end : (pick : ℕ → Option Candidate) (keys : List ℕ) (i : ℕ) (rows all : List Candidate) → length keys ≤ i → rows ++ filter_map pick (drop i keys) ≡ all → rows ≡ all
+rows_end pick keys i rows all l e = sym (append-nil rows) ∙ sym (at_drop_all (λ ks. rows ++ filter_map pick ks) keys i l) ∙ e
 
 -- by section and value
 far : (a b c : Candidate) → Precedes a b → Precedes b c ⊎ IsBeside b c → Precedes a c
@@ -198,9 +204,10 @@ group_added strings old items rows kept index end row sorted low high size rest 
         (subst (IsBeside (slice_index_or old end d)) (sym (at_place index d (omega arith))) h))
 
 -- the order in which the rows stood at first does not count
-pub firsts_of_sorted : (strings : List ℕ) (rows sorted firsts : List Candidate) → IsPermutation rows sorted → AreFirsts strings sorted firsts → AreFirsts strings rows firsts
-firsts_of_sorted strings rows sorted firsts permuted are = record {
-  members = λ r h. Contains-permutation sorted rows r (IsPermutation-sym rows sorted permuted) (are.members r h);
-  each = λ c h. are.each c (Contains-permutation rows sorted c permuted h);
+pub firsts_of_sorted : (strings : List ℕ) (rows collected sorted firsts : List Candidate) → ((r : Candidate) → Contains collected r ↔ Contains rows r)
+    → IsPermutation collected sorted → AreFirsts strings sorted firsts → AreFirsts strings rows firsts
+firsts_of_sorted strings rows collected sorted firsts same permuted are = record {
+  members = λ r h. (same r).0 (Contains-permutation sorted collected r (IsPermutation-sym collected sorted permuted) (are.members r h));
+  each = λ c h. are.each c (Contains-permutation collected sorted c permuted ((same c).1 h));
   falling = are.falling;
 }

@@ -18,3 +18,4 @@ pub mod Stands
 pub mod Beginnings
 pub mod Folds
 pub mod BuildLemmas
+pub mod Placed

@@ -4,8 +4,8 @@ use Rattle.std.specs.Ordering.{is_lt, ordering_then, nat_cmp, bool_cmp, MatchOrd
 use Rattle.std.specs.Cmp.Lexicographic.{slice_cmp}
 use Rattle.std.specs.declared.cmp.Ordering.{Ordering}
 use Rattle.std.specs.declared.cmp.Ordering.TheVariants.{Less, Equal, Greater}
-use Rattle.std.specs.List.Sorted.{IsPartitionedBy, IsPartitionPoint, IsSortedByKey}
-use Rattle.std.specs.Cmp.{IsTotalOrder, bool_cmp_total}
+use Rattle.std.specs.List.Sorted.{IsPartitionedBy, IsPartitionPoint, IsSortedBy}
+use Rattle.std.specs.Cmp.{IsStrictWeakOrder}
 use Rattle.std.proofs.lemmas.Cmp.{ranked, nat_cmp_total, on_total, then_total, back_total}
 use Rattle.std.proofs.lemmas.List.Sorted.{ranks_by, sorted_far}
 use Rattle.std.proofs.lemmas.List.Elements.{Contains-get_or}
@@ -15,16 +15,13 @@ use Rattle.std.proofs.lemmas.Bool.Decides.{nat_tests}
 use Rattle.macho_symbols.specs.Symbols.{Tuple, strings_of, candidates}
 use Rattle.macho_symbols.specs.Nearest.{tuple_cmp, IsFirst}
 use Rattle.macho_symbols.specs.Views.{tuple_of}
-use Rattle.macho_symbols.specs.Halving.{row_cmp, is_before, AreSorted}
+use Rattle.macho_symbols.specs.Halving.{place_cmp, is_before, AreSorted}
 use Rattle.macho_symbols.specs.Rows.{Precedes, IsBeside, AreRows, AreFalling}
 use Rattle.macho_symbols.specs.declared.candidate.Candidate.{Candidate}
 use Rattle.macho_symbols.proofs.RowMembers.{row_to, row_from}
 
-pub rows_total : IsTotalOrder row_cmp
-rows_total =
-    then_total (on_total (λ c. c.sect) nat_cmp_total)
-    (then_total (back_total (on_total (λ c. c.value) nat_cmp_total))
-    (then_total (back_total (on_total (λ c. c.external) bool_cmp_total)) (on_total (λ c. c.strx) nat_cmp_total)))
+pub places_total : IsStrictWeakOrder (λ r s. is_lt (place_cmp r s))
+places_total = ranks_by (then_total (on_total (λ c. c.sect) nat_cmp_total) (back_total (on_total (λ c. c.value) nat_cmp_total))) (λ r. r)
 
 -- the first part of an order decides
 low_first : (x y : ℕ) (o p : Ordering) → MatchOrdering o (x < y) (x ≡ y) (y < x) → is_lt (ordering_then o p) ≡ false → (y < x) ⊎ ((y ≡ x) × (is_lt p ≡ false))
@@ -33,21 +30,21 @@ low_first x y Equal p m h = inr (sym m, h)
 low_first x y Greater p m h = inl m
 
 -- what does not come before a row has a later section, or the same one and no greater value
-in_order : (r s : Candidate) → is_lt (row_cmp s r) ≡ false → Precedes r s ⊎ IsBeside r s
+in_order : (r s : Candidate) → is_lt (place_cmp s r) ≡ false → Precedes r s ⊎ IsBeside r s
 in_order r s h = by_section (low_first s.sect r.sect (nat_cmp s.sect r.sect) _ (ranked s.sect r.sect (nat_cmp s.sect r.sect) refl) h)
   where
-    by_value : {P : Type 0} → r.sect ≡ s.sect → (s.value < r.value) ⊎ ((s.value ≡ r.value) × P) → Precedes r s ⊎ IsBeside r s
-    by_value e (inl l) = inl (inr (e, l))
-    by_value e (inr p) = inr (e, sym p.0)
+    by_value : (o : Ordering) → r.sect ≡ s.sect → MatchOrdering o (r.value < s.value) (r.value ≡ s.value) (s.value < r.value) → is_lt o ≡ false → Precedes r s ⊎ IsBeside r s
+    by_value Less e m k = absurd (cc k)
+    by_value Equal e m k = inr (e, m)
+    by_value Greater e m k = inl (inr (e, m))
 
-    by_section : (r.sect < s.sect) ⊎ ((r.sect ≡ s.sect) × (is_lt (ordering_then (nat_cmp r.value s.value) (ordering_then (bool_cmp r.external s.external) (nat_cmp s.strx r.strx))) ≡ false)) → Precedes r s ⊎ IsBeside r s
+    by_section : (r.sect < s.sect) ⊎ ((r.sect ≡ s.sect) × (is_lt (nat_cmp r.value s.value) ≡ false)) → Precedes r s ⊎ IsBeside r s
     by_section (inl l) = inl (inl l)
-    by_section (inr e) = by_value e.0 (low_first r.value s.value (nat_cmp r.value s.value) _ (ranked r.value s.value (nat_cmp r.value s.value) refl) e.1)
+    by_section (inr e) = by_value (nat_cmp r.value s.value) e.0 (ranked r.value s.value (nat_cmp r.value s.value) refl) e.1
 
-pub rows_sorted : (rows : List Candidate) → IsSortedByKey (λ r. r) row_cmp rows → AreSorted rows
+pub rows_sorted : (rows : List Candidate) → IsSortedBy (λ r s. is_lt (place_cmp r s)) rows → AreSorted rows
 rows_sorted rows ordered i j d h l =
-    in_order (slice_index_or rows i d) (slice_index_or rows j d)
-    (sorted_far (λ r s. is_lt (row_cmp r s)) (ranks_by rows_total (λ r. r)) rows ordered i j d (omega arith) l)
+    in_order (slice_index_or rows i d) (slice_index_or rows j d) (sorted_far (λ r s. is_lt (place_cmp r s)) places_total rows ordered i j d (omega arith) l)
 
 true_false : true ≡ false → ⊥
 true_false h = cc

@@ -1,24 +1,39 @@
 -- The search in an address table and its building: the words of inner functions. No contract of a public one has them.
-use Rattle.std.specs.Prelude.{ℕ, Bool, List, ◌≡◌, ◌+◌, ◌-◌, ◌*◌, ◌^◌, ◌≤◌, ◌<◌, ◌==◌, ◌&&◌, ◌||◌, nat_lt, nat_le, cond}
-use Rattle.std.specs.Prelude.{length, slice_index_or, Option, Some, None, MatchOption, Contains, ◌⊎◌}
-use Rattle.std.specs.Ordering.{ordering_then, nat_cmp, bool_cmp, is_lt}
+use Rattle.std.specs.Prelude.{ℕ, Bool, true, List, ◌≡◌, ◌+◌, ◌%◌, ◌^◌, ◌≤◌, ◌<◌, ◌==◌, ◌&&◌, ◌||◌, nat_lt, nat_le, cond, bit_and}
+use Rattle.std.specs.Prelude.{length, slice_get, slice_index_or, Option, Some, None, MatchOption, Contains, ◌⊎◌}
+use Rattle.std.specs.Option.{option_map_or}
+use Rattle.std.specs.Ordering.{ordering_then, nat_cmp, is_lt}
 use Rattle.std.specs.declared.cmp.Ordering.{Ordering}
-use Rattle.macho_symbols.specs.Symbols.{Tuple, candidates}
+use Rattle.macho_symbols.specs.Symbols.{Tuple, candidates, entries_of, is_in_section}
+use Rattle.macho_symbols.specs.Nlist.{n_type, n_sect, n_value}
 use Rattle.macho_symbols.specs.Nearest.{tuple_cmp, IsFirst, StandsFor}
 use Rattle.macho_symbols.specs.Rows.{Precedes, IsBeside}
+use Rattle.macho_symbols.specs.Views.{row_in}
 use Rattle.macho_symbols.specs.declared.candidate.Candidate.{Candidate}
 use Rattle.macho_symbols.specs.declared.extents.Extent.{Extent}
 
--- the order in which rows are sorted: by section, by falling value, external before local, by the place of the name
-abbrev pub row_cmp : Candidate → Candidate → Ordering
-row_cmp c d =
-    ordering_then (nat_cmp c.sect d.sect)
-    (ordering_then (nat_cmp d.value c.value) (ordering_then (bool_cmp d.external c.external) (nat_cmp c.strx d.strx)))
+-- whether an entry is a candidate if it has a name
+unfoldable pub is_placed : List ℕ → List ℕ → Bool
+is_placed image entry =
+    (bit_and (n_type entry) 0xe0 == 0) && (bit_and (n_type entry) 0x0e == 0x0e)
+    && is_in_section image (n_sect entry) (n_value entry)
 
--- the same order as one of numbers: 8 bits of the section, 64 of how far the value is below the greatest, one of whether it
--- is no external symbol, and 32 of the place of the name
-abbrev pub row_number : Candidate → ℕ
-row_number c = ((c.sect * 2 ^ 64 + (2 ^ 64 - 1 - c.value)) * 2 + cond c.external 0 1) * 2 ^ 32 + c.strx
+-- the index in the key of an entry
+abbrev pub index_in : ℕ → ℕ
+index_in key = key % 2 ^ 32
+
+-- each entry of an image that may be a candidate stands by its index among the keys
+abbrev pub HasEach : List ℕ → List ℕ → Type 0
+HasEach image keys = (i : ℕ) (entry : List ℕ) → slice_get (entries_of image) i ≡ Some entry
+    → is_placed image entry ≡ true → (key : ℕ) × Contains keys key × (index_in key ≡ i)
+
+-- the candidate that the entry of an index is, if there is such an entry and it is one
+abbrev pub row_at : List ℕ → ℕ → Option Candidate
+row_at image i = option_map_or (row_in image) (slice_get (entries_of image) i) None
+
+-- the order in which rows are sorted: by section, then by falling value
+abbrev pub place_cmp : Candidate → Candidate → Ordering
+place_cmp c d = ordering_then (nat_cmp c.sect d.sect) (nat_cmp d.value c.value)
 
 -- sections rise along the rows, and in a section no value is above one before it
 abbrev pub AreSorted : List Candidate → Type 0

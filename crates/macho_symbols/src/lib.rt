@@ -15,7 +15,7 @@
 //! - `found`: what is told of a symbol;
 //! - `scan`, `nearest`, `named`: the plain searches, by address and by name;
 //! - `ends`: which of the candidates whose names overlap may come first;
-//! - `extents`, `rows`, `group`, `nul_places`, `table`: the table of addresses;
+//! - `extents`, `sort_keys`, `rows`, `group`, `nul_places`, `table`: the table of addresses;
 //! - [`laws`]: what the definitions say of each other.
 #![tactic(auto)]
 
@@ -35,6 +35,7 @@ mod nul_places;
 mod rows;
 mod scan;
 mod section_numbers;
+mod sort_keys;
 mod symbols;
 mod table;
 

@@ -1,42 +1,32 @@
 //! The candidates of an image in the order of an address table.
 
-ghost use Rattle.std.specs.Prelude.{◌≡◌, ◌+◌, ◌-◌, ◌*◌, ◌<◌, ◌^◌, ◌++◌, ℕ, List, IfOk};
+ghost use Rattle.std.specs.Prelude.{◌≡◌, ◌<◌, ◌++◌, ◌↔◌, ℕ, List, IfOk, Contains};
 ghost use Rattle.std.specs.Prelude.{true, false, length, ◌≤◌, Decides, slice_index_or};
+ghost use Rattle.std.specs.List.{filter_map};
 ghost use Rattle.std.specs.List.Sorted.{IsPartitionPoint};
 ghost use Rattle.std.specs.Option.{option_map, option_to_list};
 ghost use Rattle.macho_symbols.specs.Symbols.{strings_of};
 ghost use Rattle.macho_symbols.specs.Views.{tuple_of, rows_of};
 ghost use Rattle.macho_symbols.specs.declared.candidate.Candidate.{Candidate};
-ghost use Rattle.macho_symbols.specs.Halving.{row_cmp, row_number, is_before, AreSorted, IsFirstNotAbove};
+ghost use Rattle.macho_symbols.specs.Halving.{place_cmp, index_in, row_at, is_before, AreSorted, IsFirstNotAbove};
 ghost use Rattle.macho_symbols.specs.Rows.{IsBeside, AreFirsts, AreFalling, AreRows};
 
 use crate::candidate::Candidate;
 use crate::group::first_of;
 use crate::scan::Scan;
+use crate::sort_keys::{index_in, sorted_keys};
 use crate::symbols::Symbols;
 use memory::{Heap, NoMemory};
 use std::cmp::Ordering;
 
 impl Candidate {
-    /// All that the order of rows looks at in one number: the section, how far the value is below the greatest, whether it
-    /// is no external symbol, and the place of the name.
-    fn row_number(&self) -> u128
-        ensures number { result ≡ row_number self.now }
-        ensures value { self.now.value < 2 ^ 64 }
-        ensures place { self.now.strx < 2 ^ 32 }
+    /// Compares two candidates by section and value. Nothing tells apart those that have both.
+    fn compare_places(&self, other: &Candidate) -> Ordering
+        ensures { result ≡ place_cmp self.now other.now }
     {
-        let fall = u128::from(self.sect) * 0x1_0000_0000_0000_0000
-            + u128::from(u64::MAX - self.value);
-        let kind = fall * 2 + u128::from(!self.external);
-        kind * 0x1_0000_0000 + u128::from(self.strx)
-    }
-
-    /// Compares two candidates by section, value, kind and the place of the name. No name is read. It has no branch, since
-    /// a sort asks it where nothing foretells the answer.
-    fn compare_rows(&self, other: &Candidate) -> Ordering
-        ensures { result ≡ row_cmp self.now other.now }
-    {
-        self.row_number().cmp(&other.row_number())
+        self.sect
+            .cmp(&other.sect)
+            .then(other.value.cmp(&self.value))
     }
 
     /// Whether it has the section and the value of another one.
@@ -65,16 +55,32 @@ fn push_some(rows: &mut Vec<Candidate, Heap>, row: Option<Candidate>) -> Result<
     Ok(())
 }
 
-/// The candidates, in the order of the symbol table.
-fn collect_rows(heap: Heap, symbols: &Symbols<'_>) -> Result<Vec<Candidate, Heap>, NoMemory>
-    ensures { IfOk result (λ rows. rows.items ≡ rows_of symbols.now) }
+/// The candidate that the entry of an index is, if there is such an entry and it is one.
+fn candidate_at(scan: &Scan<'_>, index: usize) -> Option<Candidate>
+    ensures { result ≡ row_at scan.now index }
 {
-    let scan = Scan::new(symbols);
-    let mut rows = Vec::new(heap);
-    for entry in symbols.entries() {
-        push_some(&mut rows, scan.candidate(entry))?;
+    scan.candidate(scan.symbols.entry(index)?)
+}
+
+/// The candidates that the entries of these keys are.
+fn rows_of_keys(heap: Heap, scan: &Scan<'_>, keys: &[u64]) -> Result<Vec<Candidate, Heap>, NoMemory>
+    ensures { IfOk result (λ rows. rows.items ≡ filter_map (λ key. row_at scan.now (index_in key)) keys.now) }
+{
+    let mut rows = Vec::with_capacity(heap, keys.len())?;
+    for key in keys {
+        push_some(&mut rows, candidate_at(scan, index_in(*key)))?;
     }
     Ok(rows)
+}
+
+/// The candidates, nearly in the order of rows.
+fn collect_rows(heap: Heap, symbols: &Symbols<'_>) -> Result<Vec<Candidate, Heap>, NoMemory>
+    ensures { IfOk result (λ rows.
+        (row : Candidate) → Contains rows.items row ↔ Contains (rows_of symbols.now) row) }
+{
+    let scan = Scan::new(symbols);
+    let keys = sorted_keys(heap.clone()?, &scan)?;
+    rows_of_keys(heap, &scan, &keys)
 }
 
 /// The place behind the row at a place and those beside it.
@@ -112,7 +118,7 @@ fn keep_firsts(rows: &mut Vec<Candidate, Heap>, strings: &[u8])
     rows.truncate(kept);
 }
 
-/// The rows of a table.
+/// The rows of a table. Most images have them in their order before they are sorted, which then reads them once.
 pub(crate) fn sorted_rows(
     heap: Heap,
     symbols: &Symbols<'_>,
@@ -120,7 +126,7 @@ pub(crate) fn sorted_rows(
     ensures { IfOk result (λ rows. AreRows symbols.now rows.items) }
 {
     let mut rows = collect_rows(heap, symbols)?;
-    rows.sort_unstable_by(|a, b| a.compare_rows(b));
+    rows.sort_unstable_by(|a, b| a.compare_places(b));
     keep_firsts(&mut rows, symbols.strings());
     rows.shrink_to_fit();
     Ok(rows)

@@ -6,6 +6,7 @@ ghost use Rattle.macho_image.specs.Sections.{section_of};
 ghost use Rattle.macho_image.specs.SectionViews.{section_view};
 ghost use Rattle.macho_symbols.specs.Symbols.{strings_of, is_in_section, name_in, is_candidate, candidate_in};
 ghost use Rattle.macho_symbols.specs.Found.{found_of};
+ghost use Rattle.macho_symbols.specs.Halving.{is_placed};
 ghost use Rattle.macho_symbols.specs.Views.{name_view, row_in, tuple_of, found_view};
 
 use crate::candidate::Candidate;
@@ -48,7 +49,7 @@ impl<'a> Scan<'a> {
     }
 
     /// The section of a number.
-    fn section(&self, number: u8) -> Option<Section<'a>>
+    pub(crate) fn section(&self, number: u8) -> Option<Section<'a>>
         ensures { option_map section_view result ≡ section_of self.now number }
     {
         self.sections[number as usize]
@@ -65,6 +66,17 @@ impl<'a> Scan<'a> {
         }
     }
 
+    /// Whether an entry is a candidate if it has a name.
+    #[tactic(auto, unfolding(crate::specs::Halving::is_placed))]
+    pub(crate) fn is_placed(&self, entry: &[u8]) -> bool
+        requires { 16 ≤ length entry.now }
+        ensures { result ≡ is_placed self.now entry.now }
+    {
+        n_type(entry) & N_STAB == 0
+            && n_type(entry) & N_TYPE == N_SECT
+            && self.is_in_section(n_sect(entry), n_value(entry))
+    }
+
     /// The name of an entry.
     #[tactic(auto, unfolding(crate::specs::Symbols::name_in))]
     fn name(&self, entry: &[u8]) -> Name<'a>
@@ -75,15 +87,11 @@ impl<'a> Scan<'a> {
     }
 
     /// Whether an entry is a candidate.
-    #[tactic(auto, unfolding(crate::specs::Symbols::is_candidate))]
     fn is_candidate(&self, entry: &[u8]) -> bool
         requires { 16 ≤ length entry.now }
         ensures { result ≡ is_candidate self.now entry.now }
     {
-        n_type(entry) & N_STAB == 0
-            && n_type(entry) & N_TYPE == N_SECT
-            && self.is_in_section(n_sect(entry), n_value(entry))
-            && !self.name(entry).is_empty()
+        self.is_placed(entry) && !self.name(entry).is_empty()
     }
 
     /// The candidate that an entry is, if it is one.

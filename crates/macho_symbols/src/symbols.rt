@@ -1,6 +1,6 @@
 //! The symbol table of an image.
 
-ghost use Rattle.std.specs.Prelude.{◌≡◌, ◌*◌, ◌≤◌, IfOk, IfErr, length};
+ghost use Rattle.std.specs.Prelude.{◌≡◌, ◌*◌, ◌^◌, ◌<◌, ◌≤◌, IfOk, IfErr, IfSome, length, option_map, slice_get};
 ghost use Rattle.std.specs.List.{AllByRecursion};
 ghost use Rattle.macho_symbols.specs.Nlist.{IsEntry};
 ghost use Rattle.macho_symbols.specs.Symbols.{table_of, entries, entries_of, strings_of};
@@ -89,8 +89,21 @@ impl<'a> Symbols<'a> {
         ensures all { result ≡ entries_of self.now }
         ensures each { AllByRecursion IsEntry (entries_of self.now) }
         ensures fit { 16 * length (entries_of self.now) ≤ length self.now }
+        ensures few { length (entries_of self.now) < 2 ^ 32 }
     {
         Entries::new(self.entry_bytes(), self.table.nsyms)
+    }
+
+    /// The entry of an index, if there is such a one.
+    pub(crate) fn entry(&self, index: usize) -> Option<&'a [u8]>
+        ensures entry { option_map (λ entry. entry.now) result ≡ slice_get (entries_of self.now) index }
+        ensures long { IfSome result (λ entry. 16 ≤ length entry.now) }
+    {
+        if index >= self.table.nsyms as usize {
+            return None;
+        }
+        let from = NLIST_64_LEN * index;
+        Some(&self.entry_bytes()[from..from + NLIST_64_LEN])
     }
 
     /// The string table.

@@ -1,31 +1,20 @@
-use Rattle.std.proofs.Common.{rules, ◌≡◌, ◌∙◌, ◌++◌, ap, sym, subst}
-use Rattle.std.specs.List.{AllByRecursion, filter_map}
-use Rattle.macho_symbols.specs.Nlist.{IsEntry}
-use Rattle.macho_symbols.specs.Views.{row_in, rows_of}
-use Rattle.macho_symbols.proofs.BuildLemmas.{row_added, rows_end}
+use Rattle.std.proofs.Common.{◌≡◌, ◌∙◌, ◌↔◌, ap, Contains, subst, sym}
+use Rattle.std.specs.List.{filter_map}
+use Rattle.std.proofs.lemmas.Result.{IfOk-weaker}
+use Rattle.macho_symbols.specs.Views.{rows_of}
+use Rattle.macho_symbols.specs.Halving.{index_in, row_at}
+use Rattle.macho_symbols.specs.declared.candidate.Candidate.{Candidate}
+use Rattle.macho_symbols.proofs.Placed.{rows_of_keys}
 use Rattle.macho_symbols.proofs.rows.collect_rows.Goals as goal
 
-pub loop-entry-init : goal.loop-entry-init
-unfolding rows_of
-loop-entry-init c =
-    let image = c.args.symbols.now in
-    let all = c.into_iter-entry-iterator.ensures.into_iter_gives ∙ c.entries-entry-items.ensures.all in
-    record {
-      same = ap (λ rows. rows ++ filter_map (row_in image) c.into_iter-entry-iterator.result) c.new-rows.ensures.items ∙ ap (filter_map (row_in image)) all;
-      each = subst (AllByRecursion IsEntry) (sym all) c.entries-entry-items.ensures.each;
-    }
-
-pub loop-entry-preserved : goal.loop-entry-preserved
-loop-entry-preserved c =
-    let image = c.args.symbols.now in
-    let rows = c.loop-entry.rows.items in
-    let told = subst (λ bytes. c.candidate.result ≡ row_in bytes c.in-Some.entry.now) c.new-scan.ensures c.candidate.ensures.row in
-    record {
-      same = row_added (row_in image) rows _ c.candidate.result c.in-Some.entry.now c.next.new.self told c.in_ok-push_some.ensures
-          ∙ ap (λ es. rows ++ filter_map (row_in image) es) (sym c.in-Some.ensures.steps)
-          ∙ c.loop-entry.invariant.same;
-      each = search rules;
-    }
-
 pub returns : goal.returns
-returns c = rows_end (row_in c.args.symbols.now) c.loop-entry.rows.items c.loop-entry.entry-iterator _ c.in-None.ensures.steps.0 c.loop-entry.invariant.same
+returns c =
+    let image = c.args.symbols.now in
+    let scan = c.new-scan.result in
+    let keys = c.in_ok-keys.keys.items in
+    IfOk-weaker c.rows_of_keys.result (λ rows. rows.items ≡ filter_map (λ key. row_at scan (index_in key)) c.deref.result.now)
+    (λ rows. (row : Candidate) → Contains rows.items row ↔ Contains (rows_of image) row)
+    (λ rows are row. subst (λ all. Contains all row ↔ Contains (rows_of image) row) (sym (are ∙ ap (filter_map (λ key. row_at scan (index_in key))) c.deref.ensures.value))
+    (subst (λ bytes. Contains (filter_map (λ key. row_at scan (index_in key)) keys) row ↔ Contains (rows_of bytes) row) c.new-scan.ensures
+    (rows_of_keys scan keys c.in_ok-keys.ensures row)))
+    c.rows_of_keys.ensures

@@ -1,8 +1,8 @@
-use Rattle.std.proofs.Common.{◌≡◌, ◌∙◌, ◌*◌, ◌≤◌, length, subst, ap, arith}
+use Rattle.std.proofs.Common.{rules, ◌≡◌, ◌∙◌, ◌*◌, ◌^◌, ◌<◌, ◌≤◌, drop, length, subst, ap, arith}
 use Rattle.std.specs.List.{AllByRecursion}
 use Rattle.macho_symbols.specs.Nlist.{IsEntry}
 use Rattle.macho_symbols.specs.Symbols.{table_of, entries}
-use Rattle.macho_symbols.proofs.EntryLemmas.{entries_long, entries_fit}
+use Rattle.macho_symbols.proofs.EntryLemmas.{entries_long, entries_fit, length-entries}
 use Rattle.macho_symbols.proofs.FaultLemmas.{symbols_fit}
 use Rattle.macho_symbols.proofs.symbols.Symbols.entries.Goals as goal
 
@@ -24,3 +24,9 @@ pub returns-clause-fit : goal.returns-clause-fit
 returns-clause-fit c =
     entries_fit c.args.self.now (length c.args.self.now)
     (subst (λ image. 16 * (table_of image).nsyms ≤ length image) c.self.view_is (symbols_fit _ c.self.invariant.sound))
+
+pub returns-clause-few : goal.returns-clause-few
+returns-clause-few c =
+    let count : c.self.inside.table.nsyms ≡ (table_of c.args.self.now).nsyms = ap (λ t. t.nsyms) c.self.invariant.table_is ∙ ap (λ b. (table_of b).nsyms) c.self.view_is in
+    let few : c.self.inside.table.nsyms < 2 ^ 32 = search rules in
+    omega (arith, count, few, length-entries (table_of c.args.self.now).nsyms (drop (table_of c.args.self.now).symoff c.args.self.now))
