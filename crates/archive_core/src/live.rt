@@ -62,7 +62,8 @@ impl<'a> Asked<'a> {
 impl<'a> Answering<'a> {
     // The same with one slice more.
     pub(crate) fn and(self, slice: Asked<'a>) -> Answering<'a>
-        ensures { (slices : List (List ℕ)) → IsAnsweringOf self.entry slices → IsAnsweringOf result (slices ++ slice.entry ∷ []) }
+        ensures { (slices : List (List ℕ)) → IsAnsweringOf self.entry slices
+            → IsAnsweringOf result (slices ++ slice.entry ∷ []) }
     {
         match self {
             Answering::Nothing => Answering::One(slice),

@@ -190,16 +190,6 @@ impl Slice {
         }
     }
 
-    /// The slice of these bytes, which are taken over without a copy.
-    pub fn from_bytes(bytes: Vec<u8, Heap>) -> Result<Slice, SliceFault>
-        ensures valid { OnOk result (IsValid bytes.items) }
-        ensures slice { IfOk result (λ slice. slice ≡ bytes.items) }
-        ensures faulty { IfErr result (IsSliceFault bytes.items) }
-    {
-        let facts = Slice::check(&bytes)?.facts();
-        Ok(Slice::of_checked(bytes, facts))
-    }
-
     /// The slice of bytes that [`Slice::check`] has accepted, by what it found out of them. They are taken over
     /// without a copy.
     pub fn of_checked(bytes: Vec<u8, Heap>, facts: SliceFacts) -> Slice

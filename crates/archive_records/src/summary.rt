@@ -79,14 +79,6 @@ impl Summary {
         Summary { entries }
     }
 
-    /// The same summary once more. Refused for want of memory alone.
-    pub fn copy(&self, heap: Heap) -> Result<Summary, NoMemory>
-        ensures { IfOk result (λ copy. copy ≡ self.now) }
-    {
-        let entries = Vec::from_slice(heap, &self.entries)?;
-        Ok(Summary { entries })
-    }
-
     /// The number of entries.
     pub fn len(&self) -> u64
         ensures len { result ≡ set.len self.now }

@@ -15,7 +15,7 @@ segments-cons index command commands =
     by_kind (is_segment command) (is_uuid command) (is_symtab command) (filter_map segment_of (load_commands_from (index + length command) commands))
   where
     by_kind : (s u t : Bool) (rest : List SegmentRecord)
-        → cons_option (segment_of (cond s (Segment (record { index = index; bytes = command })) (cond u (Uuid (uuid_bytes command)) (cond t (Symtab (symtab_fields command)) (Other command))))) rest
+        → cons_option (segment_of (cond s (Segment (record { index = index; bytes = command })) (cond u (Uuid (uuid_bytes command)) (cond t (Symtab (symtab_fields command)) Other)))) rest
         ≡ cond s (record { index = index; bytes = command } ∷ rest) rest
     by_kind true u t rest = refl
     by_kind false true t rest = refl

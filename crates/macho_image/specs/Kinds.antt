@@ -12,7 +12,7 @@ load_command index command =
     if is_segment command then Segment (record { index = index; bytes = command })
     else if is_uuid command then Uuid (uuid_bytes command)
     else if is_symtab command then Symtab (symtab_fields command)
-    else Other command
+    else Other
 
 -- commands that stand one behind another from a place on
 unfoldable pub load_commands_from : ℕ → List (List ℕ) → List LoadCommand
@@ -29,7 +29,7 @@ abbrev pub segment_of : LoadCommand → Option SegmentRecord
 segment_of (Uuid uuid) = None
 segment_of (Segment segment) = Some segment
 segment_of (Symtab symtab) = None
-segment_of (Other command) = None
+segment_of Other = None
 
 -- the segments of an image, in the order of its load commands
 abbrev pub segments : List ℕ → List SegmentRecord

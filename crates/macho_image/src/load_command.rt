@@ -11,41 +11,7 @@ use crate::number::number32;
 use crate::segment::SegmentCommand64;
 use crate::symtab_command::{Symtab, symtab_in};
 use crate::uuid_command::uuid_in;
-use std::marker::Model;
 use uuid::Uuid;
-
-/// A command of another kind. A contract sees it as its bytes.
-#[derive(Drop)]
-pub struct OtherCommand<'a> {
-    bytes: &'a [u8],
-}
-
-impl<'a> Model for OtherCommand<'a> {
-    ghost use Rattle.std.specs.Prelude.{ℕ, List, ◌≤◌, length};
-
-    ghost Value = { List ℕ };
-
-    ghost view = { λ c. c.bytes.now };
-
-    ghost invariant = { λ c. 8 ≤ length c.bytes.now };
-}
-
-impl<'a> OtherCommand<'a> {
-    /// `cmd`: the kind.
-    pub fn cmd(&self) -> u32
-        ensures { result ≡ u32_at self.now 0 }
-    {
-        cmd(self.bytes)
-    }
-
-    /// All its bytes, `cmd` and `cmdsize` first.
-    pub fn bytes(&self) -> &'a [u8]
-        ensures bytes { result.now ≡ self.now }
-        ensures long { 8 ≤ length self.now }
-    {
-        self.bytes
-    }
-}
 
 /// A load command, by its `cmd`.
 #[derive(Drop)]
@@ -57,7 +23,7 @@ pub enum LoadCommand<'a> {
     /// LC_SYMTAB: where the symbol table and its strings lie.
     Symtab(Symtab),
     /// Any other.
-    Other(OtherCommand<'a>),
+    Other,
 }
 
 /// `cmd`: the kind of a command.
@@ -96,7 +62,7 @@ impl<'a> LoadCommand<'a> {
             LC_SEGMENT_64 => LoadCommand::Segment(SegmentCommand64::of(index, bytes)),
             LC_UUID => LoadCommand::Uuid(uuid_in(bytes)),
             LC_SYMTAB => LoadCommand::Symtab(symtab_in(bytes)),
-            _ => LoadCommand::Other(OtherCommand { bytes }),
+            _ => LoadCommand::Other,
         }
     }
 }

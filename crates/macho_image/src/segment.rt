@@ -59,21 +59,6 @@ impl<'a> SegmentCommand64<'a> {
         SegmentCommand64 { index, bytes }
     }
 
-    /// Where it stands, in bytes from the start of the image.
-    pub fn index(&self) -> u32
-        ensures { result ≡ self.now.index }
-    {
-        self.index
-    }
-
-    /// All its bytes, those of its sections among them.
-    pub fn bytes(&self) -> &'a [u8]
-        ensures bytes { result.now ≡ self.now.bytes }
-        ensures room { 72 + 80 * nsects self.now.bytes ≤ length self.now.bytes }
-    {
-        self.bytes
-    }
-
     /// `segname`: its name, at most 16 bytes and without NUL.
     pub fn name(&self) -> &'a [u8]
         ensures { result.now ≡ name_at self.now.bytes 8 }
