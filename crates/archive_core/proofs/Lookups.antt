@@ -71,10 +71,6 @@ one_key a b h =
 is_key_of : (a b : SliceKey) → a ≡ b → is_key a b ≡ true
 is_key_of a b e = λ i. (bytes_eq-Decides a.uuid b.uuid).1 (ap (λ k. k.uuid) e) i && is_arch_of a.arch b.arch (ap (λ k. k.arch) e) i
 
-not_true : (b : Bool) → not b ≡ true → b ≡ false
-not_true true h = absurd (true≢false (sym h))
-not_true false h = refl
-
 -- what passes the test is live where it is held, and of the kind
 live_by_test : (o : Operations) (key : SliceKey) (dsym : Bool) (slice : List ℕ) → IsContent o → IsValid slice → contains o (admission_record slice) ≡ true → is_live_kind key dsym slice ≡ true → IsLive o key slice × (is_kind dsym slice ≡ true)
 unfolding is_live_kind

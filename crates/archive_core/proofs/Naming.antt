@@ -110,10 +110,6 @@ module _ {X Y : Type 0} where
       each [] g = tt
       each (y ∷ ys) g = (g.0, each ys g.1)
 
--- rows by their values
-row_cmp : NameRow → NameRow → Ordering
-row_cmp = on name_view name_cmp
-
 -- rows in order, each once
 pub record AreOrdered (old new : List NameRow) : Type 0 where
   pub ascending : IsStrictlySortedBy name_cmp (map name_view new)

@@ -13,7 +13,7 @@ use Rattle.archive_records.specs.Text.{last_of}
 use Rattle.archive_records.specs.Fault.{Refuses, is_end, tested, next, next_by, FailsNext, IsMagicFault, IsUnended, IsFaultBehind, IsOperationsFault, IsSummaryFault, IsOfText}
 use Rattle.archive_records.specs.declared.buffer.Buffer.{Buffer}
 use Rattle.archive_records.specs.Reading.{Blames}
-use Rattle.archive_records.specs.Reader.{bytes_so_far, seen_as, StopsInMagic}
+use Rattle.archive_records.specs.Reader.{bytes_so_far, seen_as}
 use Rattle.archive_records.proofs.Laid.{length-bytes_so_far}
 use Rattle.archive_records.proofs.Framed.{framed-empty}
 use Rattle.archive_records.proofs.Holds.{next-framed}
@@ -149,20 +149,6 @@ fails_not_covered file low count rest (inl e) =
 
     not_ascending : Covered ≡ NotAscending → ⊥
     not_ascending h = cc
-
-pub magic_never_trailing : (file : Format) (bytes : List ℕ) (kind : RecordFaultKind) → StopsInMagic file bytes kind → kind ≢ Trailing
-magic_never_trailing file bytes kind s t = none (subst (StopsInMagic file bytes) t s)
-  where
-    device : Trailing ≡ Device → ⊥
-    device h = cc
-
-    memory : Trailing ≡ OutOfMemory → ⊥
-    memory h = cc
-
-    none : StopsInMagic file bytes Trailing → ⊥
-    none (inl m) = m
-    none (inr (inl d)) = device d.0
-    none (inr (inr d)) = memory d.0
 
 -- ---- where a file does not end
 

@@ -1,6 +1,6 @@
 -- What searches among the retirements find.
 use Rattle.std.proofs.Common.{◌≡◌, ℕ, zero, suc, ◌+◌, ◌≤◌, Bool, true, false, ◌&&◌, ◌||◌, List, [], ◌∷◌, length, get_or, take, drop, Result, Ok, Err, refl, sym, ap, ◌∙◌, arith, inl, inr, length-drop}
-use Rattle.std.proofs.lemmas.Bool.{false≢true, cases_lt, eqb-true}
+use Rattle.std.proofs.lemmas.Bool.{false≢true, cases_lt}
 use Rattle.std.proofs.lemmas.List.{take_at, length-take}
 use Rattle.sha2.specs.Sha256.{sha256}
 use Rattle.std.specs.Prelude.{is_ok}
@@ -17,7 +17,7 @@ use Rattle.std.proofs.lemmas.List.Sorted.{searchable_from_sorted}
 use Rattle.std.proofs.lemmas.Map.Keys.{Less-from_sorted}
 use Rattle.join_core.specs.InnerSearch.{IsFound}
 use Rattle.join_core.proofs.Place.{from_list_insert, insert_present}
-use Rattle.archive_core.specs.Content.{Operations, is_admission, key_and_digest, covering, is_covered}
+use Rattle.archive_core.specs.Content.{key_and_digest, covering, is_covered}
 use Rattle.archive_core.specs.Record.{IsRecord}
 use Rattle.archive_records.specs.Reader.{set_of, Keeps}
 use Rattle.archive_records.proofs.Puts.{bytes_same}
@@ -85,15 +85,6 @@ pub kept_before : (xs : List (List ℕ)) (x : List ℕ) → contains (set_of xs)
 kept_before xs x h = sym (insert_present nat_list_cmp_total bytes_same (set_of xs) x h)
 
 -- ---- one record more
-
-no_admission : (x : List ℕ) → get_or x 0 0 ≡ 1 → is_admission x ≡ false
-no_admission x e = is_false (is_admission x) (λ a. absurd (omega (arith, e, eqb-true (get_or x 0 0) 2 a)))
-
-pub keeps_retirement : (old new : List (List ℕ)) (x : List ℕ) → get_or x 0 0 ≡ 1 → set_of new ≡ set.insert (set_of old) x → Keeps old new false x
-keeps_retirement old new x tag is = record {
-  tells = ap (λ b. b && contains (set_of old) (covering x)) (no_admission x tag);
-  alike = λ r. ap (λ (s : Operations). contains s (1 ∷ r)) is;
-}
 
 pub keeps_admission : (old : List (List ℕ)) (covered : Bool) (x : List ℕ) → (get_or x 0 0 ≡ 1 → ⊥) → covered ≡ is_covered (set_of old) x → Keeps old old covered x
 keeps_admission old covered x tag tells = record {

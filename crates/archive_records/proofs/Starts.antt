@@ -1,18 +1,17 @@
 -- How a side of a merge stands that was read on, and how a merge begins and ends.
-use Rattle.std.proofs.Common.{◌≡◌, ◌≢◌, ℕ, ◌+◌, true, List, [], ◌∷◌, ◌++◌, length, take, Option, refl, sym, ap, ◌∙◌, subst, arith, inl, inr, ◌⊎◌, append_assoc, length-append}
-use Rattle.std.proofs.lemmas.List.{append-nil, take-append-le}
+use Rattle.std.proofs.Common.{◌≡◌, ◌≢◌, ℕ, ◌+◌, true, List, [], ◌∷◌, ◌++◌, length, take, Option, refl, sym, ap, ◌∙◌, subst, arith, inl, inr, ◌⊎◌}
+use Rattle.std.proofs.lemmas.List.{take-append-le}
 use Rattle.std.specs.List.{concat}
 use Rattle.std.specs.Io.KnownBytes.{Appends, Consumes}
 use Rattle.byte_device.specs.Writes.{WritesFirst}
-use Rattle.byte_device.proofs.Gains.{stopped}
 use Rattle.archive_records.specs.declared.format.Format.{Format}
 use Rattle.archive_records.specs.declared.format.Format.TheVariants.{Archive}
 use Rattle.archive_records.specs.declared.kind.TextKind.TheVariants.{Archive as Archive_text}
 use Rattle.archive_records.specs.declared.merging.Merge.{Merge}
 use Rattle.archive_records.specs.declared.side.Lookahead.TheVariants.{Unread, Held, Ended}
 use Rattle.archive_records.specs.declared.side.MergeInput.{MergeInput}
-use Rattle.archive_records.specs.Kind.{magic, magic_of, kind_of, may_follow}
-use Rattle.archive_records.specs.Text.{end_record, text_of, last_of, kept}
+use Rattle.archive_records.specs.Kind.{magic, kind_of, may_follow}
+use Rattle.archive_records.specs.Text.{end_record, text_of, last_of}
 use Rattle.archive_records.specs.Reader.{HasRead, Passes, Position, Stopped}
 use Rattle.archive_records.specs.declared.fault.RecordFault.{RecordFault}
 use Rattle.archive_records.proofs.Steps.{HasRead-grows}
@@ -87,26 +86,6 @@ module _ (a1 b1 a2 b2 w0 w1 : Option (List ℕ)) (left right : MergeInput) (f : 
         gained = subst (λ (t : List (List ℕ)). Appends w0 w1 (take written (text_of Archive t))) (sym kept_none) (rw (e, same) p.gained);
       }
 
-pub stops_end : (a1 b1 a2 b2 w0 w1 w2 : Option (List ℕ)) (m : Merge) (written n : ℕ) → Merging a1 b1 a2 b2 w0 w1 m → written ≡ m.written.bytes + n → WritesFirst w1 w2 (end_record m.written.records) n → m.left.ahead ≡ Ended → m.right.ahead ≡ Ended → WriteStopped a1 b1 a2 b2 w0 w2 written
-stops_end a1 b1 a2 b2 w0 w1 w2 m written n p is q l r =
-    let out : List (List ℕ) = kept p.out in
-    let end : List ℕ = end_record m.written.records in
-    let end_is : end ≡ end_record (length out) = ap end_record p.records in
-    let text : text_of Archive out ≡ (magic ++ concat out) ++ (end ++ []) = sym (append_assoc magic (concat out) (end_record (length out))) ∙ ap (λ (t : List ℕ). (magic ++ concat out) ++ t) (sym end_is ∙ sym (append-nil end)) in
-    let s = stopped w0 w1 w2 (magic ++ concat out) end [] (text_of Archive out) m.written.bytes n (p.bytes ∙ sym (length-append magic (concat out))) text p.gained q in
-    record {
-      lefts = p.lefts;
-      rights = p.rights;
-      out = p.out;
-      left_side = m.left;
-      right_side = m.right;
-      left = p.left;
-      right = p.right;
-      joins = p.joins;
-      within = inr (l, r, rw is s.within);
-      gained = rw is s.gained;
-    }
-
 -- ---- both sides are read on
 
 -- the sides were read on from where the merge stood
@@ -170,10 +149,6 @@ module _ (a1 a2 w0 w1 b1 b2 c1 : Option (List ℕ)) (m : Merge) (p : Merging a1 
     }
 
 -- ---- the magics
-
--- where no record was read the magic was
-pub magic_read : (f : Format) (a b : Option (List ℕ)) (position : Position) → kind_of f ≡ Archive_text → HasRead f a b [] position → HasMagicRead a b
-magic_read f a b position k h = (f, k, subst (Consumes a b) (append-nil (magic_of f)) h.taken)
 
 -- a merge that stopped behind the magic stopped
 pub stops_later : (a1 b1 a2 b2 w0 w1 : Option (List ℕ)) (e : MergeFault) → HasStoppedMerge a1 b1 a2 b2 w0 w1 e → MergeStops a1 b1 a2 b2 w0 w1 e
