@@ -49,7 +49,8 @@ pub fn headline<F>()
         → TookTheSame sites events i others later j
         → (state sites events (length events)).held i ≡ (state others later (length later)).held j }
 
-    // They write out the same bytes: a content has a text, and one only.
+    // They write out the same bytes: a content has a text, and one only. What a run's events issue are records, as the
+    // clause `records` of `run` says.
     ensures same_bytes { (sites others : ℕ) (events later : List (Event F)) (i j : ℕ)
         → TookTheSame sites events i others later j
         → AreRecords sites events
