@@ -61,14 +61,14 @@ zip_more R (a ∷ xs) [] x y all one = absurd all
 zip_more R (a ∷ xs) (b ∷ ys) x y all one = (all.0, zip_more R xs ys x y all.1 one)
 
 -- the test of keys decides whether they are one
-one_key : (a b : SliceKey) → is_key a b ≡ true → a ≡ b
+pub one_key : (a b : SliceKey) → is_key a b ≡ true → a ≡ b
 one_key a b h =
     let parts = both (bytes_eq a.uuid b.uuid) _ h in
     let uuid = (bytes_eq-Decides a.uuid b.uuid).0 parts.0 in
     let arch = one_arch a.arch b.arch parts.1 in
     λ i. record { uuid = uuid i; arch = arch i }
 
-is_key_of : (a b : SliceKey) → a ≡ b → is_key a b ≡ true
+pub is_key_of : (a b : SliceKey) → a ≡ b → is_key a b ≡ true
 is_key_of a b e = λ i. (bytes_eq-Decides a.uuid b.uuid).1 (ap (λ k. k.uuid) e) i && is_arch_of a.arch b.arch (ap (λ k. k.arch) e) i
 
 not_true : (b : Bool) → not b ≡ true → b ≡ false

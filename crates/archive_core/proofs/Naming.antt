@@ -15,6 +15,8 @@ use Rattle.std.proofs.lemmas.Cmp.{eq_by_cmp_equiv}
 use Rattle.std.proofs.lemmas.Grind.{flat_map-append}
 use Rattle.std.proofs.lemmas.List.{append-nil}
 use Rattle.std.proofs.Math.Seq.{take-suc}
+use Rattle.join_core.specs.Listing.{listing}
+use Rattle.join_core.proofs.Listing.{listed}
 use Rattle.macho_symbols.proofs.Order.{both_equal}
 use Rattle.macho_symbols.specs.Found.{named}
 use Rattle.archive_core.specs.Record.{record_bytes, admission_record, IsOperation}
@@ -31,6 +33,8 @@ use Rattle.archive_core.proofs.Held.{bytes_same}
 use Rattle.archive_core.proofs.Held.{content_of_held}
 use Rattle.archive_core.proofs.Words.{live_in_content}
 use Rattle.archive_core.proofs.Scanned.{in_cons, in_front, in_rest, one_with_members, record_there, operation_there}
+use Rattle.archive_core.proofs.Listed.{held_of}
+use Rattle.archive_core.proofs.Members.{in_order}
 
 -- the order of rows is a total order
 key_total : IsTotalOrder key_cmp
@@ -201,3 +205,11 @@ names_put o name operations held is old new gathered ascending same = record {
         λ h. (same row).1 (subst (λ l. Contains l row) (sym gathered) (scanned.1 h)),
       );
 }
+
+-- each content has rows of each name
+pub some_names : (o : Operations) (name : List ℕ) → IsContent o → (rows : List NameRecord) × IsNames o name rows
+some_names o name content =
+    let held = held_of o content in
+    let gathered = names_among name held.0 in
+    let told = from_list {R = name_cmp} gathered in
+    (listing told, names_put o name held.0 held.1 held.2 gathered (listing told) refl (listed name_total rows_same told).ascending (in_order name_total rows_same gathered))
