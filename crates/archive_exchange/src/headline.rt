@@ -66,6 +66,8 @@ pub fn headline<F>()
         → (key : SliceKey) (asked : Where) (answer : AnswerRecord)
         → IsAnswer ((state sites events (length events)).held i) key asked answer
         ↔ IsAnswer ((state others later (length later)).held j) key asked answer }
+    ensures some_answer { (o : Operations) (key : SliceKey) (asked : Where)
+        → (answer : AnswerRecord) × IsAnswer o key asked answer }
     ensures one_answer { (o : Operations) (key : SliceKey) (asked : Where) (answer other : AnswerRecord)
         → IsAnswer o key asked answer
         → IsAnswer o key asked other

@@ -34,5 +34,8 @@ returns-clause-same_answers g c = λ sites others events later i j same key aske
     let held = c.same_reached.ensures sites others events later i j same in
     (subst (λ (o : Operations). IsAnswer o key asked answer) held, subst (λ (o : Operations). IsAnswer o key asked answer) (sym held))
 
+pub returns-clause-some_answer : goal.returns-clause-some_answer
+returns-clause-some_answer g c = c.one_answer.ensures.some
+
 pub returns-clause-one_answer : goal.returns-clause-one_answer
 returns-clause-one_answer g c = c.one_answer.ensures.one
