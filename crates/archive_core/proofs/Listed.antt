@@ -71,7 +71,7 @@ list_total = then_total (on_texts (λ operation. (key_in operation).uuid)) find_
 untied_in_list : (a b : Operation) → eq_by_cmp (on record_bytes (slice_cmp nat_cmp)) a b ≡ false → eq_by_cmp list_cmp a b ≡ false
 untied_in_list a b h = untied (slice_cmp nat_cmp (key_in a).uuid (key_in b).uuid) (find_cmp a b) (untied_records a b h)
 
--- and operations that it ties are one
+-- operations under one key that have one record are one
 one_under : (a b : Operation) → key_in a ≡ key_in b → record_bytes a ≡ record_bytes b → a ≡ b
 unfolding admission
 one_under (Admit s) (Admit t) key e =
@@ -95,6 +95,7 @@ one_under (Retire k c) (Retire l d) key e =
     behind_tag : 1 ∷ (key_bytes k ++ c.0) ≡ 1 ∷ (key_bytes l ++ d.0) → key_bytes k ++ c.0 ≡ key_bytes l ++ d.0
     behind_tag h = cc
 
+-- so are those that the order of a list ties
 operations_same : (a b : Operation) → list_cmp a b ≡ Equal → a ≡ b
 operations_same a b h =
     let k = key_in a in
