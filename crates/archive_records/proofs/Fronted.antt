@@ -89,6 +89,10 @@ kept_before xs x h = sym (insert_present nat_list_cmp_total bytes_same (set_of x
 no_admission : (x : List ℕ) → get_or x 0 0 ≡ 1 → is_admission x ≡ false
 no_admission x e = is_false (is_admission x) (λ a. absurd (omega (arith, e, eqb-true (get_or x 0 0) 2 a)))
 
+-- nor is it covered
+pub uncovered_retirement : (old : List (List ℕ)) (x : List ℕ) → get_or x 0 0 ≡ 1 → is_covered (set_of old) x ≡ false
+uncovered_retirement old x tag = ap (λ b. b && contains (set_of old) (covering x)) (no_admission x tag)
+
 pub keeps_retirement : (old new : List (List ℕ)) (x : List ℕ) → get_or x 0 0 ≡ 1 → set_of new ≡ set.insert (set_of old) x → Keeps old new false x
 keeps_retirement old new x tag is = record {
   tells = ap (λ b. b && contains (set_of old) (covering x)) (no_admission x tag);

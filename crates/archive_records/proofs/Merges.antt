@@ -24,11 +24,13 @@ use Rattle.archive_records.specs.Text.{text_of, last_of, written, kept, taken_of
 use Rattle.archive_records.specs.Fault.{IsOfText}
 use Rattle.archive_records.specs.Reading.{Blames, IsOfMachine, IsReadWhole}
 use Rattle.archive_records.specs.Reader.{HasReadAll, HasStopped, Stopped, IsReadTo, Position}
-use Rattle.archive_records.specs.Merging.{IsArchiveText, AreGoodRecords, LeftStops, RightStops, of_both, IsWrittenBefore, Stream, IsRefusedAlone, StopsBy, Merges}
+use Rattle.archive_records.specs.Merging.{IsArchiveText, AreGoodRecords, LeftStops, RightStops, of_both, IsWrittenBefore, Stream, GainsNoText, IsRefusedAlone, StopsBy, Merges}
 use Rattle.archive_records.specs.MergeSteps.{StopsBeforeRecords, HasMagicRead, Stands, LeftStopped, RightStopped, WriteStopped, IsFull, LeftFull, RightFull, memory_behind, first_of, Leaves, BlamesBy, BlamesDevices, ByCause}
 use Rattle.archive_records.proofs.Puts.{length_written, concat-push}
 use Rattle.archive_records.proofs.MergeSteps.{first_greater, first_held}
 use Rattle.archive_records.proofs.Apart.{apart_front}
+use Rattle.archive_records.proofs.Undecided.{cut_behind}
+use Rattle.archive_records.proofs.Unread.{begun_none, stopped_none, within_none, text_none}
 use Rattle.archive_records.proofs.Orders.{left_order, right_order}
 use Rattle.archive_records.proofs.Contents.{written_text}
 use Rattle.archive_records.proofs.Inputs.{archive_whole}
@@ -77,6 +79,7 @@ held_stopped a b done low s p held few =
       few = omega (arith, few, h.count_is, length-append done (s.reader.last ∷ []));
       unended = λ known. absurd (known.1 refl);
       stops = inl (refl, λ known. absurd (known refl));
+      undecided = λ _. cut_behind s.reader.file done s.reader.last h.ordered h.apart (omega (arith, few, h.count_is, length-append done (s.reader.last ∷ [])));
     }
 
 -- ---- both
@@ -209,6 +212,19 @@ module _ {R S W : Type 0} (left : Stream R) (right : Stream S) (out : Stream W) 
     write_begins _ _ _ _ n _ _ s,
   )
 
+  -- what was gained is no archive's text
+  gains_none : (cause : MergeCause) (n : ℕ) → Stopping cause n → GainsNoText out
+  gains_none (Left fault) n (inl s) = begun_none (out.bytes out.old) (out.bytes out.new) n s.0 s.1
+  gains_none (Left fault) n (inr (inl s)) = stopped_none (out.bytes out.old) (out.bytes out.new) s.out n s.joins.ordered s.written_is s.gained
+  gains_none (Left fault) n (inr (inr f)) = stopped_none (out.bytes out.old) (out.bytes out.new) f.0.out n f.0.joins.ordered f.0.written_is f.0.gained
+  gains_none (Right fault) n (inl s) = begun_none (out.bytes out.old) (out.bytes out.new) n s.0 s.1
+  gains_none (Right fault) n (inr (inl s)) = stopped_none (out.bytes out.old) (out.bytes out.new) s.out n s.joins.ordered s.written_is s.gained
+  gains_none (Right fault) n (inr (inr f)) = stopped_none (out.bytes out.old) (out.bytes out.new) f.0.out n f.0.joins.ordered f.0.written_is f.0.gained
+  gains_none Write n s = elim s.within [
+    | inl lt ↦ within_none (out.bytes out.old) (out.bytes out.new) s.out n s.joins.ordered lt s.gained
+    | inr e ↦ text_none (out.bytes out.old) (out.bytes out.new) s.out n s.joins.ordered e.2 s.gained
+  ]
+
   pub merges : (r : Result Sizes MergeFault) → Leaves (left.bytes left.old) (left.bytes left.new) (right.bytes right.old) (right.bytes right.new) (out.bytes out.old) (out.bytes out.new) r → BlamesDevices left right (out.failures out.old) (out.failures out.new) r → Merges left right out r
   merges (Ok sizes) m unfailed =
       let f : Format = m.left.reader.file in
@@ -233,4 +249,4 @@ module _ {R S W : Type 0} (left : Stream R) (right : Stream S) (out : Stream W) 
           unfailed = unfailed.2;
         };
       }
-  merges (Err e) s blames = stops_by e.cause e.written s blames
+  merges (Err e) s blames = let stopped = stops_by e.cause e.written s blames in (stopped.0, stopped.1, gains_none e.cause e.written s)

@@ -121,7 +121,7 @@ up_to-all : (low : List ℕ) (xs : List (List ℕ)) → ((z : List ℕ) → Cont
 up_to-all low [] h = refl
 up_to-all low (x ∷ xs) h = ap (λ b. cond (not b) (x ∷ up_to low xs) (up_to low xs)) (h x (here x xs)) ∙ ap (λ (t : List (List ℕ)). x ∷ t) (up_to-all low xs (λ z c. h z (later x z xs c)))
 
-up_to-none : (low : List ℕ) (xs : List (List ℕ)) → ((z : List ℕ) → Contains xs z → may_follow Archive low z ≡ true) → up_to low xs ≡ []
+pub up_to-none : (low : List ℕ) (xs : List (List ℕ)) → ((z : List ℕ) → Contains xs z → may_follow Archive low z ≡ true) → up_to low xs ≡ []
 up_to-none low [] h = refl
 up_to-none low (x ∷ xs) h = ap (λ b. cond (not b) (x ∷ up_to low xs) (up_to low xs)) (h x (here x xs)) ∙ up_to-none low xs (λ z c. h z (later x z xs c))
 

@@ -103,6 +103,10 @@ abbrev pub IsWrittenUpTo : {W : Type 0} → Stream W → List ℕ → List ℕ �
 IsWrittenUpTo out left right o low n =
     (bytes : List ℕ) × IsWrittenBefore left right o low bytes × Gains out bytes × (n ≡ length bytes)
 
+-- No bytes that the writer gained are an archive's text, where it tells its bytes.
+abbrev pub GainsNoText : {W : Type 0} → Stream W → Type 0
+GainsNoText out = IfSome (out.bytes out.old) (λ _. (bytes : List ℕ) → Gains out bytes → IsArchiveText bytes → ⊥)
+
 -- Reading the input whole, and it alone, is refused so.
 abbrev pub IsRefusedAlone : {R : Type 0} → Stream R → RecordFault → Type 0
 IsRefusedAlone input fault =
@@ -260,10 +264,12 @@ pub record IsMerged {R S W : Type 0} (left : Stream R) (right : Stream S) (out :
       sizes
 
 -- What came of merging two inputs: the text of the join of two archives; or what stopped it, and of the text of the
--- content that the good records of both make exactly the first `written` bytes, which are fewer than all.
+-- content that the good records of both make exactly the first `written` bytes, which are fewer than all. What the
+-- writer gained then is no archive's text, whatever the inputs are.
 abbrev pub Merges : {R S W : Type 0} → Stream R → Stream S → Stream W → Result Sizes MergeFault → Type 0
 Merges left right out (Ok sizes) = IsMerged left right out sizes
 Merges left right out (Err e) =
     StopsBy left right out e.cause e.written
     × ForTexts left right (λ t u lefts rights.
     WritesFirst (out.bytes out.old) (out.bytes out.new) (written (of_both lefts rights)) e.written)
+    × GainsNoText out

@@ -34,9 +34,9 @@ use Rattle.archive_records.specs.declared.fault.RecordFault.{RecordFault}
 use Rattle.archive_records.specs.Entry.{IsEntry}
 use Rattle.archive_records.specs.Kind.{magic_of, kind_of, IsItem, may_follow}
 use Rattle.archive_records.specs.Text.{end_record, ending, text_of, InOrder, AreApart, last_of, taken_of}
-use Rattle.archive_records.specs.Fault.{FailsNext, Fails, IsTrailing, IsMagicFault, IsUnended, IsOfText}
+use Rattle.archive_records.specs.Fault.{FailsNext, Fails, IsTrailing, IsMagicFault, IsUnended, IsCutAtMost, IsOfText}
 use Rattle.archive_records.specs.Front.{front_length}
-use Rattle.archive_records.specs.Reading.{Blames}
+use Rattle.archive_records.specs.Reading.{Blames, IsOfMachine}
 
 -- The buffer grew by the bytes that were taken from the source.
 pub record Fills (left_old left_new : Option (List ℕ)) (old new : List ℕ) : Type 0 where
@@ -198,13 +198,22 @@ pub record IsCoveredThere (before : Position) (rest : List ℕ) (kind : RecordFa
   pub follows : may_follow Archive before.last rest ≡ true
   pub covered : is_covered (set_of before.retired) rest ≡ true
 
--- What came was no item of the file that may stand there, nor what ends the file, or memory was wanted.
+-- What came is an item that may follow, and that no retirement before it covers where that is a fault.
+pub record IsWholeThere (before : Position) (rest : List ℕ) : Type 0 where
+  pub item : IsItem before.file rest
+  pub follows : may_follow before.file before.last rest ≡ true
+  pub uncovered : before.file ≡ Archive → is_covered (set_of before.retired) rest ≡ false
+
+-- What came was no item of the file that may stand there, nor what ends the file, or memory was wanted, for a part of
+-- an item or for a whole one.
 pub record StopsAt (a b : Option (List ℕ)) (before : Position) (fault : RecordFault) : Type 0 where
   pub rest : List ℕ
   pub taken : Consumes a b rest
   pub unended : IsOfText fault.kind → IsUnended before.file rest
   pub fails : fault.kind ≢ OutOfMemory → FailsNext before.file before.last before.count rest (seen_as fault.kind)
       ⊎ IsCoveredThere before rest fault.kind
+  pub wanted : fault.kind ≡ OutOfMemory → FailsNext before.file before.last before.count rest Truncated
+      ⊎ IsWholeThere before rest
   pub offset_is : fault.offset ≡ before.offset
   pub few : before.count < 2 ^ 63
 
@@ -261,6 +270,7 @@ pub record Stopped (file : Format) (a b : Option (List ℕ)) (records : List (Li
   pub few : length records < 2 ^ 63
   pub unended : IsOfText fault.kind → IsUnended file rest
   pub stops : Stops file records rest fault
+  pub undecided : IsOfMachine fault.kind → IsCutAtMost file (magic_of file ++ (concat records ++ rest))
 
 -- entries strictly ascending: what a summary keeps
 pub record AreListed (entries : List (List ℕ)) : Type 0 where

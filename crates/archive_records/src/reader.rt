@@ -1,6 +1,6 @@
 //! A source that is read record by record.
 
-ghost use Rattle.std.specs.Prelude.{◌≡◌, ◌-◌, ◌<◌, ◌≤◌, ℕ, List, Option, Some, [], length, ◌⊎◌, true};
+ghost use Rattle.std.specs.Prelude.{◌≡◌, ◌-◌, ◌<◌, ◌≤◌, ℕ, List, Option, Some, [], length, ◌⊎◌, true, false};
 ghost use Rattle.std.specs.Prelude.{OnOk, IfOk, IfErr};
 ghost use Rattle.archive_core.specs.Content.{is_covered};
 ghost use Rattle.std.specs.Io.KnownBytes.{Consumes, IsAtEnd};
@@ -105,7 +105,8 @@ fn read_magic<R: Source>(
 fn keep(file: Format, retired: &mut Retired, bytes: &[u8]) -> Result<bool, RecordFaultKind>
     requires { IsItem file bytes.now }
     ensures kept { IfOk result (λ dropped. KeepsIn file retired.old retired.new dropped bytes.now) }
-    ensures refused { IfErr result (λ kind. (kind ≡ OutOfMemory)
+    ensures refused { IfErr result (λ kind.
+        ((kind ≡ OutOfMemory) × (is_covered (set_of retired.old) bytes.now ≡ false))
         ⊎ ((kind ≡ Covered) × (file ≡ Archive) × (is_covered (set_of retired.old) bytes.now ≡ true))) }
 {
     match file {
@@ -201,9 +202,6 @@ impl RecordReader {
         match read_next(self.file, r, &mut self.chunk, &mut self.buffer, self.count) {
             Ok(NextRecord::End) => Ok(NextRecord::End),
             Ok(NextRecord::Item(found)) => {
-                if self.count == MOST {
-                    return Err(RecordFault::out_of_memory(self.offset));
-                }
                 match keep(self.file, &mut self.retired, &self.buffer.bytes) {
                     Ok(dropped) => self.dropped = dropped,
                     Err(kind) => {
@@ -212,6 +210,10 @@ impl RecordReader {
                             offset: self.offset,
                         });
                     }
+                }
+                // Behind all tests of the record: a fault of the text is told before want of memory.
+                if self.count == MOST {
+                    return Err(RecordFault::out_of_memory(self.offset));
                 }
                 self.count += 1;
                 self.offset += self.buffer.bytes.len() as u128;

@@ -114,8 +114,9 @@ fn read_first<A: Archive + Drop, R: Source>(heap: Heap, r: &mut R) -> Result<A, 
 /// the head, TooLarge, Truncated inside the slice, NotAscending, BadSlice, KeyMismatch, and in version 2 Covered; for
 /// an end record Truncated, BadCount, Trailing. What is dropped passes the same tests, and the end record counts it.
 /// Truncated comes only where the reader told its end, Device where it failed, and everything else where it did not.
-/// The offset of Device is the length of the longest good front of what was read, that of OutOfMemory the length of a
-/// good front; both are 0 before the magic was read.
+/// Device and OutOfMemory come only where what was read decides no fault: it has fewer bytes than a magic, or no other
+/// fault than that it ends too early. The offset of Device is the length of the longest good front of what was read,
+/// that of OutOfMemory the length of a good front; both are 0 before the magic was read.
 pub fn read_archive<A: Archive + Drop, R: Source>(heap: Heap, r: &mut R) -> Result<A, RecordFault>
     ensures { ReadsWhole Archive A.content R.left R.failures r.old r.new result }
 {

@@ -1,6 +1,6 @@
 //! The retirements that were read of an archive's text.
 
-ghost use Rattle.std.specs.Prelude.{◌≡◌, ◌≤◌, ◌∷◌, ℕ, List, [], length, take, drop, true, OnOk, IfOk, IfErr};
+ghost use Rattle.std.specs.Prelude.{◌≡◌, ◌≤◌, ◌∷◌, ℕ, List, [], length, take, drop, true, false, OnOk, IfOk, IfErr};
 ghost use Rattle.std.specs.FinSet as set;
 ghost use Rattle.std.specs.Ordering.{nat_cmp};
 ghost use Rattle.std.specs.Cmp.Lexicographic.{slice_cmp};
@@ -151,7 +151,8 @@ impl Retired {
     pub fn take(&mut self, bytes: &[u8]) -> Result<bool, RecordFaultKind>
         requires { IsRecord bytes.now }
         ensures kept { IfOk result (λ covered. Keeps self.old self.new covered bytes.now) }
-        ensures refused { IfErr result (λ kind. kind ≡ OutOfMemory) }
+        ensures refused { IfErr result (λ kind. (kind ≡ OutOfMemory)
+            × (is_covered (set_of self.old) bytes.now ≡ false)) }
     {
         if bytes[0] != RETIREMENT {
             return Ok(self.covers(bytes));
