@@ -24,7 +24,7 @@ use Rattle.archive_records.proofs.Forms.{item-no_end}
 use Rattle.archive_records.proofs.Grown.{next-ok-grows}
 use Rattle.archive_records.proofs.Ends.{end-is_end, length-end_record, next_end, counted, counted_unended}
 use Rattle.archive_records.proofs.Longest.{is_end-grows}
-use Rattle.archive_records.proofs.Undecided.{no_machine, memory_seen, device_seen, apart_whole, cut_text, cut_off, cut_behind}
+use Rattle.archive_records.proofs.Undecided.{no_machine, device_seen, apart_whole, cut_text, cut_off, cut_behind}
 use Rattle.archive_records.specs.declared.format.Format.{Format}
 use Rattle.archive_records.specs.declared.format.Format.TheVariants.{Archive}
 

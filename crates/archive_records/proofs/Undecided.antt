@@ -1,16 +1,16 @@
 -- What was taken decides no fault.
-use Rattle.std.proofs.Common.{◌≡◌, ◌≢◌, ℕ, ◌<◌, ◌^◌, Bool, true, false, List, [], ◌∷◌, ◌++◌, length, Result, Ok, Err, refl, sym, ap, ◌∙◌, subst, arith, inl, inr, ◌⊎◌, length-append, lit≤}
+use Rattle.std.proofs.Common.{◌≡◌, ℕ, ◌<◌, ◌^◌, Bool, true, false, List, [], ◌∷◌, ◌++◌, length, Err, refl, sym, ap, ◌∙◌, subst, arith, inl, inr, ◌⊎◌, length-append, lit≤}
 use Rattle.std.proofs.lemmas.List.{append-nil}
 use Rattle.std.specs.List.{concat}
 use Rattle.archive_core.specs.Content.{is_covered}
 use Rattle.archive_records.specs.declared.fault.RecordFaultKind.{RecordFaultKind}
-use Rattle.archive_records.specs.declared.fault.RecordFaultKind.TheVariants.{Truncated, Trailing, Device, OutOfMemory, Covered}
+use Rattle.archive_records.specs.declared.fault.RecordFaultKind.TheVariants.{Truncated, Trailing, Device, OutOfMemory}
 use Rattle.archive_records.specs.declared.fault.RecordFault.{RecordFault}
 use Rattle.archive_records.specs.declared.format.Format.{Format}
 use Rattle.archive_records.specs.declared.format.Format.TheVariants.{Archive, OldArchive, Operations, Summary}
 use Rattle.archive_records.specs.Kind.{magic_of, may_follow}
 use Rattle.archive_records.specs.Text.{ending, InOrder, AreApart, last_of}
-use Rattle.archive_records.specs.Fault.{next, next_by, FailsNext, IsUnended, IsFaultOf, IsCutAtMost}
+use Rattle.archive_records.specs.Fault.{next, next_by, FailsNext, IsUnended, IsCutAtMost}
 use Rattle.archive_records.specs.Front.{IsGoodFront, front_length}
 use Rattle.archive_records.specs.Reading.{IsOfMachine}
 use Rattle.archive_records.specs.Reader.{set_of, KeepsIn, AreRetired, seen_as}
