@@ -77,6 +77,22 @@ next_kind : (file : Format) (low : List ℕ) (count : ℕ) (rest : List ℕ) (ki
 unfolding next
 next_kind file low count rest kind e = next_by_kind (framed file rest) file low count rest kind refl e
 
+truncated_count : Truncated ≡ BadCount → ⊥
+truncated_count e = cc
+
+truncated_order : Truncated ≡ NotAscending → ⊥
+truncated_order e = cc
+
+cut_by : (r : Result ℕ RecordFaultKind) (file : Format) (low : List ℕ) (count : ℕ) (rest : List ℕ) → next_by file r low count rest ≡ failed Truncated → r ≡ failed Truncated
+cut_by (Err j) file low count rest e = e
+cut_by (Ok n) file low count rest e = elim (tested_kind file low count rest n Truncated e) [ inl a ↦ absurd (truncated_count a.1) | inr a ↦ absurd (truncated_order a.1) ]
+
+-- no other test finds a record cut off than that of its form
+pub cut_off : (file : Format) (low : List ℕ) (count : ℕ) (rest : List ℕ) → FailsNext file low count rest Truncated → framed file rest ≡ Err Truncated
+unfolding next
+cut_off file low count rest (inl e) = cut_by (framed file rest) file low count rest e
+cut_off file low count rest (inr r) = absurd (refused_slice file (take r.0 rest) Truncated r.2)
+
 form_not_trailing : (kind : RecordFaultKind) → kind ≡ Trailing → IsOfForm kind → ⊥
 form_not_trailing kind t (inl e) = apart (sym e ∙ t)
   where

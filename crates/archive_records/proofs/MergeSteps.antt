@@ -23,7 +23,7 @@ use Rattle.archive_records.specs.Front.{front_length}
 use Rattle.archive_records.specs.Merging.{most_records}
 use Rattle.archive_records.specs.declared.fault.MergeCause.{MergeCause}
 use Rattle.archive_records.specs.declared.fault.MergeFault.{MergeFault}
-use Rattle.archive_records.specs.MergeSteps.{TellsBy, TellsCovered, Stands, Joins, Merging, LeftStopped, RightStopped, WriteStopped, IsFull, LeftFull, RightFull, ByCause, HasStoppedMerge, IsWritten, first_by, first_of, Fits, IsRead, IsRefusedMore, memory_behind}
+use Rattle.archive_records.specs.MergeSteps.{TellsBy, TellsCovered, Stands, Joins, Merging, WriteStopped, IsFull, LeftRefused, RightRefused, ByCause, HasStoppedMerge, IsWritten, first_by, first_of, Fits, IsRead, IsRefusedMore, memory_behind}
 use Rattle.archive_records.proofs.Puts.{bytes_same, concat-push}
 use Rattle.archive_records.proofs.Apart.{covered_push, last_of-push}
 use Rattle.archive_records.proofs.Ascending.{below-less, below-greater, last_is_record, last_under}
@@ -278,7 +278,7 @@ first_held Ended r o n = absurd (n refl)
 first_held Unread r o n = absurd (n refl)
 
 -- the offset before the last record
-before_last : (a b : Option (List ℕ)) (done : List (List ℕ)) (low : List ℕ) (s : MergeInput) → Stands a b done low s → s.ahead ≡ Held → s.reader.offset - length s.reader.last ≡ front_length done
+pub before_last : (a b : Option (List ℕ)) (done : List (List ℕ)) (low : List ℕ) (s : MergeInput) → Stands a b done low s → s.ahead ≡ Held → s.reader.offset - length s.reader.last ≡ front_length done
 before_last a b done low s p held =
     let h = (p.held held).0 in
     omega (arith, h.offset_is, ap length (concat-push done s.reader.last), length-append (concat done) s.reader.last)
@@ -320,15 +320,15 @@ module _ (a1 b1 a2 b2 w0 w1 : Option (List ℕ)) (m : Merge) (p : Merging a1 b1 
   full_stops e (most, is, inl (first, cause)) =
       let offset = before_last a1 b1 p.lefts (last_of [] p.out) m.left p.left (first_held m.left.ahead m.right.ahead _ first) in
       subst (λ (c : MergeCause). ByCause c
-      (λ fault. LeftStopped a1 b1 a2 b2 w0 w1 fault e.written ⊎ LeftFull a1 b1 a2 b2 w0 w1 fault e.written)
-      (λ fault. RightStopped a1 b1 a2 b2 w0 w1 fault e.written ⊎ RightFull a1 b1 a2 b2 w0 w1 fault e.written)
+      (λ fault. LeftRefused a1 b1 a2 b2 w0 w1 fault e.written)
+      (λ fault. RightRefused a1 b1 a2 b2 w0 w1 fault e.written)
       (WriteStopped a1 b1 a2 b2 w0 w1 e.written)) (sym cause)
-      (inr (is_full e.written most is, first, ap (λ (n : ℕ). memory_behind n) offset))
+      (inr (inl (is_full e.written most is, first, ap (λ (n : ℕ). memory_behind n) offset)))
   full_stops e (most, is, inr (first, cause)) =
       let held = (first_greater m.left.ahead m.right.ahead _ read.left some first).0 in
       let offset = before_last a2 b2 p.rights (last_of [] p.out) m.right p.right held in
       subst (λ (c : MergeCause). ByCause c
-      (λ fault. LeftStopped a1 b1 a2 b2 w0 w1 fault e.written ⊎ LeftFull a1 b1 a2 b2 w0 w1 fault e.written)
-      (λ fault. RightStopped a1 b1 a2 b2 w0 w1 fault e.written ⊎ RightFull a1 b1 a2 b2 w0 w1 fault e.written)
+      (λ fault. LeftRefused a1 b1 a2 b2 w0 w1 fault e.written)
+      (λ fault. RightRefused a1 b1 a2 b2 w0 w1 fault e.written)
       (WriteStopped a1 b1 a2 b2 w0 w1 e.written)) (sym cause)
       (inr (is_full e.written most is, first, ap (λ (n : ℕ). memory_behind n) offset))

@@ -15,7 +15,7 @@ use Rattle.archive_records.specs.Reading.{Blames}
 use Rattle.archive_records.specs.declared.next.NextRecord.{NextRecord}
 use Rattle.archive_records.specs.declared.next.NextRecord.TheVariants.{End, Item}
 use Rattle.archive_core.specs.declared.slices.SliceFacts.{SliceFacts}
-use Rattle.archive_records.specs.Reader.{IfEnd, IfItem, Position, set_of, RetireAlike, KeepsIn, AreRetired, IsCoveredThere, Passes, Finishes, StopsAt, HasRead, HasReadAll, Stopped, IsEnded, seen_as}
+use Rattle.archive_records.specs.Reader.{IfEnd, IfItem, Position, set_of, RetireAlike, KeepsIn, AreRetired, IsCoveredThere, Passes, Finishes, StopsAt, HasWhole, HasRead, HasReadAll, Stopped, StoppedWith, IsEnded, seen_as}
 use Rattle.archive_records.proofs.Apart.{apart_more, retired_more, drops_more, covered_alike, last_of-push}
 use Rattle.archive_records.proofs.Puts.{concat-push}
 use Rattle.archive_records.proofs.Holds.{next-above}
@@ -27,7 +27,7 @@ use Rattle.archive_records.proofs.Longest.{is_end-grows}
 use Rattle.archive_records.specs.declared.format.Format.{Format}
 use Rattle.archive_records.specs.declared.format.Format.TheVariants.{Archive}
 
-taken_more : (a b c : Option (List ℕ)) (x y z : List ℕ) → Consumes a b (x ++ y) → Consumes b c z → Consumes a c (x ++ (y ++ z))
+pub taken_more : (a b c : Option (List ℕ)) (x y z : List ℕ) → Consumes a b (x ++ y) → Consumes b c z → Consumes a c (x ++ (y ++ z))
 taken_more a b c x y z p q = subst (Consumes a c) (append_assoc x y z) (Consumes-then a b c (x ++ y) z p q)
 
 module _ (file : Format) where
@@ -99,12 +99,12 @@ module _ (file : Format) where
         },
       )
 
-  fails_there : (a b : Option (List ℕ)) (records : List (List ℕ)) (before : Position) (rest : List ℕ) (kind : RecordFaultKind) → HasRead file a b records before → FailsNext before.file before.last before.count rest (seen_as kind) ⊎ IsCoveredThere before rest kind → Fails file records rest (seen_as kind)
+  pub fails_there : (a b : Option (List ℕ)) (records : List (List ℕ)) (before : Position) (rest : List ℕ) (kind : RecordFaultKind) → HasRead file a b records before → FailsNext before.file before.last before.count rest (seen_as kind) ⊎ IsCoveredThere before rest kind → Fails file records rest (seen_as kind)
   fails_there a b records before rest kind h (inl f) = inl (rw (← h.last_is, ← h.count_is, ← h.file_is) f)
   fails_there a b records before rest kind h (inr c) = inr (covered_behind a b records before rest kind h c)
 
   -- a test failed behind the records, or memory ran out there
-  pub Stopped-fails : (a b c : Option (List ℕ)) (records : List (List ℕ)) (before : Position) (fault : RecordFault) → HasRead file a b records before → StopsAt b c before fault → Stopped file a c records fault
+  abbrev pub Stopped-fails : (a b c : Option (List ℕ)) (records : List (List ℕ)) (before : Position) (fault : RecordFault) → HasRead file a b records before → StopsAt b c before fault → Stopped file a c records fault
   Stopped-fails a b c records before fault h s = record {
     rest = s.rest;
     taken = taken_more a b c (magic_of file) (concat records) s.rest h.taken s.taken;
@@ -114,6 +114,10 @@ module _ (file : Format) where
     unended = λ known. subst (λ (f : Format). IsUnended f s.rest) h.file_is (s.unended known);
     stops = inl (s.offset_is ∙ h.offset_is, λ known. fails_there a b records before s.rest fault.kind h (s.fails known));
   }
+
+  -- and where memory did, the reader has what came whole
+  pub Stopped-with : (a b c : Option (List ℕ)) (records : List (List ℕ)) (before : Position) (last : List ℕ) (fault : RecordFault) → HasRead file a b records before → (stop : StopsAt b c before fault) → (fault.kind ≡ OutOfMemory → HasWhole before.file stop.rest last) → StoppedWith file a c records fault last
+  Stopped-with a b c records before last fault h stop whole = (Stopped-fails a b c records before fault h stop, λ memory. subst (λ (f : Format). HasWhole f stop.rest last) h.file_is (whole memory))
 
 -- what holds at the end, and of an item, may be said in other words
 pub IfEnd-then : {P Q : Type 0} (step : NextRecord) → IfEnd step P → (P → Q) → IfEnd step Q
@@ -142,30 +146,36 @@ step_passes a b before after bytes is taken item follows file count offset few k
 abbrev pub IsRefusedBy : Position → List ℕ → RecordFaultKind → Type 0
 IsRefusedBy before bytes kind = (kind ≡ OutOfMemory) ⊎ ((kind ≡ Covered) × (before.file ≡ Archive) × (is_covered (set_of before.retired) bytes ≡ true))
 
-pub step_refused : (a b : Option (List ℕ)) (before : Position) (bytes : List ℕ) (kind : RecordFaultKind) → Consumes a b bytes → before.count < 2 ^ 63 → IsItem before.file bytes → may_follow before.file before.last bytes ≡ true → IsRefusedBy before bytes kind
-    → StopsAt a b before (record { kind = kind; offset = before.offset })
-step_refused a b before bytes kind taken few item follows (inl e) = record {
-  rest = bytes;
-  taken = taken;
-  unended = λ known. absurd (known.1 e);
-  fails = λ known. absurd (known e);
-  offset_is = refl;
-  few = few;
-}
-step_refused a b before bytes kind taken few item follows (inr c) = record {
-  rest = bytes;
-  taken = taken;
-  unended = λ known. subst (λ (f : Format). IsUnended f bytes) (sym c.1) tt;
-  fails = λ known. inr (record {
-    kind_is = c.0;
-    file_is = c.1;
-    item = subst (λ (f : Format). IsItem f bytes) c.1 item;
-    follows = subst (λ (f : Format). may_follow f before.last bytes ≡ true) c.1 follows;
-    covered = c.2;
-  });
-  offset_is = refl;
-  few = few;
-}
+pub step_refused : (a b : Option (List ℕ)) (before : Position) (last bytes : List ℕ) (kind : RecordFaultKind) → last ≡ bytes → Consumes a b bytes → before.count < 2 ^ 63 → IsItem before.file bytes → may_follow before.file before.last bytes ≡ true → IsRefusedBy before bytes kind
+    → (stop : StopsAt a b before (record { kind = kind; offset = before.offset })) × (kind ≡ OutOfMemory → HasWhole before.file stop.rest last)
+step_refused a b before last bytes kind is taken few item follows (inl e) = (
+  record {
+    rest = bytes;
+    taken = taken;
+    unended = λ known. absurd (known.1 e);
+    fails = λ known. absurd (known e);
+    offset_is = refl;
+    few = few;
+  },
+  λ _. inl (item, is),
+)
+step_refused a b before last bytes kind is taken few item follows (inr c) = (
+  record {
+    rest = bytes;
+    taken = taken;
+    unended = λ known. subst (λ (f : Format). IsUnended f bytes) (sym c.1) tt;
+    fails = λ known. inr (record {
+      kind_is = c.0;
+      file_is = c.1;
+      item = subst (λ (f : Format). IsItem f bytes) c.1 item;
+      follows = subst (λ (f : Format). may_follow f before.last bytes ≡ true) c.1 follows;
+      covered = c.2;
+    });
+    offset_is = refl;
+    few = few;
+  },
+  λ _. inl (item, is),
+)
 
 pub refused_blames : {R : Type 0} (left : R → Option (List ℕ)) (failures : R → ℕ) (old new : R) (before : Position) (bytes : List ℕ) (kind : RecordFaultKind) → failures new ≡ failures old → IsRefusedBy before bytes kind → Blames left failures old new kind
 refused_blames left failures old new before bytes kind unfailed (inl e) = subst (Blames left failures old new) (sym e) (memory_blames left failures old new unfailed)

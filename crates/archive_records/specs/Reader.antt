@@ -33,6 +33,7 @@ use Rattle.archive_records.specs.declared.fault.RecordFaultKind.TheVariants.{Dev
 use Rattle.archive_records.specs.declared.fault.RecordFault.{RecordFault}
 use Rattle.archive_records.specs.Entry.{IsEntry}
 use Rattle.archive_records.specs.Kind.{magic_of, kind_of, IsItem, may_follow}
+use Rattle.archive_records.specs.Layout.{framed}
 use Rattle.archive_records.specs.Text.{end_record, ending, text_of, InOrder, AreApart, last_of, taken_of}
 use Rattle.archive_records.specs.Fault.{FailsNext, Fails, IsTrailing, IsMagicFault, IsUnended, IsOfText}
 use Rattle.archive_records.specs.Front.{front_length}
@@ -208,6 +209,12 @@ pub record StopsAt (a b : Option (List ℕ)) (before : Position) (fault : Record
   pub offset_is : fault.offset ≡ before.offset
   pub few : before.count < 2 ^ 63
 
+-- Where memory was wanted, this is the last record: what came, if that is a whole item, and else none, since less than
+-- one came.
+abbrev pub HasWhole : Format → List ℕ → List ℕ → Type 0
+HasWhole file rest last =
+    (IsItem file rest × (last ≡ rest)) ⊎ ((framed file rest ≡ Err Truncated) × (last ≡ []))
+
 -- What came of one step: the end of the file, one item more, or why the reader stops.
 abbrev pub Advances : {R : Type 0} → (R → Option (List ℕ)) → (R → ℕ) → R → R → Position → Position
     → Result NextRecord RecordFault → Type 0
@@ -217,7 +224,8 @@ Advances left failures old new before after (Ok (Item found)) =
     Passes (left old) (left new) before after × (failures new ≡ failures old)
     × IsFoundIn (kind_of before.file) after.last found
 Advances left failures old new before after (Err fault) =
-    StopsAt (left old) (left new) before fault × Blames left failures old new fault.kind
+    (stop : StopsAt (left old) (left new) before fault) × Blames left failures old new fault.kind
+    × (fault.kind ≡ OutOfMemory → HasWhole before.file stop.rest after.last)
 
 -- The magic and these records were read, and nothing behind them.
 pub record HasRead (file : Format) (a b : Option (List ℕ)) (records : List (List ℕ))
@@ -261,6 +269,11 @@ pub record Stopped (file : Format) (a b : Option (List ℕ)) (records : List (Li
   pub few : length records < 2 ^ 63
   pub unended : IsOfText fault.kind → IsUnended file rest
   pub stops : Stops file records rest fault
+
+-- The same, and this is the last record where memory was wanted.
+abbrev pub StoppedWith : Format → Option (List ℕ) → Option (List ℕ) → List (List ℕ) → RecordFault → List ℕ → Type 0
+StoppedWith file a b records fault last =
+    (stopped : Stopped file a b records fault) × (fault.kind ≡ OutOfMemory → HasWhole file stopped.rest last)
 
 -- entries strictly ascending: what a summary keeps
 pub record AreListed (entries : List (List ℕ)) : Type 0 where

@@ -1,6 +1,6 @@
 //! A source that is read record by record.
 
-ghost use Rattle.std.specs.Prelude.{◌≡◌, ◌-◌, ◌<◌, ◌≤◌, ℕ, List, Option, Some, [], length, ◌⊎◌, true};
+ghost use Rattle.std.specs.Prelude.{◌≡◌, ◌≢◌, ◌-◌, ◌<◌, ◌≤◌, ℕ, List, Option, Some, [], length, ◌⊎◌, true};
 ghost use Rattle.std.specs.Prelude.{OnOk, IfOk, IfErr};
 ghost use Rattle.archive_core.specs.Content.{is_covered};
 ghost use Rattle.std.specs.Io.KnownBytes.{Consumes, IsAtEnd};
@@ -194,7 +194,8 @@ impl RecordReader {
         self.retired.covers(bytes)
     }
 
-    /// Reads the next record over the last, or else what ends the file.
+    /// Reads the next record over the last, or else what ends the file. Where memory is wanted for a record that came
+    /// whole, it is the last one then, and otherwise there is none.
     pub fn advance<R: Source>(&mut self, r: &mut R) -> Result<NextRecord, RecordFault>
         ensures { Advances R.left R.failures r.old r.new self.old self.new result }
     {
@@ -217,10 +218,13 @@ impl RecordReader {
                 self.offset += self.buffer.bytes.len() as u128;
                 Ok(NextRecord::Item(found))
             }
-            Err(kind) => Err(RecordFault {
-                kind,
-                offset: self.offset,
-            }),
+            Err(kind) => {
+                self.buffer.bytes.clear();
+                Err(RecordFault {
+                    kind,
+                    offset: self.offset,
+                })
+            }
         }
     }
 
@@ -230,6 +234,7 @@ impl RecordReader {
         ensures stopped { IfErr result (λ fault. (file : Format) (a : Option (List ℕ)) (records : List (List ℕ))
             → end_length file ≡ Some 9 → HasReadAll file a (R.left r.old) records self.now
             → Stopped file a (R.left r.new) records fault) }
+        ensures memory { IfErr result (λ fault. fault.kind ≢ OutOfMemory) }
         ensures reader { FaultBlamesReader R.left R.failures r.old r.new result }
     {
         match is_at_end(r) {

@@ -105,9 +105,9 @@ fn merge_taken<R: Source, S: Source, W: Sink>(
 /// # Errors
 ///
 /// `Left` and `Right` with the fault that [`crate::read_archive`] gives of that side alone; `Write` where the writer
-/// failed. One record more than 9,223,372,036,854,775,807 is `OutOfMemory` of the side that it comes from, left where
-/// both have it, and so is a retirement for which there is no memory. The writer has a beginning of an archive then,
-/// `written` bytes of it, and no end record.
+/// failed, and no side was refused before. One record more than 9,223,372,036,854,775,807 is `OutOfMemory` of the side
+/// that it comes from, left where both have it, and so is a retirement for which there is no memory. The writer has a
+/// beginning of an archive then, `written` bytes of it, and no end record.
 pub fn merge_streams<R: Source, S: Source, W: Sink>(
     heap: &Heap,
     left: &mut R,
