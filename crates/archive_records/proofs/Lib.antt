@@ -37,6 +37,7 @@ pub mod Fronts
 pub mod Places
 pub mod Orders
 pub mod Merges
+pub mod Gained
 pub mod Sides
 pub mod Questioned
 pub mod Sought

@@ -267,3 +267,9 @@ Merges left right out (Err e) =
     StopsBy left right out e.cause e.written
     × ForTexts left right (λ t u lefts rights.
     WritesFirst (out.bytes out.old) (out.bytes out.new) (written (of_both lefts rights)) e.written)
+
+-- ---- how much was written
+
+-- The writer took exactly so many bytes, whichever they are.
+abbrev pub GainsCount : {W : Type 0} → Stream W → ℕ → Type 0
+GainsCount out n = (bytes : List ℕ) × Gains out bytes × (n ≡ length bytes)

@@ -3,7 +3,7 @@
 ghost use Rattle.std.specs.Prelude.{◌≡◌, ℕ, List, Option, OnOk, IfOk, IfErr, MatchResult};
 ghost use Rattle.byte_device.specs.Devices.{FailedIn};
 ghost use Rattle.archive_records.specs.declared.fault.MergeCause.TheVariants.{Write};
-ghost use Rattle.archive_records.specs.Merging.{Merges, stream};
+ghost use Rattle.archive_records.specs.Merging.{GainsCount, Merges, stream};
 ghost use Rattle.archive_records.specs.MergeSteps.{BlamesDevices, Fits, Leaves, Merging, Stops};
 
 use crate::fault::{MergeCause, MergeFault, RecordFault};
@@ -114,8 +114,11 @@ pub fn merge_streams<R: Source, S: Source, W: Sink>(
     right: &mut S,
     w: &mut W,
 ) -> Result<Sizes, MergeFault>
-    ensures { Merges (stream R.left R.failures left.old left.new) (stream S.left S.failures right.old right.new)
+    ensures merges { Merges (stream R.left R.failures left.old left.new) (stream S.left S.failures right.old right.new)
         (stream W.held W.failures w.old w.new) result }
+
+    // Whatever stops it, and whatever is known of the inputs.
+    ensures written { IfErr result (λ e. GainsCount (stream W.held W.failures w.old w.new) e.written) }
 {
     merge_taken(heap, left, right, w)
 }
