@@ -5,8 +5,8 @@ use crate::faults::Ended;
 use crate::tellings::tell_text;
 use archive_core::{Archive, Operation, Record};
 use archive_records::{
-    MergeCause, MergeFault, RecordFault, Summary, merge_streams, read_archive, read_front, read_ops,
-    read_summary, write_archive,
+    MergeCause, MergeFault, RecordFault, Summary, merge_streams, read_archive, read_front,
+    read_ops, read_summary, write_archive,
 };
 use archive_words::Spelled;
 use byte_device::{Bytes, Short, Source};
@@ -15,7 +15,11 @@ use report_text::Text;
 use std::alloc::Global;
 
 /// Reads an archive's text from the front of an input, and tells what is left of it.
-pub fn tell_front<A: Archive + Drop>(heap: Heap, source: &mut StrictSource, told: &mut String) -> Ended {
+pub fn tell_front<A: Archive + Drop>(
+    heap: Heap,
+    source: &mut StrictSource,
+    told: &mut String,
+) -> Ended {
     let records = read_front::<A, _>(heap, source)?.len();
     let (left, end) = count_left(source);
     Ok(writeln!(told, "{records} records, {left} bytes are left{end}")?)
@@ -35,7 +39,11 @@ fn count_left(source: &mut StrictSource) -> (u64, &'static str) {
 }
 
 /// Reads an archive's text, and tells how many records it has, and how many entries its summary.
-pub fn tell_whole<A: Archive + Drop>(heap: Heap, source: &mut StrictSource, told: &mut String) -> Ended {
+pub fn tell_whole<A: Archive + Drop>(
+    heap: Heap,
+    source: &mut StrictSource,
+    told: &mut String,
+) -> Ended {
     let archive = read_archive::<A, _>(heap.clone()?, source)?;
     let records = archive.len();
     let entries = Summary::of(heap, &archive)?.len();

@@ -5,9 +5,8 @@
 
 use memory::NoMemory;
 use std::alloc::Global;
-use std::fs;
-use std::io;
 use std::rt::Files;
+use std::{fs, io};
 use thiserror::Error;
 
 /// Why no case is carried out.
@@ -42,7 +41,11 @@ pub struct Texts<'a, R> {
 impl<'a, R: Files + AllocGlobal> Texts<'a, R> {
     /// Finds them.
     pub fn find(rt: &'a R) -> io::Result<Self> {
-        let root = if fs::exists(rt, "cases")? { "." } else { "data" };
+        let root = if fs::exists(rt, "cases")? {
+            "."
+        } else {
+            "data"
+        };
         Ok(Texts { rt, root })
     }
 
@@ -60,7 +63,9 @@ impl<'a, R: Files + AllocGlobal> Texts<'a, R> {
 
     fn file(&self, folder: &str, name: &str) -> Result<String, TextFault> {
         let path = format!(in self.rt.alloc(); "{}/{folder}/{name}", self.root)?;
-        fs::read_to_string(self.rt, &path).ok().ok_or(TextFault::NoText)
+        fs::read_to_string(self.rt, &path)
+            .ok()
+            .ok_or(TextFault::NoText)
     }
 }
 

@@ -26,6 +26,7 @@ pub struct Outcome {
 }
 
 // How many bytes two texts have in common before they part.
+#[tactic(auto, using(crate::proofs::Partings::same_at, crate::proofs::Partings::other_at, crate::proofs::Partings::wanted_ends, crate::proofs::Partings::came_ends))]
 fn common_length(wanted: &[u8], came: &[u8]) -> usize
     ensures value { result ≡ common_length wanted.now came.now }
     ensures within { result ≤ length wanted.now }
