@@ -31,6 +31,10 @@
 //! - `cases`: the lines of cases, their language.
 #![tactic(auto)]
 
+ghost use Rattle.std.specs.Prelude.{◌≡◌, All};
+ghost use Rattle.std.specs.Process.{exit_status};
+ghost use Rattle.acceptance.specs.Verdicts.{CameAsItStands};
+
 mod addresses;
 mod archives;
 mod calls;
@@ -69,15 +73,25 @@ use texts::{TextFault, Texts, test_cases};
 use verdicts::{Outcome, Step, exit_code};
 
 fn main(rt: HostRuntime) -> ExitCode {
-    let Ok(outcomes) = carry_out_words(&rt) else {
-        return ExitCode::FAILURE;
-    };
-    for outcome in &outcomes {
-        if print_outcome(&rt, outcome).is_err() {
+    match carry_out_words(&rt) {
+        Ok(outcomes) => end(&rt, &outcomes),
+        Err(error) => {
+            let _ = rt.eprintln(error);
+            ExitCode::FAILURE
+        }
+    }
+}
+
+// Prints what came of all that was asked for, and gives the exit code of the run.
+fn end<R: Print>(rt: &R, outcomes: &[Outcome]) -> ExitCode
+    ensures { exit_status result ≡ 0 → All CameAsItStands outcomes.now }
+{
+    for outcome in outcomes {
+        if print_outcome(rt, outcome).is_err() {
             return ExitCode::FAILURE;
         }
     }
-    exit_code(&outcomes)
+    exit_code(outcomes)
 }
 
 // Carries out what the words of the command line name, or all subjects where there is none.
