@@ -1,5 +1,5 @@
 -- Whether what came is what has to come.
-use Rattle.std.specs.Prelude.{◌≡◌, ℕ, Bool, ◌==◌, List, All, IsOkAnd, string_bytes, take}
+use Rattle.std.specs.Prelude.{◌≡◌, ℕ, ◌==◌, List, All, IsOkAnd, string_bytes, take}
 use Rattle.std.specs.List.{common_prefix_len, count_by}
 use Rattle.acceptance.specs.declared.verdicts.Step.{Step}
 use Rattle.acceptance.specs.declared.verdicts.Outcome.{Outcome}
