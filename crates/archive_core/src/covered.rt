@@ -1,4 +1,4 @@
-//! Slices that retirements cover. This is the one place that tells them, and no slice that is held is one.
+//! Slices that the retirements of an archive cover. No slice that is held is one.
 ghost use Rattle.std.specs.Prelude.{◌≡◌, ◌+◌, ◌<◌, ◌≤◌, ◌||◌, ℕ, List, [], ◌∷◌, ◌++◌, true, false, length, take, drop};
 ghost use Rattle.std.specs.Prelude.{map, filter, not};
 ghost use Rattle.std.specs.FinSet as set;
