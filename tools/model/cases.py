@@ -1,4 +1,5 @@
-"""The language of crates/acceptance/stdin, carried out by the model. Blocks: a line and the lines behind it."""
+"""The language of crates/acceptance/data/cases, carried out by the model. Blocks: a line, and the lines after it that
+begin with two spaces."""
 import re
 import formats as F
 from formats import (Content, Fault, MergeFault, Refused, Reader, Source, addr, admission, answering, answer_lines,
@@ -187,7 +188,7 @@ class Short:
 
 class Limits:
     def __init__(self, **k):
-        self.out = self.report = INF
+        self.out = self.report = self.opened = INF
         self.cut = self.read = None
         self.__dict__.update(k)
 
@@ -613,6 +614,23 @@ def call_site(name, rest, store, limits, lines, old):
     seen(lines, held, questions, saved)
 
 
+def call_merge_streams(name, rest, store, limits, lines, old):
+    written = bytearray()
+
+    def write(b):
+        room = max(0, limits.out - len(written))
+        written.extend(b[:room])
+        if len(b) > room:
+            raise F.MergeFault(None, "")
+    try:
+        count = merge_streams(limits.source(store, name), limits.source(store, rest), write)
+        lines.append("%d records, %d bytes" % (count, len(written)))
+    except F.MergeFault as f:
+        side = "Write" if f.side is None else ("Left: ", "Right: ")[f.side] + f.text
+        lines.append("%s; %d bytes written" % (side, len(written)))
+    lines.append(text_line(bytes(written)))
+
+
 def call_world(name, rest, store, limits, lines, old):
     s = read_script(given(limits, store, name))
     if isinstance(s, str):
@@ -711,9 +729,10 @@ def call_pairs(name, rest, store, limits, lines, old):
 
 CALLS = {"front": call_front, "whole": call_whole, "operations": call_operations, "summary": call_summary,
          "part": call_part, "ask": call_ask, "take": call_take, "take-each": call_take_each, "join": call_join,
-         "absorb": call_absorb, "site": call_site, "world": call_world, "heaps": call_heaps, "pairs": call_pairs}
+         "absorb": call_absorb, "site": call_site, "merge-streams": call_merge_streams, "world": call_world,
+         "heaps": call_heaps, "pairs": call_pairs}
 # Calls over images, streams and memory, in which no archive stands.
-COPIED = {"kind", "fat", "image", "check", "nearest", "named", "reading", "writing", "room", "room-of-bytes", "plan"}
+COPIED = {"asked", "kind", "fat", "image", "check", "nearest", "named", "reading", "writing", "room", "room-of-bytes", "plan"}
 
 
 # ---------------------------------------------------------------- tellings
@@ -810,10 +829,16 @@ class Folder:
         self.files[i] = b
 
 
+def inputs_of(p):
+    """the paths of the inputs of a plan"""
+    keys = ("in", "archive", "summary", "ops", "script", "frames")
+    return [p[k] for k in keys if k in p] + p.get("file", [])
+
+
 def run_program(folder, words, most):
     words = words_of(words)
     p = plan(words)
-    ins = [p[k] for k in ("in", "archive", "summary", "ops", "script") if k in p] + p.get("file", [])
+    ins = inputs_of(p)
 
     def open_source(path):
         if not path.startswith("@"):
@@ -853,8 +878,8 @@ class Bench:
         return call(verb, words, self.store, limits, old), {}
 
     def line(self, line, old):
-        """the lines behind a line, as the model tells them; raises Copy where it does not"""
-        if not line or line.startswith("#"):
+        """the lines after a line, as the model has them; raises Copy where it has none"""
+        if not line or line.startswith(("#", "= ")):
             return []
         verb, _, words = line.partition(" ")
         if verb == "file":
@@ -877,7 +902,7 @@ class Bench:
             if what in ("cut", "read"):
                 n, v = value.split(" ")
                 self.limits = self.limits.but(**{what: (n, int(v))})
-            elif what in ("out", "report"):
+            elif what in ("out", "report", "opened"):
                 self.limits = self.limits.but(**{what: int(value)})
             elif what in ("growths", "bytes"):
                 self.memory = True
@@ -914,6 +939,8 @@ class Bench:
             except Copy:
                 raise
         self.reset()
+        if verb == "run" and limits.opened < len(inputs_of(plan(words_of(words)))):
+            return ["  symarch: out of memory", "  status 4"]
         if sweep == "growth":
             self.carry(verb, words, limits, old)
             raise Copy
@@ -958,6 +985,15 @@ class Bench:
         return ["  %d: %s" % (a, o) if a == b else "  %d to %d: %s" % (a, b, o) for a, b, o in groups]
 
 
+def text_of(data, subject):
+    """the text of a subject, with what it uses"""
+    out = []
+    for line in (data / "cases" / subject).read_text(encoding="utf-8").splitlines(keepends=True):
+        shared = line.startswith("use ") and data / "shared" / line[4:].rstrip("\n")
+        out.append(shared.read_text(encoding="utf-8") if shared else line)
+    return "".join(out)
+
+
 def blocks(text):
     out = []
     for line in text.split("\n")[:-1]:
@@ -965,4 +1001,18 @@ def blocks(text):
             out[-1][1].append(line)
         else:
             out.append((line, []))
+    return out
+
+
+def cases_of(text):
+    """the blocks of each case by its name, in their order; those above the first one have the name ''"""
+    out = {"": []}
+    name = ""
+    for line, stands in blocks(text):
+        if line.startswith("= "):
+            name = line[2:]
+            if name in out:
+                raise Bad("two cases have one name, " + name)
+            out[name] = []
+        out[name].append((line, stands))
     return out

@@ -1,25 +1,32 @@
 //! Calls over the texts of archives, of operations and of summaries.
 
+use crate::devices::{StrictSink, StrictSource};
 use crate::faults::Ended;
+use crate::tellings::tell_text;
 use archive_core::{Archive, Operation, Record};
 use archive_records::{
-    RecordFault, Summary, read_archive, read_front, read_ops, read_summary, write_archive,
+    MergeCause, MergeFault, RecordFault, Summary, merge_streams, read_archive, read_front,
+    read_ops, read_summary, write_archive,
 };
 use archive_words::Spelled;
-use byte_device::{Bytes, Pieces, Short, Source};
+use byte_device::{Bytes, Short, Source};
 use memory::{Heap, NoMemory};
 use report_text::Text;
 use std::alloc::Global;
 
 /// Reads an archive's text from the front of an input, and tells what is left of it.
-pub fn tell_front<A: Archive + Drop>(heap: Heap, source: &mut Pieces, told: &mut String) -> Ended {
+pub fn tell_front<A: Archive + Drop>(
+    heap: Heap,
+    source: &mut StrictSource,
+    told: &mut String,
+) -> Ended {
     let records = read_front::<A, _>(heap, source)?.len();
     let (left, end) = count_left(source);
     Ok(writeln!(told, "{records} records, {left} bytes are left{end}")?)
 }
 
 // How many bytes an input still gives, and how it ends.
-fn count_left(source: &mut Pieces) -> (u64, &'static str) {
+fn count_left(source: &mut StrictSource) -> (u64, &'static str) {
     let mut byte = [0; 1];
     for left in 0..u64::MAX {
         match source.pull(&mut byte) {
@@ -32,7 +39,11 @@ fn count_left(source: &mut Pieces) -> (u64, &'static str) {
 }
 
 /// Reads an archive's text, and tells how many records it has, and how many entries its summary.
-pub fn tell_whole<A: Archive + Drop>(heap: Heap, source: &mut Pieces, told: &mut String) -> Ended {
+pub fn tell_whole<A: Archive + Drop>(
+    heap: Heap,
+    source: &mut StrictSource,
+    told: &mut String,
+) -> Ended {
     let archive = read_archive::<A, _>(heap.clone()?, source)?;
     let records = archive.len();
     let entries = Summary::of(heap, &archive)?.len();
@@ -40,15 +51,42 @@ pub fn tell_whole<A: Archive + Drop>(heap: Heap, source: &mut Pieces, told: &mut
 }
 
 /// Reads operations, and tells how many there are.
-pub fn tell_operations(heap: Heap, source: &mut Pieces, told: &mut String) -> Ended {
+pub fn tell_operations(heap: Heap, source: &mut StrictSource, told: &mut String) -> Ended {
     let operations = read_ops(heap, source)?.len();
     Ok(writeln!(told, "{operations} operations")?)
 }
 
 /// Reads a summary, and tells how many entries it has.
-pub fn tell_summary(heap: Heap, source: &mut Pieces, told: &mut String) -> Ended {
+pub fn tell_summary(heap: Heap, source: &mut StrictSource, told: &mut String) -> Ended {
     let entries = read_summary(heap, source)?.len();
     Ok(writeln!(told, "{entries} entries")?)
+}
+
+/// Merges two archives as they come into an output that takes so many bytes, and tells how large the join is, or what
+/// stopped it, and what was written.
+pub fn tell_merging(
+    heap: &Heap,
+    left: &mut StrictSource,
+    right: &mut StrictSource,
+    most: usize,
+    told: &mut String,
+) -> Ended {
+    let mut out = StrictSink::new(Heap::new(*told.allocator())?, most);
+    match merge_streams(heap, left, right, &mut out) {
+        Ok(sizes) => writeln!(told, "{} records, {} bytes", sizes.records, sizes.bytes)?,
+        Err(stopped) => tell_stopped(stopped, told)?,
+    }
+    Ok(tell_text(out.as_slice(), told)?)
+}
+
+// Tells what stopped a merge, and behind how many bytes.
+fn tell_stopped(stopped: MergeFault, told: &mut String) -> Result<(), NoMemory> {
+    match stopped.cause {
+        MergeCause::Left(fault) => write!(told, "Left: {:?} at {}", fault.kind, fault.offset)?,
+        MergeCause::Right(fault) => write!(told, "Right: {:?} at {}", fault.kind, fault.offset)?,
+        MergeCause::Write => write!(told, "Write")?,
+    }
+    writeln!(told, "; {} bytes written", stopped.written)
 }
 
 /// Takes operations into an archive in turn, and tells of each whether it was new.

@@ -1,7 +1,7 @@
 //! What a case asks for: a plan, or a call below the commands.
 
 use crate::addresses::addresses_of;
-use crate::archives::{tell_front, tell_operations, tell_summary, tell_whole};
+use crate::archives::{tell_front, tell_merging, tell_operations, tell_summary, tell_whole};
 use crate::changes::tell_change;
 use crate::desk::{Desk, Tried};
 use crate::ends::{End, Left};
@@ -11,7 +11,7 @@ use crate::images::{tell_fat, tell_image, tell_kind, tell_named, tell_nearest, t
 use crate::pairs::tell_pairs;
 use crate::parts::{bytes_of, number};
 use crate::selections::{Picked, tell_part};
-use crate::streams::{Failing, tell_reading, tell_writing};
+use crate::streams::{Failing, tell_asked, tell_reading, tell_writing};
 use crate::subjects::{Act, ArchiveAct, Change, SiteAct};
 use crate::words::first_word;
 use crate::worlds::tell_world;
@@ -100,6 +100,7 @@ impl<'a> Desk<'a> {
                 let (failing, size) = failing_of(call.words)?;
                 tell_reading(bytes, failing, size, told)
             }
+            "asked" => tell_asked(bytes, told),
             "writing" => {
                 let (failing, size) = failing_of(call.words)?;
                 tell_writing(bytes, failing, size, told)
@@ -126,6 +127,11 @@ impl<'a> Desk<'a> {
             },
             "operations" => tell_operations(self.heap()?, &mut source, told),
             "summary" => tell_summary(self.heap()?, &mut source, told),
+            "merge-streams" => {
+                let mut right = self.source(call.words)?;
+                let most = self.limits.out;
+                tell_merging(&self.heap()?, &mut source, &mut right, most, told)
+            }
             _ => return self.call_on_archives::<A>(call, told),
         })
     }

@@ -1,39 +1,49 @@
-//! The lines of cases. A case is a line, and what has to come of it stands behind it, in lines that begin with two
-//! spaces. A line is cut into words at each space; `words` has the form of a word with spaces, `"-[A b]"`.
+//! The language of cases.
 //!
-//! Files in memory, and what holds for the next case alone:
+//! A subject is a file of the folder `cases`. Each of its cases has a name, in a line `= NAME`, and what all of them
+//! need stands above the first one. A line `use NAME` stands for the lines of the file NAME of the folder `shared`. Any
+//! other line is carried out, and what has to come of it stands after it, in lines that begin with two spaces.
+//!
+//! A subject runs by itself, from its first line on, and what a line keeps is there for all that follow. So a case that
+//! is asked for alone is carried out after all that stands above it, of which nothing is said.
+//!
+//! A line is cut into words at each space; `words` has the form of a word with spaces, `"-[A b]"`.
+//!
+//! Files in memory, and what holds for the next call or command line alone:
 //!
 //! - an empty line, and one that begins with `#`, say nothing;
-//! - `file NAME PART..` keeps bytes under a name, and tells their number; `parts` has the forms of PART;
-//! - `line NAME TEXT` puts a line of text behind a file, and tells the number of its bytes;
-//! - `same NAME PART..` tells whether a file has these bytes, or where the two differ first;
+//! - `file NAME PART..` keeps bytes under a name, and prints their number; `parts` has the forms of PART;
+//! - `line NAME TEXT` puts a line of text after a file, and prints the number of its bytes;
+//! - `same NAME PART..` prints whether a file has these bytes, or where the two differ first;
 //! - `hold pieces N`: inputs give at most N bytes at a time;
 //! - `hold growths N`: N growths are granted; `hold bytes N`: growths of N bytes in all are granted to a command, or to
 //!   a call that reads;
+//! - `hold opened N`: N inputs of a command are opened, and then there is no memory to open more;
 //! - `hold out N`, `hold report N`: OUT, or the report, fails when it took N bytes;
 //! - `hold cut NAME N`: a file has its first N bytes alone; `hold read NAME N`: it fails when it gave N bytes;
-//! - `each cut NAME`, `each read NAME`, `each out`, `each report`, `each pieces N` carry the next case out at each
-//!   place, and tell places in a row that have one outcome in one line;
-//! - `each growth` carries it out with 0, 1, .. growths until none is refused, and tells how many runs met a refusal on
-//!   either archive. A refused run leaves its report empty and OUT empty or whole; one that writes as it reads leaves a
-//!   beginning. The first run that meets none ends as with ample memory, be it with a fault of its input. Where no run
-//!   meets one, the sweep shows nothing, and is `WRONG`; that a call takes no memory is shown by `hold growths 0`.
+//! - `each cut NAME`, `each read NAME`, `each out`, `each report`, `each pieces N` carry the next one out at each
+//!   place, and print places in a row that have one outcome in one line;
+//! - `each growth` carries it out with 0, 1, .. growths until none is refused, and prints how many runs met a refusal
+//!   on either archive. A refused run leaves its report empty and OUT empty or whole; one that writes as it reads
+//!   leaves a beginning. The first run that meets none ends as with ample memory, be it with a fault of its input.
+//!   Where no run meets one, the sweep shows nothing, and is `WRONG`; that a call takes no memory is shown by `hold
+//!   growths 0`.
 //!
 //! Files of the system, in a folder of this run's own:
 //!
-//! - `lay NAME..` writes files in memory to the folder; `fetch NAME` reads one of the folder into memory, and tells the
-//!   number of its bytes, or that it is not there;
+//! - `lay NAME..` writes files in memory to the folder; `fetch NAME` reads one of the folder into memory, and prints
+//!   the number of its bytes, or that it is not there;
 //! - `link hard NEW OLD` and `link soft NEW OLD` make a link to a file of the folder;
-//! - `program WORD..` carries a command line out over files of the system, and tells the report, the fault and the
+//! - `program WORD..` carries a command line out over files of the system, and prints the report, the fault and the
 //!   status. A word that begins with `@` names a file of the folder. Of `hold` it heeds `report` alone.
 //!
-//! The program over files in memory, whose report stands behind `|`:
+//! The program over files in memory, whose report stands after `|`:
 //!
-//! - `plan WORD..` tells what a command line asks for, or why it is refused; `-` stands for no words;
-//! - `run WORD..` carries a command line out, and tells the report, the length and the SHA-256 of OUT, the fault and
+//! - `plan WORD..` prints what a command line asks for, or why it is refused; `-` stands for no words;
+//! - `run WORD..` carries a command line out, and prints the report, the length and the SHA-256 of OUT, the fault and
 //!   the status. OUT is kept as a file where it took bytes.
 //!
-//! Calls below the commands. What one gives stands behind `|`, or is `nothing`, and its fault stands in a line of its
+//! Calls below the commands. What one gives stands after `|`, or is `nothing`, and its fault stands in a line of its
 //! own, `Truncated at 8`:
 //!
 //! - `kind NAME`: the kind of a file;
@@ -43,14 +53,17 @@
 //! - `check NAME`: a slice, by `Slice::check` and `Slice::admit`: `UUID ARCH SHA256`;
 //! - `nearest NAME ADDRESS..`: the nearest symbol by the scan and by the table: `0x.. NAME + OFFSET (SEGMENT,SECTION)
 //!   in section 1`, or `0x.. -`; `addresses` has the forms of ADDRESS;
-//! - `named NAME PART..`: each symbol of a name, as `nearest` tells it, at its own address;
+//! - `named NAME PART..`: each symbol of a name, as `nearest` prints it, at its own address;
 //! - `front NAME`: an archive's text, read from the front of a file: `2 records, 106 bytes are left`, with `then it
-//!   fails` where the reader fails behind them;
+//!   fails` where the reader fails after them;
 //! - `whole NAME`, `operations NAME`, `summary NAME`: an archive's text, operations and a summary, read to their ends:
 //!   `2 records, 2 entries`, where the entries are those of its summary, `3 operations`, `2 entries`;
 //! - `part NAME UUID QUESTION..`, `part NAME UUID ARCH QUESTION..`: an archive's text, read to its end, of which the
 //!   records of a UUID, or of a key, are kept: each, as `admit UUID ARCH SHA256` or `retire ..`, then `2 records`, the
 //!   length and the SHA-256 of their text, and their answers. Where memory is held, it is that of the reading;
+//! - `merge-streams LEFT RIGHT`: two archives, merged as they come into an output that takes as many bytes as OUT: `2
+//!   records, 195 bytes`, or `Left: Truncated at 97; 97 bytes written`; and the length and the SHA-256 of what was
+//!   written;
 //! - `pairs IMAGE N SEED`: N random pairs of archives, made of an image, which are merged as they come and joined as
 //!   values: the length and the SHA-256 of all that was merged;
 //! - `reading NAME FAILING N`: four pulls of N bytes from a reader of std over a file, of which the second call fails:
@@ -58,6 +71,8 @@
 //!   (it moves no byte) or `never`;
 //! - `writing NAME FAILING N`: a file, pushed in pieces of N bytes to a writer of std that fails so, and what that has
 //!   then;
+//! - `asked NAME`: four pulls of 8 bytes from an input of the cases, a pull of no byte from another one, and to an
+//!   output a push of no byte, and of the file: `moved 3` or `failed` for each;
 //! - `room N`: what memory with N growths holds: the numbers that one vector takes, and which of three vectors take
 //!   one, before and after a growth more is granted; `room-of-bytes N`: how many numbers of 8 bytes one vector takes in
 //!   memory with N bytes;
@@ -87,10 +102,10 @@
 //! the call promises, and to answer as an archive does that is read from its text; calls that take no memory have to
 //! succeed; and the call made again has to end as it ends at once, and to come to the same.
 //!
-//! Each case is carried out on the plain archive and on the indexed one, and has to end alike; what is told is of the
-//! first. A case that is not swept is carried out on the first with inputs in pieces of 1 byte, too, and on the second
-//! in pieces of 7. A report of more than 40 lines is told as their number and the SHA-256 of all: `5000 lines SHA256`.
-//! What contradicts itself is told in a line that has the word `WRONG`.
+//! Each call and each command line is carried out on the plain archive and on the indexed one, and has to end alike;
+//! what is printed is of the first. One that is not swept is carried out on the first with inputs in pieces of 1 byte,
+//! too, and on the second in pieces of 7. A report of more than 40 lines is printed as their number and the SHA-256 of
+//! all: `5000 lines SHA256`. What contradicts itself is printed in a line that has the word `WRONG`.
 
 use crate::calls::Task;
 use crate::desk::{Desk, Tried};
@@ -103,6 +118,8 @@ use crate::parts::{bytes_of, number};
 use crate::store::Store;
 use crate::sweeps::{tell_growths, tell_sweep};
 use crate::tellings::{tell_left, tell_line_fault, tell_same};
+use crate::texts::{TextFault, cut_case};
+use crate::verdicts::Step;
 use crate::words::{first_word, words_of};
 use command_line::{LineFault, Plan, plan};
 use memory::NoMemory;
@@ -127,39 +144,85 @@ struct Bench<'t> {
     mode: Mode<'t>,
 }
 
-/// Carries out the cases of a text, and tells what came of each. One that cannot be carried out is passed over.
+/// Carries out the lines of a subject's text, or those of one of its cases, and gives each with what has to come of it
+/// and what came. What stands above that case is carried out before it, and not given.
 pub fn carry_out<R: Files + AllocGlobal>(
     alloc: Global,
     folder: &Folder<'_, R>,
     text: &str,
-    told: &mut String,
-) -> Result<(), NoMemory> {
+    case: Option<&str>,
+) -> Result<Vec<Step>, TextFault> {
     let mut bench = Bench {
         alloc,
         store: Store::new(alloc),
         limits: Limits::AMPLE,
         mode: Mode::Once,
     };
-    for line in text.lines() {
-        if line.starts_with("  ") {
-            continue;
-        }
-        writeln!(told, "{line}")?;
-        if let Err(fault) = bench.read_line(line, folder, told) {
-            writeln!(told, "  WRONG: not carried out, {fault}")?;
+    let Some(name) = case else {
+        return Ok(bench.carry_out(folder, text)?);
+    };
+    let (above, case) = cut_case(alloc, text, name)?;
+    bench.carry_out(folder, above)?;
+    Ok(bench.carry_out(folder, case)?)
+}
+
+// Adds a line to what has to come of the last one.
+fn add_wanted(alloc: Global, steps: &mut Vec<Step>, line: &str) -> Result<(), NoMemory> {
+    match steps.last_mut() {
+        Some(step) => writeln!(step.wanted, "{line}"),
+        None => {
+            let step = Step {
+                line: String::new(alloc),
+                wanted: format!(in alloc; "{line}\n")?,
+                came: String::new(alloc),
+            };
+            Ok(steps.push(step)?)
         }
     }
-    Ok(())
 }
 
 impl<'t> Bench<'t> {
+    // Carries out the lines of a text, and gives each with what has to come of it and what came.
+    fn carry_out<R: Files + AllocGlobal>(
+        &mut self,
+        folder: &Folder<'_, R>,
+        text: &'t str,
+    ) -> Result<Vec<Step>, NoMemory> {
+        let mut steps = Vec::new(self.alloc);
+        for line in text.lines() {
+            if line.starts_with("  ") {
+                add_wanted(self.alloc, &mut steps, line)?;
+            } else {
+                steps.push(self.step(folder, line)?)?;
+            }
+        }
+        Ok(steps)
+    }
+
+    // Carries out a line. Where that cannot be done, it says so.
+    fn step<R: Files + AllocGlobal>(
+        &mut self,
+        folder: &Folder<'_, R>,
+        line: &'t str,
+    ) -> Result<Step, NoMemory> {
+        let mut came = String::new(self.alloc);
+        if let Err(fault) = self.read_line(line, folder, &mut came) {
+            writeln!(came, "  WRONG: not carried out, {fault}")?;
+        }
+        Ok(Step {
+            line: String::from_str(self.alloc, line)?,
+            wanted: String::new(self.alloc),
+            came,
+        })
+    }
+
     fn read_line<R: Files + AllocGlobal>(
         &mut self,
         line: &'t str,
         folder: &Folder<'_, R>,
         told: &mut String,
     ) -> Result<(), CaseFault> {
-        if line.is_empty() || line.starts_with('#') {
+        if line.is_empty() || line.starts_with('#') || line.starts_with("= ") {
             return Ok(());
         }
         let (verb, words) = line.split_once(' ').unwrap_or((line, ""));
@@ -225,6 +288,7 @@ impl<'t> Bench<'t> {
             "pieces" => self.limits.pieces = number as usize,
             "growths" => self.limits.growths = number,
             "bytes" => self.limits.bytes = number,
+            "opened" => self.limits.opened = number,
             "out" => self.limits.out = number as usize,
             "report" => self.limits.report = number as usize,
             _ => return Err(CaseFault::BadLine),

@@ -1,10 +1,10 @@
 //! A plan, carried out over files in memory.
 
 use crate::desk::Desk;
+use crate::devices::{StrictSink, StrictSource};
 use crate::ends::{End, Left};
 use archive_commands::CannotOpen;
 use archive_core::Archive;
-use byte_device::{Pieces, Short};
 use command_line::Plan;
 use memory::{Heap, NoMemory};
 use plan_commands::{Disk, execute_on};
@@ -14,7 +14,7 @@ impl<'a> Disk for Desk<'a> {
     ghost use Rattle.std.specs.BTreeMap.{get_by_text};
     ghost use Rattle.plan_commands.specs.Disks.{Unknown, file_of};
 
-    type Input = Pieces<'a>;
+    type Input = StrictSource<'a>;
 
     // Of files nothing is known where one of them is cut.
     ghost file_at = { λ desk path. if is_some desk.limits.cut then Unknown
@@ -22,7 +22,11 @@ impl<'a> Disk for Desk<'a> {
 
     ghost opened = { λ _. None };
 
-    fn open(&mut self, path: &str) -> Result<Result<Pieces<'a>, CannotOpen>, NoMemory> {
+    fn open(&mut self, path: &str) -> Result<Result<StrictSource<'a>, CannotOpen>, NoMemory> {
+        if self.limits.opened == 0 {
+            return Err(NoMemory);
+        }
+        self.limits.opened -= 1;
         Ok(self.input(path))
     }
 }
@@ -30,8 +34,8 @@ impl<'a> Disk for Desk<'a> {
 impl<'a> Desk<'a> {
     /// Carries out a plan.
     pub fn run<A: Archive + Drop>(mut self, plan: &Plan) -> Result<Left, NoMemory> {
-        let mut out = Short::new(Heap::new(self.alloc)?, self.limits.out);
-        let mut report = Short::new(Heap::new(self.alloc)?, self.limits.report);
+        let mut out = StrictSink::new(Heap::new(self.alloc)?, self.limits.out);
+        let mut report = StrictSink::new(Heap::new(self.alloc)?, self.limits.report);
         let ended = execute_on::<A, A, _, _, _>(
             self.alloc,
             self.heap()?,

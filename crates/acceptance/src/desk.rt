@@ -4,11 +4,12 @@ ghost use Rattle.std.specs.Prelude.{◌≡◌, None, option_map};
 ghost use Rattle.std.specs.BTreeMap.{get_by_text};
 ghost use Rattle.plan_commands.specs.Disks.{IsOpened, file_of};
 
+use crate::devices::StrictSource;
 use crate::faults::CaseFault;
 use crate::limits::Limits;
 use crate::store::Store;
 use archive_commands::CannotOpen;
-use byte_device::{Pieces, Source};
+use byte_device::Source;
 use memory::{Heap, NoMemory};
 use std::alloc::Global;
 
@@ -42,20 +43,21 @@ impl<'a> Desk<'a> {
     }
 
     /// A file that is read, as far as it is not cut.
-    pub fn input(self, name: &str) -> Result<Pieces<'a>, CannotOpen>
+    pub fn input(self, name: &str) -> Result<StrictSource<'a>, CannotOpen>
         ensures { self.entry.limits.cut ≡ None
-            → IsOpened ⟦<Pieces<'a> as Source>⟧.left ⟦<Pieces<'a> as Source>⟧.failures
+            → IsOpened ⟦<StrictSource<'a> as Source>⟧.left
+            ⟦<StrictSource<'a> as Source>⟧.failures
             (file_of (option_map (λ v. v.items) (get_by_text self.entry.store.now.files name.now))) result }
     {
         let Some(bytes) = self.bytes(name) else {
             return Err(CannotOpen);
         };
         let size = self.limits.pieces.max(1);
-        Ok(Pieces::new(bytes, size, self.limits.given_of(name)))
+        Ok(StrictSource::new(bytes, size, self.limits.given_of(name)))
     }
 
     /// The same of a file that has to be there.
-    pub fn source(self, name: &str) -> Result<Pieces<'a>, CaseFault> {
+    pub fn source(self, name: &str) -> Result<StrictSource<'a>, CaseFault> {
         self.input(name).ok().ok_or(CaseFault::BadLine)
     }
 

@@ -1,11 +1,11 @@
 //! Files of the system, in a folder of this run's own.
 
+use crate::devices::StrictSink;
 use crate::faults::CaseFault;
 use crate::store::Store;
 use crate::tellings::{tell_ended, tell_line_fault, tell_report};
 use crate::words::{first_word, words_of};
 use archive_files::SystemFiles;
-use byte_device::Short;
 use command_line::{LineFault, Plan, plan};
 use file_commands::execute;
 use memory::{Heap, NoMemory};
@@ -101,7 +101,7 @@ impl<'a, R: Files + AllocGlobal> Folder<'a, R> {
     }
 
     fn tell_run(&self, plan: &Plan, most: usize, told: &mut String) -> Result<(), CaseFault> {
-        let mut report = Short::new(Heap::new(self.rt.alloc())?, most);
+        let mut report = StrictSink::new(Heap::new(self.rt.alloc())?, most);
         let mut files = SystemFiles::new(self.rt.alloc(), self.rt);
         let ended = execute(&mut files, plan, &mut report);
         tell_report(report.as_slice(), told)?;

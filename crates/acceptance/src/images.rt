@@ -39,10 +39,13 @@ pub fn tell_image(bytes: &[u8], told: &mut String) -> Ended {
 
 // Tells the key and the kind of an image, and its text base.
 fn tell_header(image: &Image, told: &mut String) -> Result<(), NoMemory> {
-    let (cputype, subtype) = image.arch();
+    let (cputype, cpusubtype) = image.arch();
     let key = Text(SliceKey {
         uuid: image.uuid(),
-        arch: ArchKey { cputype, subtype },
+        arch: ArchKey {
+            cputype,
+            cpusubtype,
+        },
     });
     let kind = if image.is_dsym() { "dsym" } else { "image" };
     writeln!(told, "{key} {kind}")?;

@@ -30,6 +30,8 @@ pub struct Limits<'t> {
     pub growths: u64,
     /// How many bytes of memory are granted to a command, or to a call that reads.
     pub bytes: u64,
+    /// How many inputs are opened before memory is wanting.
+    pub opened: u64,
     /// How many bytes OUT takes before it fails.
     pub out: usize,
     /// How many bytes the report takes before it fails.
@@ -45,6 +47,7 @@ impl Limits<'_> {
         pieces: usize::MAX,
         growths: u64::MAX,
         bytes: u64::MAX,
+        opened: u64::MAX,
         out: usize::MAX,
         report: usize::MAX,
         cut: None,

@@ -1,15 +1,19 @@
 //! `acceptance`: worked rows, carried out over devices in memory.
 //!
-//! It reads cases from standard input, carries each out through the line reader and the engines of the commands, or by
-//! a call below them, over memory or over files of the system, and compares what comes of it with the lines behind the
-//! case. Where all is as it stands there it says so, and else it prints what came.
+//! It reads texts of cases, carries each line out through the line reader and the engines of the commands, or by a call
+//! below them, over memory or over files of the system, and compares what comes of it with the lines after it. A word
+//! of its command line names a subject, or a case, `SUBJECT/CASE`; without words all subjects are carried out. Of each
+//! it says whether all is as it stands, and prints the lines that came otherwise.
 //!
+//! - `texts`: the texts of cases;
+//! - `verdicts`: whether what came is what has to come;
 //! - `faults`: why a case is not carried out, or a call is refused;
 //! - `store`: files in memory;
 //! - `folder`: files of the system;
 //! - `words`: the words of a case;
 //! - `parts`, `counters`, `addresses`: the bytes and the addresses that they spell;
 //! - `limits`: what devices give and take, and how far a sweep goes;
+//! - `devices`: inputs and outputs that are asked as they should be;
 //! - `desk`: what a case goes over;
 //! - `ends`: how a case ends, and what it leaves;
 //! - `commands`: a plan, carried out;
@@ -27,6 +31,10 @@
 //! - `cases`: the lines of cases, their language.
 #![tactic(auto)]
 
+ghost use Rattle.std.specs.Prelude.{◌≡◌, All};
+ghost use Rattle.std.specs.Process.{exit_status};
+ghost use Rattle.acceptance.specs.Verdicts.{CameAsItStands};
+
 mod addresses;
 mod archives;
 mod calls;
@@ -35,6 +43,7 @@ mod changes;
 mod commands;
 mod counters;
 mod desk;
+mod devices;
 mod ends;
 mod faults;
 mod folder;
@@ -52,51 +61,106 @@ mod streams;
 mod subjects;
 mod sweeps;
 mod tellings;
+mod texts;
+mod verdicts;
 mod words;
 mod worlds;
 
 use folder::Folder;
-use std::io;
 use std::process::ExitCode;
-
-// The first line of a text, counted from 1, that is another than what came, if the two differ.
-fn first_other_line(wanted: &str, came: &str) -> Option<usize> {
-    if wanted == came {
-        return None;
-    }
-    let pairs = wanted.lines().zip(came.lines());
-    let same = pairs.take_while(|(w, c)| w == c).count();
-    Some(same.saturating_add(1))
-}
-
-// Tells that the text of cases is what came of them, or else what came, and where the two part.
-fn tell_end<R: Print>(rt: &R, wanted: &str, came: &str) -> io::Result<ExitCode> {
-    match first_other_line(wanted, came) {
-        None => {
-            println!(rt; "{} lines, all as they stand", wanted.lines().count())?;
-            Ok(ExitCode::SUCCESS)
-        }
-        Some(line) => {
-            rt.print(came)?;
-            println!(rt; "line {line} came otherwise")?;
-            Ok(ExitCode::FAILURE)
-        }
-    }
-}
+use std::{env, io};
+use texts::{TextFault, Texts, test_cases};
+use verdicts::{Outcome, Step, exit_code};
 
 fn main(rt: HostRuntime) -> ExitCode {
-    let Ok(text) = io::read_to_string(rt.alloc(), rt.reader()) else {
-        return ExitCode::FAILURE;
+    match carry_out_words(&rt) {
+        Ok(outcomes) => end(&rt, &outcomes),
+        Err(error) => {
+            let _ = rt.eprintln(error);
+            ExitCode::FAILURE
+        }
+    }
+}
+
+// Prints what came of all that was asked for, and gives the exit code of the run.
+fn end<R: Print>(rt: &R, outcomes: &[Outcome]) -> ExitCode
+    ensures { exit_status result ≡ 0 → All CameAsItStands outcomes.now }
+{
+    for outcome in outcomes {
+        if print_outcome(rt, outcome).is_err() {
+            return ExitCode::FAILURE;
+        }
+    }
+    exit_code(outcomes)
+}
+
+// Carries out what the words of the command line name, or all subjects where there is none.
+fn carry_out_words(rt: &HostRuntime) -> io::Result<Vec<Outcome>> {
+    let texts = Texts::find(rt)?;
+    let mut words: Vec<String> = env::args(rt)?.skip(1).collect(rt.alloc())?;
+    if words.is_empty() {
+        words = texts.subjects()?;
+    }
+    let mut outcomes = Vec::new(rt.alloc());
+    for word in words {
+        let ended = carry_out_word(rt, &texts, &word);
+        outcomes.push(Outcome { word, ended })?;
+    }
+    Ok(outcomes)
+}
+
+// Carries out a subject, or a case of it, `SUBJECT/CASE`.
+fn carry_out_word(
+    rt: &HostRuntime,
+    texts: &Texts<'_, HostRuntime>,
+    word: &str,
+) -> Result<Vec<Step>, TextFault> {
+    let (subject, case) = match word.split_once('/') {
+        Some((subject, case)) => (subject, Some(case)),
+        None => (word, None),
     };
-    let Ok(folder) = Folder::create(&rt) else {
-        return ExitCode::FAILURE;
-    };
-    let mut told = String::new(rt.alloc());
-    let carried_out = cases::carry_out(rt.alloc(), &folder, &text, &mut told);
-    let removed = folder.remove();
-    let (Ok(()), Ok(())) = (carried_out, removed) else {
-        let _ = rt.print(&told);
-        return ExitCode::FAILURE;
-    };
-    tell_end(&rt, &text, &told).unwrap_or(ExitCode::FAILURE)
+    let text = texts.read(subject)?;
+    test_cases(rt.alloc(), &text)?;
+    let folder = Folder::create(rt)?;
+    let steps = cases::carry_out(rt.alloc(), &folder, &text, case);
+    folder.remove()?;
+    steps
+}
+
+// Prints the lines that came otherwise, and whether there is none.
+fn print_outcome<R: Print>(rt: &R, outcome: &Outcome) -> io::Result<()> {
+    let word = outcome.word.as_str();
+    match &outcome.ended {
+        Ok(steps) => print_others(rt, word, steps)?,
+        Err(fault) => println!(rt; "{word}: {fault}")?,
+    }
+    println!(rt; "{word}: {}", outcome.verdict())
+}
+
+// Prints the lines that came otherwise, each under the name of its case.
+fn print_others<R: Print>(rt: &R, word: &str, steps: &[Step]) -> io::Result<()> {
+    let mut case = "";
+    for step in steps {
+        if let Some(name) = step.line.strip_prefix("= ") {
+            case = name;
+        }
+        if let Some(first) = step.first_other_line() {
+            let slash = if case.is_empty() { "" } else { "/" };
+            println!(rt; "{word}{slash}{case}")?;
+            print_other(rt, step, first)?;
+        }
+    }
+    Ok(())
+}
+
+// Prints a line, and from the first one on that differs what has to come of it and what came.
+fn print_other<R: Print>(rt: &R, step: &Step, first: usize) -> io::Result<()> {
+    println!(rt; "{}", step.line)?;
+    for wanted in step.wanted.lines().skip(first) {
+        println!(rt; "- {wanted}")?;
+    }
+    for came in step.came.lines().skip(first) {
+        println!(rt; "+ {came}")?;
+    }
+    Ok(())
 }

@@ -1,6 +1,7 @@
 //! Calls that read an archive and keep a part of it.
 
 use crate::archives::{tell_record, text_of};
+use crate::devices::StrictSource;
 use crate::faults::{CaseFault, Ended};
 use crate::questions::tell_answers;
 use crate::tellings::tell_text;
@@ -8,7 +9,6 @@ use crate::words::first_word;
 use archive_core::{ArchKey, Archive, SliceKey};
 use archive_records::{RecordFault, Under, key_front, read_part};
 use archive_words::Word;
-use byte_device::Pieces;
 use memory::{Heap, NoMemory};
 use uuid::Uuid;
 
@@ -40,7 +40,7 @@ pub fn tell_part<A: Archive + Drop>(
     heap: Heap,
     picked: Picked,
     questions: &str,
-    source: &mut Pieces,
+    source: &mut StrictSource,
     told: &mut String,
 ) -> Ended {
     let part: A = read_picked(heap.clone()?, picked, source)?;
@@ -56,7 +56,7 @@ pub fn tell_part<A: Archive + Drop>(
 fn read_picked<A: Archive + Drop>(
     heap: Heap,
     picked: Picked,
-    source: &mut Pieces,
+    source: &mut StrictSource,
 ) -> Result<A, RecordFault> {
     match picked {
         Picked::OfUuid(uuid) => read_part(heap, &Under(uuid.as_bytes()), source),

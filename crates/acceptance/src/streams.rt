@@ -2,10 +2,11 @@
 
 ghost use Rattle.std.specs.Prelude.{◌≡◌, IfOk, IfSome};
 
+use crate::devices::{StrictSink, StrictSource};
 use crate::faults::Ended;
 use crate::tellings::tell_text;
 use byte_device::{Failed, Reading, Sink, Source, Writing};
-use memory::NoMemory;
+use memory::{Heap, NoMemory};
 use std::io::{self, Error, ErrorKind, Read, Write};
 
 /// How the second call of a stream ends, if otherwise than the others.
@@ -107,6 +108,20 @@ pub fn tell_writing(file: &[u8], failing: Failing, size: usize, told: &mut Strin
     }
     writeln!(told, "{} calls", writer.calls)?;
     Ok(tell_text(&writer.stream, told)?)
+}
+
+/// Tells what the devices of cases come to that are asked for a file, again, and for no byte, and that are given none.
+pub fn tell_asked(file: &[u8], told: &mut String) -> Ended {
+    let mut piece = [0u8; 8];
+    let mut source = StrictSource::new(file, usize::MAX, usize::MAX);
+    for _ in 0..CALLS {
+        tell_moved(source.pull(&mut piece), told)?;
+    }
+    let mut source = StrictSource::new(file, usize::MAX, usize::MAX);
+    tell_moved(source.pull(&mut piece[..0]), told)?;
+    let mut sink = StrictSink::new(Heap::new(*told.allocator())?, usize::MAX);
+    tell_moved(sink.push(&[]), told)?;
+    Ok(tell_moved(sink.push(file), told)?)
 }
 
 fn tell_moved(moved: Result<usize, Failed>, told: &mut String) -> Result<(), NoMemory> {

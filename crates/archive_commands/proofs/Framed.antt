@@ -30,7 +30,7 @@ use Rattle.archive_commands.specs.declared.faults.Status.{Status}
 use Rattle.archive_commands.specs.declared.faults.Status.TheVariants.{Done, Partial}
 use Rattle.archive_commands.specs.Ends.{EndsReport}
 use Rattle.archive_commands.specs.Frames.{IsFrameAnswered, TellsFrames, RefusesFrames}
-use Rattle.archive_commands.specs.InnerFrames.{AreLines, AreNumbered, AreTold, IsTold, asked_cmp}
+use Rattle.archive_commands.specs.InnerFrames.{AreLines, AreNumbered, AreTold, IsFrameTold, asked_cmp}
 use Rattle.archive_commands.specs.Inputs.{Reader, IsRefusal, IsRefusedFrames, IsUntouched, Unfailed, failures_of}
 use Rattle.archive_commands.specs.Outputs.{Writer, Takes}
 use Rattle.archive_commands.specs.Symbolicate.{Answered, asked_of, is_symbol, answers_text}
@@ -127,7 +127,7 @@ none_told content frames asked told text lines long many = record {
         (λ i. numbered (same i) (frame i))
 
 -- what was told stays where it stands while the text grows
-told_still : (content : Operations) (text more : List ℕ) (frame : Frame) (told : ToldFrame) → IsTold content text frame told → IsTold content (text ++ more) frame told
+told_still : (content : Operations) (text more : List ℕ) (frame : Frame) (told : ToldFrame) → IsFrameTold content text frame told → IsFrameTold content (text ++ more) frame told
 told_still content text more frame told is = record {
   row = is.row;
   answered = is.answered;
@@ -142,7 +142,7 @@ told_still content text more frame told is = record {
 
 -- what is told of one frame more stands behind it
 pub told_now : (content : Operations) (text grown : List ℕ) (frame : Frame) (answer : Answer) (told : ToldFrame) → IsAnswer content frame.key (asked_of frame.load frame.address) (answer_view answer) → grown ≡ text ++ answer_lines frame.address answer
-    → told.from ≡ length text → told.to ≡ length grown → told.is_symbol ≡ is_symbol answer → IsTold content grown frame told
+    → told.from ≡ length text → told.to ≡ length grown → told.is_symbol ≡ is_symbol answer → IsFrameTold content grown frame told
 told_now content text grown frame answer told is more from to symbol =
     let lines : List ℕ = answer_lines frame.address answer in
     let long : length grown ≡ length text + length lines = ap length more ∙ length-append text lines in
@@ -156,7 +156,7 @@ told_now content text grown frame answer told is more from to symbol =
     }
 
 module _ (content : Operations) (asked : List AskedFrame) (one : AskedFrame) (left : List AskedFrame) (count : ℕ) (told : List ToldFrame) (text : List ℕ) (are : AreTold content asked (one ∷ left) count told text)
-    (grown more : List ℕ) (grows : grown ≡ text ++ more) (now : ToldFrame) (is : IsTold content grown one.frame now) where
+    (grown more : List ℕ) (grows : grown ≡ text ++ more) (now : ToldFrame) (is : IsFrameTold content grown one.frame now) where
   is_there : Contains asked one
   is_there = are.of_asked one (in_front one left)
 
@@ -172,15 +172,15 @@ module _ (content : Operations) (asked : List AskedFrame) (one : AskedFrame) (le
       ∙ ap Some (get_or-set_other told one.line n now it other ∙ get_or_from_slice_get told n it it at)
 
   abbrev IsLeftOrTold : AskedFrame → Type 0
-  IsLeftOrTold it = Contains left it ⊎ ((t : ToldFrame) × (slice_get (set told one.line now) it.line ≡ Some t) × IsTold content grown it.frame t)
+  IsLeftOrTold it = Contains left it ⊎ ((t : ToldFrame) × (slice_get (set told one.line now) it.line ≡ Some t) × IsFrameTold content grown it.frame t)
 
   this_one : (it : AskedFrame) → it ≡ one → IsLeftOrTold it
   this_one it same = subst IsLeftOrTold (sym same) (inr (now, at_once, is))
 
-  told_before : (it : AskedFrame) → Contains asked it → (t : ToldFrame) → slice_get told it.line ≡ Some t → IsTold content text it.frame t → IsLeftOrTold it
+  told_before : (it : AskedFrame) → Contains asked it → (t : ToldFrame) → slice_get told it.line ≡ Some t → IsFrameTold content text it.frame t → IsLeftOrTold it
   told_before it there t at was = elim (cases_eq it.line one.line) [
     | inl same ↦ this_one it (are.once it one there is_there same)
-    | inr other ↦ inr (t, elsewhere it.line t other at, subst (λ (b : List ℕ). IsTold content b it.frame t) (sym grows) (told_still content text more it.frame t was))
+    | inr other ↦ inr (t, elsewhere it.line t other at, subst (λ (b : List ℕ). IsFrameTold content b it.frame t) (sym grows) (told_still content text more it.frame t was))
   ]
 
   each : (it : AskedFrame) → Contains asked it → IsLeftOrTold it
@@ -206,21 +206,21 @@ module _ (content : Operations) (asked : List AskedFrame) (one : AskedFrame) (le
 
 -- what was told of each
 pub told_each : (content : Operations) (frames : List Frame) (asked : List AskedFrame) (count : ℕ) (told : List ToldFrame) (text : List ℕ) → AreLines frames asked → AreTold content asked [] count told text
-    → (i : ℕ) (frame : Frame) → slice_get frames i ≡ Some frame → (it : ToldFrame) × (slice_get told i ≡ Some it) × IsTold content text frame it
+    → (i : ℕ) (frame : Frame) → slice_get frames i ≡ Some frame → (it : ToldFrame) × (slice_get told i ≡ Some it) × IsFrameTold content text frame it
 told_each content frames asked count told text lines are i frame at = elim (are.each (numbered i frame) ((lines (numbered i frame)).1 at)) [
   | inl c ↦ absurd (omega (arith, c.1))
   | inr it ↦ it
 ]
 
 along : (content : Operations) (text : List ℕ) (frames : List Frame) (told : List ToldFrame) → length told ≡ length frames
-    → ((i : ℕ) (frame : Frame) → slice_get frames i ≡ Some frame → (it : ToldFrame) × (slice_get told i ≡ Some it) × IsTold content text frame it)
-    → AllZip (IsTold content text) frames told
+    → ((i : ℕ) (frame : Frame) → slice_get frames i ≡ Some frame → (it : ToldFrame) × (slice_get told i ≡ Some it) × IsFrameTold content text frame it)
+    → AllZip (IsFrameTold content text) frames told
 along content text [] [] long each = tt
 along content text [] (it ∷ told) long each = absurd (omega (arith, long))
 along content text (frame ∷ frames) [] long each = absurd (omega (arith, long))
 along content text (frame ∷ frames) (it ∷ told) long each =
     let first = each 0 frame refl in (
-      subst (IsTold content text frame) (inside first.0 first.1) first.2,
+      subst (IsFrameTold content text frame) (inside first.0 first.1) first.2,
       along content text frames told (omega (arith, long)) (λ i. each (suc i)),
     )
   where
@@ -228,12 +228,12 @@ along content text (frame ∷ frames) (it ∷ told) long each =
     inside t e = cc
 
 pub all_told : (content : Operations) (frames : List Frame) (asked : List AskedFrame) (count : ℕ) (told : List ToldFrame) (text : List ℕ) → AreLines frames asked → count ≡ length frames → AreTold content asked [] count told text
-    → AllZip (IsTold content text) frames told
+    → AllZip (IsFrameTold content text) frames told
 all_told content frames asked count told text lines many are = along content text frames told (are.long ∙ many) (told_each content frames asked count told text lines are)
 
 -- where no frame is left
 pub told_to_the_end : (content : Operations) (frames : List Frame) (asked left : List AskedFrame) (count : ℕ) (told : List ToldFrame) (text : List ℕ) → AreLines frames asked → count ≡ length frames → map key_of_asked left ≡ []
-    → AreTold content asked left count told text → AllZip (IsTold content text) frames told
+    → AreTold content asked left count told text → AllZip (IsFrameTold content text) frames told
 told_to_the_end content frames asked left count told text lines many none are = all_told content frames asked count told text lines many (subst (λ (l : List AskedFrame). AreTold content asked l count told text) (nothing left none) are)
   where
     nothing : (l : List AskedFrame) → map key_of_asked l ≡ [] → l ≡ []
@@ -241,7 +241,7 @@ told_to_the_end content frames asked left count told text lines many none are = 
     nothing (one ∷ l) e = cc
 
 -- so each piece of the text is there
-pub pieces : (content : Operations) (text : List ℕ) (frames : List Frame) (told : List ToldFrame) → AllZip (IsTold content text) frames told → AllByRecursion (λ (it : ToldFrame). (it.from ≤ it.to) × (it.to ≤ length text)) told
+pub pieces : (content : Operations) (text : List ℕ) (frames : List Frame) (told : List ToldFrame) → AllZip (IsFrameTold content text) frames told → AllByRecursion (λ (it : ToldFrame). (it.from ≤ it.to) × (it.to ≤ length text)) told
 pieces content text [] [] are = tt
 pieces content text [] (it ∷ told) are = absurd are
 pieces content text (frame ∷ frames) [] are = absurd are
@@ -254,7 +254,7 @@ record AreRows (content : Operations) (text : List ℕ) (frames : List Frame) (t
   symbols_are : list_all (λ (it : ToldFrame). it.is_symbol) told ≡ list_all (λ (row : Answered). is_symbol row.answer) rows
   lines_are : flat_map (λ (it : ToldFrame). slice_range text it.from it.to) told ≡ answers_text rows
 
-rows_of : (content : Operations) (text : List ℕ) (frames : List Frame) (told : List ToldFrame) → AllZip (IsTold content text) frames told → AreRows content text frames told
+rows_of : (content : Operations) (text : List ℕ) (frames : List Frame) (told : List ToldFrame) → AllZip (IsFrameTold content text) frames told → AreRows content text frames told
 rows_of content text [] [] are = record { rows = []; answered = tt; symbols_are = refl; lines_are = refl }
 rows_of content text [] (it ∷ told) are = absurd are
 rows_of content text (frame ∷ frames) [] are = absurd are
@@ -268,7 +268,7 @@ rows_of content text (frame ∷ frames) (it ∷ told) are =
       lines_are = (λ i. first.lines_are i ++ behind.lines_are i);
     }
 
-pub frames_told : (content : Operations) (text : List ℕ) (frames : List Frame) (told : List ToldFrame) (status : Status) (lines : List ℕ) → AllZip (IsTold content text) frames told
+pub frames_told : (content : Operations) (text : List ℕ) (frames : List Frame) (told : List ToldFrame) (status : Status) (lines : List ℕ) → AllZip (IsFrameTold content text) frames told
     → status ≡ (if list_all (λ (it : ToldFrame). it.is_symbol) told then Done else Partial) → lines ≡ flat_map (λ (it : ToldFrame). slice_range text it.from it.to) told
     → TellsFrames content frames status lines
 frames_told content text frames told status lines are status_is lines_are =

@@ -19,17 +19,17 @@ use Rattle.archive_commands.specs.declared.faults.Why.{Why}
 use Rattle.archive_commands.specs.Ends.{Ends, MakesArchive}
 use Rattle.archive_commands.specs.Inputs.{Reader, reader, Unfailed, EachUnfailed, IsDeviceFault, failures_of, IsGivenArchive}
 use Rattle.archive_commands.specs.Merge.{MakesMerged, merge}
-use Rattle.archive_commands.specs.MergeStreams.{EndsStreamed, EndsOfOne, EndsMerge, IsSide, IsTold}
+use Rattle.archive_commands.specs.MergeStreams.{EndsStreamed, EndsOfOne, EndsMerge, IsSide, IsStopped, IsMergeFaultTold}
 use Rattle.archive_commands.specs.Outputs.{Writer, writer, Takes, FailsBehind, Reports, report_of, sizes_of}
 use Rattle.archive_commands.proofs.Accepted.{by_device}
 
 module _ {R S W : Type 0} (left : Stream R) (right : Stream S) (out : Stream W) (report : Writer) where
   -- the merge was stopped
-  pub stopped : (e : MergeFault) (fault : CommandFault) → Merges left right out (Err e) → IsTold e fault → Takes report [] → EndsStreamed left right out report (Err fault)
-  stopped e (Input at why) m t r = (e, m, t, r)
-  stopped e (Output n) m t r = (e, m, t, r)
-  stopped e (Report n) m t r = absurd t
-  stopped e OutOfMemory m t r = inl (e, m, t, r)
+  pub stopped : (e : MergeFault) (fault : CommandFault) → IsStopped left right out report e → IsMergeFaultTold e fault → EndsStreamed left right out report (Err fault)
+  stopped e (Input at why) s t = (e, s, t)
+  stopped e (Output n) s t = (e, s, t)
+  stopped e (Report n) s t = absurd t
+  stopped e OutOfMemory s t = inl (e, s, t)
 
   -- it was done, and its sizes are told
   pub done : (sizes : Sizes) (text : List ℕ) (result : Result Status CommandFault) → text ≡ archive_line sizes → Merges left right out (Ok sizes) → Reports report Done text result → EndsStreamed left right out report result
@@ -139,6 +139,6 @@ device_side left right out o p at why Write n t u co cp is_o is_p go gp s told =
 module _ {R S W : Type 0} (left : R → Option (List ℕ)) (failures : R → ℕ) (left2 : S → Option (List ℕ)) (failures2 : S → ℕ) (new : Result R CannotOpen) (new2 : Result S CannotOpen) (out : Stream W) (report : Writer) where
   pub one_device : (old : Result R CannotOpen) (old2 : Result S CannotOpen) (o p : Operations) (at : Place) (why : Why) → IsContent o → IsContent p → IsGivenArchive (reader left failures old new) o → IsGivenArchive (reader left2 failures2 old2 new2) p
       → EndsOfOne (reader left failures old new) (reader left2 failures2 old2 new2) out report (Err (Input at why)) → IsDeviceFault why
-  one_device (Ok l) (Ok r) o p at why co cp go gp e = device_side (stream left failures l e.0) (stream left2 failures2 r e.1) out o p at why e.4.0.cause e.4.0.written go.0 gp.0 co cp go.1 gp.1 go.2 gp.2 e.4.1.0 e.4.2
+  one_device (Ok l) (Ok r) o p at why co cp go gp e = device_side (stream left failures l e.0) (stream left2 failures2 r e.1) out o p at why e.4.0.cause e.4.0.written go.0 gp.0 co cp go.1 gp.1 go.2 gp.2 e.4.1.0.0 e.4.2
   one_device (Ok l) (Err x) o p at why co cp go gp e = absurd gp.2
   one_device (Err x) old2 o p at why co cp go gp e = absurd go.2

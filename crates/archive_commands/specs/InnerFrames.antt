@@ -25,10 +25,11 @@ AreLines frames asked = (one : AskedFrame) → Contains asked one ↔ (slice_get
 -- the order in which frames are asked: by key, and under one key by address
 abbrev pub asked_cmp : AskedFrame → AskedFrame → Ordering
 asked_cmp a b =
-    ordering_then (slice_cmp nat_cmp (key_bytes a.frame.key) (key_bytes b.frame.key)) (nat_cmp a.frame.address b.frame.address)
+    ordering_then (slice_cmp nat_cmp (key_bytes a.frame.key) (key_bytes b.frame.key))
+    (nat_cmp a.frame.address b.frame.address)
 
 -- What was told of a frame is what the content tells of it.
-pub record IsTold (content : Operations) (text : List ℕ) (frame : Frame) (told : ToldFrame) : Type 0 where
+pub record IsFrameTold (content : Operations) (text : List ℕ) (frame : Frame) (told : ToldFrame) : Type 0 where
   pub row : Answered
   pub answered : IsFrameAnswered content frame row
   pub begins : told.from ≤ told.to
@@ -46,4 +47,4 @@ pub record AreTold (content : Operations) (asked left : List AskedFrame) (count 
   pub of_asked : (one : AskedFrame) → Contains left one → Contains asked one
   pub each : (one : AskedFrame) → Contains asked one
       → Contains left one
-      ⊎ ((it : ToldFrame) × (slice_get told one.line ≡ Some it) × IsTold content text one.frame it)
+      ⊎ ((it : ToldFrame) × (slice_get told one.line ≡ Some it) × IsFrameTold content text one.frame it)

@@ -6,7 +6,7 @@ use Rattle.archive_records.specs.declared.fault.MergeCause.TheVariants.{Left, Ri
 use Rattle.archive_records.specs.declared.fault.MergeFault.{MergeFault}
 use Rattle.archive_records.specs.declared.fault.RecordFaultKind.TheVariants.{OutOfMemory as RecordOutOfMemory}
 use Rattle.archive_records.specs.declared.writing.Sizes.{Sizes}
-use Rattle.archive_records.specs.Merging.{Stream, stream, Gains, IsUnfailed, Merges}
+use Rattle.archive_records.specs.Merging.{Stream, stream, Gains, GainsCount, IsUnfailed, Merges}
 use Rattle.archive_commands.specs.declared.faults.CommandFault.{CommandFault}
 use Rattle.archive_commands.specs.declared.faults.CommandFault.TheVariants.{Input, Output, Report, OutOfMemory}
 use Rattle.archive_commands.specs.declared.faults.Place.{Place}
@@ -33,14 +33,19 @@ WantsMemory (Right fault) = fault.kind ≡ RecordOutOfMemory
 WantsMemory Write = ⊥
 
 -- what is told where this stopped the merge
-abbrev pub IsTold : MergeFault → CommandFault → Type 0
-IsTold e (Input at why) = IsSide e.cause at why
-IsTold e (Output n) = e ≡ record { cause = Write; written = n }
-IsTold e (Report n) = ⊥
-IsTold e OutOfMemory = WantsMemory e.cause
+abbrev pub IsMergeFaultTold : MergeFault → CommandFault → Type 0
+IsMergeFaultTold e (Input at why) = IsSide e.cause at why
+IsMergeFaultTold e (Output n) = e ≡ record { cause = Write; written = n }
+IsMergeFaultTold e (Report n) = ⊥
+IsMergeFaultTold e OutOfMemory = WantsMemory e.cause
 
--- How the command ends with both inputs opened: they are merged, and when that is done the sizes are reported. Where a
--- side, the writer or memory stopped the merge, OUT has what the merge leaves, and the report nothing.
+-- The merge was stopped with this fault: OUT has what the merge leaves, as many bytes as the fault says, and the report
+-- nothing.
+abbrev pub IsStopped : {R S W : Type 0} → Stream R → Stream S → Stream W → Writer → MergeFault → Type 0
+IsStopped left right out report e = Merges left right out (Err e) × GainsCount out e.written × Takes report []
+
+-- How the command ends with both inputs opened: they are merged, and when that is done the sizes are reported; or a
+-- side, the writer or memory stopped the merge.
 abbrev pub EndsStreamed : {R S W : Type 0} → Stream R → Stream S → Stream W → Writer → Result Status CommandFault
     → Type 0
 EndsStreamed left right out report (Ok status) =
@@ -48,11 +53,11 @@ EndsStreamed left right out report (Ok status) =
 EndsStreamed left right out report (Err (Report n)) =
     (sizes : Sizes) × Merges left right out (Ok sizes) × FailsBehind report (archive_line sizes) n
 EndsStreamed left right out report (Err (Input at why)) =
-    (e : MergeFault) × Merges left right out (Err e) × IsTold e (Input at why) × Takes report []
+    (e : MergeFault) × IsStopped left right out report e × IsMergeFaultTold e (Input at why)
 EndsStreamed left right out report (Err (Output n)) =
-    (e : MergeFault) × Merges left right out (Err e) × IsTold e (Output n) × Takes report []
+    (e : MergeFault) × IsStopped left right out report e × IsMergeFaultTold e (Output n)
 EndsStreamed left right out report (Err OutOfMemory) =
-    ((e : MergeFault) × Merges left right out (Err e) × IsTold e OutOfMemory × Takes report [])
+    ((e : MergeFault) × IsStopped left right out report e × IsMergeFaultTold e OutOfMemory)
     ⊎ ((sizes : Sizes) × Merges left right out (Ok sizes) × Takes report [])
 
 -- This input was not opened: nothing was read, and nothing written.

@@ -21,7 +21,7 @@ use memory::{Heap, NoMemory};
 use report_text::{AdmitRow, admit_lines};
 
 /// The refusal of the file of this number, whose bytes have this fault.
-fn refusal(index: u64, fault: TakeFault) -> CommandFault
+fn refusal_of_file(index: u64, fault: TakeFault) -> CommandFault
     ensures refused { (bytes : List ℕ) → IsTakeFault bytes fault
         → IsRefusal (IsRefusedBytes index bytes) (Unit {0}) result }
 {
@@ -44,7 +44,7 @@ fn take_bytes<A: Archive>(
 {
     match take_file(archive, bytes) {
         Ok(taken) => Ok(taken),
-        Err(fault) => Err(refusal(index, fault)),
+        Err(fault) => Err(refusal_of_file(index, fault)),
     }
 }
 

@@ -7,7 +7,7 @@ ghost use Rattle.archive_commands.specs.Inputs.{EachUnfailed, IsArchive, IsArchi
 ghost use Rattle.archive_commands.specs.Inputs.{HoldsArchive};
 ghost use Rattle.archive_commands.specs.Inputs.{IsRefusal, IsRefusedArchive, Unfailed, reader, readers};
 ghost use Rattle.archive_commands.specs.Merge.{HasJoined, file_place, merge};
-ghost use Rattle.archive_commands.specs.MergeStreams.{EndsMerge, EndsOfOne, EndsStreamed, IsTold};
+ghost use Rattle.archive_commands.specs.MergeStreams.{EndsMerge, EndsOfOne, EndsStreamed, IsMergeFaultTold};
 ghost use Rattle.archive_commands.specs.Outputs.{writer};
 ghost use Rattle.archive_records.specs.Merging.{stream};
 
@@ -79,7 +79,7 @@ fn merge_values<A: Archive + Drop, R: Source, S: Source, W: Sink, P: Sink>(
 
 /// What is told where this stopped a merge, IN being archive 0 and the file archive 1.
 fn command_fault_of(fault: MergeFault) -> CommandFault
-    ensures { IsTold fault result }
+    ensures { IsMergeFaultTold fault result }
 {
     match fault.cause {
         MergeCause::Left(why) => refusal(Place::Archive(0), why),

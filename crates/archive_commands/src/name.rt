@@ -37,7 +37,7 @@ fn read_name_rows<R: Source>(
 }
 
 /// How a search ends that gave these rows.
-fn status_of(rows: &[OwnedNameRow]) -> Status
+fn status_of_names(rows: &[OwnedNameRow]) -> Status
     ensures { result ≡ name_status (map owned_name_view rows.now) }
 {
     if rows.is_empty() {
@@ -66,5 +66,5 @@ pub fn run_name<R: Source, P: Sink>(
 {
     let rows = read_name_rows(heap.clone()?, sought, archive)?;
     let text = name_lines(heap, &rows)?;
-    publish_report(status_of(&rows), &text, report)
+    publish_report(status_of_names(&rows), &text, report)
 }

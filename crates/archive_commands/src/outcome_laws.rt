@@ -18,8 +18,8 @@ ghost use Rattle.archive_commands.specs.Summary.{summary};
 use archive_records::laws::{one_list_of_operations, one_summary};
 use byte_device::Source;
 
-/// Where archives of one content, of whichever version, and files of the same bytes are given, a command makes one OUT and
-/// one report of them, wherever they come from.
+/// Where archives of one content, of whichever version, and files of the same bytes are given, a command makes one OUT
+/// and one report of them, wherever they come from.
 pub fn one_outcome<Q: Source, R: Source, S: Source, T: Source>()
     ensures admit { (input : Reader Q) (other : Reader R) (files : List (Reader S)) (others : List (Reader T))
         (o : Operations) (texts : List (List ℕ))

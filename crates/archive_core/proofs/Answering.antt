@@ -28,7 +28,7 @@ use Rattle.archive_core.proofs.Scanned.{in_cons, in_front, in_rest}
 use Rattle.std.specs.Int.{w64, to_be_bytes}
 
 arch_total : IsTotalOrder arch_cmp
-arch_total = then_total (on_total (λ arch. arch.cputype) nat_cmp_total) (on_total (λ arch. arch.subtype) nat_cmp_total)
+arch_total = then_total (on_total (λ arch. arch.cputype) nat_cmp_total) (on_total (λ arch. arch.cpusubtype) nat_cmp_total)
 
 pub both : (a b : Bool) → (a && b) ≡ true → (a ≡ true) × (b ≡ true)
 both true b h = (refl, h)
@@ -41,13 +41,13 @@ and_false false = refl
 -- the test of architectures decides whether they are one
 pub one_arch : (a b : ArchKey) → is_arch a b ≡ true → a ≡ b
 one_arch a b h =
-    let parts = both (a.cputype == b.cputype) (a.subtype == b.subtype) h in
+    let parts = both (a.cputype == b.cputype) (a.cpusubtype == b.cpusubtype) h in
     let cputype = (Decides-eqb a.cputype b.cputype).0 parts.0 in
-    let subtype = (Decides-eqb a.subtype b.subtype).0 parts.1 in
-    λ i. record { cputype = cputype i; subtype = subtype i }
+    let cpusubtype = (Decides-eqb a.cpusubtype b.cpusubtype).0 parts.1 in
+    λ i. record { cputype = cputype i; cpusubtype = cpusubtype i }
 
 pub is_arch_of : (a b : ArchKey) → a ≡ b → is_arch a b ≡ true
-is_arch_of a b e = λ i. (Decides-eqb a.cputype b.cputype).1 (ap (λ k. k.cputype) e) i && (Decides-eqb a.subtype b.subtype).1 (ap (λ k. k.subtype) e) i
+is_arch_of a b e = λ i. (Decides-eqb a.cputype b.cputype).1 (ap (λ k. k.cputype) e) i && (Decides-eqb a.cpusubtype b.cpusubtype).1 (ap (λ k. k.cpusubtype) e) i
 
 -- companions, or the other slices
 kind : Bool → List ℕ → Bool

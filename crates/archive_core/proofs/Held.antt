@@ -70,10 +70,6 @@ content_with o next operation content one is = rw is (record { itself = made_aga
           | false ↦ λ _ rest. content.records r rest
         ] refl (sym (contains-insert nat_list_cmp_total o (record_bytes operation) r) ∙ h)
 
--- and no operations are a content
-pub content_none : IsContent set.empty
-content_none = record { itself = made_empty; records = λ r h. absurd (true≢false (sym h ∙ contains-empty (slice_cmp nat_cmp) r)) }
-
 -- no operations are held in order
 pub held_none : IsHeld []
 unfolding IsStrictlySortedBy

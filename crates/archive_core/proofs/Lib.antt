@@ -14,8 +14,10 @@ pub mod Put
 pub mod Words
 pub mod Summaries
 pub mod Beginnings
+pub mod Members
 pub mod Naming
 pub mod Listed
+pub mod Answerers
 pub mod Parts
 pub mod Picked
 pub mod Falling

@@ -1,35 +1,40 @@
 -- What a list of all tells, made of the records of an archive, and what a search tells as a part of it.
-use Rattle.std.proofs.Common.{◌≡◌, ◌<◌, ℕ, Bool, true, false, cond, List, [], ◌∷◌, length, map, filter, slice_index_or, get_or, refl, sym, ap, ◌∙◌, arith, subst}
+use Rattle.std.proofs.Common.{◌≡◌, ◌<◌, ℕ, Bool, true, false, cond, List, [], ◌∷◌, ◌++◌, length, map, filter, slice_index_or, get_or, refl, sym, ap, ◌∙◌, arith, subst}
 use Rattle.std.specs.declared.cmp.Ordering.TheVariants.{Less, Equal}
 use Rattle.std.specs.Ordering.{nat_cmp, on, ordering_then, eq_by_cmp}
 use Rattle.std.specs.Cmp.{IsTotalOrder, tied_itself, then_total}
 use Rattle.std.specs.Cmp.Lexicographic.{slice_cmp, nat_list_cmp_total, on_texts}
+use Rattle.std.specs.Int.{w64, to_be_bytes}
 use Rattle.std.specs.List.{AllByRecursion, Contains}
 use Rattle.std.specs.List.Sorted.{IsSorted, IsStrictlySortedBy, IsPermutation}
 use Rattle.std.specs.FinSet as set
-use Rattle.std.specs.FinSet.{from_list, contains}
+use Rattle.std.specs.FinSet.{from_list, contains, nat_cmp-IsAntisymmetric}
 use Rattle.std.specs.Str.{bytes_eq}
 use Rattle.std.proofs.Math.ListN.{length-map}
 use Rattle.std.proofs.lemmas.List.{get_or-map}
-use Rattle.std.proofs.lemmas.List.Elements.{All-from_recursion, All-get_or}
+use Rattle.std.proofs.lemmas.List.Elements.{All-from_recursion, All-get_or, All-contains}
 use Rattle.std.proofs.lemmas.List.Kept.{IsStrictlySortedBy-filter}
 use Rattle.std.proofs.lemmas.Slice.Eq.{bytes_eq-Decides}
 use Rattle.join_core.specs.Listing.{listing}
 use Rattle.join_core.proofs.Listing.{listed, listing_ascending}
 use Rattle.join_core.proofs.Merge.{along_members}
 use Rattle.join_core.proofs.Place.{len_listed}
-use Rattle.archive_core.specs.Record.{record_bytes, IsOperation, IsRecord}
+use Rattle.macho_symbols.proofs.Order.{both_equal}
+use Rattle.archive_core.specs.Key.{key_bytes}
+use Rattle.archive_core.specs.Valid.{key_of}
+use Rattle.archive_core.specs.Record.{admission, record_bytes, IsOperation, IsRecord}
 use Rattle.archive_core.specs.Content.{Operations, IsContent}
-use Rattle.archive_core.specs.Find.{key_in, find_cmp, row_of, IsFoundUnder, IsFinds}
+use Rattle.archive_core.specs.Find.{key_in, arch_cmp, find_cmp, row_of, IsFoundUnder, IsFinds}
 use Rattle.archive_core.specs.Lists.{list_cmp, IsListed, IsList, rows_under}
 use Rattle.archive_core.specs.InnerHeld.{IsHeld}
 use Rattle.archive_core.specs.declared.find.FindRow.{FindRow}
 use Rattle.archive_core.specs.declared.operations.Operation.{Operation}
 use Rattle.archive_core.specs.declared.operations.Operation.TheVariants.{Admit, Retire}
-use Rattle.archive_core.proofs.Records.{one_operation, operation_of_record}
+use Rattle.archive_core.proofs.Records.{same_parts, one_operation, operation_of_record}
 use Rattle.archive_core.proofs.Held.{bytes_same}
 use Rattle.archive_core.proofs.Words.{live_in_content}
-use Rattle.archive_core.proofs.Scanned.{find_total, untied, untied_records, told_sorted, in_filter, to_filter, one_with_members}
+use Rattle.archive_core.proofs.Scanned.{find_total, untied, untied_records, told_sorted, in_filter, to_filter, one_with_members, record_there, operation_there}
+use Rattle.archive_core.proofs.Members.{in_order}
 
 -- records are those of operations
 operations_of : (rs : List (List ℕ)) → AllByRecursion IsRecord rs → (operations : List Operation) × AllByRecursion IsOperation operations × (map record_bytes operations ≡ rs)
@@ -66,6 +71,43 @@ list_total = then_total (on_texts (λ operation. (key_in operation).uuid)) find_
 untied_in_list : (a b : Operation) → eq_by_cmp (on record_bytes (slice_cmp nat_cmp)) a b ≡ false → eq_by_cmp list_cmp a b ≡ false
 untied_in_list a b h = untied (slice_cmp nat_cmp (key_in a).uuid (key_in b).uuid) (find_cmp a b) (untied_records a b h)
 
+-- operations under one key that have one record are one
+one_under : (a b : Operation) → key_in a ≡ key_in b → record_bytes a ≡ record_bytes b → a ≡ b
+unfolding admission
+one_under (Admit s) (Admit t) key e =
+    let behind_key = (same_parts (key_bytes (key_of s)) (key_bytes (key_of t)) (to_be_bytes w64 (length s) ++ s) (to_be_bytes w64 (length t) ++ t) (ap (λ k. length (key_bytes k)) key) (behind_tag e)).1 in
+    ap Admit (same_parts (to_be_bytes w64 (length s)) (to_be_bytes w64 (length t)) s t refl behind_key).1
+  where
+    behind_tag : 2 ∷ admission s ≡ 2 ∷ admission t → admission s ≡ admission t
+    behind_tag h = cc
+one_under (Admit s) (Retire l d) key e = absurd (apart e)
+  where
+    apart : 2 ∷ admission s ≡ 1 ∷ (key_bytes l ++ d.0) → ⊥
+    apart h = cc
+one_under (Retire k c) (Admit t) key e = absurd (apart e)
+  where
+    apart : 1 ∷ (key_bytes k ++ c.0) ≡ 2 ∷ admission t → ⊥
+    apart h = cc
+one_under (Retire k c) (Retire l d) key e =
+    let digest = (same_parts (key_bytes k) (key_bytes l) c.0 d.0 (ap (λ x. length (key_bytes x)) key) (behind_tag e)).1 in
+    λ i. Retire (key i) (record { 0 = digest i })
+  where
+    behind_tag : 1 ∷ (key_bytes k ++ c.0) ≡ 1 ∷ (key_bytes l ++ d.0) → key_bytes k ++ c.0 ≡ key_bytes l ++ d.0
+    behind_tag h = cc
+
+-- so are those that the order of a list ties
+operations_same : (a b : Operation) → list_cmp a b ≡ Equal → a ≡ b
+operations_same a b h =
+    let k = key_in a in
+    let l = key_in b in
+    let parts = both_equal (slice_cmp nat_cmp k.uuid l.uuid) (find_cmp a b) h in
+    let rest = both_equal (arch_cmp k.arch l.arch) (slice_cmp nat_cmp (record_bytes a) (record_bytes b)) parts.1 in
+    let arch = both_equal (nat_cmp k.arch.cputype l.arch.cputype) (nat_cmp k.arch.cpusubtype l.arch.cpusubtype) rest.0 in
+    let uuid = bytes_same k.uuid l.uuid parts.0 in
+    let cputype = nat_cmp-IsAntisymmetric k.arch.cputype l.arch.cputype arch.0 in
+    let cpusubtype = nat_cmp-IsAntisymmetric k.arch.cpusubtype l.arch.cpusubtype arch.1 in
+    one_under a b (λ i. record { uuid = uuid i; arch = record { cputype = cputype i; cpusubtype = cpusubtype i } }) (bytes_same (record_bytes a) (record_bytes b) rest.1)
+
 -- what a content has is listed
 listed_of_content : (o : Operations) (a : Operation) → IsContent o → IsOperation a → contains o (record_bytes a) ≡ true → IsListed o a
 listed_of_content o (Admit slice) content valid there = (refl, live_in_content o slice content valid there)
@@ -85,6 +127,27 @@ pub list_sorted : (o : Operations) (operations told : List Operation) → IsCont
 list_sorted o operations told content held is permuted sorted =
     let are = told_sorted o list_cmp list_total untied_in_list (λ a. true) (IsListed o) (λ a one there _. listed_of_content o a content one there) (content_of_listed o) operations told held is (subst (λ l. IsPermutation l told) (sym (all_pass operations)) permuted) sorted in
     record { operations = told; ascending = are.ascending; exactly = are.exactly; rows_are = refl }
+
+-- each content has a list
+pub some_list : (o : Operations) → IsContent o → (rows : List FindRow) × IsList o rows
+some_list o content =
+    let held = held_of o content in
+    let among = in_order list_total operations_same held.0 in
+    let told = from_list {R = list_cmp} held.0 in (
+      map row_of (listing told),
+      record {
+        operations = listing told;
+        ascending = (listed list_total operations_same told).ascending;
+        exactly = λ a. (
+          λ h.
+              let there = (among a).0 h in
+              let is = All-contains IsOperation held.0 a (All-from_recursion IsOperation held.0 held.1.are) there in
+              (is, listed_of_content o a content is (ap (λ s. contains s (record_bytes a)) (sym held.2) ∙ record_there held.0 a there)),
+          λ h. (among a).1 (operation_there held.0 a held.1.are h.0 (ap (λ s. contains s (record_bytes a)) held.2 ∙ (content_of_listed o a h.1).0)),
+        );
+        rows_are = refl;
+      },
+    )
 
 -- a content has one list
 pub one_list_of_all : (o : Operations) (rows others : List FindRow) → IsList o rows → IsList o others → rows ≡ others
@@ -157,3 +220,7 @@ part_of_list o uuid rows list = record {
     back a h =
         let is = found_under o uuid a h.1 in
         to_filter (under uuid) list.operations a ((list.exactly a).1 (h.0, subst (λ u. IsFoundUnder o u a) (sym is) h.1)) ((bytes_eq-Decides (key_in a).uuid uuid).1 is)
+
+-- so each content has rows under each UUID
+pub some_finds : (o : Operations) (uuid : List ℕ) → IsContent o → (rows : List FindRow) × IsFinds o uuid rows
+some_finds o uuid content = let list = some_list o content in (rows_under uuid list.0, part_of_list o uuid list.0 list.1)

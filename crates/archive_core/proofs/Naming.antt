@@ -15,6 +15,8 @@ use Rattle.std.proofs.lemmas.Cmp.{eq_by_cmp_equiv}
 use Rattle.std.proofs.lemmas.Grind.{flat_map-append}
 use Rattle.std.proofs.lemmas.List.{append-nil}
 use Rattle.std.proofs.Math.Seq.{take-suc}
+use Rattle.join_core.specs.Listing.{listing}
+use Rattle.join_core.proofs.Listing.{listed}
 use Rattle.macho_symbols.proofs.Order.{both_equal}
 use Rattle.macho_symbols.specs.Found.{named}
 use Rattle.archive_core.specs.Record.{record_bytes, admission_record, IsOperation}
@@ -31,10 +33,12 @@ use Rattle.archive_core.proofs.Held.{bytes_same}
 use Rattle.archive_core.proofs.Held.{content_of_held}
 use Rattle.archive_core.proofs.Words.{live_in_content}
 use Rattle.archive_core.proofs.Scanned.{in_cons, in_front, in_rest, one_with_members, record_there, operation_there}
+use Rattle.archive_core.proofs.Listed.{held_of}
+use Rattle.archive_core.proofs.Members.{in_order}
 
 -- the order of rows is a total order
 key_total : IsTotalOrder key_cmp
-key_total = then_total (on_texts (λ key. key.uuid)) (on_total (λ key. key.arch) (then_total (on_total (λ arch. arch.cputype) nat_cmp_total) (on_total (λ arch. arch.subtype) nat_cmp_total)))
+key_total = then_total (on_texts (λ key. key.uuid)) (on_total (λ key. key.arch) (then_total (on_total (λ arch. arch.cputype) nat_cmp_total) (on_total (λ arch. arch.cpusubtype) nat_cmp_total)))
 
 place_total : IsTotalOrder place_cmp
 place_total = then_total (on_total (λ row. row.address) nat_cmp_total) (then_total (on_total (λ row. row.sect) nat_cmp_total) (then_total (on_texts (λ row. row.segment)) (on_texts (λ row. row.section))))
@@ -48,20 +52,20 @@ rows_same a b h =
     let halves = both_equal (ordering_then (key_cmp a.key b.key) (slice_cmp nat_cmp a.digest b.digest)) (place_cmp a b) h in
     let slices = both_equal (key_cmp a.key b.key) (slice_cmp nat_cmp a.digest b.digest) halves.0 in
     let key = both_equal (slice_cmp nat_cmp a.key.uuid b.key.uuid) (arch_cmp a.key.arch b.key.arch) slices.0 in
-    let arch = both_equal (nat_cmp a.key.arch.cputype b.key.arch.cputype) (nat_cmp a.key.arch.subtype b.key.arch.subtype) key.1 in
+    let arch = both_equal (nat_cmp a.key.arch.cputype b.key.arch.cputype) (nat_cmp a.key.arch.cpusubtype b.key.arch.cpusubtype) key.1 in
     let names = both_equal (slice_cmp nat_cmp a.segment b.segment) (slice_cmp nat_cmp a.section b.section) in
     let sects = both_equal (nat_cmp a.sect b.sect) (ordering_then (slice_cmp nat_cmp a.segment b.segment) (slice_cmp nat_cmp a.section b.section)) in
     let addresses = both_equal (nat_cmp a.address b.address) (ordering_then (nat_cmp a.sect b.sect) (ordering_then (slice_cmp nat_cmp a.segment b.segment) (slice_cmp nat_cmp a.section b.section))) halves.1 in
     let uuid = bytes_same a.key.uuid b.key.uuid key.0 in
     let cputype = nat_cmp-IsAntisymmetric a.key.arch.cputype b.key.arch.cputype arch.0 in
-    let subtype = nat_cmp-IsAntisymmetric a.key.arch.subtype b.key.arch.subtype arch.1 in
+    let cpusubtype = nat_cmp-IsAntisymmetric a.key.arch.cpusubtype b.key.arch.cpusubtype arch.1 in
     let digest = bytes_same a.digest b.digest slices.1 in
     let address = nat_cmp-IsAntisymmetric a.address b.address addresses.0 in
     let sect = nat_cmp-IsAntisymmetric a.sect b.sect (sects addresses.1).0 in
     let segment = bytes_same a.segment b.segment (names (sects addresses.1).1).0 in
     let section = bytes_same a.section b.section (names (sects addresses.1).1).1 in
     λ i. record {
-      key = record { uuid = uuid i; arch = record { cputype = cputype i; subtype = subtype i } };
+      key = record { uuid = uuid i; arch = record { cputype = cputype i; cpusubtype = cpusubtype i } };
       digest = digest i;
       address = address i;
       sect = sect i;
@@ -109,10 +113,6 @@ module _ {X Y : Type 0} where
       each : (ys : List X) → AllByRecursion (λ y. R (f x) (f y) ≡ Less) ys → AllByRecursion (λ k. R (f x) k ≡ Less) (map f ys)
       each [] g = tt
       each (y ∷ ys) g = (g.0, each ys g.1)
-
--- rows by their values
-row_cmp : NameRow → NameRow → Ordering
-row_cmp = on name_view name_cmp
 
 -- rows in order, each once
 pub record AreOrdered (old new : List NameRow) : Type 0 where
@@ -201,3 +201,11 @@ names_put o name operations held is old new gathered ascending same = record {
         λ h. (same row).1 (subst (λ l. Contains l row) (sym gathered) (scanned.1 h)),
       );
 }
+
+-- each content has rows of each name
+pub some_names : (o : Operations) (name : List ℕ) → IsContent o → (rows : List NameRecord) × IsNames o name rows
+some_names o name content =
+    let held = held_of o content in
+    let gathered = names_among name held.0 in
+    let told = from_list {R = name_cmp} gathered in
+    (listing told, names_put o name held.0 held.1 held.2 gathered (listing told) refl (listed name_total rows_same told).ascending (in_order name_total rows_same gathered))

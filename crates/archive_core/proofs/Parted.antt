@@ -159,13 +159,6 @@ admission_passed old all rest admissions retirements seen x parting a there =
     parting.beside
 
 -- so is a retirement that came before
-insert_there : (o : Operations) (r : List ℕ) → contains o r ≡ true → (q : List ℕ) → contains (set.insert o r) q ≡ contains o q
-insert_there o r there q =
-    contains-insert nat_list_cmp_total o r q
-    ∙ by_test ((eq_by_cmp (slice_cmp nat_cmp) q r || contains o q) ≡ contains o q) (eq_by_cmp (slice_cmp nat_cmp) q r)
-    (λ t. ap (λ b. b || contains o q) t ∙ sym (ap (contains o) (tied_is q r t) ∙ there))
-    (λ f. ap (λ b. b || contains o q) f)
-
 pub retirement_passed : (old : Operations) (all rest admissions retirements : List Operation) (seen : Operations) (x : Operation) → IsParting old all (x ∷ rest) admissions retirements seen
     → is_admission (record_bytes x) ≡ false → (contains old (record_bytes x) || contains seen (record_bytes x)) ≡ true → IsParting old all rest admissions retirements (set.insert seen (record_bytes x))
 retirement_passed old all rest admissions retirements seen x parting n there =

@@ -86,7 +86,7 @@ conflict_alike o p key same is = record { slices = is.slices; answering = are_al
 uuid_first : (uuid : List ℕ) (key : SliceKey) → key.uuid ≡ uuid → (rest : List ℕ) × (key_bytes key ≡ uuid ++ rest)
 unfolding key_bytes
 uuid_first uuid key e =
-    let more : List ℕ = to_be_bytes w32 key.arch.cputype ++ to_be_bytes w32 key.arch.subtype in
+    let more : List ℕ = to_be_bytes w32 key.arch.cputype ++ to_be_bytes w32 key.arch.cpusubtype in
     (more, ap (λ (t : List ℕ). t ++ more) e)
 
 found_alike : (o p : Operations) (uuid : List ℕ) (a : Operation) → AreAlikeUnder uuid o p → IsFoundUnder o uuid a → IsFoundUnder p uuid a

@@ -21,7 +21,7 @@ use Rattle.archive_core.specs.Valid.{key_of}
 use Rattle.archive_core.specs.Record.{record_bytes, admission, admission_record, retirement_record, IsOperation}
 use Rattle.archive_core.specs.InnerHeld.{IsHeld}
 use Rattle.archive_core.specs.Find.{is_key}
-use Rattle.archive_core.specs.InnerScan.{is_found_under, is_live_kind, live_in, live_among}
+use Rattle.archive_core.specs.InnerScan.{is_found_under, is_held_kind, held_in, held_among}
 use Rattle.archive_core.specs.declared.keys.SliceKey.{SliceKey}
 use Rattle.archive_core.specs.declared.operations.Operation.{Operation}
 use Rattle.archive_core.specs.declared.operations.Operation.TheVariants.{Admit, Retire}
@@ -31,7 +31,7 @@ use Rattle.archive_core.proofs.Made.{by_test}
 use Rattle.archive_core.proofs.Held.{bytes_same}
 use Rattle.archive_core.proofs.Scanned.{operation_there, to_filter}
 use Rattle.archive_core.proofs.Answering.{one_arch, both}
-use Rattle.archive_core.specs.InnerRange.{front, front_of, is_within, is_under, is_under_uuid}
+use Rattle.archive_core.specs.InnerRange.{front, front_of, is_within, is_under_key, is_under_uuid}
 use Rattle.archive_core.specs.declared.range.RecordKind.{RecordKind}
 use Rattle.archive_core.specs.declared.range.RecordKind.TheVariants.{Retirement, Admission}
 use Rattle.archive_core.specs.declared.range.Scope.{Scope}
@@ -40,7 +40,7 @@ use Rattle.archive_core.proofs.Falling.{Falls, parted, falls_drop, middle}
 
 -- the bytes of a key behind its UUID
 arch_bytes : SliceKey → List ℕ
-arch_bytes key = to_be_bytes w32 key.arch.cputype ++ to_be_bytes w32 key.arch.subtype
+arch_bytes key = to_be_bytes w32 key.arch.cputype ++ to_be_bytes w32 key.arch.cpusubtype
 
 -- the record of an operation behind its tag and key, or behind its tag and UUID
 behind : Scope → Operation → List ℕ
@@ -154,7 +154,7 @@ itself : (x : List ℕ) → is_eq (slice_cmp nat_cmp x x) ≡ true
 itself x = ap is_eq (tied_itself nat_list_cmp_total x)
 
 -- where no retirement stands under a key, no slice of the key is retired
-pub none_retired : (operations : List Operation) (key : SliceKey) (slice : List ℕ) → IsHeld operations → IsKey key → filter (is_under Retirement key) operations ≡ []
+pub none_retired : (operations : List Operation) (key : SliceKey) (slice : List ℕ) → IsHeld operations → IsKey key → filter (is_under_key Retirement key) operations ≡ []
     → contains (from_list {R = slice_cmp nat_cmp} (map record_bytes operations)) (retirement_record key (sha256 slice)) ≡ false
 none_retired operations key slice held is_key none = by (contains (from_list {R = slice_cmp nat_cmp} (map record_bytes operations)) (retirement_record key (sha256 slice))) refl
   where
@@ -166,7 +166,7 @@ none_retired operations key slice held is_key none = by (contains (from_list {R 
     by true h =
         let one : Operation = Retire key (record { 0 = sha256 slice }) in
         let there = operation_there operations one held.are (is_key, length-sha256 slice) h in
-        absurd (nowhere one (subst (λ xs. Contains xs one) none (to_filter (is_under Retirement key) operations one there (itself (front Retirement (OfKey key))))))
+        absurd (nowhere one (subst (λ xs. Contains xs one) none (to_filter (is_under_key Retirement key) operations one there (itself (front Retirement (OfKey key))))))
 
 -- the test of keys tells that they are one
 one_key : (a b : SliceKey) → is_key a b ≡ true → a ≡ b
@@ -177,30 +177,30 @@ one_key a b h =
     λ i. record { uuid = uuid i; arch = arch i }
 
 -- what is live under a key is admitted under it
-under_of_live : (key : SliceKey) (dsym : Bool) (slice : List ℕ) → is_live_kind key dsym slice ≡ true → is_under Admission key (Admit slice) ≡ true
-unfolding is_live_kind
+under_of_live : (key : SliceKey) (dsym : Bool) (slice : List ℕ) → is_held_kind key dsym slice ≡ true → is_under_key Admission key (Admit slice) ≡ true
+unfolding is_held_kind
 under_of_live key dsym slice h =
     let same : key_of slice ≡ key = one_key (key_of slice) key (both (is_key (key_of slice) key) _ h).0 in
     ap (λ k. is_eq (slice_cmp nat_cmp (front Admission (OfKey k)) (front Admission (OfKey key)))) same ∙ itself (front Admission (OfKey key))
 
 -- so the live slices of a key are among the admissions under it
-pub live_under : (key : SliceKey) (dsym : Bool) (xs : List Operation) → live_among key dsym (filter (is_under Admission key) xs) ≡ live_among key dsym xs
-unfolding live_among
+pub live_under : (key : SliceKey) (dsym : Bool) (xs : List Operation) → held_among key dsym (filter (is_under_key Admission key) xs) ≡ held_among key dsym xs
+unfolding held_among
 live_under key dsym [] = refl
-live_under key dsym (x ∷ xs) = by (is_under Admission key x) refl (live_under key dsym xs)
+live_under key dsym (x ∷ xs) = by (is_under_key Admission key x) refl (live_under key dsym xs)
   where
-    none_outside : (a : Operation) → is_under Admission key a ≡ false → live_in key dsym a ≡ None
-    none_outside (Admit slice) h = out (is_live_kind key dsym slice) refl
+    none_outside : (a : Operation) → is_under_key Admission key a ≡ false → held_in key dsym a ≡ None
+    none_outside (Admit slice) h = out (is_held_kind key dsym slice) refl
       where
-        out : (b : Bool) → is_live_kind key dsym slice ≡ b → cond b (Some slice) None ≡ None
+        out : (b : Bool) → is_held_kind key dsym slice ≡ b → cond b (Some slice) None ≡ None
         out true t = absurd (true≢false (sym (under_of_live key dsym slice t) ∙ h))
         out false t = refl
     none_outside (Retire other digest) h = refl
 
-    by : (b : Bool) → is_under Admission key x ≡ b → live_among key dsym (filter (is_under Admission key) xs) ≡ live_among key dsym xs
-        → live_among key dsym (cond b (x ∷ filter (is_under Admission key) xs) (filter (is_under Admission key) xs)) ≡ live_among key dsym (x ∷ xs)
-    by true h rest = ap (cons_option (live_in key dsym x)) rest
-    by false h rest = rest ∙ sym (ap (λ f. cons_option f (live_among key dsym xs)) (none_outside x h))
+    by : (b : Bool) → is_under_key Admission key x ≡ b → held_among key dsym (filter (is_under_key Admission key) xs) ≡ held_among key dsym xs
+        → held_among key dsym (cond b (x ∷ filter (is_under_key Admission key) xs) (filter (is_under_key Admission key) xs)) ≡ held_among key dsym (x ∷ xs)
+    by true h rest = ap (cons_option (held_in key dsym x)) rest
+    by false h rest = rest ∙ sym (ap (λ f. cons_option f (held_among key dsym xs)) (none_outside x h))
 
 -- what stands behind one tag ties just where it is the same
 same_test : (t : ℕ) (a b : List ℕ) → is_eq (slice_cmp nat_cmp (t ∷ a) (t ∷ b)) ≡ bytes_eq a b

@@ -79,10 +79,10 @@ one_key : (k l : SliceKey) → IsKey k → IsKey l → key_bytes k ≡ key_bytes
 unfolding key_bytes
 one_key k l is_k is_l e =
     let uuid = same_parts k.uuid l.uuid _ _ (is_k.uuid ∙ sym is_l.uuid) e in
-    let arch = same_parts (to_be_bytes w32 k.arch.cputype) (to_be_bytes w32 l.arch.cputype) (to_be_bytes w32 k.arch.subtype) (to_be_bytes w32 l.arch.subtype) refl uuid.1 in
+    let arch = same_parts (to_be_bytes w32 k.arch.cputype) (to_be_bytes w32 l.arch.cputype) (to_be_bytes w32 k.arch.cpusubtype) (to_be_bytes w32 l.arch.cpusubtype) refl uuid.1 in
     let cputype : k.arch.cputype ≡ l.arch.cputype = sym (from_be_bytes-to_be_bytes_4 k.arch.cputype is_k.cputype) ∙ ap (from_be_bytes w32) arch.0 ∙ from_be_bytes-to_be_bytes_4 l.arch.cputype is_l.cputype in
-    let subtype : k.arch.subtype ≡ l.arch.subtype = sym (from_be_bytes-to_be_bytes_4 k.arch.subtype is_k.subtype) ∙ ap (from_be_bytes w32) arch.1 ∙ from_be_bytes-to_be_bytes_4 l.arch.subtype is_l.subtype in
-    λ i. record { uuid = uuid.0 i; arch = record { cputype = cputype i; subtype = subtype i } }
+    let cpusubtype : k.arch.cpusubtype ≡ l.arch.cpusubtype = sym (from_be_bytes-to_be_bytes_4 k.arch.cpusubtype is_k.cpusubtype) ∙ ap (from_be_bytes w32) arch.1 ∙ from_be_bytes-to_be_bytes_4 l.arch.cpusubtype is_l.cpusubtype in
+    λ i. record { uuid = uuid.0 i; arch = record { cputype = cputype i; cpusubtype = cpusubtype i } }
 
 -- different operations have different records
 pub one_operation : (a b : Operation) → IsOperation a → IsOperation b → record_bytes a ≡ record_bytes b → a ≡ b

@@ -32,7 +32,7 @@ use Rattle.archive_core.proofs.Words.{live_in_content}
 
 -- the order of rows is a total order
 pub find_total : IsTotalOrder find_cmp
-find_total = then_total (on_total (λ operation. (key_in operation).arch) (then_total (on_total (λ arch. arch.cputype) nat_cmp_total) (on_total (λ arch. arch.subtype) nat_cmp_total))) (on_texts record_bytes)
+find_total = then_total (on_total (λ operation. (key_in operation).arch) (then_total (on_total (λ arch. arch.cputype) nat_cmp_total) (on_total (λ arch. arch.cpusubtype) nat_cmp_total))) (on_texts record_bytes)
 
 -- the first ones, and one more
 pub front : (operations : List Operation) (i : ℕ) (a : Operation) → i < length operations → a ≡ slice_index_or operations i a → take (i + 1) operations ≡ take i operations ++ a ∷ []

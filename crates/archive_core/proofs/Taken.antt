@@ -26,9 +26,6 @@ pub new_changes : (o : Operations) (r : List ℕ) → set.contains o r ≡ false
 unfolding changes
 new_changes o r h k = ap (λ b. not (b || is_covered o r)) h ∙ ap not k
 
-tied : List ℕ → List ℕ → Bool
-tied = eq_by_cmp (slice_cmp nat_cmp)
-
 pub tied_is : (q r : List ℕ) → eq_by_cmp (slice_cmp nat_cmp) q r ≡ true → q ≡ r
 tied_is q r h = bytes_same q r ((Equal-is (slice_cmp nat_cmp q r)).0 h)
 
@@ -134,10 +131,6 @@ one_taken old now next all left rest operation way is next_is = rw next_is (reco
   content = ap (λ (l : List Operation). with_records now (map record_bytes l)) (sym is) ∙ way.content;
 })
 
-pub all_taken : (old now : Operations) (all left : List Operation) → IsUnderWay old now all left → length left ≡ 0 → now ≡ with_records old (map record_bytes all)
-all_taken old now all [] way none = way.content
-all_taken old now all (x ∷ xs) way none = absurd (omega arith)
-
 pub taken_in_part : (old now new : Operations) (all left : List Operation) → IsContent now → IsUnderWay old now all left → new ≡ now → IsTakenInPart old (map record_bytes all) new
 taken_in_part old now new all left is way same = rw same (record {
   content = is;
@@ -174,9 +167,6 @@ new_of_none o = refl
 pub record IsCounted (old now : Operations) (all left : List Operation) (new : ℕ) : Type 0 where
   pub way : IsUnderWay old now all left
   pub counted : new + new_among now (map record_bytes left) ≡ new_among old (map record_bytes all)
-
-pub none_counted : (o : Operations) (all left : List Operation) → left ≡ all → IsCounted o o all left 0
-none_counted o all left is = record { way = at_first o all left is; counted = omega (arith, ap (λ (l : List Operation). new_among o (map record_bytes l)) is) }
 
 pub one_counted : (old now next : Operations) (all left rest : List Operation) (operation : Operation) (new more : ℕ) → IsCounted old now all left new → left ≡ operation ∷ rest → next ≡ with_record now (record_bytes operation)
     → more ≡ new + (if changes now (record_bytes operation) then 1 else 0) → IsCounted old next all rest more

@@ -16,7 +16,7 @@ use Rattle.archive_core.specs.Valid.{key_of, IsValid}
 use Rattle.archive_core.specs.Record.{record_bytes, admission_record, retirement_record, IsOperation}
 use Rattle.archive_core.specs.Content.{Operations, is_admission, key_and_digest, covering, is_covered}
 use Rattle.archive_core.specs.InnerHeld.{IsHeld}
-use Rattle.archive_core.specs.InnerRange.{is_under}
+use Rattle.archive_core.specs.InnerRange.{is_under_key}
 use Rattle.archive_core.specs.declared.keys.Digest.{Digest}
 use Rattle.archive_core.specs.declared.keys.SliceKey.{SliceKey}
 use Rattle.archive_core.specs.declared.operations.Operation.{Operation}
@@ -63,7 +63,7 @@ only : SliceKey → Digest → Operations
 only key digest = set.insert (set.empty {R = slice_cmp nat_cmp}) (retirement_record key digest.0)
 
 -- a slice of another key is not covered by it
-other_key : (key : SliceKey) (digest : Digest) (slice : List ℕ) → IsKey key → IsValid slice → is_under Admission key (Admit slice) ≡ false → is_covered (only key digest) (admission_record slice) ≡ false
+other_key : (key : SliceKey) (digest : Digest) (slice : List ℕ) → IsKey key → IsValid slice → is_under_key Admission key (Admit slice) ≡ false → is_covered (only key digest) (admission_record slice) ≡ false
 unfolding only
 other_key key digest slice is_key valid apart =
     covered_slice (only key digest) slice valid
@@ -84,17 +84,17 @@ other_key key digest slice is_key valid apart =
         absurd (true≢false (sym ties ∙ apart))
 
 -- so where no slice of its key is there, none of the operations is
-none_under : (key : SliceKey) (digest : Digest) (xs : List Operation) → IsKey key → AllByRecursion IsOperation xs → filter (is_under Admission key) xs ≡ []
+none_under : (key : SliceKey) (digest : Digest) (xs : List Operation) → IsKey key → AllByRecursion IsOperation xs → filter (is_under_key Admission key) xs ≡ []
     → AllByRecursion (λ operation. not (is_covered (only key digest) (record_bytes operation)) ≡ true) xs
 none_under key digest [] is_key are none = tt
 none_under key digest (Retire other d ∷ xs) is_key are none = (refl, none_under key digest xs is_key are.1 none)
-none_under key digest (Admit slice ∷ xs) is_key are none = by (is_under Admission key (Admit slice)) refl none (none_under key digest xs is_key are.1)
+none_under key digest (Admit slice ∷ xs) is_key are none = by (is_under_key Admission key (Admit slice)) refl none (none_under key digest xs is_key are.1)
   where
     some : (l : List Operation) → Admit slice ∷ l ≡ [] → ⊥
     some l h = cc
 
-    by : (b : Bool) → is_under Admission key (Admit slice) ≡ b → cond b (Admit slice ∷ filter (is_under Admission key) xs) (filter (is_under Admission key) xs) ≡ []
-        → (filter (is_under Admission key) xs ≡ [] → AllByRecursion (λ operation. not (is_covered (only key digest) (record_bytes operation)) ≡ true) xs)
+    by : (b : Bool) → is_under_key Admission key (Admit slice) ≡ b → cond b (Admit slice ∷ filter (is_under_key Admission key) xs) (filter (is_under_key Admission key) xs) ≡ []
+        → (filter (is_under_key Admission key) xs ≡ [] → AllByRecursion (λ operation. not (is_covered (only key digest) (record_bytes operation)) ≡ true) xs)
         → AllByRecursion (λ operation. not (is_covered (only key digest) (record_bytes operation)) ≡ true) (Admit slice ∷ xs)
     by true h none rest = absurd (some _ none)
     by false h none rest = (ap not (other_key key digest slice is_key are.0 h), rest none)
@@ -104,15 +104,15 @@ abbrev pub left_by : SliceKey → Digest → Operation → Bool
 left_by key digest operation = not (is_covered (from_list (map record_bytes (Retire key digest ∷ []))) (record_bytes operation))
 
 -- where none of its key is there, it leaves all
-all_left : (key : SliceKey) (digest : Digest) (xs : List Operation) → IsKey key → All IsOperation xs → filter (is_under Admission key) xs ≡ [] → filter (left_by key digest) xs ≡ xs
+all_left : (key : SliceKey) (digest : Digest) (xs : List Operation) → IsKey key → All IsOperation xs → filter (is_under_key Admission key) xs ≡ [] → filter (left_by key digest) xs ≡ xs
 unfolding only
 all_left key digest xs is_key are none = filter_all (left_by key digest) xs (none_under key digest xs is_key (recursion_from_All IsOperation xs are) none)
 
-module _ (key : SliceKey) (digest : Digest) (xs : List Operation) (i j : ℕ) (is_key : IsKey key) (are : AllByRecursion IsOperation xs) (run : take j (drop i xs) ≡ filter (is_under Admission key) xs) where
+module _ (key : SliceKey) (digest : Digest) (xs : List Operation) (i j : ℕ) (is_key : IsKey key) (are : AllByRecursion IsOperation xs) (run : take j (drop i xs) ≡ filter (is_under_key Admission key) xs) where
   -- so it leaves what stands before the run of its key
   pub front_left : filter (left_by key digest) (take i xs) ≡ take i xs
-  front_left = all_left key digest (take i xs) is_key (All-take IsOperation i xs (All-from_recursion IsOperation xs are)) (outside (is_under Admission key) xs i j run).0
+  front_left = all_left key digest (take i xs) is_key (All-take IsOperation i xs (All-from_recursion IsOperation xs are)) (outside (is_under_key Admission key) xs i j run).0
 
   -- and behind it
   pub back_left : filter (left_by key digest) (drop j (drop i xs)) ≡ drop j (drop i xs)
-  back_left = all_left key digest (drop j (drop i xs)) is_key (All-drop IsOperation j (drop i xs) (All-drop IsOperation i xs (All-from_recursion IsOperation xs are))) (outside (is_under Admission key) xs i j run).1
+  back_left = all_left key digest (drop j (drop i xs)) is_key (All-drop IsOperation j (drop i xs) (All-drop IsOperation i xs (All-from_recursion IsOperation xs are))) (outside (is_under_key Admission key) xs i j run).1

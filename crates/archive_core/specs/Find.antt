@@ -26,9 +26,9 @@ abbrev pub key_in : Operation → SliceKey
 key_in (Admit slice) = key_of slice
 key_in (Retire key digest) = key
 
--- architectures by cputype, then by subtype
+-- architectures by cputype, then by cpusubtype
 abbrev pub arch_cmp : ArchKey → ArchKey → Ordering
-arch_cmp = then_cmp (on (λ arch. arch.cputype) nat_cmp) (on (λ arch. arch.subtype) nat_cmp)
+arch_cmp = then_cmp (on (λ arch. arch.cputype) nat_cmp) (on (λ arch. arch.cpusubtype) nat_cmp)
 
 -- operations by architecture, then by record
 abbrev pub find_cmp : Operation → Operation → Ordering
@@ -78,7 +78,7 @@ is_image Dsym = false
 
 -- two architectures are one
 abbrev pub is_arch : ArchKey → ArchKey → Bool
-is_arch a b = (a.cputype == b.cputype) && (a.subtype == b.subtype)
+is_arch a b = (a.cputype == b.cputype) && (a.cpusubtype == b.cpusubtype)
 
 -- two keys are one
 abbrev pub is_key : SliceKey → SliceKey → Bool

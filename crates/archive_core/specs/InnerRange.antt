@@ -37,8 +37,8 @@ abbrev pub is_within : RecordKind → Scope → Operation → Bool
 is_within kind scope operation = is_eq (slice_cmp nat_cmp (front_of scope operation) (front kind scope))
 
 -- whether an operation is of a kind and under a key
-abbrev pub is_under : RecordKind → SliceKey → Operation → Bool
-is_under kind key = is_within kind (OfKey key)
+abbrev pub is_under_key : RecordKind → SliceKey → Operation → Bool
+is_under_key kind key = is_within kind (OfKey key)
 
 -- whether an operation is of a kind and under a UUID
 abbrev pub is_under_uuid : RecordKind → List ℕ → Operation → Bool

@@ -8,25 +8,25 @@ use Rattle.archive_core.specs.Find.{key_in, is_key, is_kind}
 use Rattle.archive_core.specs.declared.keys.SliceKey.{SliceKey}
 use Rattle.archive_core.specs.declared.operations.Operation.{Operation}
 use Rattle.archive_core.specs.declared.operations.Operation.TheVariants.{Admit, Retire}
-use Rattle.archive_core.specs.declared.live.Answering.{Answering}
-use Rattle.archive_core.specs.declared.live.Answering.TheVariants.{Nothing, One, Several}
+use Rattle.archive_core.specs.declared.asked.Answering.{Answering}
+use Rattle.archive_core.specs.declared.asked.Answering.TheVariants.{Nothing, One, Several}
 
 -- a search finds the operations that are held under its UUID: no slice that is held is retired
 abbrev pub is_found_under : List ℕ → Operation → Bool
 is_found_under uuid operation = bytes_eq (key_in operation).uuid uuid
 
 -- a slice that is held is live; it is under the key, and of the kind
-unfoldable pub is_live_kind : SliceKey → Bool → List ℕ → Bool
-is_live_kind key dsym slice = is_key (key_of slice) key && is_kind dsym slice
+unfoldable pub is_held_kind : SliceKey → Bool → List ℕ → Bool
+is_held_kind key dsym slice = is_key (key_of slice) key && is_kind dsym slice
 
 -- the slice of an operation, where it is such a one
-abbrev pub live_in : SliceKey → Bool → Operation → Option (List ℕ)
-live_in key dsym (Admit slice) = if is_live_kind key dsym slice then Some slice else None
-live_in key dsym (Retire other digest) = None
+abbrev pub held_in : SliceKey → Bool → Operation → Option (List ℕ)
+held_in key dsym (Admit slice) = if is_held_kind key dsym slice then Some slice else None
+held_in key dsym (Retire other digest) = None
 
 -- the live slices of a key and a kind, in the order of their operations
-unfoldable pub live_among : SliceKey → Bool → List Operation → List (List ℕ)
-live_among key dsym operations = filter_map (live_in key dsym) operations
+unfoldable pub held_among : SliceKey → Bool → List Operation → List (List ℕ)
+held_among key dsym operations = filter_map (held_in key dsym) operations
 
 -- what is kept of slices: that there is none, the one, or that there are several
 abbrev pub IsAnsweringOf : Answering → List (List ℕ) → Type 0

@@ -7,8 +7,8 @@ use Rattle.archive_core.specs.declared.keys.SliceKey.{SliceKey}
 pub record IsKey (key : SliceKey) : Type 0 where
   pub uuid : length key.uuid ≡ 16
   pub cputype : key.arch.cputype < 2 ^ 32
-  pub subtype : key.arch.subtype < 2 ^ 32
+  pub cpusubtype : key.arch.cpusubtype < 2 ^ 32
 
--- the 24 bytes of a key: the UUID, cputype and subtype, big-endian
+-- the 24 bytes of a key: the UUID, cputype and cpusubtype, big-endian
 unfoldable pub key_bytes : SliceKey → List ℕ
-key_bytes key = key.uuid ++ (to_be_bytes w32 key.arch.cputype ++ to_be_bytes w32 key.arch.subtype)
+key_bytes key = key.uuid ++ (to_be_bytes w32 key.arch.cputype ++ to_be_bytes w32 key.arch.cpusubtype)

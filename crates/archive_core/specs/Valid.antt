@@ -31,7 +31,7 @@ IsAdmitFault bytes OutOfMemory = IsValid bytes
 unfoldable pub key_of : List ℕ → SliceKey
 key_of bytes = record {
   uuid = uuid_of bytes;
-  arch = record { cputype = (arch_of bytes).0; subtype = (arch_of bytes).1 };
+  arch = record { cputype = (arch_of bytes).0; cpusubtype = (arch_of bytes).1 };
 }
 
 -- what a check finds out of a slice: the bytes are valid, and this is their key, and where their symbols lie

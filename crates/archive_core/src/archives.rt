@@ -55,7 +55,7 @@ pub trait Archive: Join<Content = Contents> {
     fn holds(&self, operation: &Operation) -> bool
         ensures { result ≡ set.contains (Self.content self.now) (record_bytes operation.now) };
 
-    /// The retirements and the live slices under a UUID, a row for each, by `cputype` and `subtype`,
+    /// The retirements and the live slices under a UUID, a row for each, by `cputype` and `cpusubtype`,
     /// then in the order of their records. Refused for want of memory alone.
     fn find(&self, uuid: &Uuid) -> Result<Vec<FindRow, Heap>, NoMemory>
         ensures { IfOk result (λ rows. IsFinds (Self.content self.now) uuid.now rows.items) };

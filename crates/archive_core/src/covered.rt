@@ -1,4 +1,4 @@
-//! Slices that retirements cover. This is the one place that tells them, and no slice that is held is one.
+//! Slices that the retirements of an archive cover. No slice that is held is one.
 ghost use Rattle.std.specs.Prelude.{◌≡◌, ◌+◌, ◌<◌, ◌≤◌, ◌||◌, ℕ, List, [], ◌∷◌, ◌++◌, true, false, length, take, drop};
 ghost use Rattle.std.specs.Prelude.{map, filter, not};
 ghost use Rattle.std.specs.FinSet as set;
@@ -90,7 +90,7 @@ impl<'a> Lent<'a> {
     }
 
     // Whether a retirement covers the operation.
-    pub(crate) fn covers(&self, operation: &Operation, near: &mut usize) -> bool
+    pub(crate) fn retires_operation(&self, operation: &Operation, near: &mut usize) -> bool
         ensures { result ≡ is_covered self.now (record_bytes operation.now) }
     {
         match operation {
@@ -106,7 +106,7 @@ impl<'a> Lent<'a> {
             ≡ (set.contains self.now (record_bytes operation.now) || is_covered self.now (record_bytes operation.now)) }
         ensures changes { changes self.now (record_bytes operation.now) ≡ not result }
     {
-        search(self.operations, operation).is_ok() || self.covers(operation, near)
+        search(self.operations, operation).is_ok() || self.retires_operation(operation, near)
     }
 }
 
@@ -121,7 +121,7 @@ pub(crate) fn drop_covered(operations: &mut Vec<Operation, Heap>, by: &Lent<'_>)
         return;
     }
     let mut near = 0;
-    operations.retain(|operation| !by.covers(operation, &mut near));
+    operations.retain(|operation| !by.retires_operation(operation, &mut near));
 }
 
 // The retirement of a key and a digest.
@@ -155,7 +155,7 @@ pub(crate) fn drop_retired(operations: &mut Vec<Operation, Heap>, key: &SliceKey
     let mut index = start + count;
     while index > start {
         index -= 1;
-        if by.covers(&operations[index], &mut 0) {
+        if by.retires_operation(&operations[index], &mut 0) {
             drop_at(operations, index);
         }
     }

@@ -1,7 +1,6 @@
 //! An operation beside the row that a search tells of it.
 ghost use Rattle.std.specs.Prelude.{◌≡◌, map, IfOk};
 ghost use Rattle.archive_core.specs.Find.{find_cmp, row_of};
-ghost use Rattle.archive_core.specs.Lists.{list_cmp};
 ghost use Rattle.archive_core.specs.Record.{IsOperation, operation_lent};
 ghost use Rattle.archive_core.specs.declared.operations.Operation.TheVariants.{Admit, Retire};
 
@@ -90,20 +89,8 @@ impl<'a> HashedRecord<'a> {
         first
             .cputype
             .cmp(&second.cputype)
-            .then(first.subtype.cmp(&second.subtype))
+            .then(first.cpusubtype.cmp(&second.cpusubtype))
             .then(self.operation.compare(&other.operation))
-    }
-
-    /// Compares by UUID, then by architecture, then by record.
-    pub fn compare_all(&self, other: &HashedRecord<'_>) -> Ordering
-        ensures { result ≡ list_cmp self.now other.now }
-    {
-        let first = self.row.key.uuid;
-        let second = other.row.key.uuid;
-        first
-            .as_bytes()
-            .cmp(second.as_bytes())
-            .then(self.compare(other))
     }
 }
 

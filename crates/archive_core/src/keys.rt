@@ -15,7 +15,7 @@ pub struct ArchKey {
     pub cputype: u32,
     /// `cpusubtype`. In the key of a slice its high byte, the capability bits, is clear; a
     /// retirement may name any number.
-    pub subtype: u32,
+    pub cpusubtype: u32,
 }
 
 /// The UUID of a build (`LC_UUID`) and an architecture.
@@ -40,9 +40,9 @@ pub fn compare_keys(a: &SliceKey, b: &SliceKey) -> Ordering
 
 // A key as numbers. Keys are in the order of their bytes as these are in theirs, which takes fewer steps to compare.
 fn numbers_of(key: SliceKey) -> (u128, u32, u32)
-    ensures numbers { result ≡ (from_be_bytes w128 key.uuid, key.arch.cputype, key.arch.subtype) }
+    ensures numbers { result ≡ (from_be_bytes w128 key.uuid, key.arch.cputype, key.arch.cpusubtype) }
     ensures key { IsKey key }
     ensures bytes { All (λ b. b < 256) key.uuid }
 {
-    (key.uuid.as_u128(), key.arch.cputype, key.arch.subtype)
+    (key.uuid.as_u128(), key.arch.cputype, key.arch.cpusubtype)
 }

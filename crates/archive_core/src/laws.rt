@@ -304,7 +304,8 @@ pub fn delta_brings_above()
 
 /// A content and a UUID have one list of rows.
 pub fn one_find()
-    ensures { (o : Operations) (uuid : List ℕ) (rows others : List FindRow)
+    ensures some { (o : Operations) (uuid : List ℕ) → IsContent o → (rows : List FindRow) × IsFinds o uuid rows }
+    ensures one { (o : Operations) (uuid : List ℕ) (rows others : List FindRow)
         → IsFinds o uuid rows
         → IsFinds o uuid others
         → rows ≡ others }
@@ -312,7 +313,8 @@ pub fn one_find()
 
 /// A content has one list of all its rows.
 pub fn one_list()
-    ensures { (o : Operations) (rows others : List FindRow) → IsList o rows → IsList o others → rows ≡ others }
+    ensures some { (o : Operations) → IsContent o → (rows : List FindRow) × IsList o rows }
+    ensures one { (o : Operations) (rows others : List FindRow) → IsList o rows → IsList o others → rows ≡ others }
 {}
 
 /// What a search for a UUID tells is the part of the list that is under it, and the list is such parts, one behind
@@ -336,7 +338,8 @@ pub fn finds_are_parts()
 
 /// A content and a name have one list of rows.
 pub fn one_find_name()
-    ensures { (o : Operations) (name : List ℕ) (rows others : List NameRecord)
+    ensures some { (o : Operations) (name : List ℕ) → IsContent o → (rows : List NameRecord) × IsNames o name rows }
+    ensures one { (o : Operations) (name : List ℕ) (rows others : List NameRecord)
         → IsNames o name rows
         → IsNames o name others
         → rows ≡ others }
@@ -351,9 +354,20 @@ pub fn rows_count_answering()
         → (slices : List (List ℕ)) × AreAnswering o key slices × (length slices ≡ answering_count rows key.arch) }
 {}
 
-/// A content, a key and a place have one answer.
+/// The slices that answer under a key are one list, in a content and in any other set of operations.
+pub fn one_answering()
+    ensures some { (o : Operations) (key : SliceKey) → (slices : List (List ℕ)) × AreAnswering o key slices }
+    ensures one { (o : Operations) (key : SliceKey) (slices others : List (List ℕ))
+        → AreAnswering o key slices
+        → AreAnswering o key others
+        → slices ≡ others }
+{}
+
+/// A content, a key and a place have one answer, and so has any other set of operations.
 pub fn one_answer()
-    ensures { (o : Operations) (key : SliceKey) (asked : Where) (answer other : AnswerRecord)
+    ensures some { (o : Operations) (key : SliceKey) (asked : Where)
+        → (answer : AnswerRecord) × IsAnswer o key asked answer }
+    ensures one { (o : Operations) (key : SliceKey) (asked : Where) (answer other : AnswerRecord)
         → IsAnswer o key asked answer
         → IsAnswer o key asked other
         → answer ≡ other }

@@ -20,22 +20,20 @@
 //! - `parting`: the admissions of a list, and behind them its retirements;
 //! - `taking`: many operations at once;
 //! - `hashed`: an operation beside the row that a search tells of it;
-//! - `lists`: what a list of all tells;
-//! - `live`: slices that answer under a key, and what they tell;
+//! - `asked`: slices that answer under a key, and what they tell;
 //! - `range`: the operations of one kind under one key;
 //! - `plain`: an archive as a sorted list;
 //! - [`laws`]: what holds of records, contents, joins, summaries, rows and answers.
 #![tactic(auto)]
 
 mod archives;
+mod asked;
 mod covered;
 mod faults;
 mod find;
 mod hashed;
 mod keys;
 pub mod laws;
-mod lists;
-mod live;
 mod lookup;
 mod names;
 mod operations;
@@ -47,11 +45,10 @@ mod slices;
 mod taking;
 
 pub use archives::{Archive, Contents, take_all};
+pub use asked::is_key;
 pub use faults::{AdmitFault, SliceFault};
 pub use find::{FindRow, FindState};
 pub use keys::{ArchKey, Digest, SliceKey, compare_keys};
-pub use lists::list;
-pub use live::is_key;
 pub use lookup::{Answer, Own, Where};
 pub use names::NameRow;
 pub use operations::{Operation, Record};

@@ -50,7 +50,7 @@ impl<'a> NameRow<'a> {
             .arch
             .cputype
             .cmp(&second.arch.cputype)
-            .then(first.arch.subtype.cmp(&second.arch.subtype));
+            .then(first.arch.cpusubtype.cmp(&second.arch.cpusubtype));
         first
             .uuid
             .as_bytes()

@@ -36,7 +36,7 @@ impl Parts {
             self.new.admissions.items self.new.retirements.items seen.now) }
     {
         let _bytes = slice.bytes();
-        if seen.covers(&slice) {
+        if seen.retires(&slice) {
             return Ok(());
         }
         self.admissions.push(Operation::Admit(slice))?;

@@ -11,15 +11,15 @@ ghost use Rattle.archive_core.specs.Record.{record_bytes, IsOperation};
 ghost use Rattle.archive_core.specs.Content.{IsContent, IsTakenInPart, is_covered, changes};
 ghost use Rattle.archive_core.specs.Content.{with_record, with_records, joined};
 ghost use Rattle.archive_core.specs.InnerHeld.{IsHeld};
-ghost use Rattle.archive_core.specs.InnerScan.{live_in, live_among, IsAnsweringOf};
+ghost use Rattle.archive_core.specs.InnerScan.{held_in, held_among, IsAnsweringOf};
 ghost use Rattle.archive_core.specs.declared.operations.Operation.TheVariants.{Admit, Retire};
 ghost use Rattle.archive_core.specs.Lookup.{IsOwnRow, IsAnswerOf, own_row, answer_view};
 ghost use Rattle.archive_core.specs.Names.{name_view};
 ghost use Rattle.archive_core.specs.InnerNames.{names_of, names_among};
 
+use crate::asked::{Answering, AskedSlice, answer_of_one, is_key, is_kind};
 use crate::covered::{Lent, drop_covered, drop_retired, retirement};
 use crate::hashed::{HashedRecord, rows_of};
-use crate::live::{Answering, Asked, answer_of_one, is_key, is_kind};
 use crate::names::{has_name, put_in_order, rows_in};
 use crate::range::{
     RecordKind, is_companion, keep_digests_under, keep_each_table, under, under_uuid,
@@ -263,9 +263,9 @@ impl PlainArchive {
     }
 
     // The slice that an operation admits, where it is under the key, and a companion or not. What is held is live.
-    #[tactic(auto, unfolding(crate::specs::InnerScan::is_live_kind))]
-    fn live<'a>(operation: &'a Operation, key: &SliceKey, dsym: bool) -> Option<Asked<'a>>
-        ensures { result ≡ live_in key.now dsym operation.now }
+    #[tactic(auto, unfolding(crate::specs::InnerScan::is_held_kind))]
+    fn held<'a>(operation: &'a Operation, key: &SliceKey, dsym: bool) -> Option<AskedSlice<'a>>
+        ensures { result ≡ held_in key.now dsym operation.now }
     {
         let Operation::Admit(slice) = operation else {
             return None;
@@ -273,16 +273,16 @@ impl PlainArchive {
         if !is_key(&slice.key(), key) || !is_kind(dsym, slice) {
             return None;
         }
-        Some(Asked::of(slice))
+        Some(AskedSlice::of(slice))
     }
 
     // The live slices of a key, companions or not, as far as one of them is asked alone.
     fn answering<'a>(operations: &'a [Operation], key: &SliceKey, dsym: bool) -> Answering<'a>
-        ensures { IsAnsweringOf result (live_among key.now dsym operations.now) }
+        ensures { IsAnsweringOf result (held_among key.now dsym operations.now) }
     {
         let mut answering = Answering::Nothing;
         'operations: for operation in operations {
-            if let Some(slice) = PlainArchive::live(operation, key, dsym) {
+            if let Some(slice) = PlainArchive::held(operation, key, dsym) {
                 answering = answering.and(slice);
             }
         }
@@ -298,11 +298,11 @@ impl PlainArchive {
         asked: Where,
     ) -> Result<Vec<(Digest, Own<'a>), Heap>, NoMemory>
         ensures { IfOk result (λ rows.
-            AllZip (IsOwnRow asked) (live_among key.now dsym operations.now) (map own_row rows.items)) }
+            AllZip (IsOwnRow asked) (held_among key.now dsym operations.now) (map own_row rows.items)) }
     {
         let mut rows = Vec::new(self.operations.allocator().clone()?);
         'operations: for operation in operations {
-            if let Some(slice) = PlainArchive::live(operation, key, dsym) {
+            if let Some(slice) = PlainArchive::held(operation, key, dsym) {
                 rows.push(slice.row(asked))?;
             }
         }
@@ -318,10 +318,10 @@ impl PlainArchive {
         answering: Answering<'a>,
         asked: Where,
     ) -> Result<Answer<'a>, NoMemory>
-        requires { IsAnsweringOf answering (live_among key.now dsym operations.now) }
+        requires { IsAnsweringOf answering (held_among key.now dsym operations.now) }
         ensures answer { IfOk result (λ answer.
-            IsAnswerOf asked (live_among key.now dsym operations.now) (answer_view answer)) }
-        ensures memory { OnErr result (2 ≤ length (live_among key.now dsym operations.now)) }
+            IsAnswerOf asked (held_among key.now dsym operations.now) (answer_view answer)) }
+        ensures memory { OnErr result (2 ≤ length (held_among key.now dsym operations.now)) }
     {
         match answering {
             Answering::Nothing => Ok(Answer::Unknown),

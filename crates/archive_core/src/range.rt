@@ -8,10 +8,10 @@ ghost use Rattle.archive_core.specs.Key.{IsKey};
 ghost use Rattle.archive_core.specs.Record.{record_bytes, IsOperation};
 ghost use Rattle.archive_core.specs.InnerHeld.{IsHeld};
 ghost use Rattle.archive_core.specs.InnerRange.{front, front_of, scope_bytes, bytes_within};
-ghost use Rattle.archive_core.specs.InnerRange.{is_within, is_under, is_under_uuid};
+ghost use Rattle.archive_core.specs.InnerRange.{is_within, is_under_key, is_under_uuid};
 ghost use Rattle.archive_core.specs.declared.range.RecordKind.TheVariants.{Retirement};
 
-use crate::live::is_kind;
+use crate::asked::is_kind;
 use crate::{Operation, SliceKey, compare_keys};
 use memory::{Heap, NoMemory};
 use std::cmp::Ordering;
@@ -70,7 +70,7 @@ pub(crate) fn under<'a>(
     key: SliceKey,
 ) -> &'a [Operation]
     requires { IsHeld operations.now }
-    ensures range { result.now ≡ filter (is_under kind key) operations.now }
+    ensures range { result.now ≡ filter (is_under_key kind key) operations.now }
     ensures key { IsKey key }
 {
     within(operations, kind, Scope::OfKey(key))
@@ -100,7 +100,7 @@ fn is_gap(operations: &[Operation], asked: usize, scope: &Scope) -> bool
 // that keys that ascend are found with few comparisons, and else by halving.
 pub(crate) fn has_retirement(operations: &[Operation], near: &mut usize, key: SliceKey) -> bool
     requires { IsHeld operations.now }
-    ensures none { result ≡ false → filter (is_under Retirement key) operations.now ≡ [] }
+    ensures none { result ≡ false → filter (is_under_key Retirement key) operations.now ≡ [] }
     ensures key { IsKey key }
 {
     let scope = Scope::OfKey(key);

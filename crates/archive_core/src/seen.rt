@@ -83,12 +83,12 @@ impl Ord for OrderedKey {
 
 // A retirement, in the order of records.
 #[derive(Drop)]
-struct Retired {
+struct OrderedRetirement {
     key: SliceKey,
     digest: Digest,
 }
 
-impl Model for Retired {
+impl Model for OrderedRetirement {
     ghost use Rattle.std.specs.Prelude.{ℕ, List};
     ghost use Rattle.archive_core.specs.Record.{retirement_record};
 
@@ -97,41 +97,41 @@ impl Model for Retired {
     ghost view = { λ retired. retirement_record retired.key retired.digest.0 };
 }
 
-impl Retired {
+impl OrderedRetirement {
     // The retirement of a key and a digest.
-    fn of(key: SliceKey, digest: Digest) -> Retired
+    fn of(key: SliceKey, digest: Digest) -> OrderedRetirement
         ensures { result ≡ retirement_record key digest.0 }
     {
-        Retired { key, digest }
+        OrderedRetirement { key, digest }
     }
 }
 
-impl PartialEq for Retired {
+impl PartialEq for OrderedRetirement {
     ghost eq = { eq_by_cmp (slice_cmp nat_cmp) };
 
     ghost laws = { partial_equiv_from_equiv (eq_by_cmp_equiv nat_list_cmp_total) };
 
-    fn eq(&self, other: &Retired) -> bool {
+    fn eq(&self, other: &OrderedRetirement) -> bool {
         self.cmp(other).is_eq()
     }
 }
 
-impl Eq for Retired {
+impl Eq for OrderedRetirement {
     ghost laws = { eq_by_cmp_equiv nat_list_cmp_total };
 }
 
-impl PartialOrd for Retired {
+impl PartialOrd for OrderedRetirement {
     ghost partial_cmp = { λ a b. Some (slice_cmp nat_cmp a b) };
 
     ghost laws = { partial_order_from_agreeing_total (slice_cmp nat_cmp) nat_list_cmp_total (λ _ _. refl)
         (λ _ _. refl) };
 
-    fn partial_cmp(&self, other: &Retired) -> Option<Ordering> {
+    fn partial_cmp(&self, other: &OrderedRetirement) -> Option<Ordering> {
         Some(self.cmp(other))
     }
 }
 
-impl Ord for Retired {
+impl Ord for OrderedRetirement {
     ghost cmp = { slice_cmp nat_cmp };
 
     ghost total = { nat_list_cmp_total };
@@ -140,7 +140,7 @@ impl Ord for Retired {
 
     ghost matches_eq = { λ a b. refl };
 
-    fn cmp(&self, other: &Retired) -> Ordering {
+    fn cmp(&self, other: &OrderedRetirement) -> Ordering {
         compare_retirements(&self.key, &self.digest, &other.key, &other.digest)
     }
 }
@@ -149,7 +149,7 @@ impl Ord for Retired {
 #[derive(Drop)]
 pub(crate) struct SeenRetirements {
     keys: BTreeSet<OrderedKey, Heap>,
-    retired: BTreeSet<Retired, Heap>,
+    retired: BTreeSet<OrderedRetirement, Heap>,
 }
 
 impl Model for SeenRetirements {
@@ -186,14 +186,14 @@ impl SeenRetirements {
             first ≡ not (set.contains self.old (retirement_record key.now digest.now.0))) }
     {
         let asked = OrderedKey::of(*key);
-        let retired = Retired::of(*key, *digest);
+        let retired = OrderedRetirement::of(*key, *digest);
         self.keys.insert(asked)?;
         let first = self.retired.insert(retired)?;
         Ok(first)
     }
 
     // Whether a retirement that was seen covers the slice. Its digest is asked for only where one of its key was seen.
-    pub(crate) fn covers(&self, slice: &Slice) -> bool
+    pub(crate) fn retires(&self, slice: &Slice) -> bool
         ensures { result
             ≡ set.contains self.now (retirement_record (key_of slice.now) (sha256 slice.now)) }
     {
@@ -202,6 +202,6 @@ impl SeenRetirements {
             return false;
         }
         self.retired
-            .contains(&Retired::of(slice.key(), slice.digest()))
+            .contains(&OrderedRetirement::of(slice.key(), slice.digest()))
     }
 }

@@ -190,16 +190,6 @@ impl Slice {
         }
     }
 
-    /// The slice of these bytes, which are taken over without a copy.
-    pub fn from_bytes(bytes: Vec<u8, Heap>) -> Result<Slice, SliceFault>
-        ensures valid { OnOk result (IsValid bytes.items) }
-        ensures slice { IfOk result (λ slice. slice ≡ bytes.items) }
-        ensures faulty { IfErr result (IsSliceFault bytes.items) }
-    {
-        let facts = Slice::check(&bytes)?.facts();
-        Ok(Slice::of_checked(bytes, facts))
-    }
-
     /// The slice of bytes that [`Slice::check`] has accepted, by what it found out of them. They are taken over
     /// without a copy.
     pub fn of_checked(bytes: Vec<u8, Heap>, facts: SliceFacts) -> Slice
@@ -316,11 +306,14 @@ fn facts_in(image: &Image<'_>) -> SliceFacts
     ensures { IsCheckedOf image.now result }
 {
     let (uuid, symtab) = image.parts();
-    let (cputype, subtype) = image.arch();
+    let (cputype, cpusubtype) = image.arch();
     SliceFacts {
         key: SliceKey {
             uuid,
-            arch: ArchKey { cputype, subtype },
+            arch: ArchKey {
+                cputype,
+                cpusubtype,
+            },
         },
         symtab,
     }

@@ -49,7 +49,8 @@ pub fn headline<F>()
         → TookTheSame sites events i others later j
         → (state sites events (length events)).held i ≡ (state others later (length later)).held j }
 
-    // They write out the same bytes: a content has a text, and one only.
+    // They write out the same bytes: a content has a text, and one only. What a run's events issue are records, as the
+    // clause `records` of `run` says.
     ensures same_bytes { (sites others : ℕ) (events later : List (Event F)) (i j : ℕ)
         → TookTheSame sites events i others later j
         → AreRecords sites events
@@ -65,6 +66,8 @@ pub fn headline<F>()
         → (key : SliceKey) (asked : Where) (answer : AnswerRecord)
         → IsAnswer ((state sites events (length events)).held i) key asked answer
         ↔ IsAnswer ((state others later (length later)).held j) key asked answer }
+    ensures some_answer { (o : Operations) (key : SliceKey) (asked : Where)
+        → (answer : AnswerRecord) × IsAnswer o key asked answer }
     ensures one_answer { (o : Operations) (key : SliceKey) (asked : Where) (answer other : AnswerRecord)
         → IsAnswer o key asked answer
         → IsAnswer o key asked other

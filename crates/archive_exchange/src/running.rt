@@ -4,7 +4,7 @@ ghost use Rattle.std.specs.List.{AllZip};
 ghost use Rattle.archive_core.specs.Content.{IsBelow, content_of};
 ghost use Rattle.exchange_model.specs.World.{start, state, outcomes};
 ghost use Rattle.exchange_model.specs.Reached.{reached};
-ghost use Rattle.exchange_model.specs.Issued.{AreIssued, IsDigestTelling, IsExchange, IsQuiet};
+ghost use Rattle.exchange_model.specs.Issued.{AreIssued, AreRecords, IsDigestTelling, IsExchange, IsQuiet};
 ghost use Rattle.archive_exchange.specs.SiteState.{SiteState};
 ghost use Rattle.archive_exchange.specs.ModelEvent.{ModelEvent, OfEvents, OutcomeIs};
 ghost use Rattle.archive_exchange.specs.Rehearsal.{Represents};
@@ -83,6 +83,9 @@ pub fn run<A: Archive + Drop>(
         → slice_get done.0.sites i ≡ Some site
         → content_of (reached sites seen i) ≡ content_of (reached others later j)
         → AreAlike site.held ((state others later (length later)).held j))) }
+
+    // What its events issue are records of operations. That is the premise of the laws of events, and of `headline`.
+    ensures records { IfOk result (λ _. OfEvents events.now (λ seen. AreRecords sites seen)) }
 
     // Nothing is held or saved that was not issued.
     ensures held_was_issued { IfOk result (λ _. OfEvents events.now (λ seen. (n i : ℕ)

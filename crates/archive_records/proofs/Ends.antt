@@ -35,7 +35,7 @@ number_of_end n lt = from_be_bytes-to_be_bytes_8 n lt
 
 -- a file with an end record
 module _ (file : Format) (end : end_length file ≡ Some 9) where
-  framed_end : (n : ℕ) → framed file (end_record n) ≡ Ok 9
+  pub framed_end : (n : ℕ) → framed file (end_record n) ≡ Ok 9
   unfolding head_length body_length end_record
   framed_end n = framed-whole file (end_record n) 9 (lit≤ tt) end (lit≤ tt) (lit≤ tt) (lit≤ tt)
 

@@ -13,7 +13,7 @@ use Rattle.archive_records.specs.Text.{last_of}
 use Rattle.archive_records.specs.Fault.{Refuses, is_end, tested, next, next_by, FailsNext, IsMagicFault, IsUnended, IsFaultBehind, IsOperationsFault, IsSummaryFault, IsOfText}
 use Rattle.archive_records.specs.declared.buffer.Buffer.{Buffer}
 use Rattle.archive_records.specs.Reading.{Blames}
-use Rattle.archive_records.specs.Reader.{bytes_so_far, seen_as, StopsInMagic}
+use Rattle.archive_records.specs.Reader.{bytes_so_far, seen_as}
 use Rattle.archive_records.proofs.Laid.{length-bytes_so_far}
 use Rattle.archive_records.proofs.Framed.{framed-empty}
 use Rattle.archive_records.proofs.Holds.{next-framed}
@@ -76,6 +76,22 @@ next_kind : (file : Format) (low : List ℕ) (count : ℕ) (rest : List ℕ) (ki
     → IsOfForm kind ⊎ ((n : ℕ) × (framed file rest ≡ Ok n) × (((is_end rest ≡ true) × (kind ≡ BadCount)) ⊎ ((may_follow file low (take n rest) ≡ false) × (kind ≡ NotAscending))))
 unfolding next
 next_kind file low count rest kind e = next_by_kind (framed file rest) file low count rest kind refl e
+
+truncated_count : Truncated ≡ BadCount → ⊥
+truncated_count e = cc
+
+truncated_order : Truncated ≡ NotAscending → ⊥
+truncated_order e = cc
+
+cut_by : (r : Result ℕ RecordFaultKind) (file : Format) (low : List ℕ) (count : ℕ) (rest : List ℕ) → next_by file r low count rest ≡ failed Truncated → r ≡ failed Truncated
+cut_by (Err j) file low count rest e = e
+cut_by (Ok n) file low count rest e = elim (tested_kind file low count rest n Truncated e) [ inl a ↦ absurd (truncated_count a.1) | inr a ↦ absurd (truncated_order a.1) ]
+
+-- no other test finds a record cut off than that of its form
+pub cut_off : (file : Format) (low : List ℕ) (count : ℕ) (rest : List ℕ) → FailsNext file low count rest Truncated → framed file rest ≡ Err Truncated
+unfolding next
+cut_off file low count rest (inl e) = cut_by (framed file rest) file low count rest e
+cut_off file low count rest (inr r) = absurd (refused_slice file (take r.0 rest) Truncated r.2)
 
 form_not_trailing : (kind : RecordFaultKind) → kind ≡ Trailing → IsOfForm kind → ⊥
 form_not_trailing kind t (inl e) = apart (sym e ∙ t)
@@ -149,20 +165,6 @@ fails_not_covered file low count rest (inl e) =
 
     not_ascending : Covered ≡ NotAscending → ⊥
     not_ascending h = cc
-
-pub magic_never_trailing : (file : Format) (bytes : List ℕ) (kind : RecordFaultKind) → StopsInMagic file bytes kind → kind ≢ Trailing
-magic_never_trailing file bytes kind s t = none (subst (StopsInMagic file bytes) t s)
-  where
-    device : Trailing ≡ Device → ⊥
-    device h = cc
-
-    memory : Trailing ≡ OutOfMemory → ⊥
-    memory h = cc
-
-    none : StopsInMagic file bytes Trailing → ⊥
-    none (inl m) = m
-    none (inr (inl d)) = device d.0
-    none (inr (inr d)) = memory d.0
 
 -- ---- where a file does not end
 

@@ -1,7 +1,6 @@
 -- Formats of one kind: the two versions of archives differ in their magics alone, as far as records go.
 use Rattle.std.proofs.Common.{◌≡◌, ◌≢◌, ℕ, zero, suc, ◌<◌, Bool, true, false, cond, List, [], ◌∷◌, ◌++◌, length, refl, sym, ap, ◌∙◌, subst, arith, inl, inr, lit≤}
 use Rattle.std.specs.Prelude.{take, slice_index, eqb}
-use Rattle.archive_core.specs.Record.{IsRecord}
 use Rattle.archive_records.specs.declared.fault.RecordFaultKind.{RecordFaultKind}
 use Rattle.archive_records.specs.declared.fault.RecordFaultKind.TheVariants.{BadMagic, Trailing, Device, OutOfMemory}
 use Rattle.archive_records.specs.Reader.{StopsInMagic, StopsInMagicOf}
@@ -10,7 +9,7 @@ use Rattle.archive_records.specs.declared.format.Format.{Format}
 use Rattle.archive_records.specs.declared.format.Format.TheVariants.{Archive, OldArchive, Operations, Summary}
 use Rattle.archive_records.specs.declared.kind.TextKind.{TextKind}
 use Rattle.archive_records.specs.declared.kind.TextKind.TheVariants.{Archive as Archive_text, Operations as Operations_text, Summary as Summary_text}
-use Rattle.archive_records.specs.Kind.{magic, old_magic, magic_of, kind_of, archive_format, format_for, IsItem, allows, may_follow}
+use Rattle.archive_records.specs.Kind.{magic, old_magic, magic_of, kind_of, archive_format, format_for, allows, may_follow}
 use Rattle.archive_records.specs.Layout.{head_length, body_length, framed_behind, framed}
 use Rattle.archive_records.specs.Text.{end_record, ending, InOrder}
 
@@ -51,12 +50,6 @@ follows_of Archive is a b = refl
 follows_of OldArchive is a b = follows_old a b
 follows_of Operations is a b = absurd (no_operations_text is)
 follows_of Summary is a b = absurd (no_summary_text is)
-
-pub item_of : (f : Format) → kind_of f ≡ Archive_text → (x : List ℕ) → IsItem f x → IsRecord x
-item_of Archive is x i = i
-item_of OldArchive is x i = i
-item_of Operations is x i = absurd (no_operations_text is)
-item_of Summary is x i = absurd (no_summary_text is)
 
 pub ending_of : (f : Format) → kind_of f ≡ Archive_text → (n : ℕ) → ending f n ≡ end_record n
 ending_of Archive is n = refl

@@ -295,10 +295,10 @@ key_at bytes long fits =
     let b4 : length b ≡ 4 = omega (arith, length-take 4 (drop 21 bytes), length-drop 21 bytes) in
     let a_fits : IsBytes a = IsBytes-take 4 (drop 17 bytes) (IsBytes-drop 17 bytes fits) in
     let b_fits : IsBytes b = IsBytes-take 4 (drop 21 bytes) (IsBytes-drop 21 bytes fits) in
-    let key : SliceKey = record { uuid = take 16 (drop 1 bytes); arch = record { cputype = from_be_bytes w32 a; subtype = from_be_bytes w32 b } } in (
+    let key : SliceKey = record { uuid = take 16 (drop 1 bytes); arch = record { cputype = from_be_bytes w32 a; cpusubtype = from_be_bytes w32 b } } in (
       key,
       read_key bytes key refl (be_bytes_4 a (from_be_bytes w32 a) a4 a_fits refl) (be_bytes_4 b (from_be_bytes w32 b) b4 b_fits refl),
-      record { uuid = omega (arith, length-take 16 (drop 1 bytes), length-drop 1 bytes); cputype = be_small a a4 a_fits; subtype = be_small b b4 b_fits },
+      record { uuid = omega (arith, length-take 16 (drop 1 bytes), length-drop 1 bytes); cputype = be_small a a4 a_fits; cpusubtype = be_small b b4 b_fits },
     )
 
 -- whole bytes with a retirement's tag are a retirement's record

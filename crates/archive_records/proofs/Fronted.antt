@@ -17,7 +17,7 @@ use Rattle.std.proofs.lemmas.List.Sorted.{searchable_from_sorted}
 use Rattle.std.proofs.lemmas.Map.Keys.{Less-from_sorted}
 use Rattle.join_core.specs.InnerSearch.{IsFound}
 use Rattle.join_core.proofs.Place.{from_list_insert, insert_present}
-use Rattle.archive_core.specs.Content.{Operations, is_admission, key_and_digest, covering, is_covered}
+use Rattle.archive_core.specs.Content.{is_admission, key_and_digest, covering, is_covered}
 use Rattle.archive_core.specs.Record.{IsRecord}
 use Rattle.archive_records.specs.Reader.{set_of, Keeps}
 use Rattle.archive_records.proofs.Puts.{bytes_same}
@@ -89,11 +89,9 @@ kept_before xs x h = sym (insert_present nat_list_cmp_total bytes_same (set_of x
 no_admission : (x : List ℕ) → get_or x 0 0 ≡ 1 → is_admission x ≡ false
 no_admission x e = is_false (is_admission x) (λ a. absurd (omega (arith, e, eqb-true (get_or x 0 0) 2 a)))
 
-pub keeps_retirement : (old new : List (List ℕ)) (x : List ℕ) → get_or x 0 0 ≡ 1 → set_of new ≡ set.insert (set_of old) x → Keeps old new false x
-keeps_retirement old new x tag is = record {
-  tells = ap (λ b. b && contains (set_of old) (covering x)) (no_admission x tag);
-  alike = λ r. ap (λ (s : Operations). contains s (1 ∷ r)) is;
-}
+-- a retirement is not covered
+pub uncovered_retirement : (old : List (List ℕ)) (x : List ℕ) → get_or x 0 0 ≡ 1 → is_covered (set_of old) x ≡ false
+uncovered_retirement old x tag = ap (λ b. b && contains (set_of old) (covering x)) (no_admission x tag)
 
 pub keeps_admission : (old : List (List ℕ)) (covered : Bool) (x : List ℕ) → (get_or x 0 0 ≡ 1 → ⊥) → covered ≡ is_covered (set_of old) x → Keeps old old covered x
 keeps_admission old covered x tag tells = record {

@@ -170,6 +170,12 @@ text_whole f t b done taken end =
     let k = taken_rest t (text_of f done) b taken in
     k.1 ∙ ap (λ (x : List ℕ). text_of f done ++ x) (k.2 end) ∙ append-nil (text_of f done)
 
+-- a side that was read to its end has an archive's text
+pub ended_text : (t low : List ℕ) (b : Option (List ℕ)) (done : List (List ℕ)) (side : MergeInput) → Stands (Some t) b done low side → side.ahead ≡ Ended → IsArchiveText t
+ended_text t low b done side s end =
+    let h = s.ended end in
+    archive_text side.reader.file s.archive t done h.0.ordered h.0.apart (text_whole side.reader.file t b done h.0.taken h.1)
+
 pub goes_on : (t low : List ℕ) (b : Option (List ℕ)) (done ys : List (List ℕ)) (side : MergeInput) → Stands (Some t) b done low side → IsLongestFront side.reader.file t ys → GoesOn t low done ys side.ahead
 goes_on t low b done ys side s l =
     let f : Format = side.reader.file in

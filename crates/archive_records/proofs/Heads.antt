@@ -20,17 +20,17 @@ laid_last front rest part at k len long =
     rw (take_at front rest at len, none, append-nil part) refl
 
 -- the three parts of a key
-pub laid_key : (old uuid cputype subtype : List ℕ) → length old ≡ 24 → length uuid ≡ 16 → length cputype ≡ 4 → length subtype ≡ 4 → (x : List ℕ) → x ≡ take 16 (uuid ++ drop 16 old) ++ (cputype ++ drop 4 (drop 16 (uuid ++ drop 16 old)))
-    → take 20 x ++ (subtype ++ drop (length x - 20) (drop 20 x)) ≡ uuid ++ (cputype ++ subtype)
-laid_key old uuid cputype subtype long u a b x e =
+pub laid_key : (old uuid cputype cpusubtype : List ℕ) → length old ≡ 24 → length uuid ≡ 16 → length cputype ≡ 4 → length cpusubtype ≡ 4 → (x : List ℕ) → x ≡ take 16 (uuid ++ drop 16 old) ++ (cputype ++ drop 4 (drop 16 (uuid ++ drop 16 old)))
+    → take 20 x ++ (cpusubtype ++ drop (length x - 20) (drop 20 x)) ≡ uuid ++ (cputype ++ cpusubtype)
+laid_key old uuid cputype cpusubtype long u a b x e =
     let front : x ≡ (uuid ++ cputype) ++ drop 4 (drop 16 (uuid ++ drop 16 old)) = e ∙ ap (λ (t : List ℕ). t ++ (cputype ++ drop 4 (drop 16 (uuid ++ drop 16 old)))) (take_at uuid (drop 16 old) 16 u) ∙ sym (append_assoc uuid cputype (drop 4 (drop 16 (uuid ++ drop 16 old)))) in
     let tail : List ℕ = drop 4 (drop 16 (uuid ++ drop 16 old)) in
     let four : length tail ≡ 4 = omega (arith, length-drop 4 (drop 16 (uuid ++ drop 16 old)), length-drop 16 (uuid ++ drop 16 old), length-append uuid (drop 16 old), length-drop 16 old) in
     let whole : length x ≡ 24 = ap length front ∙ omega (arith, length-append (uuid ++ cputype) tail, length-append uuid cputype) in
-    rw (whole, front) (laid_last (uuid ++ cputype) tail subtype 20 4 (omega (arith, length-append uuid cputype)) four ∙ append_assoc uuid cputype subtype)
+    rw (whole, front) (laid_last (uuid ++ cputype) tail cpusubtype 20 4 (omega (arith, length-append uuid cputype)) four ∙ append_assoc uuid cputype cpusubtype)
 
 -- the three parts of a key, read one behind the other
-pub read_key : (bytes : List ℕ) (key : SliceKey) → key.uuid ≡ take 16 (drop 1 bytes) → to_be_bytes w32 key.arch.cputype ≡ take 4 (drop 17 bytes) → to_be_bytes w32 key.arch.subtype ≡ take 4 (drop 21 bytes) → key_bytes key ≡ take 24 (drop 1 bytes)
+pub read_key : (bytes : List ℕ) (key : SliceKey) → key.uuid ≡ take 16 (drop 1 bytes) → to_be_bytes w32 key.arch.cputype ≡ take 4 (drop 17 bytes) → to_be_bytes w32 key.arch.cpusubtype ≡ take 4 (drop 21 bytes) → key_bytes key ≡ take 24 (drop 1 bytes)
 unfolding key_bytes
 read_key bytes key u a b =
     let xs : List ℕ = drop 1 bytes in

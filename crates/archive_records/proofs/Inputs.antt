@@ -18,9 +18,9 @@ use Rattle.archive_records.specs.declared.fault.RecordFaultKind.TheVariants.{Bad
 use Rattle.archive_records.specs.declared.fault.RecordFault.{RecordFault}
 use Rattle.archive_records.specs.Kind.{magic_of, kind_of, archive_format, format_for}
 use Rattle.archive_records.specs.Text.{ending, text_of, InOrder, AreApart, last_of, kept, taken_of, IsArchiveOf, summary_text, IsOperationsText}
-use Rattle.archive_records.specs.Fault.{is_end, FailsBehind, Fails, IsMagicFault, IsFaultBehind, IsUnended, IsOperationsFault, IsSummaryFault, IsFaultOf, IsOfText}
+use Rattle.archive_records.specs.Fault.{is_end, FailsBehind, Fails, IsMagicFault, IsFaultBehind, IsUnended, IsOperationsFault, IsSummaryFault, IsFaultOf, IsCutAtMost, IsOfText}
 use Rattle.archive_records.specs.Front.{IsGoodFront, IsFrontLengthOf, IsLongestLengthOf, IsFrontLength, IsLongestLength, front_length}
-use Rattle.archive_records.specs.Reading.{Blames, StandsBehind, IsRefused, IsOfMachine, ReadsWhole, ReadsFront}
+use Rattle.archive_records.specs.Reading.{Blames, StandsBehind, DecidesNoFault, HoldsOfTaken, IsRefused, IsOfMachine, ReadsWhole, ReadsFront}
 use Rattle.archive_records.specs.Reader.{FaultBlamesReader, seen_as, StopsInMagic, Stops, Stopped, HasStopped, IsReadTo, AreRead}
 use Rattle.archive_records.proofs.Grown.{Fails-grows, IsTrailing-grows}
 use Rattle.archive_records.proofs.Longest.{Goes, end-stops, is_longest}
@@ -270,6 +270,10 @@ module _ (file : Format) where
   memory_magic bytes kind e (inr (inl d)) = d.1
   memory_magic bytes kind e (inr (inr d)) = d.1
 
+  machine_magic : (bytes : List ℕ) (kind : RecordFaultKind) → IsOfMachine kind → StopsInMagic file bytes kind → length bytes < 8
+  machine_magic bytes kind (inl device) stops = device_magic bytes kind device stops
+  machine_magic bytes kind (inr memory) stops = memory_magic bytes kind memory stops
+
   memory_offset : (records : List (List ℕ)) (rest : List ℕ) (fault : RecordFault) → fault.kind ≡ OutOfMemory → Stops file records rest fault → fault.offset ≡ front_length records
   memory_offset records rest fault e (inl f) = f.0
   memory_offset records rest fault e (inr (inl t)) = absurd (trailing_memory (sym t.0 ∙ e))
@@ -312,12 +316,20 @@ module _ (kind : TextKind) where
       let bytes : List ℕ = magic_of s.0 ++ found.0 in
       (bytes, found.1, subst (λ (f : Format). IsFrontLengthOf f bytes fault.offset) (sym (format_read kind s.0 s.1 bytes found.0 refl)) found.2)
 
+  HasStopped-undecided : (a b : Option (List ℕ)) (fault : RecordFault) → HasStopped kind a b fault → IsOfMachine fault.kind → HoldsOfTaken (DecidesNoFault kind) a b
+  HasStopped-undecided a b fault (inl m) machine = (m.0, m.1, inl (machine_magic (format_for kind m.0) m.0 fault.kind machine (m.2 (format_for kind m.0) (kind_read kind m.0))))
+  HasStopped-undecided a b fault (inr s) machine =
+      let rest : List ℕ = concat s.2 ++ s.3.rest in
+      let bytes : List ℕ = magic_of s.0 ++ rest in
+      (bytes, s.3.taken, inr (subst (λ (f : Format). IsCutAtMost f bytes) (sym (format_read kind s.0 s.1 bytes rest refl)) (s.3.undecided machine)))
+
   pub is_refused : {R : Type 0} (left : R → Option (List ℕ)) (failures : R → ℕ) (old new : R) (fault : RecordFault) → HasStopped kind (left old) (left new) fault → Blames left failures old new fault.kind → IsRefused kind left failures old new fault
   is_refused left failures old new fault stopped blames = record {
     blames = blames;
     faulty = HasStopped-fault (left old) (left new) fault stopped blames.2;
     device = HasStopped-device (left old) (left new) fault stopped;
     memory = HasStopped-memory (left old) (left new) fault stopped;
+    undecided = HasStopped-undecided (left old) (left new) fault stopped;
   }
 
 -- ---- an archive that is read

@@ -14,6 +14,7 @@ pub mod Longest
 pub mod Fronted
 pub mod Grown
 pub mod FaultKinds
+pub mod Undecided
 pub mod Steps
 pub mod Gathered
 pub mod Listed
@@ -36,7 +37,9 @@ pub mod Starts
 pub mod Fronts
 pub mod Places
 pub mod Orders
+pub mod Unread
 pub mod Merges
+pub mod Gained
 pub mod Sides
 pub mod Questioned
 pub mod Sought

@@ -19,6 +19,7 @@ use Rattle.archive_records.specs.Reader.{set_of, FaultBlamesReader, HasStopped, 
 use Rattle.archive_records.specs.InnerRows.{HasReadContent}
 use Rattle.archive_records.proofs.Puts.{bytes_same}
 use Rattle.archive_records.proofs.Apart.{apart_none}
+use Rattle.archive_records.proofs.Undecided.{cut_text}
 use Rattle.archive_records.proofs.Contents.{sorted-InOrder}
 use Rattle.archive_records.proofs.Formats.{in_order_old, no_operations_text, no_summary_text}
 use Rattle.archive_records.proofs.Inputs.{archive_whole, IsReadTo-content}
@@ -61,6 +62,7 @@ module _ {T : Type 0} (Makes : List (List ℕ) → T → Type 0) (a b : Option (
       few = omega arith;
       unended = λ known. absurd (known.1 refl);
       stops = inl (refl, λ other. absurd (other refl));
+      undecided = λ _. cut_text m.format m.records m.ordered m.apart (omega (arith, m.few)) (ending m.format (length m.records)) refl;
     },
   )
 

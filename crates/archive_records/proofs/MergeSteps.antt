@@ -23,7 +23,7 @@ use Rattle.archive_records.specs.Front.{front_length}
 use Rattle.archive_records.specs.Merging.{most_records}
 use Rattle.archive_records.specs.declared.fault.MergeCause.{MergeCause}
 use Rattle.archive_records.specs.declared.fault.MergeFault.{MergeFault}
-use Rattle.archive_records.specs.MergeSteps.{TellsBy, TellsCovered, Stands, Joins, Merging, LeftStopped, RightStopped, WriteStopped, IsFull, LeftFull, RightFull, ByCause, HasStoppedMerge, IsWritten, first_by, first_of, Fits, IsRead, IsRefusedMore, memory_behind}
+use Rattle.archive_records.specs.MergeSteps.{TellsBy, TellsCovered, Stands, Joins, Merging, WriteStopped, IsFull, LeftRefused, RightRefused, ByCause, HasStoppedMerge, IsRecordWritten, first_by, first_of, Fits, IsRead, IsRefusedMore, memory_behind}
 use Rattle.archive_records.proofs.Puts.{bytes_same, concat-push}
 use Rattle.archive_records.proofs.Apart.{covered_push, last_of-push}
 use Rattle.archive_records.proofs.Ascending.{below-less, below-greater, last_is_record, last_under}
@@ -175,7 +175,7 @@ module _ (a1 b1 a2 b2 w0 w1 w2 : Option (List ℕ)) (m : Merge) (p : Merging a1 
       ∙ ap (λ (c : Bool). m.left.reader.dropped || c) (sym (held_dropped a2 b2 p.rights (last_of [] p.out) m.right p.right f.1))
       ∙ sym told
 
-  wrote : (x : List ℕ) (left right old new : MergeInput) (written : Sizes) → x ≡ old.reader.last → is_covered (set_of (p.out ++ x ∷ [])) x ≡ false → Next a1 b1 a2 b2 left right (p.out ++ x ∷ []) → IsWritten w1 w2 m.written written old new → Merging a1 b1 a2 b2 w0 w2 (record { left = left; right = right; written = written })
+  wrote : (x : List ℕ) (left right old new : MergeInput) (written : Sizes) → x ≡ old.reader.last → is_covered (set_of (p.out ++ x ∷ [])) x ≡ false → Next a1 b1 a2 b2 left right (p.out ++ x ∷ []) → IsRecordWritten w1 w2 m.written written old new → Merging a1 b1 a2 b2 w0 w2 (record { left = left; right = right; written = written })
   wrote x left right old new written e free n i =
       let gained : Appends w1 w2 x = subst (Appends w1 w2) (sym e) i.gained in
       let grown : kept (p.out ++ x ∷ []) ≡ kept p.out ++ x ∷ [] = kept_push p.out x n.joins.ordered free in
@@ -242,30 +242,30 @@ module _ (a1 b1 a2 b2 w0 w1 w2 : Option (List ℕ)) (m : Merge) (p : Merging a1 
       }
 
   module _ {X : Type 0} (r : Result X WriteFault) (written : Sizes) (side : MergeInput) where
-    pub left_turn : m.right.ahead ≢ Unread → first_of m.left m.right ≡ Less → TellsCovered m.left m.right false → OnOk r (IsWritten w1 w2 m.written written m.left side) → IfErr r (λ e. (k : ℕ) × (e.written ≡ m.written.bytes + k) × WritesFirst w1 w2 m.left.reader.last k)
+    pub left_turn : m.right.ahead ≢ Unread → first_of m.left m.right ≡ Less → TellsCovered m.left m.right false → OnOk r (IsRecordWritten w1 w2 m.written written m.left side) → IfErr r (λ e. (k : ℕ) × (e.written ≡ m.written.bytes + k) × WritesFirst w1 w2 m.left.reader.last k)
         → MatchResult r (λ _. Merging a1 b1 a2 b2 w0 w2 (record { left = side; right = m.right; written = written })) (λ fault. WriteStopped a1 b1 a2 b2 w0 w2 fault.written)
     left_turn read first tells ok err = by r ok err
       where
-        by : (r : Result X WriteFault) → OnOk r (IsWritten w1 w2 m.written written m.left side) → IfErr r (λ e. (k : ℕ) × (e.written ≡ m.written.bytes + k) × WritesFirst w1 w2 m.left.reader.last k)
+        by : (r : Result X WriteFault) → OnOk r (IsRecordWritten w1 w2 m.written written m.left side) → IfErr r (λ e. (k : ℕ) × (e.written ≡ m.written.bytes + k) × WritesFirst w1 w2 m.left.reader.last k)
             → MatchResult r (λ _. Merging a1 b1 a2 b2 w0 w2 (record { left = side; right = m.right; written = written })) (λ fault. WriteStopped a1 b1 a2 b2 w0 w2 fault.written)
         by (Ok x) i e = subst (λ (s : MergeInput). Merging a1 b1 a2 b2 w0 w2 (record { left = s; right = m.right; written = written })) (sym i.side) (wrote m.left.reader.last (unread_of m.left) m.right m.left side written refl (less_covered read first false tells) (next_left read first) i)
         by (Err fault) i e = write_stops m.left.reader.last (unread_of m.left) m.right fault.written e.0 (less_covered read first false tells) (next_left read first) e.1 e.2
 
-    pub both_turn : first_of m.left m.right ≡ Equal → TellsCovered m.left m.right false → OnOk r (IsWritten w1 w2 m.written written m.left side) → IfErr r (λ e. (k : ℕ) × (e.written ≡ m.written.bytes + k) × WritesFirst w1 w2 m.left.reader.last k)
+    pub both_turn : first_of m.left m.right ≡ Equal → TellsCovered m.left m.right false → OnOk r (IsRecordWritten w1 w2 m.written written m.left side) → IfErr r (λ e. (k : ℕ) × (e.written ≡ m.written.bytes + k) × WritesFirst w1 w2 m.left.reader.last k)
         → MatchResult r (λ _. Merging a1 b1 a2 b2 w0 w2 (record { left = side; right = unread_of m.right; written = written })) (λ fault. WriteStopped a1 b1 a2 b2 w0 w2 fault.written)
     both_turn first tells ok err = by r ok err
       where
-        by : (r : Result X WriteFault) → OnOk r (IsWritten w1 w2 m.written written m.left side) → IfErr r (λ e. (k : ℕ) × (e.written ≡ m.written.bytes + k) × WritesFirst w1 w2 m.left.reader.last k)
+        by : (r : Result X WriteFault) → OnOk r (IsRecordWritten w1 w2 m.written written m.left side) → IfErr r (λ e. (k : ℕ) × (e.written ≡ m.written.bytes + k) × WritesFirst w1 w2 m.left.reader.last k)
             → MatchResult r (λ _. Merging a1 b1 a2 b2 w0 w2 (record { left = side; right = unread_of m.right; written = written })) (λ fault. WriteStopped a1 b1 a2 b2 w0 w2 fault.written)
         by (Ok x) i e = subst (λ (s : MergeInput). Merging a1 b1 a2 b2 w0 w2 (record { left = s; right = unread_of m.right; written = written })) (sym i.side) (wrote m.left.reader.last (unread_of m.left) (unread_of m.right) m.left side written refl (both_covered first false tells) (next_both first) i)
         by (Err fault) i e = write_stops m.left.reader.last (unread_of m.left) (unread_of m.right) fault.written e.0 (both_covered first false tells) (next_both first) e.1 e.2
 
-    pub right_turn : m.left.ahead ≢ Unread → (m.left.ahead ≡ Ended → m.right.ahead ≡ Held) → first_of m.left m.right ≡ Greater → TellsCovered m.left m.right false → OnOk r (IsWritten w1 w2 m.written written m.right side)
+    pub right_turn : m.left.ahead ≢ Unread → (m.left.ahead ≡ Ended → m.right.ahead ≡ Held) → first_of m.left m.right ≡ Greater → TellsCovered m.left m.right false → OnOk r (IsRecordWritten w1 w2 m.written written m.right side)
         → IfErr r (λ e. (k : ℕ) × (e.written ≡ m.written.bytes + k) × WritesFirst w1 w2 m.right.reader.last k)
         → MatchResult r (λ _. Merging a1 b1 a2 b2 w0 w2 (record { left = m.left; right = side; written = written })) (λ fault. WriteStopped a1 b1 a2 b2 w0 w2 fault.written)
     right_turn read some first tells ok err = by r ok err
       where
-        by : (r : Result X WriteFault) → OnOk r (IsWritten w1 w2 m.written written m.right side) → IfErr r (λ e. (k : ℕ) × (e.written ≡ m.written.bytes + k) × WritesFirst w1 w2 m.right.reader.last k)
+        by : (r : Result X WriteFault) → OnOk r (IsRecordWritten w1 w2 m.written written m.right side) → IfErr r (λ e. (k : ℕ) × (e.written ≡ m.written.bytes + k) × WritesFirst w1 w2 m.right.reader.last k)
             → MatchResult r (λ _. Merging a1 b1 a2 b2 w0 w2 (record { left = m.left; right = side; written = written })) (λ fault. WriteStopped a1 b1 a2 b2 w0 w2 fault.written)
         by (Ok x) i e = subst (λ (s : MergeInput). Merging a1 b1 a2 b2 w0 w2 (record { left = m.left; right = s; written = written })) (sym i.side) (wrote m.right.reader.last m.left (unread_of m.right) m.right side written refl (greater_covered read some first false tells) (next_right read some first) i)
         by (Err fault) i e = write_stops m.right.reader.last m.left (unread_of m.right) fault.written e.0 (greater_covered read some first false tells) (next_right read some first) e.1 e.2
@@ -278,7 +278,7 @@ first_held Ended r o n = absurd (n refl)
 first_held Unread r o n = absurd (n refl)
 
 -- the offset before the last record
-before_last : (a b : Option (List ℕ)) (done : List (List ℕ)) (low : List ℕ) (s : MergeInput) → Stands a b done low s → s.ahead ≡ Held → s.reader.offset - length s.reader.last ≡ front_length done
+pub before_last : (a b : Option (List ℕ)) (done : List (List ℕ)) (low : List ℕ) (s : MergeInput) → Stands a b done low s → s.ahead ≡ Held → s.reader.offset - length s.reader.last ≡ front_length done
 before_last a b done low s p held =
     let h = (p.held held).0 in
     omega (arith, h.offset_is, ap length (concat-push done s.reader.last), length-append (concat done) s.reader.last)
@@ -320,15 +320,15 @@ module _ (a1 b1 a2 b2 w0 w1 : Option (List ℕ)) (m : Merge) (p : Merging a1 b1 
   full_stops e (most, is, inl (first, cause)) =
       let offset = before_last a1 b1 p.lefts (last_of [] p.out) m.left p.left (first_held m.left.ahead m.right.ahead _ first) in
       subst (λ (c : MergeCause). ByCause c
-      (λ fault. LeftStopped a1 b1 a2 b2 w0 w1 fault e.written ⊎ LeftFull a1 b1 a2 b2 w0 w1 fault e.written)
-      (λ fault. RightStopped a1 b1 a2 b2 w0 w1 fault e.written ⊎ RightFull a1 b1 a2 b2 w0 w1 fault e.written)
+      (λ fault. LeftRefused a1 b1 a2 b2 w0 w1 fault e.written)
+      (λ fault. RightRefused a1 b1 a2 b2 w0 w1 fault e.written)
       (WriteStopped a1 b1 a2 b2 w0 w1 e.written)) (sym cause)
-      (inr (is_full e.written most is, first, ap (λ (n : ℕ). memory_behind n) offset))
+      (inr (inl (is_full e.written most is, first, ap (λ (n : ℕ). memory_behind n) offset)))
   full_stops e (most, is, inr (first, cause)) =
       let held = (first_greater m.left.ahead m.right.ahead _ read.left some first).0 in
       let offset = before_last a2 b2 p.rights (last_of [] p.out) m.right p.right held in
       subst (λ (c : MergeCause). ByCause c
-      (λ fault. LeftStopped a1 b1 a2 b2 w0 w1 fault e.written ⊎ LeftFull a1 b1 a2 b2 w0 w1 fault e.written)
-      (λ fault. RightStopped a1 b1 a2 b2 w0 w1 fault e.written ⊎ RightFull a1 b1 a2 b2 w0 w1 fault e.written)
+      (λ fault. LeftRefused a1 b1 a2 b2 w0 w1 fault e.written)
+      (λ fault. RightRefused a1 b1 a2 b2 w0 w1 fault e.written)
       (WriteStopped a1 b1 a2 b2 w0 w1 e.written)) (sym cause)
       (inr (is_full e.written most is, first, ap (λ (n : ℕ). memory_behind n) offset))

@@ -24,16 +24,18 @@ use Rattle.archive_records.specs.Text.{text_of, last_of, written, kept, taken_of
 use Rattle.archive_records.specs.Fault.{IsOfText}
 use Rattle.archive_records.specs.Reading.{Blames, IsOfMachine, IsReadWhole}
 use Rattle.archive_records.specs.Reader.{HasReadAll, HasStopped, Stopped, IsReadTo, Position}
-use Rattle.archive_records.specs.Merging.{IsArchiveText, AreGoodRecords, LeftStops, RightStops, of_both, IsWrittenBefore, Stream, IsRefusedAlone, StopsBy, Merges}
-use Rattle.archive_records.specs.MergeSteps.{StopsBeforeRecords, HasMagicRead, Stands, LeftStopped, RightStopped, WriteStopped, IsFull, LeftFull, RightFull, memory_behind, first_of, Leaves, BlamesBy, BlamesDevices, ByCause}
+use Rattle.archive_records.specs.Merging.{IsArchiveText, AreGoodRecords, LeftStops, RightStops, of_both, IsWrittenBefore, Stream, GainsNoText, IsRefusedAlone, StopsBy, Merges}
+use Rattle.archive_records.specs.MergeSteps.{StopsBeforeRecords, HasMagicRead, Stands, WriteStopped, IsFull, BothWanted, LeftRefused, RightRefused, memory_behind, first_of, Leaves, BlamesBy, BlamesDevices, ByCause}
 use Rattle.archive_records.proofs.Puts.{length_written, concat-push}
 use Rattle.archive_records.proofs.MergeSteps.{first_greater, first_held}
 use Rattle.archive_records.proofs.Apart.{apart_front}
+use Rattle.archive_records.proofs.Undecided.{cut_behind}
+use Rattle.archive_records.proofs.Unread.{begun_none, stopped_none, within_none, text_none}
 use Rattle.archive_records.proofs.Orders.{left_order, right_order}
 use Rattle.archive_records.proofs.Contents.{written_text}
 use Rattle.archive_records.proofs.Inputs.{archive_whole}
 use Rattle.archive_records.proofs.Fronts.{taken_rest, both_taken}
-use Rattle.archive_records.proofs.Places.{kept_listing, begun_nothing, no_magic, left_begun, left_place, left_first, right_begun, right_place, right_first, write_begun, full_begun}
+use Rattle.archive_records.proofs.Places.{kept_listing, begun_nothing, no_magic, left_begun, left_place, left_first, right_begun, right_place, right_first, write_begun, left_later, right_later, full_begun}
 
 -- ---- one input
 
@@ -77,6 +79,7 @@ held_stopped a b done low s p held few =
       few = omega (arith, few, h.count_is, length-append done (s.reader.last ∷ []));
       unended = λ known. absurd (known.1 refl);
       stops = inl (refl, λ known. absurd (known refl));
+      undecided = λ _. cut_behind s.reader.file done s.reader.last h.ordered h.apart (omega (arith, few, h.count_is, length-append done (s.reader.last ∷ [])));
     }
 
 -- ---- both
@@ -102,38 +105,46 @@ module _ (b1 b2 w0 w1 : Option (List ℕ)) (n : ℕ) where
   -- ---- the left side stopped
 
   abbrev LeftCase : Option (List ℕ) → Option (List ℕ) → RecordFault → Type 0
-  LeftCase a1 a2 fault = ((n ≡ 0) × Appends w0 w1 [] × Consumes a2 b2 [] × StopsBeforeRecords a1 b1 fault) ⊎ (LeftStopped a1 b1 a2 b2 w0 w1 fault n ⊎ LeftFull a1 b1 a2 b2 w0 w1 fault n)
+  LeftCase a1 a2 fault = ((n ≡ 0) × Appends w0 w1 [] × Consumes a2 b2 [] × StopsBeforeRecords a1 b1 fault) ⊎ LeftRefused a1 b1 a2 b2 w0 w1 fault n
+
+  -- memory was wanted for the record that the left side holds
+  both_left : (a1 a2 : Option (List ℕ)) (fault : RecordFault) (b : BothWanted a1 b1 a2 b2 w0 w1 fault n) → Stopped b.1.other.reader.file a1 b1 b.1.lefts fault
+  both_left a1 a2 fault (own, s, held, same, few, is) = subst (Stopped s.other.reader.file a1 b1 s.lefts) (sym is) (held_stopped a1 b1 s.lefts (last_of [] s.out) s.other s.left held few)
 
   left_stops : (a1 a2 : Option (List ℕ)) (fault : RecordFault) → (fault.kind ≡ Truncated → IsAtEnd b1) → NoText a1 fault → LeftCase a1 a2 fault → IsOfText fault.kind → ForBoth a1 a2 LeftStops
   left_stops None a2 fault ended alone s known = tt
   left_stops (Some t) None fault ended alone s known = tt
   left_stops (Some t) (Some u) fault ended alone (inl s) known = λ xs ys gx gy. record { faulty = no_text t fault alone known; first = inl (no_magic t b1 fault known ended s.3) }
   left_stops (Some t) (Some u) fault ended alone (inr (inl s)) known = λ xs ys gx gy. left_first t u b1 b2 w0 w1 xs ys gx gy fault n s known ended (no_text t fault alone known)
-  left_stops (Some t) (Some u) fault ended alone (inr (inr f)) known = absurd (not_memory fault _ f.2 known)
+  left_stops (Some t) (Some u) fault ended alone (inr (inr (inl f))) known = absurd (not_memory fault _ f.2 known)
+  left_stops (Some t) (Some u) fault ended alone (inr (inr (inr b))) known = absurd (not_memory fault _ b.5 known)
 
   left_at : (a1 a2 : Option (List ℕ)) (fault : RecordFault) → (fault.kind ≡ Truncated → IsAtEnd b1) → LeftCase a1 a2 fault → IsOfText fault.kind → ForBoth a1 a2 (λ t u xs ys. Place w0 w1 t u xs ys (last_of [] xs) n)
   left_at None a2 fault ended s known = tt
   left_at (Some t) None fault ended s known = tt
   left_at (Some t) (Some u) fault ended (inl s) known = λ xs ys gx gy. ([], inl (inl (no_magic t b1 fault known ended s.3), refl), s.1, s.0)
   left_at (Some t) (Some u) fault ended (inr (inl s)) known = λ xs ys gx gy. left_place t u b1 b2 w0 w1 xs ys gx gy fault n s known ended
-  left_at (Some t) (Some u) fault ended (inr (inr f)) known = absurd (not_memory fault _ f.2 known)
+  left_at (Some t) (Some u) fault ended (inr (inr (inl f))) known = absurd (not_memory fault _ f.2 known)
+  left_at (Some t) (Some u) fault ended (inr (inr (inr b))) known = absurd (not_memory fault _ b.5 known)
 
   left_begins : (a1 a2 : Option (List ℕ)) (fault : RecordFault) → LeftCase a1 a2 fault → ForBoth a1 a2 (λ t u xs ys. WritesFirst w0 w1 (written (of_both xs ys)) n)
   left_begins None a2 fault s = tt
   left_begins (Some t) None fault s = tt
   left_begins (Some t) (Some u) fault (inl s) = λ xs ys gx gy. begun_nothing w0 w1 (of_both xs ys) n s.0 s.1
   left_begins (Some t) (Some u) fault (inr (inl s)) = λ xs ys gx gy. left_begun t u b1 b2 w0 w1 xs ys gx gy fault n s
-  left_begins (Some t) (Some u) fault (inr (inr f)) = λ xs ys gx gy. full_begun t u b1 b2 w0 w1 xs ys gx gy fault n f.0
+  left_begins (Some t) (Some u) fault (inr (inr (inl f))) = λ xs ys gx gy. full_begun t u b1 b2 w0 w1 xs ys gx gy fault n f.0
+  left_begins (Some t) (Some u) fault (inr (inr (inr b))) = λ xs ys gx gy. right_begun t u b1 b2 w0 w1 xs ys gx gy b.0 n b.1
 
   left_stopped : (a1 a2 : Option (List ℕ)) (fault : RecordFault) → LeftCase a1 a2 fault → HasStopped Archive_text a1 b1 fault
   left_stopped a1 a2 fault (inl s) = before_records a1 b1 fault s.3
   left_stopped a1 a2 fault (inr (inl s)) = inr (s.format, s.archive, s.lefts, s.left)
-  left_stopped a1 a2 fault (inr (inr f)) = inr (f.0.left_side.reader.file, f.0.left.archive, f.0.lefts, full_left a1 a2 f.0 fault f.1 f.2)
+  left_stopped a1 a2 fault (inr (inr (inl f))) = inr (f.0.left_side.reader.file, f.0.left.archive, f.0.lefts, full_left a1 a2 f.0 fault f.1 f.2)
+  left_stopped a1 a2 fault (inr (inr (inr b))) = inr (b.1.other.reader.file, b.1.left.archive, b.1.lefts, both_left a1 a2 fault b)
 
   -- ---- the right side did
 
   abbrev RightCase : Option (List ℕ) → Option (List ℕ) → RecordFault → Type 0
-  RightCase a1 a2 fault = ((n ≡ 0) × Appends w0 w1 [] × HasMagicRead a1 b1 × StopsBeforeRecords a2 b2 fault) ⊎ (RightStopped a1 b1 a2 b2 w0 w1 fault n ⊎ RightFull a1 b1 a2 b2 w0 w1 fault n)
+  RightCase a1 a2 fault = ((n ≡ 0) × Appends w0 w1 [] × HasMagicRead a1 b1 × StopsBeforeRecords a2 b2 fault) ⊎ RightRefused a1 b1 a2 b2 w0 w1 fault n
 
   right_stops : (a1 a2 : Option (List ℕ)) (fault : RecordFault) → (fault.kind ≡ Truncated → IsAtEnd b2) → NoText a2 fault → RightCase a1 a2 fault → IsOfText fault.kind → ForBoth a1 a2 RightStops
   right_stops None a2 fault ended alone s known = tt
@@ -142,26 +153,26 @@ module _ (b1 b2 w0 w1 : Option (List ℕ)) (n : ℕ) where
       let m = s.2 in
       let k = taken_rest t (magic_of m.0) b1 m.2 in
       record { faulty = no_text u fault alone known; magic_left = (m.0, m.1, k.0, k.1); first = inl (no_magic u b2 fault known ended s.3) }
-  right_stops (Some t) (Some u) fault ended alone (inr (inl s)) known = λ xs ys gx gy. right_first t u b1 b2 w0 w1 xs ys gx gy fault n s known ended (no_text u fault alone known)
+  right_stops (Some t) (Some u) fault ended alone (inr (inl s)) known = λ xs ys gx gy. right_first t u b1 b2 w0 w1 xs ys gx gy fault n s.0 known ended (no_text u fault alone known)
   right_stops (Some t) (Some u) fault ended alone (inr (inr f)) known = absurd (not_memory fault _ f.2 known)
 
   right_at : (a1 a2 : Option (List ℕ)) (fault : RecordFault) → (fault.kind ≡ Truncated → IsAtEnd b2) → RightCase a1 a2 fault → IsOfText fault.kind → ForBoth a1 a2 (λ t u xs ys. Place w0 w1 t u xs ys (last_of [] ys) n)
   right_at None a2 fault ended s known = tt
   right_at (Some t) None fault ended s known = tt
   right_at (Some t) (Some u) fault ended (inl s) known = λ xs ys gx gy. ([], inl (inr (no_magic u b2 fault known ended s.3), refl), s.1, s.0)
-  right_at (Some t) (Some u) fault ended (inr (inl s)) known = λ xs ys gx gy. right_place t u b1 b2 w0 w1 xs ys gx gy fault n s known ended
+  right_at (Some t) (Some u) fault ended (inr (inl s)) known = λ xs ys gx gy. right_place t u b1 b2 w0 w1 xs ys gx gy fault n s.0 known ended
   right_at (Some t) (Some u) fault ended (inr (inr f)) known = absurd (not_memory fault _ f.2 known)
 
   right_begins : (a1 a2 : Option (List ℕ)) (fault : RecordFault) → RightCase a1 a2 fault → ForBoth a1 a2 (λ t u xs ys. WritesFirst w0 w1 (written (of_both xs ys)) n)
   right_begins None a2 fault s = tt
   right_begins (Some t) None fault s = tt
   right_begins (Some t) (Some u) fault (inl s) = λ xs ys gx gy. begun_nothing w0 w1 (of_both xs ys) n s.0 s.1
-  right_begins (Some t) (Some u) fault (inr (inl s)) = λ xs ys gx gy. right_begun t u b1 b2 w0 w1 xs ys gx gy fault n s
+  right_begins (Some t) (Some u) fault (inr (inl s)) = λ xs ys gx gy. right_begun t u b1 b2 w0 w1 xs ys gx gy fault n s.0
   right_begins (Some t) (Some u) fault (inr (inr f)) = λ xs ys gx gy. full_begun t u b1 b2 w0 w1 xs ys gx gy fault n f.0
 
   right_stopped : (a1 a2 : Option (List ℕ)) (fault : RecordFault) → RightCase a1 a2 fault → HasStopped Archive_text a2 b2 fault
   right_stopped a1 a2 fault (inl s) = before_records a2 b2 fault s.3
-  right_stopped a1 a2 fault (inr (inl s)) = inr (s.format, s.archive, s.rights, s.right)
+  right_stopped a1 a2 fault (inr (inl s)) = inr (s.0.format, s.0.archive, s.0.rights, s.0.right)
   right_stopped a1 a2 fault (inr (inr f)) = inr (f.0.right_side.reader.file, f.0.right.archive, f.0.rights, full_right a1 a2 f.0 fault f.1 f.2)
 
   -- ---- the writer did
@@ -170,6 +181,19 @@ module _ (b1 b2 w0 w1 : Option (List ℕ)) (n : ℕ) where
   write_begins None a2 s = tt
   write_begins (Some t) None s = tt
   write_begins (Some t) (Some u) s = λ xs ys gx gy. write_begun t u b1 b2 w0 w1 xs ys gx gy (record { kind = Device; offset = 0 }) n s
+
+  abbrev Later : List ℕ → List ℕ → List (List ℕ) → List (List ℕ) → List ℕ → Type 0
+  Later t u xs ys low = (bytes : List ℕ) × IsWrittenBefore t u (of_both xs ys) low bytes × WritesFirst w0 w1 bytes n
+
+  write_left : (a1 a2 : Option (List ℕ)) → WriteStopped a1 b1 a2 b2 w0 w1 n → ForBoth a1 a2 (λ t u xs ys. LeftStops t u xs ys → Later t u xs ys (last_of [] xs))
+  write_left None a2 s = tt
+  write_left (Some t) None s = tt
+  write_left (Some t) (Some u) s = λ xs ys gx gy. left_later t u b1 b2 w0 w1 xs ys gx gy (record { kind = Device; offset = 0 }) n s
+
+  write_right : (a1 a2 : Option (List ℕ)) → WriteStopped a1 b1 a2 b2 w0 w1 n → ForBoth a1 a2 (λ t u xs ys. RightStops t u xs ys → Later t u xs ys (last_of [] ys))
+  write_right None a2 s = tt
+  write_right (Some t) None s = tt
+  write_right (Some t) (Some u) s = λ xs ys gx gy. right_later t u b1 b2 w0 w1 xs ys gx gy (record { kind = Device; offset = 0 }) n s
 
 module _ {R S W : Type 0} (left : Stream R) (right : Stream S) (out : Stream W) where
   abbrev Stopping : MergeCause → ℕ → Type 0
@@ -205,9 +229,29 @@ module _ {R S W : Type 0} (left : Stream R) (right : Stream S) (out : Stream W) 
         right_begins _ _ _ _ n _ _ fault s,
       )
   stops_by Write n s blames = (
-    record { failed = blames.2; left_unfailed = blames.0; right_unfailed = blames.1 },
+    record {
+      failed = blames.2;
+      left_unfailed = blames.0;
+      right_unfailed = blames.1;
+      left_later = write_left _ _ _ _ n _ _ s;
+      right_later = write_right _ _ _ _ n _ _ s;
+    },
     write_begins _ _ _ _ n _ _ s,
   )
+
+  -- what was gained is no archive's text
+  gains_none : (cause : MergeCause) (n : ℕ) → Stopping cause n → GainsNoText out
+  gains_none (Left fault) n (inl s) = begun_none (out.bytes out.old) (out.bytes out.new) n s.0 s.1
+  gains_none (Left fault) n (inr (inl s)) = stopped_none (out.bytes out.old) (out.bytes out.new) s.out n s.joins.ordered s.written_is s.gained
+  gains_none (Left fault) n (inr (inr (inl f))) = stopped_none (out.bytes out.old) (out.bytes out.new) f.0.out n f.0.joins.ordered f.0.written_is f.0.gained
+  gains_none (Left fault) n (inr (inr (inr b))) = stopped_none (out.bytes out.old) (out.bytes out.new) b.1.out n b.1.joins.ordered b.1.written_is b.1.gained
+  gains_none (Right fault) n (inl s) = begun_none (out.bytes out.old) (out.bytes out.new) n s.0 s.1
+  gains_none (Right fault) n (inr (inl s)) = stopped_none (out.bytes out.old) (out.bytes out.new) s.0.out n s.0.joins.ordered s.0.written_is s.0.gained
+  gains_none (Right fault) n (inr (inr f)) = stopped_none (out.bytes out.old) (out.bytes out.new) f.0.out n f.0.joins.ordered f.0.written_is f.0.gained
+  gains_none Write n s = elim s.within [
+    | inl lt ↦ within_none (out.bytes out.old) (out.bytes out.new) s.out n s.joins.ordered lt s.gained
+    | inr e ↦ text_none (out.bytes out.old) (out.bytes out.new) s.out n s.joins.ordered e.2 s.gained
+  ]
 
   pub merges : (r : Result Sizes MergeFault) → Leaves (left.bytes left.old) (left.bytes left.new) (right.bytes right.old) (right.bytes right.new) (out.bytes out.old) (out.bytes out.new) r → BlamesDevices left right (out.failures out.old) (out.failures out.new) r → Merges left right out r
   merges (Ok sizes) m unfailed =
@@ -233,4 +277,4 @@ module _ {R S W : Type 0} (left : Stream R) (right : Stream S) (out : Stream W) 
           unfailed = unfailed.2;
         };
       }
-  merges (Err e) s blames = stops_by e.cause e.written s blames
+  merges (Err e) s blames = let stopped = stops_by e.cause e.written s blames in (stopped.0, stopped.1, gains_none e.cause e.written s)

@@ -16,14 +16,14 @@ use Rattle.archive_records.specs.declared.side.Lookahead.{Lookahead}
 use Rattle.archive_records.specs.declared.side.Lookahead.TheVariants.{Unread, Held, Ended}
 use Rattle.archive_records.specs.declared.side.MergeInput.{MergeInput}
 use Rattle.archive_records.specs.Kind.{magic, magic_of, IsItem, may_follow}
-use Rattle.archive_records.specs.Text.{end_record, last_of, kept}
+use Rattle.archive_records.specs.Text.{end_record, InOrder, AreApart, last_of, kept}
 use Rattle.archive_records.specs.Reader.{set_of, Stops}
-use Rattle.archive_records.specs.Merging.{Stream, IsTaken, IsMagicTaken, IsNext, IsOneMore, IsBehind, IsOut, IsInMagic, IsLeftBehind, IsRightBehind, all_of, of_both, most_records}
-use Rattle.archive_records.specs.MergeSteps.{Stands, Joins, StopsBeforeRecords, HasMagicRead, LeftStopped, RightStopped, LeftFull, RightFull, first_by}
+use Rattle.archive_records.specs.Merging.{Stream, IsTaken, IsMagicTaken, IsNext, IsTurnOfRight, IsOneMore, IsBehind, IsOut, IsInMagic, IsLeftBehind, IsRightBehind, all_of, of_both, most_records}
+use Rattle.archive_records.specs.MergeSteps.{Stands, Joins, StopsBeforeRecords, HasMagicRead, LeftStopped, RightStopped, LeftFull, RightFull, BothWanted, RightAlone, LeftRefused, RightRefused, first_by}
 use Rattle.archive_records.proofs.Puts.{concat-push, length_written}
 use Rattle.archive_records.proofs.Forms.{item-no_end}
 use Rattle.archive_records.proofs.Ends.{end-is_end}
-use Rattle.archive_records.proofs.Ascending.{less_of, below-greater, last_within, InOrder-front}
+use Rattle.archive_records.proofs.Ascending.{less_of, below-greater, below-self, last_within, InOrder-front}
 use Rattle.archive_records.proofs.Formats.{in_order_of, ending_of}
 use Rattle.archive_records.proofs.Places.{joins_listing, kept_listing, all_is}
 use Rattle.archive_records.proofs.Apart.{apart_front}
@@ -42,44 +42,40 @@ module _ {R : Type 0} (side : Stream R) (records : List (List ℕ)) (low : List 
   abbrev next : List ℕ
   next = next_of s.ahead s.reader.last records
 
-  taken_by : (h : Lookahead) → s.ahead ≡ h → IsTaken side records (next_of h s.reader.last records)
+  abbrev Taken : Lookahead → Type 0
+  Taken h = Consumes (side.bytes side.old) (side.bytes side.new) (magic_of s.reader.file ++ (concat records ++ next_of h s.reader.last records)) × InOrder Archive [] records × AreApart s.reader.file records
+
+  taken_by : (h : Lookahead) → s.ahead ≡ h → Taken h
   taken_by Unread e =
-      let h = (p.unread e).0 in
-      record {
-        format = s.reader.file;
-        archive = p.archive;
-        taken = subst (λ (t : List ℕ). Consumes (side.bytes side.old) (side.bytes side.new) (magic_of s.reader.file ++ t)) (sym (append-nil (concat records))) h.taken;
-        ordered = in_order_of s.reader.file p.archive [] records h.ordered;
-        apart = h.apart;
-      }
+      let h = (p.unread e).0 in (
+        subst (λ (t : List ℕ). Consumes (side.bytes side.old) (side.bytes side.new) (magic_of s.reader.file ++ t)) (sym (append-nil (concat records))) h.taken,
+        in_order_of s.reader.file p.archive [] records h.ordered,
+        h.apart,
+      )
   taken_by Held e =
-      let h = (p.held e).0 in
-      record {
-        format = s.reader.file;
-        archive = p.archive;
-        taken = subst (λ (t : List ℕ). Consumes (side.bytes side.old) (side.bytes side.new) (magic_of s.reader.file ++ t)) (concat-push records s.reader.last) h.taken;
-        ordered = InOrder-front [] records s.reader.last (in_order_of s.reader.file p.archive [] (records ++ s.reader.last ∷ []) h.ordered);
-        apart = apart_front s.reader.file records (s.reader.last ∷ []) h.apart;
-      }
+      let h = (p.held e).0 in (
+        subst (λ (t : List ℕ). Consumes (side.bytes side.old) (side.bytes side.new) (magic_of s.reader.file ++ t)) (concat-push records s.reader.last) h.taken,
+        InOrder-front [] records s.reader.last (in_order_of s.reader.file p.archive [] (records ++ s.reader.last ∷ []) h.ordered),
+        apart_front s.reader.file records (s.reader.last ∷ []) h.apart,
+      )
   taken_by Ended e =
-      let h = (p.ended e).0 in
-      record {
-        format = s.reader.file;
-        archive = p.archive;
-        taken = subst (λ (t : List ℕ). Consumes (side.bytes side.old) (side.bytes side.new) (magic_of s.reader.file ++ (concat records ++ t))) (ending_of s.reader.file p.archive (length records)) h.taken;
-        ordered = in_order_of s.reader.file p.archive [] records h.ordered;
-        apart = h.apart;
-      }
+      let h = (p.ended e).0 in (
+        subst (λ (t : List ℕ). Consumes (side.bytes side.old) (side.bytes side.new) (magic_of s.reader.file ++ (concat records ++ t))) (ending_of s.reader.file p.archive (length records)) h.taken,
+        in_order_of s.reader.file p.archive [] records h.ordered,
+        h.apart,
+      )
 
-  taken_next : IsTaken side records next
-  taken_next = taken_by s.ahead refl
+  abbrev taken_next : IsTaken side records next
+  taken_next =
+      let t = taken_by s.ahead refl in
+      record { format = s.reader.file; archive = p.archive; taken = t.0; ordered = t.1; apart = t.2 }
 
-  next_by : (h : Lookahead) → s.ahead ≡ h → h ≢ Unread → IsNext side low records (next_of h s.reader.last records)
+  next_by : (h : Lookahead) → s.ahead ≡ h → h ≢ Unread → IsNext side s.reader.file low records (next_of h s.reader.last records)
   next_by Unread e read = absurd (read refl)
-  next_by Held e read = inl (held_record (side.bytes side.old) (side.bytes side.new) records low s p e, (p.held e).1)
+  next_by Held e read = inl (held_record (side.bytes side.old) (side.bytes side.new) records low s p e, (p.held e).1, (p.held e).0.apart)
   next_by Ended e read = inr (refl, (p.ended e).1)
 
-  next_is : s.ahead ≢ Unread → IsNext side low records next
+  next_is : s.ahead ≢ Unread → IsNext side s.reader.file low records next
   next_is read = next_by s.ahead refl read
 
   more_by : (h : Lookahead) → s.ahead ≡ h → h ≡ Held → IsItem Archive (next_of h s.reader.last records) × (may_follow Archive low (next_of h s.reader.last records) ≡ true)
@@ -92,13 +88,13 @@ module _ {R : Type 0} (side : Stream R) (records : List (List ℕ)) (low : List 
 
   -- where it was not read on, its last record is low
   turn_by : (h : Lookahead) → s.ahead ≡ h → (h ≢ Unread → may_follow Archive (last_of [] records) low ≡ true)
-      → ((last_of [] records ≡ low) × (next_of h s.reader.last records ≡ [])) ⊎ ((may_follow Archive (last_of [] records) low ≡ true) × IsNext side low records (next_of h s.reader.last records))
+      → ((last_of [] records ≡ low) × (next_of h s.reader.last records ≡ [])) ⊎ ((may_follow Archive (last_of [] records) low ≡ true) × IsNext side s.reader.file low records (next_of h s.reader.last records))
   turn_by Unread e order = inl ((p.unread e).1, refl)
   turn_by Held e order = inr (order (λ t. absurd cc), next_by Held e (λ t. absurd cc))
   turn_by Ended e order = inr (order (λ t. absurd cc), next_by Ended e (λ t. absurd cc))
 
   turn_is : (s.ahead ≢ Unread → may_follow Archive (last_of [] records) low ≡ true)
-      → ((last_of [] records ≡ low) × (next ≡ [])) ⊎ ((may_follow Archive (last_of [] records) low ≡ true) × IsNext side low records next)
+      → ((last_of [] records ≡ low) × (next ≡ [])) ⊎ ((may_follow Archive (last_of [] records) low ≡ true) × IsNext side s.reader.file low records next)
   turn_is order = turn_by s.ahead refl order
 
 -- no end record is a record
@@ -123,6 +119,17 @@ is_below Held Unread x y lefts rights read held first item = absurd cc
 is_below Ended r x y lefts rights read held first item = absurd (end_no_item (length lefts) item)
 is_below Unread r x y lefts rights read held first item = absurd (read refl)
 
+-- what a side holds
+held_next : (h : Lookahead) (x : List ℕ) (records : List (List ℕ)) → h ≡ Held → next_of h x records ≡ x
+held_next Unread x records held = absurd cc
+held_next Held x records held = refl
+held_next Ended x records held = absurd cc
+
+not_next : (h : Lookahead) (x : List ℕ) (records : List (List ℕ)) (rest : List ℕ) → h ≢ Unread → (h ≡ Held → rest ≢ x) → ((n : ℕ) → rest ≢ end_record n) → rest ≡ next_of h x records → ⊥
+not_next Unread x records rest read record_not end_not same = read refl
+not_next Held x records rest read record_not end_not same = record_not refl same
+not_next Ended x records rest read record_not end_not same = end_not (length records) same
+
 -- ---- the place
 
 behind_is : (f : Format) (records : List (List ℕ)) (rest : List ℕ) (fault : RecordFault) → Stops f records rest fault → IsBehind records fault
@@ -143,15 +150,15 @@ module _ {W : Type 0} (out : Stream W) (os lefts rights : List (List ℕ)) (n : 
   most_is : length (kept os) ≡ most_records → set.len (of_both lefts rights) ≡ most_records
   most_is most = sym (length_written (of_both lefts rights)) ∙ ap length (kept_listing lefts rights os joins) ∙ most
 
-  one_more : {R S : Type 0} (side : Stream R) (other : Stream S) (others : List (List ℕ)) (more next : List ℕ) → length (kept os) ≡ most_records → IsItem Archive more × (may_follow Archive (last_of [] os) more ≡ true) → is_covered (set_of os) more ≡ false → IsNext other (last_of [] os) others next
-      → IsOneMore side other (of_both lefts rights) (all_of lefts rights) others more next
-  one_more side other others more next most more_is free next_is =
+  one_more : {R S : Type 0} (side : Stream R) (other : Stream S) (format : Format) (others : List (List ℕ)) (more next : List ℕ) → length (kept os) ≡ most_records → IsItem Archive more × (may_follow Archive (last_of [] os) more ≡ true) → is_covered (set_of os) more ≡ false → IsNext other format (last_of [] os) others next
+      → IsOneMore side other format (of_both lefts rights) (all_of lefts rights) others more next
+  one_more side other format others more next most more_is free next_is =
       let low : last_of [] os ≡ last_of [] (listing (all_of lefts rights)) = ap (last_of []) (sym (joins_listing lefts rights os joins)) in
       record {
         most = most_is most;
         more_is = (more_is.0, subst (λ (t : List ℕ). may_follow Archive t more ≡ true) low more_is.1);
         uncovered = subst (λ (o : Operations). is_covered o more ≡ false) (sym (all_is lefts rights os joins)) free;
-        next_is = subst (λ (t : List ℕ). IsNext other t others next) low next_is;
+        next_is = subst (λ (t : List ℕ). IsNext other format t others next) low next_is;
       }
 
 -- ---- both sides
@@ -188,7 +195,7 @@ module _ {R S W : Type 0} (left : Stream R) (right : Stream S) (out : Stream W) 
         right_taken = taken_next right s.rights (last_of [] s.out) s.other s.right;
         behind = behind_is s.format s.lefts s.left.rest fault s.left.stops;
         out_is = out_is out s.out s.lefts s.rights n s.joins s.written_is s.gained;
-        turn = inl (subst (λ (t : List ℕ). ((last_of [] s.rights ≡ t) × (next ≡ [])) ⊎ ((may_follow Archive (last_of [] s.rights) t ≡ true) × IsNext right t s.rights next)) low (turn_is right s.rights (last_of [] s.out) s.other s.right s.order));
+        turn = inl (subst (λ (t : List ℕ). ((last_of [] s.rights ≡ t) × (next ≡ [])) ⊎ ((may_follow Archive (last_of [] s.rights) t ≡ true) × IsNext right s.other.reader.file t s.rights next)) low (turn_is right s.rights (last_of [] s.out) s.other s.right s.order));
       }
 
   left_full : LeftFull a1 b1 a2 b2 w0 w1 fault n → IsLeftBehind left right out fault n
@@ -206,16 +213,44 @@ module _ {R S W : Type 0} (left : Stream R) (right : Stream S) (out : Stream W) 
         right_taken = taken_next right f.rights low f.right_side f.right;
         behind = inl (ap (λ (t : RecordFault). t.offset) is);
         out_is = out_is out f.out f.lefts f.rights n f.joins f.written_is f.gained;
-        turn = inr (
+        turn = inr (inl (
           ap (λ (t : RecordFault). t.kind) is,
-          one_more out f.out f.lefts f.rights n f.joins left right f.rights x y f.most (more_is left f.lefts low f.left_side f.left held) (free_by f.left_side.ahead (set_of f.out) f.left_side.reader.last f.lefts held (f.left_kept first)) (next_is right f.rights low f.right_side f.right f.right_read),
+          one_more out f.out f.lefts f.rights n f.joins left right f.right_side.reader.file f.rights x y f.most (more_is left f.lefts low f.left_side f.left held) (free_by f.left_side.ahead (set_of f.out) f.left_side.reader.last f.lefts held (f.left_kept first)) (next_is right f.rights low f.right_side f.right f.right_read),
           not_below f.left_side.ahead f.right_side.ahead f.left_side.reader.last f.right_side.reader.last f.lefts f.rights f.right_read first,
-        );
+        ));
       }
 
-  right_behind : RightStopped a1 b1 a2 b2 w0 w1 fault n → IsRightBehind left right out fault n
-  right_behind s =
-      let low : last_of [] s.out ≡ last_of [] s.rights = sym s.last in
+  -- it is the right side's turn
+  right_turn : (own : RecordFault) (s : RightStopped a1 b1 a2 b2 w0 w1 own n) → IsTurnOfRight left s.other.reader.file s.lefts s.rights (next_of s.other.ahead s.other.reader.last s.lefts)
+  right_turn own s = (
+    λ below. false≢true (sym (last_within s.out s.lefts s.joins.ordered s.joins.left) ∙ subst (λ (t : List ℕ). may_follow Archive t (last_of [] s.lefts) ≡ true) s.last below),
+    subst (λ (t : List ℕ). IsNext left s.other.reader.file t s.lefts (next_of s.other.ahead s.other.reader.last s.lefts)) (sym s.last) (next_is left s.lefts (last_of [] s.out) s.other s.left s.read),
+  )
+
+  left_both : BothWanted a1 b1 a2 b2 w0 w1 fault n → IsLeftBehind left right out fault n
+  left_both (own, s, held, same, few, is) =
+      let next : List ℕ = next_of s.other.ahead s.other.reader.last s.lefts in
+      record {
+        lefts = s.lefts;
+        rights = s.rights;
+        left_next = next;
+        right_next = s.right.rest;
+        left_taken = taken_next left s.lefts (last_of [] s.out) s.other s.left;
+        right_taken = record { format = s.format; archive = s.archive; taken = s.right.taken; ordered = in_order_of s.format s.archive [] s.rights s.right.ordered; apart = s.right.apart };
+        behind = inl (ap (λ (t : RecordFault). t.offset) is);
+        out_is = out_is out s.out s.lefts s.rights n s.joins s.written_is s.gained;
+        turn = inr (inr (
+          ap (λ (t : RecordFault). t.kind) is,
+          (
+            right_turn own s,
+            (more_is left s.lefts (last_of [] s.out) s.other s.left held).0,
+            same ∙ sym (held_next s.other.ahead s.other.reader.last s.lefts held),
+          ),
+        ));
+      }
+
+  right_behind : RightAlone a1 b1 a2 b2 w0 w1 fault n → IsRightBehind left right out fault n
+  right_behind (s, alone) =
       let next : List ℕ = next_of s.other.ahead s.other.reader.last s.lefts in
       record {
         lefts = s.lefts;
@@ -226,10 +261,8 @@ module _ {R S W : Type 0} (left : Stream R) (right : Stream S) (out : Stream W) 
         right_taken = record { format = s.format; archive = s.archive; taken = s.right.taken; ordered = in_order_of s.format s.archive [] s.rights s.right.ordered; apart = s.right.apart };
         behind = behind_is s.format s.rights s.right.rest fault s.right.stops;
         out_is = out_is out s.out s.lefts s.rights n s.joins s.written_is s.gained;
-        turn = inl (
-          λ below. false≢true (sym (last_within s.out s.lefts s.joins.ordered s.joins.left) ∙ subst (λ (t : List ℕ). may_follow Archive t (last_of [] s.lefts) ≡ true) s.last below),
-          subst (λ (t : List ℕ). IsNext left t s.lefts next) low (next_is left s.lefts (last_of [] s.out) s.other s.left s.read),
-        );
+        turn = inl (right_turn fault s);
+        alone = λ memory same. not_next s.other.ahead s.other.reader.last s.lefts s.right.rest s.read (alone memory).0 (alone memory).1 same;
       }
 
   right_full : RightFull a1 b1 a2 b2 w0 w1 fault n → IsRightBehind left right out fault n
@@ -249,18 +282,23 @@ module _ {R S W : Type 0} (left : Stream R) (right : Stream S) (out : Stream W) 
         out_is = out_is out f.out f.lefts f.rights n f.joins f.written_is f.gained;
         turn = inr (
           ap (λ (t : RecordFault). t.kind) is,
-          one_more out f.out f.lefts f.rights n f.joins right left f.lefts y x f.most (more_is right f.rights low f.right_side f.right held) (free_by f.right_side.ahead (set_of f.out) f.right_side.reader.last f.rights held (f.right_kept first)) (next_is left f.lefts low f.left_side f.left f.left_read),
+          one_more out f.out f.lefts f.rights n f.joins right left f.left_side.reader.file f.lefts y x f.most (more_is right f.rights low f.right_side f.right held) (free_by f.right_side.ahead (set_of f.out) f.right_side.reader.last f.rights held (f.right_kept first)) (next_is left f.lefts low f.left_side f.left f.left_read),
           is_below f.left_side.ahead f.right_side.ahead f.left_side.reader.last f.right_side.reader.last f.lefts f.rights f.left_read held first,
         );
+        alone = λ _ same.
+            let item = (more_is right f.rights low f.right_side f.right held).0 in
+            let below = is_below f.left_side.ahead f.right_side.ahead f.left_side.reader.last f.right_side.reader.last f.lefts f.rights f.left_read held first (subst (IsItem Archive) same item) in
+            false≢true (sym (below-self x) ∙ subst (λ (t : List ℕ). may_follow Archive t x ≡ true) same below);
       }
 
-  pub left_order : ((n ≡ 0) × Appends w0 w1 [] × Consumes a2 b2 [] × StopsBeforeRecords a1 b1 fault) ⊎ (LeftStopped a1 b1 a2 b2 w0 w1 fault n ⊎ LeftFull a1 b1 a2 b2 w0 w1 fault n)
+  pub left_order : ((n ≡ 0) × Appends w0 w1 [] × Consumes a2 b2 [] × StopsBeforeRecords a1 b1 fault) ⊎ LeftRefused a1 b1 a2 b2 w0 w1 fault n
       → (IsInMagic out fault n × Consumes a2 b2 []) ⊎ IsLeftBehind left right out fault n
   left_order (inl s) = inl ((s.3.start, s.0, s.1), s.2)
   left_order (inr (inl s)) = inr (left_behind s)
-  left_order (inr (inr s)) = inr (left_full s)
+  left_order (inr (inr (inl s))) = inr (left_full s)
+  left_order (inr (inr (inr s))) = inr (left_both s)
 
-  pub right_order : ((n ≡ 0) × Appends w0 w1 [] × HasMagicRead a1 b1 × StopsBeforeRecords a2 b2 fault) ⊎ (RightStopped a1 b1 a2 b2 w0 w1 fault n ⊎ RightFull a1 b1 a2 b2 w0 w1 fault n)
+  pub right_order : ((n ≡ 0) × Appends w0 w1 [] × HasMagicRead a1 b1 × StopsBeforeRecords a2 b2 fault) ⊎ RightRefused a1 b1 a2 b2 w0 w1 fault n
       → (IsInMagic out fault n × IsMagicTaken left) ⊎ IsRightBehind left right out fault n
   right_order (inl s) = inl ((s.3.start, s.0, s.1), s.2)
   right_order (inr (inl s)) = inr (right_behind s)

@@ -33,10 +33,13 @@ use Rattle.archive_records.proofs.Puts.{bytes_same}
 use Rattle.archive_records.proofs.Covered.{or_cases, or_left, or_right, kept_more, behind, behind_above, from_kept}
 use Rattle.archive_records.proofs.Exact.{no_magic_fault}
 use Rattle.archive_records.proofs.Inputs.{magic_stop, grown_magic}
-use Rattle.archive_records.proofs.Ascending.{below-back, below-self, all_above, up_to_last, prefix, here, later}
+use Rattle.archive_records.proofs.Apart.{is_false}
+use Rattle.archive_records.specs.declared.side.Lookahead.{Lookahead}
+use Rattle.archive_records.specs.declared.side.Lookahead.TheVariants.{Unread}
+use Rattle.archive_records.proofs.Ascending.{below-back, below-trans, below-self, all_above, up_to_last, prefix, here, later}
 use Rattle.archive_records.proofs.Ends.{length-end_record}
 use Rattle.archive_records.proofs.Formats.{in_order_of}
-use Rattle.archive_records.proofs.Fronts.{taken_rest, front_of, front_is, stopped_goes, stopped_magic, GoesOn, goes_on, has_magic}
+use Rattle.archive_records.proofs.Fronts.{taken_rest, front_of, front_is, stopped_goes, stopped_magic, GoesOn, goes_on, has_magic, ended_text}
 
 -- ---- the content that the records of both make
 
@@ -121,7 +124,7 @@ up_to-all : (low : List ℕ) (xs : List (List ℕ)) → ((z : List ℕ) → Cont
 up_to-all low [] h = refl
 up_to-all low (x ∷ xs) h = ap (λ b. cond (not b) (x ∷ up_to low xs) (up_to low xs)) (h x (here x xs)) ∙ ap (λ (t : List (List ℕ)). x ∷ t) (up_to-all low xs (λ z c. h z (later x z xs c)))
 
-up_to-none : (low : List ℕ) (xs : List (List ℕ)) → ((z : List ℕ) → Contains xs z → may_follow Archive low z ≡ true) → up_to low xs ≡ []
+pub up_to-none : (low : List ℕ) (xs : List (List ℕ)) → ((z : List ℕ) → Contains xs z → may_follow Archive low z ≡ true) → up_to low xs ≡ []
 up_to-none low [] h = refl
 up_to-none low (x ∷ xs) h = ap (λ b. cond (not b) (x ∷ up_to low xs) (up_to low xs)) (h x (here x xs)) ∙ up_to-none low xs (λ z c. h z (later x z xs c))
 
@@ -156,6 +159,21 @@ begun_part w0 w1 o out more n e lt p =
     let l : length (magic ++ concat out) ≡ 8 + length (concat out) = length-append magic (concat out) in
     let a : take n (text_of Archive out) ≡ take n (magic ++ concat out) = ap (take n) (sym (append_assoc magic (concat out) (end_record (length out)))) ∙ take-append-le n (magic ++ concat out) (end_record (length out)) (omega arith) in
     let b : take n (written o) ≡ take n (magic ++ concat out) = ap (take n) t ∙ take-append-le n (magic ++ concat out) rest (omega arith) in
+    record {
+      within = omega (arith, ap length t, length-append (magic ++ concat out) rest);
+      gained = subst (Appends w0 w1) (a ∙ sym b) p;
+    }
+
+-- of the text up to low, where what was to be written is not above it
+pub begun_before : (w0 w1 : Option (List ℕ)) (o : Operations) (out more : List (List ℕ)) (low : List ℕ) (n : ℕ) → listing o ≡ out ++ more → ((z : List ℕ) → Contains out z → may_follow Archive low z ≡ false) → n < 8 + length (concat out) → Appends w0 w1 (take n (text_of Archive out))
+    → WritesFirst w0 w1 (magic ++ concat (up_to low (listing o))) n
+begun_before w0 w1 o out more low n e reached lt p =
+    let rest : List ℕ = concat (up_to low more) in
+    let us : up_to low (listing o) ≡ out ++ up_to low more = ap (up_to low) e ∙ filter-append (λ r. not (may_follow Archive low r)) out more ∙ ap (λ (t : List (List ℕ)). t ++ up_to low more) (up_to-all low out reached) in
+    let t : magic ++ concat (up_to low (listing o)) ≡ (magic ++ concat out) ++ rest = ap (λ (x : List ℕ). magic ++ x) (ap concat us ∙ concat-append out (up_to low more)) ∙ sym (append_assoc magic (concat out) rest) in
+    let l : length (magic ++ concat out) ≡ 8 + length (concat out) = length-append magic (concat out) in
+    let a : take n (text_of Archive out) ≡ take n (magic ++ concat out) = ap (take n) (sym (append_assoc magic (concat out) (end_record (length out)))) ∙ take-append-le n (magic ++ concat out) (end_record (length out)) (omega arith) in
+    let b : take n (magic ++ concat (up_to low (listing o))) ≡ take n (magic ++ concat out) = ap (take n) t ∙ take-append-le n (magic ++ concat out) rest (omega arith) in
     record {
       within = omega (arith, ap length t, length-append (magic ++ concat out) rest);
       gained = subst (Appends w0 w1) (a ∙ sym b) p;
@@ -338,6 +356,36 @@ module _ (t u : List ℕ) (b1 b2 w0 w1 : Option (List ℕ)) (xs ys : List (List 
               let whole : text_of Archive (kept s.out) ≡ written (of_both xs ys) = sym (written_text (of_both xs ys) ∙ ap (text_of Archive) (kept_listing xs ys s.out here)) in
               record { within = omega (arith, e.2, ap length whole); gained = subst (λ (x : List ℕ). Appends w0 w1 (take n x)) whole s.gained }
         ]
+
+    -- no side had stopped the merge
+    abbrev Later : List ℕ → Type 0
+    Later low = (bytes : List ℕ) × IsWrittenBefore t u (of_both xs ys) low bytes × WritesFirst w0 w1 bytes n
+
+    -- what was to be written is not above the last good record of a side that is no text
+    reached : (v low : List ℕ) (ahead : Lookahead) → (IsArchiveText v → ⊥) → IsArchiveText v ⊎ (((ahead ≡ Unread) × (low ≡ last_of [] s.out)) ⊎ (may_follow Archive (last_of [] s.out) low ≡ true)) → (z : List ℕ) → Contains (kept s.out) z → may_follow Archive low z ≡ false
+    reached v low ahead faulty (inl text) z c = absurd (faulty text)
+    reached v low ahead faulty (inr (inl e)) z c = subst (λ (x : List ℕ). may_follow Archive x z ≡ false) (sym e.1) (up_to_last [] z s.out s.joins.ordered (from_kept s.out z c))
+    reached v low ahead faulty (inr (inr above)) z c = is_false (may_follow Archive low z) (λ h. false≢true (sym (up_to_last [] z s.out s.joins.ordered (from_kept s.out z c)) ∙ below-trans (last_of [] s.out) low z above h))
+
+    is_later : (low : List ℕ) → ((z : List ℕ) → Contains (kept s.out) z → may_follow Archive low z ≡ false) → n < 8 + length (concat (kept s.out)) → Later low
+    is_later low up lt =
+        let m = both_more s.out s.lefts s.rights s.left_side s.right_side s.left s.right s.joins in (
+          magic ++ concat (up_to low (listing (of_both xs ys))),
+          inr (side_begins t (last_of [] s.out) b1 s.lefts s.left_side s.left, side_begins u (last_of [] s.out) b2 s.rights s.right_side s.right, refl),
+          begun_before w0 w1 (of_both xs ys) (kept s.out) m.0 low n m.1 up lt s.gained,
+        )
+
+    pub left_later : LeftStops t u xs ys → Later (last_of [] xs)
+    left_later stops = elim s.within [
+      | inl lt ↦ is_later (last_of [] xs) (reached t (last_of [] xs) s.left_side.ahead stops.faulty (left_goes s.out s.lefts s.rights s.left_side s.right_side s.left s.right s.joins).place) lt
+      | inr e ↦ absurd (stops.faulty (ended_text t (last_of [] s.out) b1 s.lefts s.left_side s.left e.0))
+    ]
+
+    pub right_later : RightStops t u xs ys → Later (last_of [] ys)
+    right_later stops = elim s.within [
+      | inl lt ↦ is_later (last_of [] ys) (reached u (last_of [] ys) s.right_side.ahead stops.faulty (right_goes s.out s.lefts s.rights s.left_side s.right_side s.left s.right s.joins).place) lt
+      | inr e ↦ absurd (stops.faulty (ended_text u (last_of [] s.out) b2 s.rights s.right_side s.right e.1))
+    ]
 
   -- as many records were written as there may be
 

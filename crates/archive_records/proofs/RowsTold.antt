@@ -81,9 +81,9 @@ key_cmp a b = order (key_bytes a) (key_bytes b)
 key_parts : (a b : SliceKey) → IsKey a → IsKey b → key_cmp a b ≡ ordering_then (order a.uuid b.uuid) (arch_cmp a.arch b.arch)
 unfolding key_bytes
 key_parts a b is_a is_b =
-    three_parts a.uuid (to_be_bytes w32 a.arch.cputype) (to_be_bytes w32 a.arch.subtype) b.uuid (to_be_bytes w32 b.arch.cputype) (to_be_bytes w32 b.arch.subtype) (is_a.uuid ∙ sym is_b.uuid) (omega arith)
-    ∙ then_assoc (order a.uuid b.uuid) (order (to_be_bytes w32 a.arch.cputype) (to_be_bytes w32 b.arch.cputype)) (order (to_be_bytes w32 a.arch.subtype) (to_be_bytes w32 b.arch.subtype))
-    ∙ sym (λ i. ordering_then (order a.uuid b.uuid) (ordering_then (cmp_four a.arch.cputype b.arch.cputype is_a.cputype is_b.cputype i) (cmp_four a.arch.subtype b.arch.subtype is_a.subtype is_b.subtype i)))
+    three_parts a.uuid (to_be_bytes w32 a.arch.cputype) (to_be_bytes w32 a.arch.cpusubtype) b.uuid (to_be_bytes w32 b.arch.cputype) (to_be_bytes w32 b.arch.cpusubtype) (is_a.uuid ∙ sym is_b.uuid) (omega arith)
+    ∙ then_assoc (order a.uuid b.uuid) (order (to_be_bytes w32 a.arch.cputype) (to_be_bytes w32 b.arch.cputype)) (order (to_be_bytes w32 a.arch.cpusubtype) (to_be_bytes w32 b.arch.cpusubtype))
+    ∙ sym (λ i. ordering_then (order a.uuid b.uuid) (ordering_then (cmp_four a.arch.cputype b.arch.cputype is_a.cputype is_b.cputype i) (cmp_four a.arch.cpusubtype b.arch.cpusubtype is_a.cpusubtype is_b.cpusubtype i)))
 
 list_parts : (a b : Operation) → IsKey (key_in a) → IsKey (key_in b) → list_cmp a b ≡ ordering_then (key_cmp (key_in a) (key_in b)) (order (record_bytes a) (record_bytes b))
 list_parts a b is_a is_b =

@@ -1,5 +1,5 @@
 -- The rows of a name, told record by record.
-use Rattle.std.proofs.Common.{◌≡◌, ◌↔◌, ℕ, ◌<◌, ◌≤◌, ◌^◌, Bool, true, false, cond, ◌==◌, List, [], ◌∷◌, ◌++◌, length, map, drop, Option, Result, Ok, Err, refl, sym, ap, ◌∙◌, subst, arith, append_assoc, inl, inr}
+use Rattle.std.proofs.Common.{◌≡◌, ◌↔◌, ℕ, ◌<◌, ◌≤◌, ◌^◌, Bool, true, false, cond, ◌==◌, List, [], ◌∷◌, ◌++◌, length, map, drop, Option, Result, Ok, Err, refl, sym, ap, ◌∙◌, subst, arith, inl, inr}
 use Rattle.std.specs.Ordering.{on, eq_by_cmp}
 use Rattle.std.specs.declared.cmp.Ordering.TheVariants.{Equal}
 use Rattle.std.specs.Cmp.{IsTotalOrder, Equal-is, on_total}
@@ -9,7 +9,7 @@ use Rattle.std.specs.FinSet as set
 use Rattle.std.proofs.lemmas.Bool.{ltb-false}
 use Rattle.std.proofs.lemmas.Cmp.{eq_by_cmp_equiv}
 use Rattle.std.proofs.lemmas.Grind.{flat_map-append}
-use Rattle.std.proofs.lemmas.List.{append-nil, map-append}
+use Rattle.std.proofs.lemmas.List.{append-nil}
 use Rattle.std.proofs.lemmas.List.Kept.{IsStrictlySortedBy-dedup, Contains-from_dedup, Any-dedup}
 use Rattle.std.proofs.lemmas.List.Sorted.{Contains-permutation, IsPermutation-sym}
 use Rattle.macho_symbols.specs.Found.{FoundRecord, named}
@@ -59,22 +59,6 @@ names_none name r slice has a is tells not =
 
 pub names_of_slice : (name r slice : List ℕ) → Admits r → slice ≡ drop 33 r → names_in name slice ≡ names_of name r
 names_of_slice name r slice a is = ap (names_in name) is ∙ sym (names_admitted name r a)
-
--- one row more of those that are found
-pub row_more : {X : Type 0} (view : X → NameRecord) (slice : List ℕ) (rows grown : List X) (row : X) (found : FoundRecord) (rest left : List FoundRecord) (all : List NameRecord)
-    → grown ≡ rows ++ row ∷ [] → view row ≡ name_row slice found → left ≡ found ∷ rest → map view rows ++ map (name_row slice) left ≡ all → map view grown ++ map (name_row slice) rest ≡ all
-row_more {X = X} view slice rows grown row found rest left all more is next whole =
-    ap (λ (l : List X). map view l ++ map (name_row slice) rest) more
-    ∙ ap (λ (l : List NameRecord). l ++ map (name_row slice) rest) (map-append view rows (row ∷ []))
-    ∙ append_assoc (map view rows) (view row ∷ []) (map (name_row slice) rest)
-    ∙ ap (λ (x : NameRecord). map view rows ++ x ∷ map (name_row slice) rest) is
-    ∙ ap (λ (l : List FoundRecord). map view rows ++ map (name_row slice) l) (sym next)
-    ∙ whole
-
-pub rows_end : {X : Type 0} (view : X → NameRecord) (slice : List ℕ) (rows : List X) (left : List FoundRecord) (all : List NameRecord)
-    → left ≡ [] → map view rows ++ map (name_row slice) left ≡ all → map view rows ≡ all
-rows_end {X = X} view slice rows left all none whole =
-    sym (append-nil (map view rows)) ∙ ap (λ (l : List FoundRecord). map view rows ++ map (name_row slice) l) (sym none) ∙ whole
 
 -- ---- rows in order, each once
 

@@ -1,24 +1,36 @@
 -- How a side of a merge stands that was read on, and how a merge begins and ends.
-use Rattle.std.proofs.Common.{◌≡◌, ◌≢◌, ℕ, ◌+◌, true, List, [], ◌∷◌, ◌++◌, length, take, Option, refl, sym, ap, ◌∙◌, subst, arith, inl, inr, ◌⊎◌, append_assoc, length-append}
+use Rattle.std.proofs.Common.{◌≡◌, ◌≢◌, ℕ, ◌+◌, ◌^◌, ◌<◌, true, List, [], ◌∷◌, ◌++◌, length, take, Option, Some, Result, Ok, Err, refl, sym, ap, ◌∙◌, subst, arith, inl, inr, ◌⊎◌, append_assoc, length-append}
 use Rattle.std.proofs.lemmas.List.{append-nil, take-append-le}
 use Rattle.std.specs.List.{concat}
 use Rattle.std.specs.Io.KnownBytes.{Appends, Consumes}
 use Rattle.byte_device.specs.Writes.{WritesFirst}
-use Rattle.byte_device.proofs.Gains.{stopped}
 use Rattle.archive_records.specs.declared.format.Format.{Format}
-use Rattle.archive_records.specs.declared.format.Format.TheVariants.{Archive}
+use Rattle.archive_records.specs.declared.format.Format.TheVariants.{Archive, OldArchive, Operations as Operations_file, Summary as Summary_file}
 use Rattle.archive_records.specs.declared.kind.TextKind.TheVariants.{Archive as Archive_text}
 use Rattle.archive_records.specs.declared.merging.Merge.{Merge}
 use Rattle.archive_records.specs.declared.side.Lookahead.TheVariants.{Unread, Held, Ended}
 use Rattle.archive_records.specs.declared.side.MergeInput.{MergeInput}
-use Rattle.archive_records.specs.Kind.{magic, magic_of, kind_of, may_follow}
+use Rattle.archive_records.specs.Kind.{magic, magic_of, kind_of, may_follow, IsItem, end_length}
 use Rattle.archive_records.specs.Text.{end_record, text_of, last_of, kept}
-use Rattle.archive_records.specs.Reader.{HasRead, Passes, Position, Stopped}
+use Rattle.archive_records.specs.Reader.{HasRead, Passes, Position, Stopped, HasWhole, StoppedWith}
 use Rattle.archive_records.specs.declared.fault.RecordFault.{RecordFault}
 use Rattle.archive_records.proofs.Steps.{HasRead-grows}
-use Rattle.archive_records.proofs.Formats.{follows_of}
+use Rattle.archive_records.proofs.Formats.{follows_of, no_operations_text, no_summary_text}
 use Rattle.archive_records.proofs.Covered.{kept_none}
-use Rattle.archive_records.specs.MergeSteps.{Stands, Joins, Merging, StopsBeforeRecords, HasMagicRead, LeftStopped, RightStopped, WriteStopped, LeftFull, RightFull, ByCause, HasStoppedMerge, Stops as MergeStops}
+use Rattle.archive_records.specs.MergeSteps.{Stands, Joins, Merging, StopsBeforeRecords, HasMagicRead, RightStopped, WriteStopped, LeftRefused, RightRefused, ByCause, BlamesBy, IsToldOfRight, memory_behind, HasStoppedMerge, StopsMerge as MergeStops}
+use Rattle.archive_records.proofs.MergeSteps.{held_record, before_last}
+use Rattle.archive_records.proofs.Covered.{long_record}
+use Rattle.archive_records.proofs.FaultKinds.{memory_blames}
+use Rattle.archive_records.proofs.Forms.{item-framed, item-no_end}
+use Rattle.archive_records.proofs.Ends.{framed_end, end-is_end}
+use Rattle.archive_records.proofs.Grown.{no_both}
+use Rattle.std.proofs.lemmas.Bool.{false≢true}
+use Rattle.archive_records.specs.declared.fault.RecordFaultKind.{RecordFaultKind}
+use Rattle.archive_records.specs.declared.fault.RecordFaultKind.TheVariants.{Truncated, Device, OutOfMemory}
+use Rattle.archive_records.specs.Fault.{is_end}
+use Rattle.archive_records.specs.Layout.{framed}
+use Rattle.archive_records.specs.Reading.{Blames}
+use Rattle.archive_records.specs.Merging.{Stream, IsUnfailed}
 use Rattle.archive_records.specs.declared.fault.MergeCause.{MergeCause}
 use Rattle.archive_records.specs.declared.fault.MergeCause.TheVariants.{Left, Right, Write}
 use Rattle.archive_records.specs.declared.fault.MergeFault.{MergeFault}
@@ -87,34 +99,57 @@ module _ (a1 b1 a2 b2 w0 w1 : Option (List ℕ)) (left right : MergeInput) (f : 
         gained = subst (λ (t : List (List ℕ)). Appends w0 w1 (take written (text_of Archive t))) (sym kept_none) (rw (e, same) p.gained);
       }
 
-pub stops_end : (a1 b1 a2 b2 w0 w1 w2 : Option (List ℕ)) (m : Merge) (written n : ℕ) → Merging a1 b1 a2 b2 w0 w1 m → written ≡ m.written.bytes + n → WritesFirst w1 w2 (end_record m.written.records) n → m.left.ahead ≡ Ended → m.right.ahead ≡ Ended → WriteStopped a1 b1 a2 b2 w0 w2 written
-stops_end a1 b1 a2 b2 w0 w1 w2 m written n p is q l r =
-    let out : List (List ℕ) = kept p.out in
-    let end : List ℕ = end_record m.written.records in
-    let end_is : end ≡ end_record (length out) = ap end_record p.records in
-    let text : text_of Archive out ≡ (magic ++ concat out) ++ (end ++ []) = sym (append_assoc magic (concat out) (end_record (length out))) ∙ ap (λ (t : List ℕ). (magic ++ concat out) ++ t) (sym end_is ∙ sym (append-nil end)) in
-    let s = stopped w0 w1 w2 (magic ++ concat out) end [] (text_of Archive out) m.written.bytes n (p.bytes ∙ sym (length-append magic (concat out))) text p.gained q in
-    record {
-      lefts = p.lefts;
-      rights = p.rights;
-      out = p.out;
-      left_side = m.left;
-      right_side = m.right;
-      left = p.left;
-      right = p.right;
-      joins = p.joins;
-      within = inr (l, r, rw is s.within);
-      gained = rw is s.gained;
-    }
+-- ---- what memory was wanted for
+
+framed_item : (f : Format) → kind_of f ≡ Archive_text → (x : List ℕ) → IsItem Archive x → framed f x ≡ Ok (length x)
+framed_item Archive k x item = item-framed Archive x item
+framed_item OldArchive k x item = item-framed OldArchive x item
+framed_item Operations_file k x item = absurd (no_operations_text k)
+framed_item Summary_file k x item = absurd (no_summary_text k)
+
+pub counts_of : (f : Format) → kind_of f ≡ Archive_text → end_length f ≡ Some 9
+counts_of Archive k = refl
+counts_of OldArchive k = refl
+counts_of Operations_file k = absurd (no_operations_text k)
+counts_of Summary_file k = absurd (no_summary_text k)
+
+framed_last : (f : Format) → kind_of f ≡ Archive_text → (n : ℕ) → framed f (end_record n) ≡ Ok 9
+framed_last f k n = framed_end f (counts_of f k) n
+
+whole_or_cut : (r : Result ℕ RecordFaultKind) (n : ℕ) → r ≡ Ok n → r ≡ Err Truncated → ⊥
+whole_or_cut r n whole cut = no_both n Truncated (sym whole ∙ cut)
+
+-- it came whole where it is the record of the other side
+whole_is : (f : Format) (rest x last : List ℕ) → x ≡ last → IsItem Archive x → HasWhole f rest last → rest ≡ x
+whole_is f rest x last is item (inl w) = sym w.1 ∙ sym is
+whole_is f rest x last is item (inr cut) = absurd (omega (arith, long_record x item, ap length (is ∙ cut.1)))
+
+-- and where it is that record the reader has it
+other_record : (f : Format) → kind_of f ≡ Archive_text → (rest x last : List ℕ) → IsItem Archive x → HasWhole f rest last → rest ≡ x → (x ≡ last → ⊥) → ⊥
+other_record f k rest x last item (inl w) same other = other (sym same ∙ sym w.1)
+other_record f k rest x last item (inr cut) same other = whole_or_cut (framed f rest) (length x) (ap (framed f) same ∙ framed_item f k x item) cut.0
+
+no_end_record : (f : Format) → kind_of f ≡ Archive_text → (rest last : List ℕ) (n : ℕ) → HasWhole f rest last → rest ≡ end_record n → ⊥
+no_end_record f k rest last n (inl w) same = false≢true (sym (item-no_end f rest w.0) ∙ ap is_end same ∙ end-is_end n)
+no_end_record f k rest last n (inr cut) same = whole_or_cut (framed f rest) 9 (ap (framed f) same ∙ framed_last f k n) cut.0
+
+-- where the left side is told of it no device failed
+pub told_devices : {R S : Type 0} (left : Stream R) (right : Stream S) (w : ℕ) (m : Merge) (fault : RecordFault) (e : MergeFault) → IsToldOfRight m fault e → IsUnfailed left → Blames right.bytes right.failures right.old right.new fault.kind → BlamesBy left right w w e.cause
+told_devices left right w m fault e (inl (memory, both, is)) unfailed blames =
+    subst (λ (t : MergeFault). BlamesBy left right w w t.cause) (sym is) (memory_blames left.bytes left.failures left.old left.new unfailed, blames.1 (λ device. device_memory (sym device ∙ memory)), refl)
+  where
+    device_memory : Device ≡ OutOfMemory → ⊥
+    device_memory t = cc
+told_devices left right w m fault e (inr (alone, is)) unfailed blames = subst (λ (t : MergeFault). BlamesBy left right w w t.cause) (sym is) (unfailed, blames, refl)
 
 -- ---- both sides are read on
 
 -- the sides were read on from where the merge stood
 module _ (a1 a2 w0 w1 b1 b2 c1 : Option (List ℕ)) (m : Merge) (p : Merging a1 b1 a2 b2 w0 w1 m) where
   -- the left one stopped
-  pub left_stops : (fault : RecordFault) (e : MergeFault) → e ≡ record { cause = Left fault; written = m.written.bytes } → m.left.ahead ≡ Unread → ((done : List (List ℕ)) (low : List ℕ) → Stands a1 b1 done low m.left → Stopped m.left.reader.file a1 c1 done fault × (last_of [] done ≡ low))
+  pub left_stops : (fault : RecordFault) (e : MergeFault) (last : List ℕ) → e ≡ record { cause = Left fault; written = m.written.bytes } → m.left.ahead ≡ Unread → ((done : List (List ℕ)) (low : List ℕ) → Stands a1 b1 done low m.left → StoppedWith m.left.reader.file a1 c1 done fault last × (last_of [] done ≡ low))
       → HasStoppedMerge a1 c1 a2 b2 w0 w1 e
-  left_stops fault e is unread stops =
+  left_stops fault e last is unread stops =
       let s = stops p.lefts (last_of [] p.out) p.left in
       subst (HasStoppedMerge a1 c1 a2 b2 w0 w1) (sym is) (inl (record {
         lefts = p.lefts;
@@ -123,7 +158,7 @@ module _ (a1 a2 w0 w1 b1 b2 c1 : Option (List ℕ)) (m : Merge) (p : Merging a1 
         other = m.right;
         format = m.left.reader.file;
         archive = p.left.archive;
-        left = s.0;
+        left = s.0.0;
         last = s.1;
         right = p.right;
         order = p.order unread;
@@ -134,25 +169,43 @@ module _ (a1 a2 w0 w1 b1 b2 c1 : Option (List ℕ)) (m : Merge) (p : Merging a1 
 
   module _ (c2 : Option (List ℕ)) (left : MergeInput) (read : left.ahead ≢ Unread) (stands : (done : List (List ℕ)) (low : List ℕ) → Stands a1 b1 done low m.left → Stands a1 c1 done low left) where
     -- the right one did
-    pub right_stops : (fault : RecordFault) (e : MergeFault) → e ≡ record { cause = Right fault; written = m.written.bytes } → ((done : List (List ℕ)) (low : List ℕ) → Stands a2 b2 done low m.right → Stopped m.right.reader.file a2 c2 done fault × (last_of [] done ≡ low))
-        → HasStoppedMerge a1 c1 a2 c2 w0 w1 e
-    right_stops fault e is stops =
+    abbrev right_stopped : (fault : RecordFault) → Stopped m.right.reader.file a2 c2 p.rights fault → last_of [] p.rights ≡ last_of [] p.out → RightStopped a1 c1 a2 c2 w0 w1 fault m.written.bytes
+    right_stopped fault s last = record {
+      lefts = p.lefts;
+      rights = p.rights;
+      out = p.out;
+      other = left;
+      left = stands p.lefts (last_of [] p.out) p.left;
+      read = read;
+      format = m.right.reader.file;
+      archive = p.right.archive;
+      right = s;
+      last = last;
+      joins = p.joins;
+      written_is = p.bytes;
+      gained = p.gained;
+    }
+
+    pub right_stops : (right : MergeInput) (fault : RecordFault) (e : MergeFault) → IsToldOfRight (record { left = left; right = right; written = m.written }) fault e → left.reader.count < 2 ^ 63
+        → ((done : List (List ℕ)) (low : List ℕ) → Stands a2 b2 done low m.right → StoppedWith m.right.reader.file a2 c2 done fault right.reader.last × (last_of [] done ≡ low)) → HasStoppedMerge a1 c1 a2 c2 w0 w1 e
+    right_stops right fault e (inl (memory, both, is)) few stops =
         let s = stops p.rights (last_of [] p.out) p.right in
-        subst (HasStoppedMerge a1 c1 a2 c2 w0 w1) (sym is) (inl (record {
-          lefts = p.lefts;
-          rights = p.rights;
-          out = p.out;
-          other = left;
-          left = stands p.lefts (last_of [] p.out) p.left;
-          read = read;
-          format = m.right.reader.file;
-          archive = p.right.archive;
-          right = s.0;
-          last = s.1;
-          joins = p.joins;
-          written_is = p.bytes;
-          gained = p.gained;
-        }))
+        let stood : Stands a1 c1 p.lefts (last_of [] p.out) left = stands p.lefts (last_of [] p.out) p.left in
+        let item : IsItem Archive left.reader.last = held_record a1 c1 p.lefts (last_of [] p.out) left stood both.0 in
+        let same : s.0.0.rest ≡ left.reader.last = whole_is m.right.reader.file s.0.0.rest left.reader.last right.reader.last both.1 item (s.0.1 memory) in
+        subst (HasStoppedMerge a1 c1 a2 c2 w0 w1) (sym is)
+        (inr (inr (fault, right_stopped fault s.0.0 s.1, both.0, same, few, ap (λ (n : ℕ). memory_behind n) (before_last a1 c1 p.lefts (last_of [] p.out) left stood both.0))))
+    right_stops right fault e (inr (alone, is)) few stops =
+        let s = stops p.rights (last_of [] p.out) p.right in
+        let stood : Stands a1 c1 p.lefts (last_of [] p.out) left = stands p.lefts (last_of [] p.out) p.left in
+        let f : Format = m.right.reader.file in
+        subst (HasStoppedMerge a1 c1 a2 c2 w0 w1) (sym is) (inl (
+          right_stopped fault s.0.0 s.1,
+          λ memory. (
+            λ held same. other_record f p.right.archive s.0.0.rest left.reader.last right.reader.last (held_record a1 c1 p.lefts (last_of [] p.out) left stood held) (s.0.1 memory) same (λ last. alone memory (held, last)),
+            λ n same. no_end_record f p.right.archive s.0.0.rest right.reader.last n (s.0.1 memory) same,
+          ),
+        ))
 
     -- none did
     pub both_read : (right : MergeInput) → ((done : List (List ℕ)) (low : List ℕ) → Stands a2 b2 done low m.right → Stands a2 c2 done low right) → Merging a1 c1 a2 c2 w0 w1 (record { left = left; right = right; written = m.written })
@@ -171,23 +224,19 @@ module _ (a1 a2 w0 w1 b1 b2 c1 : Option (List ℕ)) (m : Merge) (p : Merging a1 
 
 -- ---- the magics
 
--- where no record was read the magic was
-pub magic_read : (f : Format) (a b : Option (List ℕ)) (position : Position) → kind_of f ≡ Archive_text → HasRead f a b [] position → HasMagicRead a b
-magic_read f a b position k h = (f, k, subst (Consumes a b) (append-nil (magic_of f)) h.taken)
-
 -- a merge that stopped behind the magic stopped
 pub stops_later : (a1 b1 a2 b2 w0 w1 : Option (List ℕ)) (e : MergeFault) → HasStoppedMerge a1 b1 a2 b2 w0 w1 e → MergeStops a1 b1 a2 b2 w0 w1 e
 stops_later a1 b1 a2 b2 w0 w1 e h = by e.cause h
   where
     by : (c : MergeCause) → ByCause c
-        (λ fault. LeftStopped a1 b1 a2 b2 w0 w1 fault e.written ⊎ LeftFull a1 b1 a2 b2 w0 w1 fault e.written)
-        (λ fault. RightStopped a1 b1 a2 b2 w0 w1 fault e.written ⊎ RightFull a1 b1 a2 b2 w0 w1 fault e.written)
+        (λ fault. LeftRefused a1 b1 a2 b2 w0 w1 fault e.written)
+        (λ fault. RightRefused a1 b1 a2 b2 w0 w1 fault e.written)
         (WriteStopped a1 b1 a2 b2 w0 w1 e.written)
         → ByCause c
         (λ fault. ((e.written ≡ 0) × Appends w0 w1 [] × Consumes a2 b2 [] × StopsBeforeRecords a1 b1 fault)
-        ⊎ (LeftStopped a1 b1 a2 b2 w0 w1 fault e.written ⊎ LeftFull a1 b1 a2 b2 w0 w1 fault e.written))
+        ⊎ LeftRefused a1 b1 a2 b2 w0 w1 fault e.written)
         (λ fault. ((e.written ≡ 0) × Appends w0 w1 [] × HasMagicRead a1 b1 × StopsBeforeRecords a2 b2 fault)
-        ⊎ (RightStopped a1 b1 a2 b2 w0 w1 fault e.written ⊎ RightFull a1 b1 a2 b2 w0 w1 fault e.written))
+        ⊎ RightRefused a1 b1 a2 b2 w0 w1 fault e.written)
         (WriteStopped a1 b1 a2 b2 w0 w1 e.written)
     by (Left fault) p = inr p
     by (Right fault) p = inr p

@@ -1,5 +1,5 @@
 -- A text that is read record by record.
-use Rattle.std.proofs.Common.{◌≡◌, ◌≢◌, ℕ, ◌+◌, ◌^◌, ◌<◌, true, List, [], ◌∷◌, ◌++◌, length, Option, Some, Ok, refl, sym, ap, ◌∙◌, subst, arith, inl, inr, ◌⊎◌, append_assoc, length-append}
+use Rattle.std.proofs.Common.{◌≡◌, ◌≢◌, ℕ, ◌+◌, ◌^◌, ◌<◌, true, false, List, [], ◌∷◌, ◌++◌, length, Option, Some, Ok, refl, sym, ap, ◌∙◌, subst, arith, inl, inr, ◌⊎◌, append_assoc, length-append}
 use Rattle.std.proofs.lemmas.List.{append-nil, take_all}
 use Rattle.std.specs.List.{concat}
 use Rattle.std.specs.Io.KnownBytes.{Consumes}
@@ -10,12 +10,12 @@ use Rattle.archive_records.specs.declared.fault.RecordFaultKind.TheVariants.{Tru
 use Rattle.archive_records.specs.declared.fault.RecordFault.{RecordFault}
 use Rattle.archive_records.specs.Kind.{magic_of, IsItem, end_length, may_follow}
 use Rattle.archive_records.specs.Text.{end_record, ending, text_of, InOrder, last_of}
-use Rattle.archive_records.specs.Fault.{next, IsUnended, FailsNext, FailsBehind, Fails}
-use Rattle.archive_records.specs.Reading.{Blames}
+use Rattle.archive_records.specs.Fault.{next, IsUnended, IsCutAtMost, FailsNext, FailsBehind, Fails}
+use Rattle.archive_records.specs.Reading.{Blames, IsOfMachine}
 use Rattle.archive_records.specs.declared.next.NextRecord.{NextRecord}
 use Rattle.archive_records.specs.declared.next.NextRecord.TheVariants.{End, Item}
 use Rattle.archive_core.specs.declared.slices.SliceFacts.{SliceFacts}
-use Rattle.archive_records.specs.Reader.{IfEnd, IfItem, Position, set_of, RetireAlike, KeepsIn, AreRetired, IsCoveredThere, Passes, Finishes, StopsAt, HasRead, HasReadAll, Stopped, IsEnded, seen_as}
+use Rattle.archive_records.specs.Reader.{IfEnd, IfItem, Position, set_of, RetireAlike, KeepsIn, AreRetired, IsCoveredThere, Passes, Finishes, StopsAt, HasWhole, HasRead, HasReadAll, Stopped, StoppedWith, IsEnded, seen_as}
 use Rattle.archive_records.proofs.Apart.{apart_more, retired_more, drops_more, covered_alike, last_of-push}
 use Rattle.archive_records.proofs.Puts.{concat-push}
 use Rattle.archive_records.proofs.Holds.{next-above}
@@ -24,10 +24,11 @@ use Rattle.archive_records.proofs.Forms.{item-no_end}
 use Rattle.archive_records.proofs.Grown.{next-ok-grows}
 use Rattle.archive_records.proofs.Ends.{end-is_end, length-end_record, next_end, counted, counted_unended}
 use Rattle.archive_records.proofs.Longest.{is_end-grows}
+use Rattle.archive_records.proofs.Undecided.{no_machine, device_seen, apart_whole, cut_text, cut_off, cut_behind}
 use Rattle.archive_records.specs.declared.format.Format.{Format}
 use Rattle.archive_records.specs.declared.format.Format.TheVariants.{Archive}
 
-taken_more : (a b c : Option (List ℕ)) (x y z : List ℕ) → Consumes a b (x ++ y) → Consumes b c z → Consumes a c (x ++ (y ++ z))
+pub taken_more : (a b c : Option (List ℕ)) (x y z : List ℕ) → Consumes a b (x ++ y) → Consumes b c z → Consumes a c (x ++ (y ++ z))
 taken_more a b c x y z p q = subst (Consumes a c) (append_assoc x y z) (Consumes-then a b c (x ++ y) z p q)
 
 module _ (file : Format) where
@@ -70,6 +71,12 @@ module _ (file : Format) where
         retired_are = subst (λ (t : List (List ℕ)). AreRetired file t records) (sym e.retired_is) h.retired_are;
       }
 
+  -- what one item more makes decides no fault
+  whole_undecided : (a b c : Option (List ℕ)) (records : List (List ℕ)) (before after : Position) → HasRead file a b records before → Passes b c before after → IsCutAtMost file (magic_of file ++ (concat records ++ after.last))
+  whole_undecided a b c records before after h p =
+      let read = HasRead-grows a b c records before after h p in
+      cut_behind file records after.last read.ordered read.apart (omega (arith, h.count_is, p.count_is, p.few))
+
   -- want of memory where the record that was read is taken
   pub Stopped-unkept : (a b c : Option (List ℕ)) (records : List (List ℕ)) (before after : Position) → HasRead file a b records before → Passes b c before after → Stopped file a c records (record { kind = OutOfMemory; offset = before.offset })
   Stopped-unkept a b c records before after h p = record {
@@ -80,6 +87,7 @@ module _ (file : Format) where
     few = omega (arith, h.count_is, p.count_is, p.few);
     unended = λ known. absurd (known.1 refl);
     stops = inl (h.offset_is, λ known. absurd (known refl));
+    undecided = λ _. whole_undecided a b c records before after h p;
   }
 
   -- what is covered is covered by one of the records
@@ -99,12 +107,36 @@ module _ (file : Format) where
         },
       )
 
-  fails_there : (a b : Option (List ℕ)) (records : List (List ℕ)) (before : Position) (rest : List ℕ) (kind : RecordFaultKind) → HasRead file a b records before → FailsNext before.file before.last before.count rest (seen_as kind) ⊎ IsCoveredThere before rest kind → Fails file records rest (seen_as kind)
+  pub fails_there : (a b : Option (List ℕ)) (records : List (List ℕ)) (before : Position) (rest : List ℕ) (kind : RecordFaultKind) → HasRead file a b records before → FailsNext before.file before.last before.count rest (seen_as kind) ⊎ IsCoveredThere before rest kind → Fails file records rest (seen_as kind)
   fails_there a b records before rest kind h (inl f) = inl (rw (← h.last_is, ← h.count_is, ← h.file_is) f)
   fails_there a b records before rest kind h (inr c) = inr (covered_behind a b records before rest kind h c)
 
+  next_there : (a b : Option (List ℕ)) (records : List (List ℕ)) (before : Position) (rest : List ℕ) (kind : RecordFaultKind) → HasRead file a b records before → FailsNext before.file before.last before.count rest kind → FailsNext file (last_of [] records) (length records) rest kind
+  next_there a b records before rest kind h f = rw (← h.last_is, ← h.count_is, ← h.file_is) f
+
+  -- what came where the device failed, or memory ran out, decides no fault
+  pub undecided_there : (a b c : Option (List ℕ)) (records : List (List ℕ)) (before : Position) (fault : RecordFault) → HasRead file a b records before → (s : StopsAt b c before fault) → IsOfMachine fault.kind → IsCutAtMost file (magic_of file ++ (concat records ++ s.rest))
+  undecided_there a b c records before fault h s (inl device) = elim (s.fails (λ memory. device_memory (sym device ∙ memory))) [
+    | inl f ↦ cut_off file records h.ordered h.apart (omega (arith, h.count_is, s.few)) s.rest (device_seen file (last_of [] records) (length records) s.rest fault.kind (next_there a b records before s.rest (seen_as fault.kind) h f) device)
+    | inr e ↦ absurd (device_covered (sym device ∙ e.kind_is))
+  ]
+    where
+      device_memory : Device ≡ OutOfMemory → ⊥
+      device_memory e = cc
+
+      device_covered : Device ≡ Covered → ⊥
+      device_covered e = cc
+  undecided_there a b c records before fault h s (inr memory) = elim (s.wanted memory) [
+    | inl f ↦ cut_off file records h.ordered h.apart (omega (arith, h.count_is, s.few)) s.rest (next_there a b records before s.rest Truncated h f)
+    | inr w ↦
+        let item : IsItem file s.rest = subst (λ (f : Format). IsItem f s.rest) h.file_is w.item in
+        let follows : may_follow file (last_of [] records) s.rest ≡ true = rw (← h.last_is, ← h.file_is) w.follows in
+        cut_behind file records s.rest (InOrder-push [] records s.rest h.ordered item follows)
+        (apart_whole file before.retired records s.rest h.ordered follows h.apart h.retired_are (λ is. w.uncovered (h.file_is ∙ is))) (omega (arith, h.count_is, s.few))
+  ]
+
   -- a test failed behind the records, or memory ran out there
-  pub Stopped-fails : (a b c : Option (List ℕ)) (records : List (List ℕ)) (before : Position) (fault : RecordFault) → HasRead file a b records before → StopsAt b c before fault → Stopped file a c records fault
+  abbrev pub Stopped-fails : (a b c : Option (List ℕ)) (records : List (List ℕ)) (before : Position) (fault : RecordFault) → HasRead file a b records before → StopsAt b c before fault → Stopped file a c records fault
   Stopped-fails a b c records before fault h s = record {
     rest = s.rest;
     taken = taken_more a b c (magic_of file) (concat records) s.rest h.taken s.taken;
@@ -113,7 +145,12 @@ module _ (file : Format) where
     few = omega (arith, h.count_is, s.few);
     unended = λ known. subst (λ (f : Format). IsUnended f s.rest) h.file_is (s.unended known);
     stops = inl (s.offset_is ∙ h.offset_is, λ known. fails_there a b records before s.rest fault.kind h (s.fails known));
+    undecided = undecided_there a b c records before fault h s;
   }
+
+  -- and where memory did, the reader has what came whole
+  pub Stopped-with : (a b c : Option (List ℕ)) (records : List (List ℕ)) (before : Position) (last : List ℕ) (fault : RecordFault) → HasRead file a b records before → (stop : StopsAt b c before fault) → (fault.kind ≡ OutOfMemory → HasWhole before.file stop.rest last) → StoppedWith file a c records fault last
+  Stopped-with a b c records before last fault h stop whole = (Stopped-fails a b c records before fault h stop, λ memory. subst (λ (f : Format). HasWhole f stop.rest last) h.file_is (whole memory))
 
 -- what holds at the end, and of an item, may be said in other words
 pub IfEnd-then : {P Q : Type 0} (step : NextRecord) → IfEnd step P → (P → Q) → IfEnd step Q
@@ -140,35 +177,46 @@ step_passes a b before after bytes is taken item follows file count offset few k
 
 -- why an item is refused by the retirements before it
 abbrev pub IsRefusedBy : Position → List ℕ → RecordFaultKind → Type 0
-IsRefusedBy before bytes kind = (kind ≡ OutOfMemory) ⊎ ((kind ≡ Covered) × (before.file ≡ Archive) × (is_covered (set_of before.retired) bytes ≡ true))
+IsRefusedBy before bytes kind = ((kind ≡ OutOfMemory) × (is_covered (set_of before.retired) bytes ≡ false)) ⊎ ((kind ≡ Covered) × (before.file ≡ Archive) × (is_covered (set_of before.retired) bytes ≡ true))
 
-pub step_refused : (a b : Option (List ℕ)) (before : Position) (bytes : List ℕ) (kind : RecordFaultKind) → Consumes a b bytes → before.count < 2 ^ 63 → IsItem before.file bytes → may_follow before.file before.last bytes ≡ true → IsRefusedBy before bytes kind
-    → StopsAt a b before (record { kind = kind; offset = before.offset })
-step_refused a b before bytes kind taken few item follows (inl e) = record {
-  rest = bytes;
-  taken = taken;
-  unended = λ known. absurd (known.1 e);
-  fails = λ known. absurd (known e);
-  offset_is = refl;
-  few = few;
-}
-step_refused a b before bytes kind taken few item follows (inr c) = record {
-  rest = bytes;
-  taken = taken;
-  unended = λ known. subst (λ (f : Format). IsUnended f bytes) (sym c.1) tt;
-  fails = λ known. inr (record {
-    kind_is = c.0;
-    file_is = c.1;
-    item = subst (λ (f : Format). IsItem f bytes) c.1 item;
-    follows = subst (λ (f : Format). may_follow f before.last bytes ≡ true) c.1 follows;
-    covered = c.2;
-  });
-  offset_is = refl;
-  few = few;
-}
+pub step_refused : (a b : Option (List ℕ)) (before : Position) (last bytes : List ℕ) (kind : RecordFaultKind) → last ≡ bytes → Consumes a b bytes → before.count < 2 ^ 63 → IsItem before.file bytes → may_follow before.file before.last bytes ≡ true → IsRefusedBy before bytes kind
+    → (stop : StopsAt a b before (record { kind = kind; offset = before.offset })) × (kind ≡ OutOfMemory → HasWhole before.file stop.rest last)
+step_refused a b before last bytes kind is taken few item follows (inl e) = (
+  record {
+    rest = bytes;
+    taken = taken;
+    unended = λ known. absurd (known.1 e.0);
+    fails = λ known. absurd (known e.0);
+    wanted = λ _. inr (record { item = item; follows = follows; uncovered = λ _. e.1 });
+    offset_is = refl;
+    few = few;
+  },
+  λ _. inl (item, is),
+)
+step_refused a b before last bytes kind is taken few item follows (inr c) = (
+  record {
+    rest = bytes;
+    taken = taken;
+    unended = λ known. subst (λ (f : Format). IsUnended f bytes) (sym c.1) tt;
+    fails = λ known. inr (record {
+      kind_is = c.0;
+      file_is = c.1;
+      item = subst (λ (f : Format). IsItem f bytes) c.1 item;
+      follows = subst (λ (f : Format). may_follow f before.last bytes ≡ true) c.1 follows;
+      covered = c.2;
+    });
+    wanted = λ memory. absurd (covered_memory (sym c.0 ∙ memory));
+    offset_is = refl;
+    few = few;
+  },
+  λ _. inl (item, is),
+)
+  where
+    covered_memory : Covered ≡ OutOfMemory → ⊥
+    covered_memory h = cc
 
 pub refused_blames : {R : Type 0} (left : R → Option (List ℕ)) (failures : R → ℕ) (old new : R) (before : Position) (bytes : List ℕ) (kind : RecordFaultKind) → failures new ≡ failures old → IsRefusedBy before bytes kind → Blames left failures old new kind
-refused_blames left failures old new before bytes kind unfailed (inl e) = subst (Blames left failures old new) (sym e) (memory_blames left failures old new unfailed)
+refused_blames left failures old new before bytes kind unfailed (inl e) = subst (Blames left failures old new) (sym e.0) (memory_blames left failures old new unfailed)
 refused_blames left failures old new before bytes kind unfailed (inr c) = subst (Blames left failures old new) (sym c.0) ((λ e. absurd (no_device e)), (λ _. unfailed), λ e. absurd (no_end e))
   where
     no_device : Covered ≡ Device → ⊥
@@ -218,6 +266,7 @@ module _ (file : Format) (counts : end_length file ≡ Some 9) where
           },
           ap (λ (n : ℕ). n + 9) h.offset_is,
         ));
+        undecided = λ machine. absurd (no_machine machine);
       }
 
   -- the device failed there
@@ -232,4 +281,5 @@ module _ (file : Format) (counts : end_length file ≡ Some 9) where
         few = h.few;
         unended = λ _. counted_unended file counts (end_record (length records));
         stops = inr (inr (refl, refl, h.offset_is));
+        undecided = λ _. cut_text file records h.ordered h.apart (omega (arith, h.few)) (end_record (length records)) (sym (counted file counts (length records)));
       }

@@ -143,6 +143,10 @@ IsSummaryFault = IsFaultOf Summary
 abbrev pub IsOperationsFault : List ℕ → RecordFault → Type 0
 IsOperationsFault = IsFaultOf Operations
 
+-- The bytes are cut off at most: each fault that they have as a text of this format is that they end too early.
+abbrev pub IsCutAtMost : Format → List ℕ → Type 0
+IsCutAtMost file bytes = (fault : RecordFault) → IsFaultOf file bytes fault → fault.kind ≡ Truncated
+
 -- a fault of the text itself: neither the device's nor want of memory
 abbrev pub IsOfText : RecordFaultKind → Type 0
 IsOfText kind = (kind ≢ Device) × (kind ≢ OutOfMemory)

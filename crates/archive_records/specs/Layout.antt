@@ -8,8 +8,8 @@ use Rattle.archive_records.specs.Kind.{admission_length, end_length}
 use Rattle.archive_records.specs.declared.fault.RecordFaultKind.{RecordFaultKind}
 use Rattle.archive_records.specs.declared.fault.RecordFaultKind.TheVariants.{Truncated, BadTag, TooLarge}
 
--- How long the head is, by its tag: a retirement is tag, UUID, cputype, subtype and digest; an admission's head is tag,
--- UUID, cputype, subtype and the length of its slice; an end record is tag and number of records.
+-- How long the head is, by its tag: a retirement is tag, UUID, cputype, cpusubtype and digest; an admission's head is
+-- tag, UUID, cputype, cpusubtype and the length of its slice; an end record is tag and number of records.
 unfoldable pub head_length : Format → ℕ → Option ℕ
 head_length file tag = if tag == 1 then Some 57 else if tag == 2 then Some (admission_length file)
     else if tag == 3 then end_length file else None

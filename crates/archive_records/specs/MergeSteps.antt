@@ -24,7 +24,7 @@ use Rattle.archive_records.specs.declared.side.Lookahead.TheVariants.{Unread, He
 use Rattle.archive_records.specs.declared.side.MergeInput.{MergeInput}
 use Rattle.archive_records.specs.declared.writing.Sizes.{Sizes}
 use Rattle.archive_records.specs.Kind.{magic, magic_of, kind_of, may_follow}
-use Rattle.archive_records.specs.Text.{text_of, InOrder, kept, last_of}
+use Rattle.archive_records.specs.Text.{end_record, text_of, InOrder, kept, last_of}
 use Rattle.archive_records.specs.Reading.{Blames}
 use Rattle.archive_records.specs.Merging.{Stream, IsUnfailed, most_records}
 use Rattle.archive_records.specs.Reader.{set_of, HasRead, HasReadAll, Stopped, StopsInMagicOf}
@@ -61,7 +61,7 @@ abbrev pub weight : MergeInput → ℕ
 weight side = (2 ^ 63 - side.reader.count) * 2 + cost side.ahead
 
 -- The record that the side held was written behind what was written before.
-pub record IsWritten (w0 w1 : Option (List ℕ)) (before after : Sizes) (old new : MergeInput) : Type 0 where
+pub record IsRecordWritten (w0 w1 : Option (List ℕ)) (before after : Sizes) (old new : MergeInput) : Type 0 where
   pub gained : Appends w0 w1 old.reader.last
   pub records : after.records ≡ before.records + 1
   pub bytes : after.bytes ≡ before.bytes + length old.reader.last
@@ -204,6 +204,36 @@ RightFull a1 b1 a2 b2 w0 w1 fault written =
     (full : IsFull a1 b1 a2 b2 w0 w1 written) × (first_of full.left_side full.right_side ≡ Greater)
     × (fault ≡ memory_behind (front_length full.rights))
 
+-- Memory was wanted at the right side's turn, for the record that the left side holds, too: it is told of the left one.
+abbrev pub BothWanted : Option (List ℕ) → Option (List ℕ) → Option (List ℕ) → Option (List ℕ)
+    → Option (List ℕ) → Option (List ℕ) → RecordFault → ℕ → Type 0
+BothWanted a1 b1 a2 b2 w0 w1 fault written =
+    (own : RecordFault) × (s : RightStopped a1 b1 a2 b2 w0 w1 own written) × (s.other.ahead ≡ Held)
+    × (s.right.rest ≡ s.other.reader.last) × (s.other.reader.count < 2 ^ 63)
+    × (fault ≡ memory_behind (front_length s.lefts))
+
+-- The right side stopped the merge, and memory that it wanted was not for what the left side has: a record that it
+-- holds, or its end record.
+abbrev pub RightAlone : Option (List ℕ) → Option (List ℕ) → Option (List ℕ) → Option (List ℕ)
+    → Option (List ℕ) → Option (List ℕ) → RecordFault → ℕ → Type 0
+RightAlone a1 b1 a2 b2 w0 w1 fault written =
+    (s : RightStopped a1 b1 a2 b2 w0 w1 fault written) × (fault.kind ≡ OutOfMemory
+    → (s.other.ahead ≡ Held → s.right.rest ≢ s.other.reader.last) × ((n : ℕ) → s.right.rest ≢ end_record n))
+
+-- the left side is told
+abbrev pub LeftRefused : Option (List ℕ) → Option (List ℕ) → Option (List ℕ) → Option (List ℕ)
+    → Option (List ℕ) → Option (List ℕ) → RecordFault → ℕ → Type 0
+LeftRefused a1 b1 a2 b2 w0 w1 fault written =
+    LeftStopped a1 b1 a2 b2 w0 w1 fault written
+    ⊎ LeftFull a1 b1 a2 b2 w0 w1 fault written
+    ⊎ BothWanted a1 b1 a2 b2 w0 w1 fault written
+
+-- the right side is
+abbrev pub RightRefused : Option (List ℕ) → Option (List ℕ) → Option (List ℕ) → Option (List ℕ)
+    → Option (List ℕ) → Option (List ℕ) → RecordFault → ℕ → Type 0
+RightRefused a1 b1 a2 b2 w0 w1 fault written =
+    RightAlone a1 b1 a2 b2 w0 w1 fault written ⊎ RightFull a1 b1 a2 b2 w0 w1 fault written
+
 -- what is said by the cause
 abbrev pub ByCause : MergeCause → (RecordFault → Type 0) → (RecordFault → Type 0) → Type 0 → Type 0
 ByCause (Left fault) P Q T = P fault
@@ -223,22 +253,22 @@ abbrev pub BlamesDevices : {R S T : Type 0} → Stream R → Stream S → ℕ �
 BlamesDevices left right w0 w1 result =
     MatchResult result (λ _. IsUnfailed left × IsUnfailed right × (w1 ≡ w0)) (λ e. BlamesBy left right w0 w1 e.cause)
 
--- how a merge stops behind the magic
+-- how a merge stops after the magic
 abbrev pub HasStoppedMerge : Option (List ℕ) → Option (List ℕ) → Option (List ℕ) → Option (List ℕ)
     → Option (List ℕ) → Option (List ℕ) → MergeFault → Type 0
 HasStoppedMerge a1 b1 a2 b2 w0 w1 e = ByCause e.cause
-    (λ fault. LeftStopped a1 b1 a2 b2 w0 w1 fault e.written ⊎ LeftFull a1 b1 a2 b2 w0 w1 fault e.written)
-    (λ fault. RightStopped a1 b1 a2 b2 w0 w1 fault e.written ⊎ RightFull a1 b1 a2 b2 w0 w1 fault e.written)
+    (λ fault. LeftRefused a1 b1 a2 b2 w0 w1 fault e.written)
+    (λ fault. RightRefused a1 b1 a2 b2 w0 w1 fault e.written)
     (WriteStopped a1 b1 a2 b2 w0 w1 e.written)
 
 -- how it stops at all: before the magic is written, too
-abbrev pub Stops : Option (List ℕ) → Option (List ℕ) → Option (List ℕ) → Option (List ℕ)
+abbrev pub StopsMerge : Option (List ℕ) → Option (List ℕ) → Option (List ℕ) → Option (List ℕ)
     → Option (List ℕ) → Option (List ℕ) → MergeFault → Type 0
-Stops a1 b1 a2 b2 w0 w1 e = ByCause e.cause
+StopsMerge a1 b1 a2 b2 w0 w1 e = ByCause e.cause
     (λ fault. ((e.written ≡ 0) × Appends w0 w1 [] × Consumes a2 b2 [] × StopsBeforeRecords a1 b1 fault)
-    ⊎ (LeftStopped a1 b1 a2 b2 w0 w1 fault e.written ⊎ LeftFull a1 b1 a2 b2 w0 w1 fault e.written))
+    ⊎ LeftRefused a1 b1 a2 b2 w0 w1 fault e.written)
     (λ fault. ((e.written ≡ 0) × Appends w0 w1 [] × HasMagicRead a1 b1 × StopsBeforeRecords a2 b2 fault)
-    ⊎ (RightStopped a1 b1 a2 b2 w0 w1 fault e.written ⊎ RightFull a1 b1 a2 b2 w0 w1 fault e.written))
+    ⊎ RightRefused a1 b1 a2 b2 w0 w1 fault e.written)
     (WriteStopped a1 b1 a2 b2 w0 w1 e.written)
 
 -- Two whole texts were read, and the text of the join was written.
@@ -262,7 +292,7 @@ pub record MergedAll (a1 b1 a2 b2 w0 w1 : Option (List ℕ)) (sizes : Sizes) : T
 abbrev pub Leaves : Option (List ℕ) → Option (List ℕ) → Option (List ℕ) → Option (List ℕ)
     → Option (List ℕ) → Option (List ℕ) → Result Sizes MergeFault → Type 0
 Leaves a1 b1 a2 b2 w0 w1 (Ok sizes) = MergedAll a1 b1 a2 b2 w0 w1 sizes
-Leaves a1 b1 a2 b2 w0 w1 (Err e) = Stops a1 b1 a2 b2 w0 w1 e
+Leaves a1 b1 a2 b2 w0 w1 (Err e) = StopsMerge a1 b1 a2 b2 w0 w1 e
 
 -- ---- numbers
 
@@ -286,6 +316,19 @@ IsRefusedMore m e =
     (m.written.records ≡ most_records) × (e.written ≡ m.written.bytes)
     × (((first_of m.left m.right ≢ Greater) × (e.cause ≡ Left (memory_for m.left)))
     ⊎ ((first_of m.left m.right ≡ Greater) × (e.cause ≡ Right (memory_for m.right))))
+
+-- The left side holds the record that the right side read last.
+abbrev pub IsLastOfBoth : Merge → Type 0
+IsLastOfBoth m = (m.left.ahead ≡ Held) × (m.left.reader.last ≡ m.right.reader.last)
+
+-- What is told where the right side is refused so: want of memory for a record that the left side holds, too, is that
+-- side's.
+abbrev pub IsToldOfRight : Merge → RecordFault → MergeFault → Type 0
+IsToldOfRight m fault e =
+    ((fault.kind ≡ OutOfMemory) × IsLastOfBoth m
+    × (e ≡ record { cause = Left (memory_for m.left); written = m.written.bytes }))
+    ⊎ ((fault.kind ≡ OutOfMemory → IsLastOfBoth m → ⊥)
+    × (e ≡ record { cause = Right fault; written = m.written.bytes }))
 
 abbrev pub cost_of : Merge → ℕ
 cost_of m = weight m.left + weight m.right

@@ -1,7 +1,7 @@
 -- A merge of two texts, each of either version: what is written of two archives, and else which side stops it, and
 -- where.
-use Rattle.std.specs.Prelude.{◌≡◌, ℕ, ◌+◌, ◌-◌, ◌^◌, ◌<◌, true, false, not, List, [], ◌++◌, length, filter}
-use Rattle.std.specs.Prelude.{Option, IfSome, Result, Ok, Err, ◌⊎◌}
+use Rattle.std.specs.Prelude.{◌≡◌, ◌≢◌, ℕ, ◌+◌, ◌-◌, ◌^◌, ◌<◌, true, false, not, List, [], ◌∷◌, ◌++◌, length}
+use Rattle.std.specs.Prelude.{filter, Option, IfSome, Result, Ok, Err, ◌⊎◌}
 use Rattle.std.specs.List.{concat}
 use Rattle.std.specs.FinSet as set
 use Rattle.std.specs.Io.KnownBytes.{Appends, Consumes, IsAtEnd}
@@ -103,6 +103,10 @@ abbrev pub IsWrittenUpTo : {W : Type 0} → Stream W → List ℕ → List ℕ �
 IsWrittenUpTo out left right o low n =
     (bytes : List ℕ) × IsWrittenBefore left right o low bytes × Gains out bytes × (n ≡ length bytes)
 
+-- No bytes that the writer gained are an archive's text, where it tells its bytes.
+abbrev pub GainsNoText : {W : Type 0} → Stream W → Type 0
+GainsNoText out = IfSome (out.bytes out.old) (λ _. (bytes : List ℕ) → Gains out bytes → IsArchiveText bytes → ⊥)
+
 -- Reading the input whole, and it alone, is refused so.
 abbrev pub IsRefusedAlone : {R : Type 0} → Stream R → RecordFault → Type 0
 IsRefusedAlone input fault =
@@ -135,34 +139,40 @@ abbrev pub IsMagicTaken : {R : Type 0} → Stream R → Type 0
 IsMagicTaken side = (format : Format) × (kind_of format ≡ Archive_text)
     × Consumes (side.bytes side.old) (side.bytes side.new) (magic_of format)
 
--- What was taken behind these records of a side that was read on once this record had its turn: one that is above it,
--- or the end record, and the side is at its end. A record that is covered has its turn where it would have been
--- written.
-abbrev pub IsNext : {R : Type 0} → Stream R → List ℕ → List (List ℕ) → List ℕ → Type 0
-IsNext side low records next =
-    (IsItem Archive next × (may_follow Archive low next ≡ true))
+-- What was taken after these records of a side of this version that was read on once this record had its turn: one that
+-- is above it, and is a good one of that side, so that in version 2 no retirement before it covers it; or the end
+-- record, and the side is at its end. A record that is covered otherwise, by a retirement of the other side or in
+-- version 1, has its turn where it would have been written, and is held until then.
+abbrev pub IsNext : {R : Type 0} → Stream R → Format → List ℕ → List (List ℕ) → List ℕ → Type 0
+IsNext side format low records next =
+    (IsItem Archive next × (may_follow Archive low next ≡ true) × AreApart format (records ++ next ∷ []))
     ⊎ ((next ≡ end_record (length records)) × IsAtEnd (side.bytes side.new))
 
 -- It is the left side's turn: its last record had its turn last, and the right side was read on only if its own is
 -- below that one; where both are the same, or there is none yet, the left side is read first.
-abbrev pub IsTurnOfLeft : {S : Type 0} → Stream S → List (List ℕ) → List (List ℕ) → List ℕ → Type 0
-IsTurnOfLeft right lefts rights next =
+abbrev pub IsTurnOfLeft : {S : Type 0} → Stream S → Format → List (List ℕ) → List (List ℕ) → List ℕ → Type 0
+IsTurnOfLeft right format lefts rights next =
     ((last_of [] rights ≡ last_of [] lefts) × (next ≡ []))
-    ⊎ (EndsBelow rights lefts × IsNext right (last_of [] lefts) rights next)
+    ⊎ (EndsBelow rights lefts × IsNext right format (last_of [] lefts) rights next)
 
 -- It is the right side's turn: its last record had its turn last, and the left side was read on.
-abbrev pub IsTurnOfRight : {R : Type 0} → Stream R → List (List ℕ) → List (List ℕ) → List ℕ → Type 0
-IsTurnOfRight left lefts rights next =
-    (EndsBelow rights lefts → ⊥) × IsNext left (last_of [] rights) lefts next
+abbrev pub IsTurnOfRight : {R : Type 0} → Stream R → Format → List (List ℕ) → List (List ℕ) → List ℕ → Type 0
+IsTurnOfRight left format lefts rights next =
+    (EndsBelow rights lefts → ⊥) × IsNext left format (last_of [] rights) lefts next
 
--- As many records of this content were written as there may be, and both sides were read on: this one has one more,
--- which none of all these records covers.
-pub record IsOneMore {R S : Type 0} (side : Stream R) (other : Stream S) (o all : Operations) (others : List (List ℕ))
-    (more next : List ℕ) : Type 0 where
+-- Memory was wanted at the right side's turn, for the record that the left side holds, too.
+abbrev pub IsOfBoth : {R : Type 0} → Stream R → Format → List (List ℕ) → List (List ℕ) → List ℕ → List ℕ → Type 0
+IsOfBoth left format lefts rights left_next right_next =
+    IsTurnOfRight left format lefts rights left_next × IsItem Archive left_next × (right_next ≡ left_next)
+
+-- As many records of this content were written as there may be, and both sides were read on, the other one of this
+-- version: this one has one more, which none of all these records covers.
+pub record IsOneMore {R S : Type 0} (side : Stream R) (other : Stream S) (format : Format) (o all : Operations)
+    (others : List (List ℕ)) (more next : List ℕ) : Type 0 where
   pub most : set.len o ≡ most_records
   pub more_is : IsItem Archive more × (may_follow Archive (last_of [] (listing all)) more ≡ true)
   pub uncovered : is_covered all more ≡ false
-  pub next_is : IsNext other (last_of [] (listing all)) others next
+  pub next_is : IsNext other format (last_of [] (listing all)) others next
 
 -- the offset of a fault behind these records; for bytes behind the end record, behind that too
 abbrev pub IsBehind : List (List ℕ) → RecordFault → Type 0
@@ -189,12 +199,14 @@ pub record IsLeftBehind {R S W : Type 0} (left : Stream R) (right : Stream S) (o
   pub right_taken : IsTaken right rights right_next
   pub behind : IsBehind lefts fault
   pub out_is : IsOut out (listing (of_both lefts rights)) n
-  pub turn : IsTurnOfLeft right lefts rights right_next
-      ⊎ ((fault.kind ≡ OutOfMemory) × IsOneMore left right (of_both lefts rights) (all_of lefts rights)
-      rights left_next right_next
+  pub turn : IsTurnOfLeft right right_taken.format lefts rights right_next
+      ⊎ ((fault.kind ≡ OutOfMemory) × IsOneMore left right right_taken.format (of_both lefts rights)
+      (all_of lefts rights) rights left_next right_next
       × (IsItem Archive right_next → may_follow Archive right_next left_next ≡ true → ⊥))
+      ⊎ ((fault.kind ≡ OutOfMemory) × IsOfBoth left left_taken.format lefts rights left_next right_next)
 
--- The right side is.
+-- The right side is. Where memory is wanted, it is not for the record that the left side holds: that is blamed on the
+-- left one.
 pub record IsRightBehind {R S W : Type 0} (left : Stream R) (right : Stream S) (out : Stream W) (fault : RecordFault)
     (n : ℕ) : Type 0 where
   pub lefts : List (List ℕ)
@@ -205,10 +217,11 @@ pub record IsRightBehind {R S W : Type 0} (left : Stream R) (right : Stream S) (
   pub right_taken : IsTaken right rights right_next
   pub behind : IsBehind rights fault
   pub out_is : IsOut out (listing (of_both lefts rights)) n
-  pub turn : IsTurnOfRight left lefts rights left_next
-      ⊎ ((fault.kind ≡ OutOfMemory) × IsOneMore right left (of_both lefts rights) (all_of lefts rights)
-      lefts right_next left_next
+  pub turn : IsTurnOfRight left left_taken.format lefts rights left_next
+      ⊎ ((fault.kind ≡ OutOfMemory) × IsOneMore right left left_taken.format (of_both lefts rights)
+      (all_of lefts rights) lefts right_next left_next
       × (IsItem Archive left_next → may_follow Archive right_next left_next ≡ true))
+  pub alone : fault.kind ≡ OutOfMemory → right_next ≢ left_next
 
 -- ---- what came of it
 
@@ -236,17 +249,29 @@ pub record StopsRight {R S W : Type 0} (left : Stream R) (right : Stream S) (out
   pub order : (IsInMagic out fault n × IsMagicTaken left)
       ⊎ IsRightBehind left right out fault n
 
--- The writer failed, and no reader did.
-pub record StopsWrite {R S W : Type 0} (left : Stream R) (right : Stream S) (out : Stream W) : Type 0 where
+-- A first part of what is written where the side that ends with this record stops the merge was written: n bytes, fewer
+-- than all.
+abbrev pub IsWrittenIn : {W : Type 0} → Stream W → List ℕ → List ℕ → Operations → List ℕ → ℕ → Type 0
+IsWrittenIn out left right o low n =
+    (bytes : List ℕ) × IsWrittenBefore left right o low bytes
+    × WritesFirst (out.bytes out.old) (out.bytes out.new) bytes n
+
+-- The writer failed, and no reader did; and no side had stopped the merge before: one that stops it by its text does so
+-- after more bytes.
+pub record StopsWrite {R S W : Type 0} (left : Stream R) (right : Stream S) (out : Stream W) (n : ℕ) : Type 0 where
   pub failed : FailedIn (out.failures out.old) (out.failures out.new)
   pub left_unfailed : IsUnfailed left
   pub right_unfailed : IsUnfailed right
+  pub left_later : ForTexts left right (λ t u lefts rights. LeftStops t u lefts rights
+      → IsWrittenIn out t u (of_both lefts rights) (last_of [] lefts) n)
+  pub right_later : ForTexts left right (λ t u lefts rights. RightStops t u lefts rights
+      → IsWrittenIn out t u (of_both lefts rights) (last_of [] rights) n)
 
 -- what stopped the merge behind this many bytes
 abbrev pub StopsBy : {R S W : Type 0} → Stream R → Stream S → Stream W → MergeCause → ℕ → Type 0
 StopsBy left right out (Left fault) n = StopsLeft left right out fault n
 StopsBy left right out (Right fault) n = StopsRight left right out fault n
-StopsBy left right out Write n = StopsWrite left right out
+StopsBy left right out Write n = StopsWrite left right out n
 
 -- Both inputs are texts of archives, and the text of their join was written, which has not too many records.
 pub record IsMerged {R S W : Type 0} (left : Stream R) (right : Stream S) (out : Stream W) (sizes : Sizes)
@@ -260,10 +285,18 @@ pub record IsMerged {R S W : Type 0} (left : Stream R) (right : Stream S) (out :
       sizes
 
 -- What came of merging two inputs: the text of the join of two archives; or what stopped it, and of the text of the
--- content that the good records of both make exactly the first `written` bytes, which are fewer than all.
+-- content that the good records of both make exactly the first `written` bytes, which are fewer than all. What the
+-- writer gained then is no archive's text, whatever the inputs are.
 abbrev pub Merges : {R S W : Type 0} → Stream R → Stream S → Stream W → Result Sizes MergeFault → Type 0
 Merges left right out (Ok sizes) = IsMerged left right out sizes
 Merges left right out (Err e) =
     StopsBy left right out e.cause e.written
     × ForTexts left right (λ t u lefts rights.
     WritesFirst (out.bytes out.old) (out.bytes out.new) (written (of_both lefts rights)) e.written)
+    × GainsNoText out
+
+-- ---- how much was written
+
+-- The writer took exactly so many bytes, whichever they are.
+abbrev pub GainsCount : {W : Type 0} → Stream W → ℕ → Type 0
+GainsCount out n = (bytes : List ℕ) × Gains out bytes × (n ≡ length bytes)

@@ -33,10 +33,11 @@ use Rattle.archive_records.specs.declared.fault.RecordFaultKind.TheVariants.{Dev
 use Rattle.archive_records.specs.declared.fault.RecordFault.{RecordFault}
 use Rattle.archive_records.specs.Entry.{IsEntry}
 use Rattle.archive_records.specs.Kind.{magic_of, kind_of, IsItem, may_follow}
+use Rattle.archive_records.specs.Layout.{framed}
 use Rattle.archive_records.specs.Text.{end_record, ending, text_of, InOrder, AreApart, last_of, taken_of}
-use Rattle.archive_records.specs.Fault.{FailsNext, Fails, IsTrailing, IsMagicFault, IsUnended, IsOfText}
+use Rattle.archive_records.specs.Fault.{FailsNext, Fails, IsTrailing, IsMagicFault, IsUnended, IsCutAtMost, IsOfText}
 use Rattle.archive_records.specs.Front.{front_length}
-use Rattle.archive_records.specs.Reading.{Blames}
+use Rattle.archive_records.specs.Reading.{Blames, IsOfMachine}
 
 -- The buffer grew by the bytes that were taken from the source.
 pub record Fills (left_old left_new : Option (List ℕ)) (old new : List ℕ) : Type 0 where
@@ -198,15 +199,30 @@ pub record IsCoveredThere (before : Position) (rest : List ℕ) (kind : RecordFa
   pub follows : may_follow Archive before.last rest ≡ true
   pub covered : is_covered (set_of before.retired) rest ≡ true
 
--- What came was no item of the file that may stand there, nor what ends the file, or memory was wanted.
+-- What came is an item that may follow, and that no retirement before it covers where that is a fault.
+pub record IsWholeThere (before : Position) (rest : List ℕ) : Type 0 where
+  pub item : IsItem before.file rest
+  pub follows : may_follow before.file before.last rest ≡ true
+  pub uncovered : before.file ≡ Archive → is_covered (set_of before.retired) rest ≡ false
+
+-- What came was no item of the file that may stand there, nor what ends the file, or memory was wanted, for a part of
+-- an item or for a whole one.
 pub record StopsAt (a b : Option (List ℕ)) (before : Position) (fault : RecordFault) : Type 0 where
   pub rest : List ℕ
   pub taken : Consumes a b rest
   pub unended : IsOfText fault.kind → IsUnended before.file rest
   pub fails : fault.kind ≢ OutOfMemory → FailsNext before.file before.last before.count rest (seen_as fault.kind)
       ⊎ IsCoveredThere before rest fault.kind
+  pub wanted : fault.kind ≡ OutOfMemory → FailsNext before.file before.last before.count rest Truncated
+      ⊎ IsWholeThere before rest
   pub offset_is : fault.offset ≡ before.offset
   pub few : before.count < 2 ^ 63
+
+-- Where memory was wanted, this is the last record: what came, if that is a whole item, and else none, since less than
+-- one came.
+abbrev pub HasWhole : Format → List ℕ → List ℕ → Type 0
+HasWhole file rest last =
+    (IsItem file rest × (last ≡ rest)) ⊎ ((framed file rest ≡ Err Truncated) × (last ≡ []))
 
 -- What came of one step: the end of the file, one item more, or why the reader stops.
 abbrev pub Advances : {R : Type 0} → (R → Option (List ℕ)) → (R → ℕ) → R → R → Position → Position
@@ -217,7 +233,8 @@ Advances left failures old new before after (Ok (Item found)) =
     Passes (left old) (left new) before after × (failures new ≡ failures old)
     × IsFoundIn (kind_of before.file) after.last found
 Advances left failures old new before after (Err fault) =
-    StopsAt (left old) (left new) before fault × Blames left failures old new fault.kind
+    (stop : StopsAt (left old) (left new) before fault) × Blames left failures old new fault.kind
+    × (fault.kind ≡ OutOfMemory → HasWhole before.file stop.rest after.last)
 
 -- The magic and these records were read, and nothing behind them.
 pub record HasRead (file : Format) (a b : Option (List ℕ)) (records : List (List ℕ))
@@ -261,6 +278,12 @@ pub record Stopped (file : Format) (a b : Option (List ℕ)) (records : List (Li
   pub few : length records < 2 ^ 63
   pub unended : IsOfText fault.kind → IsUnended file rest
   pub stops : Stops file records rest fault
+  pub undecided : IsOfMachine fault.kind → IsCutAtMost file (magic_of file ++ (concat records ++ rest))
+
+-- The same, and this is the last record where memory was wanted.
+abbrev pub StoppedWith : Format → Option (List ℕ) → Option (List ℕ) → List (List ℕ) → RecordFault → List ℕ → Type 0
+StoppedWith file a b records fault last =
+    (stopped : Stopped file a b records fault) × (fault.kind ≡ OutOfMemory → HasWhole file stopped.rest last)
 
 -- entries strictly ascending: what a summary keeps
 pub record AreListed (entries : List (List ℕ)) : Type 0 where

@@ -17,7 +17,7 @@ use Rattle.archive_records.specs.declared.fault.RecordFaultKind.TheVariants.{Tru
 use Rattle.archive_records.specs.declared.fault.RecordFault.{RecordFault}
 use Rattle.archive_records.specs.Kind.{format_for}
 use Rattle.archive_records.specs.Text.{IsArchiveOf, summary_text, IsOperationsText}
-use Rattle.archive_records.specs.Fault.{IsFaultOf, IsOfText}
+use Rattle.archive_records.specs.Fault.{IsFaultOf, IsCutAtMost, IsOfText}
 use Rattle.archive_records.specs.Front.{IsFrontLength, IsLongestLength}
 
 -- what the text of a file says: an archive's a content, an operations file's a list of operations, a summary's its
@@ -56,18 +56,27 @@ Blames left failures old new kind =
 abbrev pub StandsBehind : (List ℕ → ℕ → Type 0) → Option (List ℕ) → Option (List ℕ) → ℕ → Type 0
 StandsBehind IsOffsetOf a b offset = (bytes : List ℕ) × Consumes a b bytes × IsOffsetOf bytes offset
 
+-- no text is at fault
+abbrev pub IsOfMachine : RecordFaultKind → Type 0
+IsOfMachine kind = (kind ≡ Device) ⊎ (kind ≡ OutOfMemory)
+
+-- What came decides no fault of a text of this kind: fewer bytes than the magic has, or bytes that are cut off at most.
+abbrev pub DecidesNoFault : TextKind → List ℕ → Type 0
+DecidesNoFault kind bytes = (length bytes < 8) ⊎ IsCutAtMost (format_for kind bytes) bytes
+
+-- This holds of the bytes that were taken.
+abbrev pub HoldsOfTaken : (List ℕ → Type 0) → Option (List ℕ) → Option (List ℕ) → Type 0
+HoldsOfTaken Holds a b = (bytes : List ℕ) × Consumes a b bytes × Holds bytes
+
 -- Why an input is refused: its text has this fault, its reader failed behind the longest good front of what came, or
--- memory was wanted behind a good front.
+-- memory was wanted behind a good front. No fault of the text was decided before the latter two.
 pub record IsRefused {R : Type 0} (file : TextKind) (left : R → Option (List ℕ)) (failures : R → ℕ) (old new : R)
     (fault : RecordFault) : Type 0 where
   pub blames : Blames left failures old new fault.kind
   pub faulty : IsOfText fault.kind → IfSome (left old) (λ text. IsFaultOf (format_for file text) text fault)
   pub device : fault.kind ≡ Device → StandsBehind (IsLongestLength file) (left old) (left new) fault.offset
   pub memory : fault.kind ≡ OutOfMemory → StandsBehind (IsFrontLength file) (left old) (left new) fault.offset
-
--- no text is at fault
-abbrev pub IsOfMachine : RecordFaultKind → Type 0
-IsOfMachine kind = (kind ≡ Device) ⊎ (kind ≡ OutOfMemory)
+  pub undecided : IsOfMachine fault.kind → HoldsOfTaken (DecidesNoFault file) (left old) (left new)
 
 -- The whole input is a text of this meaning, and of no other.
 pub record IsReadWhole {R : Type 0} (file : TextKind) (meaning : Meaning file) (left : R → Option (List ℕ))

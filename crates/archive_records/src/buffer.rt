@@ -25,7 +25,7 @@ pub struct Buffer {
 }
 
 /// How a compares with b in byte order.
-fn compare(a: &[u8], b: &[u8]) -> Ordering
+fn compare_bytes(a: &[u8], b: &[u8]) -> Ordering
     ensures { result ≡ slice_cmp nat_cmp a.now b.now }
 {
     a.cmp(&b)
@@ -43,7 +43,7 @@ fn write_over(under: &mut Vec<u8, Heap>, at: usize, order: Ordering, bytes: &[u8
 {
     let over = bytes.len().min(under.len() - at);
     let order = match order {
-        Ordering::Equal => compare(&under[at..at + over], bytes),
+        Ordering::Equal => compare_bytes(&under[at..at + over], bytes),
         _ => order,
     };
     let (front, back) = bytes.split_at(over);

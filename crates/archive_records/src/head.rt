@@ -128,7 +128,7 @@ fn lay_key(part: &mut [u8], key: &SliceKey)
 {
     part[..16].copy_from_slice(uuid_bytes(&key.uuid));
     part[16..20].copy_from_slice(&key.arch.cputype.to_be_bytes());
-    part[20..].copy_from_slice(&key.arch.subtype.to_be_bytes());
+    part[20..].copy_from_slice(&key.arch.cpusubtype.to_be_bytes());
 }
 
 /// The bytes of a key, as they stand behind a record's tag.
@@ -211,7 +211,7 @@ pub fn key_in(bytes: &[u8]) -> SliceKey
         uuid: Uuid::from_bytes(uuid),
         arch: ArchKey {
             cputype: number_at(bytes, 17),
-            subtype: number_at(bytes, 21),
+            cpusubtype: number_at(bytes, 21),
         },
     }
 }

@@ -230,6 +230,31 @@ pub fn beginning_is_no_text()
     ensures { (o : Operations) (n : ℕ) → IsContent o → n < length (written o) → IsArchiveText (take n (written o)) → ⊥ }
 {}
 
+/// The good records of any two inputs make a content. What a merge has written that a side stopped is a beginning of
+/// its text and not all of it, so no archive's text; and no first bytes of it are, as where the writer failed.
+pub fn refused_merge_is_no_text()
+    ensures content { (left right : List ℕ) (lefts rights : List (List ℕ)) → AreGoodRecords left lefts
+        → AreGoodRecords right rights → IsContent (of_both lefts rights) }
+    ensures beginning { (left right : List ℕ) (lefts rights : List (List ℕ)) (low bytes : List ℕ)
+        → AreGoodRecords left lefts
+        → AreGoodRecords right rights
+        → IsWrittenBefore left right (of_both lefts rights) low bytes
+        → (n : ℕ) × (n < length (written (of_both lefts rights)))
+        × (bytes ≡ take n (written (of_both lefts rights))) }
+    ensures stopped { (left right : List ℕ) (lefts rights : List (List ℕ)) (low bytes : List ℕ)
+        → AreGoodRecords left lefts
+        → AreGoodRecords right rights
+        → IsWrittenBefore left right (of_both lefts rights) low bytes
+        → IsArchiveText bytes
+        → ⊥ }
+    ensures cut { (left right : List ℕ) (lefts rights : List (List ℕ)) (n : ℕ)
+        → AreGoodRecords left lefts
+        → AreGoodRecords right rights
+        → n < length (written (of_both lefts rights))
+        → IsArchiveText (take n (written (of_both lefts rights)))
+        → ⊥ }
+{}
+
 /// What a merge of texts that give two contents has written that was stopped, as where the writer failed, are the first
 /// bytes of the text of their join, and not all of it.
 pub fn stopped_merge_of_texts<R: Source, S: Source, W: Sink>()

@@ -2,15 +2,15 @@
 //! that it came from are read on.
 
 ghost use Rattle.std.specs.Prelude.{◌≡◌, ◌+◌, ◌*◌, ◌^◌, ◌<◌, ◌≤◌, ℕ, List, Option, OnOk};
-ghost use Rattle.std.specs.Prelude.{IfErr, MatchResult, true, false};
+ghost use Rattle.std.specs.Prelude.{IfErr, MatchResult, IsTrue, ◌↔◌, true, false};
 ghost use Rattle.byte_device.specs.Devices.{FailedIn};
 ghost use Rattle.byte_device.specs.Writes.{WritesFirst};
 ghost use Rattle.archive_records.specs.Merging.{most_records, stream};
 ghost use Rattle.archive_records.specs.MergeSteps.{BlamesDevices, Fits, HasStoppedMerge, IsRead, IsRefusedMore};
-ghost use Rattle.archive_records.specs.MergeSteps.{IsWritten};
+ghost use Rattle.archive_records.specs.MergeSteps.{IsLastOfBoth, IsToldOfRight, IsRecordWritten};
 ghost use Rattle.archive_records.specs.MergeSteps.{Merging, TellsCovered, WriteStopped, cost_of, first_of};
 
-use crate::fault::{MergeCause, MergeFault};
+use crate::fault::{MergeCause, MergeFault, RecordFault, RecordFaultKind};
 use crate::reader::MOST;
 use crate::side::{Lookahead, MergeInput};
 use crate::writing::Sizes;
@@ -53,6 +53,24 @@ impl Merge {
         Err(self.stopped_by(cause))
     }
 
+    /// Whether the left side holds the record that the right side read last.
+    fn is_last_of_both(&self) -> bool
+        ensures { IsTrue result ↔ IsLastOfBoth self.now }
+    {
+        self.left.ahead == Lookahead::Held && self.left.reader.last() == self.right.reader.last()
+    }
+
+    /// What is told where the right side is refused so. Want of memory for a record that both sides have is the left
+    /// one's: the right side read it whole, and the left side holds it.
+    fn right_refused(&self, fault: RecordFault) -> MergeFault
+        ensures { IsToldOfRight self.now fault result }
+    {
+        if fault.kind == RecordFaultKind::OutOfMemory && self.is_last_of_both() {
+            return self.stopped_by(MergeCause::Left(self.left.out_of_memory()));
+        }
+        self.stopped_by(MergeCause::Right(fault))
+    }
+
     /// Whether both texts were read to their ends.
     fn is_done(&self) -> bool
         requires { IsRead self.now }
@@ -85,9 +103,9 @@ fn is_covered(left: &MergeInput, right: &MergeInput) -> bool
     ensures { TellsCovered left.now right.now result }
 {
     match first(left, right) {
-        Ordering::Less => left.reader.dropped() || right.reader.covers(left.reader.last()),
+        Ordering::Less => left.reader.dropped() || right.reader.retires(left.reader.last()),
         Ordering::Equal => left.reader.dropped() || right.reader.dropped(),
-        Ordering::Greater => right.reader.dropped() || left.reader.covers(right.reader.last()),
+        Ordering::Greater => right.reader.dropped() || left.reader.retires(right.reader.last()),
     }
 }
 
@@ -120,7 +138,7 @@ fn put_held<W: Sink>(
 ) -> Result<(), WriteFault>
     requires few { written.old.records + 1 < 2 ^ 64 }
     requires fits { written.old.bytes ≤ 8 + written.old.records * 2 ^ 64 }
-    ensures ok { OnOk result (IsWritten (W.held w.old) (W.held w.new) written.old written.new side.old side.new) }
+    ensures ok { OnOk result (IsRecordWritten (W.held w.old) (W.held w.new) written.old written.new side.old side.new) }
     ensures fits { OnOk result (written.new.bytes ≤ 8 + written.new.records * 2 ^ 64) }
     ensures unfailed { OnOk result (W.failures w.new ≡ W.failures w.old) }
     ensures err { IfErr result (λ e. (k : ℕ) × (e.written ≡ written.old.bytes + k)
@@ -176,7 +194,7 @@ fn read_on<R: Source, S: Source>(r1: &mut R, r2: &mut S, m: &mut Merge) -> Resul
         return Err(m.stopped_by(MergeCause::Left(fault)));
     }
     if let Err(fault) = m.right.read_on(r2) {
-        return Err(m.stopped_by(MergeCause::Right(fault)));
+        return Err(m.right_refused(fault));
     }
     Ok(())
 }

@@ -163,7 +163,7 @@ impl<'n> FromRecords for Told<'n> {
 }
 
 /// Puts rows in order, and leaves each once.
-fn put_in_order(rows: &mut Vec<OwnedNameRow, Heap>)
+fn put_names_in_order(rows: &mut Vec<OwnedNameRow, Heap>)
     ensures ascending { IsStrictlySortedBy name_cmp (map owned_name_view rows.new.items) }
     ensures same { (row : NameRecord) → Contains (map owned_name_view rows.new.items) row
         ↔ Contains (map owned_name_view rows.old.items) row }
@@ -191,7 +191,7 @@ fn tell_taken<R: Source>(
     let rows = Vec::new(kept);
     let told = read_records(heap, Told { rows, name }, r)?;
     let mut rows = told.rows;
-    put_in_order(&mut rows);
+    put_names_in_order(&mut rows);
     Ok(rows)
 }
 

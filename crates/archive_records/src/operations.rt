@@ -59,7 +59,7 @@ impl FromRecords for Listed {
 }
 
 /// Reads a whole input as operations. What is said is of the bytes that were taken.
-fn list_taken<R: Source>(heap: Heap, r: &mut R) -> Result<Vec<Operation, Heap>, RecordFault>
+fn operations_taken<R: Source>(heap: Heap, r: &mut R) -> Result<Vec<Operation, Heap>, RecordFault>
     ensures read { IfOk result (λ operations. AreRead (R.left r.old) (R.left r.new) operations.items) }
     ensures stopped { IfErr result (λ fault. HasStopped Operations (R.left r.old) (R.left r.new) fault) }
     ensures reader { FaultBlamesReader R.left R.failures r.old r.new result }
@@ -83,5 +83,5 @@ fn list_taken<R: Source>(heap: Heap, r: &mut R) -> Result<Vec<Operation, Heap>, 
 pub fn read_ops<R: Source>(heap: Heap, r: &mut R) -> Result<Vec<Operation, Heap>, RecordFault>
     ensures { ReadsWhole Operations (λ operations. operations.items) R.left R.failures r.old r.new result }
 {
-    list_taken(heap, r)
+    operations_taken(heap, r)
 }

@@ -1,6 +1,7 @@
 //! A source that is read record by record.
 
-ghost use Rattle.std.specs.Prelude.{◌≡◌, ◌-◌, ◌<◌, ◌≤◌, ℕ, List, Option, Some, [], length, ◌⊎◌, true};
+ghost use Rattle.std.specs.Prelude.{◌≡◌, ◌≢◌, ◌-◌, ◌<◌, ◌≤◌, ℕ, List, Option, Some, [], length, ◌⊎◌, true};
+ghost use Rattle.std.specs.Prelude.{false};
 ghost use Rattle.std.specs.Prelude.{OnOk, IfOk, IfErr};
 ghost use Rattle.archive_core.specs.Content.{is_covered};
 ghost use Rattle.std.specs.Io.KnownBytes.{Consumes, IsAtEnd};
@@ -105,7 +106,8 @@ fn read_magic<R: Source>(
 fn keep(file: Format, retired: &mut Retired, bytes: &[u8]) -> Result<bool, RecordFaultKind>
     requires { IsItem file bytes.now }
     ensures kept { IfOk result (λ dropped. KeepsIn file retired.old retired.new dropped bytes.now) }
-    ensures refused { IfErr result (λ kind. (kind ≡ OutOfMemory)
+    ensures refused { IfErr result (λ kind.
+        ((kind ≡ OutOfMemory) × (is_covered (set_of retired.old) bytes.now ≡ false))
         ⊎ ((kind ≡ Covered) × (file ≡ Archive) × (is_covered (set_of retired.old) bytes.now ≡ true))) }
 {
     match file {
@@ -188,22 +190,20 @@ impl RecordReader {
     }
 
     /// Whether one of the retirements that were read covers the whole record.
-    pub fn covers(&self, bytes: &[u8]) -> bool
+    pub fn retires(&self, bytes: &[u8]) -> bool
         ensures { 33 ≤ length bytes.now → result ≡ is_covered (set_of self.now.retired) bytes.now }
     {
-        self.retired.covers(bytes)
+        self.retired.retires(bytes)
     }
 
-    /// Reads the next record over the last, or else what ends the file.
+    /// Reads the next record over the last, or else what ends the file. Where memory is wanted for a record that came
+    /// whole, it is the last one then, and otherwise there is none.
     pub fn advance<R: Source>(&mut self, r: &mut R) -> Result<NextRecord, RecordFault>
         ensures { Advances R.left R.failures r.old r.new self.old self.new result }
     {
         match read_next(self.file, r, &mut self.chunk, &mut self.buffer, self.count) {
             Ok(NextRecord::End) => Ok(NextRecord::End),
             Ok(NextRecord::Item(found)) => {
-                if self.count == MOST {
-                    return Err(RecordFault::out_of_memory(self.offset));
-                }
                 match keep(self.file, &mut self.retired, &self.buffer.bytes) {
                     Ok(dropped) => self.dropped = dropped,
                     Err(kind) => {
@@ -213,14 +213,21 @@ impl RecordReader {
                         });
                     }
                 }
+                // Behind all tests of the record: a fault of the text is told before want of memory.
+                if self.count == MOST {
+                    return Err(RecordFault::out_of_memory(self.offset));
+                }
                 self.count += 1;
                 self.offset += self.buffer.bytes.len() as u128;
                 Ok(NextRecord::Item(found))
             }
-            Err(kind) => Err(RecordFault {
-                kind,
-                offset: self.offset,
-            }),
+            Err(kind) => {
+                self.buffer.bytes.clear();
+                Err(RecordFault {
+                    kind,
+                    offset: self.offset,
+                })
+            }
         }
     }
 
@@ -230,6 +237,7 @@ impl RecordReader {
         ensures stopped { IfErr result (λ fault. (file : Format) (a : Option (List ℕ)) (records : List (List ℕ))
             → end_length file ≡ Some 9 → HasReadAll file a (R.left r.old) records self.now
             → Stopped file a (R.left r.new) records fault) }
+        ensures memory { IfErr result (λ fault. fault.kind ≢ OutOfMemory) }
         ensures reader { FaultBlamesReader R.left R.failures r.old r.new result }
     {
         match is_at_end(r) {

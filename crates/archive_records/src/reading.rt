@@ -77,7 +77,7 @@ impl<A: Archive> FromRecords for Whole<A> {
 }
 
 /// Reads a whole input as the text of an archive. What is said is of the bytes that were taken.
-fn read_whole<A: Archive + Drop, R: Source>(heap: Heap, r: &mut R) -> Result<A, RecordFault>
+fn read_whole_archive<A: Archive + Drop, R: Source>(heap: Heap, r: &mut R) -> Result<A, RecordFault>
     ensures read { IfOk result (λ archive. IsReadTo Archive (R.left r.old) (R.left r.new) (A.content archive)) }
     ensures at_end { OnOk result (IsAtEnd (R.left r.new)) }
     ensures stopped { IfErr result (λ fault. HasStopped Archive (R.left r.old) (R.left r.new) fault) }
@@ -114,12 +114,13 @@ fn read_first<A: Archive + Drop, R: Source>(heap: Heap, r: &mut R) -> Result<A, 
 /// the head, TooLarge, Truncated inside the slice, NotAscending, BadSlice, KeyMismatch, and in version 2 Covered; for
 /// an end record Truncated, BadCount, Trailing. What is dropped passes the same tests, and the end record counts it.
 /// Truncated comes only where the reader told its end, Device where it failed, and everything else where it did not.
-/// The offset of Device is the length of the longest good front of what was read, that of OutOfMemory the length of a
-/// good front; both are 0 before the magic was read.
+/// Device and OutOfMemory come only where what was read decides no fault: it has fewer bytes than a magic, or no other
+/// fault than that it ends too early. The offset of Device is the length of the longest good front of what was read,
+/// that of OutOfMemory the length of a good front; both are 0 before the magic was read.
 pub fn read_archive<A: Archive + Drop, R: Source>(heap: Heap, r: &mut R) -> Result<A, RecordFault>
     ensures { ReadsWhole Archive A.content R.left R.failures r.old r.new result }
 {
-    read_whole(heap, r)
+    read_whole_archive(heap, r)
 }
 
 /// Reads an archive from the front of the input: exactly the bytes of a text that gives it, of either version, and

@@ -1,6 +1,6 @@
 //! The retirements that were read of an archive's text.
 
-ghost use Rattle.std.specs.Prelude.{◌≡◌, ◌≤◌, ◌∷◌, ℕ, List, [], length, take, drop, true, OnOk, IfOk, IfErr};
+ghost use Rattle.std.specs.Prelude.{◌≡◌, ◌≤◌, ◌∷◌, ℕ, List, [], length, take, drop, true, false, OnOk, IfOk, IfErr};
 ghost use Rattle.std.specs.FinSet as set;
 ghost use Rattle.std.specs.Ordering.{nat_cmp};
 ghost use Rattle.std.specs.Cmp.Lexicographic.{slice_cmp};
@@ -50,7 +50,7 @@ fn compare_front(kept: &[u8; 57], front: &[u8; 25]) -> Ordering
 }
 
 /// Compares two retirements.
-fn compare(a: &[u8; 57], b: &[u8; 57]) -> Ordering
+fn compare_whole(a: &[u8; 57], b: &[u8; 57]) -> Ordering
     ensures { result ≡ slice_cmp nat_cmp a.now b.now }
 {
     a[..].cmp(&b[..])
@@ -62,7 +62,7 @@ fn search(records: &[[u8; 57]], retirement: &[u8; 57]) -> Result<usize, usize>
     ensures found { IsFound (slice_cmp nat_cmp) records.now retirement.now result }
     ensures within { IsSearchInRange result (length records.now) }
 {
-    records.binary_search_by(|kept| compare(kept, retirement))
+    records.binary_search_by(|kept| compare_whole(kept, retirement))
 }
 
 /// The tag and the key of the retirement that would cover an admission.
@@ -128,7 +128,7 @@ impl Retired {
     }
 
     /// Whether one of them covers the whole record.
-    pub fn covers(&self, bytes: &[u8]) -> bool
+    pub fn retires(&self, bytes: &[u8]) -> bool
         ensures { 33 ≤ length bytes.now → result ≡ is_covered (set_of self.now) bytes.now }
     {
         bytes.len() >= ADMISSION_HEAD_LEN && bytes[0] == ADMISSION && self.covers_admission(bytes)
@@ -151,10 +151,11 @@ impl Retired {
     pub fn take(&mut self, bytes: &[u8]) -> Result<bool, RecordFaultKind>
         requires { IsRecord bytes.now }
         ensures kept { IfOk result (λ covered. Keeps self.old self.new covered bytes.now) }
-        ensures refused { IfErr result (λ kind. kind ≡ OutOfMemory) }
+        ensures refused { IfErr result (λ kind. (kind ≡ OutOfMemory)
+            × (is_covered (set_of self.old) bytes.now ≡ false)) }
     {
         if bytes[0] != RETIREMENT {
-            return Ok(self.covers(bytes));
+            return Ok(self.retires(bytes));
         }
         match self.keep(bytes) {
             Ok(()) => Ok(false),

@@ -86,7 +86,7 @@ impl FromRecords for Rows {
 }
 
 /// Puts rows that come in the order of their records in that of a list: by key, and those of a key as they came.
-fn put_in_order(rows: &mut Vec<FindRow, Heap>) -> Result<(), NoMemory>
+fn put_rows_in_order(rows: &mut Vec<FindRow, Heap>) -> Result<(), NoMemory>
     ensures { OnOk result ((o : Operations) → IsContent o → AreRowsOf (listing o) rows.old.items
         → IsList o rows.new.items) }
 {
@@ -96,7 +96,7 @@ fn put_in_order(rows: &mut Vec<FindRow, Heap>) -> Result<(), NoMemory>
 
 /// Reads a whole input as the text of an archive, of which the rows are kept. What is said is of the bytes that were
 /// taken.
-fn list_taken<R: Source>(heap: Heap, r: &mut R) -> Result<Vec<FindRow, Heap>, RecordFault>
+fn rows_taken<R: Source>(heap: Heap, r: &mut R) -> Result<Vec<FindRow, Heap>, RecordFault>
     ensures read { IfOk result (λ rows. HasReadContent (R.left r.old) (R.left r.new) (λ o. IsList o rows.items)) }
     ensures at_end { OnOk result (IsAtEnd (R.left r.new)) }
     ensures stopped { IfErr result (λ fault. HasStopped Archive (R.left r.old) (R.left r.new) fault) }
@@ -107,14 +107,14 @@ fn list_taken<R: Source>(heap: Heap, r: &mut R) -> Result<Vec<FindRow, Heap>, Re
     };
     let gathered = read_records(heap, Rows(Vec::new(kept)), r)?;
     let mut rows = gathered.0;
-    match put_in_order(&mut rows) {
+    match put_rows_in_order(&mut rows) {
         Ok(()) => Ok(rows),
         Err(NoMemory) => Err(RecordFault::out_of_memory(MAGIC_LEN)),
     }
 }
 
 /// Reads an archive, and gives a row for each of its retirements and its live slices: by UUID, then by `cputype` and
-/// `subtype`, then in the order of their records. The whole input is read and tested as by [`crate::read_archive`],
+/// `cpusubtype`, then in the order of their records. The whole input is read and tested as by [`crate::read_archive`],
 /// in the memory of the rows, of one record and of 57 bytes for each retirement. Each slice is hashed where it is read.
 ///
 /// # Errors
@@ -123,5 +123,5 @@ fn list_taken<R: Source>(heap: Heap, r: &mut R) -> Result<Vec<FindRow, Heap>, Re
 pub fn list_rows<R: Source>(heap: Heap, r: &mut R) -> Result<Vec<FindRow, Heap>, RecordFault>
     ensures { ReadsInPart Archive (λ rows o. IsList o rows.items) R.left R.failures r.old r.new result }
 {
-    list_taken(heap, r)
+    rows_taken(heap, r)
 }

@@ -5,7 +5,7 @@ ghost use Rattle.std.specs.Prelude.{MatchResult};
 ghost use Rattle.archive_records.specs.declared.kind.TextKind.TheVariants.{Archive};
 ghost use Rattle.archive_records.specs.Kind.{kind_of};
 ghost use Rattle.archive_records.specs.Text.{last_of};
-ghost use Rattle.archive_records.specs.Reader.{FaultBlamesReader, HasRead, Stopped};
+ghost use Rattle.archive_records.specs.Reader.{FaultBlamesReader, HasRead, StoppedWith};
 ghost use Rattle.archive_records.specs.MergeSteps.{Stands, StopsBeforeRecords, memory_for, weight};
 
 use crate::fault::RecordFault;
@@ -68,7 +68,7 @@ impl MergeInput {
             → HasRead self.old.reader.file a (R.left r.old) done self.old.reader
             → MatchResult result
             (λ _. Stands a (R.left r.new) done (last_of [] done) self.new)
-            (λ fault. Stopped self.old.reader.file a (R.left r.new) done fault) }
+            (λ fault. StoppedWith self.old.reader.file a (R.left r.new) done fault self.new.reader.last) }
         ensures archive { OnOk result (self.new.reader.file ≡ self.old.reader.file) }
         ensures read { OnOk result (self.new.ahead ≢ Lookahead.Unread) }
         ensures few { OnOk result (self.new.reader.count < 2 ^ 63) }
@@ -93,7 +93,8 @@ impl MergeInput {
             → Stands a (R.left r.old) done low self.old
             → MatchResult result
             (λ _. Stands a (R.left r.new) done low self.new)
-            (λ fault. Stopped self.old.reader.file a (R.left r.new) done fault × (last_of [] done ≡ low)) }
+            (λ fault. StoppedWith self.old.reader.file a (R.left r.new) done fault self.new.reader.last
+            × (last_of [] done ≡ low)) }
         ensures unread { OnErr result (self.old.ahead ≡ Lookahead.Unread) }
         ensures archive { OnOk result (self.new.reader.file ≡ self.old.reader.file) }
         ensures read { OnOk result (self.new.ahead ≢ Lookahead.Unread) }

@@ -3,8 +3,8 @@
 ghost use Rattle.std.specs.Prelude.{◌≡◌, ℕ, List, Option, OnOk, IfOk, IfErr, MatchResult};
 ghost use Rattle.byte_device.specs.Devices.{FailedIn};
 ghost use Rattle.archive_records.specs.declared.fault.MergeCause.TheVariants.{Write};
-ghost use Rattle.archive_records.specs.Merging.{Merges, stream};
-ghost use Rattle.archive_records.specs.MergeSteps.{BlamesDevices, Fits, Leaves, Merging, Stops};
+ghost use Rattle.archive_records.specs.Merging.{GainsCount, Merges, stream};
+ghost use Rattle.archive_records.specs.MergeSteps.{BlamesDevices, Fits, Leaves, Merging, StopsMerge};
 
 use crate::fault::{MergeCause, MergeFault, RecordFault};
 use crate::format::Format;
@@ -30,7 +30,8 @@ fn begin_both<R: Source, S: Source, W: Sink>(
 ) -> Result<Merge, MergeFault>
     ensures merging { MatchResult result
         (λ m. Merging (R.left r1.old) (R.left r1.new) (S.left r2.old) (S.left r2.new) (W.held w.old) (W.held w.new) m)
-        (λ e. Stops (R.left r1.old) (R.left r1.new) (S.left r2.old) (S.left r2.new) (W.held w.old) (W.held w.new) e) }
+        (λ e. StopsMerge (R.left r1.old) (R.left r1.new) (S.left r2.old) (S.left r2.new)
+        (W.held w.old) (W.held w.new) e) }
     ensures fits { IfOk result (λ m. Fits m) }
     ensures devices { BlamesDevices (stream R.left R.failures r1.old r1.new) (stream S.left S.failures r2.old r2.new)
         (W.failures w.old) (W.failures w.new) result }
@@ -105,17 +106,20 @@ fn merge_taken<R: Source, S: Source, W: Sink>(
 /// # Errors
 ///
 /// `Left` and `Right` with the fault that [`crate::read_archive`] gives of that side alone; `Write` where the writer
-/// failed. One record more than 9,223,372,036,854,775,807 is `OutOfMemory` of the side that it comes from, left where
-/// both have it, and so is a retirement for which there is no memory. The writer has a beginning of an archive then,
-/// `written` bytes of it, and no end record.
+/// failed, and no side was refused before. One record more than 9,223,372,036,854,775,807 is `OutOfMemory` of the side
+/// that it comes from, left where both have it, and so is a retirement for which there is no memory. The writer has a
+/// beginning of an archive then, `written` bytes of it, and no end record: what it gained is no archive's text.
 pub fn merge_streams<R: Source, S: Source, W: Sink>(
     heap: &Heap,
     left: &mut R,
     right: &mut S,
     w: &mut W,
 ) -> Result<Sizes, MergeFault>
-    ensures { Merges (stream R.left R.failures left.old left.new) (stream S.left S.failures right.old right.new)
+    ensures merges { Merges (stream R.left R.failures left.old left.new) (stream S.left S.failures right.old right.new)
         (stream W.held W.failures w.old w.new) result }
+
+    // Whatever stops it, and whatever is known of the inputs.
+    ensures written { IfErr result (λ e. GainsCount (stream W.held W.failures w.old w.new) e.written) }
 {
     merge_taken(heap, left, right, w)
 }

@@ -79,14 +79,6 @@ impl Summary {
         Summary { entries }
     }
 
-    /// The same summary once more. Refused for want of memory alone.
-    pub fn copy(&self, heap: Heap) -> Result<Summary, NoMemory>
-        ensures { IfOk result (λ copy. copy ≡ self.now) }
-    {
-        let entries = Vec::from_slice(heap, &self.entries)?;
-        Ok(Summary { entries })
-    }
-
     /// The number of entries.
     pub fn len(&self) -> u64
         ensures len { result ≡ set.len self.now }
@@ -141,7 +133,7 @@ impl FromRecords for Named {
 }
 
 /// Reads a whole input as the text of a summary. What is said is of the bytes that were taken.
-fn read_whole<R: Source>(heap: Heap, r: &mut R) -> Result<Summary, RecordFault>
+fn read_whole_summary<R: Source>(heap: Heap, r: &mut R) -> Result<Summary, RecordFault>
     ensures read { IfOk result (λ summary. IsReadTo SummaryFile (R.left r.old) (R.left r.new) summary) }
     ensures at_end { OnOk result (IsAtEnd (R.left r.new)) }
     ensures stopped { IfErr result (λ fault. HasStopped SummaryFile (R.left r.old) (R.left r.new) fault) }
@@ -164,5 +156,5 @@ fn read_whole<R: Source>(heap: Heap, r: &mut R) -> Result<Summary, RecordFault>
 pub fn read_summary<R: Source>(heap: Heap, r: &mut R) -> Result<Summary, RecordFault>
     ensures { ReadsWhole SummaryFile (λ summary. summary) R.left R.failures r.old r.new result }
 {
-    read_whole(heap, r)
+    read_whole_summary(heap, r)
 }

@@ -91,26 +91,26 @@ cputype_part : (arch : ArchKey) → slice_range (cpu_text arch) 4 12 ≡ hex_dig
 unfolding hex_digits
 cputype_part arch = refl
 
-subtype_part : (arch : ArchKey) → slice_range (cpu_text arch) 13 21 ≡ hex_digits 8 arch.subtype
+subtype_part : (arch : ArchKey) → slice_range (cpu_text arch) 13 21 ≡ hex_digits 8 arch.cpusubtype
 unfolding hex_digits
 subtype_part arch = refl
 
-middle_part : (arch : ArchKey) → arch.subtype < 2 ^ 24 → slice_range (cpu_text arch) 12 15 ≡ codes "/00"
+middle_part : (arch : ArchKey) → arch.cpusubtype < 2 ^ 24 → slice_range (cpu_text arch) 12 15 ≡ codes "/00"
 unfolding hex_digits
 middle_part arch small =
-    let first : arch.subtype / 16 / 16 / 16 / 16 / 16 / 16 / 16 ≡ 0 = omega arith in
-    let second : arch.subtype / 16 / 16 / 16 / 16 / 16 / 16 ≡ 0 = omega arith in
+    let first : arch.cpusubtype / 16 / 16 / 16 / 16 / 16 / 16 / 16 ≡ 0 = omega arith in
+    let second : arch.cpusubtype / 16 / 16 / 16 / 16 / 16 / 16 ≡ 0 = omega arith in
     rw (first, second) refl
 
-cpu_back : (arch : ArchKey) → arch.cputype < 2 ^ 32 → arch.subtype < 2 ^ 24 → cpu_of (cpu_text arch) ≡ Some arch
-cpu_back arch cputype subtype =
+cpu_back : (arch : ArchKey) → arch.cputype < 2 ^ 32 → arch.cpusubtype < 2 ^ 24 → cpu_of (cpu_text arch) ≡ Some arch
+cpu_back arch cputype cpusubtype =
     rw (
       sized_cpu arch,
-      middle_part arch subtype,
+      middle_part arch cpusubtype,
       cputype_part arch,
       subtype_part arch,
       number_back 8 arch.cputype (omega arith),
-      number_back 8 arch.subtype (omega arith),
+      number_back 8 arch.cpusubtype (omega arith),
     ) refl
 
 unnamed : (arch : ArchKey) → arch_of (cpu_text arch) ≡ cpu_of (cpu_text arch)
@@ -144,7 +144,7 @@ among_back arch (n ∷ named) read cpu =
 named_back : AllByRecursion (λ n. arch_of n.name ≡ Some n.arch) named_archs
 named_back = (refl, (refl, (refl, (refl, tt))))
 
-pub arch_back : (arch : ArchKey) → arch.cputype < 2 ^ 32 → arch.subtype < 2 ^ 24 → arch_of (arch_text arch) ≡ Some arch
+pub arch_back : (arch : ArchKey) → arch.cputype < 2 ^ 32 → arch.cpusubtype < 2 ^ 24 → arch_of (arch_text arch) ≡ Some arch
 unfolding arch_text
-arch_back arch cputype subtype =
-    among_back arch named_archs named_back (unnamed arch ∙ cpu_back arch cputype subtype)
+arch_back arch cputype cpusubtype =
+    among_back arch named_archs named_back (unnamed arch ∙ cpu_back arch cputype cpusubtype)

@@ -58,7 +58,7 @@ digest_of text = option_map (λ bytes. record { 0 = bytes }) (result_ok (decode_
 
 -- these numbers of `mach_header_64`
 abbrev pub arch_key : ℕ → ℕ → ArchKey
-arch_key cputype subtype = record { cputype = cputype; subtype = subtype }
+arch_key cputype cpusubtype = record { cputype = cputype; cpusubtype = cpusubtype }
 
 -- an architecture that has a name
 pub record NamedArch : Type 0 where
@@ -66,7 +66,7 @@ pub record NamedArch : Type 0 where
   pub arch : ArchKey
 
 abbrev pub named_arch : List ℕ → ℕ → ℕ → NamedArch
-named_arch name cputype subtype = record { name = name; arch = arch_key cputype subtype }
+named_arch name cputype cpusubtype = record { name = name; arch = arch_key cputype cpusubtype }
 
 -- the architectures that have a name, by their numbers in mach/machine.h: CPU_TYPE_X86_64 with CPU_SUBTYPE_X86_64_ALL
 -- and CPU_SUBTYPE_X86_64_H, and CPU_TYPE_ARM64 with CPU_SUBTYPE_ARM64_ALL and CPU_SUBTYPE_ARM64E
@@ -88,7 +88,7 @@ arch_named name = option_map (λ named. named.arch) (find (λ named. bytes_eq na
 
 -- an architecture by its numbers: `cpu:` CPUTYPE `/` CPUSUBTYPE, eight hex digits each
 abbrev pub cpu_text : ArchKey → List ℕ
-cpu_text arch = codes "cpu:" ++ hex_digits 8 arch.cputype ++ codes "/" ++ hex_digits 8 arch.subtype
+cpu_text arch = codes "cpu:" ++ hex_digits 8 arch.cputype ++ codes "/" ++ hex_digits 8 arch.cpusubtype
 
 -- an architecture as it is printed: its name, or else its numbers
 unfoldable pub arch_text : ArchKey → List ℕ
@@ -96,7 +96,7 @@ arch_text arch = unwrap_or (name_of arch) (cpu_text arch)
 
 -- where both are numbers
 abbrev pub arch_key_of : Option ℕ → Option ℕ → Option ArchKey
-arch_key_of (Some cputype) (Some subtype) = Some (arch_key cputype subtype)
+arch_key_of (Some cputype) (Some cpusubtype) = Some (arch_key cputype cpusubtype)
 arch_key_of _ _ = None
 
 -- `cpu:`, eight bytes, `/00` and six bytes

@@ -20,8 +20,8 @@ impl fmt::Display for ByNumbers {
 
     fn fmt<W: fmt::Write>(&self, f: &mut fmt::Formatter<W>) -> fmt::Result {
         let cputype = EightDigits(self.0.cputype);
-        let subtype = EightDigits(self.0.subtype);
-        write!(f, "cpu:{cputype}/{subtype}")
+        let cpusubtype = EightDigits(self.0.cpusubtype);
+        write!(f, "cpu:{cputype}/{cpusubtype}")
     }
 }
 
@@ -54,12 +54,12 @@ impl Word for ArchKey {
 }
 
 // The key of which both numbers are there.
-fn arch_key(cputype: Option<u32>, subtype: Option<u32>) -> Option<ArchKey>
-    ensures { result ≡ arch_key_of cputype subtype }
+fn arch_key(cputype: Option<u32>, cpusubtype: Option<u32>) -> Option<ArchKey>
+    ensures { result ≡ arch_key_of cputype cpusubtype }
 {
     Some(ArchKey {
         cputype: cputype?,
-        subtype: subtype?,
+        cpusubtype: cpusubtype?,
     })
 }
 

@@ -5,9 +5,10 @@ ghost use Rattle.archive_core.specs.declared.keys.ArchKey.{ArchKey};
 ghost use Rattle.archive_core.specs.declared.keys.Digest.{Digest};
 ghost use Rattle.archive_words.specs.Words.{address_of, address_text, arch_of, arch_text, digest_of, digest_text};
 
-/// An architecture of which the high byte of `subtype` is clear, as in each key of a slice.
+/// An architecture of which the high byte of `cpusubtype` is clear, as in each key of a slice.
 pub fn arch_is_read_back()
-    ensures { (arch : ArchKey) → arch.cputype < 2 ^ 32 → arch.subtype < 2 ^ 24 → arch_of (arch_text arch) ≡ Some arch }
+    ensures { (arch : ArchKey) → arch.cputype < 2 ^ 32 → arch.cpusubtype < 2 ^ 24
+        → arch_of (arch_text arch) ≡ Some arch }
 {}
 
 /// A UUID.

@@ -35,28 +35,28 @@ pub const NAMED_ARCHS: [NamedArch; 4] = [
         name: "x86_64",
         arch: ArchKey {
             cputype: CPU_TYPE_X86_64,
-            subtype: CPU_SUBTYPE_X86_64_ALL,
+            cpusubtype: CPU_SUBTYPE_X86_64_ALL,
         },
     },
     NamedArch {
         name: "x86_64h",
         arch: ArchKey {
             cputype: CPU_TYPE_X86_64,
-            subtype: CPU_SUBTYPE_X86_64_H,
+            cpusubtype: CPU_SUBTYPE_X86_64_H,
         },
     },
     NamedArch {
         name: "arm64",
         arch: ArchKey {
             cputype: CPU_TYPE_ARM64,
-            subtype: CPU_SUBTYPE_ARM64_ALL,
+            cpusubtype: CPU_SUBTYPE_ARM64_ALL,
         },
     },
     NamedArch {
         name: "arm64e",
         arch: ArchKey {
             cputype: CPU_TYPE_ARM64,
-            subtype: CPU_SUBTYPE_ARM64E,
+            cpusubtype: CPU_SUBTYPE_ARM64E,
         },
     },
 ];

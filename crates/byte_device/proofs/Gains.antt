@@ -1,8 +1,6 @@
 -- Texts that are given to a writer one after the other, or in part.
-use Rattle.std.proofs.Common.{◌≡◌, ℕ, ◌+◌, ◌-◌, ◌<◌, List, [], ◌++◌, length, get_or, take, drop, Option, Result, Ok, Err, refl, sym, ap, ◌∙◌, arith, length-append}
-use Rattle.std.proofs.lemmas.List.{append-nil, take-append-drop, take-append-le, take_rest, drop_more}
-use Rattle.std.proofs.lemmas.List.Concat.{flat_map-append}
-use Rattle.std.specs.List.{flat_map}
+use Rattle.std.proofs.Common.{◌≡◌, ℕ, ◌+◌, ◌-◌, ◌<◌, List, [], ◌++◌, length, take, drop, Option, Result, Ok, Err, refl, sym, ap, ◌∙◌, arith, length-append}
+use Rattle.std.proofs.lemmas.List.{append-nil, take-append-le, take_rest}
 use Rattle.std.specs.Prelude.{IfErr}
 use Rattle.byte_device.specs.declared.writing.WriteFault.{WriteFault}
 use Rattle.byte_device.specs.Writes.{WritesFirst}
@@ -25,13 +23,6 @@ stopped a b c done bytes more text written k len whole p q =
       within = rw whole (omega (arith, length-append done (bytes ++ more), length-append bytes more));
       gained = rw seam (Appends-then a b c done (take k bytes) p q.gained);
     }
-
--- the text of items is that of those before i, that of item i, and that of the rest
-pub text_at : {X : Type 0} (f : X → List ℕ) (xs : List X) (i : ℕ) (x : X) (bytes : List ℕ) → i < length xs → x ≡ get_or xs i x → bytes ≡ f x
-    → flat_map f xs ≡ flat_map f (take i xs) ++ (bytes ++ flat_map f (drop (i + 1) xs))
-text_at f xs i x bytes lt is of =
-    ap (flat_map f) (sym (take-append-drop i xs)) ∙ flat_map-append f (take i xs) (drop i xs)
-    ∙ ap (λ (t : List ℕ). flat_map f (take i xs) ++ t) (ap (flat_map f) (drop_more xs i x lt) ∙ ap (λ (t : List ℕ). t ++ flat_map f (drop (i + 1) xs)) (ap f (sym is) ∙ sym of))
 
 -- `x` was given, and `y` behind it or a part of `y`: a fault counts from the beginning of `x`
 pub behind : (r : Result ℕ WriteFault) (written mid : ℕ) (a b c : Option (List ℕ)) (x y : List ℕ) → mid ≡ written + length x → Appends a b x

@@ -1,6 +1,6 @@
 -- Known bytes that grow or are taken, one call after another.
 use Rattle.std.proofs.Common.{List, [], ◌++◌, ℕ, Option}
-use Rattle.std.proofs.KnownBytes.{Appends-nil, Appends-trans, Appends-kept, Consumes-nil, Consumes-trans, Consumes-kept}
+use Rattle.std.proofs.KnownBytes.{Appends-nil, Appends-trans, Consumes-nil, Consumes-trans, Consumes-kept}
 use Rattle.std.specs.Io.KnownBytes.{Appends, Consumes, Keeps}
 
 -- a text of no bytes was given
@@ -10,10 +10,6 @@ Appends-none = Appends-nil
 -- two texts were given, one after the other
 pub Appends-then : (a b c : Option (List ℕ)) (x y : List ℕ) → Appends a b x → Appends b c y → Appends a c (x ++ y)
 Appends-then = Appends-trans
-
--- a text was given, and then nothing
-pub Appends-keeps : (a b c : Option (List ℕ)) (x : List ℕ) → Appends a b x → Keeps b c → Appends a c x
-Appends-keeps = Appends-kept
 
 -- no byte was taken
 pub Consumes-none : (a : Option (List ℕ)) → Consumes a a []

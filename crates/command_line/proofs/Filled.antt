@@ -60,9 +60,6 @@ want_values rules = list_all wants_value rules
 
 -- ---- tests
 
-either : (a b : Bool) → a ≡ true → (a || b) ≡ true
-either a b is = ap (λ x. x || b) is
-
 pair : (a b : Bool) → a ≡ true → b ≡ true → (a && b) ≡ true
 pair a b p q = ap₂ (λ x y. x && y) p q
 

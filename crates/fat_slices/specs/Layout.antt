@@ -7,24 +7,24 @@ use Rattle.fat_slices.specs.declared.file_kind.FileKind.{FileKind}
 use Rattle.fat_slices.specs.declared.file_kind.FileKind.TheVariants.{Thin, Universal, Universal64, Other}
 
 -- uint32_t: the number in the four bytes from a place
-unfoldable pub u32_at : List ℕ → ℕ → ℕ
-u32_at bytes index = big_number 4 (drop index bytes)
+unfoldable pub u32_be_at : List ℕ → ℕ → ℕ
+u32_be_at bytes offset = big_number 4 (drop offset bytes)
 
 -- uint64_t: the number in the eight bytes from a place
-unfoldable pub u64_at : List ℕ → ℕ → ℕ
-u64_at bytes index = big_number 8 (drop index bytes)
+unfoldable pub u64_be_at : List ℕ → ℕ → ℕ
+u64_be_at bytes offset = big_number 8 (drop offset bytes)
 
 -- fat_header (8 bytes: magic 0, nfat_arch 4): the number of entries of the table behind it
 abbrev pub nfat_arch : List ℕ → ℕ
-nfat_arch file = u32_at file 4
+nfat_arch file = u32_be_at file 4
 
 -- fat_arch (20 bytes: cputype 0, cpusubtype 4, offset 8, size 12, align 16, each of them uint32_t)
 abbrev pub fat_arch : List ℕ → FatArch
-fat_arch entry = record { offset = u32_at entry 8; size = u32_at entry 12 }
+fat_arch entry = record { offset = u32_be_at entry 8; size = u32_be_at entry 12 }
 
 -- fat_arch_64 (32 bytes: cputype 0, cpusubtype 4, uint64_t offset 8, uint64_t size 16, align 24, reserved 28)
 abbrev pub fat_arch_64 : List ℕ → FatArch
-fat_arch_64 entry = record { offset = u64_at entry 8; size = u64_at entry 16 }
+fat_arch_64 entry = record { offset = u64_be_at entry 8; size = u64_be_at entry 16 }
 
 -- the entry that begins the bytes, in a file of a kind; only FAT_MAGIC and FAT_MAGIC_64 have a table
 abbrev pub arch_of : FileKind → List ℕ → FatArch

@@ -41,6 +41,13 @@ pub same_path : (p q : Option (List ℕ)) (given : List (List ℕ)) (text : List
 same_path p q given text took =
     place_first q p (concat given) ([] ++ text) (took ∙ append_assoc (place p) [] text)
 
+-- and its file took the text
+pub taken : (p q : Option (List ℕ)) (given : List (List ℕ)) (text : List ℕ)
+    → Appends (Some (account p [])) (Some (account q given)) text
+    → Some (account q given) ≡ Some (account p (text ∷ []))
+taken p q given text took =
+    ap (λ l. Some l) (took ∙ append_assoc (place p) [] text ∙ ap (λ t. place p ++ t) (sym (append-nil text)))
+
 -- and was created there and nowhere else
 pub created_there : (untouched : Bool) (p q : Option (List ℕ)) (created given : List (List ℕ)) (text : List ℕ)
     → created ≡ created_at untouched q → Appends (Some (account p [])) (Some (account q given)) text

@@ -1,7 +1,7 @@
 -- A line that is carried out over files of the system.
-use Rattle.std.specs.Prelude.{◌≡◌, ◌⊎◌, ℕ, Bool, List, [], Option, Some, None, Result, Ok, Err, if◌then◌else◌}
+use Rattle.std.specs.Prelude.{◌≡◌, ◌⊎◌, ℕ, Bool, List, [], ◌∷◌, length, Option, Some, None, Result, Ok, Err}
+use Rattle.std.specs.Prelude.{if◌then◌else◌}
 use Rattle.std.specs.Option.{option_to_list}
-use Rattle.std.specs.Io.KnownBytes.{Appends}
 use Rattle.clap.specs.Words.{Text}
 use Rattle.command_line.specs.Lines.{Line, inputs_of, out_of}
 use Rattle.archive_records.specs.Merging.{stream}
@@ -57,20 +57,22 @@ calls_of left failures held out_failures opened_old opened_new others same creat
 }
 
 -- The command of a line ended over files of which nothing is known, and this is told of it. OUT has the path of the
--- line, unless an input's file is there. If it took a text, or first bytes of one, it was created there and nowhere
--- else; if it took none and did not fail, nowhere.
+-- line, unless an input's file is there, and was created there or nowhere; nowhere if it took no byte and did not fail.
+-- These are the bytes that its file took; where it failed, as many as are told.
 pub record IsCarriedOut {S W : Type 0} (calls : Calls S W) (line : Line) (report : Writer)
     (told : Result Status Failure) : Type 0 where
   pub path : Option Text
   pub begun : W
   pub ended : Result Status CommandFault
+  pub bytes : List ℕ
   pub path_is : IsPath (out_of line) (inputs_of line) calls.others calls.same path
   pub begun_is : calls.held begun ≡ Some (account path [])
   pub begun_unfailed : calls.out_failures begun ≡ 0
   pub carried : Carried calls.left calls.failures (λ _. Unknown) (Some calls.opened_old) (Some calls.opened_new) line
       (stream calls.held calls.out_failures begun calls.out) report ended
-  pub created : (text : List ℕ) → Appends (calls.held begun) (calls.held calls.out) text
-      → (calls.created ≡ []) ⊎ (calls.created ≡ option_to_list path)
+  pub taken : calls.held calls.out ≡ Some (account path (bytes ∷ []))
+  pub count : (n : ℕ) → ended ≡ Err (Output n) → n ≡ length bytes
+  pub created : (calls.created ≡ []) ⊎ (calls.created ≡ option_to_list path)
   pub untouched : Takes (writer calls.held calls.out_failures begun calls.out) [] → calls.created ≡ []
   pub told_is : told ≡ command_fault_of calls.is_not_created ended
 

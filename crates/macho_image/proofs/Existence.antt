@@ -4,7 +4,7 @@ use Rattle.std.specs.List.{list_any}
 use Rattle.std.specs.Option.{option_or, is_some}
 use Rattle.std.proofs.lemmas.List.{take-append-drop}
 use Rattle.std.proofs.lemmas.Bool.{cases_lt}
-use Rattle.macho_image.specs.Layout.{u32_at, ncmds, command_bytes}
+use Rattle.macho_image.specs.Layout.{u32_le_at, ncmds, command_bytes}
 use Rattle.macho_image.specs.Commands.{IsCommand, is_uuid}
 use Rattle.macho_image.specs.Inner.{HasNoCommand}
 use Rattle.macho_image.specs.Contents.{uuid_among, symtab_among}
@@ -26,15 +26,15 @@ record IsCut (bytes : List ℕ) : Type 0 where
 cut_or_none : (bytes : List ℕ) → IsCut bytes ⊎ HasNoCommand bytes
 cut_or_none bytes = elim (cases_lt (length bytes) 8) [
   | inl few ↦ inr (no_command_in_few bytes few)
-  | inr enough ↦ elim (cases_lt (u32_at bytes 4) 8) [
+  | inr enough ↦ elim (cases_lt (u32_le_at bytes 4) 8) [
     | inl low ↦ inr (no_short_command bytes low)
-    | inr high ↦ elim (cases_lt (length bytes) (u32_at bytes 4)) [
+    | inr high ↦ elim (cases_lt (length bytes) (u32_le_at bytes 4)) [
       | inl outside ↦ inr (no_outside_command bytes outside)
       | inr inside ↦ inl (record {
-        command = take (u32_at bytes 4) bytes;
-        after = drop (u32_at bytes 4) bytes;
-        whole = command_of_size bytes (u32_at bytes 4) refl high inside;
-        begins = sym (take-append-drop (u32_at bytes 4) bytes);
+        command = take (u32_le_at bytes 4) bytes;
+        after = drop (u32_le_at bytes 4) bytes;
+        whole = command_of_size bytes (u32_le_at bytes 4) refl high inside;
+        begins = sym (take-append-drop (u32_le_at bytes 4) bytes);
       })
     ]
   ]

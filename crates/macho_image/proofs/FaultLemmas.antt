@@ -4,7 +4,7 @@ use Rattle.std.specs.List.{concat, list_any}
 use Rattle.std.proofs.lemmas.List.{take-append-drop}
 use Rattle.std.proofs.lemmas.Option.{none-some}
 use Rattle.std.proofs.lemmas.Bool.{cases_lt}
-use Rattle.macho_image.specs.Layout.{u32_at, ncmds, command_bytes}
+use Rattle.macho_image.specs.Layout.{u32_le_at, ncmds, command_bytes}
 use Rattle.macho_image.specs.Commands.{IsFront, first_commands, is_uuid, is_symtab}
 use Rattle.macho_image.specs.Fault.{command_fault, IsFaultAt, NoneBelow, IsFirstFault, IsImageFault, IsImage}
 use Rattle.macho_image.specs.declared.fault.ImageFault.{ImageFault}
@@ -71,23 +71,23 @@ no_image_fault bytes f image (inr (inr p)) =
 pub front_of-first_commands : (count : ℕ) (area : List ℕ) → length (first_commands count area) ≡ count → IsFront area count (first_commands count area)
 unfolding first_commands
 front_of-first_commands zero area h = record { number = refl; each = tt; rest = area; begins = refl }
-front_of-first_commands (suc count) area h = by_test (nat_le 8 (u32_at area 4) && nat_le 8 (length area) && nat_le (u32_at area 4) (length area)) refl (front_of-first_commands count (drop (u32_at area 4) area))
+front_of-first_commands (suc count) area h = by_test (nat_le 8 (u32_le_at area 4) && nat_le 8 (length area) && nat_le (u32_le_at area 4) (length area)) refl (front_of-first_commands count (drop (u32_le_at area 4) area))
   where
-    by_test : (b : Bool) → (nat_le 8 (u32_at area 4) && nat_le 8 (length area) && nat_le (u32_at area 4) (length area)) ≡ b
-        → (length (first_commands count (drop (u32_at area 4) area)) ≡ count → IsFront (drop (u32_at area 4) area) count (first_commands count (drop (u32_at area 4) area))) → IsFront area (suc count) (first_commands (suc count) area)
-    by_test false e below = absurd (zero_suc (sym (ap (λ b. length (cond b (take (u32_at area 4) area ∷ first_commands count (drop (u32_at area 4) area)) [])) e) ∙ h))
+    by_test : (b : Bool) → (nat_le 8 (u32_le_at area 4) && nat_le 8 (length area) && nat_le (u32_le_at area 4) (length area)) ≡ b
+        → (length (first_commands count (drop (u32_le_at area 4) area)) ≡ count → IsFront (drop (u32_le_at area 4) area) count (first_commands count (drop (u32_le_at area 4) area))) → IsFront area (suc count) (first_commands (suc count) area)
+    by_test false e below = absurd (zero_suc (sym (ap (λ b. length (cond b (take (u32_le_at area 4) area ∷ first_commands count (drop (u32_le_at area 4) area)) [])) e) ∙ h))
       where
         zero_suc : zero ≡ suc count → ⊥
         zero_suc e = omega arith
     by_test true e below =
-        let low : 8 ≤ u32_at area 4 = low_of (u32_at area 4) (length area) e in
-        let high : u32_at area 4 ≤ length area = high_of (u32_at area 4) (length area) e in
-        let all : length (take (u32_at area 4) area ∷ first_commands count (drop (u32_at area 4) area)) ≡ suc count =
-        ap (λ b. length (cond b (take (u32_at area 4) area ∷ first_commands count (drop (u32_at area 4) area)) [])) (sym e) ∙ h in
+        let low : 8 ≤ u32_le_at area 4 = low_of (u32_le_at area 4) (length area) e in
+        let high : u32_le_at area 4 ≤ length area = high_of (u32_le_at area 4) (length area) e in
+        let all : length (take (u32_le_at area 4) area ∷ first_commands count (drop (u32_le_at area 4) area)) ≡ suc count =
+        ap (λ b. length (cond b (take (u32_le_at area 4) area ∷ first_commands count (drop (u32_le_at area 4) area)) [])) (sym e) ∙ h in
         let more = below (omega (arith, all)) in
         rw e (record {
           number = all;
-          each = (command_of_size area (u32_at area 4) refl low high, more.each);
+          each = (command_of_size area (u32_le_at area 4) refl low high, more.each);
           rest = more.rest;
-          begins = sym (take-append-drop (u32_at area 4) area) ∙ ap (λ s. take (u32_at area 4) area ++ s) more.begins ∙ sym (append_assoc (take (u32_at area 4) area) (concat (first_commands count (drop (u32_at area 4) area))) more.rest);
+          begins = sym (take-append-drop (u32_le_at area 4) area) ∙ ap (λ s. take (u32_le_at area 4) area ++ s) more.begins ∙ sym (append_assoc (take (u32_le_at area 4) area) (concat (first_commands count (drop (u32_le_at area 4) area))) more.rest);
         })

@@ -5,23 +5,23 @@ use Rattle.std.proofs.lemmas.List.{drop-append-le, append_cancel_left, append-ni
 use Rattle.std.proofs.Math.Seq.{take-append_seam}
 use Rattle.byteorder.specs.Endian.{little_number}
 use Rattle.byteorder.specs.Numbers.{little_from-append}
-use Rattle.macho_image.specs.Layout.{u32_at}
+use Rattle.macho_image.specs.Layout.{u32_le_at}
 use Rattle.macho_image.specs.Commands.{IsCommand, IsFront}
 use Rattle.macho_image.specs.Inner.{HasNoCommand}
 
 -- a number is that of the bytes in front, whatever follows them
-pub u32_at-append : (xs ys : List ℕ) (index : ℕ) → index + 4 ≤ length xs → u32_at (xs ++ ys) index ≡ u32_at xs index
-unfolding u32_at
-u32_at-append xs ys index h =
-    let moved : drop index (xs ++ ys) ≡ drop index xs ++ ys = drop-append-le index xs ys (omega arith) in
-    ap (little_number 4) moved ∙ little_from-append 4 (drop index xs) ys (omega (arith, length-drop index xs))
+pub u32_le_at-append : (xs ys : List ℕ) (offset : ℕ) → offset + 4 ≤ length xs → u32_le_at (xs ++ ys) offset ≡ u32_le_at xs offset
+unfolding u32_le_at
+u32_le_at-append xs ys offset h =
+    let moved : drop offset (xs ++ ys) ≡ drop offset xs ++ ys = drop-append-le offset xs ys (omega arith) in
+    ap (little_number 4) moved ∙ little_from-append 4 (drop offset xs) ys (omega (arith, length-drop offset xs))
 
 -- two commands in front of the same bytes are the same
 pub same_command : (x y r t : List ℕ) → IsCommand x → IsCommand y → x ++ r ≡ y ++ t → (x ≡ y) × (r ≡ t)
 same_command x y r t px py e =
-    let left : u32_at (x ++ r) 4 ≡ u32_at x 4 = u32_at-append x r 4 (omega (arith, px.long)) in
-    let right : u32_at (y ++ t) 4 ≡ u32_at y 4 = u32_at-append y t 4 (omega (arith, py.long)) in
-    let lengths : length x ≡ length y = px.sized ∙ sym left ∙ ap (λ s. u32_at s 4) e ∙ right ∙ sym py.sized in
+    let left : u32_le_at (x ++ r) 4 ≡ u32_le_at x 4 = u32_le_at-append x r 4 (omega (arith, px.long)) in
+    let right : u32_le_at (y ++ t) 4 ≡ u32_le_at y 4 = u32_le_at-append y t 4 (omega (arith, py.long)) in
+    let lengths : length x ≡ length y = px.sized ∙ sym left ∙ ap (λ s. u32_le_at s 4) e ∙ right ∙ sym py.sized in
     let same : x ≡ y = sym (take-append_seam x r) ∙ ap (take (length x)) e ∙ ap (λ n. take n (y ++ t)) lengths ∙ take-append_seam y t in
     (same, append_cancel_left x r t (e ∙ ap (λ s. s ++ t) (sym same)))
 
@@ -50,15 +50,15 @@ one_front bytes count xs ys px py =
     no_items (z ∷ zs) h = absurd (omega arith)
 
 -- the size in a command is that of the bytes that it begins
-pub size_in_front : (bytes command rest : List ℕ) → IsCommand command → bytes ≡ command ++ rest → u32_at bytes 4 ≡ length command
-size_in_front bytes command rest p e = ap (λ s. u32_at s 4) e ∙ u32_at-append command rest 4 (omega (arith, p.long)) ∙ sym p.sized
+pub size_in_front : (bytes command rest : List ℕ) → IsCommand command → bytes ≡ command ++ rest → u32_le_at bytes 4 ≡ length command
+size_in_front bytes command rest p e = ap (λ s. u32_le_at s 4) e ∙ u32_le_at-append command rest 4 (omega (arith, p.long)) ∙ sym p.sized
 
 -- no command is shorter than eight bytes
-pub no_short_command : (bytes : List ℕ) → u32_at bytes 4 < 8 → HasNoCommand bytes
+pub no_short_command : (bytes : List ℕ) → u32_le_at bytes 4 < 8 → HasNoCommand bytes
 no_short_command bytes h command rest p e = omega (arith, size_in_front bytes command rest p e, p.long)
 
 -- no command passes the end
-pub no_outside_command : (bytes : List ℕ) → length bytes < u32_at bytes 4 → HasNoCommand bytes
+pub no_outside_command : (bytes : List ℕ) → length bytes < u32_le_at bytes 4 → HasNoCommand bytes
 no_outside_command bytes h command rest p e =
     omega (arith, size_in_front bytes command rest p e, ap length e, length-append command rest)
 
@@ -67,11 +67,11 @@ pub no_command_in_few : (bytes : List ℕ) → length bytes < 8 → HasNoCommand
 no_command_in_few bytes h command rest p e = omega (arith, p.long, ap length e, length-append command rest)
 
 -- a size that is possible makes a command
-pub command_of_size : (bytes : List ℕ) (size : ℕ) → size ≡ u32_at bytes 4 → 8 ≤ size → size ≤ length bytes → IsCommand (take size bytes)
+pub command_of_size : (bytes : List ℕ) (size : ℕ) → size ≡ u32_le_at bytes 4 → 8 ≤ size → size ≤ length bytes → IsCommand (take size bytes)
 command_of_size bytes size e low high =
     let len : length (take size bytes) ≡ size = simp length-take (omega arith) in
-    let same : u32_at bytes 4 ≡ u32_at (take size bytes) 4 =
-    ap (λ s. u32_at s 4) (sym (take-append-drop size bytes)) ∙ u32_at-append (take size bytes) (drop size bytes) 4 (omega (arith, len)) in
+    let same : u32_le_at bytes 4 ≡ u32_le_at (take size bytes) 4 =
+    ap (λ s. u32_le_at s 4) (sym (take-append-drop size bytes)) ∙ u32_le_at-append (take size bytes) (drop size bytes) 4 (omega (arith, len)) in
     record { long = omega (arith, len); sized = len ∙ e ∙ same }
 
 -- for the search of commands

@@ -5,7 +5,7 @@ use Rattle.std.specs.Option.{is_some}
 use Rattle.std.proofs.lemmas.List.{take-append-drop}
 use Rattle.std.proofs.Math.Seq.{take-append_seam, drop-append_seam}
 use Rattle.std.proofs.lemmas.Bool.Decides.{nat_tests}
-use Rattle.macho_image.specs.Layout.{u32_at, ncmds, command_bytes}
+use Rattle.macho_image.specs.Layout.{u32_le_at, ncmds, command_bytes}
 use Rattle.macho_image.specs.Commands.{IsCommand, IsFront, first_commands, commands, is_uuid}
 use Rattle.macho_image.specs.Inner.{HasNoCommand, AreContents}
 use Rattle.macho_image.specs.Fault.{header_fault, IsFirstFault, AreCommands, IsImageFault}
@@ -32,7 +32,7 @@ cut_front zero (c ∷ cs) rest area h p e = absurd (omega arith)
 cut_front (suc count) [] rest area h p e = absurd (omega arith)
 cut_front (suc count) (c ∷ cs) rest area h p e =
     let split : area ≡ c ++ (concat cs ++ rest) = e ∙ append_assoc c (concat cs) rest in
-    let size : u32_at area 4 ≡ length c = size_in_front area c (concat cs ++ rest) p.0 split in
+    let size : u32_le_at area 4 ≡ length c = size_in_front area c (concat cs ++ rest) p.0 split in
     let long : length c ≤ length area = omega (arith, ap length split, length-append c (concat cs ++ rest)) in
     let low : 8 ≤ length c = p.0.long in
     let test = fits_in (length c) (length area) low long in
@@ -46,7 +46,7 @@ pub one_command : (count : ℕ) (area command after : List ℕ) → IsCommand co
 unfolding first_commands
 one_command zero area c after p e h = absurd (omega arith)
 one_command (suc count) area c after p e h =
-    let size : u32_at area 4 ≡ length c = size_in_front area c after p e in
+    let size : u32_le_at area 4 ≡ length c = size_in_front area c after p e in
     let long : length c ≤ length area = omega (arith, ap length e, length-append c after) in
     let test = fits_in (length c) (length area) p.long long in
     let front : take (length c) area ≡ c = ap (take (length c)) e ∙ take-append_seam c after in
@@ -62,14 +62,14 @@ no_command count area h = rw h refl
 pub not_a_command : (count : ℕ) (area : List ℕ) → HasNoCommand area → first_commands count area ≡ []
 unfolding first_commands
 not_a_command zero area none = refl
-not_a_command (suc count) area none = elim_test (nat_le 8 (u32_at area 4) && nat_le 8 (length area) && nat_le (u32_at area 4) (length area)) refl
+not_a_command (suc count) area none = elim_test (nat_le 8 (u32_le_at area 4) && nat_le 8 (length area) && nat_le (u32_le_at area 4) (length area)) refl
   where
-    elim_test : (b : Bool) → (nat_le 8 (u32_at area 4) && nat_le 8 (length area) && nat_le (u32_at area 4) (length area)) ≡ b → cond b (take (u32_at area 4) area ∷ first_commands count (drop (u32_at area 4) area)) [] ≡ []
+    elim_test : (b : Bool) → (nat_le 8 (u32_le_at area 4) && nat_le 8 (length area) && nat_le (u32_le_at area 4) (length area)) ≡ b → cond b (take (u32_le_at area 4) area ∷ first_commands count (drop (u32_le_at area 4) area)) [] ≡ []
     elim_test false h = refl
     elim_test true h =
-        let low : 8 ≤ u32_at area 4 = low_of (u32_at area 4) (length area) h in
-        let high : u32_at area 4 ≤ length area = high_of (u32_at area 4) (length area) h in
-        absurd (none (take (u32_at area 4) area) (drop (u32_at area 4) area) (command_of_size area (u32_at area 4) refl low high) (sym (take-append-drop (u32_at area 4) area)))
+        let low : 8 ≤ u32_le_at area 4 = low_of (u32_le_at area 4) (length area) h in
+        let high : u32_le_at area 4 ≤ length area = high_of (u32_le_at area 4) (length area) h in
+        absurd (none (take (u32_le_at area 4) area) (drop (u32_le_at area 4) area) (command_of_size area (u32_le_at area 4) refl low high) (sym (take-append-drop (u32_le_at area 4) area)))
 
 pub ruleset of_commands = (one_command, no_command, not_a_command)
 

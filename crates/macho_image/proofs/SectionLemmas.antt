@@ -7,15 +7,15 @@ use Rattle.std.specs.List.{before_first, position, position_or_len}
 use Rattle.macho_image.specs.Sections.{section_record, section_records, sections, section_of}
 
 -- the first section of those that are left
-pub one_section : (count index : ℕ) (bytes : List ℕ) → 0 < count → section_records count index bytes ≡ section_record index bytes ∷ section_records (count - 1) (index + 80) (drop 80 bytes)
+pub one_section : (count offset : ℕ) (bytes : List ℕ) → 0 < count → section_records count offset bytes ≡ section_record offset bytes ∷ section_records (count - 1) (offset + 80) (drop 80 bytes)
 unfolding section_records
-one_section zero index bytes h = absurd (omega arith)
-one_section (suc count) index bytes h = rw sub-one refl
+one_section zero offset bytes h = absurd (omega arith)
+one_section (suc count) offset bytes h = rw sub-one refl
 
 -- none is left
-pub no_section : (count index : ℕ) (bytes : List ℕ) → count ≡ 0 → section_records count index bytes ≡ []
+pub no_section : (count offset : ℕ) (bytes : List ℕ) → count ≡ 0 → section_records count offset bytes ≡ []
 unfolding section_records
-no_section count index bytes h = rw h refl
+no_section count offset bytes h = rw h refl
 
 -- where one passes, what stands before it
 pub before_first-some : {X : Type 0} (p : X → Bool) (xs : List X) (n : ℕ) → position p xs ≡ Some n → take n xs ≡ before_first p xs

@@ -4,7 +4,7 @@ use Rattle.std.specs.Prelude.{Contains}
 use Rattle.std.specs.List.{concat, AllByRecursion, filter_map, flat_map}
 use Rattle.std.proofs.lemmas.List.{drop-drop, drop-append-le, take-append-drop, take_at, drop_at}
 use Rattle.std.proofs.lemmas.List.Elements.{All-contains, All-from_recursion}
-use Rattle.macho_image.specs.Layout.{u32_at, ncmds, sizeofcmds, command_bytes}
+use Rattle.macho_image.specs.Layout.{u32_le_at, ncmds, sizeofcmds, command_bytes}
 use Rattle.macho_image.specs.Commands.{SegmentRecord, HasRoom, first_commands, commands, is_segment, nsects}
 use Rattle.macho_image.specs.Kinds.{load_commands_from, segment_of, segments}
 use Rattle.macho_image.specs.Sections.{SectionRecord, IsSectionOf, section_at, section_record, section_records, sections_in, sections}
@@ -16,48 +16,48 @@ use Rattle.macho_image.proofs.Told.{commands-room}
 -- a segment stands in an image at its place, and has room for its sections
 record IsSegmentOf (image : List ℕ) (segment : SegmentRecord) : Type 0 where
   rest : List ℕ
-  stands : drop segment.index image ≡ segment.bytes ++ rest
+  stands : drop segment.offset image ≡ segment.bytes ++ rest
   room : 72 + 80 * nsects segment.bytes ≤ length segment.bytes
 
-segments_stand : (image : List ℕ) (index : ℕ) (cs : List (List ℕ)) (tail : List ℕ) → AllByRecursion HasRoom cs → drop index image ≡ concat cs ++ tail
-    → AllByRecursion (IsSegmentOf image) (filter_map segment_of (load_commands_from index cs))
+segments_stand : (image : List ℕ) (offset : ℕ) (cs : List (List ℕ)) (tail : List ℕ) → AllByRecursion HasRoom cs → drop offset image ≡ concat cs ++ tail
+    → AllByRecursion (IsSegmentOf image) (filter_map segment_of (load_commands_from offset cs))
 unfolding load_commands_from
-segments_stand image index [] tail room stands = tt
-segments_stand image index (c ∷ cs) tail room stands =
-    rw (segments-cons index c cs) (by_kind (is_segment c) refl (filter_map segment_of (load_commands_from (index + length c) cs)) (segments_stand image (index + length c) cs tail room.1 next))
+segments_stand image offset [] tail room stands = tt
+segments_stand image offset (c ∷ cs) tail room stands =
+    rw (segments-cons offset c cs) (by_kind (is_segment c) refl (filter_map segment_of (load_commands_from (offset + length c) cs)) (segments_stand image (offset + length c) cs tail room.1 next))
   where
-    here : drop index image ≡ c ++ (concat cs ++ tail)
+    here : drop offset image ≡ c ++ (concat cs ++ tail)
     here = stands ∙ append_assoc c (concat cs) tail
 
-    next : drop (index + length c) image ≡ concat cs ++ tail
-    next = sym (drop-drop (length c) index image) ∙ ap (drop (length c)) here ∙ drop_at c (concat cs ++ tail) (length c) refl
+    next : drop (offset + length c) image ≡ concat cs ++ tail
+    next = sym (drop-drop (length c) offset image) ∙ ap (drop (length c)) here ∙ drop_at c (concat cs ++ tail) (length c) refl
 
-    by_kind : (b : Bool) → is_segment c ≡ b → (rest : List SegmentRecord) → AllByRecursion (IsSegmentOf image) rest → AllByRecursion (IsSegmentOf image) (cond b (record { index = index; bytes = c } ∷ rest) rest)
+    by_kind : (b : Bool) → is_segment c ≡ b → (rest : List SegmentRecord) → AllByRecursion (IsSegmentOf image) rest → AllByRecursion (IsSegmentOf image) (cond b (record { offset = offset; bytes = c } ∷ rest) rest)
     by_kind false e rest more = more
     by_kind true e rest more = (record { rest = concat cs ++ tail; stands = here; room = room.0.sections e }, more)
 
 -- sections that stand one behind another
-records_stand : (image : List ℕ) (count index : ℕ) (bytes rest : List ℕ) → 80 * count ≤ length bytes → drop index image ≡ bytes ++ rest
-    → AllByRecursion (IsSectionOf image) (section_records count index bytes)
+records_stand : (image : List ℕ) (count offset : ℕ) (bytes rest : List ℕ) → 80 * count ≤ length bytes → drop offset image ≡ bytes ++ rest
+    → AllByRecursion (IsSectionOf image) (section_records count offset bytes)
 unfolding section_records section_at section_record
-records_stand image zero index bytes rest room stands = tt
-records_stand image (suc count) index bytes rest room stands = (
+records_stand image zero offset bytes rest room stands = tt
+records_stand image (suc count) offset bytes rest room stands = (
   record {
-    stands = ap (section_record index) stands ∙ section_record-append index bytes rest (omega arith);
-    room = omega (arith, ap length stands, length-append bytes rest, length-drop index image);
+    stands = ap (section_record offset) stands ∙ section_record-append offset bytes rest (omega arith);
+    room = omega (arith, ap length stands, length-append bytes rest, length-drop offset image);
   },
-  records_stand image count (index + 80) (drop 80 bytes) rest (omega (arith, length-drop 80 bytes)) next,
+  records_stand image count (offset + 80) (drop 80 bytes) rest (omega (arith, length-drop 80 bytes)) next,
 )
   where
-    next : drop (index + 80) image ≡ drop 80 bytes ++ rest
-    next = sym (drop-drop 80 index image) ∙ ap (drop 80) stands ∙ drop-append-le 80 bytes rest (omega arith)
+    next : drop (offset + 80) image ≡ drop 80 bytes ++ rest
+    next = sym (drop-drop 80 offset image) ∙ ap (drop 80) stands ∙ drop-append-le 80 bytes rest (omega arith)
 
 -- those of a segment
 sections_in-stand : (image : List ℕ) (segment : SegmentRecord) → IsSegmentOf image segment → AllByRecursion (IsSectionOf image) (sections_in segment)
 unfolding sections_in
 sections_in-stand image segment is =
-    records_stand image (nsects segment.bytes) (segment.index + 72) (drop 72 segment.bytes) is.rest (omega (arith, is.room, length-drop 72 segment.bytes))
-    (sym (drop-drop 72 segment.index image) ∙ ap (drop 72) is.stands ∙ drop-append-le 72 segment.bytes is.rest (omega (arith, is.room)))
+    records_stand image (nsects segment.bytes) (segment.offset + 72) (drop 72 segment.bytes) is.rest (omega (arith, is.room, length-drop 72 segment.bytes))
+    (sym (drop-drop 72 segment.offset image) ∙ ap (drop 72) is.stands ∙ drop-append-le 72 segment.bytes is.rest (omega (arith, is.room)))
 
 -- and of several
 all_stand : (image : List ℕ) (segments : List SegmentRecord) → AllByRecursion (IsSegmentOf image) segments → AllByRecursion (IsSectionOf image) (flat_map sections_in segments)
@@ -73,15 +73,15 @@ front_of : (count : ℕ) (area : List ℕ) → (rest : List ℕ) × (area ≡ co
 unfolding first_commands
 front_of zero area = (area, refl)
 front_of (suc count) area =
-    by_test (nat_le 8 (u32_at area 4) && nat_le 8 (length area) && nat_le (u32_at area 4) (length area)) (front_of count (drop (u32_at area 4) area))
+    by_test (nat_le 8 (u32_le_at area 4) && nat_le 8 (length area) && nat_le (u32_le_at area 4) (length area)) (front_of count (drop (u32_le_at area 4) area))
   where
-    by_test : (b : Bool) → (rest : List ℕ) × (drop (u32_at area 4) area ≡ concat (first_commands count (drop (u32_at area 4) area)) ++ rest)
-        → (rest : List ℕ) × (area ≡ concat (cond b (take (u32_at area 4) area ∷ first_commands count (drop (u32_at area 4) area)) []) ++ rest)
+    by_test : (b : Bool) → (rest : List ℕ) × (drop (u32_le_at area 4) area ≡ concat (first_commands count (drop (u32_le_at area 4) area)) ++ rest)
+        → (rest : List ℕ) × (area ≡ concat (cond b (take (u32_le_at area 4) area ∷ first_commands count (drop (u32_le_at area 4) area)) []) ++ rest)
     by_test false below = (area, refl)
     by_test true below = (
       below.0,
-      sym (take-append-drop (u32_at area 4) area) ∙ ap (λ bytes. take (u32_at area 4) area ++ bytes) below.1
-          ∙ sym (append_assoc (take (u32_at area 4) area) (concat (first_commands count (drop (u32_at area 4) area))) below.0),
+      sym (take-append-drop (u32_le_at area 4) area) ∙ ap (λ bytes. take (u32_le_at area 4) area ++ bytes) below.1
+          ∙ sym (append_assoc (take (u32_le_at area 4) area) (concat (first_commands count (drop (u32_le_at area 4) area))) below.0),
     )
 
 module _ (image : List ℕ) (room : AllByRecursion HasRoom (commands image)) where
@@ -96,7 +96,7 @@ module _ (image : List ℕ) (room : AllByRecursion HasRoom (commands image)) whe
   unfolding sections
   each_section = all_stand image (segments image) each_segment
 
-pub segment_stands : (image : List ℕ) (segment : SegmentRecord) → IsImage image → Contains (segments image) segment → take (length segment.bytes) (drop segment.index image) ≡ segment.bytes
+pub segment_stands : (image : List ℕ) (segment : SegmentRecord) → IsImage image → Contains (segments image) segment → take (length segment.bytes) (drop segment.offset image) ≡ segment.bytes
 segment_stands image segment sound member =
     let is = All-contains (IsSegmentOf image) (segments image) segment (All-from_recursion _ _ (each_segment image (commands-room image sound))) member in
     ap (take (length segment.bytes)) is.stands ∙ take_at segment.bytes is.rest (length segment.bytes) refl

@@ -40,9 +40,6 @@ has_header bytes fine =
 pub length-image : (image : List ℕ) → IsImage image → length image < 2 ^ 32
 length-image image sound = (has_header image sound.header).small
 
-pub header-image : (image : List ℕ) → IsImage image → 32 ≤ length image
-header-image image sound = (has_header image sound.header).header
-
 -- a front ends behind each of its commands
 front_to : (area : List ℕ) (count : ℕ) (before after : List (List ℕ)) (command : List ℕ) → IsFront area count (before ++ command ∷ after) → IsFront area (length before + 1) (before ++ command ∷ [])
 front_to area count before after command front = record {

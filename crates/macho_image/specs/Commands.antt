@@ -2,12 +2,12 @@
 use Rattle.std.specs.Prelude.{ℕ, suc, zero, Bool, true, ◌+◌, ◌*◌, List, [], ◌∷◌, ◌++◌, length}
 use Rattle.std.specs.Prelude.{take, drop, ◌≡◌, ◌≤◌, ◌==◌, ◌&&◌, nat_le, if◌then◌else◌}
 use Rattle.std.specs.List.{concat, AllByRecursion}
-use Rattle.macho_image.specs.Layout.{u32_at, command_bytes, ncmds}
+use Rattle.macho_image.specs.Layout.{u32_le_at, command_bytes, ncmds}
 
 -- load_command: cmd and cmdsize, eight bytes, begin it, and cmdsize is the size of the whole
 pub record IsCommand (command : List ℕ) : Type 0 where
   pub long : 8 ≤ length command
-  pub sized : length command ≡ u32_at command 4
+  pub sized : length command ≡ u32_le_at command 4
 
 -- these are the first `count` commands of the bytes
 pub record IsFront (bytes : List ℕ) (count : ℕ) (commands : List (List ℕ)) : Type 0 where
@@ -22,23 +22,23 @@ HasFront bytes count = (commands : List (List ℕ)) × IsFront bytes count comma
 
 -- load_command.cmd is LC_SEGMENT_64 (0x19)
 abbrev pub is_segment : List ℕ → Bool
-is_segment command = u32_at command 0 == 0x19
+is_segment command = u32_le_at command 0 == 0x19
 
 -- load_command.cmd is LC_UUID (0x1b)
 abbrev pub is_uuid : List ℕ → Bool
-is_uuid command = u32_at command 0 == 0x1b
+is_uuid command = u32_le_at command 0 == 0x1b
 
 -- load_command.cmd is LC_SYMTAB (0x2)
 abbrev pub is_symtab : List ℕ → Bool
-is_symtab command = u32_at command 0 == 0x2
+is_symtab command = u32_le_at command 0 == 0x2
 
 -- segment_command_64.nsects: the number of its sections
 abbrev pub nsects : List ℕ → ℕ
-nsects segment = u32_at segment 64
+nsects segment = u32_le_at segment 64
 
 -- a segment_command_64 with the sections behind it: its place in the image, in bytes from the start, and its bytes
 pub record SegmentRecord : Type 0 where
-  pub index : ℕ
+  pub offset : ℕ
   pub bytes : List ℕ
 
 -- a command has its eight bytes, a segment_command_64 (72 bytes) each section_64 (80 bytes) behind it, and a
@@ -53,7 +53,7 @@ pub record HasRoom (command : List ℕ) : Type 0 where
 unfoldable pub first_commands : ℕ → List ℕ → List (List ℕ)
 first_commands zero bytes = []
 first_commands (suc count) bytes =
-    let size = u32_at bytes 4 in
+    let size = u32_le_at bytes 4 in
     if nat_le 8 size && nat_le 8 (length bytes) && nat_le size (length bytes)
     then take size bytes ∷ first_commands count (drop size bytes)
     else []

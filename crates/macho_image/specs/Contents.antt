@@ -2,7 +2,7 @@
 use Rattle.std.specs.Prelude.{◌≡◌, ℕ, Bool, List, [], ◌==◌, ◌%◌, ◌^◌, take, drop, Option, unwrap_or}
 use Rattle.std.specs.List.{find, AllByRecursion}
 use Rattle.std.specs.Option.{option_map}
-use Rattle.macho_image.specs.Layout.{u32_at, cputype, cpusubtype, filetype}
+use Rattle.macho_image.specs.Layout.{u32_le_at, cputype, cpusubtype, filetype}
 use Rattle.macho_image.specs.Commands.{commands, is_uuid, is_symtab, HasRoom}
 use Rattle.macho_image.specs.Fault.{IsImage}
 use Rattle.macho_image.specs.declared.symtab_command.Symtab.{Symtab}
@@ -15,10 +15,10 @@ uuid_bytes command = take 16 (drop 8 command)
 abbrev pub symtab_fields : List ℕ → Symtab
 symtab_fields command =
     record {
-      symoff = u32_at command 8;
-      nsyms = u32_at command 12;
-      stroff = u32_at command 16;
-      strsize = u32_at command 20;
+      symoff = u32_le_at command 8;
+      nsyms = u32_le_at command 12;
+      stroff = u32_le_at command 16;
+      strsize = u32_le_at command 20;
     }
 
 -- the UUID of the first LC_UUID among commands

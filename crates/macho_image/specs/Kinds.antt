@@ -8,17 +8,17 @@ use Rattle.macho_image.specs.declared.load_command.LoadCommand.TheVariants.{Uuid
 
 -- the command of these bytes, which stand at a place of the image, by its cmd
 unfoldable pub load_command : ℕ → List ℕ → LoadCommand
-load_command index command =
-    if is_segment command then Segment (record { index = index; bytes = command })
+load_command offset command =
+    if is_segment command then Segment (record { offset = offset; bytes = command })
     else if is_uuid command then Uuid (uuid_bytes command)
     else if is_symtab command then Symtab (symtab_fields command)
-    else Other command
+    else Other
 
 -- commands that stand one behind another from a place on
 unfoldable pub load_commands_from : ℕ → List (List ℕ) → List LoadCommand
-load_commands_from index [] = []
-load_commands_from index (command ∷ commands) =
-    load_command index command ∷ load_commands_from (index + length command) commands
+load_commands_from offset [] = []
+load_commands_from offset (command ∷ commands) =
+    load_command offset command ∷ load_commands_from (offset + length command) commands
 
 -- the load commands of an image, which follow its header of 32 bytes
 abbrev pub load_commands : List ℕ → List LoadCommand
@@ -29,7 +29,7 @@ abbrev pub segment_of : LoadCommand → Option SegmentRecord
 segment_of (Uuid uuid) = None
 segment_of (Segment segment) = Some segment
 segment_of (Symtab symtab) = None
-segment_of (Other command) = None
+segment_of Other = None
 
 -- the segments of an image, in the order of its load commands
 abbrev pub segments : List ℕ → List SegmentRecord

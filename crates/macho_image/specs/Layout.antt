@@ -4,16 +4,16 @@ use Rattle.std.specs.List.{before_first}
 use Rattle.byteorder.specs.Endian.{little_number}
 
 -- uint32_t: the number in the four bytes from a place
-unfoldable pub u32_at : List ℕ → ℕ → ℕ
-u32_at bytes index = little_number 4 (drop index bytes)
+unfoldable pub u32_le_at : List ℕ → ℕ → ℕ
+u32_le_at bytes offset = little_number 4 (drop offset bytes)
 
 -- uint64_t: the number in the eight bytes from a place
-unfoldable pub u64_at : List ℕ → ℕ → ℕ
-u64_at bytes index = little_number 8 (drop index bytes)
+unfoldable pub u64_le_at : List ℕ → ℕ → ℕ
+u64_le_at bytes offset = little_number 8 (drop offset bytes)
 
 -- char[16]: what stands before the first NUL of the sixteen bytes from a place, or all of them
 abbrev pub name_at : List ℕ → ℕ → List ℕ
-name_at bytes index = before_first (λ b. b == 0) (take 16 (drop index bytes))
+name_at bytes offset = before_first (λ b. b == 0) (take 16 (drop offset bytes))
 
 -- MH_MAGIC_64 (0xfeedfacf), as the bytes of a little-endian image begin
 abbrev pub magic : List ℕ
@@ -21,23 +21,23 @@ magic = 0xcf ∷ 0xfa ∷ 0xed ∷ 0xfe ∷ []
 
 -- mach_header_64.cputype
 abbrev pub cputype : List ℕ → ℕ
-cputype bytes = u32_at bytes 4
+cputype bytes = u32_le_at bytes 4
 
 -- mach_header_64.cpusubtype
 abbrev pub cpusubtype : List ℕ → ℕ
-cpusubtype bytes = u32_at bytes 8
+cpusubtype bytes = u32_le_at bytes 8
 
 -- mach_header_64.filetype
 abbrev pub filetype : List ℕ → ℕ
-filetype bytes = u32_at bytes 12
+filetype bytes = u32_le_at bytes 12
 
 -- mach_header_64.ncmds: the number of load commands
 abbrev pub ncmds : List ℕ → ℕ
-ncmds bytes = u32_at bytes 16
+ncmds bytes = u32_le_at bytes 16
 
 -- mach_header_64.sizeofcmds: the size of all load commands
 abbrev pub sizeofcmds : List ℕ → ℕ
-sizeofcmds bytes = u32_at bytes 20
+sizeofcmds bytes = u32_le_at bytes 20
 
 -- the load commands directly follow the header, which has 32 bytes
 abbrev pub command_bytes : List ℕ → List ℕ

@@ -5,4 +5,4 @@ use Rattle.macho_image.specs.declared.section.Section.{Section}
 -- a section, without where its names lie
 abbrev pub section_view : Section → SectionRecord
 section_view s =
-    record { index = s.index; segment = s.segment.now; section = s.section.now; addr = s.addr; size = s.size }
+    record { offset = s.offset; segment = s.segment.now; section = s.section.now; addr = s.addr; size = s.size }

@@ -4,13 +4,13 @@ use Rattle.std.specs.Prelude.{Option, None, codes, slice_get, nat_eq, nat_lt, na
 use Rattle.std.specs.List.{find, flat_map}
 use Rattle.std.specs.Option.{option_map}
 use Rattle.std.specs.Cmp.Lexicographic.{pointwise}
-use Rattle.macho_image.specs.Layout.{u64_at, name_at}
+use Rattle.macho_image.specs.Layout.{u64_le_at, name_at}
 use Rattle.macho_image.specs.Commands.{SegmentRecord, nsects}
 use Rattle.macho_image.specs.Kinds.{segments}
 
 -- section_64: its place in the image, in bytes from the start, and segname, sectname, addr and size
 pub record SectionRecord : Type 0 where
-  pub index : ℕ
+  pub offset : ℕ
   pub segment : List ℕ
   pub section : List ℕ
   pub addr : ℕ
@@ -18,33 +18,33 @@ pub record SectionRecord : Type 0 where
 
 -- the section_64 that begins the bytes, which stand at a place of the image
 unfoldable pub section_record : ℕ → List ℕ → SectionRecord
-section_record index bytes =
+section_record offset bytes =
     record {
-      index = index;
+      offset = offset;
       segment = name_at bytes 16;
       section = name_at bytes 0;
-      addr = u64_at bytes 32;
-      size = u64_at bytes 40;
+      addr = u64_le_at bytes 32;
+      size = u64_le_at bytes 40;
     }
 
 -- the section_64 at a place of the image
 unfoldable pub section_at : List ℕ → ℕ → SectionRecord
-section_at image index = section_record index (drop index image)
+section_at image offset = section_record offset (drop offset image)
 
 -- a section stands in an image at its place
 pub record IsSectionOf (image : List ℕ) (section : SectionRecord) : Type 0 where
-  pub stands : section_at image section.index ≡ section
-  pub room : section.index + 80 ≤ length image
+  pub stands : section_at image section.offset ≡ section
+  pub room : section.offset + 80 ≤ length image
 
 -- so many of them, 80 bytes each
 unfoldable pub section_records : ℕ → ℕ → List ℕ → List SectionRecord
-section_records zero index bytes = []
-section_records (suc count) index bytes =
-    section_record index bytes ∷ section_records count (index + 80) (drop 80 bytes)
+section_records zero offset bytes = []
+section_records (suc count) offset bytes =
+    section_record offset bytes ∷ section_records count (offset + 80) (drop 80 bytes)
 
 -- the sections of a segment directly follow its segment_command_64; laws.section_places says where each one stands
 unfoldable pub sections_in : SegmentRecord → List SectionRecord
-sections_in segment = section_records (nsects segment.bytes) (segment.index + 72) (drop 72 segment.bytes)
+sections_in segment = section_records (nsects segment.bytes) (segment.offset + 72) (drop 72 segment.bytes)
 
 -- the sections of an image, in the order of its load commands; laws.standing says that each stands at its place
 unfoldable pub sections : List ℕ → List SectionRecord
@@ -65,4 +65,4 @@ is_text segment = pointwise nat_eq (name_at segment.bytes 8) (codes "__TEXT")
 
 -- segment_command_64.vmaddr of the first such segment
 abbrev pub text_base_of : List ℕ → Option ℕ
-text_base_of image = option_map (λ segment. u64_at segment.bytes 24) (find is_text (segments image))
+text_base_of image = option_map (λ segment. u64_le_at segment.bytes 24) (find is_text (segments image))

@@ -73,9 +73,9 @@ impl Contents {
     /// What they say with one command more, which stands at a place of the image. Its number counts the
     /// commands before it. A segment and a command of any other kind say nothing.
     #[tactic(auto, unfolding(crate::specs::Kinds::load_command))]
-    fn with_command(self, number: u32, index: u32, command: &[u8]) -> Result<Contents, ImageFault>
+    fn with_command(self, number: u32, offset: u32, command: &[u8]) -> Result<Contents, ImageFault>
         requires command { IsCommand command.now }
-        requires small { index + length command.now < 2 ^ 32 }
+        requires small { offset + length command.now < 2 ^ 32 }
         ensures faulty { IfErr result (λ fault.
             command_fault number (is_some self.uuid) (is_some self.symtab) command.now ≡ Some fault) }
         ensures sound { IfOk result (λ _.
@@ -85,10 +85,10 @@ impl Contents {
             contents.symtab ≡ option_or self.symtab (symtab_among (command.now ∷ []))) }
     {
         check_room(number, command)?;
-        match LoadCommand::of(index, command) {
+        match LoadCommand::of(offset, command) {
             LoadCommand::Uuid(uuid) => self.with_uuid(number, uuid),
             LoadCommand::Symtab(symtab) => self.with_symtab(number, symtab),
-            LoadCommand::Segment(_) | LoadCommand::Other(_) => Ok(self),
+            LoadCommand::Segment(_) | LoadCommand::Other => Ok(self),
         }
     }
 }
@@ -109,8 +109,8 @@ pub(crate) fn read_contents(area: &[u8], start: u32, count: u32) -> Result<Conte
         let Some((command, after)) = split_command(rest) else {
             return Err(ImageFault::BadCommand(number));
         };
-        let index = start + (area.len() - rest.len()) as u32;
-        contents = contents.with_command(number, index, command)?;
+        let offset = start + (area.len() - rest.len()) as u32;
+        contents = contents.with_command(number, offset, command)?;
         rest = after;
     }
     Ok(contents)

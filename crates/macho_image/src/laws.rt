@@ -40,13 +40,13 @@ pub fn section_places()
     ensures number { (segment : SegmentRecord) → length (sections_in segment) ≡ nsects segment.bytes }
     ensures places { (segment : SegmentRecord) (i : ℕ) → i < nsects segment.bytes →
         slice_get (sections_in segment) i
-        ≡ Some (section_record (segment.index + 72 + 80 * i) (drop (72 + 80 * i) segment.bytes)) }
+        ≡ Some (section_record (segment.offset + 72 + 80 * i) (drop (72 + 80 * i) segment.bytes)) }
 {}
 
 /// Each segment of an image stands there at its place, and so does each section.
 pub fn standing()
     ensures segment { (image : List ℕ) (segment : SegmentRecord) → IsImage image → Contains (segments image) segment →
-        take (length segment.bytes) (drop segment.index image) ≡ segment.bytes }
+        take (length segment.bytes) (drop segment.offset image) ≡ segment.bytes }
     ensures section { (image : List ℕ) (section : SectionRecord) → IsImage image → Contains (sections image) section →
         IsSectionOf image section }
 {}

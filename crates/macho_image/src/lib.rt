@@ -28,7 +28,7 @@ mod uuid_command;
 
 pub use fault::ImageFault;
 pub use image::Image;
-pub use load_command::{LoadCommand, OtherCommand};
+pub use load_command::LoadCommand;
 pub use load_commands::LoadCommands;
 pub use section::Section;
 pub use sections::Sections;

@@ -1,7 +1,7 @@
 //! `load_command`: what each command is.
 
 ghost use Rattle.std.specs.Prelude.{◌≡◌, ◌+◌, ◌<◌, ◌≤◌, ◌^◌, ◌++◌, length, MatchOption};
-ghost use Rattle.macho_image.specs.Layout.{u32_at};
+ghost use Rattle.macho_image.specs.Layout.{u32_le_at};
 ghost use Rattle.macho_image.specs.Commands.{IsCommand, HasRoom};
 ghost use Rattle.macho_image.specs.Inner.{HasNoCommand};
 ghost use Rattle.macho_image.specs.Kinds.{load_command};
@@ -11,41 +11,7 @@ use crate::number::number32;
 use crate::segment::SegmentCommand64;
 use crate::symtab_command::{Symtab, symtab_in};
 use crate::uuid_command::uuid_in;
-use std::marker::Model;
 use uuid::Uuid;
-
-/// A command of another kind. A contract sees it as its bytes.
-#[derive(Drop)]
-pub struct OtherCommand<'a> {
-    bytes: &'a [u8],
-}
-
-impl<'a> Model for OtherCommand<'a> {
-    ghost use Rattle.std.specs.Prelude.{ℕ, List, ◌≤◌, length};
-
-    ghost Value = { List ℕ };
-
-    ghost view = { λ c. c.bytes.now };
-
-    ghost invariant = { λ c. 8 ≤ length c.bytes.now };
-}
-
-impl<'a> OtherCommand<'a> {
-    /// `cmd`: the kind.
-    pub fn cmd(&self) -> u32
-        ensures { result ≡ u32_at self.now 0 }
-    {
-        cmd(self.bytes)
-    }
-
-    /// All its bytes, `cmd` and `cmdsize` first.
-    pub fn bytes(&self) -> &'a [u8]
-        ensures bytes { result.now ≡ self.now }
-        ensures long { 8 ≤ length self.now }
-    {
-        self.bytes
-    }
-}
 
 /// A load command, by its `cmd`.
 #[derive(Drop)]
@@ -57,13 +23,13 @@ pub enum LoadCommand<'a> {
     /// LC_SYMTAB: where the symbol table and its strings lie.
     Symtab(Symtab),
     /// Any other.
-    Other(OtherCommand<'a>),
+    Other,
 }
 
 /// `cmd`: the kind of a command.
 pub(crate) fn cmd(command: &[u8]) -> u32
     requires { 8 ≤ length command.now }
-    ensures { result ≡ u32_at command.now 0 }
+    ensures { result ≡ u32_le_at command.now 0 }
 {
     number32(command, 0)
 }
@@ -87,16 +53,16 @@ pub(crate) fn split_command(bytes: &[u8]) -> Option<(&[u8], &[u8])>
 impl<'a> LoadCommand<'a> {
     /// The command of these bytes, which stand at a place of the image.
     #[tactic(auto, unfolding(crate::specs::Kinds::load_command))]
-    pub(crate) fn of(index: u32, bytes: &'a [u8]) -> LoadCommand<'a>
+    pub(crate) fn of(offset: u32, bytes: &'a [u8]) -> LoadCommand<'a>
         requires room { HasRoom bytes.now }
-        requires small { index + length bytes.now < 2 ^ 32 }
-        ensures { result ≡ load_command index bytes.now }
+        requires small { offset + length bytes.now < 2 ^ 32 }
+        ensures { result ≡ load_command offset bytes.now }
     {
         match cmd(bytes) {
-            LC_SEGMENT_64 => LoadCommand::Segment(SegmentCommand64::of(index, bytes)),
+            LC_SEGMENT_64 => LoadCommand::Segment(SegmentCommand64::of(offset, bytes)),
             LC_UUID => LoadCommand::Uuid(uuid_in(bytes)),
             LC_SYMTAB => LoadCommand::Symtab(symtab_in(bytes)),
-            _ => LoadCommand::Other(OtherCommand { bytes }),
+            _ => LoadCommand::Other,
         }
     }
 }

@@ -11,7 +11,7 @@ use std::marker::Model;
 /// The load commands of an image, in order. A contract sees the list of those that are left.
 #[derive(Drop)]
 pub struct LoadCommands<'a> {
-    index: u32,
+    offset: u32,
     rest: &'a [u8],
     left: u32,
 }
@@ -26,21 +26,21 @@ impl<'a> Model for LoadCommands<'a> {
     ghost use Rattle.macho_image.specs.Commands.{HasRoom, first_commands};
     ghost use Rattle.macho_image.specs.Kinds.{load_commands_from};
 
-    ghost view = { λ c. load_commands_from c.index (first_commands c.left c.rest.now) };
+    ghost view = { λ c. load_commands_from c.offset (first_commands c.left c.rest.now) };
 
-    ghost invariant = { λ c. (c.index + length c.rest.now < 2 ^ 32)
+    ghost invariant = { λ c. (c.offset + length c.rest.now < 2 ^ 32)
         × AllByRecursion HasRoom (first_commands c.left c.rest.now) };
 }
 
 impl<'a> LoadCommands<'a> {
     /// So many, from the first of the bytes on, which stand at a place of the image.
-    pub(crate) fn new(index: u32, bytes: &'a [u8], count: u32) -> LoadCommands<'a>
+    pub(crate) fn new(offset: u32, bytes: &'a [u8], count: u32) -> LoadCommands<'a>
         requires room { AllByRecursion HasRoom (first_commands count bytes.now) }
-        requires small { index + length bytes.now < 2 ^ 32 }
-        ensures { result ≡ load_commands_from index (first_commands count bytes.now) }
+        requires small { offset + length bytes.now < 2 ^ 32 }
+        ensures { result ≡ load_commands_from offset (first_commands count bytes.now) }
     {
         LoadCommands {
-            index,
+            offset,
             rest: bytes,
             left: count,
         }
@@ -65,8 +65,8 @@ impl<'a> Iterator for LoadCommands<'a> {
             self.left = 0;
             return None;
         };
-        let command = LoadCommand::of(self.index, bytes);
-        self.index += bytes.len() as u32;
+        let command = LoadCommand::of(self.offset, bytes);
+        self.offset += bytes.len() as u32;
         self.rest = rest;
         self.left -= 1;
         Some(command)

@@ -25,10 +25,10 @@ fn before_nul(field: &[u8]) -> &[u8]
 }
 
 /// The name in the sixteen bytes from a place.
-pub(crate) fn name(bytes: &[u8], index: usize) -> &[u8]
-    requires { index + 16 ≤ length bytes.now }
-    ensures { result.now ≡ name_at bytes.now index }
+pub(crate) fn name(bytes: &[u8], offset: usize) -> &[u8]
+    requires { offset + 16 ≤ length bytes.now }
+    ensures { result.now ≡ name_at bytes.now offset }
 {
-    let (_, field) = bytes.split_at(index);
+    let (_, field) = bytes.split_at(offset);
     before_nul(&field[..NAME_LEN])
 }

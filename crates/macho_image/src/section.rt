@@ -11,7 +11,7 @@ use crate::number::number64;
 #[derive(Clone, Copy, Debug, PartialEq, Eq)]
 pub struct Section<'a> {
     /// Where its `section_64` stands, in bytes from the start of the image.
-    pub index: u32,
+    pub offset: u32,
     /// `segname`: the name of its segment, as the section itself tells it, at most 16 bytes and without NUL.
     pub segment: &'a [u8],
     /// `sectname`: its own name, at most 16 bytes and without NUL.
@@ -25,24 +25,24 @@ pub struct Section<'a> {
 impl<'a> Section<'a> {
     ghost use Rattle.macho_image.specs.SectionViews.{section_view};
 
-    /// The section whose `section_64` stands at a place of the image, as `index` of a section of that image
+    /// The section whose `section_64` stands at a place of the image, as `offset` of a section of that image
     /// told it.
     #[tactic(auto, unfolding(crate::specs::Sections::section_at))]
-    pub fn at(image: &'a [u8], index: u32) -> Section<'a>
-        requires { index + 80 ≤ length image.now }
-        ensures { section_view result ≡ section_at image.now index }
+    pub fn at(image: &'a [u8], offset: u32) -> Section<'a>
+        requires { offset + 80 ≤ length image.now }
+        ensures { section_view result ≡ section_at image.now offset }
     {
-        Section::first_of(index, image.split_at(index as usize).1)
+        Section::first_of(offset, image.split_at(offset as usize).1)
     }
 
     /// The section that the first 80 bytes tell, which stand at a place of the image.
     #[tactic(auto, unfolding(crate::specs::Sections::section_record))]
-    pub(crate) fn first_of(index: u32, bytes: &'a [u8]) -> Section<'a>
+    pub(crate) fn first_of(offset: u32, bytes: &'a [u8]) -> Section<'a>
         requires { 80 ≤ length bytes.now }
-        ensures { section_view result ≡ section_record index bytes.now }
+        ensures { section_view result ≡ section_record offset bytes.now }
     {
         Section {
-            index,
+            offset,
             segment: name(bytes, 16),
             section: name(bytes, 0),
             addr: number64(bytes, 32),

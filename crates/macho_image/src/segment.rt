@@ -1,7 +1,7 @@
 //! `segment_command_64`: the command LC_SEGMENT_64, and the sections behind it.
 
 ghost use Rattle.std.specs.Prelude.{◌≡◌, ◌*◌, ◌+◌, ◌<◌, ◌≤◌, ◌^◌, [], length, nat_lt};
-ghost use Rattle.macho_image.specs.Layout.{name_at, u64_at};
+ghost use Rattle.macho_image.specs.Layout.{name_at, u64_le_at};
 ghost use Rattle.macho_image.specs.Commands.{nsects};
 ghost use Rattle.macho_image.specs.Sections.{is_text, sections_in};
 
@@ -32,7 +32,7 @@ pub(crate) fn is_short(segment: &[u8]) -> bool
 /// A segment, which has room for its sections. A contract sees its place in the image, and its bytes.
 #[derive(Drop)]
 pub struct SegmentCommand64<'a> {
-    index: u32,
+    offset: u32,
     bytes: &'a [u8],
 }
 
@@ -42,36 +42,21 @@ impl<'a> Model for SegmentCommand64<'a> {
 
     ghost Value = { SegmentRecord };
 
-    ghost view = { λ s. record { index = s.index; bytes = s.bytes.now } };
+    ghost view = { λ s. record { offset = s.offset; bytes = s.bytes.now } };
 
     ghost invariant = { λ s. (72 + 80 * nsects s.bytes.now ≤ length s.bytes.now)
-        × (s.index + length s.bytes.now < 2 ^ 32) };
+        × (s.offset + length s.bytes.now < 2 ^ 32) };
 }
 
 impl<'a> SegmentCommand64<'a> {
     /// The segment of these bytes, which stand at a place of the image.
-    pub(crate) fn of(index: u32, bytes: &'a [u8]) -> SegmentCommand64<'a>
+    pub(crate) fn of(offset: u32, bytes: &'a [u8]) -> SegmentCommand64<'a>
         requires room { 72 + 80 * nsects bytes.now ≤ length bytes.now }
-        requires small { index + length bytes.now < 2 ^ 32 }
-        ensures index { result.index ≡ index }
+        requires small { offset + length bytes.now < 2 ^ 32 }
+        ensures offset { result.offset ≡ offset }
         ensures bytes { result.bytes ≡ bytes.now }
     {
-        SegmentCommand64 { index, bytes }
-    }
-
-    /// Where it stands, in bytes from the start of the image.
-    pub fn index(&self) -> u32
-        ensures { result ≡ self.now.index }
-    {
-        self.index
-    }
-
-    /// All its bytes, those of its sections among them.
-    pub fn bytes(&self) -> &'a [u8]
-        ensures bytes { result.now ≡ self.now.bytes }
-        ensures room { 72 + 80 * nsects self.now.bytes ≤ length self.now.bytes }
-    {
-        self.bytes
+        SegmentCommand64 { offset, bytes }
     }
 
     /// `segname`: its name, at most 16 bytes and without NUL.
@@ -91,7 +76,7 @@ impl<'a> SegmentCommand64<'a> {
 
     /// `vmaddr`: its first address.
     pub fn vmaddr(&self) -> u64
-        ensures { result ≡ u64_at self.now.bytes 24 }
+        ensures { result ≡ u64_le_at self.now.bytes 24 }
     {
         number64(self.bytes, 24)
     }
@@ -102,7 +87,7 @@ impl<'a> SegmentCommand64<'a> {
         ensures { result ≡ sections_in self.now }
     {
         SegmentSections {
-            index: self.index + SEGMENT_COMMAND_64_LEN as u32,
+            offset: self.offset + SEGMENT_COMMAND_64_LEN as u32,
             rest: self.bytes.split_at(SEGMENT_COMMAND_64_LEN).1,
             left: nsects(self.bytes),
         }
@@ -112,7 +97,7 @@ impl<'a> SegmentCommand64<'a> {
 /// The sections of one segment. A contract sees the list of those that are left.
 #[derive(Drop)]
 pub struct SegmentSections<'a> {
-    index: u32,
+    offset: u32,
     rest: &'a [u8],
     left: u32,
 }
@@ -123,9 +108,9 @@ impl<'a> Model for SegmentSections<'a> {
 
     ghost Value = { List SectionRecord };
 
-    ghost view = { λ s. section_records s.left s.index s.rest.now };
+    ghost view = { λ s. section_records s.left s.offset s.rest.now };
 
-    ghost invariant = { λ s. (80 * s.left ≤ length s.rest.now) × (s.index + length s.rest.now < 2 ^ 32) };
+    ghost invariant = { λ s. (80 * s.left ≤ length s.rest.now) × (s.offset + length s.rest.now < 2 ^ 32) };
 }
 
 impl<'a> SegmentSections<'a> {
@@ -135,7 +120,7 @@ impl<'a> SegmentSections<'a> {
         ensures { result ≡ [] }
     {
         SegmentSections {
-            index: 0,
+            offset: 0,
             rest: &[],
             left: 0,
         }
@@ -157,8 +142,8 @@ impl<'a> Iterator for SegmentSections<'a> {
         if self.left == 0 {
             return None;
         }
-        let section = Section::first_of(self.index, self.rest);
-        self.index += SECTION_64_LEN as u32;
+        let section = Section::first_of(self.offset, self.rest);
+        self.offset += SECTION_64_LEN as u32;
         self.rest = self.rest.split_at(SECTION_64_LEN).1;
         self.left -= 1;
         Some(section)

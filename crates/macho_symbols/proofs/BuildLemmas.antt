@@ -75,14 +75,6 @@ cut_next rows index end sorted cut some within beside other i j d l m h = by_pla
         beside_first (slice_index_or rows i d) (slice_index_or rows index d) (slice_index_or rows j d) (beside i d k l)
         (far (slice_index_or rows index d) (slice_index_or rows end d) (slice_index_or rows j d) onward (from_end (cases_lt end j)))
 
--- before the first
-pub firsts_start : (strings : List ℕ) (rows others : List Candidate) → AreFirsts strings (take 0 rows) (take 0 others)
-firsts_start strings rows others = record {
-  members = λ r h. absurd (omega (arith, h.1));
-  each = λ c h. absurd (omega (arith, h.1));
-  falling = λ i j d l h. absurd (omega (arith, h));
-}
-
 -- in a piece of a list
 in_piece : (rows : List Candidate) (index size : ℕ) (c : Candidate) → Contains (take size (drop index rows)) c
     → (k : ℕ) × (index ≤ k) × (k < index + size) × (k < length rows) × (slice_index_or rows k c ≡ c)

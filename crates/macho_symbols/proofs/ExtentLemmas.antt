@@ -60,8 +60,8 @@ module _ (image : List ℕ) (extents : List Extent) (are : AreExtents image exte
 
   -- the section of a number stands in the image at the place of its extent
   pub record IsThere (number : ℕ) (extent : Extent) : Type 0 where
-    pub room : extent.index + 80 ≤ length image
-    pub is : section_of image number ≡ Some (section_at image extent.index)
+    pub room : extent.offset + 80 ≤ length image
+    pub is : section_of image number ≡ Some (section_at image extent.offset)
 
   pub section_is : (number : ℕ) (d : Extent) → 0 < number → number ≤ length extents → IsThere number (slice_index_or extents (number - 1) d)
   section_is zero d h l = absurd (omega arith)
@@ -73,7 +73,7 @@ module _ (image : List ℕ) (extents : List Extent) (are : AreExtents image exte
       by_section : (o : Option SectionRecord) (e : Extent) → slice_get (sections image) i ≡ o → option_map extent_of o ≡ Some e → IsThere (suc i) e
       by_section None e at h = absurd (none-some e h)
       by_section (Some s) e at h =
-          let same : s.index ≡ e.index = ap (λ x. x.index) (some_same (extent_of s) e h) in
+          let same : s.offset ≡ e.offset = ap (λ x. x.offset) (some_same (extent_of s) e h) in
           let stands = all_at (IsSectionOf image) (sections image) i s are.each at in
           record {
             room = omega (arith, same, stands.room);

@@ -157,32 +157,3 @@ stands_below image address c h = below c.value address (is_in_section image c.se
   where
     below : (a b : ℕ) (more : Bool) → (nat_le a b && more) ≡ true → a ≤ b
     below a b more h = grind (arith, nat_tests)
-
-in_place : (P : Tuple → Type 0) (xs : List Tuple) (c : Tuple) → AllByRecursion P xs → In xs c → P c
-in_place P [] c all h = absurd h
-in_place P (x ∷ xs) c all (inl e) = subst P e all.0
-in_place P (x ∷ xs) c all (inr h) = in_place P xs c all.1 h
-
--- The first of some candidates is the nearest, where these can all stand for the address and each other one comes after one of them.
--- So of the sections that have the address it is enough to look at the first row of each.
-pub nearest_among : (image : List ℕ) (address : ℕ) (firsts : List Tuple) → ((c : Tuple) → In firsts c → StandsFor image address c)
-    → ((c : Tuple) → StandsFor image address c → (f : Tuple) × In firsts f × UpTo f c) → IsNearest image address (keep image address None firsts)
-nearest_among image address firsts stand cover = found (keep image address None firsts) (kept_all image address None firsts)
-  where
-    found : (r : Option Tuple) → Kept image address None firsts r → IsNearest image address r
-    found None kept = λ c h.
-        let f = cover c h in
-        in_place (λ d. can_stand_for image address d ≡ true → ⊥) firsts f.0 kept.1 f.1 (stand f.0 f.1).1
-    found (Some c) kept = record {
-      member = member kept.0;
-      first = λ d h.
-          let f = cover d h in
-          not_less c d (upto tuples_total c f.0 d (in_place (λ d. can_stand_for image address d ≡ true → UpTo c d) firsts f.0 kept.1 f.1 (stand f.0 f.1).1) f.2);
-    }
-      where
-        member : ((None ≡ Some c) ⊎ (In firsts c × (can_stand_for image address c ≡ true))) → StandsFor image address c
-        member (inl e) = absurd (none_some e)
-          where
-            none_some : None ≡ Some c → ⊥
-            none_some e = cc
-        member (inr h) = stand c h.0

@@ -6,7 +6,7 @@ use Rattle.macho_symbols.specs.declared.extents.Extent.{Extent}
 
 -- the extent of a section: its addresses, and its place in the image
 abbrev pub extent_of : SectionRecord → Extent
-extent_of section = record { addr = section.addr; size = section.size; index = section.index }
+extent_of section = record { addr = section.addr; size = section.size; offset = section.offset }
 
 -- these are the extents of the sections that a symbol can name: nlist_64.n_sect is a byte and counts from 1; the
 -- sections stand in the image at their places

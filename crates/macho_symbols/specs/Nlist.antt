@@ -1,6 +1,6 @@
 -- nlist_64: an entry of the symbol table, sixteen bytes (mach-o/nlist.h).
 use Rattle.std.specs.Prelude.{ℕ, List, ◌≡◌, length, slice_index}
-use Rattle.macho_image.specs.Layout.{u32_at, u64_at}
+use Rattle.macho_image.specs.Layout.{u32_le_at, u64_le_at}
 
 -- the bytes of an entry
 abbrev pub IsEntry : List ℕ → Type 0
@@ -8,7 +8,7 @@ IsEntry entry = length entry ≡ 16
 
 -- nlist_64.n_strx: where the name begins in the string table
 abbrev pub n_strx : List ℕ → ℕ
-n_strx entry = u32_at entry 0
+n_strx entry = u32_le_at entry 0
 
 -- nlist_64.n_type: what the entry is, in bits
 abbrev pub n_type : List ℕ → ℕ
@@ -20,4 +20,4 @@ n_sect entry = slice_index entry 5
 
 -- nlist_64.n_value: the address
 abbrev pub n_value : List ℕ → ℕ
-n_value entry = u64_at entry 8
+n_value entry = u64_le_at entry 8

@@ -16,7 +16,7 @@ use memory::{Heap, NoMemory};
 pub(crate) struct Extent {
     addr: u64,
     size: u64,
-    index: u32,
+    offset: u32,
 }
 
 impl Extent {
@@ -27,7 +27,7 @@ impl Extent {
         Extent {
             addr: section.addr,
             size: section.size,
-            index: section.index,
+            offset: section.offset,
         }
     }
 
@@ -40,10 +40,10 @@ impl Extent {
 
     /// Its section, as the image tells it.
     fn section<'b>(&self, image: &'b [u8]) -> Section<'b>
-        requires { self.now.index + 80 ≤ length image.now }
-        ensures { section_view result ≡ section_at image.now self.now.index }
+        requires { self.now.offset + 80 ≤ length image.now }
+        ensures { section_view result ≡ section_at image.now self.now.offset }
     {
-        Section::at(image, self.index)
+        Section::at(image, self.offset)
     }
 }
 

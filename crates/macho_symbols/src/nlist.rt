@@ -28,7 +28,7 @@ pub(crate) const NO_SECT: u8 = 0;
 pub(crate) const MAX_SECT: u8 = 255;
 
 /// `n_strx`: where the name begins in the string table.
-#[tactic(auto, unfolding(macho_image::specs::Layout::u32_at))]
+#[tactic(auto, unfolding(macho_image::specs::Layout::u32_le_at))]
 pub(crate) fn n_strx(entry: &[u8]) -> u32
     requires { 16 ≤ length entry.now }
     ensures { result ≡ n_strx entry.now }
@@ -53,7 +53,7 @@ pub(crate) fn n_sect(entry: &[u8]) -> u8
 }
 
 /// `n_value`: the address.
-#[tactic(auto, unfolding(macho_image::specs::Layout::u64_at))]
+#[tactic(auto, unfolding(macho_image::specs::Layout::u64_le_at))]
 pub(crate) fn n_value(entry: &[u8]) -> u64
     requires { 16 ≤ length entry.now }
     ensures { result ≡ n_value entry.now }

@@ -84,8 +84,8 @@ fn collect_keys(heap: Heap, scan: &Scan<'_>) -> Result<Vec<u64, Heap>, NoMemory>
     Ok(keys)
 }
 
-/// The keys of these entries, sorted. Names are looked at behind that, since the order of addresses is nearly that of the
-/// string table.
+/// The keys of these entries, sorted. Names are looked at after that, since the order of addresses is nearly that of
+/// the string table.
 pub(crate) fn sorted_keys(heap: Heap, scan: &Scan<'_>) -> Result<Vec<u64, Heap>, NoMemory>
     ensures { IfOk result (λ keys. HasEach scan.now keys.items) }
 {

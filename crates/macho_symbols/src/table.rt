@@ -65,8 +65,8 @@ impl AddressTable {
     ghost use Rattle.macho_symbols.specs.Table.{IsTableOf};
 
     /// The table of an image. It has 16 bytes for each section and value that candidates have, 24 for each
-    /// section, and 8 for each 4096 of the string table; while it is built, 16 for each entry that is a candidate but for
-    /// its name, and 8 for each entry. `NoMemory` where a growth was refused.
+    /// section, and 8 for each 4096 of the string table; while it is built, 16 for each entry that is a candidate but
+    /// for its name, and 8 for each entry. `NoMemory` where a growth was refused.
     pub fn build(heap: Heap, symbols: &Symbols<'_>) -> Result<AddressTable, NoMemory>
         ensures { IfOk result (λ table. IsTableOf table symbols.now) }
     {

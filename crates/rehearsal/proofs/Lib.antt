@@ -2,4 +2,5 @@ pub mod NumberLemmas
 pub mod Sequels
 pub mod Places
 pub mod Meant
+pub mod Faulty
 pub mod EventLemmas

@@ -1,6 +1,6 @@
 -- Which bytes are a script, and what is wrong with the others.
-use Rattle.std.specs.Prelude.{◌≡◌, ◌+◌, ℕ, ◌≤◌, List, [], ◌∷◌, length, nat_lt, if◌then◌else◌, map, ⊤}
-use Rattle.std.specs.Prelude.{Option, Some, None, Result, Ok, Err}
+use Rattle.std.specs.Prelude.{◌≡◌, ◌+◌, ℕ, ◌≤◌, ◌⊎◌, List, [], ◌∷◌, ◌++◌, length, nat_lt, if◌then◌else◌, map, ⊤}
+use Rattle.std.specs.Prelude.{Option, Some, None, IsSome, Result, Ok, Err}
 use Rattle.archive_exchange.specs.declared.event.Event.{Event}
 use Rattle.rehearsal.specs.Events.{Act, act_of, line_act, line_sites}
 use Rattle.archive_words.specs.Lines.{Line, counting, line_count}
@@ -62,11 +62,48 @@ abbrev pub IsErrorOf : {T : Type 0} → Result T Wrong → ScriptError → Type 
 IsErrorOf read (Faulty fault line) = read ≡ Err (fault, line)
 IsErrorOf read OutOfMemory = ⊤
 
+-- ---- scripts and their faults, by lines
+
+-- these lines are these events, one a line
+abbrev pub AreEvents : List (ℕ × Line) → List Act → Type 0
+AreEvents lines events = map (λ l. line_act l.1) lines ≡ map Some events
+
 -- the first line that counts says how many sites, each further one is the next of these events, and they are few enough
 pub record IsScript (bytes : List ℕ) (sites : ℕ) (events : List Act) : Type 0 where
   pub first : ℕ × Line
   pub further : List (ℕ × Line)
   pub lines : counting bytes ≡ first ∷ further
   pub asked : line_sites first.1 ≡ Some sites
-  pub meant : map (λ l. line_act l.1) further ≡ map Some events
+  pub meant : AreEvents further events
   pub few : length events ≤ most_events
+
+-- no line counts, and this is the number of lines plus one; or the first line that counts says no sites, and this is
+-- its number, counted from 1
+abbrev pub SaysNoSites : List ℕ → ℕ → Type 0
+SaysNoSites bytes number =
+    ((counting bytes ≡ []) × (number ≡ line_count bytes + 1))
+    ⊎ ((first : ℕ × Line) × (further : List (ℕ × Line)) × (counting bytes ≡ first ∷ further)
+    × (line_sites first.1 ≡ None) × (number ≡ first.0 + 1))
+
+-- a line that counts and has this number, counted from 1: the first one says how many sites, and those between are
+-- events, few enough
+pub record IsReached (bytes : List ℕ) (number : ℕ) : Type 0 where
+  pub first : ℕ × Line
+  pub between : List (ℕ × Line)
+  pub line : ℕ × Line
+  pub after : List (ℕ × Line)
+  pub lines : counting bytes ≡ first ∷ (between ++ line ∷ after)
+  pub sites : ℕ
+  pub asked : line_sites first.1 ≡ Some sites
+  pub events : List Act
+  pub meant : AreEvents between events
+  pub few : length events ≤ most_events
+  pub number_is : number ≡ line.0 + 1
+
+-- this is wrong with the first faulty line, which has this number: it says no sites; or it is reached and no event; or
+-- it is reached after as many events as there may be, and is one more
+abbrev pub IsFirstFault : List ℕ → ScriptFault → ℕ → Type 0
+IsFirstFault bytes NoSites number = SaysNoSites bytes number
+IsFirstFault bytes BadEvent number = (at : IsReached bytes number) × (line_act at.line.1 ≡ None)
+IsFirstFault bytes TooManyEvents number =
+    (at : IsReached bytes number) × (length at.events ≡ most_events) × IsSome (line_act at.line.1)

@@ -30,13 +30,13 @@ use Rattle.report_text.specs.Finds.{Group, with_row, groups}
 use Rattle.report_text.proofs.Grouped.{same_key, key_is_same}
 
 arch_total : IsTotalOrder arch_cmp
-arch_total = then_total (on_total (λ arch. arch.cputype) nat_cmp_total) (on_total (λ arch. arch.subtype) nat_cmp_total)
+arch_total = then_total (on_total (λ arch. arch.cputype) nat_cmp_total) (on_total (λ arch. arch.cpusubtype) nat_cmp_total)
 
 key_total : IsTotalOrder key_cmp
 key_total = then_total (on_texts (λ key. key.uuid)) (on_total (λ key. key.arch) arch_total)
 
 arch_tied : (a b : ArchKey) → is_arch a b ≡ is_eq (arch_cmp a b)
-arch_tied a b = both_tied (a.cputype == b.cputype) (a.subtype == b.subtype) (nat_cmp a.cputype b.cputype) (nat_cmp a.subtype b.subtype) (sym (unsigned_tied a.cputype b.cputype)) (sym (unsigned_tied a.subtype b.subtype))
+arch_tied a b = both_tied (a.cputype == b.cputype) (a.cpusubtype == b.cpusubtype) (nat_cmp a.cputype b.cputype) (nat_cmp a.cpusubtype b.cpusubtype) (sym (unsigned_tied a.cputype b.cputype)) (sym (unsigned_tied a.cpusubtype b.cpusubtype))
 
 tied : (a b : SliceKey) → is_key a b ≡ is_eq (key_cmp a b)
 tied a b = both_tied (bytes_eq a.uuid b.uuid) (is_arch a.arch b.arch) (slice_cmp nat_cmp a.uuid b.uuid) (arch_cmp a.arch b.arch) (sym (is_eq-slice_cmp a.uuid b.uuid)) (arch_tied a.arch b.arch)

@@ -15,11 +15,11 @@ use Rattle.report_text.specs.Report.{line}
 pub same_key : (a b : SliceKey) → is_key a b ≡ true → a ≡ b
 same_key a b e =
     let parts = and_parts (bytes_eq a.uuid b.uuid) (is_arch a.arch b.arch) e in
-    let numbers = and_parts (a.arch.cputype == b.arch.cputype) (a.arch.subtype == b.arch.subtype) parts.1 in
+    let numbers = and_parts (a.arch.cputype == b.arch.cputype) (a.arch.cpusubtype == b.arch.cpusubtype) parts.1 in
     let uuid : a.uuid ≡ b.uuid = (bytes_eq-Decides a.uuid b.uuid).0 parts.0 in
     let cputype : a.arch.cputype ≡ b.arch.cputype = eqb-true a.arch.cputype b.arch.cputype numbers.0 in
-    let subtype : a.arch.subtype ≡ b.arch.subtype = eqb-true a.arch.subtype b.arch.subtype numbers.1 in
-    λ i. record { uuid = uuid i; arch = record { cputype = cputype i; subtype = subtype i } }
+    let cpusubtype : a.arch.cpusubtype ≡ b.arch.cpusubtype = eqb-true a.arch.cpusubtype b.arch.cpusubtype numbers.1 in
+    λ i. record { uuid = uuid i; arch = record { cputype = cputype i; cpusubtype = cpusubtype i } }
 
 -- how many rows behind one of this key are of it
 abbrev pub len_behind : SliceKey → List FindRow → ℕ
@@ -63,7 +63,7 @@ groups_cut row [] = refl
 groups_cut row (next ∷ rows) = groups-cons row (next ∷ rows) ∙ ap (with_row row) (groups_cut next rows) ∙ step row next rows (is_key next.key row.key) refl (groups_cut next rows)
 
 pub key_is_same : (key : SliceKey) → is_key key key ≡ true
-key_is_same key = rw ((bytes_eq-Decides key.uuid key.uuid).1 refl, eq-eqb key.arch.cputype key.arch.cputype refl, eq-eqb key.arch.subtype key.arch.subtype refl) refl
+key_is_same key = rw ((bytes_eq-Decides key.uuid key.uuid).1 refl, eq-eqb key.arch.cputype key.arch.cputype refl, eq-eqb key.arch.cpusubtype key.arch.cpusubtype refl) refl
 
 -- fewer rows are left behind the first group
 pub fewer_behind : (first : FindRow) (rows others : List FindRow) (n : ℕ) → Some first ≡ slice_get rows 0 → n ≡ len_behind first.key rows → others ≡ drop n rows → length others < length rows

@@ -4,7 +4,7 @@ use Rattle.std.proofs.lemmas.Result.{err_from_is_err_and}
 use Rattle.byte_device.proofs.Known.{Appends-none}
 use Rattle.crash_frames.specs.declared.frame.Frame.{Frame}
 use Rattle.archive_commands.specs.declared.asked_frames.AskedFrame.{AskedFrame}
-use Rattle.archive_commands.specs.InnerFrames.{AreLines, IsTold}
+use Rattle.archive_commands.specs.InnerFrames.{AreLines, IsFrameTold}
 use Rattle.std.specs.List.{AllZip}
 use Rattle.archive_commands.proofs.Framed.{frames_refused, frames_told, none_told, pieces, told_to_the_end}
 use Rattle.archive_commands.proofs.Endings.{reported}
@@ -50,7 +50,7 @@ returns g c =
     let h = c.in_ok-told.ensures.answered in
     let are = told_to_the_end h.content frames questions.left.now told.left.now (length questions.told.items) told.told.items text (subst (λ (asked : List AskedFrame). AreLines frames asked) (sym left_is) c.in_ok-asked.ensures.lines)
     (c.in_ok-questions.ensures.told ∙ ap length c.deref-2.ensures.value ∙ c.in_ok-asked.ensures.long) h.is_true.0 h.is_true.1 in
-    let said = subst (λ (fs : List Frame). AllZip (IsTold h.content text) fs told.told.items) c.deref.ensures.value are in
+    let said = subst (λ (fs : List Frame). AllZip (IsFrameTold h.content text) fs told.told.items) c.deref.ensures.value are in
     reported _ _ _ _ c.publish_bytes.result _ _ (c.in_ok-frames.ensures.unfailed, c.in_ok-told.ensures.unfailed)
     (record {
       said = c.in_ok-frames.frames.items;

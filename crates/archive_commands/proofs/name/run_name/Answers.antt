@@ -15,7 +15,7 @@ returns g c =
       is_content = held.is_content;
       archive_is = held.text;
       names = held.is_true;
-      status_is = c.status_of.ensures ∙ ap (λ rows. name_status (map owned_name_view rows)) c.deref-2.ensures.value;
+      status_is = c.status_of_names.ensures ∙ ap (λ rows. name_status (map owned_name_view rows)) c.deref-2.ensures.value;
       text_is = c.deref-3.ensures ∙ c.in_ok-text.ensures ∙ ap (λ rows. name_lines (map owned_name_view rows)) c.deref.ensures.value;
     })
     c.publish_report.ensures

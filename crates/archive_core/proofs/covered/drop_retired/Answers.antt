@@ -33,11 +33,11 @@ index-requires c = omega (arith, no_shorter _ _ _ c.loop-index.index c.loop-inde
 pub drop_at-requires : goal.drop_at-requires
 drop_at-requires c = omega (arith, no_shorter _ _ _ c.loop-index.index c.loop-index.invariant.old c.loop-index.invariant.items)
 
-pub loop-index-preserved-then-covers : goal.loop-index-preserved-then-covers
-loop-index-preserved-then-covers c =
+pub loop-index-preserved-then-retires_operation : goal.loop-index-preserved-then-retires_operation
+loop-index-preserved-then-retires_operation c =
     let kept = left_by c.args.key.now c.args.digest.now in
     let only = c.of-by.ensures ∙ ap (λ (o : Operation). from_list (map record_bytes (o ∷ []))) c.retirement.ensures.retirement in
-    let test : kept c.index.result.now ≡ false = ap (λ s. not (is_covered s (record_bytes c.index.result.now))) (sym only) ∙ ap not (sym c.covers.ensures ∙ c.if-covers.true) in
+    let test : kept c.index.result.now ≡ false = ap (λ s. not (is_covered s (record_bytes c.index.result.now))) (sym only) ∙ ap not (sym c.retires_operation.ensures ∙ c.if-retires_operation.true) in
     record {
       from = omega arith;
       old = omega (arith, c.loop-index.invariant.old);
@@ -48,7 +48,7 @@ pub loop-index-preserved : goal.loop-index-preserved
 loop-index-preserved c =
     let kept = left_by c.args.key.now c.args.digest.now in
     let only = c.of-by.ensures ∙ ap (λ (o : Operation). from_list (map record_bytes (o ∷ []))) c.retirement.ensures.retirement in
-    let test : kept c.index.result.now ≡ true = ap (λ s. not (is_covered s (record_bytes c.index.result.now))) (sym only) ∙ ap not (sym c.covers.ensures ∙ c.if-covers.false) in
+    let test : kept c.index.result.now ≡ true = ap (λ s. not (is_covered s (record_bytes c.index.result.now))) (sym only) ∙ ap not (sym c.retires_operation.ensures ∙ c.if-retires_operation.false) in
     record {
       from = omega arith;
       old = omega (arith, c.loop-index.invariant.old);

@@ -7,7 +7,7 @@ pub returns-clause-part : goal.returns-clause-part
 returns-clause-part c = part_of_list
 
 pub returns-clause-found : goal.returns-clause-found
-returns-clause-found c = λ o uuid rows found list finds. c.one_find.ensures o uuid found (rows_under uuid rows) finds (part_of_list o uuid rows list)
+returns-clause-found c = λ o uuid rows found list finds. c.one_find.ensures.one o uuid found (rows_under uuid rows) finds (part_of_list o uuid rows list)
 
 pub returns-clause-parts : goal.returns-clause-parts
 returns-clause-parts c = parts_in_order

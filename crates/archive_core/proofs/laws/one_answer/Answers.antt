@@ -1,16 +1,15 @@
 use Rattle.std.proofs.Common.{◌≡◌, ◌≤◌, ℕ, List, [], ◌∷◌, length, Option, Some, None, MatchOption, refl, sym, ap, ◌∙◌, subst, arith}
 use Rattle.std.specs.Option.{option_map}
 use Rattle.std.specs.List.{AllZip}
-use Rattle.std.specs.Cmp.Lexicographic.{on_texts}
+use Rattle.sha2.specs.Sha256.{sha256}
 use Rattle.macho_symbols.specs.Symbols.{Tuple}
 use Rattle.macho_symbols.specs.Nearest.{IsNearest}
 use Rattle.macho_symbols.specs.Found.{FoundRecord, found_of, FindsNearest}
-use Rattle.archive_core.specs.Record.{admission_record}
 use Rattle.archive_core.specs.Content.{Operations}
 use Rattle.archive_core.specs.Lookup.{file_address, IsOwn, OwnRow, IsOwnRow, AnswerRecord, Unanswered, Alone, Disputed, IsAnswerOf, IsAnswer}
 use Rattle.archive_core.specs.declared.keys.SliceKey.{SliceKey}
 use Rattle.archive_core.specs.declared.lookup.Where.{Where}
-use Rattle.archive_core.proofs.Scanned.{one_with_members}
+use Rattle.archive_core.proofs.Answerers.{some_answering, one_answering}
 use Rattle.archive_core.proofs.laws.one_answer.Goals as goal
 
 -- no list has too few and too many
@@ -59,9 +58,37 @@ module _ (one : (image : List ℕ) (address : ℕ) (found other : Option Tuple) 
 
   one_answer : (o : Operations) (key : SliceKey) (asked : Where) (answer other : AnswerRecord) → IsAnswer o key asked answer → IsAnswer o key asked other → answer ≡ other
   one_answer o key asked answer other a b =
-      let same = one_with_members (on_texts admission_record) a.slices b.slices a.answering.ascending b.answering.ascending
-      (λ s h. (b.answering.exactly s).1 ((a.answering.exactly s).0 h)) (λ s h. (a.answering.exactly s).1 ((b.answering.exactly s).0 h)) in
+      let same = one_answering o key a.slices b.slices a.answering b.answering in
       one_answer_of asked a.slices answer other a.answer_is (subst (λ slices. IsAnswerOf asked slices other) (sym same) b.answer_is)
 
+module _ (near : (image : List ℕ) (address : ℕ) → (found : Option Tuple) × IsNearest image address found) where
+  -- each slice tells something of each place
+  some_own : (slice : List ℕ) (at : Option ℕ) → (own : Option FoundRecord) × MatchOption at (own ≡ None) (λ address. FindsNearest slice address own)
+  some_own slice None = (None, refl)
+  some_own slice (Some address) = let nearest = near slice address in (option_map (found_of slice address) nearest.0, (nearest.0, nearest.1, refl))
+
+  some_row : (asked : Where) (slice : List ℕ) → (row : OwnRow) × IsOwnRow asked slice row
+  some_row asked slice =
+      let own = some_own slice (file_address slice asked) in
+      (record { digest = sha256 slice; own = own.0 }, record { digest_is = refl; own_is = own.1 })
+
+  some_rows : (asked : Where) (slices : List (List ℕ)) → (rows : List OwnRow) × AllZip (IsOwnRow asked) slices rows
+  some_rows asked [] = ([], tt)
+  some_rows asked (s ∷ slices) =
+      let first = some_row asked s in
+      let rest = some_rows asked slices in
+      (first.0 ∷ rest.0, (first.1, rest.1))
+
+  some_answer_of : (asked : Where) (slices : List (List ℕ)) → (answer : AnswerRecord) × IsAnswerOf asked slices answer
+  some_answer_of asked [] = (Unanswered, refl)
+  some_answer_of asked (s ∷ []) = let own = some_own s (file_address s asked) in (Alone own.0, (s, refl, own.1))
+  some_answer_of asked (s ∷ t ∷ slices) = let rows = some_rows asked (s ∷ t ∷ slices) in (Disputed rows.0, (omega arith, rows.1))
+
+  some_answer : (o : Operations) (key : SliceKey) (asked : Where) → (answer : AnswerRecord) × IsAnswer o key asked answer
+  some_answer o key asked =
+      let answering = some_answering o key in
+      let told = some_answer_of asked answering.0 in
+      (told.0, record { slices = answering.0; answering = answering.1; answer_is = told.1 })
+
 pub returns : goal.returns
-returns c = one_answer c.one_nearest.ensures.one
+returns c = record { some = some_answer c.one_nearest.ensures.some; one = one_answer c.one_nearest.ensures.one }

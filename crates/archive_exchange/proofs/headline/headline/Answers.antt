@@ -33,3 +33,9 @@ pub returns-clause-same_answers : goal.returns-clause-same_answers
 returns-clause-same_answers g c = λ sites others events later i j same key asked answer.
     let held = c.same_reached.ensures sites others events later i j same in
     (subst (λ (o : Operations). IsAnswer o key asked answer) held, subst (λ (o : Operations). IsAnswer o key asked answer) (sym held))
+
+pub returns-clause-some_answer : goal.returns-clause-some_answer
+returns-clause-some_answer g c = c.one_answer.ensures.some
+
+pub returns-clause-one_answer : goal.returns-clause-one_answer
+returns-clause-one_answer g c = c.one_answer.ensures.one

@@ -9,6 +9,9 @@ returns-clause-same_operations_same_bytes g c = λ seen are i site others later 
     let shows = (c.in_ok-done.ensures.has_run seen are).shows in
     alike _ _ (subst IsContent (sym (held_at _ _ _ i site shows at)) (shows.held i)) (held_at _ _ _ i site shows at ∙ c.same_reached.ensures c.args.sites others seen later i j same)
 
+pub returns-clause-records : goal.returns-clause-records
+returns-clause-records g c = λ seen are. records_of c.args.sites seen _ _ _ (c.in_ok-done.ensures.has_run seen are)
+
 pub returns-clause-lifted : goal.returns-clause-lifted
 returns-clause-lifted g c = λ seen are i x a r k tell ex. c.delta_lifts.ensures c.args.sites seen i x a r k (records_of c.args.sites seen _ _ _ (c.in_ok-done.ensures.has_run seen are)) tell ex
 

@@ -9,4 +9,4 @@ read_records-requires g c = (refl, ap (map owned_name_view) c.new-rows.ensures.i
 pub returns-clause-read : goal.returns-clause-read
 returns-clause-read g c =
     let m = c.in_ok-told.ensures.read in
-    names_read _ _ c.args.name.now m.format m.records m.kind_is m.few m.taken m.ordered m.apart _ _ m.makes.1 c.put_in_order.ensures.ascending c.put_in_order.ensures.same
+    names_read _ _ c.args.name.now m.format m.records m.kind_is m.few m.taken m.ordered m.apart _ _ m.makes.1 c.put_names_in_order.ensures.ascending c.put_names_in_order.ensures.same

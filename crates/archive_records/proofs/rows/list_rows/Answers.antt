@@ -4,5 +4,5 @@ use Rattle.archive_records.proofs.rows.list_rows.Goals as goal
 
 pub returns : goal.returns
 returns g c =
-    let read = c.list_taken.ensures in
-    content_whole (λ rows o. IsList o rows.items) g.R.Source.left g.R.Source.failures c.args.r.now c.list_taken.new.r c.list_taken.result read.read read.at_end read.stopped read.reader
+    let read = c.rows_taken.ensures in
+    content_whole (λ rows o. IsList o rows.items) g.R.Source.left g.R.Source.failures c.args.r.now c.rows_taken.new.r c.rows_taken.result read.read read.at_end read.stopped read.reader

@@ -1,8 +1,12 @@
 use Rattle.archive_records.specs.Merging.{stream}
+use Rattle.archive_records.proofs.Gained.{counted}
 use Rattle.archive_records.proofs.Merges.{merges}
 use Rattle.archive_records.proofs.streams.merge_streams.Goals as goal
 
 pub returns : goal.returns
 returns g c =
     let taken = c.merge_taken.ensures in
-    merges (stream g.R.Source.left g.R.Source.failures c.args.left.now c.merge_taken.new.r1) (stream g.S.Source.left g.S.Source.failures c.args.right.now c.merge_taken.new.r2) (stream g.W.Sink.held g.W.Sink.failures c.args.w.now c.merge_taken.new.w) c.merge_taken.result taken.leaves taken.devices
+    record {
+      merges = merges (stream g.R.Source.left g.R.Source.failures c.args.left.now c.merge_taken.new.r1) (stream g.S.Source.left g.S.Source.failures c.args.right.now c.merge_taken.new.r2) (stream g.W.Sink.held g.W.Sink.failures c.args.w.now c.merge_taken.new.w) c.merge_taken.result taken.leaves taken.devices;
+      written = counted _ _ _ _ _ _ c.merge_taken.result taken.leaves;
+    }

@@ -3,5 +3,5 @@ use Rattle.archive_records.proofs.summary.read_summary.Goals as goal
 
 pub returns : goal.returns
 returns g c =
-    let read = c.read_whole.ensures in
-    summary_whole (λ summary. summary) g.R.Source.left g.R.Source.failures c.args.r.now c.read_whole.new.r c.read_whole.result read.read read.at_end read.stopped read.reader
+    let read = c.read_whole_summary.ensures in
+    summary_whole (λ summary. summary) g.R.Source.left g.R.Source.failures c.args.r.now c.read_whole_summary.new.r c.read_whole_summary.result read.read read.at_end read.stopped read.reader

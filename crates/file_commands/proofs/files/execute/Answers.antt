@@ -2,7 +2,8 @@ use Rattle.std.proofs.Common.{◌≡◌, ◌∙◌, ℕ, List, [], ◌++◌, Som
 use Rattle.std.specs.Io.KnownBytes.{Appends}
 use Rattle.archive_files.specs.OutFiles.{account, is_not_created, is_untouched, place}
 use Rattle.file_commands.specs.Files.{command_fault_of}
-use Rattle.file_commands.proofs.Places.{carried_from, created_there, first_from, nothing_given, took_none, uncreated}
+use Rattle.file_commands.proofs.Places.{carried_from, created_there, first_from, nothing_given, taken, took_none, uncreated}
+use Rattle.file_commands.proofs.OutGains.{carried_took}
 use Rattle.file_commands.proofs.files.execute.Goals as goal
 
 pub returns : goal.returns
@@ -28,19 +29,25 @@ returns g c =
         report_same = unbegun.report_same;
         report_unfailed = unbegun.report_unfailed;
       })
-      | inr carried ↦ inr (record {
-        path = path;
-        begun = before;
-        ended = c.execute_on-ended.result;
-        path_is = c.in_ok-begin.ensures.path;
-        begun_is = begun;
-        begun_unfailed = none.1;
-        carried = carried_from _ _ _ _ _ _ _ _ _ c.begin.ensures.opened carried;
-        created = λ text took. created_there (is_untouched out.state) path after out.created.entries out.given.entries
-            text out.place (known text took);
-        untouched = λ takes. uncreated (is_untouched out.state) after out.created.entries
-            (out.first ∙ took_none path after out.given.entries out.failures (known [] takes.0) (takes.1 ∙ none.1))
-            out.place;
-        told_is = c.told.ensures;
-      })
+      | inr carried ↦
+          let took = carried_took _ _ _ _ _ _ _ _ _ carried in
+          let gained = known took.0 took.1 in
+          inr (record {
+            path = path;
+            begun = before;
+            ended = c.execute_on-ended.result;
+            bytes = took.0;
+            path_is = c.in_ok-begin.ensures.path;
+            begun_is = begun;
+            begun_unfailed = none.1;
+            carried = carried_from _ _ _ _ _ _ _ _ _ c.begin.ensures.opened carried;
+            taken = taken path after out.given.entries took.0 gained;
+            count = took.2;
+            created = created_there (is_untouched out.state) path after out.created.entries out.given.entries took.0
+                out.place gained;
+            untouched = λ takes. uncreated (is_untouched out.state) after out.created.entries
+                (out.first ∙ took_none path after out.given.entries out.failures (known [] takes.0) (takes.1 ∙ none.1))
+                out.place;
+            told_is = c.told.ensures;
+          })
     ]

@@ -1,11 +1,11 @@
 use Rattle.std.proofs.Common.{refl, sym, subst, take, ◌+◌}
-use Rattle.archive_core.specs.InnerScan.{live_among, IsAnsweringOf}
+use Rattle.archive_core.specs.InnerScan.{held_among, IsAnsweringOf}
 use Rattle.archive_core.proofs.Lookups.{one_more, none_more}
 use Rattle.archive_core.proofs.plain.PlainArchive.answering.Goals.{in-Some, in_default}
 use Rattle.archive_core.proofs.plain.PlainArchive.answering.Goals as goal
 
 pub operations-init : goal.operations-init
-unfolding live_among
+unfolding held_among
 operations-init c = refl
 
 pub operations-preserved : goal.operations-preserved
@@ -13,13 +13,13 @@ operations-preserved c =
     let operations = c.args.operations.now in
     let i = c.operations.operation-index in
     let a = c.operation-item.result in
-    let before = live_among c.args.key.now c.args.dsym (take i operations) in
-    let after = live_among c.args.key.now c.args.dsym (take (i + 1) operations) in
-    elim c.match-live.branch [
+    let before = held_among c.args.key.now c.args.dsym (take i operations) in
+    let after = held_among c.args.key.now c.args.dsym (take (i + 1) operations) in
+    elim c.match-held.branch [
       | in-Some w ↦
-          let grown = one_more c.args.key.now c.args.dsym operations i a c.operations-test.true c.operation-item.is c.live.result w.in-Some.slice c.live.ensures w.in-Some.is in
+          let grown = one_more c.args.key.now c.args.dsym operations i a c.operations-test.true c.operation-item.is c.held.result w.in-Some.slice c.held.ensures w.in-Some.is in
           subst (λ f. IsAnsweringOf f after) (sym w.answering-is) (subst (IsAnsweringOf w.and-answering.result) (sym grown) (w.and-answering.ensures before c.operations.invariant))
       | in_default w ↦
-          let same = none_more c.args.key.now c.args.dsym operations i a c.operations-test.true c.operation-item.is c.live.result c.live.ensures w.in_default.is in
+          let same = none_more c.args.key.now c.args.dsym operations i a c.operations-test.true c.operation-item.is c.held.result c.held.ensures w.in_default.is in
           subst (λ f. IsAnsweringOf f after) (sym w.answering-is) (subst (IsAnsweringOf c.operations.answering) (sym same) c.operations.invariant)
     ]

@@ -1,9 +1,10 @@
-use Rattle.std.proofs.Common.{inl, refl, ap, subst, arith, ◌∙◌, ◌+◌}
+use Rattle.std.proofs.Common.{inl, inr, refl, ap, subst, arith, ◌∙◌, ◌+◌}
 use Rattle.std.specs.Io.KnownBytes.{Consumes}
-use Rattle.archive_records.specs.Reader.{bytes_so_far, KeepsIn}
-use Rattle.archive_records.proofs.FaultKinds.{memory_blames}
+use Rattle.archive_records.specs.Reader.{bytes_so_far, KeepsIn, Position}
+use Rattle.archive_records.proofs.FaultKinds.{cut_off, memory_blames}
 use Rattle.archive_records.proofs.Forms.{item-found}
 use Rattle.archive_records.proofs.Steps.{step_passes, step_refused, refused_blames}
+use Rattle.archive_records.proofs.Undecided.{memory_seen, kept_uncovered}
 use Rattle.archive_records.proofs.reader.RecordReader.advance.Goals as goal
 
 pub returns-in-Ok-End : goal.returns-in-Ok-End
@@ -13,8 +14,8 @@ returns-in-Ok-End g c =
     let taken = subst (Consumes (g.R.Source.left c.args.r.now) (g.R.Source.left c.read_next.new.r)) end c.read_next.ensures.taken in
     rw (← c.self.view_is) (record { taken = taken; ended = ends; file_is = refl; count_is = refl; offset_is = refl; few = c.self.invariant.few; retired_is = refl }, c.in-Ok-End.ensures.reader)
 
-pub returns-in-Ok : goal.returns-in-Ok
-returns-in-Ok g c =
+pub returns-else-self-eq-MOST : goal.returns-else-self-eq-MOST
+returns-else-self-eq-MOST g c =
     let found = rw c.in-Ok-Item.field-0-is at c.in-Ok-Item.ensures.item in
     let whole = rw c.in-Ok-Item.field-0-is at c.in-Ok-Item.ensures.whole in
     let follows = rw c.in-Ok-Item.field-0-is at c.in-Ok-Item.ensures.follows in
@@ -30,19 +31,50 @@ returns-in-Err-keep g c =
     let whole = rw c.in-Ok-Item.field-0-is at c.in-Ok-Item.ensures.whole in
     let follows = rw c.in-Ok-Item.field-0-is at c.in-Ok-Item.ensures.follows in
     let refused = rw (c.deref.ensures.value, whole) at c.in-Err-keep.ensures.refused in
+    let before : Position = record { file = c.self.inside.file; last = c.self.inside.buffer.bytes.items; count = c.self.inside.count; offset = c.self.inside.offset; retired = c.self.inside.retired; dropped = c.self.inside.dropped } in
+    let stop = step_refused (g.R.Source.left c.args.r.now) (g.R.Source.left c.read_next.new.r) before c.read_next.new.buffer.bytes.items (bytes_so_far c.read_next.new.buffer) c.in-Err-keep.kind whole c.read_next.ensures.taken c.self.invariant.few (item-found c.self.inside.file _ c.in-Ok-Item.found found) follows refused in
     rw (← c.self.view_is) (
-      step_refused _ _ _ (bytes_so_far c.read_next.new.buffer) c.in-Err-keep.kind c.read_next.ensures.taken c.self.invariant.few (item-found c.self.inside.file _ c.in-Ok-Item.found found) follows refused,
-      refused_blames g.R.Source.left g.R.Source.failures c.args.r.now c.read_next.new.r (record { file = c.self.inside.file; last = c.self.inside.buffer.bytes.items; count = c.self.inside.count; offset = c.self.inside.offset; retired = c.self.inside.retired; dropped = c.self.inside.dropped }) (bytes_so_far c.read_next.new.buffer) c.in-Err-keep.kind c.in-Ok-Item.ensures.reader refused,
+      stop.0,
+      refused_blames g.R.Source.left g.R.Source.failures c.args.r.now c.read_next.new.r before (bytes_so_far c.read_next.new.buffer) c.in-Err-keep.kind c.in-Ok-Item.ensures.reader refused,
+      stop.1,
     )
 
 pub returns-then-self-eq-MOST : goal.returns-then-self-eq-MOST
 returns-then-self-eq-MOST g c =
+    let found = rw c.in-Ok-Item.field-0-is at c.in-Ok-Item.ensures.item in
+    let whole = rw c.in-Ok-Item.field-0-is at c.in-Ok-Item.ensures.whole in
+    let follows = rw c.in-Ok-Item.field-0-is at c.in-Ok-Item.ensures.follows in
+    let kept = subst (KeepsIn c.self.inside.file c.self.inside.retired c.keep.new.retired c.in-Ok.dropped) (c.deref.ensures.value ∙ whole) c.in-Ok.ensures.kept in
     rw (← c.self.view_is, c.out_of_memory.ensures) (
-      record { rest = bytes_so_far c.read_next.new.buffer; taken = c.read_next.ensures.taken; unended = λ known. absurd (known.1 refl); fails = λ known. absurd (known refl); offset_is = refl; few = c.self.invariant.few },
+      record {
+        rest = bytes_so_far c.read_next.new.buffer;
+        taken = c.read_next.ensures.taken;
+        unended = λ known. absurd (known.1 refl);
+        fails = λ known. absurd (known refl);
+        wanted = λ _. inr (record {
+          item = item-found c.self.inside.file _ c.in-Ok-Item.found found;
+          follows = follows;
+          uncovered = kept_uncovered c.self.inside.file c.self.inside.retired c.keep.new.retired c.in-Ok.dropped (bytes_so_far c.read_next.new.buffer) kept;
+        });
+        offset_is = refl;
+        few = c.self.invariant.few;
+      },
       memory_blames g.R.Source.left g.R.Source.failures c.args.r.now c.read_next.new.r c.in-Ok-Item.ensures.reader,
+      λ _. inl (item-found c.self.inside.file _ c.in-Ok-Item.found found, whole),
     )
 
 pub returns-in-Err : goal.returns-in-Err
 returns-in-Err g c =
-    rw (← c.self.view_is)
-    (record { rest = bytes_so_far c.read_next.new.buffer; taken = c.read_next.ensures.taken; unended = c.in-Err.ensures.unended; fails = λ _. inl c.in-Err.ensures.fails; offset_is = refl; few = c.self.invariant.few }, c.in-Err.ensures.reader)
+    rw (← c.self.view_is) (
+      record {
+        rest = bytes_so_far c.read_next.new.buffer;
+        taken = c.read_next.ensures.taken;
+        unended = c.in-Err.ensures.unended;
+        fails = λ _. inl c.in-Err.ensures.fails;
+        wanted = λ memory. inl (memory_seen c.self.inside.file c.self.inside.buffer.bytes.items c.self.inside.count (bytes_so_far c.read_next.new.buffer) c.in-Err.kind c.in-Err.ensures.fails memory);
+        offset_is = refl;
+        few = c.self.invariant.few;
+      },
+      c.in-Err.ensures.reader,
+      λ memory. inr (cut_off c.self.inside.file _ _ _ (rw memory at c.in-Err.ensures.fails), c.clear.ensures.items),
+    )

@@ -1,0 +1,96 @@
+//! Devices that fail where they are asked as no device has to be: for no byte, or again after the end; or are given
+//! none.
+
+ghost use Rattle.std.specs.Prelude.{◌≡◌, ◌<◌, Some, []};
+
+use byte_device::{Failed, Pieces, Short, Sink, Source};
+use memory::Heap;
+
+/// The bytes of a file, a few at a time, once.
+#[derive(Drop)]
+pub struct StrictSource<'a> {
+    pieces: Pieces<'a>,
+    is_ended: bool,
+    failures: u64,
+}
+
+impl<'a> StrictSource<'a> {
+    /// A device that will give these bytes, at most `size` at a time, and `limit` in all before it fails.
+    pub fn new(bytes: &'a [u8], size: usize, limit: usize) -> Self
+        requires { 0 < size }
+        ensures left { ⟦<StrictSource<'a> as Source>⟧.left result ≡ Some bytes.now }
+        ensures failures { ⟦<StrictSource<'a> as Source>⟧.failures result ≡ 0 }
+    {
+        StrictSource {
+            pieces: Pieces::new(bytes, size, limit),
+            is_ended: false,
+            failures: 0,
+        }
+    }
+}
+
+impl<'a> Source for StrictSource<'a> {
+    ghost left = { λ s. ⟦<Pieces<'a> as Source>⟧.left s.pieces };
+
+    ghost failures = { λ s. s.failures };
+
+    fn pull(&mut self, buf: &mut [u8]) -> Result<usize, Failed> {
+        if self.failures == u64::MAX {
+            return Err(Failed);
+        }
+        if !self.is_ended && !buf.is_empty() {
+            if let Ok(n) = self.pieces.pull(buf) {
+                self.is_ended = n == 0;
+                return Ok(n);
+            }
+        }
+        self.failures += 1;
+        Err(Failed)
+    }
+}
+
+/// Bytes in memory, up to a limit.
+#[derive(Drop)]
+pub struct StrictSink {
+    bytes: Short,
+    failures: u64,
+}
+
+impl StrictSink {
+    /// A device that holds no byte, and takes `limit` before it fails.
+    pub fn new(heap: Heap, limit: usize) -> Self
+        ensures held { ⟦<StrictSink as Sink>⟧.held result ≡ Some [] }
+        ensures failures { ⟦<StrictSink as Sink>⟧.failures result ≡ 0 }
+    {
+        StrictSink {
+            bytes: Short::new(heap, limit),
+            failures: 0,
+        }
+    }
+
+    /// The bytes that it holds.
+    pub fn as_slice(&self) -> &[u8]
+        ensures { ⟦<StrictSink as Sink>⟧.held self.now ≡ Some result.now }
+    {
+        self.bytes.as_slice()
+    }
+}
+
+impl Sink for StrictSink {
+    ghost held = { λ s. ⟦<Short as Sink>⟧.held s.bytes };
+
+    ghost failures = { λ s. s.failures };
+
+    fn push(&mut self, bytes: &[u8]) -> Result<usize, Failed> {
+        if self.failures == u64::MAX {
+            return Err(Failed);
+        }
+        if !bytes.is_empty() {
+            if let Ok(n) = self.bytes.push(bytes) {
+                return Ok(n);
+            }
+        }
+        self.failures += 1;
+        Err(Failed)
+    }
+}
