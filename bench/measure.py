@@ -102,11 +102,22 @@ def rt(words, at):
     subprocess.run(["rt", *words], cwd=at, stdout=subprocess.DEVNULL, check=True)
 
 
+def with_below(crates):
+    """These crates, and those that they stand on, as crates.txt names them: the lowest first."""
+    lines = [line.partition("#")[0].partition(":") for line in (top / "crates.txt").read_text().splitlines()]
+    uses = {name.strip(): used.split() for name, colon, used in lines if colon}
+    needed = set(crates)
+    for name in reversed([*uses]):
+        needed.update(uses[name] if name in needed else ())
+    return [name for name in uses if name in needed]
+
+
 def build(name, crates, kit, words):
-    """The program of bench/NAME over these crates and libraries of the kit, proved and built where there is none or a
-    source is newer, and then run on the words. It is built by `rt run`, which has LLVM optimise it: under `rt try` checks
-    make it hundreds of times as slow. It stands over copies of the crates in a folder of its own, since `rt ci` refuses
-    a second crates.txt below the repository, and an .rt file that is no crate's."""
+    """The program of bench/NAME over these crates, those that they stand on and libraries of the kit, proved and built
+    where there is none or a source is newer, and then run on the words. It is built by `rt run`, which has LLVM optimise
+    it: under `rt try` checks make it hundreds of times as slow. It stands over copies of the crates in a folder of its
+    own, since `rt ci` refuses a second crates.txt below the repository, and an .rt file that is no crate's."""
+    crates = with_below(crates)
     program, source = folder / name, top / "bench" / name / "main.rattle"
     sources = [source, *(file for crate in crates for file in (top / "crates" / crate / "src").iterdir())]
     if program.exists() and all(file.stat().st_mtime < program.stat().st_mtime for file in sources):

@@ -1,25 +1,20 @@
 //! What a case asks for: a plan, or a call below the commands.
 
-use crate::addresses::addresses_of;
-use crate::archives::{tell_front, tell_merging, tell_operations, tell_summary, tell_whole};
 use crate::changes::tell_change;
 use crate::desk::{Desk, Tried};
-use crate::ends::{End, Left};
-use crate::faults::{CaseFault, Ended};
-use crate::heaps::{Texts, tell_heaps};
-use crate::images::{tell_fat, tell_image, tell_kind, tell_named, tell_nearest, tell_slice};
-use crate::pairs::tell_pairs;
-use crate::parts::{bytes_of, number};
-use crate::selections::{Picked, tell_part};
-use crate::streams::{Failing, tell_asked, tell_reading, tell_writing};
 use crate::subjects::{Act, ArchiveAct, Change, SiteAct};
-use crate::words::first_word;
 use crate::worlds::tell_world;
-use archive_core::{Archive, PlainArchive};
-use archive_index::IndexedArchive;
+use archive_core::Archive;
+use case_parts::{
+    CaseFault, End, Ended, Failing, Left, Picked, Texts, addresses_of, bytes_of, first_word,
+    number, tell_asked, tell_fat, tell_front, tell_heaps, tell_image, tell_kind, tell_merging,
+    tell_named, tell_nearest, tell_operations, tell_pairs, tell_part, tell_reading, tell_slice,
+    tell_summary, tell_whole, tell_writing,
+};
 use command_line::Plan;
 use memory::Heap;
 use rehearsal::read_script;
+use sorted_archive::{IndexedArchive, PlainArchive};
 
 /// A call below the commands.
 #[derive(Clone, Copy)]

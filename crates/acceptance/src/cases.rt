@@ -109,18 +109,14 @@
 
 use crate::calls::Task;
 use crate::desk::{Desk, Tried};
-use crate::ends::Left;
-use crate::faults::CaseFault;
 use crate::folder::Folder;
-use crate::growths::{tell_room, tell_room_of_bytes};
-use crate::limits::{Front, Limits, Sweep};
-use crate::parts::{bytes_of, number};
-use crate::store::Store;
 use crate::sweeps::{tell_growths, tell_sweep};
-use crate::tellings::{tell_left, tell_line_fault, tell_same};
 use crate::texts::{TextFault, cut_case};
 use crate::verdicts::Step;
-use crate::words::{first_word, words_of};
+use case_parts::{
+    CaseFault, Front, Left, Limits, Store, Sweep, bytes_of, first_word, number, tell_left,
+    tell_line_fault, tell_room, tell_room_of_bytes, tell_same, words_of,
+};
 use command_line::{LineFault, Plan, plan};
 use memory::NoMemory;
 use std::alloc::Global;

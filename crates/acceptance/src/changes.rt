@@ -1,11 +1,8 @@
 //! Calls that may change an archive, and what they leave where memory is refused.
 
-use crate::archives::read;
-use crate::faults::{CallFault, Ended};
-use crate::questions::answers_of;
 use crate::subjects::{Act, Change, Observation, Subject};
-use crate::tellings::tell_text;
 use archive_core::Archive;
+use case_parts::{CallFault, Ended, answers_of, read, tell_text};
 use memory::{Heap, NoMemory};
 
 /// Makes a call, and tells what it gives and what is there then.

@@ -1,18 +1,17 @@
 //! A plan, carried out over files in memory.
 
 use crate::desk::Desk;
-use crate::devices::{StrictSink, StrictSource};
-use crate::ends::{End, Left};
-use archive_commands::CannotOpen;
 use archive_core::Archive;
+use byte_device::{CannotOpen, Disk};
+use case_parts::{End, Left, StrictSink, StrictSource};
 use command_line::Plan;
 use memory::{Heap, NoMemory};
-use plan_commands::{Disk, execute_on};
+use plan_commands::execute_on;
 
 impl<'a> Disk for Desk<'a> {
     ghost use Rattle.std.specs.Prelude.{None, is_some, option_map, if◌then◌else◌};
     ghost use Rattle.std.specs.BTreeMap.{get_by_text};
-    ghost use Rattle.plan_commands.specs.Disks.{Unknown, file_of};
+    ghost use Rattle.byte_device.specs.Disks.{Unknown, file_of};
 
     type Input = StrictSource<'a>;
 

@@ -2,14 +2,10 @@
 
 ghost use Rattle.std.specs.Prelude.{◌≡◌, None, option_map};
 ghost use Rattle.std.specs.BTreeMap.{get_by_text};
-ghost use Rattle.plan_commands.specs.Disks.{IsOpened, file_of};
+ghost use Rattle.byte_device.specs.Disks.{IsOpened, file_of};
 
-use crate::devices::StrictSource;
-use crate::faults::CaseFault;
-use crate::limits::Limits;
-use crate::store::Store;
-use archive_commands::CannotOpen;
-use byte_device::Source;
+use byte_device::{CannotOpen, Source};
+use case_parts::{CaseFault, Limits, Store, StrictSource};
 use memory::{Heap, NoMemory};
 use std::alloc::Global;
 

@@ -1,14 +1,12 @@
 //! Files of the system, in a folder of this run's own.
 
-use crate::devices::StrictSink;
-use crate::faults::CaseFault;
-use crate::store::Store;
-use crate::tellings::{tell_ended, tell_line_fault, tell_report};
-use crate::words::{first_word, words_of};
 use archive_files::SystemFiles;
+use case_parts::{
+    CaseFault, Store, StrictSink, first_word, tell_ended, tell_line_fault, tell_report, words_of,
+};
 use command_line::{LineFault, Plan, plan};
-use file_commands::execute;
 use memory::{Heap, NoMemory};
+use plan_commands::execute;
 use std::os::unix::fs::symlink;
 use std::rt::Files;
 use std::{fs, io, process};

@@ -3,31 +3,18 @@
 //! It reads texts of cases, carries each line out through the line reader and the engines of the commands, or by a call
 //! below them, over memory or over files of the system, and compares what comes of it with the lines after it. A word
 //! of its command line names a subject, or a case, `SUBJECT/CASE`; without words all subjects are carried out. Of each
-//! it says whether all is as it stands, and prints the lines that came otherwise.
+//! it says whether all is as it stands, and prints the lines that came otherwise. What the lines are made of is in
+//! `case_parts`.
 //!
 //! - `texts`: the texts of cases;
 //! - `verdicts`: whether what came is what has to come;
-//! - `faults`: why a case is not carried out, or a call is refused;
-//! - `store`: files in memory;
 //! - `folder`: files of the system;
-//! - `words`: the words of a case;
-//! - `parts`, `counters`, `addresses`: the bytes and the addresses that they spell;
-//! - `limits`: what devices give and take, and how far a sweep goes;
-//! - `devices`: inputs and outputs that are asked as they should be;
 //! - `desk`: what a case goes over;
-//! - `ends`: how a case ends, and what it leaves;
 //! - `commands`: a plan, carried out;
-//! - `images`, `archives`: calls that read bytes, carried out;
-//! - `questions`: what is asked of an archive;
-//! - `selections`: calls that keep a part of an archive;
 //! - `subjects`, `changes`: calls that may change an archive, and what they leave where memory is refused;
-//! - `streams`, `growths`: streams of std that fail, and memory that is refused;
-//! - `heaps`: two memories, one for each of two archives;
 //! - `worlds`: events, carried out on sites;
-//! - `pairs`: random pairs of archives, merged and joined;
 //! - `calls`: calls below the commands;
 //! - `outcomes`, `sweeps`: one case at each place of a device;
-//! - `tellings`: what is printed of a case;
 //! - `cases`: the lines of cases, their language.
 #![tactic(auto)]
 
@@ -35,35 +22,17 @@ ghost use Rattle.std.specs.Prelude.{◌≡◌, All};
 ghost use Rattle.std.specs.Process.{exit_status};
 ghost use Rattle.acceptance.specs.Verdicts.{CameAsItStands};
 
-mod addresses;
-mod archives;
 mod calls;
 mod cases;
 mod changes;
 mod commands;
-mod counters;
 mod desk;
-mod devices;
-mod ends;
-mod faults;
 mod folder;
-mod growths;
-mod heaps;
-mod images;
-mod limits;
 mod outcomes;
-mod pairs;
-mod parts;
-mod questions;
-mod selections;
-mod store;
-mod streams;
 mod subjects;
 mod sweeps;
-mod tellings;
 mod texts;
 mod verdicts;
-mod words;
 mod worlds;
 
 use folder::Folder;

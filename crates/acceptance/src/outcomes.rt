@@ -1,7 +1,7 @@
 //! How a case ended at a place of a sweep, beside the whole case.
 
-use crate::ends::{End, Left};
-use archive_commands::{CommandFault, Failure};
+use case_parts::{End, Left};
+use command_ends::{CommandFault, Failure};
 use std::fmt;
 
 /// How a case at a place of a sweep ended, with the numbers left out that are the place's own.

@@ -1,16 +1,17 @@
 //! What a call may change: an archive by itself, or a site.
 
-use crate::archives::{read, tell_beside, tell_each_taking, text_of};
-use crate::faults::{CallFault, Ended};
-use crate::questions::{answers_of, tell_answers};
-use crate::tellings::tell_text;
-use archive_core::{Archive, Operation, Slice, take_all, take_each};
+use archive_core::{Archive, Operation, Slice, take_all};
 use archive_exchange::Site;
-use archive_records::read_ops;
+use archive_reading::read_ops;
 use byte_device::Bytes;
+use case_parts::{
+    CallFault, Ended, answers_of, read, tell_answers, tell_beside, tell_each_taking, tell_text,
+    text_of,
+};
 use join_core::Join;
 use memory::Heap;
 use report_text::Text;
+use sorted_archive::take_each;
 use std::alloc::Global;
 
 /// A call on an archive.

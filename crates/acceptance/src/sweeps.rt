@@ -2,10 +2,8 @@
 
 use crate::calls::Task;
 use crate::desk::{Desk, Tried};
-use crate::ends::Left;
-use crate::faults::CaseFault;
-use crate::limits::Sweep;
 use crate::outcomes::Outcome;
+use case_parts::{CaseFault, Left, Sweep};
 use memory::NoMemory;
 
 // Places in a row with one outcome.

@@ -1,10 +1,8 @@
 //! Events, carried out on sites.
 
-use crate::archives::text_of;
-use crate::faults::Ended;
-use crate::tellings::tell_text;
 use archive_core::Archive;
 use archive_exchange::run;
+use case_parts::{Ended, tell_text, text_of};
 use memory::Heap;
 use rehearsal::Script;
 

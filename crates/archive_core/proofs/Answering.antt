@@ -24,7 +24,7 @@ use Rattle.archive_core.specs.declared.find.FindState.TheVariants.{Image, Dsym}
 use Rattle.archive_core.specs.declared.keys.Digest.{Digest}
 use Rattle.archive_core.proofs.Compare.{length_key_bytes}
 use Rattle.archive_core.proofs.Records.{same_parts, length-key_of}
-use Rattle.archive_core.proofs.Scanned.{in_cons, in_front, in_rest}
+use Rattle.archive_core.proofs.Members.{in_cons, in_front, in_rest}
 use Rattle.std.specs.Int.{w64, to_be_bytes}
 
 arch_total : IsTotalOrder arch_cmp

@@ -1,14 +1,18 @@
--- The members of a finite set as a list in order, and a list put in order.
-use Rattle.std.proofs.Common.{◌≡◌, ◌↔◌, true, List, sym, ◌∙◌}
+-- What is among a list, its values and its parts, lists with the same members, and a list put in order.
+use Rattle.std.proofs.Common.{◌≡◌, ◌↔◌, true, List, sym, ◌∙◌, ◌⊎◌, ◌+◌, zero, suc, Bool, false, cond, [], ◌∷◌, map, filter, refl, ap, inl, inr, arith, subst, add-one}
 use Rattle.std.specs.declared.cmp.Ordering.{Ordering}
-use Rattle.std.specs.Ordering.{eq_by_cmp}
-use Rattle.std.specs.Cmp.{IsTotalOrder, Equal-is}
-use Rattle.std.specs.List.{Contains}
+use Rattle.std.specs.Ordering.{eq_by_cmp, is_eq, is_lt, on, ordering_reverse}
+use Rattle.std.specs.Cmp.{IsTotalOrder, Equal-is, tied_itself}
+use Rattle.std.specs.List.{Contains, AllByRecursion, IsDistinct, flat_map}
 use Rattle.std.specs.FinSet.{FinSet, from_list, contains, IsAntisymmetric, contains-from_list}
 use Rattle.std.proofs.lemmas.Cmp.{eq_by_cmp_equiv}
 use Rattle.std.proofs.lemmas.Map.Views.{list_any-from_Contains, Contains-from_any}
 use Rattle.join_core.specs.Listing.{listing}
 use Rattle.join_core.proofs.Listing.{any_listing}
+use mathlib.Core.Bool.{true≢false}
+use Rattle.std.specs.declared.cmp.Ordering.TheVariants.{Less, Equal, Greater}
+use Rattle.std.specs.List.Sorted.{IsSorted, IsStrictlySortedBy}
+use Rattle.std.proofs.lemmas.List.Elements.{All-from_recursion, All-contains, All-contains_itself, All-filter, filter_passes, Contains-append_left, Contains-append_right, Contains-append_cases}
 
 module _ {K : Type 0} {R : K → K → Ordering} (o : IsTotalOrder R) (same : IsAntisymmetric R) where
   one_key : (x y : K) → eq_by_cmp R x y ≡ true → x ≡ y
@@ -27,3 +31,162 @@ module _ {K : Type 0} {R : K → K → Ordering} (o : IsTotalOrder R) (same : Is
     λ h. Contains-from_any one_key k xs (sym (contains-from_list o xs k) ∙ (in_listing (from_list xs) k).0 h),
     λ h. (in_listing (from_list xs) k).1 (contains-from_list o xs k ∙ list_any-from_Contains (eq_by_cmp_equiv o) k xs h),
   )
+
+module _ {X : Type 0} where
+  -- an element of a list with one more in front is that one, or one of the others
+  pub in_cons : (x : X) (xs : List X) (a : X) → Contains (x ∷ xs) a → (x ≡ a) ⊎ Contains xs a
+  in_cons x xs a (zero, lt, e) = inl e
+  in_cons x xs a (suc k, lt, e) = inr (k, omega arith, e)
+
+  pub in_front : (x : X) (xs : List X) → Contains (x ∷ xs) x
+  in_front x xs = (0, omega arith, refl)
+
+  pub in_rest : (x : X) (xs : List X) (a : X) → Contains xs a → Contains (x ∷ xs) a
+  in_rest x xs a (k, lt, e) = (suc k, omega arith, e)
+
+  -- what is kept by a test was there and passes it
+  pub in_filter : (p : X → Bool) (xs : List X) (a : X) → Contains (filter p xs) a → Contains xs a × (p a ≡ true)
+  in_filter p xs a h = (
+    All-contains (Contains xs) (filter p xs) a (All-filter p (Contains xs) xs (All-contains_itself xs)) h,
+    All-contains (λ x. p x ≡ true) (filter p xs) a (filter_passes p xs) h,
+  )
+
+  -- and what was there and passes it is kept
+  pub to_filter : (p : X → Bool) (xs : List X) (a : X) → Contains xs a → p a ≡ true → Contains (filter p xs) a
+  to_filter p [] a (k, lt, e) t = absurd (omega arith)
+  to_filter p (x ∷ xs) a h t = elim (in_cons x xs a h) [
+    | inl e ↦ rw (ap p e ∙ t) (subst (Contains (x ∷ filter p xs)) e (in_front x (filter p xs)))
+    | inr there ↦ behind (p x) (to_filter p xs a there t)
+  ]
+    where
+      behind : (b : Bool) → Contains (filter p xs) a → Contains (cond b (x ∷ filter p xs) (filter p xs)) a
+      behind true i = in_rest x (filter p xs) a i
+      behind false i = i
+
+  -- a list whose keys ascend ascends by its keys
+  pub ascending_by : {K : Type 0} (R : K → K → Ordering) (f : X → K) (xs : List X) → IsStrictlySortedBy R (map f xs) → IsStrictlySortedBy (on f R) xs
+  unfolding IsStrictlySortedBy
+  ascending_by R f [] h = tt
+  ascending_by R f (x ∷ xs) h = (each xs h.0, ascending_by R f xs h.1)
+    where
+      each : (ys : List X) → AllByRecursion (λ k. R (f x) k ≡ Less) (map f ys) → AllByRecursion (λ y. R (f x) (f y) ≡ Less) ys
+      each [] g = tt
+      each (y ∷ ys) g = (g.0, each ys g.1)
+
+  -- elements that differ by one test differ by a finer one
+  pub distinct_finer : (d e : X → X → Bool) → ((x y : X) → d x y ≡ false → e x y ≡ false) → (xs : List X) → IsDistinct d xs → IsDistinct e xs
+  unfolding IsDistinct
+  distinct_finer d e finer [] h = tt
+  distinct_finer d e finer (x ∷ xs) h = (each xs h.0, distinct_finer d e finer xs h.1)
+    where
+      each : (ys : List X) → AllByRecursion (λ y. d x y ≡ false) ys → AllByRecursion (λ y. e x y ≡ false) ys
+      each [] g = tt
+      each (y ∷ ys) g = (finer x y g.0, each ys g.1)
+
+  module _ {R : X → X → Ordering} (o : IsTotalOrder R) where
+    -- a sorted list of different elements ascends strictly
+    pub ascending_from_distinct : (xs : List X) → IsSorted R xs → IsDistinct (eq_by_cmp R) xs → IsStrictlySortedBy R xs
+    unfolding IsStrictlySortedBy IsDistinct
+    ascending_from_distinct [] up h = tt
+    ascending_from_distinct (x ∷ []) up h = (tt, tt)
+    ascending_from_distinct (x ∷ y ∷ ys) up h =
+        let rest = ascending_from_distinct (y ∷ ys) (λ k d low high. simp add-one (simp add-one at (up (k + 1) d (omega arith) (omega arith)))) h.1 in
+        let first : R x y ≡ Less = less (R x y) refl (up 0 x (omega arith) (omega arith)) h.0.0 in
+        ((first, below_all ys first rest.0), rest)
+      where
+        less : (r : Ordering) → R x y ≡ r → is_lt (R y x) ≡ false → eq_by_cmp R x y ≡ false → R x y ≡ Less
+        less Less e low untied = e
+        less Equal e low untied = absurd (true≢false (sym (ap is_eq e) ∙ untied))
+        less Greater e low untied = absurd (true≢false (sym (ap is_lt (o.antisymm y x ∙ ap ordering_reverse e)) ∙ low))
+
+        below_all : (zs : List X) → R x y ≡ Less → AllByRecursion (λ z. R y z ≡ Less) zs → AllByRecursion (λ z. R x z ≡ Less) zs
+        below_all [] lt g = tt
+        below_all (z ∷ zs) lt g = (o.trans x y z lt g.0, below_all zs lt g.1)
+
+    -- two ascending lists with the same members are one
+    pub one_with_members : (xs ys : List X) → IsStrictlySortedBy R xs → IsStrictlySortedBy R ys → ((a : X) → Contains xs a → Contains ys a) → ((a : X) → Contains ys a → Contains xs a) → xs ≡ ys
+    unfolding IsStrictlySortedBy
+    one_with_members [] [] up_xs up_ys to back = refl
+    one_with_members [] (y ∷ ys) up_xs up_ys to back = absurd (nowhere y (back y (in_front y ys)))
+      where
+        nowhere : (a : X) → Contains [] a → ⊥
+        nowhere a (k, lt, e) = omega arith
+    one_with_members (x ∷ xs) [] up_xs up_ys to back = absurd (nowhere x (to x (in_front x xs)))
+      where
+        nowhere : (a : X) → Contains [] a → ⊥
+        nowhere a (k, lt, e) = omega arith
+    one_with_members (x ∷ xs) (y ∷ ys) up_xs up_ys to back = λ i. head i ∷ one_with_members xs ys up_xs.1 up_ys.1 to_rest back_rest i
+      where
+        unequal : (a : X) → R a a ≡ Less → ⊥
+        unequal a lt = apart (sym lt ∙ tied_itself o a)
+          where
+            apart : Less ≡ Equal → ⊥
+            apart e = cc
+
+        above : (z a : X) (zs : List X) → AllByRecursion (λ w. R z w ≡ Less) zs → Contains zs a → R z a ≡ Less
+        above z a zs all there = All-contains (λ w. R z w ≡ Less) zs a (All-from_recursion (λ w. R z w ≡ Less) zs all) there
+
+        both_ways : R y x ≡ Less → R x y ≡ Less → ⊥
+        both_ways l m = unequal x (o.trans x y x m l)
+
+        head : x ≡ y
+        head = elim (in_cons y ys x (to x (in_front x xs))) [
+          | inl e ↦ sym e
+          | inr there ↦ elim (in_cons x xs y (back y (in_front y ys))) [
+            | inl e ↦ e
+            | inr here ↦ absurd (both_ways (above y x ys up_ys.0 there) (above x y xs up_xs.0 here))
+          ]
+        ]
+
+        to_rest : (a : X) → Contains xs a → Contains ys a
+        to_rest a h = elim (in_cons y ys a (to a (in_rest x xs a h))) [
+          | inl e ↦ absurd (unequal a (subst (λ z. R z a ≡ Less) (head ∙ e) (above x a xs up_xs.0 h)))
+          | inr there ↦ there
+        ]
+
+        back_rest : (a : X) → Contains ys a → Contains xs a
+        back_rest a h = elim (in_cons x xs a (back a (in_rest y ys a h))) [
+          | inl e ↦ absurd (unequal a (subst (λ z. R z a ≡ Less) (sym head ∙ e) (above y a ys up_ys.0 h)))
+          | inr there ↦ there
+        ]
+
+module _ {X Y : Type 0} where
+  -- what is among the values of a function
+  pub in_map : (f : X → Y) (xs : List X) (b : Y) → Contains (map f xs) b → (a : X) × Contains xs a × (b ≡ f a)
+  in_map f [] b (k, lt, e) = absurd (omega arith)
+  in_map f (x ∷ xs) b h = elim (in_cons (f x) (map f xs) b h) [
+    | inl e ↦ (x, in_front x xs, sym e)
+    | inr there ↦ let one = in_map f xs b there in (one.0, in_rest x xs one.0 one.1, one.2)
+  ]
+
+  pub to_map : (f : X → Y) (xs : List X) (a : X) → Contains xs a → Contains (map f xs) (f a)
+  to_map f [] a (k, lt, e) = absurd (omega arith)
+  to_map f (x ∷ xs) a h = elim (in_cons x xs a h) [
+    | inl e ↦ subst (λ y. Contains (f x ∷ map f xs) (f y)) e (in_front (f x) (map f xs))
+    | inr there ↦ in_rest (f x) (map f xs) (f a) (to_map f xs a there)
+  ]
+
+  -- what is among the lists that a function gives
+  pub in_flat_map : (f : X → List Y) (xs : List X) (b : Y) → Contains (flat_map f xs) b → (a : X) × Contains xs a × Contains (f a) b
+  in_flat_map f [] b (k, lt, e) = absurd (omega arith)
+  in_flat_map f (x ∷ xs) b h = elim (Contains-append_cases (f x) (flat_map f xs) b h) [
+    | inl here ↦ (x, in_front x xs, here)
+    | inr there ↦ let one = in_flat_map f xs b there in (one.0, in_rest x xs one.0 one.1, one.2)
+  ]
+
+  pub to_flat_map : (f : X → List Y) (xs : List X) (a : X) (b : Y) → Contains xs a → Contains (f a) b → Contains (flat_map f xs) b
+  to_flat_map f [] a b (k, lt, e) g = absurd (omega arith)
+  to_flat_map f (x ∷ xs) a b h g = elim (in_cons x xs a h) [
+    | inl e ↦ Contains-append_left (f x) (flat_map f xs) b (subst (λ y. Contains (f y) b) (sym e) g)
+    | inr there ↦ Contains-append_right (f x) (flat_map f xs) b (to_flat_map f xs a b there g)
+  ]
+
+  -- the values ascend where the list does by them
+  pub ascending_map : (R : Y → Y → Ordering) (f : X → Y) (xs : List X) → IsStrictlySortedBy (on f R) xs → IsStrictlySortedBy R (map f xs)
+  unfolding IsStrictlySortedBy
+  ascending_map R f [] h = tt
+  ascending_map R f (x ∷ xs) h = (each xs h.0, ascending_map R f xs h.1)
+    where
+      each : (ys : List X) → AllByRecursion (λ y. R (f x) (f y) ≡ Less) ys → AllByRecursion (λ k. R (f x) k ≡ Less) (map f ys)
+      each [] g = tt
+      each (y ∷ ys) g = (g.0, each ys g.1)

@@ -1,4 +1,4 @@
--- What a plain archive keeps: its invariant. No contract has it.
+-- What an archive that is a sorted list keeps: its invariant. No contract has it.
 use Rattle.std.specs.Prelude.{List, map}
 use Rattle.std.specs.List.{AllByRecursion}
 use Rattle.std.specs.List.Sorted.{IsStrictlySortedBy}

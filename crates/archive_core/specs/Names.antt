@@ -11,6 +11,7 @@ use Rattle.archive_core.specs.Content.{Operations, IsLive}
 use Rattle.archive_core.specs.Find.{arch_cmp}
 use Rattle.archive_core.specs.declared.keys.SliceKey.{SliceKey}
 use Rattle.archive_core.specs.declared.names.NameRow.{NameRow}
+use Rattle.archive_core.specs.declared.names.OwnedNameRow.{OwnedNameRow}
 
 -- where a symbol stands: the key and the SHA-256 of its slice, its address, its section's number, and that section's
 -- names
@@ -74,4 +75,15 @@ name_view row = record {
   sect = row.sect;
   segment = row.segment.now;
   section = row.section.now;
+}
+
+-- a row that owns them, without where its names lie
+abbrev pub owned_name_view : OwnedNameRow → NameRecord
+owned_name_view row = record {
+  key = row.key;
+  digest = row.digest.0;
+  address = row.address;
+  sect = row.sect;
+  segment = row.segment.items;
+  section = row.section.items;
 }

@@ -4,6 +4,7 @@ ghost use Rattle.std.specs.Int.{w128, from_be_bytes};
 ghost use Rattle.std.specs.Ordering.{nat_cmp};
 ghost use Rattle.std.specs.Cmp.Lexicographic.{slice_cmp};
 ghost use Rattle.archive_core.specs.Key.{IsKey, key_bytes};
+ghost use Rattle.archive_core.specs.Find.{is_key};
 
 use std::cmp::Ordering;
 use uuid::Uuid;
@@ -28,6 +29,13 @@ pub struct SliceKey {
 /// The SHA-256 of a slice's bytes (FIPS 180-4).
 #[derive(Clone, Copy, Debug, PartialEq, Eq)]
 pub struct Digest(pub [u8; 32]);
+
+/// Whether two keys are one.
+pub fn is_key(a: &SliceKey, b: &SliceKey) -> bool
+    ensures { result ≡ is_key a.now b.now }
+{
+    *a == *b
+}
 
 /// Compares two keys as their bytes stand in records.
 pub fn compare_keys(a: &SliceKey, b: &SliceKey) -> Ordering

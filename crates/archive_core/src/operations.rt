@@ -115,8 +115,8 @@ impl<'a> Record<'a> {
     }
 }
 
-// Compares the records of two retirements.
-pub(crate) fn compare_retirements(
+/// Compares the records of two retirements.
+pub fn compare_retirements(
     key: &SliceKey,
     digest: &Digest,
     that: &SliceKey,

@@ -18,20 +18,20 @@ use Rattle.archive_records.proofs.Summarised.{AreEntries-summary}
 use Rattle.archive_records.proofs.Versions.{one_content}
 use Rattle.exchange_model.specs.World as model
 use Rattle.exchange_model.specs.World.{World, Event, File, Fault, Message, Content, Summary, site_of, records, fault_at_site, fault_of, effect, answer, unless, refused_or, happens, outcome, with_saved}
-use Rattle.archive_exchange.specs.File.{IsAcceptedFile, IsTakeFault, admissible, parts}
-use Rattle.archive_exchange.specs.Take.{admitted}
+use Rattle.admission.specs.File.{IsAcceptedFile, IsTakeFault, admissible, parts}
+use Rattle.admission.specs.Take.{admitted}
 use Rattle.archive_exchange.specs.SiteState.{SiteState, IsArchiveTextOf, HasJoined, IsDeliverFault, IsReplyFault, RepliesTo}
 use Rattle.archive_exchange.specs.ModelEvent.{IsFile, OutcomeIs, fault_told, part_record}
 use Rattle.archive_exchange.specs.Rehearsal.{message_text, IsSound, Represents}
 use Rattle.archive_exchange.specs.InnerEvents.{Follows, Happens}
-use Rattle.archive_exchange.specs.declared.fault.TakeFault.{TakeFault}
-use Rattle.archive_exchange.specs.declared.fault.TakeFault.TheVariants.{OutOfMemory}
+use Rattle.admission.specs.declared.fault.TakeFault.{TakeFault}
+use Rattle.admission.specs.declared.fault.TakeFault.TheVariants.{OutOfMemory}
 use Rattle.archive_exchange.specs.declared.fault.DeliverFault.{DeliverFault}
 use Rattle.archive_exchange.specs.declared.fault.DeliverFault.TheVariants as deliver
 use Rattle.archive_exchange.specs.declared.fault.ReplyFault.TheVariants as reply
-use Rattle.archive_exchange.specs.declared.event.EventFault.TheVariants as fault
-use Rattle.archive_exchange.specs.declared.event.Outcome.{Outcome}
-use Rattle.archive_exchange.specs.declared.event.Outcome.TheVariants as told
+use Rattle.archive_exchange.specs.declared.outcome.EventFault.TheVariants as fault
+use Rattle.archive_exchange.specs.declared.outcome.Outcome.{Outcome}
+use Rattle.archive_exchange.specs.declared.outcome.Outcome.TheVariants as told
 use Rattle.archive_exchange.proofs.RunStates.{set_same, shows_held, shows_saved, shows_sent, message_at, no_message_at, IsMessage}
 use Rattle.archive_exchange.proofs.Gained.{content_gain, content_joined, recorded_take, recorded_retire, content_seen}
 use Rattle.archive_exchange.proofs.Magics.{gives_no_summary, not_an_archive, not_a_summary}

@@ -21,12 +21,12 @@ use Rattle.exchange_model.specs.World as model
 use Rattle.exchange_model.specs.World.{records, rows}
 use Rattle.exchange_model.proofs.Content.{taken_gain}
 use Rattle.exchange_model.proofs.Kept.{either}
-use Rattle.archive_exchange.specs.File.{IsAcceptedFile, is_admissible, admissible, parts}
-use Rattle.archive_exchange.specs.Take.{admitted, taken_of, taken_rows}
+use Rattle.admission.specs.File.{IsAcceptedFile, is_admissible, admissible, parts}
+use Rattle.admission.specs.Take.{admitted, taken_of, taken_rows}
 use Rattle.archive_exchange.specs.ModelEvent.{part_record, row_told}
 use Rattle.archive_exchange.specs.InnerEvents.{IsRecorded}
-use Rattle.archive_exchange.specs.declared.taken.Taken.TheVariants as taken
-use Rattle.archive_exchange.proofs.Files.{kept_is}
+use Rattle.admission.specs.declared.taken.Taken.TheVariants as taken
+use Rattle.admission.proofs.Files.{kept_is}
 
 records_seen : (ps : List (List ℕ)) → records (map part_record ps) ≡ map admission_record (filter is_admissible ps)
 records_seen [] = refl

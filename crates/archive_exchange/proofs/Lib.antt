@@ -1,13 +1,4 @@
-pub mod FileKinds
-pub mod Files
-pub mod Found
-pub mod Accepting
-pub mod Rows
-pub mod Fronts
-pub mod Resumed
 pub mod Redelivered
-pub mod RowPlaces
-pub mod FaultLaws
 pub mod Texts
 pub mod RunStates
 pub mod Gained

@@ -3,13 +3,13 @@ use Rattle.std.proofs.Common.{◌≡◌, ◌≢◌, ℕ, List, [], ◌∷◌, ma
 use Rattle.std.specs.declared.result.Result.TheVariants.{Ok, Err}
 use Rattle.archive_core.specs.Record.{retirement_record}
 use Rattle.exchange_model.specs.World as model
-use Rattle.archive_exchange.specs.File.{IsAcceptedFile, IsTakeFault, parts}
+use Rattle.admission.specs.File.{IsAcceptedFile, IsTakeFault, parts}
 use Rattle.archive_exchange.specs.ModelEvent.{ModelEvent, IsFile, IsSeen, AreSeen, part_record}
 use Rattle.archive_exchange.specs.InnerEvents.{SeenFile}
-use Rattle.archive_exchange.specs.declared.fault.TakeFault.{TakeFault}
-use Rattle.archive_exchange.specs.declared.fault.TakeFault.TheVariants.{OutOfMemory}
-use Rattle.archive_exchange.specs.declared.event.Event.{Event}
-use Rattle.archive_exchange.specs.declared.event.Event.TheVariants.{Take, Retire, Full, Ask, Reply, Deliver, Save, Stop}
+use Rattle.admission.specs.declared.fault.TakeFault.{TakeFault}
+use Rattle.admission.specs.declared.fault.TakeFault.TheVariants.{OutOfMemory}
+use Rattle.rehearsal.specs.declared.event.Event.{Event}
+use Rattle.rehearsal.specs.declared.event.Event.TheVariants.{Take, Retire, Full, Ask, Reply, Deliver, Save, Stop}
 
 module _ (decide : (file : List ℕ) → IsAcceptedFile file ⊎ ((f : TakeFault) × (f ≢ OutOfMemory) × IsTakeFault file f)) where
   file_is : (file : List ℕ) → (is : SeenFile) × IsFile file is

@@ -11,16 +11,16 @@ use Rattle.archive_core.specs.Record.{IsRecord, admission_record}
 use Rattle.archive_core.specs.Content.{Operations, IsContent, with_record}
 use Rattle.exchange_model.specs.World.{World}
 use Rattle.exchange_model.proofs.Content.{below_reflexive}
-use Rattle.archive_exchange.specs.File.{IsAcceptedFile, admissible}
-use Rattle.archive_exchange.specs.Accepted.{IsAcceptedAs}
-use Rattle.archive_exchange.specs.InnerTaking.{file_of}
-use Rattle.archive_exchange.specs.declared.checking.AcceptedFile.{AcceptedFile}
-use Rattle.archive_exchange.specs.declared.checking.AcceptedFile.TheVariants.{Thin, Universal}
-use Rattle.archive_exchange.specs.Take.{admitted, HoldsFirstParts}
+use Rattle.admission.specs.File.{IsAcceptedFile, admissible}
+use Rattle.admission.specs.Accepted.{IsAcceptedAs}
+use Rattle.admission.specs.InnerTaking.{file_of}
+use Rattle.admission.specs.declared.checking.AcceptedFile.{AcceptedFile}
+use Rattle.admission.specs.declared.checking.AcceptedFile.TheVariants.{Thin, Universal}
+use Rattle.admission.specs.Take.{admitted, HoldsFirstParts}
 use Rattle.archive_exchange.specs.SiteState.{SiteState, IsWhole, IsBetween}
 use Rattle.archive_exchange.specs.Rehearsal.{RunState, AreSites, Represents}
 use Rattle.archive_exchange.proofs.Gained.{all_in, content_gain, recorded_retire}
-use Rattle.archive_exchange.proofs.Resumed.{grows, above_old, below_asked}
+use Rattle.admission.proofs.Resumed.{grows, above_old, below_asked}
 
 -- a site that holds another content, and has saved the same
 pub whole_as : (old new : Operations) (saved : List ℕ) → IsWhole (record { held = old; saved = saved }) → IsContent new → IsWhole (record { held = new; saved = saved })

@@ -11,8 +11,8 @@ use Rattle.exchange_model.specs.Issued.{issues}
 use Rattle.archive_exchange.specs.SiteState.{SiteState}
 use Rattle.archive_exchange.specs.ModelEvent.{OutcomeIs}
 use Rattle.archive_exchange.specs.Rehearsal.{Represents}
-use Rattle.archive_exchange.specs.declared.event.Outcome.{Outcome}
-use Rattle.archive_exchange.specs.declared.fault.TakeFault.{TakeFault}
+use Rattle.archive_exchange.specs.declared.outcome.Outcome.{Outcome}
+use Rattle.admission.specs.declared.fault.TakeFault.{TakeFault}
 
 -- a file as the definitions of sites see it
 abbrev pub SeenFile : Type 0

@@ -1,10 +1,5 @@
 pub mod Alike
-pub mod File
 pub mod SiteState
-pub mod Numbers
 pub mod Rehearsal
 pub mod ModelEvent
-pub mod Take
-pub mod Accepted
 pub mod InnerEvents
-pub mod InnerTaking

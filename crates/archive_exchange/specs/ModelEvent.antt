@@ -10,19 +10,19 @@ use Rattle.archive_core.specs.Record.{admission_record, retirement_record}
 use Rattle.archive_records.specs.declared.fault.RecordFault.{RecordFault}
 use Rattle.archive_records.specs.declared.fault.RecordFaultKind.TheVariants.{BadMagic}
 use Rattle.exchange_model.specs.World as model
-use Rattle.archive_exchange.specs.File.{IsAcceptedFile, IsTakeFault, is_admissible, parts}
-use Rattle.archive_exchange.specs.declared.fault.TakeFault.{TakeFault}
-use Rattle.archive_exchange.specs.declared.fault.TakeFault.TheVariants.{OutOfMemory}
-use Rattle.archive_exchange.specs.declared.taken.Taken.{Taken}
-use Rattle.archive_exchange.specs.declared.taken.Taken.TheVariants.{Added, Known, Skipped}
-use Rattle.archive_exchange.specs.declared.event.Event.{Event}
-use Rattle.archive_exchange.specs.declared.event.Event.TheVariants.{Take, Retire, Full, Ask, Reply, Deliver, Save, Stop}
-use Rattle.archive_exchange.specs.declared.event.EventFault.{EventFault}
-use Rattle.archive_exchange.specs.declared.event.EventFault.TheVariants.{NoSite, NoMessage, NotASummary}
-use Rattle.archive_exchange.specs.declared.event.EventFault.TheVariants.{Refused as Text_refused, File}
-use Rattle.archive_exchange.specs.declared.event.Outcome.{Outcome}
-use Rattle.archive_exchange.specs.declared.event.Outcome.TheVariants.{Took, Retired, Sent, Delivered}
-use Rattle.archive_exchange.specs.declared.event.Outcome.TheVariants.{Saved, Stopped, Refused}
+use Rattle.admission.specs.File.{IsAcceptedFile, IsTakeFault, is_admissible, parts}
+use Rattle.admission.specs.declared.fault.TakeFault.{TakeFault}
+use Rattle.admission.specs.declared.fault.TakeFault.TheVariants.{OutOfMemory}
+use Rattle.admission.specs.declared.taken.Taken.{Taken}
+use Rattle.admission.specs.declared.taken.Taken.TheVariants.{Added, Known, Skipped}
+use Rattle.rehearsal.specs.declared.event.Event.{Event}
+use Rattle.rehearsal.specs.declared.event.Event.TheVariants.{Take, Retire, Full, Ask, Reply, Deliver, Save, Stop}
+use Rattle.archive_exchange.specs.declared.outcome.EventFault.{EventFault}
+use Rattle.archive_exchange.specs.declared.outcome.EventFault.TheVariants.{NoSite, NoMessage, NotASummary}
+use Rattle.archive_exchange.specs.declared.outcome.EventFault.TheVariants.{Refused as Text_refused, File}
+use Rattle.archive_exchange.specs.declared.outcome.Outcome.{Outcome}
+use Rattle.archive_exchange.specs.declared.outcome.Outcome.TheVariants.{Took, Retired, Sent, Delivered}
+use Rattle.archive_exchange.specs.declared.outcome.Outcome.TheVariants.{Saved, Stopped, Refused}
 
 -- an event as the definitions of sites see it, where a file is refused by a TakeFault
 abbrev pub ModelEvent : Type 0

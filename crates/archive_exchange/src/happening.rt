@@ -5,11 +5,13 @@ ghost use Rattle.exchange_model.specs.World as model;
 ghost use Rattle.archive_exchange.specs.ModelEvent.{ModelEvent, IsFile, IsSeen};
 ghost use Rattle.archive_exchange.specs.InnerEvents.{SeenFile, IsRecorded, Follows, Happens};
 
-use crate::laws::one_take_fault;
 use crate::message::Message;
-use crate::{DeliverFault, Event, EventFault, Outcome, ReplyFault, Site, TakeFault};
+use crate::{DeliverFault, EventFault, Outcome, ReplyFault, Site};
+use admission::TakeFault;
+use admission::laws::one_take_fault;
 use archive_core::{Archive, Digest, SliceKey};
 use memory::{Heap, NoMemory};
+use rehearsal::Event;
 
 /// Sends a text, and answers its number.
 fn send(messages: &mut Vec<Message, Heap>, text: Vec<u8, Heap>) -> Result<Outcome, NoMemory>

@@ -13,12 +13,14 @@ ghost use Rattle.archive_exchange.specs.InnerEvents.{HasRun};
 
 use crate::happening::happen;
 use crate::laws::one_meaning;
-use crate::{Event, Outcome, Site, TakeFault, World};
+use crate::{Outcome, Site, World};
+use admission::TakeFault;
 use archive_core::Archive;
 use exchange_model::laws::{
     answered_agree, delta_lifts, issued_and_kept, reached_is_held, same_reached,
 };
 use memory::{Heap, NoMemory};
+use rehearsal::Event;
 
 /// Empty sites.
 fn empty_sites<A: Archive + Drop>(heap: &Heap, sites: u32) -> Result<Vec<Site<A>, Heap>, NoMemory>

@@ -5,17 +5,18 @@ ghost use Rattle.archive_core.specs.Content.{with_record, changes, joined};
 ghost use Rattle.archive_core.specs.Record.{retirement_record, IsRecord};
 ghost use Rattle.archive_core.specs.Summary.{Entries, summary, delta};
 ghost use Rattle.archive_records.specs.Text.{written, summary_text};
-ghost use Rattle.archive_exchange.specs.File.{IsAcceptedFile, IsTakeFault, admissible, parts};
-ghost use Rattle.archive_exchange.specs.Take.{admitted, taken_rows, HoldsFirstParts};
+ghost use Rattle.admission.specs.File.{IsAcceptedFile, IsTakeFault, admissible, parts};
+ghost use Rattle.admission.specs.Take.{admitted, taken_rows, HoldsFirstParts};
 ghost use Rattle.archive_exchange.specs.SiteState.{IsArchiveTextOf, Gives, IsWhole, IsBetween};
 ghost use Rattle.archive_exchange.specs.SiteState.{IsDeliverFault, HasJoined, HasJoinedInPart};
 ghost use Rattle.archive_exchange.specs.SiteState.{Names, RepliesTo, IsReplyFault};
 
-use crate::taking::take_accepted;
-use crate::{DeliverFault, ReplyFault, TakeFault, Taken, check_file};
+use crate::{DeliverFault, ReplyFault};
+use admission::{TakeFault, Taken, check_file, take_accepted};
 use archive_core::{Archive, Digest, Operation, SliceKey, take_all};
+use archive_reading::read_archive;
 use archive_records::{
-    RecordFaultKind, Summary, read_archive, read_summary, write_archive, write_delta, write_summary,
+    RecordFaultKind, Summary, read_summary, write_archive, write_delta, write_summary,
 };
 use byte_device::{Bytes, Grown};
 use memory::{Heap, NoMemory};

@@ -1,10 +1,8 @@
 //! Files of the system that are read. What they hold is in no contract, and which were opened is.
 
 use crate::call_log::CallLog;
-use archive_commands::CannotOpen;
-use byte_device::Reading;
+use byte_device::{CannotOpen, Disk, Reading};
 use memory::NoMemory;
-use plan_commands::Disk;
 use std::alloc::Global;
 use std::fs;
 use std::io::BufReader;
@@ -38,7 +36,7 @@ impl<'a, F: Files> SystemDisk<'a, F> {
 
 impl<'a, F: Files> Disk for SystemDisk<'a, F> {
     ghost use Rattle.std.specs.Prelude.{Some};
-    ghost use Rattle.plan_commands.specs.Disks.FileAt.{Unknown};
+    ghost use Rattle.byte_device.specs.Disks.FileAt.{Unknown};
 
     type Input = Reading<BufReader<F::File>>;
 

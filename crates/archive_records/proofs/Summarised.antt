@@ -1,5 +1,5 @@
 -- The entries that a summary keeps.
-use Rattle.std.proofs.Common.{◌≡◌, ℕ, ◌+◌, ◌<◌, Bool, true, false, cond, ◌||◌, List, [], ◌∷◌, ◌++◌, length, map, take, drop, get_or, ◌==◌, if◌then◌else◌, refl, sym, ap, ◌∙◌, subst, inl, inr, ◌⊎◌}
+use Rattle.std.proofs.Common.{◌≡◌, ℕ, ◌+◌, ◌<◌, Bool, true, false, cond, ◌||◌, List, [], ◌∷◌, ◌++◌, length, map, take, drop, get_or, ◌==◌, if◌then◌else◌, refl, sym, ap, ◌∙◌, subst, inl, inr, ◌⊎◌, Result, Ok, Err}
 use Rattle.std.specs.Ordering.{eq_by_cmp, is_lt}
 use Rattle.std.specs.declared.cmp.Ordering.TheVariants.{Less}
 use Rattle.std.specs.Cmp.{Equal-is, on_total}
@@ -11,7 +11,7 @@ use Rattle.std.specs.FinSet.{contains-from_list, same_set}
 use Rattle.std.proofs.lemmas.List.{map-append, take_more, get_or-map}
 use Rattle.std.proofs.lemmas.List.Kept.{IsStrictlySortedBy-dedup}
 use Rattle.std.proofs.lemmas.List.Sorted.{IsPermutation-map, list_any-IsPermutation}
-use Rattle.std.specs.Prelude.{Result, Ok, Err, is_ok}
+use Rattle.std.specs.Prelude.{Result, Ok, Err, is_ok, map}
 use Rattle.join_core.specs.Listing.{listing}
 use Rattle.join_core.specs.InnerSearch.{IsFound}
 use Rattle.archive_core.specs.Record.{IsRecord}
@@ -143,3 +143,7 @@ entries_more before after e records r grown of are =
 pub entry_of_admission : (bytes key digest : List ℕ) → get_or bytes 0 0 ≡ 2 → key ≡ take 24 (drop 1 bytes) → digest ≡ sha256 (drop 33 bytes) → 2 ∷ (key ++ digest) ≡ entry bytes
 unfolding entry key_and_digest
 entry_of_admission bytes key digest tag k d = (λ i. 2 ∷ (k i ++ d i)) ∙ sym (ap (λ n. if n == 2 then 2 ∷ (take 24 (drop 1 bytes) ++ sha256 (drop 33 bytes)) else bytes) tag)
+
+-- one entry more
+pub named_more : (xs grown : List Entry) (e : Entry) (records : List (List ℕ)) (bytes : List ℕ) → grown ≡ xs ++ e ∷ [] → entry_bytes e ≡ bytes → map entry_bytes xs ≡ records → map entry_bytes grown ≡ records ++ bytes ∷ []
+named_more xs grown e records bytes more is l = ap (map entry_bytes) more ∙ map-append entry_bytes xs (e ∷ []) ∙ ap (λ (t : List ℕ). map entry_bytes xs ++ t ∷ []) is ∙ ap (λ (rs : List (List ℕ)). rs ++ bytes ∷ []) l

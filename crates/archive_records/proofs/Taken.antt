@@ -12,7 +12,7 @@ use Rattle.archive_records.proofs.Apart.{covered_push, covered_apart, last_of-pu
 use Rattle.archive_records.proofs.Formats.{in_order_old}
 use Rattle.archive_records.proofs.Contents.{are_records, InOrder-listing}
 use Rattle.archive_records.proofs.Versions.{kept_set, kept_records, made_content}
-use Rattle.archive_records.proofs.Covered.{kept_none, kept_push, kept_pass}
+use Rattle.archive_records.proofs.KeptRecords.{kept_none, kept_push, kept_pass}
 
 pub taken_none : (file : Format) → taken_of file [] ≡ []
 taken_none Archive = refl

@@ -1,6 +1,4 @@
 pub mod Entry
-pub mod Keys
-pub mod Names
 pub mod Kind
 pub mod Layout
 pub mod Text
@@ -9,8 +7,3 @@ pub mod Front
 pub mod Reading
 pub mod Writing
 pub mod Reader
-pub mod Merging
-pub mod MergeSteps
-pub mod InnerNames
-pub mod InnerRows
-pub mod InnerKeys

@@ -66,7 +66,7 @@ impl RecordFault {
     ghost use Rattle.archive_records.specs.declared.fault.RecordFaultKind.TheVariants.{OutOfMemory};
 
     /// Want of memory behind so many bytes.
-    pub(crate) fn out_of_memory(offset: u128) -> RecordFault
+    pub fn out_of_memory(offset: u128) -> RecordFault
         ensures { result ≡ record { kind = OutOfMemory; offset = offset } }
     {
         RecordFault {

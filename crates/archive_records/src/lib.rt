@@ -1,5 +1,4 @@
-//! The texts of archives, summaries and deltas: written, and read back exactly, over any device; and lists of
-//! operations, read.
+//! One record of a text after another, read and written over any device, and the texts that are written.
 //!
 //! The text of an archive is the magic `MSYMARC2`, the records of its operations strictly ascending in byte order, and
 //! an end record with their number; all numbers are big-endian. A record is a tag, a key, and for a retirement (tag 1)
@@ -23,15 +22,7 @@
 //! - `kind`: what a file is; `format`: what it begins with, how its records follow one another and how it ends;
 //! - `buffer`, `frame`, `next`, `retired`, `reader`: one record after another, each read over the last and compared
 //!   with it, and with the retirements before it;
-//! - `records`: one pass over them, and what is made of those that are taken;
-//! - `reading`, `part`: [`read_archive`], [`read_front`] and [`read_part`], of which a part is kept;
-//! - `keyed`: [`answer_by_key`], questions under keys, in the memory of the slices under one of them;
-//! - `names`: [`read_names`], where symbols of a name stand, of which no slice is kept;
-//! - `operations`: [`read_ops`];
-//! - `rows`, `summarizing`: [`list_rows`] and [`summarize`], what an archive tells record by record, of which no slice
-//!   is kept;
-//! - `side`, `merging`, `streams`: [`merge_streams`], in the memory of one record of each side and of its retirements;
-//! - [`laws`]: what holds of texts and their faults.
+//! - `records`: one pass over them, and what is made of those that are taken.
 #![tactic(auto)]
 
 mod buffer;
@@ -40,35 +31,21 @@ mod fault;
 mod format;
 mod frame;
 mod head;
-mod keyed;
 mod kind;
-pub mod laws;
-mod merging;
-mod names;
 mod next;
-mod operations;
-mod part;
 mod reader;
-mod reading;
 mod records;
 mod retired;
-mod rows;
-mod side;
-mod streams;
-mod summarizing;
 mod summary;
 mod writing;
 
 pub use entry::Entry;
 pub use fault::{MergeCause, MergeFault, RecordFault, RecordFaultKind};
-pub use head::key_front;
-pub use keyed::{Questions, answer_by_key};
-pub use names::{OwnedNameRow, read_names};
-pub use operations::read_ops;
-pub use part::{Selects, Under, read_part};
-pub use reading::{read_archive, read_front};
-pub use rows::list_rows;
-pub use streams::merge_streams;
-pub use summarizing::summarize;
+pub use format::Format;
+pub use head::{ADMISSION_HEAD_LEN, MAGIC_LEN, digest_in, key_front, key_in, slice_digest_in};
+pub use kind::TextKind;
+pub use next::NextRecord;
+pub use reader::{MOST, RecordReader};
+pub use records::{FromRecords, read_records, read_text};
 pub use summary::{Summary, read_summary};
-pub use writing::{Sizes, write_archive, write_delta, write_summary};
+pub use writing::{Sizes, put_end, write_archive, write_delta, write_summary};

@@ -213,7 +213,7 @@ impl RecordReader {
                         });
                     }
                 }
-                // Behind all tests of the record: a fault of the text is told before want of memory.
+                // After all tests of the record: a fault of the text comes before want of memory.
                 if self.count == MOST {
                     return Err(RecordFault::out_of_memory(self.offset));
                 }
@@ -231,7 +231,7 @@ impl RecordReader {
         }
     }
 
-    /// Whether the input ends behind the end record.
+    /// Whether the input ends after the end record.
     pub fn finish<R: Source>(&self, r: &mut R) -> Result<(), RecordFault>
         ensures at_end { OnOk result (IsAtEnd (R.left r.new) × Consumes (R.left r.old) (R.left r.new) []) }
         ensures stopped { IfErr result (λ fault. (file : Format) (a : Option (List ℕ)) (records : List (List ℕ))

@@ -69,7 +69,7 @@ impl Summary {
     }
 
     /// The summary of these entries, which may stand in any order, and several times.
-    pub(crate) fn of_entries(entries: Vec<Entry, Heap>) -> Summary
+    pub fn of_entries(entries: Vec<Entry, Heap>) -> Summary
         requires { AllByRecursion IsEntry (map entry_bytes entries.items) }
         ensures { result ≡ set.from_list (map entry_bytes entries.items) }
     {
@@ -151,8 +151,8 @@ fn read_whole_summary<R: Source>(heap: Heap, r: &mut R) -> Result<Summary, Recor
 ///
 /// # Errors
 ///
-/// Those of [`crate::read_archive`], in the same order and with the same offsets, but for BadSlice, KeyMismatch,
-/// TooLarge and Covered: an entry has no slice.
+/// Those of `read_archive` of `archive_reading`, in the same order and with the same offsets, but for BadSlice,
+/// KeyMismatch, TooLarge and Covered: an entry has no slice.
 pub fn read_summary<R: Source>(heap: Heap, r: &mut R) -> Result<Summary, RecordFault>
     ensures { ReadsWhole SummaryFile (λ summary. summary) R.left R.failures r.old r.new result }
 {

@@ -1,5 +1,5 @@
--- What a call of a device does to its count of failures.
-use Rattle.std.specs.Prelude.{◌≡◌, ℕ, ◌+◌, ◌-◌, ◌^◌, ◌<◌, min, MatchResult, Result}
+-- What a call of a device does to its count of failures, and a device in a call.
+use Rattle.std.specs.Prelude.{◌≡◌, ℕ, ◌+◌, ◌-◌, ◌^◌, ◌<◌, min, MatchResult, Result, List, Option}
 
 -- the greatest count of failures
 abbrev pub most_failures : ℕ
@@ -13,3 +13,15 @@ FailedIn old new = new ≡ min (old + 1) most_failures
 -- A call that answers `Ok` leaves the count, which was not at its greatest. Each other call fails once.
 abbrev pub CountsFailure : {T E : Type 0} → ℕ → ℕ → Result T E → Type 0
 CountsFailure old new r = MatchResult r (λ _. (old < most_failures) × (new ≡ old)) (λ _. FailedIn old new)
+
+-- A device in a call, before it and after it. The functions tell its bytes, where they are known, and how often it has
+-- failed.
+pub record Stream (D : Type 0) : Type 0 where
+  pub bytes : D → Option (List ℕ)
+  pub failures : D → ℕ
+  pub old : D
+  pub new : D
+
+-- the device between these two states
+abbrev pub stream : {D : Type 0} → (D → Option (List ℕ)) → (D → ℕ) → D → D → Stream D
+stream bytes failures old new = record { bytes = bytes; failures = failures; old = old; new = new }

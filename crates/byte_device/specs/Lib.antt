@@ -1,3 +1,4 @@
 pub mod Devices
 pub mod Limits
 pub mod Writes
+pub mod Disks

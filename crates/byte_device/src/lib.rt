@@ -1,5 +1,5 @@
 //! Devices that give and take bytes and count their failures, and the calls that take all the
-//! bytes of one or give it a whole text.
+//! bytes of one or give it a whole text; and files by their paths, each of which gives bytes.
 #![tactic(auto)]
 
 ghost use Rattle.std.specs.Prelude.{◌≡◌, ℕ, List, Option, Some, IfOk, ◌<◌, ◌≤◌, length};
@@ -7,12 +7,14 @@ ghost use Rattle.std.specs.Io.KnownBytes.{ReadConsumes, WriteAppends};
 ghost use Rattle.byte_device.specs.Devices.{CountsFailure};
 
 mod buffers;
+mod disks;
 mod reading;
 mod streams;
 mod testing;
 mod writing;
 
 pub use buffers::{Bytes, Grown};
+pub use disks::{CannotCreate, CannotOpen, Disk};
 pub use reading::{ReadFault, is_at_end, read_to_end};
 pub use streams::{Reading, Writing};
 pub use testing::{Pieces, Short};

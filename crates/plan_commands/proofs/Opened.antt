@@ -4,8 +4,9 @@ use Rattle.std.proofs.Common.{Option, Some, None, Result, Ok, Err, OnErr, append
 use Rattle.std.proofs.lemmas.List.{map_more, take-map}
 use Rattle.std.specs.List.{AllZip}
 use Rattle.clap.specs.Words.{Text}
-use Rattle.archive_commands.specs.declared.faults.CannotOpen.{CannotOpen}
-use Rattle.plan_commands.specs.Disks.{AreFirstOpened, AreOpened, FileAt, IsOpened, opened_with}
+use Rattle.byte_device.specs.declared.disks.CannotOpen.{CannotOpen}
+use Rattle.plan_commands.specs.Disks.{AreFirstOpened, AreOpened}
+use Rattle.byte_device.specs.Disks.{FileAt, IsOpened, opened_with}
 
 -- relations hold along lists with one more element each
 zip_more : {A B : Type 0} (R : A → B → Type 0) (xs : List A) (ys : List B) (x : A) (y : B)

@@ -1,45 +1,23 @@
--- Files by their paths.
-use Rattle.std.specs.Prelude.{◌≡◌, ℕ, List, ◌++◌, Option, Some, None, Result, Err, IsErr, MatchResult, ⊤}
-use Rattle.std.specs.Prelude.{option_map, take}
+-- A plan over files by their paths.
+use Rattle.std.specs.Prelude.{◌≡◌, ℕ, List, Option, Result, Err, take}
 use Rattle.std.specs.List.{AllZip}
 use Rattle.clap.specs.Words.{Text}
 use Rattle.command_line.specs.Lines.{Line, inputs_of}
-use Rattle.archive_records.specs.Merging.{Stream}
-use Rattle.archive_commands.specs.declared.faults.CannotOpen.{CannotOpen}
-use Rattle.archive_commands.specs.declared.faults.CommandFault.{CommandFault}
-use Rattle.archive_commands.specs.declared.faults.CommandFault.TheVariants.{OutOfMemory}
-use Rattle.archive_commands.specs.declared.faults.Status.{Status}
-use Rattle.archive_commands.specs.Inputs.{readers}
-use Rattle.archive_commands.specs.Outputs.{Writer}
+use Rattle.byte_device.specs.Devices.{Stream}
+use Rattle.byte_device.specs.declared.disks.CannotOpen.{CannotOpen}
+use Rattle.command_ends.specs.declared.faults.CommandFault.{CommandFault}
+use Rattle.command_ends.specs.declared.faults.CommandFault.TheVariants.{OutOfMemory}
+use Rattle.command_ends.specs.declared.faults.Status.{Status}
+use Rattle.command_ends.specs.Inputs.{readers}
+use Rattle.command_ends.specs.Outputs.{Writer}
 use Rattle.plan_commands.specs.Executes.{Executes}
-
--- what is known of the file at a path: nothing, that there is none, or its bytes
-pub data FileAt : Type 0 where
-  Unknown : FileAt
-  Missing : FileAt
-  Holding : (bytes : List ℕ) → FileAt
-
--- what is known of a file that has these bytes, or is not there
-abbrev pub file_of : Option (List ℕ) → FileAt
-file_of None = Missing
-file_of (Some bytes) = Holding bytes
-
--- The input is what opening a file gives, of which this is known.
-abbrev pub IsOpened : {S : Type 0} → (S → Option (List ℕ)) → (S → ℕ) → FileAt → Result S CannotOpen → Type 0
-IsOpened left failures Unknown input = ⊤
-IsOpened left failures Missing input = IsErr input
-IsOpened left failures (Holding bytes) input =
-    MatchResult input (λ source. (left source ≡ Some bytes) × (failures source ≡ 0)) (λ _. ⊥)
+use Rattle.byte_device.specs.Disks.{FileAt, IsOpened, opened_with}
 
 -- The inputs are what opening the files at these paths gives.
 abbrev pub AreOpened : {S : Type 0} → (S → Option (List ℕ)) → (S → ℕ) → (Text → FileAt) → List Text
     → List (Result S CannotOpen) → Type 0
 AreOpened left failures file_at paths inputs =
     AllZip (λ path input. IsOpened left failures (file_at path) input) paths inputs
-
--- the paths that were opened, where they are known, and these behind them
-abbrev pub opened_with : Option (List Text) → List Text → Option (List Text)
-opened_with opened paths = option_map (λ before. before ++ paths) opened
 
 -- The files at the first of these paths were opened, each once and in their order.
 abbrev pub AreFirstOpened : Option (List Text) → Option (List Text) → List Text → Type 0

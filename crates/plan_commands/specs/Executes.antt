@@ -5,26 +5,26 @@ use Rattle.command_line.specs.Lines.{Line}
 use Rattle.command_line.specs.Lines as line
 use Rattle.archive_core.specs.declared.keys.ArchKey.{ArchKey}
 use Rattle.archive_core.specs.declared.keys.SliceKey.{SliceKey}
-use Rattle.archive_records.specs.Merging.{Stream}
+use Rattle.byte_device.specs.Devices.{Stream}
 use Rattle.archive_records.specs.Text.{written}
-use Rattle.archive_commands.specs.declared.faults.CommandFault.{CommandFault}
-use Rattle.archive_commands.specs.declared.faults.Status.{Status}
-use Rattle.archive_commands.specs.Admit.{admit}
-use Rattle.archive_commands.specs.Apply.{apply}
-use Rattle.archive_commands.specs.Delta.{delta}
-use Rattle.archive_commands.specs.Ends.{Ends, EndsReport, Query}
-use Rattle.archive_commands.specs.Find.{find}
-use Rattle.archive_commands.specs.Frames.{frames}
-use Rattle.archive_commands.specs.Inputs.{Reader}
-use Rattle.archive_commands.specs.List.{list}
-use Rattle.archive_commands.specs.MergeStreams.{EndsMerge}
-use Rattle.archive_commands.specs.Migrate.{migrate}
-use Rattle.archive_commands.specs.Name.{name}
-use Rattle.archive_commands.specs.Outputs.{Writer, Publishes, report_of, writer}
-use Rattle.archive_commands.specs.Rehearse.{rehearse}
-use Rattle.archive_commands.specs.Retire.{retire}
-use Rattle.archive_commands.specs.Summary.{summary}
-use Rattle.archive_commands.specs.Symbolicate.{symbolicate}
+use Rattle.command_ends.specs.declared.faults.CommandFault.{CommandFault}
+use Rattle.command_ends.specs.declared.faults.Status.{Status}
+use Rattle.archive_updates.specs.Admit.{admit}
+use Rattle.archive_updates.specs.Apply.{apply}
+use Rattle.archive_updates.specs.Delta.{delta}
+use Rattle.command_ends.specs.Ends.{Ends, EndsReport, Query}
+use Rattle.archive_queries.specs.Find.{find}
+use Rattle.archive_queries.specs.Frames.{frames}
+use Rattle.command_ends.specs.Inputs.{Reader}
+use Rattle.archive_queries.specs.List.{list}
+use Rattle.archive_updates.specs.MergeStreams.{EndsMerge}
+use Rattle.archive_updates.specs.Migrate.{migrate}
+use Rattle.archive_queries.specs.Name.{name}
+use Rattle.command_ends.specs.Outputs.{Writer, Publishes, report_of, writer}
+use Rattle.rehearse.specs.Rehearse.{rehearse}
+use Rattle.archive_updates.specs.Retire.{retire}
+use Rattle.archive_updates.specs.Summary.{summary}
+use Rattle.archive_queries.specs.Symbolicate.{symbolicate}
 
 -- the key that a line names
 abbrev pub key_of : List ℕ → ArchKey → SliceKey

@@ -1,3 +1,3 @@
 pub mod Executes
 pub mod Disks
-pub mod Statuses
+pub mod Files

@@ -1,21 +1,22 @@
 //! The command of a plan.
 
 ghost use Rattle.std.specs.Prelude.{◌≡◌, ◌∷◌, [], length};
-ghost use Rattle.archive_records.specs.Merging.{stream};
-ghost use Rattle.archive_commands.specs.Inputs.{reader, readers};
-ghost use Rattle.archive_commands.specs.Outputs.{writer};
+ghost use Rattle.byte_device.specs.Devices.{stream};
+ghost use Rattle.command_ends.specs.Inputs.{reader, readers};
+ghost use Rattle.command_ends.specs.Outputs.{writer};
 ghost use Rattle.command_line.specs.Lines.{apply, delta, inputs_of, plan_view};
 ghost use Rattle.plan_commands.specs.Executes.{Executes, key_of};
 
-use archive_commands::{
-    CannotOpen, CommandFault, Status, run_admit, run_apply, run_delta, run_find, run_frames,
-    run_list, run_merge, run_migrate, run_name, run_new, run_rehearse, run_retire, run_summary,
-    run_symbolicate,
-};
 use archive_core::{ArchKey, Archive, SliceKey};
-use byte_device::{Sink, Source};
+use archive_queries::{run_find, run_frames, run_list, run_name, run_symbolicate};
+use archive_updates::{
+    run_admit, run_apply, run_delta, run_merge, run_migrate, run_new, run_retire, run_summary,
+};
+use byte_device::{CannotOpen, Sink, Source};
+use command_ends::{CommandFault, Status};
 use command_line::Plan;
 use memory::Heap;
+use rehearse::run_rehearse;
 use uuid::Uuid;
 
 /// An input of a command, if it could be opened.

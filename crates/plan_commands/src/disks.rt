@@ -1,38 +1,19 @@
-//! Files by their paths, and a plan that is carried out over them.
+//! A plan that is carried out over files by their paths.
 
-ghost use Rattle.std.specs.Prelude.{◌≡◌, ◌⊎◌, ◌∷◌, [], List, Option, IfOk, OnErr, OnOk, map};
-ghost use Rattle.clap.specs.Words.{Text};
-ghost use Rattle.archive_records.specs.Merging.{stream};
-ghost use Rattle.archive_commands.specs.Outputs.{writer};
+ghost use Rattle.std.specs.Prelude.{◌≡◌, ◌⊎◌, IfOk, OnErr, OnOk, map};
+ghost use Rattle.byte_device.specs.Devices.{stream};
+ghost use Rattle.command_ends.specs.Outputs.{writer};
 ghost use Rattle.command_line.specs.Lines.{plan_view};
-ghost use Rattle.plan_commands.specs.Disks.{AreFirstOpened, AreOpened, Carried, FileAt, IsOpened, IsUnbegun};
-ghost use Rattle.plan_commands.specs.Disks.{opened_with};
+ghost use Rattle.plan_commands.specs.Disks.{AreFirstOpened, AreOpened, Carried, IsUnbegun};
+ghost use Rattle.byte_device.specs.Disks.{opened_with};
 
 use crate::commands::execute;
-use archive_commands::{CannotOpen, CommandFault, Status};
 use archive_core::Archive;
-use byte_device::{Sink, Source};
+use byte_device::{CannotOpen, Disk, Sink, Source};
+use command_ends::{CommandFault, Status};
 use command_line::Plan;
 use memory::{Heap, NoMemory};
 use std::alloc::Global;
-
-/// Files that are read by their paths.
-pub trait Disk {
-    type Input: Source + Drop;
-
-    // What is known of the file at a path.
-    ghost file_at: { Self → Text → FileAt };
-
-    // The paths that were opened, in their order, where they are known.
-    ghost opened: { Self → Option (List Text) };
-
-    /// Opens the file at a path, if that can be done. Where memory is wanting it was opened too.
-    fn open(&mut self, path: &str) -> Result<Result<Self::Input, CannotOpen>, NoMemory>
-        ensures input { IfOk result
-            (λ input. IsOpened Self.Input.left Self.Input.failures (file_at self.old path.now) input) }
-        ensures files { file_at self.new ≡ file_at self.old }
-        ensures opened { opened self.new ≡ opened_with (opened self.old) (path.now ∷ []) };
-}
 
 /// Opens the files at these paths.
 fn open_all<D: Disk>(

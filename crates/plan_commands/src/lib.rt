@@ -1,14 +1,13 @@
-//! A plan of a command line, carried out.
+//! A plan of a command line, carried out over any files and over those of the system.
 //!
 //! - `commands`: the command of a plan, over its inputs, OUT and the report;
-//! - `disks`: files by their paths, and a plan over them;
-//! - `statuses`: the exit status of what was carried out.
+//! - `disks`: a plan over files by their paths;
+//! - `files`: a plan over files of the system.
 #![tactic(auto)]
 
 mod commands;
 mod disks;
-mod statuses;
+mod files;
 
-pub use commands::execute;
-pub use disks::{Disk, execute_on};
-pub use statuses::status_of;
+pub use disks::execute_on;
+pub use files::execute;

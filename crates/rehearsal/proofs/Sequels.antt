@@ -3,7 +3,7 @@ use Rattle.std.proofs.Common.{◌≡◌, ◌∙◌, sym, ap, refl, arith, ℕ, �
 use Rattle.std.proofs.Common.{Some, None, Result, Ok, Err, Bor}
 use Rattle.std.proofs.lemmas.Bool.{cond-false, cond-true, lt-ltb, false_from_ne_true, ltb-true}
 use Rattle.std.proofs.lemmas.List.{at_drop_more, get_or-map, length-map}
-use Rattle.archive_exchange.specs.declared.event.Event.{Event}
+use Rattle.rehearsal.specs.declared.event.Event.{Event}
 use Rattle.rehearsal.specs.Events.{Act, act_of, line_act}
 use Rattle.archive_words.specs.Lines.{Line, seen}
 use Rattle.rehearsal.specs.Script.{Wrong, acts, event_then, events_of, most_events, onto, wrong}

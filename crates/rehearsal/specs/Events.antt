@@ -8,8 +8,8 @@ use Rattle.uuid.specs.Text.{parsed}
 use Rattle.archive_core.specs.declared.keys.ArchKey.{ArchKey}
 use Rattle.archive_core.specs.declared.keys.Digest.{Digest}
 use Rattle.archive_core.specs.declared.keys.SliceKey.{SliceKey}
-use Rattle.archive_exchange.specs.declared.event.Event.{Event}
-use Rattle.archive_exchange.specs.declared.event.Event.TheVariants as event
+use Rattle.rehearsal.specs.declared.event.Event.{Event}
+use Rattle.rehearsal.specs.declared.event.Event.TheVariants as event
 use Rattle.archive_words.specs.Words.{arch_of, digest_of}
 use Rattle.archive_words.specs.Lines.{Field, Line, fields}
 use Rattle.rehearsal.specs.Numbers.{number_of}

@@ -1,3 +1,4 @@
+pub mod EventSite
 pub mod Numbers
 pub mod Events
 pub mod Script

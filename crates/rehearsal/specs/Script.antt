@@ -1,7 +1,7 @@
 -- Which bytes are a script, and what is wrong with the others.
 use Rattle.std.specs.Prelude.{◌≡◌, ◌+◌, ℕ, ◌≤◌, ◌⊎◌, List, [], ◌∷◌, ◌++◌, length, nat_lt, if◌then◌else◌, map, ⊤}
 use Rattle.std.specs.Prelude.{Option, Some, None, IsSome, Result, Ok, Err}
-use Rattle.archive_exchange.specs.declared.event.Event.{Event}
+use Rattle.rehearsal.specs.declared.event.Event.{Event}
 use Rattle.rehearsal.specs.Events.{Act, act_of, line_act, line_sites}
 use Rattle.archive_words.specs.Lines.{Line, counting, line_count}
 use Rattle.rehearsal.specs.declared.script.ScriptError.{ScriptError}

@@ -9,9 +9,9 @@ ghost use Rattle.rehearsal.specs.Events.{message_act, plain_act, retire_act, tak
 ghost use Rattle.archive_words.specs.Lines.{parts};
 ghost use Rattle.rehearsal.specs.Numbers.{number_of};
 
+use crate::Event;
 use crate::numbers::read_number;
 use archive_core::{ArchKey, Digest, SliceKey};
-use archive_exchange::Event;
 use archive_words::{Word, cut_field};
 use hex::FromHexError;
 use memory::{Heap, NoMemory};

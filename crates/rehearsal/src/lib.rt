@@ -1,5 +1,6 @@
 //! The scripts of rehearsals: a number of sites, and what happens at them.
 //!
+//! - `event`: what happens at a site;
 //! - `script`: what a script says, and why bytes are none;
 //! - `numbers`: decimal numbers;
 //! - `events`: what a line asks for;
@@ -7,11 +8,13 @@
 //! - [`laws`]: what holds of scripts.
 #![tactic(auto)]
 
+mod event;
 mod events;
 pub mod laws;
 mod numbers;
 mod reading;
 mod script;
 
+pub use event::Event;
 pub use reading::read_script;
 pub use script::{Script, ScriptError, ScriptFault};

@@ -4,9 +4,9 @@ ghost use Rattle.std.specs.Prelude.{◌≡◌, ◌+◌, ◌<◌, ◌^◌, All, I
 ghost use Rattle.archive_words.specs.Lines.{seen};
 ghost use Rattle.rehearsal.specs.Script.{IsErrorOf, acts, events_of, script_of};
 
+use crate::Event;
 use crate::events::{read_event, read_sites};
 use crate::script::{Script, ScriptError, ScriptFault};
-use archive_exchange::Event;
 use archive_words::{lines_that_count, number_of_lines};
 use memory::Heap;
 

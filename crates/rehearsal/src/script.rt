@@ -1,6 +1,6 @@
 //! What a script says, and why bytes are none.
 
-use archive_exchange::Event;
+use crate::Event;
 use memory::Heap;
 use std::alloc::{AllocError, AllocFailed};
 

@@ -24,8 +24,8 @@ use Rattle.archive_core.specs.declared.keys.ArchKey.{ArchKey}
 use Rattle.archive_core.specs.declared.keys.SliceKey.{SliceKey}
 use Rattle.archive_core.specs.declared.find.FindRow.{FindRow}
 use Rattle.archive_core.specs.declared.operations.Operation.{Operation}
-use Rattle.archive_core.proofs.Listed.{found_under}
-use Rattle.archive_core.proofs.Scanned.{in_front, in_rest}
+use Rattle.archive_core.proofs.Told.{found_under}
+use Rattle.archive_core.proofs.Members.{in_front, in_rest}
 use Rattle.report_text.specs.Finds.{Group, with_row, groups}
 use Rattle.report_text.proofs.Grouped.{same_key, key_is_same}
 

@@ -1,8 +1,8 @@
 -- The lines of rows, told of what the rows tell.
 use Rattle.std.proofs.Common.{◌≡◌, ◌++◌, ℕ, List, [], ◌∷◌, map, refl, ap, append_assoc}
 use Rattle.std.specs.List.{flat_map}
-use Rattle.archive_records.specs.Names.{owned_name_view}
-use Rattle.archive_records.specs.declared.names.OwnedNameRow.{OwnedNameRow}
+use Rattle.archive_core.specs.Names.{owned_name_view}
+use Rattle.archive_core.specs.declared.names.OwnedNameRow.{OwnedNameRow}
 use Rattle.report_text.specs.Names.{name_row_text, name_lines}
 use Rattle.report_text.specs.Report.{line}
 

@@ -4,4 +4,3 @@ pub mod Report
 pub mod Finds
 pub mod Answers
 pub mod Names
-pub mod Rehearsal

@@ -1,28 +1,21 @@
 -- The printed texts of faults.
-use Rattle.std.specs.Prelude.{List, ℕ, ◌++◌, codes}
+use Rattle.std.specs.Prelude.{List, ℕ, ◌++◌, codes, ◌+◌}
 use Rattle.std.specs.Fmt.{decimal}
 use Rattle.macho_image.specs.declared.fault.ImageFault.{ImageFault}
-use Rattle.macho_image.specs.declared.fault.ImageFault.TheVariants.{NotMachO64, HeaderTruncated, CommandsOutside}
-use Rattle.macho_image.specs.declared.fault.ImageFault.TheVariants.{BadCommand, BadSegment, BadUuid, SecondUuid}
-use Rattle.macho_image.specs.declared.fault.ImageFault.TheVariants.{BadSymtab, SecondSymtab, NoUuid, TooLarge}
+use Rattle.macho_image.specs.declared.fault.ImageFault.TheVariants.{NotMachO64, HeaderTruncated, CommandsOutside, BadCommand, BadSegment, BadUuid, SecondUuid, BadSymtab, SecondSymtab, NoUuid, TooLarge}
 use Rattle.macho_symbols.specs.declared.fault.SymbolFault.{SymbolFault}
 use Rattle.macho_symbols.specs.declared.fault.SymbolFault.TheVariants.{SymbolsOutside, StringsOutside}
 use Rattle.archive_core.specs.declared.faults.SliceFault.{SliceFault}
 use Rattle.archive_core.specs.declared.faults.SliceFault.TheVariants.{Image, Symbols}
 use Rattle.archive_records.specs.declared.fault.RecordFaultKind.{RecordFaultKind}
-use Rattle.archive_records.specs.declared.fault.RecordFaultKind.TheVariants.{BadMagic, Truncated, BadTag}
-use Rattle.archive_records.specs.declared.fault.RecordFaultKind.TheVariants.{TooLarge as RecordTooLarge}
-use Rattle.archive_records.specs.declared.fault.RecordFaultKind.TheVariants.{NotAscending, BadSlice}
-use Rattle.archive_records.specs.declared.fault.RecordFaultKind.TheVariants.{KeyMismatch, BadCount, Trailing}
-use Rattle.archive_records.specs.declared.fault.RecordFaultKind.TheVariants.{Device, OutOfMemory, Covered}
+use Rattle.archive_records.specs.declared.fault.RecordFaultKind.TheVariants.{BadMagic, Truncated, BadTag, TooLarge as RecordTooLarge, NotAscending, BadSlice, KeyMismatch, BadCount, Trailing, Device, OutOfMemory, Covered}
 use Rattle.archive_records.specs.declared.fault.RecordFault.{RecordFault}
-use Rattle.archive_exchange.specs.declared.fault.TakeFault.{TakeFault}
-use Rattle.archive_exchange.specs.declared.fault.TakeFault.TheVariants.{Unrecognised, Fat, Slice, NothingToAdmit}
-use Rattle.archive_exchange.specs.declared.fault.TakeFault.TheVariants.{OutOfMemory as TakeOutOfMemory}
+use Rattle.admission.specs.declared.fault.TakeFault.{TakeFault}
+use Rattle.admission.specs.declared.fault.TakeFault.TheVariants.{Unrecognised, Fat, Slice, NothingToAdmit, OutOfMemory as TakeOutOfMemory}
 use Rattle.fat_slices.specs.declared.fault.FatFault.{FatFault}
-use Rattle.fat_slices.specs.declared.fault.FatFault.TheVariants.{NotUniversal, HeaderTruncated as FatHeaderTruncated}
-use Rattle.fat_slices.specs.declared.fault.FatFault.TheVariants.{TooManyArches, TableTruncated}
-use Rattle.fat_slices.specs.declared.fault.FatFault.TheVariants.{SliceOutside, TooLarge as FatTooLarge}
+use Rattle.fat_slices.specs.declared.fault.FatFault.TheVariants.{NotUniversal, HeaderTruncated as FatHeaderTruncated, TooManyArches, TableTruncated, SliceOutside, TooLarge as FatTooLarge}
+use Rattle.rehearsal.specs.declared.script.ScriptFault.{ScriptFault}
+use Rattle.rehearsal.specs.declared.script.ScriptFault.TheVariants.{NoSites, BadEvent, TooManyEvents}
 
 -- a fault's name, and what it holds in parentheses
 abbrev pub called : List ℕ → List ℕ → List ℕ
@@ -87,3 +80,9 @@ take_fault_text (Fat fault) = called (codes "Fat") (fat_fault_text fault)
 take_fault_text (Slice slice fault) = called (codes "Slice") (decimal slice ++ codes ", " ++ slice_fault_text fault)
 take_fault_text NothingToAdmit = codes "NothingToAdmit"
 take_fault_text TakeOutOfMemory = codes "OutOfMemory"
+
+-- what is wrong with the first faulty line of a script
+unfoldable pub script_fault_text : ScriptFault → List ℕ
+script_fault_text NoSites = codes "NoSites"
+script_fault_text BadEvent = codes "BadEvent"
+script_fault_text TooManyEvents = codes "TooManyEvents"

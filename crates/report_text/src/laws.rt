@@ -21,7 +21,7 @@ pub fn conflicts_count_answering()
 {}
 
 /// In what a list tells, each group has as many slices that answer as the rows of its UUID tell of its architecture,
-/// and these rows are what a search for the UUID tells (`archive_core::laws::finds_are_parts`).
+/// and these rows are what a search for the UUID tells (`archive_laws::content_laws::finds_are_parts`).
 pub fn list_conflicts_count_answering()
     ensures { (o : Operations) (rows : List FindRow)
         → IsList o rows

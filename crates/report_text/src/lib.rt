@@ -6,7 +6,6 @@
 //! - `finds`: the lines of `find` and of `list`;
 //! - `answers`: the lines of `symbolicate`;
 //! - `names`: the lines of `name`;
-//! - `rehearsals`: the lines of `rehearse`;
 //! - [`laws`]: what holds of the lines of `find` and of `list`.
 #![tactic(auto)]
 
@@ -14,7 +13,6 @@ mod answers;
 mod finds;
 pub mod laws;
 mod names;
-mod rehearsals;
 mod report;
 mod rows;
 mod texts;
@@ -22,7 +20,6 @@ mod texts;
 pub use answers::{Escaped, push_answer};
 pub use finds::{find_lines, list_lines};
 pub use names::name_lines;
-pub use rehearsals::{push_events, push_site};
 pub use report::{admit_lines, apply_line, retire_line, summary_line, with_sizes};
 pub use rows::AdmitRow;
 pub use texts::Text;

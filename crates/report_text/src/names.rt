@@ -1,11 +1,10 @@
 //! The lines of `name`.
 ghost use Rattle.std.specs.Prelude.{◌≡◌, map, IfOk, string_bytes};
-ghost use Rattle.archive_records.specs.Names.{owned_name_view};
+ghost use Rattle.archive_core.specs.Names.{owned_name_view};
 ghost use Rattle.report_text.specs.Names.{name_lines};
 
 use crate::{Escaped, Text};
-use archive_core::NameRow;
-use archive_records::OwnedNameRow;
+use archive_core::{NameRow, OwnedNameRow};
 use archive_words::{Address, Spelled};
 use memory::{Heap, NoMemory};
 use std::fmt;

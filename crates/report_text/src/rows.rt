@@ -1,8 +1,8 @@
 //! The rows that commands report.
 
 use crate::Text;
+use admission::Taken;
 use archive_core::SliceKey;
-use archive_exchange::Taken;
 use archive_records::Sizes;
 use archive_words::Spelled;
 use std::fmt;

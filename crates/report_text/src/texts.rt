@@ -1,11 +1,12 @@
 //! The printed texts of faults: a fault's name, and in parentheses its numbers or the fault inside.
 
+use admission::TakeFault;
 use archive_core::SliceFault;
-use archive_exchange::TakeFault;
 use archive_records::{RecordFault, RecordFaultKind};
 use fat_slices::FatFault;
 use macho_image::ImageFault;
 use macho_symbols::SymbolFault;
+use rehearsal::ScriptFault;
 use std::fmt::{self, Display};
 
 /// A value of another crate, shown as this program prints it.
@@ -171,6 +172,22 @@ impl fmt::Display for Text<TakeFault> {
             }
             TakeFault::NothingToAdmit => f.write_str("NothingToAdmit"),
             TakeFault::OutOfMemory => f.write_str("OutOfMemory"),
+        }
+    }
+}
+
+#[tactic(auto, unfolding(crate::specs::Texts::script_fault_text))]
+impl fmt::Display for Text<ScriptFault> {
+    ghost use Rattle.std.specs.Prelude.{Some};
+    ghost use Rattle.report_text.specs.Texts.{script_fault_text};
+
+    ghost output = { λ text. Some (script_fault_text text.0) };
+
+    fn fmt<W: fmt::Write>(&self, f: &mut fmt::Formatter<W>) -> fmt::Result {
+        match self.0 {
+            ScriptFault::NoSites => f.write_str("NoSites"),
+            ScriptFault::BadEvent => f.write_str("BadEvent"),
+            ScriptFault::TooManyEvents => f.write_str("TooManyEvents"),
         }
     }
 }

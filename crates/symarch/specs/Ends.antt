@@ -5,11 +5,11 @@ use Rattle.clap.specs.declared.error.kind.ErrorKind.TheVariants.{DisplayHelp, Di
 use Rattle.command_line.specs.Lines.{Line, are_accepted, error_kinds, is_in_order, line_of}
 use Rattle.command_line.specs.declared.line_faults.LineFault.{LineFault}
 use Rattle.command_line.specs.declared.line_faults.LineFault.TheVariants as fault
-use Rattle.archive_commands.specs.declared.failures.Failure.{Failure}
-use Rattle.archive_commands.specs.declared.faults.Status.{Status}
-use Rattle.archive_commands.specs.Outputs.{Writer}
-use Rattle.plan_commands.specs.Statuses.{status_of}
-use Rattle.file_commands.specs.Files.{Calls, IsCarriedOut, IsUnbegun}
+use Rattle.command_ends.specs.declared.failures.Failure.{Failure}
+use Rattle.command_ends.specs.declared.faults.Status.{Status}
+use Rattle.command_ends.specs.Outputs.{Writer}
+use Rattle.command_ends.specs.Statuses.{status_of}
+use Rattle.plan_commands.specs.Files.{Calls, IsCarriedOut, IsUnbegun}
 
 -- the exit status of a line that gives no plan
 abbrev pub status_of_line : LineFault → ℕ

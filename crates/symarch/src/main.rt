@@ -1,8 +1,7 @@
 //! `symarch`: an archive of Mach-O images and their dSYM companions, kept on several sites.
 //!
-//! The words of the command line are read by `command_line`, the commands are those of `archive_commands`, and what
-//! they print is that of `report_text`. `file_commands` carries a line out over the file system, and `run` tells how it
-//! ended.
+//! `command_line` reads the words. `plan_commands` carries the line out over files of the system, by the commands of
+//! `archive_queries`, `archive_updates` and `rehearse`; `run` says how it ended.
 #![tactic(auto)]
 
 mod refused_line;

@@ -3,19 +3,18 @@
 ghost use Rattle.std.specs.Prelude.{◌≡◌, ◌≢◌, MatchResult, map, option_map, string_bytes};
 ghost use Rattle.std.specs.Process.{exit_status};
 ghost use Rattle.std.specs.IoError.{error_kind};
-ghost use Rattle.archive_commands.specs.Outputs.{writer};
+ghost use Rattle.command_ends.specs.Outputs.{writer};
 ghost use Rattle.archive_files.specs.OutFiles.{AreFresh, is_not_created};
-ghost use Rattle.file_commands.specs.Files.{calls_of};
-ghost use Rattle.plan_commands.specs.Statuses.{status_of};
+ghost use Rattle.plan_commands.specs.Files.{calls_of};
+ghost use Rattle.command_ends.specs.Statuses.{status_of};
 ghost use Rattle.symarch.specs.Ends.{EndsWords, IsIdle, status_of_line};
 
 use crate::refused_line::RefusedLine;
-use archive_commands::{CommandFault, Failure, Status};
 use archive_files::{OutFile, SystemFiles};
 use byte_device::{Reading, Sink, Source};
+use command_ends::{CommandFault, Failure, Status, status_of};
 use command_line::{LineFault, plan};
-use file_commands::execute;
-use plan_commands::status_of;
+use plan_commands::execute;
 use std::fmt::Display;
 use std::io;
 use std::io::{BufReader, ErrorKind};

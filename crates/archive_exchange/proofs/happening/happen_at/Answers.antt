@@ -1,4 +1,4 @@
-use Rattle.archive_exchange.specs.declared.event.Event.TheVariants.{Take, Full, Ask, Reply, Deliver, Save, Stop}
+use Rattle.rehearsal.specs.declared.event.Event.TheVariants.{Take, Full, Ask, Reply, Deliver, Save, Stop}
 use Rattle.archive_exchange.proofs.Recorded.{recorded_as, retire_ok, on_ok}
 use Rattle.archive_exchange.proofs.happening.happen_at.Goals as goal
 

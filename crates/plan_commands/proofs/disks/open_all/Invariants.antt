@@ -1,5 +1,6 @@
 use Rattle.std.proofs.Common.{◌≡◌, take, map}
-use Rattle.plan_commands.specs.Disks.{AreOpened, opened_with}
+use Rattle.plan_commands.specs.Disks.{AreOpened}
+use Rattle.byte_device.specs.Disks.{opened_with}
 use Rattle.plan_commands.proofs.disks.open_all.Given as goal
 
 abbrev pub invariant-paths : goal.invariant-paths

@@ -1,7 +1,7 @@
 use Rattle.std.proofs.Common.{◌∙◌, ap}
 use Rattle.std.specs.List.{flat_map}
 use Rattle.std.proofs.lemmas.List.{take_all}
-use Rattle.archive_records.specs.Names.{owned_name_view}
+use Rattle.archive_core.specs.Names.{owned_name_view}
 use Rattle.report_text.specs.Names.{name_row_text}
 use Rattle.report_text.specs.Report.{line}
 use Rattle.report_text.proofs.Named.{lines_viewed}

@@ -1,6 +1,6 @@
 use Rattle.std.proofs.Common.{◌≡◌, take, string_bytes}
 use Rattle.std.specs.List.{flat_map}
-use Rattle.archive_records.specs.Names.{owned_name_view}
+use Rattle.archive_core.specs.Names.{owned_name_view}
 use Rattle.report_text.specs.Names.{name_row_text}
 use Rattle.report_text.specs.Report.{line}
 use Rattle.report_text.proofs.names.name_lines.Given as goal

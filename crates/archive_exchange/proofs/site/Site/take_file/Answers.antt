@@ -1,6 +1,6 @@
-use Rattle.archive_exchange.specs.File.{admissible}
+use Rattle.admission.specs.File.{admissible}
 use Rattle.archive_exchange.specs.SiteState.{SiteState, IsBetween}
-use Rattle.archive_exchange.specs.Take.{admitted}
+use Rattle.admission.specs.Take.{admitted}
 use Rattle.std.proofs.Common.{subst}
 use Rattle.archive_exchange.proofs.Whole.{whole_as, content_of_file, between_parts, between_none, if_err}
 use Rattle.archive_exchange.proofs.site.Site.take_file.Goals as goal

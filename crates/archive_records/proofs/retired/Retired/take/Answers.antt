@@ -1,6 +1,6 @@
 use Rattle.std.proofs.Common.{refl}
 use Rattle.archive_records.proofs.Fronted.{retirement_length, keeps_admission, uncovered_retirement}
-use Rattle.archive_records.proofs.Covered.{long_record}
+use Rattle.archive_records.proofs.KeptRecords.{long_record}
 use Rattle.archive_records.proofs.retired.Retired.take.Goals as goal
 
 pub keep-requires : goal.keep-requires

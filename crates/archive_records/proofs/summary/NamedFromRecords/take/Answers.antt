@@ -1,4 +1,4 @@
-use Rattle.archive_records.proofs.Gathered.{named_more}
+use Rattle.archive_records.proofs.Summarised.{named_more}
 use Rattle.archive_records.proofs.summary.NamedFromRecords.take.Goals as goal
 
 pub returns : goal.returns

@@ -1,0 +1,4 @@
+pub mod File
+pub mod Take
+pub mod Accepted
+pub mod InnerTaking

@@ -1,0 +1,162 @@
+//! The slices of a file taken into an archive.
+ghost use Rattle.std.specs.Prelude.{◌≡◌, ◌≢◌, [], ◌∷◌, true, IfOk, IfErr, OnOk, OnErr, filter, if◌then◌else◌};
+ghost use Rattle.fat_slices.specs.Kind.{kind_of, is_fat};
+ghost use Rattle.fat_slices.specs.Slices.{slices};
+ghost use Rattle.admission.specs.Accepted.{AreFound, IsAcceptedAs, IsFoundOf};
+ghost use Rattle.admission.specs.InnerTaking.{file_of};
+ghost use Rattle.admission.specs.File.{IsAcceptedFile, IsTakeFault, is_admissible, admissible, parts};
+ghost use Rattle.admission.specs.Take.{admitted, taken_of, taken_rows, HoldsFirstParts};
+
+use crate::checking::{AcceptedFile, MOST_PARTS, check_file};
+use crate::{TakeFault, Taken};
+use archive_core::{Archive, Digest, Operation, Slice, SliceFacts, SliceKey};
+use fat_slices::{FileKind, Universal};
+use memory::{Heap, NoMemory};
+
+/// What became of a slice, by whether its admission changed the archive.
+fn taken_if(changed: bool, key: SliceKey, digest: Digest) -> Taken
+    ensures { result ≡ (if changed then Taken.Added key digest else Taken.Known key digest) }
+{
+    if changed {
+        Taken::Added(key, digest)
+    } else {
+        Taken::Known(key, digest)
+    }
+}
+
+/// Takes a slice, and tells what became of it.
+fn take_slice<A: Archive>(archive: &mut A, slice: Slice) -> Result<Taken, NoMemory>
+    ensures content { OnOk result (A.content archive.new ≡ admitted (A.content archive.old) (slice ∷ [])) }
+    ensures row { IfOk result (λ row. row ≡ taken_of (A.content archive.old) slice) }
+    ensures refused { OnErr result (A.content archive.new ≡ A.content archive.old) }
+{
+    let key = slice.key();
+    let digest = slice.digest();
+    let changed = archive.take(Operation::Admit(slice))?;
+    Ok(taken_if(changed, key, digest))
+}
+
+/// Takes a part of a file by what its check found out, and tells what became of it. Its bytes are copied. A part of
+/// which nothing was found is skipped.
+fn take_part<A: Archive>(
+    archive: &mut A,
+    heap: Heap,
+    part: &[u8],
+    found: Option<SliceFacts>,
+) -> Result<Taken, NoMemory>
+    requires { IsFoundOf part.now found }
+    ensures content { OnOk result
+        (A.content archive.new ≡ admitted (A.content archive.old) (filter is_admissible (part.now ∷ []))) }
+    ensures row { IfOk result (λ row. row ∷ [] ≡ taken_rows (A.content archive.old) (part.now ∷ [])) }
+    ensures refused { OnErr result (A.content archive.new ≡ A.content archive.old) }
+{
+    match found {
+        Some(facts) => {
+            let bytes = Vec::from_slice(heap, part)?;
+            take_slice(archive, Slice::of_checked(bytes, facts))
+        }
+        None => Ok(Taken::Skipped),
+    }
+}
+
+/// Takes the slice that a thin file is, which is its only part.
+fn take_thin<A: Archive>(
+    archive: &mut A,
+    heap: Heap,
+    slice: Slice,
+) -> Result<Vec<Taken, Heap>, NoMemory>
+    requires { kind_of slice ≡ FileKind.Thin }
+    ensures content { OnOk result (A.content archive.new ≡ admitted (A.content archive.old) (admissible slice)) }
+    ensures rows { IfOk result (λ rows. rows.items ≡ taken_rows (A.content archive.old) (parts slice)) }
+    ensures stopped { OnErr result (HoldsFirstParts slice (A.content archive.old) (A.content archive.new)) }
+{
+    let mut rows = Vec::new(heap);
+    let row = take_slice(archive, slice)?;
+    rows.push(row)?;
+    Ok(rows)
+}
+
+/// Takes the slices of a universal file by what their check found out, in their order, each copied at its turn.
+fn take_universal<A: Archive>(
+    archive: &mut A,
+    heap: Heap,
+    universal: &Universal<'_>,
+    found: &[Option<SliceFacts>; MOST_PARTS],
+) -> Result<Vec<Taken, Heap>, NoMemory>
+    requires fat { is_fat (kind_of universal.now) ≡ true }
+    requires found { AreFound (slices universal.now) found.now }
+    ensures content { OnOk result
+        (A.content archive.new ≡ admitted (A.content archive.old) (admissible universal.now)) }
+    ensures rows { IfOk result (λ rows. rows.items ≡ taken_rows (A.content archive.old) (parts universal.now)) }
+    ensures stopped { OnErr result (HoldsFirstParts universal.now (A.content archive.old) (A.content archive.new)) }
+{
+    let mut rows = Vec::new(heap.clone()?);
+    'parts: for index in 0..universal.len() {
+        let facts = found[index as usize];
+        let row = take_part(archive, heap.clone()?, universal.slice(index), facts)?;
+        rows.push(row)?;
+    }
+    Ok(rows)
+}
+
+/// Takes the slices of an accepted file, in their order, each copied at its turn, and gives a row a slice. After want
+/// of memory some first ones of the slices may have been taken.
+pub fn take_accepted<A: Archive>(
+    archive: &mut A,
+    heap: Heap,
+    accepted: &AcceptedFile<'_>,
+) -> Result<Vec<Taken, Heap>, NoMemory>
+    requires { IsAcceptedAs (file_of accepted.now) accepted.now }
+    ensures content { OnOk result
+        (A.content archive.new ≡ admitted (A.content archive.old) (admissible (file_of accepted.now))) }
+    ensures rows { IfOk result (λ rows.
+        rows.items ≡ taken_rows (A.content archive.old) (parts (file_of accepted.now))) }
+    ensures stopped { OnErr result
+        (HoldsFirstParts (file_of accepted.now) (A.content archive.old) (A.content archive.new)) }
+{
+    match accepted {
+        AcceptedFile::Thin(slice) => take_thin(archive, heap.clone()?, slice.admit(heap)?),
+        AcceptedFile::Universal(universal, found) => {
+            take_universal(archive, heap, universal, found)
+        }
+    }
+}
+
+/// Takes the slices of a file, all or none, and gives a row a slice, in the order of the file.
+///
+/// All slices are checked before one is taken, and each once. The bytes of a thin file are taken over without a copy;
+/// the slices of a universal file are copied one at a time. Memory is the vector's own.
+///
+/// # Errors
+///
+/// Those of [`check_file`], which leave the archive as it was, and `OutOfMemory`, after which some first ones of the
+/// file's slices may have been taken. The vector is dropped, so a caller that makes the call again reads the file once
+/// more; `laws::taking_resumed` says what comes of it.
+pub fn take_file<A: Archive>(
+    archive: &mut A,
+    file: Vec<u8, Heap>,
+) -> Result<Vec<Taken, Heap>, TakeFault>
+    // On success the file is accepted, and each of its admissible parts was taken.
+    ensures accepted { OnOk result (IsAcceptedFile file.items) }
+    ensures content { OnOk result (A.content archive.new ≡ admitted (A.content archive.old) (admissible file.items)) }
+    ensures rows { IfOk result (λ rows. rows.items ≡ taken_rows (A.content archive.old) (parts file.items)) }
+
+    // Why it is refused, and what the archive holds then.
+    ensures refused { IfErr result (IsTakeFault file.items) }
+    ensures kept { IfErr result (λ fault.
+        fault ≢ TakeFault.OutOfMemory → A.content archive.new ≡ A.content archive.old) }
+    ensures stopped { OnErr result (HoldsFirstParts file.items (A.content archive.old) (A.content archive.new)) }
+{
+    let accepted = check_file(&file)?;
+    let heap = file.allocator().clone()?;
+    let rows = match accepted {
+        AcceptedFile::Thin(slice) => {
+            let facts = slice.facts();
+            take_thin(archive, heap, Slice::of_checked(file, facts))?
+        }
+        AcceptedFile::Universal(universal, found) => {
+            take_universal(archive, heap, &universal, &found)?
+        }
+    };
+    Ok(rows)
+}

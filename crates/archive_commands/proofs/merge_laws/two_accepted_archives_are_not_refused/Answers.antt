@@ -1,5 +1,0 @@
-use Rattle.archive_commands.proofs.Streamed.{one_device}
-use Rattle.archive_commands.proofs.merge_laws.two_accepted_archives_are_not_refused.Goals as goal
-
-pub returns : goal.returns
-returns g c = λ input file out report o p place why co cp go gp e. one_device input.left input.failures file.left file.failures input.new file.new out report input.old file.old o p place why co cp go gp e

@@ -1,7 +1,0 @@
-use Rattle.archive_commands.proofs.Endings.{published}
-use Rattle.archive_commands.proofs.migrate.run_migrate.Goals as goal
-
-pub returns : goal.returns
-returns g c = published _ _ _ _ _ c.publish.result _ _ c.in_ok-archive.ensures.unfailed
-    (record { is_content = c.in_ok-archive.ensures.content; archive = c.in_ok-archive.ensures.text; lines_are = c.new.ensures.bytes })
-    c.publish.ensures

@@ -1,5 +1,0 @@
-use Rattle.archive_core.proofs.Answerers.{some_answering, one_answering}
-use Rattle.archive_core.proofs.laws.one_answering.Goals as goal
-
-pub returns : goal.returns
-returns c = record { some = some_answering; one = one_answering }

@@ -1,6 +1,0 @@
-use Rattle.fat_slices.specs.Slices.{slices}
-use Rattle.archive_exchange.proofs.Fronts.{IsTaking}
-use Rattle.archive_exchange.proofs.taking.take_universal.Given as goal
-
-abbrev pub invariant-parts : goal.invariant-parts
-invariant-parts g l = IsTaking (slices l.universal) l.index (g.A.Join.content l.fn.archive) (g.A.Join.content l.archive) l.rows.items

@@ -1,0 +1,87 @@
+//! What the definitions of `merge` say in the words of its user. Each law is the contract of a function that does
+//! nothing but call other laws.
+ghost use Rattle.std.specs.Prelude.{◌≡◌, ◌↔◌, ◌++◌, ◌∷◌, [], ℕ, List, Contains, map, Ok, Err};
+ghost use Rattle.std.specs.List.{AllByRecursion, AllZip};
+ghost use Rattle.archive_core.specs.Content.{Operations, IsBelow, IsContent, content_of, joined};
+ghost use Rattle.command_ends.specs.declared.faults.Place.{Place};
+ghost use Rattle.command_ends.specs.declared.faults.Why.{Why};
+ghost use Rattle.command_ends.specs.declared.faults.CommandFault.TheVariants.{Input, Report};
+ghost use Rattle.command_ends.specs.declared.faults.Status.{Status};
+ghost use Rattle.byte_device.specs.Devices.{Stream};
+ghost use Rattle.command_ends.specs.Ends.{Ends};
+ghost use Rattle.command_ends.specs.Inputs.{IsDeviceFault, Reader, IsGivenArchive};
+ghost use Rattle.archive_updates.specs.MergeStreams.{EndsOfOne};
+ghost use Rattle.command_ends.specs.Outputs.{Writer, writer};
+ghost use Rattle.archive_updates.specs.Merge.{merge, merged, operations_of};
+
+use crate::content_laws::contents_join;
+use byte_device::{Sink, Source};
+
+/// What `merge` makes is the least content above IN and above each FILE: it holds what they hold, and nothing else.
+pub fn merged_is_least()
+    ensures content { (o : Operations) (contents : List Operations) → IsContent o → AllByRecursion IsContent contents
+        → IsContent (merged o contents) }
+    ensures input { (o : Operations) (contents : List Operations) → IsContent o → AllByRecursion IsContent contents
+        → IsBelow o (merged o contents) }
+    ensures each { (o : Operations) (contents : List Operations) (p : Operations) → IsContent o
+        → AllByRecursion IsContent contents → Contains contents p → IsBelow p (merged o contents) }
+    ensures least { (o : Operations) (contents : List Operations) (q : Operations) → IsContent o
+        → AllByRecursion IsContent contents → IsContent q
+        → IsBelow o q
+        → ((p : Operations) → Contains contents p → IsBelow p q)
+        → IsBelow (merged o contents) q }
+{
+    contents_join();
+}
+
+/// What `merge` makes does not rest on the order of the FILEs, on one that is named twice, on which of the archives is
+/// IN, nor on FILEs that were merged among themselves before: it is what the operations of all of them make.
+pub fn merged_in_any_order()
+    ensures order { (o : Operations) (contents others : List Operations) → IsContent o
+        → AllByRecursion IsContent contents → AllByRecursion IsContent others
+        → ((p : Operations) → Contains contents p ↔ Contains others p)
+        → merged o contents ≡ merged o others }
+    ensures input { (o p : Operations) (contents : List Operations) → IsContent o → IsContent p
+        → merged o (p ∷ contents) ≡ merged p (o ∷ contents) }
+    ensures grouping { (o p : Operations) (contents others : List Operations) → IsContent o → IsContent p
+        → AllByRecursion IsContent contents → AllByRecursion IsContent others
+        → merged o (contents ++ merged p others ∷ []) ≡ merged o (contents ++ p ∷ others) }
+    ensures union { (o : Operations) (contents : List Operations) → IsContent o → AllByRecursion IsContent contents
+        → merged o contents ≡ joined o (content_of (operations_of contents)) }
+{
+    contents_join();
+}
+
+/// Where IN and each FILE is the text of a content, no archive is refused but for its device.
+pub fn accepted_archives_are_not_refused<R: Source, S: Source>()
+    ensures { (input : Reader R) (files : List (Reader S)) (o : Operations) (contents : List Operations)
+        (place : Place) (why : Why)
+        → IsContent o
+        → AllByRecursion IsContent contents
+        → IsGivenArchive input o
+        → AllZip IsGivenArchive files contents
+        → (merge input files).Refuses place why
+        → IsDeviceFault why }
+{}
+
+/// With one FILE `merge` writes and reports the same, where it is not stopped, as if it had read both archives first.
+pub fn both_ways_write_the_same<R: Source, S: Source, W: Sink>()
+    ensures done { (input : Reader R) (file : Reader S) (out : Stream W) (report : Writer) (status : Status)
+        → EndsOfOne input file out report (Ok status)
+        → Ends (merge input (file ∷ [])) (writer out.bytes out.failures out.old out.new) report (Ok status) }
+    ensures report { (input : Reader R) (file : Reader S) (out : Stream W) (report : Writer) (n : ℕ)
+        → EndsOfOne input file out report (Err (Report n))
+        → Ends (merge input (file ∷ [])) (writer out.bytes out.failures out.old out.new) report (Err (Report n)) }
+{}
+
+/// Where IN and the one FILE are the texts of contents, neither is refused but for its device.
+pub fn two_accepted_archives_are_not_refused<R: Source, S: Source, W: Sink>()
+    ensures { (input : Reader R) (file : Reader S) (out : Stream W) (report : Writer) (o p : Operations)
+        (place : Place) (why : Why)
+        → IsContent o
+        → IsContent p
+        → IsGivenArchive input o
+        → IsGivenArchive file p
+        → EndsOfOne input file out report (Err (Input place why))
+        → IsDeviceFault why }
+{}

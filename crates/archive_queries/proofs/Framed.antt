@@ -1,0 +1,292 @@
+-- What is told of frames that are asked in the order of their keys.
+use Rattle.std.proofs.Common.{◌≡◌, ℕ, suc, false, ◌+◌, ◌-◌, ◌<◌, ◌≤◌, Bool, ◌&&◌, if◌then◌else◌, List, [], ◌∷◌, ◌++◌, length, map, take, drop, set, get_or, Some, Result, Err, refl, sym, ap, ◌∙◌, subst, arith, inl, inr, ◌⊎◌, length-append}
+use Rattle.std.specs.Prelude.{slice_get, slice_range}
+use Rattle.std.specs.List.{AllByRecursion, AllZip, Contains, flat_map, list_all}
+use Rattle.std.specs.List.Sorted.{IsPermutation, IsSortedBy}
+use Rattle.std.specs.Ordering.{nat_cmp, is_lt, ordering_then}
+use Rattle.std.specs.declared.cmp.Ordering.{Ordering}
+use Rattle.std.specs.declared.cmp.Ordering.TheVariants.{Less, Equal, Greater}
+use Rattle.std.specs.Cmp.{IsTotalOrder}
+use Rattle.std.specs.Cmp.Lexicographic.{slice_cmp, nat_list_cmp_total}
+use Rattle.std.proofs.lemmas.Cmp.{nat_cmp_total, on_total, then_total}
+use Rattle.std.proofs.lemmas.Bool.{cases_lt}
+use Rattle.std.proofs.lemmas.List.{get_or-map, get_or_append_left, get_or_default, get_or_push, get_or-set_same, get_or-set_other, length-map, length-set, take_all, drop_at, take-append-le, drop-append-le, length-drop}
+use Rattle.std.proofs.lemmas.List.Sorted.{Contains-permutation, IsPermutation-sym}
+use Rattle.std.proofs.lemmas.Option.{get_or_from_slice_get, slice_get-get_or, slice_get_within}
+use Rattle.archive_core.specs.Content.{Operations}
+use Rattle.archive_core.specs.Key.{key_bytes}
+use Rattle.archive_core.specs.Lookup.{IsAnswer, answer_view}
+use Rattle.archive_core.specs.declared.keys.SliceKey.{SliceKey}
+use Rattle.archive_core.specs.declared.lookup.Answer.{Answer}
+use Rattle.archive_core.proofs.Members.{in_cons, in_front, in_rest}
+use Rattle.archive_reading.specs.Keys.{AreInOrder, first_key}
+use Rattle.crash_frames.specs.declared.frame.Frame.{Frame}
+use Rattle.report_text.specs.Answers.{answer_lines}
+use Rattle.archive_queries.specs.declared.asked_frames.AskedFrame.{AskedFrame}
+use Rattle.archive_queries.specs.declared.asked_frames.ToldFrame.{ToldFrame}
+use Rattle.command_ends.specs.declared.faults.CommandFault.{CommandFault}
+use Rattle.command_ends.specs.declared.faults.CommandFault.TheVariants.{Input, Output, Report, OutOfMemory}
+use Rattle.command_ends.specs.declared.faults.Status.{Status}
+use Rattle.command_ends.specs.declared.faults.Status.TheVariants.{Done, Partial}
+use Rattle.command_ends.specs.Ends.{EndsReport}
+use Rattle.archive_queries.specs.Frames.{IsFrameAnswered, TellsFrames, RefusesFrames}
+use Rattle.archive_queries.specs.InnerFrames.{AreLines, AreNumbered, AreTold, IsFrameTold, asked_cmp}
+use Rattle.command_ends.specs.Inputs.{Reader, IsRefusal, IsRefusedFrames, IsUntouched, Unfailed, failures_of}
+use Rattle.command_ends.specs.Outputs.{Writer, Takes}
+use Rattle.archive_queries.specs.Symbolicate.{Answered, asked_of, is_symbol, answers_text}
+
+cases_eq : (a b : ℕ) → (a ≡ b) ⊎ (a ≡ b → ⊥)
+cases_eq a b = elim (cases_lt a b) [
+  | inl below ↦ inr (λ e. omega (arith, below, e))
+  | inr rest ↦ elim (cases_lt b a) [ inl above ↦ inr (λ e. omega (arith, above, e)) | inr le ↦ inl (omega (arith, rest, le)) ]
+]
+
+-- ---- frames with their numbers
+
+abbrev pub key_of_asked : AskedFrame → SliceKey
+key_of_asked one = one.frame.key
+
+abbrev numbered : ℕ → Frame → AskedFrame
+numbered i frame = record { line = i; frame = frame }
+
+-- one more, behind those before it
+pub numbered_more : (frames : List Frame) (i : ℕ) (frame : Frame) (asked grown : List AskedFrame) → i < length frames → frame ≡ get_or frames i frame → grown ≡ asked ++ numbered i frame ∷ []
+    → (length asked ≡ i) × ((j : ℕ) (d : AskedFrame) → j < i → get_or asked j d ≡ numbered j (get_or frames j d.frame))
+    → (length grown ≡ i + 1) × ((j : ℕ) (d : AskedFrame) → j < i + 1 → get_or grown j d ≡ numbered j (get_or frames j d.frame))
+numbered_more frames i frame asked grown lt at more before = (
+  ap length more ∙ length-append asked (numbered i frame ∷ []) ∙ omega (arith, before.0),
+  λ j d within. ap (λ (l : List AskedFrame). get_or l j d) more ∙ elim (cases_lt j i) [
+    | inl below ↦ get_or_append_left asked (numbered i frame ∷ []) d j (omega (arith, before.0, below)) ∙ before.1 j d below
+    | inr above ↦ last j d (omega (arith, within, above))
+  ],
+)
+  where
+    last : (j : ℕ) (d : AskedFrame) → j ≡ i → get_or (asked ++ numbered i frame ∷ []) j d ≡ numbered j (get_or frames j d.frame)
+    last j d same =
+        get_or_push asked (numbered i frame) d j (before.0 ∙ sym same)
+        ∙ ap (numbered i) (at ∙ get_or_default frames i frame d.frame lt)
+        ∙ ap (λ (n : ℕ). numbered n (get_or frames n d.frame)) (sym same)
+
+-- and all of them are the frames with their numbers
+pub lines_of : (frames : List Frame) (asked moved : List AskedFrame) → AreNumbered frames asked → IsPermutation asked moved → AreLines frames moved
+lines_of frames asked moved are permuted = λ one. (
+  λ h. from (Contains-permutation moved asked one (IsPermutation-sym asked moved permuted) h),
+  λ h. Contains-permutation asked moved one permuted (back one h),
+)
+  where
+    from : {one : AskedFrame} → Contains asked one → slice_get frames one.line ≡ Some one.frame
+    from {one} there =
+        let lt : there.0 < length frames = omega (arith, are.long, there.1) in
+        let is : one ≡ numbered there.0 (get_or frames there.0 one.frame) = sym there.2 ∙ are.each there.0 one lt in
+        ap (λ (a : AskedFrame). slice_get frames a.line) is ∙ slice_get-get_or frames there.0 one.frame lt ∙ ap (λ (a : AskedFrame). Some a.frame) (sym is)
+
+    back : (one : AskedFrame) → slice_get frames one.line ≡ Some one.frame → Contains asked one
+    back one at =
+        let lt = slice_get_within frames one.line one.frame at in
+        (one.line, omega (arith, are.long, lt), are.each one.line one lt ∙ ap (numbered one.line) (get_or_from_slice_get frames one.line one.frame one.frame at))
+
+pub asked_total : IsTotalOrder asked_cmp
+asked_total = then_total (on_total (λ (a : AskedFrame). key_bytes a.frame.key) nat_list_cmp_total) (on_total (λ (a : AskedFrame). a.frame.address) nat_cmp_total)
+
+-- the first part of an order
+no_less_first : (a b : Ordering) → is_lt (ordering_then a b) ≡ false → is_lt a ≡ false
+no_less_first Less b h = h
+no_less_first Equal b h = refl
+no_less_first Greater b h = refl
+
+-- they stand in the order of their keys
+pub keys_in_order : (asked : List AskedFrame) → IsSortedBy (λ (a b : AskedFrame). is_lt (asked_cmp a b)) asked → AreInOrder (map key_of_asked asked)
+keys_in_order [] sorted = λ j d _ below. absurd (omega (arith, below))
+keys_in_order (first ∷ asked) sorted = λ j d _ below.
+    let all : List AskedFrame = first ∷ asked in
+    let within : j + 1 < length all = omega (arith, below, length-map all key_of_asked) in
+    let next : get_or (map key_of_asked all) (j + 1) d ≡ (get_or all (j + 1) first).frame.key = get_or-map key_of_asked all (j + 1) first d within in
+    let one : get_or (map key_of_asked all) j d ≡ (get_or all j first).frame.key = get_or-map key_of_asked all j first d (omega (arith, within)) in
+    (λ i. is_lt (slice_cmp nat_cmp (key_bytes (next i)) (key_bytes (one i)))) ∙ no_less_first _ _ (sorted j first (omega arith) within)
+
+-- ---- one question after another
+
+-- the key of the next frame
+pub next_is : (asked : List AskedFrame) (one : AskedFrame) (left : List AskedFrame) → asked ≡ one ∷ left → first_key (map key_of_asked asked) ≡ Some one.frame.key
+next_is asked one left is = ap (λ (l : List AskedFrame). first_key (map key_of_asked l)) is
+
+-- none was told
+pub none_told : (content : Operations) (frames : List Frame) (asked : List AskedFrame) (told : List ToldFrame) (text : List ℕ) → AreLines frames asked → length asked ≡ length frames → length told ≡ length asked
+    → AreTold content asked asked (length told) told text
+none_told content frames asked told text lines long many = record {
+  long = refl;
+  within = λ one there. omega (arith, many, long, slice_get_within frames one.line one.frame ((lines one).0 there));
+  once = λ one other there also same. one_line one other ((lines one).0 there) ((lines other).0 also) same;
+  of_asked = λ one there. there;
+  each = λ one there. inl there;
+}
+  where
+    one_line : (one other : AskedFrame) → slice_get frames one.line ≡ Some one.frame → slice_get frames other.line ≡ Some other.frame → one.line ≡ other.line → one ≡ other
+    one_line one other at also same =
+        let frame : one.frame ≡ other.frame = sym (get_or_from_slice_get frames one.line one.frame one.frame at) ∙ ap (λ (n : ℕ). get_or frames n one.frame) same ∙ get_or_from_slice_get frames other.line other.frame one.frame also in
+        (λ i. numbered (same i) (frame i))
+
+-- what was told stays where it stands while the text grows
+told_still : (content : Operations) (text more : List ℕ) (frame : Frame) (told : ToldFrame) → IsFrameTold content text frame told → IsFrameTold content (text ++ more) frame told
+told_still content text more frame told is = record {
+  row = is.row;
+  answered = is.answered;
+  begins = is.begins;
+  ends = omega (arith, is.ends, length-append text more);
+  lines_are =
+      let begins = is.begins in
+      let ends = is.ends in
+      ap (take (told.to - told.from)) (drop-append-le told.from text more (omega arith)) ∙ take-append-le (told.to - told.from) (drop told.from text) more (omega (arith, length-drop told.from text)) ∙ is.lines_are;
+  symbol_is = is.symbol_is;
+}
+
+-- what is told of one frame more stands behind it
+pub told_now : (content : Operations) (text grown : List ℕ) (frame : Frame) (answer : Answer) (told : ToldFrame) → IsAnswer content frame.key (asked_of frame.load frame.address) (answer_view answer) → grown ≡ text ++ answer_lines frame.address answer
+    → told.from ≡ length text → told.to ≡ length grown → told.is_symbol ≡ is_symbol answer → IsFrameTold content grown frame told
+told_now content text grown frame answer told is more from to symbol =
+    let lines : List ℕ = answer_lines frame.address answer in
+    let long : length grown ≡ length text + length lines = ap length more ∙ length-append text lines in
+    record {
+      row = record { address = frame.address; answer = answer };
+      answered = (refl, is);
+      begins = omega (arith, long, from, to);
+      ends = omega (arith, to);
+      lines_are = ap (λ (t : List ℕ). slice_range t told.from told.to) more ∙ ap (take (told.to - told.from)) (ap (λ (n : ℕ). drop n (text ++ lines)) from ∙ drop_at text lines (length text) refl) ∙ take_all (told.to - told.from) lines (omega (arith, long, from, to));
+      symbol_is = symbol;
+    }
+
+module _ (content : Operations) (asked : List AskedFrame) (one : AskedFrame) (left : List AskedFrame) (count : ℕ) (told : List ToldFrame) (text : List ℕ) (are : AreTold content asked (one ∷ left) count told text)
+    (grown more : List ℕ) (grows : grown ≡ text ++ more) (now : ToldFrame) (is : IsFrameTold content grown one.frame now) where
+  is_there : Contains asked one
+  is_there = are.of_asked one (in_front one left)
+
+  room : one.line < length told
+  room = omega (arith, are.long, are.within one is_there)
+
+  at_once : slice_get (set told one.line now) one.line ≡ Some now
+  at_once = slice_get-get_or (set told one.line now) one.line now (omega (arith, length-set told one.line now, room)) ∙ ap Some (get_or-set_same told one.line now now room)
+
+  elsewhere : (n : ℕ) (it : ToldFrame) → (n ≡ one.line → ⊥) → slice_get told n ≡ Some it → slice_get (set told one.line now) n ≡ Some it
+  elsewhere n it other at =
+      slice_get-get_or (set told one.line now) n it (omega (arith, length-set told one.line now, slice_get_within told n it at))
+      ∙ ap Some (get_or-set_other told one.line n now it other ∙ get_or_from_slice_get told n it it at)
+
+  abbrev IsLeftOrTold : AskedFrame → Type 0
+  IsLeftOrTold it = Contains left it ⊎ ((t : ToldFrame) × (slice_get (set told one.line now) it.line ≡ Some t) × IsFrameTold content grown it.frame t)
+
+  this_one : (it : AskedFrame) → it ≡ one → IsLeftOrTold it
+  this_one it same = subst IsLeftOrTold (sym same) (inr (now, at_once, is))
+
+  told_before : (it : AskedFrame) → Contains asked it → (t : ToldFrame) → slice_get told it.line ≡ Some t → IsFrameTold content text it.frame t → IsLeftOrTold it
+  told_before it there t at was = elim (cases_eq it.line one.line) [
+    | inl same ↦ this_one it (are.once it one there is_there same)
+    | inr other ↦ inr (t, elsewhere it.line t other at, subst (λ (b : List ℕ). IsFrameTold content b it.frame t) (sym grows) (told_still content text more it.frame t was))
+  ]
+
+  each : (it : AskedFrame) → Contains asked it → IsLeftOrTold it
+  each it there = elim (are.each it there) [
+    | inl c ↦ elim (in_cons one left it c) [
+      | inl e ↦ this_one it (sym e)
+      | inr later ↦ inl later
+    ]
+    | inr (t, at, was) ↦ told_before it there t at was
+  ]
+
+  -- the next frame was answered
+  pub told_more : AreTold content asked left count (set told one.line now) grown
+  told_more = record {
+    long = length-set told one.line now ∙ are.long;
+    within = are.within;
+    once = are.once;
+    of_asked = λ it there. are.of_asked it (in_rest one left it there);
+    each = each;
+  }
+
+-- ---- what was told of all, in the order of their lines
+
+-- what was told of each
+pub told_each : (content : Operations) (frames : List Frame) (asked : List AskedFrame) (count : ℕ) (told : List ToldFrame) (text : List ℕ) → AreLines frames asked → AreTold content asked [] count told text
+    → (i : ℕ) (frame : Frame) → slice_get frames i ≡ Some frame → (it : ToldFrame) × (slice_get told i ≡ Some it) × IsFrameTold content text frame it
+told_each content frames asked count told text lines are i frame at = elim (are.each (numbered i frame) ((lines (numbered i frame)).1 at)) [
+  | inl c ↦ absurd (omega (arith, c.1))
+  | inr it ↦ it
+]
+
+along : (content : Operations) (text : List ℕ) (frames : List Frame) (told : List ToldFrame) → length told ≡ length frames
+    → ((i : ℕ) (frame : Frame) → slice_get frames i ≡ Some frame → (it : ToldFrame) × (slice_get told i ≡ Some it) × IsFrameTold content text frame it)
+    → AllZip (IsFrameTold content text) frames told
+along content text [] [] long each = tt
+along content text [] (it ∷ told) long each = absurd (omega (arith, long))
+along content text (frame ∷ frames) [] long each = absurd (omega (arith, long))
+along content text (frame ∷ frames) (it ∷ told) long each =
+    let first = each 0 frame refl in (
+      subst (IsFrameTold content text frame) (inside first.0 first.1) first.2,
+      along content text frames told (omega (arith, long)) (λ i. each (suc i)),
+    )
+  where
+    inside : (t : ToldFrame) → Some it ≡ Some t → t ≡ it
+    inside t e = cc
+
+pub all_told : (content : Operations) (frames : List Frame) (asked : List AskedFrame) (count : ℕ) (told : List ToldFrame) (text : List ℕ) → AreLines frames asked → count ≡ length frames → AreTold content asked [] count told text
+    → AllZip (IsFrameTold content text) frames told
+all_told content frames asked count told text lines many are = along content text frames told (are.long ∙ many) (told_each content frames asked count told text lines are)
+
+-- where no frame is left
+pub told_to_the_end : (content : Operations) (frames : List Frame) (asked left : List AskedFrame) (count : ℕ) (told : List ToldFrame) (text : List ℕ) → AreLines frames asked → count ≡ length frames → map key_of_asked left ≡ []
+    → AreTold content asked left count told text → AllZip (IsFrameTold content text) frames told
+told_to_the_end content frames asked left count told text lines many none are = all_told content frames asked count told text lines many (subst (λ (l : List AskedFrame). AreTold content asked l count told text) (nothing left none) are)
+  where
+    nothing : (l : List AskedFrame) → map key_of_asked l ≡ [] → l ≡ []
+    nothing [] e = refl
+    nothing (one ∷ l) e = cc
+
+-- so each piece of the text is there
+pub pieces : (content : Operations) (text : List ℕ) (frames : List Frame) (told : List ToldFrame) → AllZip (IsFrameTold content text) frames told → AllByRecursion (λ (it : ToldFrame). (it.from ≤ it.to) × (it.to ≤ length text)) told
+pieces content text [] [] are = tt
+pieces content text [] (it ∷ told) are = absurd are
+pieces content text (frame ∷ frames) [] are = absurd are
+pieces content text (frame ∷ frames) (it ∷ told) are = ((are.0.begins, are.0.ends), pieces content text frames told are.1)
+
+-- what was told, as the definition says it
+record AreRows (content : Operations) (text : List ℕ) (frames : List Frame) (told : List ToldFrame) : Type 0 where
+  rows : List Answered
+  answered : AllZip (IsFrameAnswered content) frames rows
+  symbols_are : list_all (λ (it : ToldFrame). it.is_symbol) told ≡ list_all (λ (row : Answered). is_symbol row.answer) rows
+  lines_are : flat_map (λ (it : ToldFrame). slice_range text it.from it.to) told ≡ answers_text rows
+
+rows_of : (content : Operations) (text : List ℕ) (frames : List Frame) (told : List ToldFrame) → AllZip (IsFrameTold content text) frames told → AreRows content text frames told
+rows_of content text [] [] are = record { rows = []; answered = tt; symbols_are = refl; lines_are = refl }
+rows_of content text [] (it ∷ told) are = absurd are
+rows_of content text (frame ∷ frames) [] are = absurd are
+rows_of content text (frame ∷ frames) (it ∷ told) are =
+    let first = are.0 in
+    let behind = rows_of content text frames told are.1 in
+    record {
+      rows = first.row ∷ behind.rows;
+      answered = (first.answered, behind.answered);
+      symbols_are = (λ i. first.symbol_is i && behind.symbols_are i);
+      lines_are = (λ i. first.lines_are i ++ behind.lines_are i);
+    }
+
+pub frames_told : (content : Operations) (text : List ℕ) (frames : List Frame) (told : List ToldFrame) (status : Status) (lines : List ℕ) → AllZip (IsFrameTold content text) frames told
+    → status ≡ (if list_all (λ (it : ToldFrame). it.is_symbol) told then Done else Partial) → lines ≡ flat_map (λ (it : ToldFrame). slice_range text it.from it.to) told
+    → TellsFrames content frames status lines
+frames_told content text frames told status lines are status_is lines_are =
+    let r = rows_of content text frames told are in
+    record {
+      rows = r.rows;
+      answered = r.answered;
+      status_is = status_is ∙ ap (λ (all : Bool). if all then Done else Partial) r.symbols_are;
+      text_is = lines_are ∙ r.lines_are;
+    }
+
+-- one of the inputs is refused, or memory is wanting for it
+module _ {R S : Type 0} (Makes : Status → List ℕ → Type 0) (frames : Reader R) (archive : Reader S) (report : Writer) where
+  abbrev EndsInOrder : Result Status CommandFault → Type 0
+  EndsInOrder result = EndsReport (record { Makes = Makes; Refuses = RefusesFrames frames archive; Unfailed = Unfailed frames × Unfailed archive }) report result
+
+  pub frames_refused : (fault : CommandFault) → IsRefusal (IsRefusedFrames frames) (Unfailed frames) fault → IsUntouched archive → Takes report [] → EndsInOrder (Err fault)
+  frames_refused (Input place why) r untouched t = (inl (r, untouched), t)
+  frames_refused (Output _) r untouched t = absurd r
+  frames_refused (Report _) r untouched t = absurd r
+  frames_refused OutOfMemory r untouched t = ((r, ap (failures_of archive.failures) untouched), t)

@@ -1,0 +1,6 @@
+pub mod Find
+pub mod List
+pub mod Name
+pub mod Symbolicate
+pub mod Frames
+pub mod InnerFrames

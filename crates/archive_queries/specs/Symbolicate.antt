@@ -1,0 +1,70 @@
+-- What `symbolicate` tells of an archive.
+use Rattle.std.specs.Prelude.{◌≡◌, ℕ, List, Bool, true, false, Option, Some, None, map, if◌then◌else◌}
+use Rattle.std.specs.List.{AllByRecursion, flat_map, list_all}
+use Rattle.archive_core.specs.Content.{Operations, IsContent}
+use Rattle.archive_core.specs.Lookup.{IsAnswer, answer_view}
+use Rattle.archive_core.specs.declared.keys.SliceKey.{SliceKey}
+use Rattle.archive_core.specs.declared.lookup.Answer.{Answer}
+use Rattle.archive_core.specs.declared.lookup.Answer.TheVariants.{Unknown, NoSymbol, Symbol, Conflict}
+use Rattle.archive_core.specs.declared.lookup.Where.{Where}
+use Rattle.archive_core.specs.declared.lookup.Where.TheVariants.{File, Loaded}
+use Rattle.report_text.specs.Answers.{answer_lines}
+use Rattle.command_ends.specs.declared.faults.Status.{Status}
+use Rattle.command_ends.specs.declared.faults.Status.TheVariants.{Done, Partial}
+use Rattle.command_ends.specs.Ends.{Query}
+use Rattle.command_ends.specs.Inputs.{Reader, Unfailed, IsRefusedArchive, HoldsArchive}
+
+-- the place that an address of the words means: one of the image where it was loaded, if the words say where, and else
+-- one of its file
+abbrev pub asked_of : Option ℕ → ℕ → Where
+asked_of None address = File address
+asked_of (Some load) address = Loaded load address
+
+-- the answer is one symbol
+abbrev pub is_symbol : Answer → Bool
+is_symbol Unknown = false
+is_symbol NoSymbol = false
+is_symbol (Symbol _) = true
+is_symbol (Conflict _) = false
+
+-- an address of the words, and its answer
+pub record Answered : Type 0 where
+  pub address : ℕ
+  pub answer : Answer
+
+-- the answer is what the content tells of the address
+abbrev pub IsAnswered : Operations → SliceKey → Option ℕ → Answered → Type 0
+IsAnswered content key load row = IsAnswer content key (asked_of load row.address) (answer_view row.answer)
+
+-- done where each answer is one symbol
+abbrev pub answers_status : List Answered → Status
+answers_status rows = if list_all (λ row. is_symbol row.answer) rows then Done else Partial
+
+-- the lines of the answers
+abbrev pub answers_text : List Answered → List ℕ
+answers_text rows = flat_map (λ row. answer_lines row.address row.answer) rows
+
+-- what a content tells of addresses, one answer an address and in their order: the status, and the lines
+pub record TellsAddresses (content : Operations) (key : SliceKey) (load : Option ℕ) (addresses : List ℕ)
+    (status : Status) (text : List ℕ) : Type 0 where
+  pub rows : List Answered
+  pub addresses_are : map (λ row. row.address) rows ≡ addresses
+  pub answered : AllByRecursion (IsAnswered content key load) rows
+  pub status_is : status ≡ answers_status rows
+  pub text_is : text ≡ answers_text rows
+
+-- ARCHIVE is the text of a content; this is the status of its answers to the addresses, and these are their lines.
+pub record MakesAnswered {R : Type 0} (archive : Reader R) (key : SliceKey) (load : Option ℕ) (addresses : List ℕ)
+    (status : Status) (text : List ℕ) : Type 0 where
+  pub content : Operations
+  pub is_content : IsContent content
+  pub archive_is : HoldsArchive archive content
+  pub tells : TellsAddresses content key load addresses status text
+
+-- `symbolicate`, over this archive
+abbrev pub symbolicate : {R : Type 0} → Reader R → SliceKey → Option ℕ → List ℕ → Query
+symbolicate archive key load addresses = record {
+  Makes = MakesAnswered archive key load addresses;
+  Refuses = IsRefusedArchive 0 archive;
+  Unfailed = Unfailed archive;
+}

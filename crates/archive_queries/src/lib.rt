@@ -1,0 +1,18 @@
+//! The commands that ask an archive and print an answer, over any sources and sinks.
+//!
+//! - `asked_frames`: frames, as questions in the order of their keys;
+//! - `find`, `list`, `name`, `symbolicate`, `frames`: a command each.
+#![tactic(auto)]
+
+mod asked_frames;
+mod find;
+mod frames;
+mod list;
+mod name;
+mod symbolicate;
+
+pub use find::run_find;
+pub use frames::run_frames;
+pub use list::run_list;
+pub use name::run_name;
+pub use symbolicate::run_symbolicate;

@@ -1,0 +1,32 @@
+//! `list ARCHIVE`.
+ghost use Rattle.command_ends.specs.Ends.{EndsReport};
+ghost use Rattle.command_ends.specs.Inputs.{reader};
+ghost use Rattle.archive_queries.specs.List.{list};
+ghost use Rattle.command_ends.specs.Outputs.{writer};
+
+use crate::find::status_of;
+use byte_device::{CannotOpen, Sink, Source};
+use command_ends::{CommandFault, Status, publish_report, read_rows};
+use memory::Heap;
+use report_text::list_lines;
+
+/// Writes a row for each retirement and each live slice of the archive to the report, by UUID and then as `find` has
+/// them, and behind the rows of a UUID and an architecture how many slices answer for it, where these are several.
+///
+/// The status is `Done` where there is a row, and else `Partial`.
+///
+/// # Errors
+///
+/// `Input` where the archive is refused; `Report` where the report failed; `OutOfMemory`.
+pub fn run_list<R: Source, P: Sink>(
+    heap: Heap,
+    archive: &mut Result<R, CannotOpen>,
+    report: &mut P,
+) -> Result<Status, CommandFault>
+    ensures { EndsReport (list (reader R.left R.failures archive.old archive.new))
+        (writer P.held P.failures report.old report.new) result }
+{
+    let rows = read_rows(heap.clone()?, archive)?;
+    let text = list_lines(heap, &rows)?;
+    publish_report(status_of(&rows), &text, report)
+}

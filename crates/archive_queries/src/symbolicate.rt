@@ -1,0 +1,81 @@
+//! `symbolicate ARCHIVE UUID ARCH [--load HEX] ADDRESS...`.
+ghost use Rattle.std.specs.Prelude.{◌≡◌, if◌then◌else◌, IfOk, string_bytes};
+ghost use Rattle.command_ends.specs.declared.faults.Status.TheVariants.{Partial};
+ghost use Rattle.command_ends.specs.Ends.{EndsReport};
+ghost use Rattle.command_ends.specs.Inputs.{reader};
+ghost use Rattle.command_ends.specs.Outputs.{writer};
+ghost use Rattle.archive_queries.specs.Symbolicate.{TellsAddresses, is_symbol, asked_of, symbolicate};
+
+use archive_core::{Answer, Archive, SliceKey, Where};
+use archive_reading::Under;
+use archive_records::key_front;
+use byte_device::{CannotOpen, Sink, Source};
+use command_ends::{CommandFault, Status, publish_report, read_input_part};
+use memory::{Heap, NoMemory};
+use report_text::push_answer;
+
+/// The place that an address of the words means.
+pub(crate) fn asked_of(load: Option<u64>, address: u64) -> Where
+    ensures { result ≡ asked_of load address }
+{
+    match load {
+        Some(load) => Where::Loaded { load, address },
+        None => Where::File(address),
+    }
+}
+
+/// How a command ends behind one more answer: as before it, if that is one symbol.
+pub(crate) fn status_behind(status: Status, answer: &Answer<'_>) -> Status
+    ensures { result ≡ if is_symbol answer.now then status else Partial }
+{
+    match answer {
+        Answer::Symbol(_) => status,
+        Answer::Unknown | Answer::NoSymbol | Answer::Conflict(_) => Status::Partial,
+    }
+}
+
+/// The lines of the answers to the addresses, with how a command ends that prints them.
+fn answer_each<A: Archive>(
+    heap: Heap,
+    archive: &A,
+    key: &SliceKey,
+    load: Option<u64>,
+    addresses: &[u64],
+) -> Result<(Status, String<Heap>), NoMemory>
+    ensures { IfOk result
+        (λ told. TellsAddresses (A.content archive.now) key.now load addresses.now told.0 (string_bytes told.1)) }
+{
+    let mut status = Status::Done;
+    let mut text = String::new(heap);
+    'addresses: for address in addresses {
+        let answer = archive.lookup(key, asked_of(load, *address))?;
+        status = status_behind(status, &answer);
+        push_answer(&mut text, *address, &answer)?;
+    }
+    Ok((status, text))
+}
+
+/// Writes an answer for each address to the report, in their order. They are addresses of the image where it was
+/// loaded, if `load` says where that was, and else of its file.
+///
+/// The status is `Done` where each answer is one symbol, and else `Partial`.
+///
+/// # Errors
+///
+/// `Input` where the archive is refused; `Report` where the report failed; `OutOfMemory`.
+pub fn run_symbolicate<A: Archive + Drop, R: Source, P: Sink>(
+    heap: Heap,
+    archive: &mut Result<R, CannotOpen>,
+    key: &SliceKey,
+    load: Option<u64>,
+    addresses: &[u64],
+    report: &mut P,
+) -> Result<Status, CommandFault>
+    ensures { EndsReport (symbolicate (reader R.left R.failures archive.old archive.new) key.now load addresses.now)
+        (writer P.held P.failures report.old report.new) result }
+{
+    let front = key_front(key);
+    let archive: A = read_input_part(heap.clone()?, 0, &Under(&front), archive)?;
+    let (status, text) = answer_each(heap, &archive, key, load, addresses)?;
+    publish_report(status, &text, report)
+}

@@ -1,0 +1,167 @@
+-- The rows of a name, told record by record.
+use Rattle.std.proofs.Common.{◌≡◌, ◌↔◌, ℕ, ◌<◌, ◌≤◌, ◌^◌, Bool, true, false, cond, ◌==◌, List, [], ◌∷◌, ◌++◌, length, map, drop, Option, Result, Ok, Err, refl, sym, ap, ◌∙◌, subst, arith, inl, inr}
+use Rattle.std.specs.Ordering.{on, eq_by_cmp}
+use Rattle.std.specs.declared.cmp.Ordering.TheVariants.{Equal}
+use Rattle.std.specs.Cmp.{IsTotalOrder, Equal-is, on_total}
+use Rattle.std.specs.List.{Contains, dedup}
+use Rattle.std.specs.List.Sorted.{IsSorted, IsStrictlySortedBy, IsPermutation}
+use Rattle.std.specs.FinSet as set
+use Rattle.std.proofs.lemmas.Bool.{ltb-false}
+use Rattle.std.proofs.lemmas.Cmp.{eq_by_cmp_equiv}
+use Rattle.std.proofs.lemmas.Grind.{flat_map-append}
+use Rattle.std.proofs.lemmas.List.{append-nil}
+use Rattle.std.proofs.lemmas.List.Kept.{IsStrictlySortedBy-dedup, Contains-from_dedup, Any-dedup}
+use Rattle.std.proofs.lemmas.List.Sorted.{Contains-permutation, IsPermutation-sym}
+use Rattle.macho_symbols.specs.Found.{FoundRecord, named}
+use Rattle.archive_core.specs.Content.{Operations, IsContent}
+use Rattle.archive_core.specs.Names.{NameRecord, name_cmp, name_row, names_in, IsNameRow, IsNames}
+use Rattle.archive_core.specs.Record.{admission_record, Admits, Retires, IsRecord}
+use Rattle.archive_core.proofs.NameOrder.{name_total, rows_same}
+use Rattle.archive_core.proofs.Members.{in_map, to_map, in_flat_map, to_flat_map, ascending_map}
+use Rattle.archive_core.proofs.Words.{live_in_content}
+use Rattle.std.specs.Prelude.{IfOk, IfErr, OnOk, nat_lt}
+use Rattle.std.specs.Io.KnownBytes.{Consumes, IsAtEnd}
+use Rattle.archive_records.specs.declared.format.Format.{Format}
+use Rattle.archive_records.specs.Kind.{kind_of}
+use Rattle.archive_records.specs.Text.{text_of, InOrder, AreApart, taken_of}
+use Rattle.archive_records.specs.declared.fault.RecordFault.{RecordFault}
+use Rattle.archive_records.specs.declared.kind.TextKind.TheVariants.{Archive as Archive_text}
+use Rattle.archive_records.specs.Reading.{ReadsInPart}
+use Rattle.archive_records.specs.Reader.{FaultBlamesReader, HasStopped, IsReadTo}
+use Rattle.archive_reading.specs.InnerNames.{names_of, names_among, AreNamesReadTo}
+use Rattle.archive_records.proofs.Inputs.{archive_whole, IsReadTo-content}
+use Rattle.archive_records.proofs.Apart.{in_set, from_set}
+use Rattle.archive_records.proofs.Forms.{parts-of, tag-retirement}
+
+-- ---- one record more
+
+pub names_more : (name : List ℕ) (records : List (List ℕ)) (x : List ℕ) (before after : List NameRecord) → after ≡ before ++ names_of name x → before ≡ names_among name records → after ≡ names_among name (records ++ x ∷ [])
+unfolding names_among
+names_more name records x before after grown are =
+    grown ∙ ap (λ (l : List NameRecord). l ++ names_of name x) are
+    ∙ sym (flat_map-append (names_of name) records (x ∷ []) ∙ ap (λ (l : List NameRecord). names_among name records ++ l) (append-nil (names_of name x)))
+
+pub names_admitted : (name r : List ℕ) → Admits r → names_of name r ≡ names_in name (drop 33 r)
+unfolding names_of
+names_admitted name r a = ap (λ (tag : ℕ). cond (tag == 2) (names_in name (drop 33 r)) []) (parts-of r a).tag
+
+pub names_retired : (name r : List ℕ) → Retires r → names_of name r ≡ []
+unfolding names_of
+names_retired name r t = ap (λ (tag : ℕ). cond (tag == 2) (names_in name (drop 33 r)) []) (tag-retirement r t)
+
+-- those of a slice that was asked whether it has the name
+pub names_none : (name r slice : List ℕ) (has : Bool) → Admits r → slice ≡ drop 33 r → has ≡ nat_lt 0 (length (named slice name)) → has ≡ false → names_of name r ≡ []
+names_none name r slice has a is tells not =
+    names_admitted name r a ∙ ap (names_in name) (sym is) ∙ empty (named slice name) (ltb-false 0 (length (named slice name)) (sym tells ∙ not))
+  where
+    empty : (found : List FoundRecord) → length found ≤ 0 → map (name_row slice) found ≡ []
+    empty [] h = refl
+    empty (x ∷ xs) h = absurd (omega arith)
+
+pub names_of_slice : (name r slice : List ℕ) → Admits r → slice ≡ drop 33 r → names_in name slice ≡ names_of name r
+names_of_slice name r slice a is = ap (names_in name) is ∙ sym (names_admitted name r a)
+
+-- ---- rows in order, each once
+
+module _ {X : Type 0} (view : X → NameRecord) (old sorted kept : List X) (permuted : IsPermutation old sorted) (up : IsSorted (on view name_cmp) sorted) (once : kept ≡ dedup (eq_by_cmp (on view name_cmp)) sorted) where
+  total : IsTotalOrder (on view name_cmp)
+  total = on_total view name_total
+
+  pub rows_ascending : IsStrictlySortedBy name_cmp (map view kept)
+  rows_ascending = ascending_map name_cmp view kept (subst (IsStrictlySortedBy (on view name_cmp)) (sym once) (IsStrictlySortedBy-dedup total (λ x y. refl) sorted up))
+
+  to : (row : NameRecord) → Contains (map view kept) row → Contains (map view old) row
+  to row h =
+      let one = in_map view kept row h in
+      let there = Contains-permutation sorted old one.0 (IsPermutation-sym old sorted permuted) (Contains-from_dedup (eq_by_cmp (on view name_cmp)) sorted one.0 (subst (λ (l : List X). Contains l one.0) once one.1)) in
+      subst (Contains (map view old)) (sym one.2) (to_map view old one.0 there)
+
+  back : (row : NameRecord) → Contains (map view old) row → Contains (map view kept) row
+  back row h =
+      let one = in_map view old row h in
+      let there = Contains-permutation old sorted one.0 permuted one.1 in
+      let alike = Any-dedup (eq_by_cmp_equiv total) sorted one.0 there in
+      let tied : name_cmp (view one.0) (view alike.1) ≡ Equal = (Equal-is (name_cmp (view one.0) (view alike.1))).0 alike.4 in
+      subst (Contains (map view kept)) (sym (one.2 ∙ rows_same (view one.0) (view alike.1) tied)) (to_map view kept alike.1 (subst (λ (l : List X). Contains l alike.1) (sym once) (alike.0, alike.2, alike.3)))
+
+  pub rows_kept : (row : NameRecord) → Contains (map view kept) row ↔ Contains (map view old) row
+  rows_kept row = (to row, back row)
+
+-- ---- the rows of a content
+
+module _ (o : Operations) (name : List ℕ) (records : List (List ℕ)) (content : IsContent o) (is : o ≡ set.from_list records) where
+  there : (r : List ℕ) → Contains records r → set.contains o r ≡ true
+  there r h = ap (λ (s : Operations). set.contains s r) is ∙ in_set records r h
+
+  told_of : (r : List ℕ) → Contains records r → IsRecord r → (row : NameRecord) → Contains (names_of name r) row → IsNameRow o name row
+  told_of r h (inl a) row rows =
+      let one = in_map (name_row (drop 33 r)) (named (drop 33 r) name) row (subst (λ (l : List NameRecord). Contains l row) (names_admitted name r a) rows) in
+      let slice_is = (parts-of r a).slice_is in
+      record {
+        slice = a.slice;
+        valid = a.valid;
+        live = live_in_content o a.slice content a.valid (ap (set.contains o) (sym a.is) ∙ there r h);
+        found = one.0;
+        candidate = subst (λ (s : List ℕ). Contains (named s name) one.0) slice_is one.1;
+        row_is = one.2 ∙ ap (λ (s : List ℕ). name_row s one.0) slice_is;
+      }
+  told_of r h (inr t) row rows = absurd (nowhere row (subst (λ (l : List NameRecord). Contains l row) (names_retired name r t) rows))
+    where
+      nowhere : (a : NameRecord) → Contains [] a → ⊥
+      nowhere a (k, lt, e) = omega arith
+
+  among : (row : NameRecord) → IsNameRow o name row → Contains (names_among name records) row
+  unfolding names_among
+  among row h =
+      let r : List ℕ = admission_record h.slice in
+      let a : Admits r = record { slice = h.slice; valid = h.valid; is = refl } in
+      let held = from_set records r (ap (λ (s : Operations). set.contains s r) (sym is) ∙ h.live.admitted) in
+      let rows = subst (Contains (names_in name h.slice)) (sym h.row_is) (to_map (name_row h.slice) (named h.slice name) h.found h.candidate) in
+      to_flat_map (names_of name) records r row held
+      (subst (λ (l : List NameRecord). Contains l row) (sym (names_admitted name r a ∙ ap (names_in name) (parts-of r a).slice_is)) rows)
+
+  pub names_told : (row : NameRecord) → Contains (names_among name records) row ↔ IsNameRow o name row
+  unfolding names_among
+  names_told row = (
+    λ h. let one = in_flat_map (names_of name) records row h in told_of one.0 one.1 (content.records one.0 (there one.0 one.1)) row one.2,
+    among row,
+  )
+
+  -- put in order, they are what a search for the name tells
+  pub names_put : (gathered rows : List NameRecord) → gathered ≡ names_among name records → IsStrictlySortedBy name_cmp rows → ((row : NameRecord) → Contains rows row ↔ Contains gathered row) → IsNames o name rows
+  names_put gathered rows are ascending same = record {
+    ascending = ascending;
+    exactly = λ row. (
+      λ h. (names_told row).0 (subst (λ (l : List NameRecord). Contains l row) are ((same row).0 h)),
+      λ h. (same row).1 (subst (λ (l : List NameRecord). Contains l row) (sym are) ((names_told row).1 h)),
+    );
+  }
+
+-- ---- the whole input
+
+-- the rows of no record
+pub names_start : (name : List ℕ) → [] ≡ names_among name []
+unfolding names_among
+names_start name = refl
+
+-- what was read of the text, and the rows of its records, put in order
+pub names_read : (a b : Option (List ℕ)) (name : List ℕ) (format : Format) (records : List (List ℕ)) → kind_of format ≡ Archive_text → length records < 2 ^ 63 → Consumes a b (text_of format records) → InOrder format [] records → AreApart format records
+    → (gathered rows : List NameRecord) → gathered ≡ names_among name (taken_of format records) → IsStrictlySortedBy name_cmp rows → ((row : NameRecord) → Contains rows row ↔ Contains gathered row) → AreNamesReadTo a b name rows
+names_read a b name format records kind_is few taken ordered apart gathered rows are ascending same =
+    let o : Operations = set.from_list (taken_of format records) in
+    let read : IsReadTo Archive_text a b o = record { format = format; kind_is = kind_is; records = records; few = few; taken = taken; ordered = ordered; apart = apart; content = refl } in
+    record {
+      content = o;
+      read = read;
+      names = names_put o name (taken_of format records) (IsReadTo-content a b o read) refl gathered rows are ascending same;
+    }
+
+pub names_whole : {R X : Type 0} (rows : X → List NameRecord) (name : List ℕ) (left : R → Option (List ℕ)) (failures : R → ℕ) (old new : R) (r : Result X RecordFault)
+    → IfOk r (λ x. AreNamesReadTo (left old) (left new) name (rows x)) → OnOk r (IsAtEnd (left new)) → IfErr r (λ fault. HasStopped Archive_text (left old) (left new) fault) → FaultBlamesReader left failures old new r
+    → ReadsInPart Archive_text (λ x o. IsNames o name (rows x)) left failures old new r
+names_whole rows name left failures old new (Ok x) h end stopped blames = record {
+  meaning = h.content;
+  whole = archive_whole {X = Operations} (λ o. o) left failures old new (Ok h.content) h.read end tt blames;
+  kept = h.names;
+}
+names_whole rows name left failures old new (Err fault) h end stopped blames = archive_whole {X = Operations} (λ o. o) left failures old new (Err fault) tt tt stopped blames

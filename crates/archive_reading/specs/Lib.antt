@@ -1,0 +1,4 @@
+pub mod Keys
+pub mod InnerNames
+pub mod InnerRows
+pub mod InnerKeys

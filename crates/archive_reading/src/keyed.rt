@@ -1,0 +1,199 @@
+//! Questions under keys, answered in one pass over an archive.
+
+ghost use Rattle.std.specs.Prelude.{◌≡◌, ◌++◌, ◌∷◌, [], ℕ, List, Option, Some, IfOk, IfErr, OnOk, drop, false, length};
+ghost use Rattle.std.specs.Prelude.{if◌then◌else◌, option_map};
+ghost use Rattle.std.specs.FinSet as set;
+ghost use Rattle.std.specs.Option.{ForSome};
+ghost use Rattle.std.specs.Io.KnownBytes.{IsAtEnd};
+ghost use Rattle.archive_core.specs.Content.{Operations};
+ghost use Rattle.archive_core.specs.Key.{key_bytes};
+ghost use Rattle.archive_core.specs.declared.keys.SliceKey.{SliceKey};
+ghost use Rattle.archive_records.specs.declared.kind.TextKind.TheVariants.{Archive};
+ghost use Rattle.archive_reading.specs.InnerKeys.{AreAsked, Begins, is_first, is_passed};
+ghost use Rattle.archive_reading.specs.InnerRows.{HasReadContent};
+ghost use Rattle.archive_reading.specs.Keys.{AnswersAs, AreInOrder, first_key};
+ghost use Rattle.archive_records.specs.Reader.{FaultBlamesReader, HasStopped};
+ghost use Rattle.archive_records.specs.Reading.{ReadsInPart};
+
+use crate::reading::take_record;
+use archive_core::{Archive, SliceFacts, SliceKey};
+use archive_records::{FromRecords, MAGIC_LEN, RecordFault, TextKind, key_front, read_records};
+use byte_device::Source;
+use memory::{Heap, NoMemory};
+
+/// Questions to a content, each under a key, which are answered one after another.
+pub trait Questions {
+    // The keys of the questions that are left, in the order in which these are answered.
+    ghost left: { Self → List SliceKey };
+
+    // The first value became the second by answers of this content.
+    ghost answered: { Self → Operations → Self → Type 0 };
+
+    /// The key of the next question; none where no question is left.
+    fn next_key(&self) -> Option<SliceKey>
+        ensures { result ≡ first_key (left self.now) };
+
+    /// Answers the next question, where one is left, by an archive that answers under its key. Refused for want of
+    /// memory alone.
+    fn answer<A: Archive>(&mut self, archive: &A) -> Result<(), NoMemory>
+        ensures left { OnOk result (left self.new ≡ drop 1 (left self.old)) }
+        ensures answered { OnOk result ((start : Self) (o : Operations)
+            → ForSome (first_key (left self.old)) (λ key. AnswersAs key (A.content archive.now) o)
+            → answered start o self.old → answered start o self.new) };
+}
+
+/// Questions, and the slices that are held for the next of them.
+#[derive(Drop)]
+struct Asked<A, Q> {
+    held: A,
+    questions: Q,
+}
+
+/// Whether the next question is under the key of these bytes.
+fn is_next<Q: Questions>(questions: &Q, front: &[u8]) -> bool
+    ensures { result ≡ is_first front.now (Q.left questions.now) }
+{
+    match questions.next_key() {
+        Some(key) => &key_front(&key)[..] == front,
+        None => false,
+    }
+}
+
+/// Whether the key is below that of these bytes; where there are none, each is.
+fn is_passed(key: &SliceKey, front: Option<&[u8]>) -> bool
+    ensures passed { result ≡ is_passed key.now (option_map (λ bytes. bytes.now) front.entry) }
+    ensures long { length (key_bytes key.now) ≡ 24 }
+{
+    let key = key_front(key);
+    match front {
+        Some(front) => key[..].cmp(front).is_lt(),
+        None => true,
+    }
+}
+
+/// Answers the next question by what is held. Nothing is held then where the one behind it is under another key.
+fn answer_next<A: Archive + Drop, Q: Questions>(
+    asked: &mut Asked<A, Q>,
+    heap: &Heap,
+    key: &SliceKey,
+) -> Result<(), NoMemory>
+    requires { first_key (Q.left asked.old.questions) ≡ Some key.now }
+    ensures left { OnOk result (Q.left asked.new.questions ≡ drop 1 (Q.left asked.old.questions)) }
+    ensures held { OnOk result (A.content asked.new.held ≡ if is_first (key_bytes key.now) (Q.left asked.new.questions)
+        then A.content asked.old.held else set.empty) }
+    ensures answered { OnOk result ((start : Q) (o : Operations) → AnswersAs key.now (A.content asked.old.held) o
+        → Q.answered start o asked.old.questions → Q.answered start o asked.new.questions) }
+{
+    asked.questions.answer(&asked.held)?;
+    if !is_next(&asked.questions, &key_front(key)) {
+        asked.held = A::empty(heap.clone()?);
+    }
+    Ok(())
+}
+
+/// Answers the questions under keys below that of these bytes, and where there are none, all: no slice under such a key
+/// is behind those that came.
+fn answer_passed<A: Archive + Drop, Q: Questions>(
+    asked: &mut Asked<A, Q>,
+    heap: &Heap,
+    front: Option<&[u8]>,
+) -> Result<(), NoMemory>
+    ensures asked { OnOk result ((start : Q) (records : List (List ℕ))
+        → AreAsked (Begins (option_map (λ bytes. bytes.now) front.entry)) (Q.left asked.old.questions)
+        (λ o. Q.answered start o asked.old.questions) (A.content asked.old.held) records
+        → AreAsked (Begins (option_map (λ bytes. bytes.now) front.entry)) (Q.left asked.new.questions)
+        (λ o. Q.answered start o asked.new.questions) (A.content asked.new.held) records) }
+    ensures passed { OnOk result (ForSome (first_key (Q.left asked.new.questions))
+        (λ key. is_passed key (option_map (λ bytes. bytes.now) front.entry) ≡ false)) }
+{
+    'questions: while let Some(key) = asked.questions.next_key() {
+        if !is_passed(&key, front) {
+            return Ok(());
+        }
+        answer_next(asked, heap, &key)?;
+    }
+    Ok(())
+}
+
+impl<A: Archive + Drop, Q: Questions> FromRecords for Asked<A, Q> {
+    ghost use Rattle.std.specs.Prelude.{⊤};
+    ghost use Rattle.archive_records.specs.declared.kind.TextKind.TheVariants.{Archive};
+    ghost use Rattle.archive_reading.specs.InnerKeys.{AreAsked};
+
+    ghost file = { Archive };
+
+    ghost makes = { λ start records now. AreAsked (λ _. ⊤) (Q.left now.questions)
+        (λ o. Q.answered start.questions o now.questions) (A.content now.held) records };
+
+    fn kind() -> TextKind {
+        TextKind::Archive
+    }
+
+    fn take(
+        &mut self,
+        heap: &Heap,
+        bytes: &[u8],
+        found: Option<SliceFacts>,
+    ) -> Result<(), NoMemory> {
+        if found.is_none() {
+            return Ok(());
+        }
+        let front = &bytes[1..25];
+        answer_passed(self, heap, Some(front))?;
+        if !is_next(&self.questions, front) {
+            return Ok(());
+        }
+        take_record(&mut self.held, heap, bytes, found)
+    }
+}
+
+/// Reads a whole input as the text of an archive, and answers the questions. What is said is of the bytes that were
+/// taken.
+fn answer_taken<A: Archive + Drop, Q: Questions + Drop, R: Source>(
+    heap: Heap,
+    questions: Q,
+    r: &mut R,
+) -> Result<Q, RecordFault>
+    requires order { AreInOrder (Q.left questions) }
+    requires start { (o : Operations) → Q.answered questions o questions }
+    ensures read { IfOk result (λ told. HasReadContent (R.left r.old) (R.left r.new)
+        (λ o. (Q.left told ≡ []) × Q.answered questions o told)) }
+    ensures at_end { OnOk result (IsAtEnd (R.left r.new)) }
+    ensures stopped { IfErr result (λ fault. HasStopped Archive (R.left r.old) (R.left r.new) fault) }
+    ensures reader { FaultBlamesReader R.left R.failures r.old r.new result }
+{
+    let Ok(kept) = heap.clone() else {
+        return Err(RecordFault::out_of_memory(0));
+    };
+    let Ok(further) = heap.clone() else {
+        return Err(RecordFault::out_of_memory(0));
+    };
+    let held = A::empty(kept);
+    let mut asked: Asked<A, Q> = read_records(heap, Asked { held, questions }, r)?;
+    match answer_passed(&mut asked, &further, None) {
+        Ok(()) => Ok(asked.questions),
+        Err(NoMemory) => Err(RecordFault::out_of_memory(MAGIC_LEN)),
+    }
+}
+
+/// Reads an archive, and answers questions by its content: the whole input is read and tested as by
+/// [`crate::read_archive`], in the memory of the slices under one of the keys, of one record and of 57 bytes for each
+/// retirement.
+///
+/// The questions come in the order of their keys, as the slices do.
+///
+/// # Errors
+///
+/// Those of [`crate::read_archive`], in the same order and with the same offsets.
+pub fn answer_by_key<A: Archive + Drop, Q: Questions + Drop, R: Source>(
+    heap: Heap,
+    questions: Q,
+    r: &mut R,
+) -> Result<Q, RecordFault>
+    requires order { AreInOrder (Q.left questions) }
+    requires start { (o : Operations) → Q.answered questions o questions }
+    ensures { ReadsInPart Archive (λ told o. (Q.left told ≡ []) × Q.answered questions o told)
+        R.left R.failures r.old r.new result }
+{
+    answer_taken::<A, Q, R>(heap, questions, r)
+}

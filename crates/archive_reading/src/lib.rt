@@ -1,0 +1,25 @@
+//! What is made of the records of a text: an archive, a part of one, answers, rows, names, a summary.
+//!
+//! - `reading`, `part`: [`read_archive`], [`read_front`] and [`read_part`], of which a part is kept;
+//! - `keyed`: [`answer_by_key`], questions under keys, in the memory of the slices under one of them;
+//! - `names`: [`read_names`], where symbols of a name stand, of which no slice is kept;
+//! - `operations`: [`read_ops`];
+//! - `rows`, `summarizing`: [`list_rows`] and [`summarize`], what an archive tells record by record, of which no slice
+//!   is kept.
+#![tactic(auto)]
+
+mod keyed;
+mod names;
+mod operations;
+mod part;
+mod reading;
+mod rows;
+mod summarizing;
+
+pub use keyed::{Questions, answer_by_key};
+pub use names::read_names;
+pub use operations::read_ops;
+pub use part::{Selects, Under, read_part};
+pub use reading::{read_archive, read_front};
+pub use rows::list_rows;
+pub use summarizing::summarize;

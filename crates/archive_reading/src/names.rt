@@ -1,0 +1,155 @@
+//! Where symbols of a name stand, told record by record.
+
+ghost use Rattle.std.specs.Prelude.{◌≡◌, ◌↔◌, ◌++◌, map, Contains, IfOk, IfErr, OnOk, length, nat_lt};
+ghost use Rattle.std.specs.Io.KnownBytes.{IsAtEnd};
+ghost use Rattle.std.specs.List.Sorted.{IsStrictlySortedBy};
+ghost use Rattle.macho_symbols.specs.Found.{named};
+ghost use Rattle.archive_core.specs.Names.{IsNames, NameRecord, name_cmp, names_in};
+ghost use Rattle.archive_records.specs.declared.kind.TextKind.TheVariants.{Archive};
+ghost use Rattle.archive_reading.specs.InnerNames.{AreNamesReadTo, names_of};
+ghost use Rattle.archive_core.specs.Names.{owned_name_view};
+ghost use Rattle.archive_records.specs.Reader.{FaultBlamesReader, HasStopped, IsFound};
+ghost use Rattle.archive_records.specs.Reading.{ReadsInPart};
+
+use archive_core::{CheckedSlice, OwnedNameRow, SliceFacts};
+use archive_records::{ADMISSION_HEAD_LEN, FromRecords, RecordFault, TextKind, read_records};
+use byte_device::Source;
+use memory::{Heap, NoMemory};
+
+/// Whether a symbol of the slice has the name. Not inlined, nor is `push_rows`: a scan has 16 KiB on the stack, and
+/// where there is no memory for a stack that grows, the program is ended and cannot tell it.
+#[inline(never)]
+fn has_name(slice: &CheckedSlice<'_>, name: &[u8]) -> bool
+    ensures { result ≡ nat_lt 0 (length (named slice.now name.now)) }
+{
+    let mut names = slice.symbols().named(name);
+    names.next().is_some()
+}
+
+/// Adds the rows of a name in a slice, in the order of its symbol table. The slice is hashed.
+#[inline(never)]
+fn push_rows(
+    rows: &mut Vec<OwnedNameRow, Heap>,
+    heap: &Heap,
+    slice: &CheckedSlice<'_>,
+    name: &[u8],
+) -> Result<(), NoMemory>
+    ensures { OnOk result (map owned_name_view rows.new.items
+        ≡ map owned_name_view rows.old.items ++ names_in name.now slice.now) }
+{
+    let key = slice.key();
+    let digest = slice.digest();
+    'names: for found in slice.symbols().named(name) {
+        rows.push(OwnedNameRow::of(heap, key, digest, &found)?)?;
+    }
+    Ok(())
+}
+
+/// Adds the rows of a name in what a record admits, by what was found out of its slice. A slice without the name is not
+/// hashed.
+fn push_names(
+    rows: &mut Vec<OwnedNameRow, Heap>,
+    heap: &Heap,
+    bytes: &[u8],
+    found: Option<SliceFacts>,
+    name: &[u8],
+) -> Result<(), NoMemory>
+    requires { IsFound bytes.now found }
+    ensures { OnOk result (map owned_name_view rows.new.items
+        ≡ map owned_name_view rows.old.items ++ names_of name.now bytes.now) }
+{
+    let Some(facts) = found else {
+        return Ok(());
+    };
+    let slice = CheckedSlice::of_checked(&bytes[ADMISSION_HEAD_LEN..], facts);
+    if !has_name(&slice, name) {
+        return Ok(());
+    }
+    push_rows(rows, heap, &slice, name)
+}
+
+/// The rows of a name, as the records come that tell them.
+#[derive(Drop)]
+struct Told<'n> {
+    rows: Vec<OwnedNameRow, Heap>,
+    name: &'n [u8],
+}
+
+impl<'n> FromRecords for Told<'n> {
+    ghost use Rattle.std.specs.Prelude.{◌≡◌, map};
+    ghost use Rattle.archive_core.specs.Names.{owned_name_view};
+    ghost use Rattle.archive_reading.specs.InnerNames.{names_among};
+    ghost use Rattle.archive_records.specs.declared.kind.TextKind.TheVariants.{Archive};
+
+    ghost file = { Archive };
+
+    ghost makes = { λ start records now. (now.name.now ≡ start.name.now)
+        × (map owned_name_view now.rows.items ≡ names_among start.name.now records) };
+
+    fn kind() -> TextKind
+        ensures { result ≡ Archive }
+    {
+        TextKind::Archive
+    }
+
+    fn take(
+        &mut self,
+        heap: &Heap,
+        bytes: &[u8],
+        found: Option<SliceFacts>,
+    ) -> Result<(), NoMemory> {
+        push_names(&mut self.rows, heap, bytes, found, self.name)
+    }
+}
+
+/// Puts rows in order, and leaves each once.
+fn put_names_in_order(rows: &mut Vec<OwnedNameRow, Heap>)
+    ensures ascending { IsStrictlySortedBy name_cmp (map owned_name_view rows.new.items) }
+    ensures same { (row : NameRecord) → Contains (map owned_name_view rows.new.items) row
+        ↔ Contains (map owned_name_view rows.old.items) row }
+{
+    rows.sort_unstable_by(|a, b| a.lend().compare(&b.lend()));
+    rows.dedup_by(|a, b| a.lend().compare(&b.lend()).is_eq());
+}
+
+/// Reads a whole input as the text of an archive, of which the rows of a name are kept. What is said is of the bytes
+/// that were taken.
+fn tell_taken<R: Source>(
+    heap: Heap,
+    name: &[u8],
+    r: &mut R,
+) -> Result<Vec<OwnedNameRow, Heap>, RecordFault>
+    ensures read { IfOk result (λ rows.
+        AreNamesReadTo (R.left r.old) (R.left r.new) name.now (map owned_name_view rows.items)) }
+    ensures at_end { OnOk result (IsAtEnd (R.left r.new)) }
+    ensures stopped { IfErr result (λ fault. HasStopped Archive (R.left r.old) (R.left r.new) fault) }
+    ensures reader { FaultBlamesReader R.left R.failures r.old r.new result }
+{
+    let Ok(kept) = heap.clone() else {
+        return Err(RecordFault::out_of_memory(0));
+    };
+    let rows = Vec::new(kept);
+    let told = read_records(heap, Told { rows, name }, r)?;
+    let mut rows = told.rows;
+    put_names_in_order(&mut rows);
+    Ok(rows)
+}
+
+/// Reads an archive, and gives a row for each place where a symbol of the name stands in a live slice, as
+/// [`archive_core::Archive::find_name`] gives them of one that is held, in the same order. The whole input is read and
+/// tested as by [`crate::read_archive`], in the memory of the rows, of one record and of 57 bytes for each retirement.
+/// A slice is hashed only where it has the name. The name has no NUL at its end.
+///
+/// # Errors
+///
+/// Those of [`crate::read_archive`], in the same order and with the same offsets.
+pub fn read_names<R: Source>(
+    heap: Heap,
+    sought: &[u8],
+    r: &mut R,
+) -> Result<Vec<OwnedNameRow, Heap>, RecordFault>
+    ensures { ReadsInPart Archive (λ rows o. IsNames o sought.now (map owned_name_view rows.items))
+        R.left R.failures r.old r.new result }
+{
+    tell_taken(heap, sought, r)
+}

@@ -1,0 +1,137 @@
+//! Archives that are read from a source.
+
+ghost use Rattle.std.specs.Prelude.{◌≡◌, ◌≢◌, OnOk, IfOk, IfErr};
+ghost use Rattle.std.specs.Io.KnownBytes.{IsAtEnd};
+ghost use Rattle.archive_core.specs.Record.{record_bytes, IsOperation};
+ghost use Rattle.archive_core.specs.Content.{with_record};
+ghost use Rattle.archive_records.specs.declared.fault.RecordFaultKind.TheVariants.{Trailing};
+ghost use Rattle.archive_records.specs.declared.kind.TextKind.TheVariants.{Archive};
+ghost use Rattle.archive_records.specs.Reading.{ReadsWhole, ReadsFront};
+ghost use Rattle.archive_records.specs.Reader.{FaultBlamesReader, HasStopped, IsFound, IsReadTo};
+
+use archive_core::{Archive, Operation, Slice, SliceFacts};
+use archive_records::{
+    ADMISSION_HEAD_LEN, FromRecords, RecordFault, TextKind, digest_in, key_in, read_records,
+    read_text,
+};
+use byte_device::Source;
+use memory::{Heap, NoMemory};
+
+/// The operation of a record, by what was found out of its slice. The slice is copied, and not checked again.
+pub fn operation_of(
+    heap: Heap,
+    bytes: &[u8],
+    found: Option<SliceFacts>,
+) -> Result<Operation, NoMemory>
+    requires { IsFound bytes.now found }
+    ensures valid { IfOk result (λ operation. IsOperation operation) }
+    ensures bytes { IfOk result (λ operation. record_bytes operation ≡ bytes.now) }
+{
+    let Some(facts) = found else {
+        return Ok(Operation::Retire(key_in(bytes), digest_in(bytes)));
+    };
+    let slice = Vec::from_slice(heap, &bytes[ADMISSION_HEAD_LEN..])?;
+    Ok(Operation::Admit(Slice::of_checked(slice, facts)))
+}
+
+/// Takes the operation of a record.
+pub(crate) fn take_record<A: Archive>(
+    archive: &mut A,
+    heap: &Heap,
+    bytes: &[u8],
+    found: Option<SliceFacts>,
+) -> Result<(), NoMemory>
+    requires { IsFound bytes.now found }
+    ensures { OnOk result (A.content archive.new ≡ with_record (A.content archive.old) bytes.now) }
+{
+    let operation = operation_of(heap.clone()?, bytes, found)?;
+    archive.take(operation)?;
+    Ok(())
+}
+
+/// An archive that is made of its records.
+#[derive(Drop)]
+struct Whole<A>(A);
+
+impl<A: Archive> FromRecords for Whole<A> {
+    ghost use Rattle.std.specs.Prelude.{◌≡◌};
+    ghost use Rattle.std.specs.FinSet as set;
+    ghost use Rattle.archive_records.specs.declared.kind.TextKind.TheVariants.{Archive};
+
+    ghost file = { Archive };
+
+    ghost makes = { λ start records now. A.content now.0 ≡ set.from_list records };
+
+    fn kind() -> TextKind {
+        TextKind::Archive
+    }
+
+    fn take(
+        &mut self,
+        heap: &Heap,
+        bytes: &[u8],
+        found: Option<SliceFacts>,
+    ) -> Result<(), NoMemory> {
+        take_record(&mut self.0, heap, bytes, found)
+    }
+}
+
+/// Reads a whole input as the text of an archive. What is said is of the bytes that were taken.
+fn read_whole_archive<A: Archive + Drop, R: Source>(heap: Heap, r: &mut R) -> Result<A, RecordFault>
+    ensures read { IfOk result (λ archive. IsReadTo Archive (R.left r.old) (R.left r.new) (A.content archive)) }
+    ensures at_end { OnOk result (IsAtEnd (R.left r.new)) }
+    ensures stopped { IfErr result (λ fault. HasStopped Archive (R.left r.old) (R.left r.new) fault) }
+    ensures reader { FaultBlamesReader R.left R.failures r.old r.new result }
+{
+    let Ok(kept) = heap.clone() else {
+        return Err(RecordFault::out_of_memory(0));
+    };
+    let whole = read_records(heap, Whole(A::empty(kept)), r)?;
+    Ok(whole.0)
+}
+
+/// Reads the text of an archive from the front of the input. What is said is of the bytes that were taken.
+fn read_first<A: Archive + Drop, R: Source>(heap: Heap, r: &mut R) -> Result<A, RecordFault>
+    ensures read { IfOk result (λ archive. IsReadTo Archive (R.left r.old) (R.left r.new) (A.content archive)) }
+    ensures stopped { IfErr result (λ fault. HasStopped Archive (R.left r.old) (R.left r.new) fault) }
+    ensures no_trailing { IfErr result (λ fault. fault.kind ≢ Trailing) }
+    ensures reader { FaultBlamesReader R.left R.failures r.old r.new result }
+{
+    let Ok(kept) = heap.clone() else {
+        return Err(RecordFault::out_of_memory(0));
+    };
+    let (whole, _) = read_text(heap, Whole(A::empty(kept)), r)?;
+    Ok(whole.0)
+}
+
+/// Reads an archive: the whole input is the one text of its content, or one of version 1 whose operations make this
+/// content, and of which the covered slices are dropped. The pieces in which the reader gives its bytes do not matter.
+/// A fault leaves no archive, and how much of a faulty input was read is not promised.
+///
+/// # Errors
+///
+/// Each kind of `RecordFaultKind`; within a record they are found in the order of its tests: BadTag, Truncated inside
+/// the head, TooLarge, Truncated inside the slice, NotAscending, BadSlice, KeyMismatch, and in version 2 Covered; for
+/// an end record Truncated, BadCount, Trailing. What is dropped passes the same tests, and the end record counts it.
+/// Truncated comes only where the reader told its end, Device where it failed, and everything else where it did not.
+/// Device and OutOfMemory come only where what was read decides no fault: it has fewer bytes than a magic, or no other
+/// fault than that it ends too early. The offset of Device is the length of the longest good front of what was read,
+/// that of OutOfMemory the length of a good front; both are 0 before the magic was read.
+pub fn read_archive<A: Archive + Drop, R: Source>(heap: Heap, r: &mut R) -> Result<A, RecordFault>
+    ensures { ReadsWhole Archive A.content R.left R.failures r.old r.new result }
+{
+    read_whole_archive(heap, r)
+}
+
+/// Reads an archive from the front of the input: exactly the bytes of a text that gives it, of either version, and
+/// what stands behind them is left for who reads on. The pieces in which the reader gives its bytes do not matter. A
+/// fault leaves no archive, and how much of a faulty input was read is not promised.
+///
+/// # Errors
+///
+/// Those of [`read_archive`] but for Trailing, in the same order and with the same offsets.
+pub fn read_front<A: Archive + Drop, R: Source>(heap: Heap, r: &mut R) -> Result<A, RecordFault>
+    ensures { ReadsFront Archive A.content R.left R.failures r.old r.new result }
+{
+    read_first(heap, r)
+}

@@ -1,0 +1,79 @@
+-- The files of `admit`, one more at a time.
+use Rattle.std.proofs.Common.{◌≡◌, ℕ, ◌+◌, List, [], ◌∷◌, ◌++◌, length, append_assoc, refl, sym, ap, ◌∙◌, subst, arith}
+use Rattle.std.proofs.lemmas.List.{append-nil}
+use Rattle.std.proofs.lemmas.Grind.{flat_map-append}
+use Rattle.std.specs.List.{AllByRecursion, AllZip}
+use Rattle.archive_core.specs.Content.{Operations, IsContent}
+use Rattle.report_text.specs.declared.rows.AdmitRow.{AdmitRow}
+use Rattle.admission.proofs.Rows.{admitted-append}
+use Rattle.admission.specs.File.{admissible, parts, IsAcceptedFile}
+use Rattle.admission.specs.Take.{admitted, taken_rows}
+use Rattle.archive_updates.specs.Admit.{images_of, file_rows, admit_rows, HasTaken, MakesAdmitted}
+use Rattle.command_ends.specs.Inputs.{Reader, Holds, IsAccepted, HoldsArchive}
+use Rattle.command_ends.proofs.Readers.{all_more, pairs_more, pairs_long}
+use Rattle.report_text.specs.Report.{admit_lines}
+
+-- the rows of some files and of others behind them
+pub admit_rows-append : (o : Operations) (place : ℕ) (xs ys : List (List ℕ)) → admit_rows o place (xs ++ ys) ≡ admit_rows o place xs ++ admit_rows (admitted o (images_of xs)) (place + length xs) ys
+unfolding admit_rows
+admit_rows-append o place [] ys = ap (λ (n : ℕ). admit_rows o n ys) (omega arith)
+admit_rows-append o place (x ∷ xs) ys =
+    ap (λ (rows : List AdmitRow). file_rows place 0 (taken_rows o (parts x)) ++ rows)
+    (admit_rows-append (admitted o (admissible x)) (place + 1) xs ys
+    ∙ ap (λ (n : ℕ). admit_rows (admitted o (admissible x)) (place + 1) xs ++ admit_rows (admitted (admitted o (admissible x)) (images_of xs)) n ys) (omega arith)
+    ∙ ap (λ (p : Operations). admit_rows (admitted o (admissible x)) (place + 1) xs ++ admit_rows p (place + length (x ∷ xs)) ys) (sym (admitted-append o (admissible x) (images_of xs))))
+    ∙ sym (append_assoc (file_rows place 0 (taken_rows o (parts x))) (admit_rows (admitted o (admissible x)) (place + 1) xs) (admit_rows (admitted o (images_of (x ∷ xs))) (place + length (x ∷ xs)) ys))
+
+-- the rows of one file, which stand alone
+one_row : (o : Operations) (place : ℕ) (text : List ℕ) → admit_rows o place (text ∷ []) ≡ file_rows place 0 (taken_rows o (parts text))
+unfolding admit_rows
+one_row o place text = append-nil (file_rows place 0 (taken_rows o (parts text)))
+
+module _ {S : Type 0} where
+  pub taken_none : (o : Operations) (rows : List AdmitRow) → rows ≡ [] → HasTaken {S = S} [] o o rows
+  unfolding admit_rows
+  taken_none o rows is = record { texts = []; files_are = tt; accepted = tt; content = refl; rows_are = is }
+
+  pub taken_more : (files seen : List (Reader S)) (place : ℕ) (file : Reader S) (o mid new : Operations) (rows more : List AdmitRow) (text : List ℕ)
+      → length files ≡ place → seen ≡ files ++ file ∷ [] → HasTaken files o mid rows
+      → IsAcceptedFile text → Holds file text → new ≡ admitted mid (admissible text) → more ≡ rows ++ file_rows place 0 (taken_rows mid (parts text))
+      → HasTaken seen o new more
+  taken_more files seen place file o mid new rows more text place_is seen_is taken accepted holds new_is more_is =
+      let long : length taken.texts ≡ place = pairs_long Holds files taken.texts taken.files_are ∙ place_is in
+      let images : images_of (taken.texts ++ text ∷ []) ≡ images_of taken.texts ++ admissible text =
+      flat_map-append admissible taken.texts (text ∷ []) ∙ ap (λ (is : List (List ℕ)). images_of taken.texts ++ is) (append-nil (admissible text)) in
+      record {
+        texts = taken.texts ++ text ∷ [];
+        files_are = subst (λ (fs : List (Reader S)). AllZip Holds fs (taken.texts ++ text ∷ [])) (sym seen_is) (pairs_more Holds files taken.texts file text taken.files_are holds);
+        accepted = all_more IsAcceptedFile taken.texts text taken.accepted accepted;
+        content = new_is ∙ ap (λ (p : Operations). admitted p (admissible text)) taken.content ∙ sym (admitted-append o (images_of taken.texts) (admissible text))
+            ∙ ap (λ (is : List (List ℕ)). admitted o is) (sym images);
+        rows_are = more_is ∙ ap (λ (p : Operations). rows ++ file_rows place 0 (taken_rows p (parts text))) taken.content
+            ∙ ap (λ (rs : List AdmitRow). rows ++ rs) (sym (one_row (admitted o (images_of taken.texts)) place text))
+            ∙ ap (λ (n : ℕ). rows ++ admit_rows (admitted o (images_of taken.texts)) n (text ∷ [])) (sym long)
+            ∙ ap (λ (rs : List AdmitRow). rs ++ admit_rows (admitted o (images_of taken.texts)) (length taken.texts) (text ∷ [])) taken.rows_are
+            ∙ sym (admit_rows-append o 0 taken.texts (text ∷ []) ∙ ap (λ (n : ℕ). admit_rows o 0 taken.texts ++ admit_rows (admitted o (images_of taken.texts)) n (text ∷ [])) (omega arith));
+      }
+
+  each_accepted : (files : List (Reader S)) (texts : List (List ℕ)) → AllZip Holds files texts → AllByRecursion IsAcceptedFile texts → AllByRecursion IsAccepted files
+  each_accepted [] texts hold accepted = tt
+  each_accepted (_ ∷ _) [] hold accepted = absurd hold
+  each_accepted (_ ∷ files) (text ∷ texts) hold accepted = ((text, accepted.0, hold.0), each_accepted files texts hold.1 accepted.1)
+
+  -- what was taken was accepted
+  pub taken_accepted : (files : List (Reader S)) (o mid : Operations) (rows : List AdmitRow) → HasTaken files o mid rows → AllByRecursion IsAccepted files
+  taken_accepted files o mid rows taken = each_accepted files taken.texts taken.files_are taken.accepted
+
+pub makes_admitted : {R S : Type 0} (input : Reader R) (files : List (Reader S)) (o new : Operations) (rows rows_now : List AdmitRow) (lines : List ℕ)
+    → IsContent o → HoldsArchive input o → HasTaken files o new rows → rows_now ≡ rows → lines ≡ admit_lines rows_now
+    → MakesAdmitted input files new lines
+makes_admitted input files o new rows rows_now lines content holds taken same lines_are = record {
+  before = o;
+  texts = taken.texts;
+  is_content = content;
+  archive = holds;
+  files_are = taken.files_are;
+  accepted = taken.accepted;
+  content_is = taken.content;
+  lines_are = lines_are ∙ ap admit_lines (same ∙ taken.rows_are);
+}

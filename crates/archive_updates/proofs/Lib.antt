@@ -1,0 +1,5 @@
+pub mod Files
+pub mod Rows
+pub mod Joins
+pub mod Streamed
+pub mod Counts

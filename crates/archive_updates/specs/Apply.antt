@@ -1,0 +1,32 @@
+-- What `apply` makes of an archive and an operations file.
+use Rattle.std.specs.Prelude.{◌≡◌, ℕ, ◌-◌, List, length, map}
+use Rattle.archive_core.specs.Content.{Operations, IsContent, with_records, new_among}
+use Rattle.archive_core.specs.Record.{record_bytes}
+use Rattle.archive_core.specs.declared.operations.Operation.{Operation}
+use Rattle.archive_records.specs.Text.{IsOperationsText}
+use Rattle.report_text.specs.Report.{apply_line}
+use Rattle.command_ends.specs.Ends.{Command, MakesArchive}
+use Rattle.command_ends.specs.Inputs.{Reader, Gives, Unfailed, IsUntouched, IsRefusedOps, IsRefusedInOrder}
+use Rattle.command_ends.specs.Inputs.{HoldsArchive}
+
+-- IN is the text of a content and OPS that of operations; this is the content with their records, and this is the line
+-- that counts the new and the known ones.
+pub record MakesApplied {R S : Type 0} (input : Reader R) (ops : Reader S) (content : Operations)
+    (lines : List ℕ) : Type 0 where
+  pub before : Operations
+  pub operations : List Operation
+  pub is_content : IsContent before
+  pub archive : HoldsArchive input before
+  pub ops_are : Gives ops (λ text. IsOperationsText text operations)
+  pub content_is : content ≡ with_records before (map record_bytes operations)
+  pub lines_are : lines
+      ≡ apply_line (new_among before (map record_bytes operations)) (length operations - new_among before
+      (map record_bytes operations))
+
+-- `apply`, over these inputs
+abbrev pub apply : {R S : Type 0} → Reader R → Reader S → Command
+apply input ops = record {
+  Makes = MakesArchive (MakesApplied input ops);
+  Refuses = IsRefusedInOrder input (IsUntouched ops) (IsRefusedOps ops);
+  Unfailed = Unfailed input × Unfailed ops;
+}

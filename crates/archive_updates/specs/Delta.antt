@@ -1,0 +1,31 @@
+-- What `delta` makes of an archive and a summary.
+use Rattle.std.specs.Prelude.{◌≡◌, ℕ, List, []}
+use Rattle.archive_core.specs.Content.{Operations, IsContent}
+use Rattle.archive_core.specs.Summary as exchange
+use Rattle.archive_core.specs.Summary.{Entries}
+use Rattle.archive_records.specs.Entry.{AreEntries}
+use Rattle.archive_records.specs.Text.{summary_text}
+use Rattle.command_ends.specs.Ends.{Command, MakesArchive}
+use Rattle.command_ends.specs.Inputs.{Reader, Holds, Unfailed, IsUntouched, IsRefusedSummary, IsRefusedInOrder}
+use Rattle.command_ends.specs.Inputs.{HoldsArchive}
+
+-- ARCHIVE is the text of a content and SUMMARY that of entries; this is the content of the operations that they do not
+-- name, and there are no lines but the sizes.
+pub record MakesDelta {R S : Type 0} (archive : Reader R) (summary : Reader S) (content : Operations)
+    (lines : List ℕ) : Type 0 where
+  pub before : Operations
+  pub entries : Entries
+  pub is_content : IsContent before
+  pub are_entries : AreEntries entries
+  pub archive_is : HoldsArchive archive before
+  pub summary_is : Holds summary (summary_text entries)
+  pub content_is : content ≡ exchange.delta before entries
+  pub lines_are : lines ≡ []
+
+-- `delta`, over these inputs
+abbrev pub delta : {R S : Type 0} → Reader R → Reader S → Command
+delta archive summary = record {
+  Makes = MakesArchive (MakesDelta archive summary);
+  Refuses = IsRefusedInOrder archive (IsUntouched summary) (IsRefusedSummary summary);
+  Unfailed = Unfailed archive × Unfailed summary;
+}

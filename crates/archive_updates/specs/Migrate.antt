@@ -1,0 +1,20 @@
+-- What `migrate` makes of an archive.
+use Rattle.std.specs.Prelude.{◌≡◌, ℕ, List, []}
+use Rattle.archive_core.specs.Content.{Operations, IsContent}
+use Rattle.command_ends.specs.Ends.{Command, MakesArchive}
+use Rattle.command_ends.specs.Inputs.{Reader, Unfailed, IsRefusedArchive, HoldsArchive}
+
+-- IN is an archive's text, of whichever version, and this is the content that it gives; there are no lines but the
+-- sizes.
+pub record MakesMigrated {R : Type 0} (input : Reader R) (content : Operations) (lines : List ℕ) : Type 0 where
+  pub is_content : IsContent content
+  pub archive : HoldsArchive input content
+  pub lines_are : lines ≡ []
+
+-- `migrate`, over this input
+abbrev pub migrate : {R : Type 0} → Reader R → Command
+migrate input = record {
+  Makes = MakesArchive (MakesMigrated input);
+  Refuses = IsRefusedArchive 0 input;
+  Unfailed = Unfailed input;
+}

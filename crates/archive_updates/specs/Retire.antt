@@ -1,0 +1,27 @@
+-- What `retire` makes of an archive.
+use Rattle.std.specs.Prelude.{◌≡◌, ℕ, List}
+use Rattle.archive_core.specs.Record.{retirement_record}
+use Rattle.archive_core.specs.Content.{Operations, IsContent, with_record, changes}
+use Rattle.archive_core.specs.declared.keys.SliceKey.{SliceKey}
+use Rattle.archive_core.specs.declared.keys.Digest.{Digest}
+use Rattle.report_text.specs.Report.{retire_line}
+use Rattle.command_ends.specs.Ends.{Command, MakesArchive}
+use Rattle.command_ends.specs.Inputs.{Reader, Unfailed, IsRefusedArchive, HoldsArchive}
+
+-- IN is the text of a content; this is the content with the retirement, and this is the line that tells whether that
+-- changed it.
+pub record MakesRetired {R : Type 0} (input : Reader R) (key : SliceKey) (digest : Digest) (content : Operations)
+    (lines : List ℕ) : Type 0 where
+  pub before : Operations
+  pub is_content : IsContent before
+  pub archive : HoldsArchive input before
+  pub content_is : content ≡ with_record before (retirement_record key digest.0)
+  pub lines_are : lines ≡ retire_line (changes before (retirement_record key digest.0)) key digest
+
+-- `retire`, over this input
+abbrev pub retire : {R : Type 0} → Reader R → SliceKey → Digest → Command
+retire input key digest = record {
+  Makes = MakesArchive (MakesRetired input key digest);
+  Refuses = IsRefusedArchive 0 input;
+  Unfailed = Unfailed input;
+}

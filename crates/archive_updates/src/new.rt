@@ -1,0 +1,27 @@
+//! `new OUT`.
+ghost use Rattle.std.specs.Prelude.{[]};
+ghost use Rattle.std.specs.FinSet as set;
+ghost use Rattle.archive_records.specs.Text.{written};
+ghost use Rattle.command_ends.specs.Outputs.{Publishes, report_of, writer};
+
+use archive_core::Archive;
+use byte_device::Sink;
+use command_ends::{CommandFault, Status, publish};
+use memory::Heap;
+
+/// Writes the empty archive to OUT, and its sizes to the report.
+///
+/// # Errors
+///
+/// `Output`, `Report` and `OutOfMemory`.
+pub fn run_new<A: Archive + Drop, W: Sink, P: Sink>(
+    heap: Heap,
+    out: &mut W,
+    report: &mut P,
+) -> Result<Status, CommandFault>
+    ensures { Publishes (writer W.held W.failures out.old out.new) (writer P.held P.failures report.old report.new)
+        (written set.empty) (report_of set.empty []) result }
+{
+    let archive = A::empty(heap.clone()?);
+    publish(&archive, String::new(heap), out, report)
+}

@@ -1,0 +1,141 @@
+//! Random pairs of archives, merged as they come and joined as values.
+
+use crate::archives::{read, text_of};
+use crate::faults::{CallFault, Ended};
+use crate::tellings::tell_text;
+use archive_core::{Archive, Operation, Slice, take_all};
+use byte_device::{Bytes, Grown};
+use memory::Heap;
+use record_merge::merge_streams;
+use std::alloc::Global;
+
+// Numbers that follow from a seed: the linear congruential generator of Knuth's MMIX.
+#[derive(Drop)]
+struct Dice(u64);
+
+impl Dice {
+    // A number below that of the sides.
+    fn below(&mut self, sides: u8) -> u8 {
+        self.0 = self
+            .0
+            .wrapping_mul(6_364_136_223_846_793_005)
+            .wrapping_add(1_442_695_040_888_963_407);
+        let byte = ((self.0 >> 40) & 0xff) as u8;
+        byte % sides.max(1)
+    }
+}
+
+// Which operations of a pair come to which archive.
+#[derive(Clone, Copy)]
+enum Shape {
+    // A third of them to both.
+    Mixed,
+    LeftAlone,
+    RightAlone,
+    Equal,
+    // The retirements to the left one, which so ends where the right one begins.
+    Apart,
+}
+
+impl Shape {
+    fn of_pair(number: u64) -> Shape {
+        match number % 5 {
+            0 => Shape::Mixed,
+            1 => Shape::LeftAlone,
+            2 => Shape::Equal,
+            3 => Shape::Apart,
+            _ => Shape::RightAlone,
+        }
+    }
+
+    // Whether an operation comes to the left archive, and to the right one.
+    fn sides(self, operation: &Operation, dice: &mut Dice) -> (bool, bool) {
+        match self {
+            Shape::Mixed => match dice.below(3) {
+                0 => (true, false),
+                1 => (false, true),
+                _ => (true, true),
+            },
+            Shape::LeftAlone => (true, false),
+            Shape::RightAlone => (false, true),
+            Shape::Equal => (true, true),
+            Shape::Apart => match operation {
+                Operation::Retire(_, _) => (true, false),
+                Operation::Admit(_) => (false, true),
+            },
+        }
+    }
+}
+
+/// Merges random pairs of archives, whose slices are made from an image, and tells where a join of the two as values is
+/// another archive, and the digest of all.
+pub fn tell_pairs<A: Archive + Drop>(
+    image: &[u8],
+    pairs: u64,
+    seed: u64,
+    told: &mut String,
+) -> Ended {
+    let alloc = *told.allocator();
+    let heap = Heap::new(alloc)?;
+    let mut dice = Dice(seed);
+    let mut all = Vec::new(alloc);
+    for number in 0..pairs {
+        let shape = Shape::of_pair(number);
+        let (left, right) = random_pair::<A>(alloc, &heap, shape, image, &mut dice)?;
+        let mut merged = Grown::new(heap.clone()?);
+        let (mut one, mut other) = (Bytes::new(&left), Bytes::new(&right));
+        let sizes = merge_streams(&heap, &mut one, &mut other, &mut merged);
+        let mut joined: A = read(heap.clone()?, &left)?;
+        take_all(&mut joined, read(heap.clone()?, &right)?)?;
+        let records = sizes.map(|sizes| sizes.records);
+        if records != Ok(joined.len()) || merged.as_slice() != text_of(alloc, &joined)?.as_slice() {
+            writeln!(told, "WRONG: pair {number} is merged otherwise")?;
+        }
+        all.extend_from_slice(merged.as_slice())?;
+    }
+    Ok(tell_text(&all, told)?)
+}
+
+// The texts of a pair.
+fn random_pair<A: Archive + Drop>(
+    alloc: Global,
+    heap: &Heap,
+    shape: Shape,
+    image: &[u8],
+    dice: &mut Dice,
+) -> Result<(Vec<u8>, Vec<u8>), CallFault> {
+    let mut left = A::empty(heap.clone()?);
+    let mut right = A::empty(heap.clone()?);
+    for _ in 0..dice.below(12) {
+        let operation = random_operation(alloc, heap, image, dice)?;
+        let (to_left, to_right) = shape.sides(&operation, dice);
+        if to_left {
+            left.take(operation.copy(heap.clone()?)?)?;
+        }
+        if to_right {
+            right.take(operation)?;
+        }
+    }
+    Ok((text_of(alloc, &left)?, text_of(alloc, &right)?))
+}
+
+// The admission or the retirement of an image with another last byte, and up to two bytes more.
+fn random_operation(
+    alloc: Global,
+    heap: &Heap,
+    image: &[u8],
+    dice: &mut Dice,
+) -> Result<Operation, CallFault> {
+    let mut bytes = image.to_vec(alloc)?;
+    if let Some(last) = bytes.last_mut() {
+        *last = dice.below(6);
+    }
+    for _ in 0..dice.below(3) {
+        bytes.extend_from_slice(&[dice.below(255)])?;
+    }
+    let slice = Slice::admit(heap.clone()?, &bytes)?;
+    if dice.below(3) == 0 {
+        return Ok(Operation::Retire(slice.key(), slice.digest()));
+    }
+    Ok(Operation::Admit(slice))
+}

@@ -1,0 +1,74 @@
+-- How a command ends.
+use Rattle.std.specs.Prelude.{◌≡◌, ℕ, List, [], Result, Ok, Err, ◌⊎◌}
+use Rattle.archive_core.specs.Content.{Operations}
+use Rattle.archive_records.specs.Text.{written}
+use Rattle.command_ends.specs.declared.faults.CommandFault.{CommandFault}
+use Rattle.command_ends.specs.declared.faults.CommandFault.TheVariants.{Input, Output, Report, OutOfMemory}
+use Rattle.command_ends.specs.declared.faults.Place.{Place}
+use Rattle.command_ends.specs.declared.faults.Status.{Status}
+use Rattle.command_ends.specs.declared.faults.Why.{Why}
+use Rattle.command_ends.specs.Outputs.{Writer, Takes, Publishes, Reports, report_of}
+
+-- A command that writes OUT, with its inputs: the text of OUT and that of the report that accepted inputs make, which
+-- input is refused, and why, and that no reader fails.
+pub record Command : Type 1 where
+  pub Makes : List ℕ → List ℕ → Type 0
+  pub Refuses : Place → Why → Type 0
+  pub Unfailed : Type 0
+
+-- These are the text of the content that inputs make, and the report of their lines with the sizes.
+pub record MakesArchive (Makes : Operations → List ℕ → Type 0) (text told : List ℕ) : Type 0 where
+  pub content : Operations
+  pub lines : List ℕ
+  pub makes : Makes content lines
+  pub text_is : text ≡ written content
+  pub told_is : told ≡ report_of content lines
+
+-- what two commands make is the same: one OUT and one report
+abbrev pub MakeOne : (List ℕ → List ℕ → Type 0) → (List ℕ → List ℕ → Type 0) → Type 0
+MakeOne Makes Others = (text told other other_told : List ℕ) → Makes text told → Others other other_told
+    → (text ≡ other) × (told ≡ other_told)
+
+-- The inputs are accepted, and what they make is published.
+pub record Carries (Makes : List ℕ → List ℕ → Type 0) (out report : Writer)
+    (result : Result Status CommandFault) : Type 0 where
+  pub text : List ℕ
+  pub told : List ℕ
+  pub makes : Makes text told
+  pub published : Publishes out report text told result
+
+-- How a command ends. An input is refused, and nothing is written; or the inputs are accepted, and what they make is
+-- published, wholly or up to where a writer failed. Where memory is wanting, OUT has nothing or the whole text, and the
+-- report nothing. Where no input is refused, no reader fails.
+abbrev pub Ends : Command → Writer → Writer → Result Status CommandFault → Type 0
+Ends command out report (Ok status) = command.Unfailed × Carries command.Makes out report (Ok status)
+Ends command out report (Err (Input place why)) = command.Refuses place why × Takes out [] × Takes report []
+Ends command out report (Err (Output n)) = command.Unfailed × Carries command.Makes out report (Err (Output n))
+Ends command out report (Err (Report n)) = command.Unfailed × Carries command.Makes out report (Err (Report n))
+Ends command out report (Err OutOfMemory) =
+    command.Unfailed × ((Takes out [] × Takes report []) ⊎ Carries command.Makes out report (Err OutOfMemory))
+
+-- A command that only reports, with its input: the status and the text that an accepted input makes, whether it is
+-- refused, and why, and that its reader does not fail.
+pub record Query : Type 1 where
+  pub Makes : Status → List ℕ → Type 0
+  pub Refuses : Place → Why → Type 0
+  pub Unfailed : Type 0
+
+-- The input is accepted, and what it makes is reported.
+pub record CarriesReport (Makes : Status → List ℕ → Type 0) (report : Writer)
+    (result : Result Status CommandFault) : Type 0 where
+  pub status : Status
+  pub text : List ℕ
+  pub makes : Makes status text
+  pub reported : Reports report status text result
+
+-- How a command ends that only reports. Its input is refused, and nothing is written; or it is accepted, and what it
+-- makes is reported, wholly or up to where the report failed. Where memory is wanting nothing is written. Where
+-- it is not refused, its reader does not fail.
+abbrev pub EndsReport : Query → Writer → Result Status CommandFault → Type 0
+EndsReport query report (Ok status) = query.Unfailed × CarriesReport query.Makes report (Ok status)
+EndsReport query report (Err (Input place why)) = query.Refuses place why × Takes report []
+EndsReport query report (Err (Output _)) = ⊥
+EndsReport query report (Err (Report n)) = query.Unfailed × CarriesReport query.Makes report (Err (Report n))
+EndsReport query report (Err OutOfMemory) = query.Unfailed × Takes report []

@@ -1,0 +1,41 @@
+-- The printed texts of the faults of commands.
+use Rattle.std.specs.Prelude.{List, ℕ, ◌++◌, codes}
+use Rattle.std.specs.Fmt.{decimal}
+use Rattle.report_text.specs.Texts.{script_fault_text}
+use Rattle.report_text.specs.Texts.{record_fault_text, take_fault_text}
+use Rattle.command_ends.specs.declared.faults.Place.{Place}
+use Rattle.command_ends.specs.declared.faults.Place.TheVariants.{Archive, File, Ops, Summary, Script as ScriptPlace}
+use Rattle.command_ends.specs.declared.faults.Place.TheVariants.{Frames}
+use Rattle.command_ends.specs.declared.faults.Why.{Why}
+use Rattle.command_ends.specs.declared.faults.Why.TheVariants.{CannotOpen, Device, Record, Take, Script, BadFrame}
+use Rattle.command_ends.specs.declared.faults.CommandFault.{CommandFault}
+use Rattle.command_ends.specs.declared.faults.CommandFault.TheVariants.{Input, Output, Report, OutOfMemory}
+
+-- an input by its kind, with its number where there may be several
+unfoldable pub place_text : Place → List ℕ
+place_text (Archive number) = codes "archive " ++ decimal number
+place_text (File number) = codes "file " ++ decimal number
+place_text Ops = codes "ops"
+place_text Summary = codes "summary"
+place_text ScriptPlace = codes "script"
+place_text Frames = codes "frames"
+
+-- what is wrong with an input
+unfoldable pub why_text : Why → List ℕ
+why_text CannotOpen = codes "cannot open"
+why_text Device = codes "Device"
+why_text (Record fault) = record_fault_text fault
+why_text (Take fault) = take_fault_text fault
+why_text (Script fault line) = script_fault_text fault ++ codes " at line " ++ decimal line
+why_text (BadFrame line) = codes "BadFrame at line " ++ decimal line
+
+-- where a device failed: the number of bytes that it had taken
+abbrev pub failed_after : ℕ → List ℕ
+failed_after written = codes "failed after " ++ decimal written ++ codes " bytes"
+
+-- the place and its fault
+unfoldable pub command_fault_text : CommandFault → List ℕ
+command_fault_text (Input place why) = place_text place ++ codes ": " ++ why_text why
+command_fault_text (Output written) = codes "output: " ++ failed_after written
+command_fault_text (Report written) = codes "report: " ++ failed_after written
+command_fault_text OutOfMemory = codes "out of memory"

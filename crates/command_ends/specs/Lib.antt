@@ -1,0 +1,6 @@
+pub mod FaultTexts
+pub mod Inputs
+pub mod InnerSources
+pub mod Outputs
+pub mod Ends
+pub mod Statuses

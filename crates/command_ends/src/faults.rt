@@ -1,0 +1,153 @@
+//! How a command ends, and why one is refused, with the text of each fault.
+
+use admission::TakeFault;
+use archive_records::RecordFault;
+use rehearsal::ScriptFault;
+use report_text::Text;
+use std::alloc::{AllocError, AllocFailed};
+use std::error::Error;
+use std::fmt::{self, Display};
+
+/// How a command that was not refused ends.
+#[derive(Clone, Copy, Debug, PartialEq, Eq)]
+pub enum Status {
+    /// Everything asked for was done or found: exit status 0.
+    Done,
+    /// The answer is empty or has no single symbol: exit status 1.
+    Partial,
+}
+
+/// Which input of a command. Archives and files are counted from 0 in the order of the words.
+#[derive(Clone, Copy, Debug, PartialEq, Eq)]
+pub enum Place {
+    /// An archive that is read.
+    Archive(u64),
+    /// A file whose slices are taken.
+    File(u64),
+    /// The operations file that is applied.
+    Ops,
+    /// The summary that an archive is compared with.
+    Summary,
+    /// The script that is carried out.
+    Script,
+    /// The frames that are answered.
+    Frames,
+}
+
+/// What is wrong with an input.
+#[derive(Clone, Copy, Debug, PartialEq, Eq)]
+pub enum Why {
+    /// It could not be opened.
+    CannotOpen,
+    /// Reading a file of slices, a script or frames failed.
+    Device,
+    /// It is no text of an archive, of operations or of a summary, or reading it failed.
+    Record(RecordFault),
+    /// Its slices are not taken.
+    Take(TakeFault),
+    /// It is no script; the line is the first faulty one, counted from 1.
+    Script { fault: ScriptFault, line: u64 },
+    /// It is no text of frames; the line is the first faulty one, counted from 1.
+    BadFrame { line: u64 },
+}
+
+/// Why a command is refused.
+#[derive(Clone, Copy, Debug, PartialEq, Eq)]
+pub enum CommandFault {
+    /// An input is refused.
+    Input(Place, Why),
+    /// The output failed after it took this many bytes.
+    Output(u128),
+    /// Standard output failed after it took this many bytes of the report.
+    Report(u128),
+    /// A growth was refused.
+    OutOfMemory,
+}
+
+impl Error for CommandFault {}
+
+impl From<AllocError> for CommandFault {
+    ghost use Rattle.std.specs.Prelude.{◌≡◌};
+    ghost use Rattle.command_ends.specs.declared.faults.CommandFault.TheVariants.{OutOfMemory};
+
+    ghost from_gives = { λ _ fault. fault ≡ OutOfMemory };
+
+    fn from(_refused: AllocError) -> CommandFault {
+        CommandFault::OutOfMemory
+    }
+}
+
+impl<T: Drop> From<AllocFailed<T>> for CommandFault {
+    ghost use Rattle.std.specs.Prelude.{◌≡◌};
+    ghost use Rattle.command_ends.specs.declared.faults.CommandFault.TheVariants.{OutOfMemory};
+
+    ghost from_gives = { λ _ fault. fault ≡ OutOfMemory };
+
+    fn from(_refused: AllocFailed<T>) -> CommandFault {
+        CommandFault::OutOfMemory
+    }
+}
+
+#[tactic(auto, unfolding(crate::specs::FaultTexts::place_text))]
+impl fmt::Display for Place {
+    ghost use Rattle.std.specs.Prelude.{Some};
+    ghost use Rattle.command_ends.specs.FaultTexts.{place_text};
+
+    ghost output = { λ place. Some (place_text place) };
+
+    fn fmt<W: fmt::Write>(&self, f: &mut fmt::Formatter<W>) -> fmt::Result {
+        match self {
+            Place::Archive(number) => write!(f, "archive {number}"),
+            Place::File(number) => write!(f, "file {number}"),
+            Place::Ops => f.write_str("ops"),
+            Place::Summary => f.write_str("summary"),
+            Place::Script => f.write_str("script"),
+            Place::Frames => f.write_str("frames"),
+        }
+    }
+}
+
+#[tactic(auto, unfolding(crate::specs::FaultTexts::why_text))]
+impl fmt::Display for Why {
+    ghost use Rattle.std.specs.Prelude.{Some};
+    ghost use Rattle.command_ends.specs.FaultTexts.{why_text};
+
+    ghost output = { λ why. Some (why_text why) };
+
+    fn fmt<W: fmt::Write>(&self, f: &mut fmt::Formatter<W>) -> fmt::Result {
+        match self {
+            Why::CannotOpen => f.write_str("cannot open"),
+            Why::Device => f.write_str("Device"),
+            Why::Record(fault) => {
+                let fault = Text(*fault);
+                write!(f, "{fault}")
+            }
+            Why::Take(fault) => {
+                let fault = Text(*fault);
+                write!(f, "{fault}")
+            }
+            Why::Script { fault, line } => {
+                let fault = Text(*fault);
+                write!(f, "{fault} at line {line}")
+            }
+            Why::BadFrame { line } => write!(f, "BadFrame at line {line}"),
+        }
+    }
+}
+
+#[tactic(auto, unfolding(crate::specs::FaultTexts::command_fault_text))]
+impl fmt::Display for CommandFault {
+    ghost use Rattle.std.specs.Prelude.{Some};
+    ghost use Rattle.command_ends.specs.FaultTexts.{command_fault_text};
+
+    ghost output = { λ fault. Some (command_fault_text fault) };
+
+    fn fmt<W: fmt::Write>(&self, f: &mut fmt::Formatter<W>) -> fmt::Result {
+        match self {
+            CommandFault::Input(place, why) => write!(f, "{place}: {why}"),
+            CommandFault::Output(written) => write!(f, "output: failed after {written} bytes"),
+            CommandFault::Report(written) => write!(f, "report: failed after {written} bytes"),
+            CommandFault::OutOfMemory => f.write_str("out of memory"),
+        }
+    }
+}

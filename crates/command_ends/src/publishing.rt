@@ -1,0 +1,94 @@
+//! The end of each command: OUT, and then the report.
+ghost use Rattle.std.specs.Prelude.{[], string_bytes};
+ghost use Rattle.archive_core.specs.Summary.{delta};
+ghost use Rattle.archive_records.specs.Text.{summary_text, written};
+ghost use Rattle.command_ends.specs.Outputs.{Publishes, Reports, report_of, summary_report_of, writer};
+
+use crate::faults::{CommandFault, Status};
+use archive_core::Archive;
+use archive_records::{Summary, write_archive, write_delta, write_summary};
+use byte_device::{Sink, push_all};
+use memory::Heap;
+use report_text::{summary_line, with_sizes};
+
+/// Writes the archive to OUT, and then the lines and the sizes to the report, which is made whole before its first byte
+/// is given.
+pub fn publish<A: Archive, W: Sink, P: Sink>(
+    archive: &A,
+    lines: String<Heap>,
+    out: &mut W,
+    report: &mut P,
+) -> Result<Status, CommandFault>
+    ensures { Publishes (writer W.held W.failures out.old out.new) (writer P.held P.failures report.old report.new)
+        (written (A.content archive.now)) (report_of (A.content archive.now) (string_bytes lines)) result }
+{
+    let sizes = match write_archive(archive, out) {
+        Ok(sizes) => sizes,
+        Err(fault) => return Err(CommandFault::Output(fault.written)),
+    };
+    let text = with_sizes(lines, sizes)?;
+    publish_report(Status::Done, &text, report)
+}
+
+/// Writes the operations that the summary does not name to OUT, as an archive, and then its sizes to the report.
+pub fn publish_delta<A: Archive, W: Sink, P: Sink>(
+    heap: Heap,
+    archive: &A,
+    summary: &Summary,
+    out: &mut W,
+    report: &mut P,
+) -> Result<Status, CommandFault>
+    ensures { Publishes (writer W.held W.failures out.old out.new) (writer P.held P.failures report.old report.new)
+        (written (delta (A.content archive.now) summary.now)) (report_of (delta (A.content archive.now) summary.now) [])
+        result }
+{
+    let sizes = match write_delta(archive, summary, out) {
+        Ok(sizes) => sizes,
+        Err(fault) => return Err(CommandFault::Output(fault.written)),
+    };
+    let text = with_sizes(String::new(heap), sizes)?;
+    publish_report(Status::Done, &text, report)
+}
+
+/// Writes the summary to OUT, and then its sizes to the report.
+pub fn publish_summary<W: Sink, P: Sink>(
+    heap: Heap,
+    summary: &Summary,
+    out: &mut W,
+    report: &mut P,
+) -> Result<Status, CommandFault>
+    ensures { Publishes (writer W.held W.failures out.old out.new) (writer P.held P.failures report.old report.new)
+        (summary_text summary.now) (summary_report_of summary.now) result }
+{
+    let sizes = match write_summary(summary, out) {
+        Ok(sizes) => sizes,
+        Err(fault) => return Err(CommandFault::Output(fault.written)),
+    };
+    let text = summary_line(heap, sizes)?;
+    publish_report(Status::Done, &text, report)
+}
+
+/// Writes a text to the report, which is the end of each command that only reports.
+pub fn publish_report<P: Sink>(
+    status: Status,
+    text: &str,
+    report: &mut P,
+) -> Result<Status, CommandFault>
+    ensures { Reports (writer P.held P.failures report.old report.new) status text.now result }
+{
+    publish_bytes(status, text.as_bytes(), report)
+}
+
+/// The same of a text by its bytes.
+pub fn publish_bytes<P: Sink>(
+    status: Status,
+    bytes: &[u8],
+    report: &mut P,
+) -> Result<Status, CommandFault>
+    ensures { Reports (writer P.held P.failures report.old report.new) status bytes.now result }
+{
+    match push_all(report, bytes) {
+        Ok(()) => Ok(status),
+        Err(fault) => Err(CommandFault::Report(fault.written)),
+    }
+}

@@ -1,0 +1,280 @@
+//! The inputs of a command, each opened beforehand and refused at its turn.
+ghost use Rattle.std.specs.Prelude.{◌≡◌, ◌≢◌, [], Ok, OnOk, IfOk, IfErr, IsErrAnd, IsOkAnd, MatchResult};
+ghost use Rattle.std.specs.Borrow.{sem};
+ghost use Rattle.archive_core.specs.Content.{IsContent, Operations};
+ghost use Rattle.archive_core.specs.Lists.{IsList};
+ghost use Rattle.archive_core.specs.Summary.{summary};
+ghost use Rattle.archive_records.specs.declared.fault.RecordFaultKind.TheVariants.{OutOfMemory as RecordOutOfMemory};
+ghost use Rattle.archive_records.specs.Entry.{AreEntries};
+ghost use Rattle.archive_reading.specs.Keys.{AreInOrder};
+ghost use Rattle.archive_records.specs.Text.{IsOperationsText, summary_text};
+ghost use Rattle.crash_frames.specs.Frames.{frames_of};
+ghost use Rattle.rehearsal.specs.Script.{acts, script_of};
+ghost use Rattle.command_ends.specs.declared.faults.CommandFault.TheVariants.{Input};
+ghost use Rattle.command_ends.specs.declared.faults.Why.TheVariants.{CannotOpen as NotOpened, Record};
+ghost use Rattle.command_ends.specs.Inputs.{Gives, Holds, HoldsArchive, HoldsContent, HoldsPart, IsRefusal};
+ghost use Rattle.command_ends.specs.Inputs.{IsRefusedArchive, IsRefusedFile, IsRefusedFrames, IsRefusedOps};
+ghost use Rattle.command_ends.specs.Inputs.{IsRefusedScript, IsRefusedSummary, IsUnread, Unfailed, reader};
+ghost use Rattle.command_ends.specs.InnerSources.{LendsSource};
+
+use crate::faults::{CommandFault, Place, Why};
+use archive_core::{Archive, FindRow, Operation};
+use archive_reading::{
+    Questions, Selects, answer_by_key, list_rows, read_archive, read_ops, read_part, summarize,
+};
+use archive_records::{RecordFault, RecordFaultKind, Summary, read_summary};
+use byte_device::{CannotOpen, ReadFault, Source, read_to_end};
+use crash_frames::{Frame, FramesError, read_frames};
+use memory::Heap;
+use rehearsal::{Script, ScriptError, read_script};
+
+/// The source of an input, or its refusal where it could not be opened.
+pub fn opened<S>(input: &mut Result<S, CannotOpen>, at: Place) -> Result<&mut S, CommandFault>
+    ensures* lends { sem 𝓛 (LendsSource S.row input.entry result) }
+    ensures source { MatchResult input.old (λ source. IsOkAnd result (λ lent. lent.now ≡ source))
+        (λ _. IsErrAnd result (λ fault. fault ≡ Input at NotOpened)) }
+{
+    match input {
+        Ok(source) => Ok(source),
+        Err(CannotOpen) => Err(CommandFault::Input(at, Why::CannotOpen)),
+    }
+}
+
+/// The refusal of an input, whose text has this fault or whose reader failed.
+pub fn refusal(at: Place, fault: RecordFault) -> CommandFault
+    ensures refused { IsRefusal (λ index why. (index ≡ at) × (why ≡ Record fault) × (fault.kind ≢ RecordOutOfMemory))
+        (fault.kind ≡ RecordOutOfMemory) result }
+{
+    match fault.kind {
+        RecordFaultKind::OutOfMemory => CommandFault::OutOfMemory,
+        _ => CommandFault::Input(at, Why::Record(fault)),
+    }
+}
+
+/// Reads the archive of this number among those of the words.
+pub fn read_input<A: Archive + Drop, R: Source>(
+    heap: Heap,
+    index: u64,
+    input: &mut Result<R, CannotOpen>,
+) -> Result<A, CommandFault>
+    ensures content { IfOk result (λ archive. IsContent (A.content archive)) }
+    ensures text { IfOk result
+        (λ archive. HoldsArchive (reader R.left R.failures input.old input.new) (A.content archive)) }
+    ensures unfailed { OnOk result (Unfailed (reader R.left R.failures input.old input.new)) }
+    ensures refused { IfErr result
+        (IsRefusal (IsRefusedArchive index (reader R.left R.failures input.old input.new))
+        (Unfailed (reader R.left R.failures input.old input.new))) }
+{
+    let at = Place::Archive(index);
+    let source = opened(input, at)?;
+    match read_archive(heap, source) {
+        Ok(archive) => Ok(archive),
+        Err(fault) => Err(refusal(at, fault)),
+    }
+}
+
+/// Reads the archive of this number among those of the words, and keeps the records that are picked.
+pub fn read_input_part<A: Archive + Drop, S: Selects, R: Source>(
+    heap: Heap,
+    index: u64,
+    select: &S,
+    input: &mut Result<R, CannotOpen>,
+) -> Result<A, CommandFault>
+    ensures kept { IfOk result (λ archive. HoldsPart (reader R.left R.failures input.old input.new)
+        (S.picked select.now) (A.content archive)) }
+    ensures unfailed { OnOk result (Unfailed (reader R.left R.failures input.old input.new)) }
+    ensures refused { IfErr result
+        (IsRefusal (IsRefusedArchive index (reader R.left R.failures input.old input.new))
+        (Unfailed (reader R.left R.failures input.old input.new))) }
+{
+    let at = Place::Archive(index);
+    let source = opened(input, at)?;
+    match read_part(heap, select, source) {
+        Ok(archive) => Ok(archive),
+        Err(fault) => Err(refusal(at, fault)),
+    }
+}
+
+/// Reads the archive that questions are put to, and answers these.
+pub fn answer_input<A: Archive + Drop, Q: Questions + Drop, R: Source>(
+    heap: Heap,
+    questions: Q,
+    input: &mut Result<R, CannotOpen>,
+) -> Result<Q, CommandFault>
+    requires order { AreInOrder (Q.left questions) }
+    requires start { (o : Operations) → Q.answered questions o questions }
+    ensures answered { IfOk result (λ told. HoldsContent (reader R.left R.failures input.old input.new)
+        (λ o. (Q.left told ≡ []) × Q.answered questions o told)) }
+    ensures unfailed { OnOk result (Unfailed (reader R.left R.failures input.old input.new)) }
+    ensures refused { IfErr result
+        (IsRefusal (IsRefusedArchive 0 (reader R.left R.failures input.old input.new))
+        (Unfailed (reader R.left R.failures input.old input.new))) }
+{
+    let at = Place::Archive(0);
+    let source = opened(input, at)?;
+    match answer_by_key::<A, Q, R>(heap, questions, source) {
+        Ok(told) => Ok(told),
+        Err(fault) => Err(refusal(at, fault)),
+    }
+}
+
+/// Reads the archive that is listed, and gives its rows.
+pub fn read_rows<R: Source>(
+    heap: Heap,
+    input: &mut Result<R, CannotOpen>,
+) -> Result<Vec<FindRow, Heap>, CommandFault>
+    ensures rows { IfOk result (λ rows. HoldsContent (reader R.left R.failures input.old input.new)
+        (λ o. IsList o rows.items)) }
+    ensures unfailed { OnOk result (Unfailed (reader R.left R.failures input.old input.new)) }
+    ensures refused { IfErr result
+        (IsRefusal (IsRefusedArchive 0 (reader R.left R.failures input.old input.new))
+        (Unfailed (reader R.left R.failures input.old input.new))) }
+{
+    let at = Place::Archive(0);
+    let source = opened(input, at)?;
+    match list_rows(heap, source) {
+        Ok(rows) => Ok(rows),
+        Err(fault) => Err(refusal(at, fault)),
+    }
+}
+
+/// Reads the archive that is summarized, and gives its summary.
+pub fn read_entries<R: Source>(
+    heap: Heap,
+    input: &mut Result<R, CannotOpen>,
+) -> Result<Summary, CommandFault>
+    ensures entries { IfOk result (λ entries. HoldsContent (reader R.left R.failures input.old input.new)
+        (λ o. entries ≡ summary o)) }
+    ensures unfailed { OnOk result (Unfailed (reader R.left R.failures input.old input.new)) }
+    ensures refused { IfErr result
+        (IsRefusal (IsRefusedArchive 0 (reader R.left R.failures input.old input.new))
+        (Unfailed (reader R.left R.failures input.old input.new))) }
+{
+    let at = Place::Archive(0);
+    let source = opened(input, at)?;
+    match summarize(heap, source) {
+        Ok(entries) => Ok(entries),
+        Err(fault) => Err(refusal(at, fault)),
+    }
+}
+
+/// Reads the bytes of an input to its end.
+fn read_bytes<S: Source>(
+    heap: Heap,
+    at: Place,
+    input: &mut Result<S, CannotOpen>,
+) -> Result<Vec<u8, Heap>, CommandFault>
+    ensures bytes { IfOk result (λ bytes. Holds (reader S.left S.failures input.old input.new) bytes.items) }
+    ensures unfailed { OnOk result (Unfailed (reader S.left S.failures input.old input.new)) }
+    ensures refused { IfErr result
+        (IsRefusal (λ index why. (index ≡ at) × IsUnread (reader S.left S.failures input.old input.new) why)
+        (Unfailed (reader S.left S.failures input.old input.new))) }
+{
+    let source = opened(input, at)?;
+    match read_to_end(heap, source) {
+        Ok(bytes) => Ok(bytes),
+        Err(ReadFault::Device) => Err(CommandFault::Input(at, Why::Device)),
+        Err(ReadFault::OutOfMemory) => Err(CommandFault::OutOfMemory),
+    }
+}
+
+/// Reads the bytes of the file of this number among the words.
+pub fn read_file<S: Source>(
+    heap: Heap,
+    index: u64,
+    file: &mut Result<S, CannotOpen>,
+) -> Result<Vec<u8, Heap>, CommandFault>
+    ensures bytes { IfOk result (λ bytes. Holds (reader S.left S.failures file.old file.new) bytes.items) }
+    ensures unfailed { OnOk result (Unfailed (reader S.left S.failures file.old file.new)) }
+    ensures refused { IfErr result
+        (IsRefusal (IsRefusedFile index (reader S.left S.failures file.old file.new))
+        (Unfailed (reader S.left S.failures file.old file.new))) }
+{
+    read_bytes(heap, Place::File(index), file)
+}
+
+/// Reads the operations of an operations file.
+pub fn read_operations<S: Source>(
+    heap: Heap,
+    ops: &mut Result<S, CannotOpen>,
+) -> Result<Vec<Operation, Heap>, CommandFault>
+    ensures text { IfOk result
+        (λ operations. Gives (reader S.left S.failures ops.old ops.new)
+        (λ text. IsOperationsText text operations.items)) }
+    ensures unfailed { OnOk result (Unfailed (reader S.left S.failures ops.old ops.new)) }
+    ensures refused { IfErr result
+        (IsRefusal (IsRefusedOps (reader S.left S.failures ops.old ops.new))
+        (Unfailed (reader S.left S.failures ops.old ops.new))) }
+{
+    let at = Place::Ops;
+    let source = opened(ops, at)?;
+    match read_ops(heap, source) {
+        Ok(operations) => Ok(operations),
+        Err(fault) => Err(refusal(at, fault)),
+    }
+}
+
+/// Reads the summary that an archive is compared with.
+pub fn read_summary_input<S: Source>(
+    heap: Heap,
+    summary: &mut Result<S, CannotOpen>,
+) -> Result<Summary, CommandFault>
+    ensures entries { IfOk result (λ entries. AreEntries entries) }
+    ensures text { IfOk result
+        (λ entries. Holds (reader S.left S.failures summary.old summary.new) (summary_text entries)) }
+    ensures unfailed { OnOk result (Unfailed (reader S.left S.failures summary.old summary.new)) }
+    ensures refused { IfErr result
+        (IsRefusal (IsRefusedSummary (reader S.left S.failures summary.old summary.new))
+        (Unfailed (reader S.left S.failures summary.old summary.new))) }
+{
+    let at = Place::Summary;
+    let source = opened(summary, at)?;
+    match read_summary(heap, source) {
+        Ok(entries) => Ok(entries),
+        Err(fault) => Err(refusal(at, fault)),
+    }
+}
+
+/// Reads the script that is carried out, to its end, and then what it says.
+pub fn read_events<S: Source>(
+    heap: Heap,
+    script: &mut Result<S, CannotOpen>,
+) -> Result<Script, CommandFault>
+    ensures script { IfOk result (λ said. Gives (reader S.left S.failures script.old script.new)
+        (λ bytes. script_of bytes ≡ Ok (said.sites, acts said.events.items))) }
+    ensures unfailed { OnOk result (Unfailed (reader S.left S.failures script.old script.new)) }
+    ensures refused { IfErr result
+        (IsRefusal (IsRefusedScript (reader S.left S.failures script.old script.new))
+        (Unfailed (reader S.left S.failures script.old script.new))) }
+{
+    let bytes = read_bytes(heap.clone()?, Place::Script, script)?;
+    match read_script(heap, &bytes) {
+        Ok(said) => Ok(said),
+        Err(ScriptError::Faulty { fault, line }) => {
+            Err(CommandFault::Input(Place::Script, Why::Script { fault, line }))
+        }
+        Err(ScriptError::OutOfMemory) => Err(CommandFault::OutOfMemory),
+    }
+}
+
+/// Reads the frames of a crash, to their end, and then what they say.
+pub fn read_crash<S: Source>(
+    heap: Heap,
+    frames: &mut Result<S, CannotOpen>,
+) -> Result<Vec<Frame, Heap>, CommandFault>
+    ensures frames { IfOk result (λ said. Gives (reader S.left S.failures frames.old frames.new)
+        (λ bytes. frames_of bytes ≡ Ok said.items)) }
+    ensures unfailed { OnOk result (Unfailed (reader S.left S.failures frames.old frames.new)) }
+    ensures refused { IfErr result
+        (IsRefusal (IsRefusedFrames (reader S.left S.failures frames.old frames.new))
+        (Unfailed (reader S.left S.failures frames.old frames.new))) }
+{
+    let bytes = read_bytes(heap.clone()?, Place::Frames, frames)?;
+    match read_frames(heap, &bytes) {
+        Ok(said) => Ok(said),
+        Err(FramesError::BadFrame { line }) => {
+            Err(CommandFault::Input(Place::Frames, Why::BadFrame { line }))
+        }
+        Err(FramesError::OutOfMemory) => Err(CommandFault::OutOfMemory),
+    }
+}

@@ -1,0 +1,18 @@
+//! The exit status of what was carried out.
+
+ghost use Rattle.std.specs.Prelude.{◌≡◌};
+ghost use Rattle.command_ends.specs.Statuses.{status_of};
+
+use crate::{CommandFault, Failure, Status};
+
+/// The exit status of a command that was carried out.
+pub fn status_of(ended: &Result<Status, Failure>) -> u8
+    ensures { result ≡ status_of ended.now }
+{
+    match ended {
+        Ok(Status::Done) => 0,
+        Ok(Status::Partial) => 1,
+        Err(Failure::Command(CommandFault::OutOfMemory)) => 4,
+        Err(_) => 2,
+    }
+}

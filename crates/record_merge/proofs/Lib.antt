@@ -1,0 +1,10 @@
+pub mod Unions
+pub mod Covered
+pub mod MergeSteps
+pub mod Starts
+pub mod Fronts
+pub mod Places
+pub mod Orders
+pub mod Unread
+pub mod Merges
+pub mod Gained

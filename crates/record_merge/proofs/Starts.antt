@@ -1,0 +1,244 @@
+-- How a side of a merge stands that was read on, and how a merge begins and ends.
+use Rattle.std.proofs.Common.{◌≡◌, ◌≢◌, ℕ, ◌+◌, ◌^◌, ◌<◌, true, List, [], ◌∷◌, ◌++◌, length, take, Option, Some, Result, Ok, Err, refl, sym, ap, ◌∙◌, subst, arith, inl, inr, ◌⊎◌, append_assoc, length-append}
+use Rattle.std.proofs.lemmas.List.{append-nil, take-append-le}
+use Rattle.std.specs.List.{concat}
+use Rattle.std.specs.Io.KnownBytes.{Appends, Consumes}
+use Rattle.byte_device.specs.Writes.{WritesFirst}
+use Rattle.archive_records.specs.declared.format.Format.{Format}
+use Rattle.archive_records.specs.declared.format.Format.TheVariants.{Archive, OldArchive, Operations as Operations_file, Summary as Summary_file}
+use Rattle.archive_records.specs.declared.kind.TextKind.TheVariants.{Archive as Archive_text}
+use Rattle.record_merge.specs.declared.merging.Merge.{Merge}
+use Rattle.record_merge.specs.declared.side.Lookahead.TheVariants.{Unread, Held, Ended}
+use Rattle.record_merge.specs.declared.side.MergeInput.{MergeInput}
+use Rattle.archive_records.specs.Kind.{magic, magic_of, kind_of, may_follow, IsItem, end_length}
+use Rattle.archive_records.specs.Text.{end_record, text_of, last_of, kept}
+use Rattle.archive_records.specs.Reader.{HasRead, Passes, Position, Stopped, HasWhole, StoppedWith}
+use Rattle.archive_records.specs.declared.fault.RecordFault.{RecordFault}
+use Rattle.archive_records.proofs.Steps.{HasRead-grows}
+use Rattle.archive_records.proofs.Formats.{follows_of, no_operations_text, no_summary_text}
+use Rattle.archive_records.proofs.KeptRecords.{kept_none}
+use Rattle.record_merge.specs.MergeSteps.{Stands, Joins, Merging, StopsBeforeRecords, HasMagicRead, RightStopped, WriteStopped, LeftRefused, RightRefused, ByCause, BlamesBy, IsToldOfRight, memory_behind, HasStoppedMerge, StopsMerge as MergeStops}
+use Rattle.record_merge.proofs.MergeSteps.{held_record, before_last}
+use Rattle.archive_records.proofs.KeptRecords.{long_record}
+use Rattle.archive_records.proofs.FaultKinds.{memory_blames}
+use Rattle.archive_records.proofs.Forms.{item-framed, item-no_end}
+use Rattle.archive_records.proofs.Ends.{framed_end, end-is_end}
+use Rattle.archive_records.proofs.Grown.{no_both}
+use Rattle.std.proofs.lemmas.Bool.{false≢true}
+use Rattle.archive_records.specs.declared.fault.RecordFaultKind.{RecordFaultKind}
+use Rattle.archive_records.specs.declared.fault.RecordFaultKind.TheVariants.{Truncated, Device, OutOfMemory}
+use Rattle.archive_records.specs.Fault.{is_end}
+use Rattle.archive_records.specs.Layout.{framed}
+use Rattle.archive_records.specs.Reading.{Blames}
+use Rattle.byte_device.specs.Devices.{Stream}
+use Rattle.record_merge.specs.Merging.{IsUnfailed}
+use Rattle.archive_records.specs.declared.fault.MergeCause.{MergeCause}
+use Rattle.archive_records.specs.declared.fault.MergeCause.TheVariants.{Left, Right, Write}
+use Rattle.archive_records.specs.declared.fault.MergeFault.{MergeFault}
+
+-- one record more was read of a side
+pub stands_held : (a b c : Option (List ℕ)) (done : List (List ℕ)) (before : Position) (side : MergeInput) → kind_of before.file ≡ Archive_text → HasRead before.file a b done before → Passes b c before side.reader → side.ahead ≡ Held → Stands a c done (last_of [] done) side
+stands_held a b c done before side k h s held = record {
+  archive = ap kind_of s.file_is ∙ k;
+  unread = λ t. absurd (held_unread (sym held ∙ t));
+  held = λ _. (
+    subst (λ (f : Format). HasRead f a c (done ++ side.reader.last ∷ []) side.reader) (sym s.file_is) (HasRead-grows before.file a b c done before side.reader h s),
+    subst (λ (x : List ℕ). may_follow Archive x side.reader.last ≡ true) h.last_is (sym (follows_of before.file k before.last side.reader.last) ∙ s.follows),
+  );
+  ended = λ t. absurd (held_ended (sym held ∙ t));
+}
+  where
+    held_unread : Held ≡ Unread → ⊥
+    held_unread e = cc
+
+    held_ended : Held ≡ Ended → ⊥
+    held_ended e = cc
+
+stands_start : (a b : Option (List ℕ)) (side : MergeInput) → kind_of side.reader.file ≡ Archive_text → HasRead side.reader.file a b [] side.reader → side.ahead ≡ Unread → Stands a b [] [] side
+stands_start a b side k h s = record { archive = k; unread = λ _. (h, refl); held = λ t. absurd (unread_not_held (sym s ∙ t)); ended = λ t. absurd (unread_not_ended (sym s ∙ t)) }
+  where
+    unread_not_held : Unread ≡ Held → ⊥
+    unread_not_held e = cc
+
+    unread_not_ended : Unread ≡ Ended → ⊥
+    unread_not_ended e = cc
+
+joins_start : Joins [] [] []
+joins_start = record { ordered = tt; from = λ z c. inl c; left = λ z c. c; right = λ z c. c }
+
+module _ (a1 b1 a2 b2 w0 w1 : Option (List ℕ)) (left right : MergeInput) (f : kind_of left.reader.file ≡ Archive_text) (g : kind_of right.reader.file ≡ Archive_text) (h : HasRead left.reader.file a1 b1 [] left.reader) (k : HasRead right.reader.file a2 b2 [] right.reader) (s : left.ahead ≡ Unread) (t : right.ahead ≡ Unread) (x : List ℕ) (x_is : x ≡ magic) where
+  pub merging_start : (written : ℕ) → written ≡ 0 + length x → Appends w0 w1 x → Merging a1 b1 a2 b2 w0 w1 (record { left = left; right = right; written = record { records = 0; bytes = written } })
+  merging_start written n p = record {
+    lefts = [];
+    rights = [];
+    out = [];
+    left = stands_start a1 b1 left f h s;
+    right = stands_start a2 b2 right g k t;
+    order = λ _ n. absurd (n t);
+    joins = joins_start;
+    records = ap length (sym kept_none);
+    bytes = omega (arith, n, ap length x_is, ap (λ (t : List (List ℕ)). length (concat t)) kept_none);
+    gained = subst (λ (t : List (List ℕ)). Appends w0 w1 (magic ++ concat t)) (sym kept_none) (subst (Appends w0 w1) x_is p);
+  }
+
+  pub stops_start : (written n : ℕ) → written ≡ 0 + n → WritesFirst w0 w1 x n → WriteStopped a1 b1 a2 b2 w0 w1 written
+  stops_start written n is q =
+      let p : WritesFirst w0 w1 magic n = subst (λ (t : List ℕ). WritesFirst w0 w1 t n) x_is q in
+      let lt = p.within in
+      let e : written ≡ n = omega arith in
+      let same : take n (text_of Archive []) ≡ take n magic = take-append-le n magic (concat [] ++ end_record 0) (omega arith) in
+      record {
+        lefts = [];
+        rights = [];
+        out = [];
+        left_side = left;
+        right_side = right;
+        left = stands_start a1 b1 left f h s;
+        right = stands_start a2 b2 right g k t;
+        joins = joins_start;
+        within = inl (omega (arith, ap (λ (t : List (List ℕ)). length (concat t)) kept_none));
+        gained = subst (λ (t : List (List ℕ)). Appends w0 w1 (take written (text_of Archive t))) (sym kept_none) (rw (e, same) p.gained);
+      }
+
+-- ---- what memory was wanted for
+
+framed_item : (f : Format) → kind_of f ≡ Archive_text → (x : List ℕ) → IsItem Archive x → framed f x ≡ Ok (length x)
+framed_item Archive k x item = item-framed Archive x item
+framed_item OldArchive k x item = item-framed OldArchive x item
+framed_item Operations_file k x item = absurd (no_operations_text k)
+framed_item Summary_file k x item = absurd (no_summary_text k)
+
+pub counts_of : (f : Format) → kind_of f ≡ Archive_text → end_length f ≡ Some 9
+counts_of Archive k = refl
+counts_of OldArchive k = refl
+counts_of Operations_file k = absurd (no_operations_text k)
+counts_of Summary_file k = absurd (no_summary_text k)
+
+framed_last : (f : Format) → kind_of f ≡ Archive_text → (n : ℕ) → framed f (end_record n) ≡ Ok 9
+framed_last f k n = framed_end f (counts_of f k) n
+
+whole_or_cut : (r : Result ℕ RecordFaultKind) (n : ℕ) → r ≡ Ok n → r ≡ Err Truncated → ⊥
+whole_or_cut r n whole cut = no_both n Truncated (sym whole ∙ cut)
+
+-- it came whole where it is the record of the other side
+whole_is : (f : Format) (rest x last : List ℕ) → x ≡ last → IsItem Archive x → HasWhole f rest last → rest ≡ x
+whole_is f rest x last is item (inl w) = sym w.1 ∙ sym is
+whole_is f rest x last is item (inr cut) = absurd (omega (arith, long_record x item, ap length (is ∙ cut.1)))
+
+-- and where it is that record the reader has it
+other_record : (f : Format) → kind_of f ≡ Archive_text → (rest x last : List ℕ) → IsItem Archive x → HasWhole f rest last → rest ≡ x → (x ≡ last → ⊥) → ⊥
+other_record f k rest x last item (inl w) same other = other (sym same ∙ sym w.1)
+other_record f k rest x last item (inr cut) same other = whole_or_cut (framed f rest) (length x) (ap (framed f) same ∙ framed_item f k x item) cut.0
+
+no_end_record : (f : Format) → kind_of f ≡ Archive_text → (rest last : List ℕ) (n : ℕ) → HasWhole f rest last → rest ≡ end_record n → ⊥
+no_end_record f k rest last n (inl w) same = false≢true (sym (item-no_end f rest w.0) ∙ ap is_end same ∙ end-is_end n)
+no_end_record f k rest last n (inr cut) same = whole_or_cut (framed f rest) 9 (ap (framed f) same ∙ framed_last f k n) cut.0
+
+-- where the left side is told of it no device failed
+pub told_devices : {R S : Type 0} (left : Stream R) (right : Stream S) (w : ℕ) (m : Merge) (fault : RecordFault) (e : MergeFault) → IsToldOfRight m fault e → IsUnfailed left → Blames right.bytes right.failures right.old right.new fault.kind → BlamesBy left right w w e.cause
+told_devices left right w m fault e (inl (memory, both, is)) unfailed blames =
+    subst (λ (t : MergeFault). BlamesBy left right w w t.cause) (sym is) (memory_blames left.bytes left.failures left.old left.new unfailed, blames.1 (λ device. device_memory (sym device ∙ memory)), refl)
+  where
+    device_memory : Device ≡ OutOfMemory → ⊥
+    device_memory t = cc
+told_devices left right w m fault e (inr (alone, is)) unfailed blames = subst (λ (t : MergeFault). BlamesBy left right w w t.cause) (sym is) (unfailed, blames, refl)
+
+-- ---- both sides are read on
+
+-- the sides were read on from where the merge stood
+module _ (a1 a2 w0 w1 b1 b2 c1 : Option (List ℕ)) (m : Merge) (p : Merging a1 b1 a2 b2 w0 w1 m) where
+  -- the left one stopped
+  pub left_stops : (fault : RecordFault) (e : MergeFault) (last : List ℕ) → e ≡ record { cause = Left fault; written = m.written.bytes } → m.left.ahead ≡ Unread → ((done : List (List ℕ)) (low : List ℕ) → Stands a1 b1 done low m.left → StoppedWith m.left.reader.file a1 c1 done fault last × (last_of [] done ≡ low))
+      → HasStoppedMerge a1 c1 a2 b2 w0 w1 e
+  left_stops fault e last is unread stops =
+      let s = stops p.lefts (last_of [] p.out) p.left in
+      subst (HasStoppedMerge a1 c1 a2 b2 w0 w1) (sym is) (inl (record {
+        lefts = p.lefts;
+        rights = p.rights;
+        out = p.out;
+        other = m.right;
+        format = m.left.reader.file;
+        archive = p.left.archive;
+        left = s.0.0;
+        last = s.1;
+        right = p.right;
+        order = p.order unread;
+        joins = p.joins;
+        written_is = p.bytes;
+        gained = p.gained;
+      }))
+
+  module _ (c2 : Option (List ℕ)) (left : MergeInput) (read : left.ahead ≢ Unread) (stands : (done : List (List ℕ)) (low : List ℕ) → Stands a1 b1 done low m.left → Stands a1 c1 done low left) where
+    -- the right one did
+    abbrev right_stopped : (fault : RecordFault) → Stopped m.right.reader.file a2 c2 p.rights fault → last_of [] p.rights ≡ last_of [] p.out → RightStopped a1 c1 a2 c2 w0 w1 fault m.written.bytes
+    right_stopped fault s last = record {
+      lefts = p.lefts;
+      rights = p.rights;
+      out = p.out;
+      other = left;
+      left = stands p.lefts (last_of [] p.out) p.left;
+      read = read;
+      format = m.right.reader.file;
+      archive = p.right.archive;
+      right = s;
+      last = last;
+      joins = p.joins;
+      written_is = p.bytes;
+      gained = p.gained;
+    }
+
+    pub right_stops : (right : MergeInput) (fault : RecordFault) (e : MergeFault) → IsToldOfRight (record { left = left; right = right; written = m.written }) fault e → left.reader.count < 2 ^ 63
+        → ((done : List (List ℕ)) (low : List ℕ) → Stands a2 b2 done low m.right → StoppedWith m.right.reader.file a2 c2 done fault right.reader.last × (last_of [] done ≡ low)) → HasStoppedMerge a1 c1 a2 c2 w0 w1 e
+    right_stops right fault e (inl (memory, both, is)) few stops =
+        let s = stops p.rights (last_of [] p.out) p.right in
+        let stood : Stands a1 c1 p.lefts (last_of [] p.out) left = stands p.lefts (last_of [] p.out) p.left in
+        let item : IsItem Archive left.reader.last = held_record a1 c1 p.lefts (last_of [] p.out) left stood both.0 in
+        let same : s.0.0.rest ≡ left.reader.last = whole_is m.right.reader.file s.0.0.rest left.reader.last right.reader.last both.1 item (s.0.1 memory) in
+        subst (HasStoppedMerge a1 c1 a2 c2 w0 w1) (sym is)
+        (inr (inr (fault, right_stopped fault s.0.0 s.1, both.0, same, few, ap (λ (n : ℕ). memory_behind n) (before_last a1 c1 p.lefts (last_of [] p.out) left stood both.0))))
+    right_stops right fault e (inr (alone, is)) few stops =
+        let s = stops p.rights (last_of [] p.out) p.right in
+        let stood : Stands a1 c1 p.lefts (last_of [] p.out) left = stands p.lefts (last_of [] p.out) p.left in
+        let f : Format = m.right.reader.file in
+        subst (HasStoppedMerge a1 c1 a2 c2 w0 w1) (sym is) (inl (
+          right_stopped fault s.0.0 s.1,
+          λ memory. (
+            λ held same. other_record f p.right.archive s.0.0.rest left.reader.last right.reader.last (held_record a1 c1 p.lefts (last_of [] p.out) left stood held) (s.0.1 memory) same (λ last. alone memory (held, last)),
+            λ n same. no_end_record f p.right.archive s.0.0.rest right.reader.last n (s.0.1 memory) same,
+          ),
+        ))
+
+    -- none did
+    pub both_read : (right : MergeInput) → ((done : List (List ℕ)) (low : List ℕ) → Stands a2 b2 done low m.right → Stands a2 c2 done low right) → Merging a1 c1 a2 c2 w0 w1 (record { left = left; right = right; written = m.written })
+    both_read right stood = record {
+      lefts = p.lefts;
+      rights = p.rights;
+      out = p.out;
+      left = stands p.lefts (last_of [] p.out) p.left;
+      right = stood p.rights (last_of [] p.out) p.right;
+      order = λ t _. absurd (read t);
+      joins = p.joins;
+      records = p.records;
+      bytes = p.bytes;
+      gained = p.gained;
+    }
+
+-- ---- the magics
+
+-- a merge that stopped behind the magic stopped
+pub stops_later : (a1 b1 a2 b2 w0 w1 : Option (List ℕ)) (e : MergeFault) → HasStoppedMerge a1 b1 a2 b2 w0 w1 e → MergeStops a1 b1 a2 b2 w0 w1 e
+stops_later a1 b1 a2 b2 w0 w1 e h = by e.cause h
+  where
+    by : (c : MergeCause) → ByCause c
+        (λ fault. LeftRefused a1 b1 a2 b2 w0 w1 fault e.written)
+        (λ fault. RightRefused a1 b1 a2 b2 w0 w1 fault e.written)
+        (WriteStopped a1 b1 a2 b2 w0 w1 e.written)
+        → ByCause c
+        (λ fault. ((e.written ≡ 0) × Appends w0 w1 [] × Consumes a2 b2 [] × StopsBeforeRecords a1 b1 fault)
+        ⊎ LeftRefused a1 b1 a2 b2 w0 w1 fault e.written)
+        (λ fault. ((e.written ≡ 0) × Appends w0 w1 [] × HasMagicRead a1 b1 × StopsBeforeRecords a2 b2 fault)
+        ⊎ RightRefused a1 b1 a2 b2 w0 w1 fault e.written)
+        (WriteStopped a1 b1 a2 b2 w0 w1 e.written)
+    by (Left fault) p = inr p
+    by (Right fault) p = inr p
+    by Write p = p

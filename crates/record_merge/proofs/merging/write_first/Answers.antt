@@ -1,0 +1,18 @@
+use Rattle.std.proofs.Common.{sym}
+use Rattle.record_merge.proofs.MergeSteps.{left_turn, both_turn, right_turn}
+use Rattle.record_merge.proofs.merging.write_first.Goals as goal
+
+pub returns-in-Less-clause-merging : goal.returns-in-Less-clause-merging
+returns-in-Less-clause-merging g c = λ a1 b1 a2 b2 w0 p.
+    let put = c.put_held.ensures in
+    left_turn a1 b1 a2 b2 w0 _ _ c.args.m.now p c.put_held.result c.put_held.new.written c.put_held.new.side c.requires.read.right (sym c.in-Less.ensures) c.requires.kept put.ok put.err
+
+pub returns-in-Equal-clause-merging : goal.returns-in-Equal-clause-merging
+returns-in-Equal-clause-merging g c = λ a1 b1 a2 b2 w0 p.
+    let put = c.put_held-in-Equal.ensures in
+    both_turn a1 b1 a2 b2 w0 _ _ c.args.m.now p c.put_held-in-Equal.result c.put_held-in-Equal.new.written c.put_held-in-Equal.new.side (sym c.in-Equal.ensures) c.requires.kept put.ok put.err
+
+pub returns-in-Greater-clause-merging : goal.returns-in-Greater-clause-merging
+returns-in-Greater-clause-merging g c = λ a1 b1 a2 b2 w0 p.
+    let put = c.put_held-in-Greater.ensures in
+    right_turn a1 b1 a2 b2 w0 _ _ c.args.m.now p c.put_held-in-Greater.result c.put_held-in-Greater.new.written c.put_held-in-Greater.new.side c.requires.read.left c.requires.some (sym c.in-Greater.ensures) c.requires.kept put.ok put.err

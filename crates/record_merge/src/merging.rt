@@ -1,0 +1,260 @@
+//! A merge, turn by turn: the record that is next is written, or passed over where it is covered, and the side or sides
+//! that it came from are read on.
+
+ghost use Rattle.std.specs.Prelude.{◌≡◌, ◌+◌, ◌*◌, ◌^◌, ◌<◌, ◌≤◌, ℕ, List, Option, OnOk};
+ghost use Rattle.std.specs.Prelude.{IfErr, MatchResult, IsTrue, ◌↔◌, true, false};
+ghost use Rattle.byte_device.specs.Devices.{FailedIn};
+ghost use Rattle.byte_device.specs.Writes.{WritesFirst};
+ghost use Rattle.record_merge.specs.Merging.{most_records};
+ghost use Rattle.byte_device.specs.Devices.{stream};
+ghost use Rattle.record_merge.specs.MergeSteps.{BlamesDevices, Fits, HasStoppedMerge, IsRead, IsRefusedMore};
+ghost use Rattle.record_merge.specs.MergeSteps.{IsLastOfBoth, IsToldOfRight, IsRecordWritten};
+ghost use Rattle.record_merge.specs.MergeSteps.{Merging, TellsCovered, WriteStopped, cost_of, first_of};
+
+use crate::side::{Lookahead, MergeInput};
+use archive_records::{MOST, MergeCause, MergeFault, RecordFault, RecordFaultKind, Sizes};
+use byte_device::{Sink, Source, WriteFault, put};
+use std::cmp::Ordering;
+
+/// Two texts that are merged, and how much of their join was written.
+#[derive(Drop)]
+pub struct Merge {
+    pub left: MergeInput,
+    pub right: MergeInput,
+    pub written: Sizes,
+}
+
+impl Merge {
+    /// What is told where this stops the merge behind what was written.
+    fn stopped_by(&self, cause: MergeCause) -> MergeFault
+        ensures { result ≡ record { cause = cause; written = self.now.written.bytes } }
+    {
+        MergeFault {
+            cause,
+            written: self.written.bytes,
+        }
+    }
+
+    /// Tests whether there may be one record more. Where there may not, memory is wanted by the side that it comes
+    /// from.
+    fn test_number(&self) -> Result<(), MergeFault>
+        requires { self.now.written.records < 2 ^ 63 }
+        ensures room { OnOk result (self.now.written.records < most_records) }
+        ensures refused { IfErr result (λ e. IsRefusedMore self.now e) }
+    {
+        if self.written.records < MOST {
+            return Ok(());
+        }
+        let cause = match first(&self.left, &self.right) {
+            Ordering::Greater => MergeCause::Right(self.right.out_of_memory()),
+            Ordering::Less | Ordering::Equal => MergeCause::Left(self.left.out_of_memory()),
+        };
+        Err(self.stopped_by(cause))
+    }
+
+    /// Whether the left side holds the record that the right side read last.
+    fn is_last_of_both(&self) -> bool
+        ensures { IsTrue result ↔ IsLastOfBoth self.now }
+    {
+        self.left.ahead == Lookahead::Held && self.left.reader.last() == self.right.reader.last()
+    }
+
+    /// What is told where the right side is refused so. Want of memory for a record that both sides have is the left
+    /// one's: the right side read it whole, and the left side holds it.
+    fn right_refused(&self, fault: RecordFault) -> MergeFault
+        ensures { IsToldOfRight self.now fault result }
+    {
+        if fault.kind == RecordFaultKind::OutOfMemory && self.is_last_of_both() {
+            return self.stopped_by(MergeCause::Left(self.left.out_of_memory()));
+        }
+        self.stopped_by(MergeCause::Right(fault))
+    }
+
+    /// Whether both texts were read to their ends.
+    fn is_done(&self) -> bool
+        requires { IsRead self.now }
+        ensures left { result ≡ true → self.now.left.ahead ≡ Lookahead.Ended }
+        ensures right { result ≡ true → self.now.right.ahead ≡ Lookahead.Ended }
+        ensures some { result ≡ false → self.now.left.ahead ≡ Lookahead.Ended → self.now.right.ahead ≡ Lookahead.Held }
+    {
+        match (self.left.ahead, self.right.ahead) {
+            (Lookahead::Ended, Lookahead::Ended) => true,
+            _ => false,
+        }
+    }
+}
+
+/// Which side's record is the next to be written: the left one's, both sides', or the right one's.
+fn first(left: &MergeInput, right: &MergeInput) -> Ordering
+    ensures { result ≡ first_of left.now right.now }
+{
+    match (left.ahead, right.ahead) {
+        (Lookahead::Held, Lookahead::Held) => left.reader.last().cmp(&right.reader.last()),
+        (Lookahead::Held, _) => Ordering::Less,
+        _ => Ordering::Greater,
+    }
+}
+
+/// Whether a retirement of either side covers the record that is next. One of its own side does so in version 1 alone,
+/// where the reader tells it. All retirements stand before the admissions, so both sides' were read where an admission
+/// is next.
+fn is_covered(left: &MergeInput, right: &MergeInput) -> bool
+    ensures { TellsCovered left.now right.now result }
+{
+    match first(left, right) {
+        Ordering::Less => left.reader.dropped() || right.reader.retires(left.reader.last()),
+        Ordering::Equal => left.reader.dropped() || right.reader.dropped(),
+        Ordering::Greater => right.reader.dropped() || left.reader.retires(right.reader.last()),
+    }
+}
+
+/// Leaves the side or sides that the record which is next comes from to be read on, as if it had been written.
+fn pass_over(m: &mut Merge)
+    requires read { IsRead m.old }
+    requires some { m.old.left.ahead ≡ Lookahead.Ended → m.old.right.ahead ≡ Lookahead.Held }
+    requires fits { Fits m.old }
+    requires covered { TellsCovered m.old.left m.old.right true }
+    ensures merging { (a1 b1 a2 b2 w0 w1 : Option (List ℕ)) → Merging a1 b1 a2 b2 w0 w1 m.old
+        → Merging a1 b1 a2 b2 w0 w1 m.new }
+    ensures fits { Fits m.new }
+    ensures less { cost_of m.new < cost_of m.old }
+{
+    match first(&m.left, &m.right) {
+        Ordering::Less => m.left.ahead = Lookahead::Unread,
+        Ordering::Equal => {
+            m.left.ahead = Lookahead::Unread;
+            m.right.ahead = Lookahead::Unread;
+        }
+        Ordering::Greater => m.right.ahead = Lookahead::Unread,
+    }
+}
+
+/// Writes the record that the side holds.
+fn put_held<W: Sink>(
+    w: &mut W,
+    written: &mut Sizes,
+    side: &mut MergeInput,
+) -> Result<(), WriteFault>
+    requires few { written.old.records + 1 < 2 ^ 64 }
+    requires fits { written.old.bytes ≤ 8 + written.old.records * 2 ^ 64 }
+    ensures ok { OnOk result (IsRecordWritten (W.held w.old) (W.held w.new) written.old written.new side.old side.new) }
+    ensures fits { OnOk result (written.new.bytes ≤ 8 + written.new.records * 2 ^ 64) }
+    ensures unfailed { OnOk result (W.failures w.new ≡ W.failures w.old) }
+    ensures err { IfErr result (λ e. (k : ℕ) × (e.written ≡ written.old.bytes + k)
+        × WritesFirst (W.held w.old) (W.held w.new) side.old.reader.last k) }
+    ensures failed { IfErr result (λ _. FailedIn (W.failures w.old) (W.failures w.new)) }
+{
+    written.bytes = put(w, written.bytes, side.reader.last())?;
+    written.records += 1;
+    side.ahead = Lookahead::Unread;
+    Ok(())
+}
+
+/// Writes the record that is next, once, and leaves the side or sides that it came from to be read on.
+fn write_first<W: Sink>(w: &mut W, m: &mut Merge) -> Result<(), WriteFault>
+    requires read { IsRead m.old }
+    requires some { m.old.left.ahead ≡ Lookahead.Ended → m.old.right.ahead ≡ Lookahead.Held }
+    requires fits { Fits m.old }
+    requires room { m.old.written.records < most_records }
+    requires kept { TellsCovered m.old.left m.old.right false }
+    ensures merging { (a1 b1 a2 b2 w0 : Option (List ℕ)) → Merging a1 b1 a2 b2 w0 (W.held w.old) m.old
+        → MatchResult result
+        (λ _. Merging a1 b1 a2 b2 w0 (W.held w.new) m.new)
+        (λ fault. WriteStopped a1 b1 a2 b2 w0 (W.held w.new) fault.written) }
+    ensures fits { OnOk result (Fits m.new) }
+    ensures less { OnOk result (cost_of m.new < cost_of m.old) }
+    ensures unfailed { OnOk result (W.failures w.new ≡ W.failures w.old) }
+    ensures failed { IfErr result (λ _. FailedIn (W.failures w.old) (W.failures w.new)) }
+{
+    match first(&m.left, &m.right) {
+        Ordering::Less => put_held(w, &mut m.written, &mut m.left),
+        Ordering::Equal => {
+            m.right.ahead = Lookahead::Unread;
+            put_held(w, &mut m.written, &mut m.left)
+        }
+        Ordering::Greater => put_held(w, &mut m.written, &mut m.right),
+    }
+}
+
+/// Reads on behind what had its turn, left first.
+fn read_on<R: Source, S: Source>(r1: &mut R, r2: &mut S, m: &mut Merge) -> Result<(), MergeFault>
+    requires { Fits m.old }
+    ensures merging { (a1 a2 w0 w1 : Option (List ℕ)) → Merging a1 (R.left r1.old) a2 (S.left r2.old) w0 w1 m.old
+        → MatchResult result
+        (λ _. Merging a1 (R.left r1.new) a2 (S.left r2.new) w0 w1 m.new)
+        (λ e. HasStoppedMerge a1 (R.left r1.new) a2 (S.left r2.new) w0 w1 e) }
+    ensures fits { OnOk result (Fits m.new) }
+    ensures read { OnOk result (IsRead m.new) }
+    ensures less { OnOk result (cost_of m.new ≤ cost_of m.old) }
+    ensures devices { BlamesDevices (stream R.left R.failures r1.old r1.new) (stream S.left S.failures r2.old r2.new)
+        0 0 result }
+{
+    if let Err(fault) = m.left.read_on(r1) {
+        return Err(m.stopped_by(MergeCause::Left(fault)));
+    }
+    if let Err(fault) = m.right.read_on(r2) {
+        return Err(m.right_refused(fault));
+    }
+    Ok(())
+}
+
+/// Writes the record that is next, unless the retirements of either side cover it, and reads on.
+fn turn<R: Source, S: Source, W: Sink>(
+    r1: &mut R,
+    r2: &mut S,
+    w: &mut W,
+    m: &mut Merge,
+) -> Result<(), MergeFault>
+    requires fits { Fits m.old }
+    requires read { IsRead m.old }
+    requires some { m.old.left.ahead ≡ Lookahead.Ended → m.old.right.ahead ≡ Lookahead.Held }
+    ensures merging { (a1 a2 w0 : Option (List ℕ))
+        → Merging a1 (R.left r1.old) a2 (S.left r2.old) w0 (W.held w.old) m.old
+        → MatchResult result
+        (λ _. Merging a1 (R.left r1.new) a2 (S.left r2.new) w0 (W.held w.new) m.new)
+        (λ e. HasStoppedMerge a1 (R.left r1.new) a2 (S.left r2.new) w0 (W.held w.new) e) }
+    ensures fits { OnOk result (Fits m.new) }
+    ensures read { OnOk result (IsRead m.new) }
+    ensures less { OnOk result (cost_of m.new < cost_of m.old) }
+    ensures devices { BlamesDevices (stream R.left R.failures r1.old r1.new) (stream S.left S.failures r2.old r2.new)
+        (W.failures w.old) (W.failures w.new) result }
+{
+    if is_covered(&m.left, &m.right) {
+        pass_over(m);
+        return read_on(r1, r2, m);
+    }
+    m.test_number()?;
+    if let Err(fault) = write_first(w, m) {
+        return Err(MergeFault {
+            cause: MergeCause::Write,
+            written: fault.written,
+        });
+    }
+    read_on(r1, r2, m)
+}
+
+/// Writes all records behind the magic, but for those that are covered.
+pub fn merge_records<R: Source, S: Source, W: Sink>(
+    r1: &mut R,
+    r2: &mut S,
+    w: &mut W,
+    m: &mut Merge,
+) -> Result<(), MergeFault>
+    requires fits { Fits m.old }
+    ensures merging { (a1 a2 w0 : Option (List ℕ))
+        → Merging a1 (R.left r1.old) a2 (S.left r2.old) w0 (W.held w.old) m.old
+        → MatchResult result
+        (λ _. Merging a1 (R.left r1.new) a2 (S.left r2.new) w0 (W.held w.new) m.new)
+        (λ e. HasStoppedMerge a1 (R.left r1.new) a2 (S.left r2.new) w0 (W.held w.new) e) }
+    ensures fits { OnOk result (Fits m.new) }
+    ensures left_end { OnOk result (m.new.left.ahead ≡ Lookahead.Ended) }
+    ensures right_end { OnOk result (m.new.right.ahead ≡ Lookahead.Ended) }
+    ensures devices { BlamesDevices (stream R.left R.failures r1.old r1.new) (stream S.left S.failures r2.old r2.new)
+        (W.failures w.old) (W.failures w.new) result }
+{
+    read_on(r1, r2, m)?;
+    'turns: while !m.is_done() {
+        turn(r1, r2, w, m)?;
+    }
+    Ok(())
+}

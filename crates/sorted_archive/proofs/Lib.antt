@@ -1,0 +1,14 @@
+pub mod Held
+pub mod Merged
+pub mod Scanned
+pub mod Lookups
+pub mod Put
+pub mod Naming
+pub mod Listed
+pub mod Falling
+pub mod Ranges
+pub mod Uncovered
+pub mod Parted
+pub mod Keyed
+pub mod Retired
+pub mod Reached

@@ -1,0 +1,238 @@
+-- The operations of one kind under one key, or under one UUID, stand together.
+use Rattle.std.proofs.Common.{◌≡◌, ℕ, ◌<◌, ◌≤◌, ◌-◌, ◌+◌, get_or, take, length-drop, Bool, true, false, cond, List, [], ◌∷◌, ◌++◌, length, map, filter, drop, Some, None, refl, sym, ap, ◌∙◌, arith, subst, append_assoc, w32}
+use mathlib.Core.Bool.{true≢false}
+use Rattle.std.specs.declared.cmp.Ordering.{Ordering}
+use Rattle.std.specs.declared.cmp.Ordering.TheVariants.{Less, Equal, Greater}
+use Rattle.std.specs.Ordering.{nat_cmp, is_lt, is_le, is_gt, is_eq, ordering_then}
+use Rattle.std.specs.Cmp.{Equal-is, both_ways, tied_itself}
+use Rattle.std.specs.Cmp.Lexicographic.{slice_cmp, nat_list_cmp_total}
+use Rattle.std.specs.List.{AllByRecursion, AllWithin, Contains, cons_option}
+use Rattle.std.specs.List.Sorted.{IsStrictlySortedBy}
+use Rattle.std.specs.FinSet.{from_list, contains}
+use Rattle.std.specs.Int.{w64, to_be_bytes}
+use Rattle.std.specs.Str.{bytes_eq}
+use Rattle.std.proofs.lemmas.List.{append-nil, get_or_default, get_or-drop}
+use Rattle.std.proofs.lemmas.Slice.Eq.{bytes_eq-Decides}
+use Rattle.sha2.specs.Sha256.{sha256}
+use Rattle.sha2.proofs.Facts256.{length-sha256}
+use Rattle.macho_image.proofs.Told.{uuid_of-length}
+use Rattle.archive_core.specs.Key.{IsKey, key_bytes}
+use Rattle.archive_core.specs.Valid.{key_of}
+use Rattle.archive_core.specs.Record.{record_bytes, admission, admission_record, retirement_record, IsOperation}
+use Rattle.archive_core.specs.InnerHeld.{IsHeld}
+use Rattle.archive_core.specs.Find.{is_key}
+use Rattle.sorted_archive.specs.InnerScan.{is_found_under, is_held_kind, held_in, held_among}
+use Rattle.archive_core.specs.declared.keys.SliceKey.{SliceKey}
+use Rattle.archive_core.specs.declared.operations.Operation.{Operation}
+use Rattle.archive_core.specs.declared.operations.Operation.TheVariants.{Admit, Retire}
+use Rattle.archive_core.proofs.Compare.{slice_cmp-append, length_key_bytes}
+use Rattle.archive_core.proofs.Records.{length-key_of}
+use Rattle.archive_core.proofs.Made.{by_test}
+use Rattle.sorted_archive.proofs.Held.{bytes_same}
+use Rattle.archive_core.proofs.Told.{operation_there}
+use Rattle.archive_core.proofs.Members.{to_filter}
+use Rattle.archive_core.proofs.Answering.{one_arch, both}
+use Rattle.sorted_archive.specs.InnerRange.{front, front_of, is_within, is_under_key, is_under_uuid}
+use Rattle.sorted_archive.specs.declared.range.RecordKind.{RecordKind}
+use Rattle.sorted_archive.specs.declared.range.RecordKind.TheVariants.{Retirement, Admission}
+use Rattle.sorted_archive.specs.declared.range.Scope.{Scope}
+use Rattle.sorted_archive.specs.declared.range.Scope.TheVariants.{OfKey, OfUuid}
+use Rattle.sorted_archive.proofs.Falling.{Falls, parted, falls_drop, middle}
+
+-- the bytes of a key behind its UUID
+arch_bytes : SliceKey → List ℕ
+arch_bytes key = to_be_bytes w32 key.arch.cputype ++ to_be_bytes w32 key.arch.cpusubtype
+
+-- the record of an operation behind its tag and key, or behind its tag and UUID
+behind : Scope → Operation → List ℕ
+behind (OfKey _) (Admit slice) = to_be_bytes w64 (length slice) ++ slice
+behind (OfKey _) (Retire key digest) = digest.0
+behind (OfUuid _) (Admit slice) = arch_bytes (key_of slice) ++ (to_be_bytes w64 (length slice) ++ slice)
+behind (OfUuid _) (Retire key digest) = arch_bytes key ++ digest.0
+
+record_parts : (scope : Scope) (a : Operation) → record_bytes a ≡ front_of scope a ++ behind scope a
+unfolding admission key_bytes arch_bytes behind
+record_parts (OfKey _) (Admit slice) = refl
+record_parts (OfKey _) (Retire key digest) = refl
+record_parts (OfUuid _) (Admit slice) = ap (λ r. 2 ∷ r) (append_assoc (key_of slice).uuid (arch_bytes (key_of slice)) (to_be_bytes w64 (length slice) ++ slice))
+record_parts (OfUuid _) (Retire key digest) = ap (λ r. 1 ∷ r) (append_assoc key.uuid (arch_bytes key) digest.0)
+
+-- how many bytes those are that a record begins with
+front_length : Scope → ℕ
+front_length (OfKey _) = 25
+front_length (OfUuid _) = 17
+
+length_front : (scope : Scope) (a : Operation) → IsOperation a → length (front_of scope a) ≡ front_length scope
+unfolding key_of front_length
+length_front (OfKey _) (Admit slice) valid = omega (arith, length-key_of slice valid)
+length_front (OfKey _) (Retire key digest) is = omega (arith, length_key_bytes key is.0.uuid)
+length_front (OfUuid _) (Admit slice) valid = omega (arith, uuid_of-length slice valid.image)
+length_front (OfUuid _) (Retire key digest) is = omega (arith, is.0.uuid)
+
+module _ (test : Ordering → Bool) (less : test Less ≡ true) (greater : test Greater ≡ false) where
+  -- what is not above a text that passes, passes
+  passes : (x y w : List ℕ) (r s : Ordering) → slice_cmp nat_cmp x y ≡ r → slice_cmp nat_cmp y w ≡ s → (t : Ordering) → ordering_then r t ≡ Less → test s ≡ true → test (slice_cmp nat_cmp x w) ≡ true
+  passes x y w Less Less e f t h g = rw (nat_list_cmp_total.trans x y w e f) less
+  passes x y w Less Equal e f t h g = let same = bytes_same y w f in rw (← same, e) less
+  passes x y w Less Greater e f t h g = absurd (true≢false (sym g ∙ greater))
+  passes x y w Equal s e f t h g = let same = bytes_same x y e in rw (same, f) g
+  passes x y w Greater s e f t h g = cc
+
+  rises : (scope : Scope) (w : List ℕ) (a b : Operation) → IsOperation a → IsOperation b → slice_cmp nat_cmp (record_bytes a) (record_bytes b) ≡ Less → test (slice_cmp nat_cmp (front_of scope b) w) ≡ true → test (slice_cmp nat_cmp (front_of scope a) w) ≡ true
+  rises scope w a b is_a is_b h g =
+      passes (front_of scope a) (front_of scope b) w _ _ refl refl (slice_cmp nat_cmp (behind scope a) (behind scope b))
+      (sym (slice_cmp-append (front_of scope a) (front_of scope b) (behind scope a) (behind scope b) (length_front scope a is_a ∙ sym (length_front scope b is_b))) ∙ (λ i. slice_cmp nat_cmp (sym (record_parts scope a) i) (sym (record_parts scope b) i)) ∙ h)
+      g
+
+  -- so the test of how their records begin falls along operations that ascend
+  pub falls : (scope : Scope) (w : List ℕ) (xs : List Operation) → IsStrictlySortedBy (slice_cmp nat_cmp) (map record_bytes xs) → AllByRecursion IsOperation xs → Falls (λ a. test (slice_cmp nat_cmp (front_of scope a) w)) xs
+  unfolding IsStrictlySortedBy Falls
+  falls scope w [] up known = tt
+  falls scope w (x ∷ xs) up known = (each xs up.0 known.1, falls scope w xs up.1 known.1)
+    where
+      each : (ys : List Operation) → AllByRecursion (λ r. slice_cmp nat_cmp (record_bytes x) r ≡ Less) (map record_bytes ys) → AllByRecursion IsOperation ys
+          → AllByRecursion (λ y. test (slice_cmp nat_cmp (front_of scope y) w) ≡ true → test (slice_cmp nat_cmp (front_of scope x) w) ≡ true) ys
+      each [] g known = tt
+      each (y ∷ ys) g all = (rises scope w x y known.0 all.0 g.0, each ys g.1 all.1)
+
+-- the three tests of a comparison
+pub eq_of_lt : (r : Ordering) → is_lt r ≡ true → is_eq r ≡ false
+eq_of_lt Less h = refl
+eq_of_lt Equal h = absurd (true≢false (sym h))
+eq_of_lt Greater h = refl
+
+pub eq_of_gt : (r : Ordering) → is_le r ≡ false → is_eq r ≡ false
+eq_of_gt Less h = refl
+eq_of_gt Equal h = absurd (true≢false h)
+eq_of_gt Greater h = refl
+
+pub eq_of_both : (r : Ordering) → is_lt r ≡ false → is_le r ≡ true → is_eq r ≡ true
+eq_of_both Less h g = absurd (true≢false h)
+eq_of_both Equal h g = refl
+eq_of_both Greater h g = absurd (true≢false (sym g))
+
+gt_of_le : (r : Ordering) → is_gt r ≡ true → is_le r ≡ true → ⊥
+gt_of_le Less h g = true≢false (sym h)
+gt_of_le Equal h g = true≢false (sym h)
+gt_of_le Greater h g = true≢false (sym g)
+
+lt_of_le : (r : Ordering) → is_le r ≡ false → is_lt r ≡ false
+lt_of_le Less h = absurd (true≢false h)
+lt_of_le Equal h = refl
+lt_of_le Greater h = refl
+
+module _ (kind : RecordKind) (scope : Scope) (xs : List Operation) (up : IsStrictlySortedBy (slice_cmp nat_cmp) (map record_bytes xs)) (are : AllByRecursion IsOperation xs) (i : ℕ) (within : i ≤ length xs) where
+  -- where one operation is below those of a kind within a scope, those before it are
+  pub below_place : (x : Operation) → 0 < i → x ≡ get_or xs (i - 1) x → is_lt (slice_cmp nat_cmp (front_of scope x) (front kind scope)) ≡ true
+      → AllWithin (λ a. is_lt (slice_cmp nat_cmp (front_of scope a) (front kind scope)) ≡ true) xs 0 i
+  below_place x some is lt k d low high =
+      let before = λ (a : Operation). is_lt (slice_cmp nat_cmp (front_of scope a) (front kind scope)) in
+      parted before xs (falls is_lt refl refl scope (front kind scope) xs up are) k (i - 1) d (omega arith) (omega arith)
+      (ap before (get_or_default xs (i - 1) d x (omega arith) ∙ sym is) ∙ lt)
+
+  -- and where one is above them, those behind it are
+  pub above_place : (x : Operation) → i < length xs → x ≡ get_or xs i x → is_gt (slice_cmp nat_cmp (front_of scope x) (front kind scope)) ≡ true
+      → AllWithin (λ a. is_le (slice_cmp nat_cmp (front_of scope a) (front kind scope)) ≡ false) xs i (length xs)
+  above_place x some is gt k d low high =
+      let upto = λ (a : Operation). is_le (slice_cmp nat_cmp (front_of scope a) (front kind scope)) in
+      let first : get_or xs i d ≡ x = get_or_default xs i d x some ∙ sym is in
+      by_test _ (upto (get_or xs k d))
+      (λ t. absurd (gt_of_le _ gt (ap upto (sym first) ∙ parted upto xs (falls is_le refl refl scope (front kind scope) xs up are) i k d low high t)))
+      (λ f. f)
+
+  -- so none of them is there
+  pub none_at : AllWithin (λ a. is_lt (slice_cmp nat_cmp (front_of scope a) (front kind scope)) ≡ true) xs 0 i
+      → AllWithin (λ a. is_le (slice_cmp nat_cmp (front_of scope a) (front kind scope)) ≡ false) xs i (length xs) → filter (is_within kind scope) xs ≡ []
+  none_at below above =
+      let compared = λ (a : Operation). slice_cmp nat_cmp (front_of scope a) (front kind scope) in
+      sym (middle (λ a. is_lt (compared a)) (λ a. is_le (compared a)) (λ a. is_eq (compared a)) xs i 0
+      (λ a. eq_of_lt (compared a)) (λ a. eq_of_gt (compared a)) (λ a. eq_of_both (compared a))
+      below (λ k d low high. lt_of_le _ (above k d low high)) (λ k d low high. absurd (omega arith))
+      (λ k d low high. rw (get_or-drop i xs k d) (above (i + k) d (omega arith) (omega (arith, length-drop i xs)))))
+
+-- a text ties with itself
+itself : (x : List ℕ) → is_eq (slice_cmp nat_cmp x x) ≡ true
+itself x = ap is_eq (tied_itself nat_list_cmp_total x)
+
+-- where no retirement stands under a key, no slice of the key is retired
+pub none_retired : (operations : List Operation) (key : SliceKey) (slice : List ℕ) → IsHeld operations → IsKey key → filter (is_under_key Retirement key) operations ≡ []
+    → contains (from_list {R = slice_cmp nat_cmp} (map record_bytes operations)) (retirement_record key (sha256 slice)) ≡ false
+none_retired operations key slice held is_key none = by (contains (from_list {R = slice_cmp nat_cmp} (map record_bytes operations)) (retirement_record key (sha256 slice))) refl
+  where
+    nowhere : (a : Operation) → Contains [] a → ⊥
+    nowhere a (k, lt, e) = omega arith
+
+    by : (b : Bool) → contains (from_list {R = slice_cmp nat_cmp} (map record_bytes operations)) (retirement_record key (sha256 slice)) ≡ b → b ≡ false
+    by false h = refl
+    by true h =
+        let one : Operation = Retire key (record { 0 = sha256 slice }) in
+        let there = operation_there operations one held.are (is_key, length-sha256 slice) h in
+        absurd (nowhere one (subst (λ xs. Contains xs one) none (to_filter (is_under_key Retirement key) operations one there (itself (front Retirement (OfKey key))))))
+
+-- the test of keys tells that they are one
+one_key : (a b : SliceKey) → is_key a b ≡ true → a ≡ b
+one_key a b h =
+    let parts = both (bytes_eq a.uuid b.uuid) _ h in
+    let uuid = (bytes_eq-Decides a.uuid b.uuid).0 parts.0 in
+    let arch = one_arch a.arch b.arch parts.1 in
+    λ i. record { uuid = uuid i; arch = arch i }
+
+-- what is live under a key is admitted under it
+under_of_live : (key : SliceKey) (dsym : Bool) (slice : List ℕ) → is_held_kind key dsym slice ≡ true → is_under_key Admission key (Admit slice) ≡ true
+unfolding is_held_kind
+under_of_live key dsym slice h =
+    let same : key_of slice ≡ key = one_key (key_of slice) key (both (is_key (key_of slice) key) _ h).0 in
+    ap (λ k. is_eq (slice_cmp nat_cmp (front Admission (OfKey k)) (front Admission (OfKey key)))) same ∙ itself (front Admission (OfKey key))
+
+-- so the live slices of a key are among the admissions under it
+pub live_under : (key : SliceKey) (dsym : Bool) (xs : List Operation) → held_among key dsym (filter (is_under_key Admission key) xs) ≡ held_among key dsym xs
+unfolding held_among
+live_under key dsym [] = refl
+live_under key dsym (x ∷ xs) = by (is_under_key Admission key x) refl (live_under key dsym xs)
+  where
+    none_outside : (a : Operation) → is_under_key Admission key a ≡ false → held_in key dsym a ≡ None
+    none_outside (Admit slice) h = out (is_held_kind key dsym slice) refl
+      where
+        out : (b : Bool) → is_held_kind key dsym slice ≡ b → cond b (Some slice) None ≡ None
+        out true t = absurd (true≢false (sym (under_of_live key dsym slice t) ∙ h))
+        out false t = refl
+    none_outside (Retire other digest) h = refl
+
+    by : (b : Bool) → is_under_key Admission key x ≡ b → held_among key dsym (filter (is_under_key Admission key) xs) ≡ held_among key dsym xs
+        → held_among key dsym (cond b (x ∷ filter (is_under_key Admission key) xs) (filter (is_under_key Admission key) xs)) ≡ held_among key dsym (x ∷ xs)
+    by true h rest = ap (cons_option (held_in key dsym x)) rest
+    by false h rest = rest ∙ sym (ap (λ f. cons_option f (held_among key dsym xs)) (none_outside x h))
+
+-- what stands behind one tag ties just where it is the same
+same_test : (t : ℕ) (a b : List ℕ) → is_eq (slice_cmp nat_cmp (t ∷ a) (t ∷ b)) ≡ bytes_eq a b
+same_test t a b = both_ways _ _
+    (λ h. (bytes_eq-Decides a b).1 (ap (drop 1) (bytes_same (t ∷ a) (t ∷ b) ((Equal-is (slice_cmp nat_cmp (t ∷ a) (t ∷ b))).0 h))))
+    (λ h. ap (λ u. is_eq (slice_cmp nat_cmp (t ∷ u) (t ∷ b))) ((bytes_eq-Decides a b).0 h) ∙ itself (t ∷ b))
+
+-- one more in front of the first run
+in_front : (b c : Bool) (x : Operation) (xs ys told : List Operation) → b ≡ c → xs ++ ys ≡ told → cond b (x ∷ xs) xs ++ ys ≡ cond c (x ∷ told) told
+in_front true c x xs ys told same h = rw (← same) (ap (λ l. x ∷ l) h)
+in_front false c x xs ys told same h = rw (← same) h
+
+-- no retirement stands behind an admission
+none_behind : (uuid slice : List ℕ) (xs : List Operation) → AllByRecursion (λ r. slice_cmp nat_cmp (admission_record slice) r ≡ Less) (map record_bytes xs) → filter (is_under_uuid Retirement uuid) xs ≡ []
+none_behind uuid slice [] up = refl
+none_behind uuid slice (Admit other ∷ xs) up = none_behind uuid slice xs up.1
+none_behind uuid slice (Retire key digest ∷ xs) up = cc
+
+-- so what a search tells stands in two runs: the retirements under the UUID, and the admissions
+pub two_runs : (uuid : List ℕ) (xs : List Operation) → IsStrictlySortedBy (slice_cmp nat_cmp) (map record_bytes xs)
+    → filter (is_under_uuid Retirement uuid) xs ++ filter (is_under_uuid Admission uuid) xs ≡ filter (is_found_under uuid) xs
+unfolding IsStrictlySortedBy
+two_runs uuid [] up = refl
+two_runs uuid (Retire key digest ∷ xs) up =
+    in_front (is_under_uuid Retirement uuid (Retire key digest)) (bytes_eq key.uuid uuid) (Retire key digest) (filter (is_under_uuid Retirement uuid) xs) (filter (is_under_uuid Admission uuid) xs) (filter (is_found_under uuid) xs)
+    (same_test 1 key.uuid uuid) (two_runs uuid xs up.1)
+two_runs uuid (Admit slice ∷ xs) up =
+    let admissions = filter (is_under_uuid Admission uuid) in
+    let none = none_behind uuid slice xs up.0 in
+    let rest : admissions xs ≡ filter (is_found_under uuid) xs = sym (ap (λ l. l ++ admissions xs) none) ∙ two_runs uuid xs up.1 in
+    ap (λ l. l ++ admissions (Admit slice ∷ xs)) none
+    ∙ sym (append-nil (admissions (Admit slice ∷ xs)))
+    ∙ in_front (is_under_uuid Admission uuid (Admit slice)) (bytes_eq (key_of slice).uuid uuid) (Admit slice) (admissions xs) [] (filter (is_found_under uuid) xs)
+    (same_test 2 (key_of slice).uuid uuid) (append-nil (admissions xs) ∙ rest)

@@ -1,0 +1,115 @@
+-- Retirements that are taken alone: those are new that are not held, each once.
+use Rattle.std.proofs.Common.{◌≡◌, ℕ, ◌+◌, if◌then◌else◌, Bool, true, false, not, cond, ◌||◌, ◌&&◌, List, [], ◌∷◌, length, map, filter, refl, sym, ap, ◌∙◌, arith, subst}
+use Rattle.std.specs.Prelude.{fold}
+use mathlib.Core.Bool.{true≢false}
+use Rattle.std.specs.Ordering.{nat_cmp, eq_by_cmp}
+use Rattle.std.specs.Cmp.Lexicographic.{slice_cmp, nat_list_cmp_total}
+use Rattle.std.specs.List.{list_all}
+use Rattle.std.specs.FinSet as set
+use Rattle.std.specs.FinSet.{contains, union, from_list, same_set, contains-union, len-insert, len-empty}
+use Rattle.std.proofs.Math.ListN.{length-map}
+use Rattle.std.proofs.lemmas.List.Kept.{IsStrictlySortedBy-filter}
+use Rattle.std.specs.List.Sorted.{IsStrictlySortedBy}
+use Rattle.join_core.proofs.Members.{inserts_are_union}
+use Rattle.join_core.proofs.Merge.{from_list_append}
+use Rattle.join_core.proofs.Place.{len_listed}
+use Rattle.archive_core.specs.Record.{record_bytes}
+use Rattle.archive_core.specs.Content.{Operations, is_admission, covering, is_covered, content_of, IsMade, IsBelow, IsTakenInPart, with_record, with_records, changes, new_among}
+use Rattle.sorted_archive.specs.InnerTaking.{IsBeside}
+use Rattle.archive_core.specs.declared.operations.Operation.{Operation}
+use Rattle.archive_core.proofs.Made.{bytes_same, by_test, and_left, and_right, and_true, or_left, or_right, joined_made_right}
+use Rattle.archive_core.proofs.Taken.{known_changes, new_changes, with_known, taken_are_joined, new_in_turn, new_of_none}
+use Rattle.sorted_archive.proofs.Merged.{IsOrderOf, contains_filtered, records_filtered}
+use Rattle.sorted_archive.proofs.Parted.{beside_first, beside_retirement, not_of, neither}
+
+-- those of a list that a content does not have
+abbrev unheld : Operations → List (List ℕ) → List (List ℕ)
+unheld old rs = filter (λ r. not (contains old r)) rs
+
+-- behind retirements that were seen, as many are new as those are more with the ones that are not held
+counted_behind : (old now seen : Operations) (operations : List Operation) → IsBeside old old now seen → list_all (λ operation. not (is_admission (record_bytes operation))) operations ≡ true
+    → set.len seen + new_among now (map record_bytes operations) ≡ set.len (fold set.insert seen (unheld old (map record_bytes operations)))
+counted_behind old now seen [] beside all = omega (arith, new_of_none now)
+counted_behind old now seen (x ∷ xs) beside all =
+    by (contains old (record_bytes x)) refl (λ p s b. counted_behind old p s xs b (and_right _ _ all))
+  where
+    is_retirement : is_admission (record_bytes x) ≡ false
+    is_retirement = not_of (is_admission (record_bytes x)) (and_left _ _ all)
+
+    uncovered : is_covered now (record_bytes x) ≡ false
+    uncovered = ap (λ b. b && contains now (covering (record_bytes x))) is_retirement
+
+    first : new_among now (map record_bytes (x ∷ xs)) ≡ (if changes now (record_bytes x) then 1 else 0) + new_among (with_record now (record_bytes x)) (map record_bytes xs)
+    first = new_in_turn now (record_bytes x) (map record_bytes xs)
+
+    known : (contains old (record_bytes x) || contains seen (record_bytes x)) ≡ true → (contains now (record_bytes x) || is_covered now (record_bytes x)) ≡ true
+    known there = or_left _ (is_covered now (record_bytes x)) (beside.known (record_bytes x) is_retirement ∙ there)
+
+    grown : set.len (set.insert seen (record_bytes x)) ≡ cond (contains seen (record_bytes x)) (set.len seen) (set.len seen + 1)
+    grown = len-insert nat_list_cmp_total seen (record_bytes x)
+
+    with_seen : (b : Bool) → contains seen (record_bytes x) ≡ b → contains old (record_bytes x) ≡ false → set.len seen + (if changes now (record_bytes x) then 1 else 0) ≡ set.len (set.insert seen (record_bytes x))
+    with_seen true there absent = rw (known_changes now (record_bytes x) (known (or_right (contains old (record_bytes x)) _ there))) (omega (arith, rw there at grown))
+    with_seen false unseen absent = rw (new_changes now (record_bytes x) (beside.known (record_bytes x) is_retirement ∙ neither _ _ absent unseen) uncovered) (omega (arith, rw unseen at grown))
+
+    by : (b : Bool) → contains old (record_bytes x) ≡ b → ((p s : Operations) → IsBeside old old p s → set.len s + new_among p (map record_bytes xs) ≡ set.len (fold set.insert s (unheld old (map record_bytes xs))))
+        → set.len seen + new_among now (map record_bytes (x ∷ xs)) ≡ set.len (fold set.insert seen (cond (not b) (record_bytes x ∷ unheld old (map record_bytes xs)) (unheld old (map record_bytes xs))))
+    by true there rest =
+        let stays = with_known now (record_bytes x) beside.made_now (known (or_left _ (contains seen (record_bytes x)) there)) in
+        let none : ◌≡◌ {A = ℕ} (if changes now (record_bytes x) then 1 else 0) 0 = ap (λ b. if b then 1 else 0) (known_changes now (record_bytes x) (known (or_left _ (contains seen (record_bytes x)) there))) in
+        let same : new_among (with_record now (record_bytes x)) (map record_bytes xs) ≡ new_among now (map record_bytes xs) = ap (λ p. new_among p (map record_bytes xs)) stays in
+        omega (arith, first, none, same, rest now seen beside)
+    by false absent rest =
+        omega (arith, first, with_seen (contains seen (record_bytes x)) refl absent, rest (with_record now (record_bytes x)) (set.insert seen (record_bytes x)) (beside_retirement old old now seen (record_bytes x) beside is_retirement))
+
+-- so of retirements as many are new as there are different ones that are not held
+different_unheld : (old : Operations) (operations : List Operation) → IsMade old → list_all (λ operation. not (is_admission (record_bytes operation))) operations ≡ true
+    → new_among old (map record_bytes operations) ≡ set.len (from_list {R = slice_cmp nat_cmp} (unheld old (map record_bytes operations)))
+different_unheld old operations content_of all =
+    let ks = unheld old (map record_bytes operations) in
+    let one_set : fold set.insert set.empty ks ≡ from_list {R = slice_cmp nat_cmp} ks = inserts_are_union nat_list_cmp_total bytes_same set.empty ks ∙ sym (from_list_append nat_list_cmp_total bytes_same [] ks) in
+    omega (arith, counted_behind old old set.empty operations (beside_first old content_of) all, len-empty (slice_cmp nat_cmp), ap set.len one_set)
+
+unheld_same : (old : Operations) (ks ls : List (List ℕ)) → from_list {R = slice_cmp nat_cmp} ks ≡ from_list ls → from_list {R = slice_cmp nat_cmp} (unheld old ks) ≡ from_list (unheld old ls)
+unheld_same old ks ls same = same_set nat_list_cmp_total bytes_same _ _ (λ q.
+    contains_filtered (λ r. not (contains old r)) ks q
+    ∙ ap (λ s. contains s q && not (contains old q)) same
+    ∙ sym (contains_filtered (λ r. not (contains old r)) ls q))
+
+or_new : (a b : Bool) → (a || (b && not a)) ≡ (a || b)
+or_new true b = refl
+or_new false b = and_true b
+
+-- with those that are not held a set has all
+with_unheld : (old : Operations) (ks ls : List (List ℕ)) → from_list {R = slice_cmp nat_cmp} ks ≡ from_list ls → union old (from_list (unheld old ks)) ≡ union old (from_list ls)
+with_unheld old ks ls same = same_set nat_list_cmp_total bytes_same _ _ (λ q.
+    contains-union nat_list_cmp_total old (from_list (unheld old ks)) q
+    ∙ ap (λ b. contains old q || b) (contains_filtered (λ r. not (contains old r)) ks q)
+    ∙ or_new (contains old q) (contains (from_list {R = slice_cmp nat_cmp} ks) q)
+    ∙ ap (λ s. contains old q || contains s q) same
+    ∙ sym (contains-union nat_list_cmp_total old (from_list ls) q))
+
+module _ (old : Operations) (operations ordered : List Operation) (made_old : IsMade old) (order : IsOrderOf operations ordered) where
+  -- the operations in order, each once, without those that are held, give what all give
+  pub taken : with_records old (map record_bytes (filter (λ operation. not (contains old (record_bytes operation))) ordered)) ≡ with_records old (map record_bytes operations)
+  taken =
+      taken_are_joined old _ made_old
+      ∙ joined_made_right old _
+      ∙ ap (λ ks. content_of (union old (from_list ks))) (records_filtered (λ r. not (contains old r)) ordered)
+      ∙ ap content_of (with_unheld old (map record_bytes ordered) (map record_bytes operations) order.same)
+      ∙ sym (taken_are_joined old (map record_bytes operations) made_old ∙ joined_made_right old _)
+
+  -- and a part of them is a part of all
+  pub in_part : (mid : Operations) → IsTakenInPart old (map record_bytes (filter (λ operation. not (contains old (record_bytes operation))) ordered)) mid → IsTakenInPart old (map record_bytes operations) mid
+  in_part mid part = record { content = part.content; above_old = part.above_old; below_all = subst (λ z. IsBelow mid z) taken part.below_all }
+
+  -- of retirements they are those that are new
+  pub counted : list_all (λ operation. not (is_admission (record_bytes operation))) operations ≡ true → length (filter (λ operation. not (contains old (record_bytes operation))) ordered) ≡ new_among old (map record_bytes operations)
+  counted all =
+      let ks = unheld old (map record_bytes ordered) in
+      let ascending = IsStrictlySortedBy-filter (slice_cmp nat_cmp) (λ r. not (contains old r)) (map record_bytes ordered) order.ascending in
+      sym (length-map _ record_bytes)
+      ∙ ap length (records_filtered (λ r. not (contains old r)) ordered)
+      ∙ sym (len_listed nat_list_cmp_total bytes_same ks ascending)
+      ∙ ap set.len (unheld_same old (map record_bytes ordered) (map record_bytes operations) order.same)
+      ∙ sym (different_unheld old operations made_old all)

@@ -1,0 +1,73 @@
+-- What a plain archive tells as it goes through its operations.
+use Rattle.std.proofs.Common.{◌≡◌, ◌+◌, ℕ, Bool, true, false, List, [], ◌∷◌, ◌<◌, length, take, slice_index_or, map, filter, ◌++◌, Option, Some, None, if◌then◌else◌, refl, sym, ap, ◌∙◌, subst, add-one}
+use Rattle.std.specs.List.Sorted.{IsSorted, IsPermutation}
+use Rattle.std.specs.FinSet.{from_list, contains}
+use Rattle.std.proofs.lemmas.Slice.Eq.{bytes_eq-Decides}
+use Rattle.std.proofs.lemmas.List.Elements.{filter-append}
+use Rattle.std.proofs.lemmas.List.{append-nil}
+use Rattle.std.proofs.Math.Seq.{take-suc}
+use Rattle.archive_core.specs.Valid.{key_of}
+use Rattle.archive_core.specs.Record.{record_bytes, IsOperation}
+use Rattle.archive_core.specs.Content.{Operations, IsContent}
+use Rattle.archive_core.specs.Find.{find_cmp, IsFoundUnder, row_of, IsFinds}
+use Rattle.sorted_archive.specs.InnerScan.{is_found_under}
+use Rattle.archive_core.specs.InnerHeld.{IsHeld}
+use Rattle.archive_core.specs.declared.find.FindRow.{FindRow}
+use Rattle.archive_core.specs.declared.operations.Operation.{Operation}
+use Rattle.archive_core.specs.declared.operations.Operation.TheVariants.{Admit, Retire}
+use Rattle.sorted_archive.proofs.Held.{content_of_held}
+use Rattle.archive_core.proofs.Words.{live_in_content}
+use Rattle.archive_core.proofs.Members.{one_with_members}
+use Rattle.archive_core.proofs.Told.{find_total, untied_records, told_sorted}
+
+-- the first ones, and one more
+pub front : (operations : List Operation) (i : ℕ) (a : Operation) → i < length operations → a ≡ slice_index_or operations i a → take (i + 1) operations ≡ take i operations ++ a ∷ []
+front operations i a lt is = ap (λ (n : ℕ). take n operations) (add-one i) ∙ take-suc operations i a lt ∙ ap (λ (x : Operation). take i operations ++ x ∷ []) (sym is)
+
+-- the first ones that pass a test, and one more
+module _ (test : Operation → Bool) (operations : List Operation) (i : ℕ) (a : Operation) (lt : i < length operations) (is : a ≡ slice_index_or operations i a) where
+  last : (passes : Bool) → test a ≡ passes → filter test (take (i + 1) operations) ≡ filter test (take i operations) ++ (if passes then a ∷ [] else [])
+  last true h = ap (filter test) (front operations i a lt is) ∙ filter-append test (take i operations) (a ∷ []) ∙ ap (λ (xs : List Operation). filter test (take i operations) ++ xs) (rw h refl)
+  last false h = ap (filter test) (front operations i a lt is) ∙ filter-append test (take i operations) (a ∷ []) ∙ ap (λ (xs : List Operation). filter test (take i operations) ++ xs) (rw h refl)
+
+  passed_by : (old new : List Operation) (found : Operation) (passes : Bool) → test a ≡ passes → old ≡ filter test (take i operations)
+      → (if passes then Some a else None) ≡ Some found → new ≡ old ++ found ∷ [] → new ≡ filter test (take (i + 1) operations)
+  passed_by old new found true h old_is told_is new_is =
+      let same : a ≡ found = cc in
+      new_is ∙ ap (λ (xs : List Operation). xs ++ found ∷ []) old_is ∙ ap (λ (x : Operation). filter test (take i operations) ++ x ∷ []) (sym same) ∙ sym (last true h)
+  passed_by old new found false h old_is told_is new_is = cc
+
+  pub passed_more : (old new : List Operation) (found : Operation) (told : Option Operation) → old ≡ filter test (take i operations)
+      → told ≡ (if test a then Some a else None) → told ≡ Some found → new ≡ old ++ found ∷ [] → new ≡ filter test (take (i + 1) operations)
+  passed_more old new found told old_is told_is is_some new_is = passed_by old new found (test a) refl old_is (sym told_is ∙ is_some) new_is
+
+  failed_by : (old new : List Operation) (passes : Bool) → test a ≡ passes → old ≡ filter test (take i operations)
+      → (if passes then Some a else None) ≡ None → new ≡ old → new ≡ filter test (take (i + 1) operations)
+  failed_by old new true h old_is told_is new_is = cc
+  failed_by old new false h old_is told_is new_is = new_is ∙ old_is ∙ sym (append-nil (filter test (take i operations))) ∙ sym (last false h)
+
+  pub failed_more : (old new : List Operation) (told : Option Operation) → old ≡ filter test (take i operations)
+      → told ≡ (if test a then Some a else None) → told ≡ None → new ≡ old → new ≡ filter test (take (i + 1) operations)
+  failed_more old new told old_is told_is is_none new_is = failed_by old new (test a) refl old_is (sym told_is ∙ is_none) new_is
+
+-- what is held under the UUID is what a search tells
+found_by_test : (o : Operations) (uuid : List ℕ) (a : Operation) → IsContent o → IsOperation a → contains o (record_bytes a) ≡ true → is_found_under uuid a ≡ true → IsFoundUnder o uuid a
+found_by_test o uuid (Admit slice) content valid there h = ((bytes_eq-Decides (key_of slice).uuid uuid).0 h, live_in_content o slice content valid there)
+found_by_test o uuid (Retire key digest) content is there h = ((bytes_eq-Decides key.uuid uuid).0 h, there)
+
+test_of_found : (o : Operations) (uuid : List ℕ) (a : Operation) → IsFoundUnder o uuid a → (contains o (record_bytes a) ≡ true) × (is_found_under uuid a ≡ true)
+test_of_found o uuid (Admit slice) h = (h.1.admitted, (bytes_eq-Decides (key_of slice).uuid uuid).1 h.0)
+test_of_found o uuid (Retire key digest) h = (h.1, (bytes_eq-Decides key.uuid uuid).1 h.0)
+
+-- the told operations of a plain archive, sorted, are those that a search tells
+pub finds_sorted : (o : Operations) (uuid : List ℕ) (operations told : List Operation) → IsHeld operations → from_list (map record_bytes operations) ≡ o
+    → IsPermutation (filter (is_found_under uuid) operations) told → IsSorted find_cmp told → IsFinds o uuid (map row_of told)
+finds_sorted o uuid operations told held is permuted sorted =
+    let are = told_sorted o find_cmp find_total untied_records (is_found_under uuid) (IsFoundUnder o uuid) (λ a. found_by_test o uuid a (subst IsContent is (content_of_held operations held))) (test_of_found o uuid) operations told held is permuted sorted in
+    record { operations = told; ascending = are.ascending; exactly = are.exactly; rows_are = refl }
+
+-- a content and a UUID have one list of rows
+pub one_list_of_rows : (o : Operations) (uuid : List ℕ) (rows others : List FindRow) → IsFinds o uuid rows → IsFinds o uuid others → rows ≡ others
+one_list_of_rows o uuid rows others f g =
+    let one = one_with_members find_total f.operations g.operations f.ascending g.ascending (λ a h. (g.exactly a).1 ((f.exactly a).0 h)) (λ a h. (f.exactly a).1 ((g.exactly a).0 h)) in
+    f.rows_are ∙ ap (map row_of) one ∙ sym g.rows_are

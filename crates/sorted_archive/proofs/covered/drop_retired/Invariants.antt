@@ -1,0 +1,14 @@
+use Rattle.std.proofs.Common.{◌≡◌, ◌≤◌, ◌-◌, ◌++◌, length, take, drop, filter}
+use Rattle.sorted_archive.proofs.Uncovered.{left_by}
+use Rattle.sorted_archive.proofs.covered.drop_retired.Given as goal
+
+abbrev pub invariant-loop-index : goal.invariant-loop-index
+invariant-loop-index l = record {
+  from : l.start ≤ l.index;
+  old : l.index ≤ length l.initial.operations.items;
+  items : l.operations.items ≡ take l.index l.initial.operations.items
+      ++ filter (left_by l.key l.digest) (drop l.index l.initial.operations.items);
+}
+
+abbrev pub decreases-loop-index : goal.decreases-loop-index
+decreases-loop-index l = l.index - l.start

@@ -1,0 +1,18 @@
+use Rattle.std.proofs.Common.{◌++◌, ap, sym, ◌∙◌, map}
+use Rattle.std.proofs.lemmas.List.{map-append}
+use Rattle.archive_core.specs.Names.{name_view}
+use Rattle.sorted_archive.specs.InnerNames.{names_among}
+use Rattle.sorted_archive.proofs.Naming.{names_more}
+use Rattle.sorted_archive.proofs.plain.PlainArchive.gather_names.Goals as goal
+
+pub operations-init : goal.operations-init
+unfolding names_among
+operations-init c = ap (map name_view) c.new-rows.ensures.items
+
+pub operations-preserved : goal.operations-preserved
+operations-preserved c =
+    let more = c.in_ok-more.more.items in
+    ap (map name_view) c.in_ok-append.ensures.items
+    ∙ map-append name_view c.operations.rows.items more
+    ∙ (λ j. c.operations.invariant j ++ c.in_ok-more.ensures j)
+    ∙ sym (names_more c.args.name.now c.args.operations.now c.operations.operation-index c.operation-item.result c.operations-test.true c.operation-item.is)

@@ -1,0 +1,38 @@
+use Rattle.std.proofs.Common.{◌∙◌, ap, map, subst}
+use Rattle.std.proofs.lemmas.Result.{on_ok_weaker, on_err_weaker}
+use Rattle.archive_core.specs.Content.{IsContent, content_of, joined as joined_of}
+use Rattle.archive_core.specs.Record.{record_bytes}
+use Rattle.sorted_archive.proofs.Held.{content_of_held}
+use Rattle.archive_core.proofs.Joined.{joined, unmoved, taken_towards}
+use Rattle.archive_core.proofs.Taken.{taken_are_joined}
+use Rattle.sorted_archive.proofs.plain.PlainArchiveJoin.absorb.Goals as goal
+
+pub take_in_turn-requires : goal.take_in_turn-requires
+take_in_turn-requires c = subst IsContent c.self.view_is (content_of_held c.self.inside.operations.items c.self.invariant)
+
+pub returns-then-len-min-clause-joined : goal.returns-then-len-min-clause-joined
+returns-then-len-min-clause-joined c =
+    let mine = c.self.inside.operations.items in
+    let theirs = c.other.inside.operations.items in
+    let mine_is = subst IsContent c.self.view_is (content_of_held mine c.self.invariant) in
+    let theirs_is = subst IsContent c.other.view_is (content_of_held theirs c.other.invariant) in
+    on_ok_weaker c.take_in_turn.result (λ taken. joined c.args.self.now c.args.other _ mine_is theirs_is (taken ∙ taken_are_joined c.args.self.now (map record_bytes theirs) mine_is.itself ∙ ap (λ s. joined_of c.args.self.now (content_of s)) c.other.view_is ∙ ap (joined_of c.args.self.now) theirs_is.itself)) c.take_in_turn.ensures.taken
+
+pub returns-then-len-min-clause-refused : goal.returns-then-len-min-clause-refused
+returns-then-len-min-clause-refused c =
+    let mine = c.self.inside.operations.items in
+    let theirs = c.other.inside.operations.items in
+    let mine_is = subst IsContent c.self.view_is (content_of_held mine c.self.invariant) in
+    let theirs_is = subst IsContent c.other.view_is (content_of_held theirs c.other.invariant) in
+    on_err_weaker c.take_in_turn.result (taken_towards c.args.self.now c.args.other _ (map record_bytes theirs) mine_is theirs_is.itself c.other.view_is) c.take_in_turn.ensures.refused
+
+pub returns-clause-joined : goal.returns-clause-joined
+returns-clause-joined c =
+    let mine_is = subst IsContent c.self.view_is (content_of_held c.self.inside.operations.items c.self.invariant) in
+    let theirs_is = subst IsContent c.other.view_is (content_of_held c.other.inside.operations.items c.other.invariant) in
+    on_ok_weaker c.merge.result (joined c.args.self.now c.args.other _ mine_is theirs_is) c.merge.ensures.merged
+
+pub returns-clause-refused : goal.returns-clause-refused
+returns-clause-refused c =
+    let mine_is = subst IsContent c.self.view_is (content_of_held c.self.inside.operations.items c.self.invariant) in
+    on_err_weaker c.merge.result (λ same. rw same (unmoved c.args.self.now c.args.other mine_is)) c.merge.ensures.refused

@@ -1,0 +1,63 @@
+use mir.Val.{bool_byte}
+use Rattle.std.proofs.Common.{Bool, true, false, refl, ◌≡◌, ◌∷◌, ◌+◌, List, length, map, ap, subst, ◌∙◌, arith, rules, if◌then◌else◌}
+use Rattle.std.specs.Vec.Iter.{into_iter_items, into_iter_len}
+use Rattle.std.proofs.lemmas.Result.{err_from_is_err_and}
+use Rattle.archive_core.specs.Content.{IsTakenInPart, changes, new_among}
+use Rattle.archive_core.specs.Record.{record_bytes}
+use Rattle.archive_core.specs.declared.operations.Operation.{Operation}
+use Rattle.sorted_archive.proofs.Held.{content_with}
+use Rattle.archive_core.proofs.Taken.{one_counted, all_counted, counted_below, taken_in_part}
+use Rattle.sorted_archive.proofs.taking.take_in_turn.Goals as goal
+
+byte_is : (b : Bool) → bool_byte b ≡ (if b then 1 else 0)
+byte_is true = refl
+byte_is false = refl
+
+pub overflow_add-new : goal.overflow_add-new
+overflow_add-new g c =
+    let at = c.operations in
+    let steps : into_iter_items at.operation-iterator ≡ c.in-Some.operation ∷ into_iter_items c.next.new.self = c.in-Some.ensures.steps.0 in
+    let least = counted_below (g.A.Join.content c.args.archive.now) (g.A.Join.content at.archive) (into_iter_items c.into_iter-operation-iterator.result) (into_iter_items at.operation-iterator) (into_iter_items c.next.new.self) c.in-Some.operation at.new at.invariant.way steps in
+    let more : c.from-new.result ≡ (if changes (g.A.Join.content at.archive) (record_bytes c.in-Some.operation) then 1 else 0) = c.from-new.ensures ∙ byte_is c.in_ok-changed.changed ∙ ap (λ b. if b then 1 else 0) c.in_ok-changed.ensures.answer in
+    let all : length (into_iter_items c.into_iter-operation-iterator.result) ≡ length c.args.operations.items = ap length c.into_iter-operation-iterator.ensures.into_iter_gives.0 in
+    omega (arith, least, more, all, c.args.operations.ok.0, c.args.operations.ok.1, c.args.operations.small)
+
+pub operations-preserved : goal.operations-preserved
+operations-preserved g c =
+    let at = c.operations in
+    let left : List Operation = into_iter_items at.operation-iterator in
+    let rest : List Operation = into_iter_items c.next.new.self in
+    let steps : left ≡ c.in-Some.operation ∷ rest = c.in-Some.ensures.steps.0 in
+    let now = g.A.Join.content at.archive in
+    let next = g.A.Join.content c.take.new.self in
+    let more : c.from-new.result ≡ (if changes now (record_bytes c.in-Some.operation) then 1 else 0) = c.from-new.ensures ∙ byte_is c.in_ok-changed.changed ∙ ap (λ b. if b then 1 else 0) c.in_ok-changed.ensures.answer in
+    record {
+      can = tt;
+      finite = tt;
+      way = one_counted (g.A.Join.content c.args.archive.now) now next (into_iter_items c.into_iter-operation-iterator.result) left rest c.in-Some.operation at.new (at.new + c.from-new.result) at.invariant.way steps c.in_ok-changed.ensures.taken (ap (λ n. at.new + n) more);
+      content = content_with now next c.in-Some.operation at.invariant.content (search rules) c.in_ok-changed.ensures.taken;
+      long =
+          let was : into_iter_len at.operation-iterator ≡ length left = at.invariant.long in
+          let gone = c.in-Some.ensures.steps.1 in
+          let short : length left ≡ length (c.in-Some.operation ∷ rest) = ap length steps in
+          omega arith;
+    }
+
+pub returns-in_err-changed-clause-refused : goal.returns-in_err-changed-clause-refused
+returns-in_err-changed-clause-refused g c =
+    let p = err_from_is_err_and c.from_residual.result c.from_residual.ensures.1 in
+    let old = g.A.Join.content c.args.archive.now in
+    let new = g.A.Join.content c.take.new.self in
+    let part = taken_in_part old (g.A.Join.content c.operations.archive) new (into_iter_items c.into_iter-operation-iterator.result) (into_iter_items c.operations.operation-iterator) c.operations.invariant.content c.operations.invariant.way.way c.in_err-changed.ensures.refused in
+    rw p.1 (subst (λ (all : List Operation). IsTakenInPart old (map record_bytes all) new) c.into_iter-operation-iterator.ensures.into_iter_gives.0 part)
+
+pub returns-clause-counted : goal.returns-clause-counted
+returns-clause-counted g c =
+    let old = g.A.Join.content c.args.archive.now in
+    let at = c.operations in
+    let all : List Operation = into_iter_items c.into_iter-operation-iterator.result in
+    let left : List Operation = into_iter_items at.operation-iterator in
+    let long : into_iter_len at.operation-iterator ≡ length left = at.invariant.long in
+    let none : length left ≡ 0 = omega (arith, long, c.in-None.ensures.steps) in
+    all_counted old (g.A.Join.content at.archive) all left at.new at.invariant.way none
+    ∙ ap (λ (l : List Operation). new_among old (map record_bytes l)) c.into_iter-operation-iterator.ensures.into_iter_gives.0

@@ -1,0 +1,31 @@
+use Rattle.std.proofs.Common.{map, arith}
+use Rattle.std.proofs.Math.ListN.{length-map}
+use Rattle.std.proofs.lemmas.Result.{err_from_is_err_and}
+use Rattle.archive_core.specs.Record.{record_bytes}
+use Rattle.archive_core.proofs.Joined.{none_taken}
+use Rattle.archive_core.proofs.Taken.{new_within}
+use Rattle.sorted_archive.proofs.Parted.{admissions_in_part, retirements_in_part}
+use Rattle.sorted_archive.proofs.taking.take_parts.Goals as goal
+
+pub returns-in_err-parts-clause-refused : goal.returns-in_err-parts-clause-refused
+returns-in_err-parts-clause-refused g c =
+    let p = err_from_is_err_and c.from_residual.result c.from_residual.ensures.1 in
+    rw p.1 (none_taken (g.A.Join.content c.args.archive.now) (map record_bytes c.args.operations.items) c.len-before.ensures.content)
+
+pub returns-in_err-admitted-clause-refused : goal.returns-in_err-admitted-clause-refused
+returns-in_err-admitted-clause-refused g c =
+    let p = err_from_is_err_and c.from_residual-in_err-admitted.result c.from_residual-in_err-admitted.ensures.1 in
+    let parts = c.in_ok-parts.parts in
+    rw p.1 (admissions_in_part (g.A.Join.content c.args.archive.now) (g.A.Join.content c.take_admissions.new.archive) c.args.operations.items parts.admissions.items parts.retirements.items c.in_ok-parts.ensures c.in_err-admitted.ensures.refused)
+
+pub returns-in_err-take_sorted-clause-refused : goal.returns-in_err-take_sorted-clause-refused
+returns-in_err-take_sorted-clause-refused g c =
+    let p = err_from_is_err_and c.from_residual-in_err-take_sorted.result c.from_residual-in_err-take_sorted.ensures.1 in
+    let parts = c.in_ok-parts.parts in
+    rw p.1 (retirements_in_part (g.A.Join.content c.args.archive.now) (g.A.Join.content c.take_admissions.new.archive) (g.A.Join.content c.take_sorted.new.archive) c.args.operations.items parts.admissions.items parts.retirements.items c.in_ok-parts.ensures c.in_ok-admitted.ensures.taken c.in_err-take_sorted.ensures.refused)
+
+pub overflow_add-result : goal.overflow_add-result
+overflow_add-result g c =
+    let old = g.A.Join.content c.args.archive.now in
+    let most = new_within old (map record_bytes c.args.operations.items) in
+    omega (arith, most, length-map c.args.operations.items record_bytes, c.in_ok-parts.ensures.counted, c.in_ok-admitted.ensures.counted, c.len-retired.ensures, c.args.operations.ok.0, c.args.operations.ok.1, c.args.operations.small)

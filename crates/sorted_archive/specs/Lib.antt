@@ -1,0 +1,4 @@
+pub mod InnerTaking
+pub mod InnerRange
+pub mod InnerScan
+pub mod InnerNames

@@ -1,0 +1,102 @@
+//! An operation beside the row that a search tells of it.
+ghost use Rattle.std.specs.Prelude.{◌≡◌, map, IfOk};
+ghost use Rattle.archive_core.specs.Find.{find_cmp, row_of};
+ghost use Rattle.archive_core.specs.Record.{IsOperation, operation_lent};
+ghost use Rattle.archive_core.specs.declared.operations.Operation.TheVariants.{Admit, Retire};
+
+use archive_core::{Digest, FindRow, FindState, Record, Slice, SliceKey};
+use memory::{Heap, NoMemory};
+use std::cmp::Ordering;
+use std::marker::Model;
+
+/// An operation that a search tells, beside its row, so that a slice is hashed once. A contract sees
+/// it as the operation.
+#[derive(Drop)]
+pub struct HashedRecord<'a> {
+    operation: Record<'a>,
+    row: FindRow,
+}
+
+impl<'a> Model for HashedRecord<'a> {
+    ghost use Rattle.std.specs.Prelude.{◌≡◌};
+    ghost use Rattle.archive_core.specs.Find.{row_of};
+    ghost use Rattle.archive_core.specs.Record.{operation_lent};
+    ghost use Rattle.archive_core.specs.declared.operations.Operation.{Operation};
+
+    ghost Value = { Operation };
+
+    ghost view = { λ hashed. operation_lent hashed.operation };
+
+    ghost invariant = { λ hashed. hashed.row ≡ row_of (operation_lent hashed.operation) };
+}
+
+impl<'a> HashedRecord<'a> {
+    /// The operation with its row.
+    pub fn of(operation: &Record<'a>) -> HashedRecord<'a>
+        ensures seen_as { result ≡ operation_lent operation.now }
+        ensures operation { IsOperation (operation_lent operation.now) }
+    {
+        match operation {
+            Record::Admit(slice) => HashedRecord::of_slice(slice),
+            Record::Retire(key, digest) => HashedRecord::of_retirement(*key, *digest),
+        }
+    }
+
+    // The admission of a slice, with its row.
+    fn of_slice(slice: &'a Slice) -> HashedRecord<'a>
+        ensures seen_as { result ≡ Admit slice.now }
+        ensures operation { IsOperation (Admit slice.now) }
+    {
+        HashedRecord {
+            operation: Record::Admit(slice),
+            row: FindRow {
+                key: slice.key(),
+                digest: slice.digest(),
+                state: FindState::of_image(&slice.image()),
+            },
+        }
+    }
+
+    // A retirement, with its row.
+    fn of_retirement(key: SliceKey, digest: Digest) -> HashedRecord<'a>
+        ensures seen_as { result ≡ Retire key digest }
+        ensures operation { IsOperation (Retire key digest) }
+    {
+        let row = FindRow {
+            key,
+            digest,
+            state: FindState::Retired,
+        };
+        HashedRecord {
+            operation: Record::Retire(row.key, row.digest),
+            row,
+        }
+    }
+
+    /// The row.
+    pub fn row(&self) -> FindRow
+        ensures { result ≡ row_of self.now }
+    {
+        self.row
+    }
+
+    /// Compares by architecture, then by record.
+    pub fn compare(&self, other: &HashedRecord<'_>) -> Ordering
+        ensures { result ≡ find_cmp self.now other.now }
+    {
+        let first = self.row.key.arch;
+        let second = other.row.key.arch;
+        first
+            .cputype
+            .cmp(&second.cputype)
+            .then(first.cpusubtype.cmp(&second.cpusubtype))
+            .then(self.operation.compare(&other.operation))
+    }
+}
+
+/// The rows, in the order of their operations.
+pub fn rows_of(heap: Heap, hashed: &[HashedRecord<'_>]) -> Result<Vec<FindRow, Heap>, NoMemory>
+    ensures { IfOk result (λ rows. rows.items ≡ map row_of hashed.now) }
+{
+    hashed.iter().map(|one| one.row()).collect(heap)
+}

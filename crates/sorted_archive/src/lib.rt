@@ -1,0 +1,28 @@
+//! An archive as one sorted list of operations, what is looked up in it, and many operations taken at once.
+//!
+//! - `covered`: slices that retirements cover;
+//! - `seen`: retirements that came, and the slices that they cover;
+//! - `parting`: the admissions of a list, and after them its retirements;
+//! - `taking`: many operations at once;
+//! - `hashed`: an operation beside the row that a search tells of it;
+//! - `asked`: slices that answer under a key, and what they tell;
+//! - `name_rows`: the rows of a name in slices;
+//! - `range`: the operations of one kind under one key;
+//! - `plain`: an archive as a sorted list;
+//! - `indexed`: the same, whose slices have tables of addresses.
+#![tactic(auto)]
+
+mod asked;
+mod covered;
+mod hashed;
+mod indexed;
+mod name_rows;
+mod parting;
+mod plain;
+mod range;
+mod seen;
+mod taking;
+
+pub use indexed::IndexedArchive;
+pub use plain::PlainArchive;
+pub use taking::take_each;

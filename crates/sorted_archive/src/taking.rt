@@ -1,0 +1,159 @@
+//! Taking many operations.
+ghost use Rattle.std.specs.Prelude.{◌≡◌, true, not, map, IfOk, OnOk, OnErr};
+ghost use Rattle.std.specs.List.{list_all};
+ghost use Rattle.archive_core.specs.Record.{record_bytes};
+ghost use Rattle.archive_core.specs.Content.{IsContent, IsTakenInPart, is_admission, with_records, new_among};
+
+use crate::parting::parts_of;
+use crate::plain::order;
+use archive_core::{Archive, Operation};
+use memory::{Heap, NoMemory};
+
+// Whether the operation admits a slice.
+fn is_admission(operation: &Operation) -> bool
+    ensures { result ≡ is_admission (record_bytes operation.now) }
+{
+    match operation {
+        Operation::Admit(_) => true,
+        Operation::Retire(_, _) => false,
+    }
+}
+
+// Whether each of the operations admits a slice.
+fn are_admissions(operations: &[Operation]) -> bool
+    ensures { result ≡ list_all (λ operation. is_admission (record_bytes operation)) operations.now }
+{
+    operations.iter().all(|operation| is_admission(operation))
+}
+
+// Whether each of the operations is a retirement.
+fn are_retirements(operations: &[Operation]) -> bool
+    ensures { result ≡ list_all (λ operation. not (is_admission (record_bytes operation))) operations.now }
+{
+    operations.iter().all(|operation| !is_admission(operation))
+}
+
+// Takes operations one after another, in their order, and counts those that were new.
+fn take_in_turn<A: Archive>(
+    archive: &mut A,
+    operations: Vec<Operation, Heap>,
+) -> Result<u64, NoMemory>
+    ensures taken { OnOk result
+        (A.content archive.new ≡ with_records (A.content archive.old) (map record_bytes operations.items)) }
+    ensures counted { IfOk result (λ new. new ≡ new_among (A.content archive.old) (map record_bytes operations.items)) }
+    ensures content { OnOk result (IsContent (A.content archive.new)) }
+    ensures refused { OnErr result
+        (IsTakenInPart (A.content archive.old) (map record_bytes operations.items) (A.content archive.new)) }
+{
+    let _before = archive.len();
+    let mut new = 0;
+    'operations: for operation in operations {
+        let changed = archive.take(operation)?;
+        new += u64::from(changed);
+    }
+    Ok(new)
+}
+
+// Takes operations that come in any order. They are sorted once and taken in together, so that none of them shifts what
+// is there.
+fn take_sorted<A: Archive + Drop>(
+    archive: &mut A,
+    mut operations: Vec<Operation, Heap>,
+) -> Result<(), NoMemory>
+    ensures taken { OnOk result
+        (A.content archive.new ≡ with_records (A.content archive.old) (map record_bytes operations.items)) }
+    ensures refused { OnErr result
+        (IsTakenInPart (A.content archive.old) (map record_bytes operations.items) (A.content archive.new)) }
+{
+    let _before = archive.len();
+    operations.sort_unstable_by(|a, b| a.compare(b));
+    let mut taken = A::empty(operations.allocator().clone()?);
+    take_in_turn(&mut taken, operations)?;
+    archive.absorb(taken)?;
+    Ok(())
+}
+
+// Takes admissions. None of them drops another, so as many are new as there are more afterwards.
+fn take_admissions<A: Archive + Drop>(
+    archive: &mut A,
+    operations: Vec<Operation, Heap>,
+) -> Result<u64, NoMemory>
+    requires { list_all (λ operation. is_admission (record_bytes operation)) operations.items ≡ true }
+    ensures taken { OnOk result
+        (A.content archive.new ≡ with_records (A.content archive.old) (map record_bytes operations.items)) }
+    ensures counted { IfOk result (λ new. new ≡ new_among (A.content archive.old) (map record_bytes operations.items)) }
+    ensures refused { OnErr result
+        (IsTakenInPart (A.content archive.old) (map record_bytes operations.items) (A.content archive.new)) }
+{
+    let before = archive.len();
+    take_sorted(archive, operations)?;
+    Ok(archive.len() - before)
+}
+
+// Takes retirements. None of them is dropped, so those are new that are not held, each once.
+fn take_retirements<A: Archive + Drop>(
+    archive: &mut A,
+    mut operations: Vec<Operation, Heap>,
+) -> Result<u64, NoMemory>
+    requires { list_all (λ operation. not (is_admission (record_bytes operation))) operations.items ≡ true }
+    ensures taken { OnOk result
+        (A.content archive.new ≡ with_records (A.content archive.old) (map record_bytes operations.items)) }
+    ensures counted { IfOk result (λ new. new ≡ new_among (A.content archive.old) (map record_bytes operations.items)) }
+    ensures refused { OnErr result
+        (IsTakenInPart (A.content archive.old) (map record_bytes operations.items) (A.content archive.new)) }
+{
+    let _before = archive.len();
+    order(&mut operations);
+    operations.retain(|operation| !archive.holds(operation));
+    let new = operations.len() as u64;
+    take_sorted(archive, operations)?;
+    Ok(new)
+}
+
+// Takes operations of both kinds: the admissions that no retirement before them covers, then the retirements that are
+// new. A slice that is retired behind its admission is dropped by the latter.
+fn take_parts<A: Archive + Drop>(
+    archive: &mut A,
+    operations: Vec<Operation, Heap>,
+) -> Result<u64, NoMemory>
+    ensures taken { OnOk result
+        (A.content archive.new ≡ with_records (A.content archive.old) (map record_bytes operations.items)) }
+    ensures counted { IfOk result (λ new. new ≡ new_among (A.content archive.old) (map record_bytes operations.items)) }
+    ensures refused { OnErr result
+        (IsTakenInPart (A.content archive.old) (map record_bytes operations.items) (A.content archive.new)) }
+{
+    let _before = archive.len();
+    let parts = parts_of(archive, operations)?;
+    let retired = parts.retirements.len() as u64;
+    let admitted = take_admissions(archive, parts.admissions)?;
+    take_sorted(archive, parts.retirements)?;
+    Ok(admitted + retired)
+}
+
+/// Takes operations in their order, and answers how many of them were new: each that changed what those before it left.
+/// One that stands twice is new once; a slice that comes before its retirement is new, and one behind it is not.
+/// The admissions are sorted once and taken in together, and behind them the retirements, so that none of them shifts
+/// what is there.
+///
+/// Refused for want of memory alone. Some of the operations may then have been taken, and the list is dropped. The call
+/// may be made again with all of them, which the caller reads once more from where it had them, as from their file, or
+/// has kept as copies (`Operation::copy`): `taking_each_resumed` of `archive_laws` says that it gives what this one
+/// would have given.
+pub fn take_each<A: Archive + Drop>(
+    archive: &mut A,
+    operations: Vec<Operation, Heap>,
+) -> Result<u64, NoMemory>
+    ensures taken { OnOk result
+        (A.content archive.new ≡ with_records (A.content archive.old) (map record_bytes operations.items)) }
+    ensures counted { IfOk result (λ new. new ≡ new_among (A.content archive.old) (map record_bytes operations.items)) }
+    ensures refused { OnErr result
+        (IsTakenInPart (A.content archive.old) (map record_bytes operations.items) (A.content archive.new)) }
+{
+    if are_admissions(&operations) {
+        return take_admissions(archive, operations);
+    }
+    if are_retirements(&operations) {
+        return take_retirements(archive, operations);
+    }
+    take_parts(archive, operations)
+}
