@@ -1,0 +1,15 @@
+"""The forms of reports that symbolicate-report reads. In reading order:
+
+- streams           standard output and standard error
+- encodings         the bytes of a file, as UTF-8, and back
+- images            the images of a report, and the frames that lie in them
+- archive           the answers of the program
+- demangling        names as people write them
+- text_report       reports as lines
+- json_walk         JSON of any size, piece by piece
+- json_report       reports as JSON
+- json_edits        what is written into JSON, in its own layout
+- readable          JSON reports as people read them
+- readable_header   what stands above their threads, and below them
+- report            a whole file, and what is said of it
+"""

@@ -1,0 +1,237 @@
+"""The answers of the program, which is called once for all reports, by `frames`."""
+import bisect
+import os
+import pathlib
+import re
+import shutil
+import subprocess
+import tempfile
+import threading
+from array import array
+
+from .images import Refused, unique
+from .streams import say
+
+# What a slice answers, `NAME + OFFSET (SEG,SECT)`; and the line before the answers of several.
+ANSWER = re.compile(rb"(.*) \+ ([0-9]{1,20}) \(.*\)")
+SEVERAL = re.compile(rb"!([0-9]{1,9})")
+NO_SYMBOL, NOT_THERE = b"-", b"0x%016x ?\n"
+# The places of names for an offset without a symbol, and for one with the answers of several slices.
+NONE, MANY = -1, -2
+# The lines of so many questions are given to the program at once.
+MOST_LINES = 10_000
+# The program begins each line on standard error so; more of them is not read.
+OWN_WORDS = b"symarch: "
+MOST_SAID = 100_000
+# What a program begins with that runs by itself. A script might begin a build.
+ELF = b"\x7fELF"
+
+
+class Names:
+    """The names of all answers, each of them once."""
+
+    def __init__(self):
+        self.places, self.shown = {}, []
+
+    def place(self, name):
+        if name not in self.places:
+            self.places[name] = len(self.shown)
+            self.shown.append(name.decode(errors="surrogateescape"))
+        return self.places[name]
+
+
+class Answers:
+    """What the slices of a UUID and an architecture answer for offsets in ascending order."""
+
+    def __init__(self, uuid, arch, offsets, names):
+        self.uuid, self.arch, self.offsets, self.names = uuid, arch, offsets, names
+        self.places, self.symbol_offsets = array("i"), array("Q")
+        self.several = {}
+        self.is_there = False
+
+    def questions(self):
+        """The lines for the program. Offsets are addresses of an image that was loaded at 0. One at least is asked for,
+        by which the archive says whether it has the image."""
+        return (f"{self.uuid} {self.arch} 0x0 {offset:#x}\n" for offset in self.offsets)
+
+    def at(self, offset):
+        """By the digest of each slice, which is empty where one answers, its name and offset, or None."""
+        place = bisect.bisect_left(self.offsets, offset)
+        if place == len(self.places) or self.offsets[place] != offset or self.places[place] == MANY:
+            said = self.several.get(offset, {})
+        else:
+            said = {"": (self.places[place], self.symbol_offsets[place])}
+        return {digest: self.shown(*symbol) for digest, symbol in said.items()}
+
+    def shown(self, place, symbol_offset):
+        return (self.names.shown[place], symbol_offset) if place >= 0 else None
+
+    def take(self, lines):
+        """Takes the answer to each question. Those of a key that no slice has are not kept."""
+        for offset in self.offsets:
+            line = next(lines, b"")
+            if line == NOT_THERE % offset and not self.places:
+                continue
+            address, said = two_words(line)
+            several = SEVERAL.fullmatch(said)
+            if address != b"0x%016x" % offset or (offset != self.offsets[0] and not self.is_there):
+                raise ValueError
+            self.is_there = True
+            if several:
+                self.several[offset] = dict(self.of_slice(next(lines, b"")) for _ in range(int(several[1])))
+                self.add(MANY, 0)
+            else:
+                self.add(*self.symbol(said))
+
+    def add(self, place, symbol_offset):
+        self.places.append(place)
+        self.symbol_offsets.append(symbol_offset)
+
+    def of_slice(self, line):
+        digest, said = two_words(line.lstrip(b" "))
+        return digest.decode(), self.symbol(said)
+
+    def symbol(self, said):
+        if said == NO_SYMBOL:
+            return NONE, 0
+        found = ANSWER.fullmatch(said)
+        if not found:
+            raise ValueError
+        return self.names.place(found[1]), int(found[2])
+
+
+def two_words(line):
+    first, space, rest = line.rstrip(b"\n").partition(b" ")
+    if not space:
+        raise ValueError
+    return first, rest
+
+
+class Archive:
+    """The archive, as the program reads it."""
+
+    def __init__(self, path):
+        self.path, self.names = path, Names()
+        self.program, self.named = program()
+
+    def look_up(self, images):
+        """Asks for all offsets of all images at once, for each of them once."""
+        wanted = {}
+        for image in images:
+            for arch in image.architectures():
+                wanted.setdefault((image.uuid, arch), []).append(image)
+        once = {}
+        answers = {key: Answers(*key, offsets_of(some, once), self.names) for key, some in wanted.items()}
+        for image in images:
+            image.asked = None
+        self.ask(list(answers.values()))
+        for image in images:
+            found = {arch: answers[image.uuid, arch] for arch in image.architectures()}
+            image.take({arch: one for arch, one in found.items() if one.is_there})
+
+    def ask(self, answers):
+        words = [self.program, "frames", "/dev/stdin", self.path]
+        with tempfile.TemporaryFile() as errors:
+            try:
+                run = subprocess.Popen(words, stdin=subprocess.PIPE, stdout=subprocess.PIPE, stderr=errors)
+            except OSError as error:
+                raise self.no_program(error) from None
+            with run:
+                asking = threading.Thread(target=give, args=(run.stdin, answers), daemon=True)
+                asking.start()
+                is_answered = self.take(answers, run)
+                asking.join()
+            errors.seek(0)
+            said = errors.read(MOST_SAID)
+        say(said.decode(errors="surrogateescape"))
+        self.judge(run.returncode, is_answered, said)
+
+    def judge(self, status, is_answered, said):
+        """Refuses what is not all answers, after what the program said on standard error."""
+        if is_answered and 0 <= status <= 1:
+            return
+        if status > 1 and said.startswith(OWN_WORDS):
+            raise Refused("", status)
+        if status < 0 and is_answered is not False:
+            raise Refused(f"{self.program}: ended by signal {-status}", 2)
+        raise Refused(f"{self.which()} does not answer as symarch does", 126)
+
+    @staticmethod
+    def take(answers, run):
+        """Whether the program answers as `frames` does; None where it says nothing more. What does is ended, since it
+        may never end."""
+        try:
+            for one in answers:
+                one.take(run.stdout)
+            if not run.stdout.readline():
+                return True
+        except ValueError:
+            pass
+        if not run.stdout.readline():
+            return None
+        run.kill()
+        return False
+
+    def which(self):
+        return f"SYMARCH names {self.named}, which" if self.named else f"the program {self.program}"
+
+    def no_program(self, error):
+        if self.named:
+            why = f"there is no program {self.program}" if isinstance(error, FileNotFoundError) else error.strerror
+            return Refused(f"SYMARCH names {self.named}: {why}", 126)
+        how = "SYMARCH may name one, and in the repository ./symarch --version builds it"
+        return Refused(f"there is no program {self.program}: {how}", 126)
+
+
+def offsets_of(images, once):
+    """The offsets that images of one UUID ask for, or the first one where they ask for none."""
+    key = tuple(map(id, images))
+    if key not in once:
+        asked = images[0].asked
+        for image in images[1:]:
+            asked = asked + image.asked
+        once[key] = unique(asked or array("Q", [0]))
+    return once[key]
+
+
+def give(stream, answers):
+    """Gives the questions to the program, which may end before it has read them."""
+    try:
+        with stream:
+            for one in answers:
+                lines = []
+                for line in one.questions():
+                    lines.append(line)
+                    if len(lines) == MOST_LINES:
+                        stream.write("".join(lines).encode())
+                        lines = []
+                stream.write("".join(lines).encode())
+    except OSError:
+        pass
+
+
+def program():
+    """The program, and what SYMARCH says if it names it. Else it is the one that was built here, or installed with this
+    tool. The script ./symarch is never called, since it might begin a build: the program that it built is."""
+    named = os.environ.get("SYMARCH")
+    if named:
+        script = pathlib.Path(shutil.which(named) or named).resolve()
+        is_script = script.name == "symarch" and (script.parent / "tools" / "build-program").exists()
+        return str(built_in(script.parent)) if is_script else named, named
+    top = pathlib.Path(__file__).resolve().parent.parent.parent
+    for path in (built_in(top), top / "bin" / "symarch", top.parent / "bin" / "symarch"):
+        if is_program(path):
+            return str(path), None
+    return str(built_in(top)), None
+
+
+def built_in(top):
+    return top / "crates" / "symarch" / "out" / "symarch"
+
+
+def is_program(path):
+    try:
+        with path.open("rb") as file:
+            return file.read(len(ELF)) == ELF
+    except OSError:
+        return False
