@@ -66,7 +66,12 @@ impl<'a> Desk<'a> {
                 let end = End::of_call(self.call::<A>(call, &mut told)?);
                 let report = told.into_bytes();
                 let out = Vec::new(self.alloc);
-                Ok(Left { end, out, report })
+                Ok(Left {
+                    end,
+                    out,
+                    is_in_place: false,
+                    report,
+                })
             }
         }
     }

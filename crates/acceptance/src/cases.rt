@@ -286,6 +286,7 @@ impl<'t> Bench<'t> {
             "bytes" => self.limits.bytes = number,
             "opened" => self.limits.opened = number,
             "out" => self.limits.out = number as usize,
+            "places" => self.limits.places = number > 0,
             "report" => self.limits.report = number as usize,
             _ => return Err(CaseFault::BadLine),
         }

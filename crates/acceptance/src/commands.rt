@@ -3,7 +3,8 @@
 use crate::desk::Desk;
 use archive_core::Archive;
 use byte_device::{CannotOpen, Disk};
-use case_parts::{End, Left, StrictSink, StrictSource};
+use case_parts::{End, Left, Shelf, StrictSink, StrictSource};
+use command_ends::Output;
 use command_line::Plan;
 use memory::{Heap, NoMemory};
 use plan_commands::execute_on;
@@ -33,7 +34,10 @@ impl<'a> Disk for Desk<'a> {
 impl<'a> Desk<'a> {
     /// Carries out a plan.
     pub fn run<A: Archive + Drop>(mut self, plan: &Plan) -> Result<Left, NoMemory> {
-        let mut out = StrictSink::new(Heap::new(self.alloc)?, self.limits.out);
+        let mut out = Output {
+            draft: StrictSink::new(Heap::new(self.alloc)?, self.limits.out),
+            target: Shelf::new(Heap::new(self.alloc)?, self.limits.places),
+        };
         let mut report = StrictSink::new(Heap::new(self.alloc)?, self.limits.report);
         let ended = execute_on::<A, A, _, _, _>(
             self.alloc,
@@ -43,9 +47,11 @@ impl<'a> Desk<'a> {
             &mut out,
             &mut report,
         );
+        let placed = out.target.placed();
         Ok(Left {
             end: End::of_command(ended),
-            out: out.as_slice().to_vec(self.alloc)?,
+            is_in_place: placed.is_some(),
+            out: placed.unwrap_or(out.draft.as_slice()).to_vec(self.alloc)?,
             report: report.as_slice().to_vec(self.alloc)?,
         })
     }

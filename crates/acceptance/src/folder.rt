@@ -15,19 +15,20 @@ use std::{fs, io, process};
 #[derive(Drop)]
 pub struct Folder<'a, R> {
     rt: &'a R,
+    process: u32,
     path: String,
 }
 
 impl<'a> Folder<'a, HostRuntime> {
     /// An empty folder, which no other run has.
     pub fn create(rt: &'a HostRuntime) -> io::Result<Self> {
-        let id = process::id(rt.process());
-        let path = format!(in rt.alloc(); "/tmp/symarch_rows_{id}")?;
+        let process = process::id(rt.process());
+        let path = format!(in rt.alloc(); "/tmp/symarch_rows_{process}")?;
         if fs::exists(rt, &path)? {
             fs::remove_dir_all(rt, &path)?;
         }
         fs::create_dir(rt, &path)?;
-        Ok(Folder { rt, path })
+        Ok(Folder { rt, process, path })
     }
 }
 
@@ -100,7 +101,7 @@ impl<'a, R: Files + AllocGlobal> Folder<'a, R> {
 
     fn tell_run(&self, plan: &Plan, most: usize, told: &mut String) -> Result<(), CaseFault> {
         let mut report = StrictSink::new(Heap::new(self.rt.alloc())?, most);
-        let mut files = SystemFiles::new(self.rt.alloc(), self.rt);
+        let mut files = SystemFiles::new(self.rt.alloc(), self.rt, self.process);
         let ended = execute(&mut files, plan, &mut report);
         tell_report(report.as_slice(), told)?;
         Ok(tell_ended(ended, told)?)

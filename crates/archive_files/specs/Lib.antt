@@ -1,1 +1,3 @@
+pub mod FileCalls
 pub mod OutFiles
+pub mod Placing

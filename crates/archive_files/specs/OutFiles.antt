@@ -1,57 +1,102 @@
 -- OUT: how far it is, and what is known of it.
-use Rattle.std.specs.Prelude.{◌≡◌, ◌⊎◌, ℕ, suc, Bool, true, false, ◌&&◌, ◌==◌, List, [], ◌∷◌, ◌++◌}
-use Rattle.std.specs.Prelude.{Contains, length, Option, Some, None}
-use Rattle.std.specs.List.{concat}
-use Rattle.std.specs.Option.{option_to_list}
+use Rattle.std.specs.Prelude.{◌≡◌, ◌⊎◌, ℕ, Bool, true, false, List, [], ◌++◌, Option, Some, None, string_bytes}
+use Rattle.archive_files.specs.FileCalls.{FileCall, bytes_in}
+use Rattle.archive_files.specs.Placing.{IsDrafted, IsRemoved, IsWrittenThrough, account}
 use Rattle.archive_files.specs.declared.out_file.OutState.{OutState}
-use Rattle.archive_files.specs.declared.out_file.OutState.TheVariants.{Untouched, Created, NotCreated}
+use Rattle.archive_files.specs.declared.out_file.OutState.TheVariants as state
+use Rattle.archive_files.specs.declared.placed.Placed.{Placed}
+use Rattle.archive_files.specs.declared.replaceable.OutFault.{OutFault}
 
--- no byte came, so that no file was to be created yet
-abbrev pub is_untouched : {T : Type 0} → OutState T → Bool
-is_untouched Untouched = true
-is_untouched (Created file) = false
-is_untouched NotCreated = false
+-- how far OUT is
+pub data Stage : Type 0 where
+  Untouched : Stage
+  Through : Stage
+  Drafted : (draft : List ℕ) → (target : List ℕ) → Stage
+  Refused : OutFault → Stage
+  Removed : Stage
+  Settled : Stage
 
--- bytes came, and the file was created
-abbrev pub is_created : {T : Type 0} → OutState T → Bool
-is_created Untouched = false
-is_created (Created file) = true
-is_created NotCreated = false
+abbrev pub stage_of : {T : Type 0} → OutState T → Stage
+stage_of state.Untouched = Untouched
+stage_of (state.Through file) = Through
+stage_of (state.Drafted draft) = Drafted (string_bytes draft.path) (string_bytes draft.target)
+stage_of (state.Refused fault) = Refused fault
+stage_of state.Removed = Removed
+stage_of state.Settled = Settled
 
--- bytes came, and the file could not be created
-abbrev pub is_not_created : {T : Type 0} → OutState T → Bool
-is_not_created Untouched = false
-is_not_created (Created file) = false
-is_not_created NotCreated = true
+-- it takes bytes
+abbrev pub takes_bytes : Stage → Bool
+takes_bytes Untouched = false
+takes_bytes Through = true
+takes_bytes (Drafted draft target) = true
+takes_bytes (Refused fault) = false
+takes_bytes Removed = false
+takes_bytes Settled = false
 
--- the paths at which a file was created, or was to be: none while OUT is untouched, and then its own, if it has one
-abbrev pub created_at : Bool → Option (List ℕ) → List (List ℕ)
-created_at true path = []
-created_at false path = option_to_list path
+-- calls may have been made for it, which it still has
+abbrev pub has_calls : Stage → Bool
+has_calls Untouched = false
+has_calls Through = true
+has_calls (Drafted draft target) = true
+has_calls (Refused fault) = true
+has_calls Removed = true
+has_calls Settled = false
 
--- No input was compared with OUT, which has no path, no byte came for it, and no file was created.
-abbrev pub AreFresh : {T : Type 0} → List (List ℕ) → List (List ℕ) → Option (List ℕ) → OutState T → List (List ℕ)
-    → Type 0
-AreFresh others same path state created =
-    (others ≡ []) × (same ≡ []) × (path ≡ None) × (is_untouched state ≡ true) × (created ≡ [])
+-- it has a draft
+abbrev pub is_drafted : Stage → Bool
+is_drafted Untouched = false
+is_drafted Through = false
+is_drafted (Drafted draft target) = true
+is_drafted (Refused fault) = false
+is_drafted Removed = false
+is_drafted Settled = false
 
--- OUT has the path that the command has for it, if any, and each input was found to be another file; or it has none,
--- and is never created, since an input was found to be its own file.
-abbrev pub IsPath : Option (List ℕ) → List (List ℕ) → List (List ℕ) → List (List ℕ) → Option (List ℕ) → Type 0
-IsPath asked inputs others same path =
-    ((path ≡ asked) × (asked ≡ None ⊎ others ≡ inputs))
-    ⊎ ((path ≡ None) × (input : List ℕ) × Contains inputs input × (same ≡ input ∷ []))
+-- it was put in place, and handed on
+abbrev pub is_settled : Stage → Bool
+is_settled Untouched = false
+is_settled Through = false
+is_settled (Drafted draft target) = false
+is_settled (Refused fault) = false
+is_settled Removed = false
+is_settled Settled = true
 
--- neither did bytes go to the file, nor did it fail
-abbrev pub took_nothing : List (List ℕ) → ℕ → Bool
-took_nothing given failures = length (concat given) == 0 && failures == 0
+-- why it was not begun or not put in place, if it was not
+abbrev pub fault_of : Stage → Option OutFault
+fault_of Untouched = None
+fault_of Through = None
+fault_of (Drafted draft target) = None
+fault_of (Refused fault) = Some fault
+fault_of Removed = None
+fault_of Settled = None
 
--- a path, or that there is none, in front of what else is known
-abbrev pub place : Option (List ℕ) → List ℕ
-place None = 0 ∷ []
-place (Some path) = suc (length path) ∷ path
+-- what was called for OUT so far, which has this path, if it has one
+abbrev pub IsSoFar : Option (List ℕ) → Stage → List FileCall → Type 0
+IsSoFar path Untouched calls = calls ≡ []
+IsSoFar path Through calls = (p : List ℕ) × (path ≡ Some p) × (text : List ℕ) × IsWrittenThrough p text calls
+IsSoFar path (Drafted draft target) calls = (p : List ℕ) × (path ≡ Some p) × IsDrafted draft target calls
+IsSoFar path (Refused fault) calls = IsRemoved path calls
+IsSoFar path Removed calls = IsRemoved path calls
+IsSoFar path Settled calls = calls ≡ []
 
--- What is known of OUT: its path, and the bytes that went to its file. A text that it takes stands behind what was
--- known, so that the path stays with it.
-abbrev pub account : Option (List ℕ) → List (List ℕ) → List ℕ
-account path given = place path ++ concat given
+-- No input was compared with OUT, which has no path and did not fail, for which nothing was called, and of which nothing
+-- is in place.
+abbrev pub AreFresh : {T : Type 0} → List (List ℕ) → List (List ℕ) → Option (List ℕ) → OutState T → ℕ → List FileCall
+    → Option Placed → Type 0
+AreFresh others same path state failures calls placed =
+    (others ≡ []) × (same ≡ []) × (path ≡ None) × (stage_of state ≡ Untouched) × (failures ≡ 0) × (calls ≡ [])
+    × (placed ≡ None)
+
+-- What is known of OUT's draft: the same; and nothing of one that was put in place.
+abbrev pub draft_account : Bool → Option (List ℕ) → List FileCall → List ℕ
+draft_account true path calls = []
+draft_account false path calls = account path (bytes_in calls)
+
+-- What is known of what was put in place: its path, and the bytes that were written for it.
+abbrev pub placed_account : Option Placed → Option (List ℕ)
+placed_account None = None
+placed_account (Some placed) = Some (account (Some (string_bytes placed.path)) (bytes_in placed.calls.entries))
+
+-- what was called for it
+abbrev pub placing_calls : Option Placed → List FileCall
+placing_calls None = []
+placing_calls (Some placed) = placed.calls.entries

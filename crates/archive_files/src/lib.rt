@@ -1,18 +1,30 @@
 //! Files of the system as inputs and as OUT. What they hold is in no contract; what is called is.
 //!
 //! - `call_log`: a list of calls that only clauses read;
+//! - `file_calls`: the same, of the calls for one output;
 //! - `system_disk`: files that are read;
 //! - `identities`: which file a path names;
-//! - `out_file`: OUT, which is created with its first bytes;
+//! - `replaceable`: what stands at OUT's path, and whether it may be replaced;
+//! - `drafts`: a file beside OUT, which is renamed when it is whole;
+//! - `placed`: an output that is in place;
+//! - `out_file`: OUT before it is in place;
+//! - `out_path`: OUT's path, at which it is put;
 //! - `system_files`: the files of one command.
 #![tactic(auto)]
 
 mod call_log;
+mod drafts;
+mod file_calls;
 mod identities;
 mod out_file;
+mod out_path;
+mod placed;
+mod replaceable;
 mod system_disk;
 mod system_files;
 
 pub use out_file::OutFile;
+pub use out_path::OutPath;
+pub use replaceable::{OutFault, Replaces};
 pub use system_disk::SystemDisk;
 pub use system_files::SystemFiles;

@@ -1,117 +1,230 @@
-//! OUT, which is created with its first bytes. What it holds then is in no contract.
+//! OUT, whose draft is created with its first bytes, and put in place when it is whole. What the files hold is in no
+//! contract; what was called of the system is.
 
-ghost use Rattle.std.specs.Prelude.{◌≡◌, ◌≤◌, ◌<◌, None, Some, IfSome, IfOk, IsSome};
+ghost use Rattle.std.specs.Prelude.{◌≡◌, ◌⊎◌, ◌≤◌, ◌<◌, ℕ, List, Option, None, Some, IfSome, IfOk, IsSome, OnErr};
 ghost use Rattle.std.specs.Prelude.{length, true, false, [], option_map, string_bytes};
-ghost use Rattle.archive_files.specs.OutFiles.{account, created_at, is_created, is_not_created, is_untouched};
-ghost use Rattle.archive_files.specs.OutFiles.{took_nothing};
+ghost use Rattle.archive_files.specs.FileCalls.{bytes_in};
+ghost use Rattle.archive_files.specs.OutFiles.{IsSoFar, Settled, Untouched, draft_account, fault_of};
+ghost use Rattle.archive_files.specs.OutFiles.{has_calls, is_drafted, is_settled, stage_of, takes_bytes};
+ghost use Rattle.archive_files.specs.Placing.{HandsOn, IsRemoved, took_nothing};
 
-use crate::call_log::CallLog;
+use crate::drafts::{Draft, create_draft, put_draft, remove_draft};
+use crate::file_calls::FileCalls;
+use crate::placed::Placed;
+use crate::replaceable::{OutFault, Replaces, Way, way_to};
 use byte_device::{Failed, Sink};
-use std::fs;
+use std::alloc::Global;
 use std::io::Write;
 use std::rt::Files;
+use std::{fs, mem};
 
 /// How often a device fails at most.
-const MOST_FAILURES: u64 = u64::MAX;
+pub const MOST_FAILURES: u64 = u64::MAX;
 
-/// OUT: a file that is created when the first bytes for it come, so that a command that is refused leaves none. A push
-/// of no bytes creates none. What is there at its path is replaced.
+/// OUT before it is in place. It begins with the first bytes, so that a command that is refused before them leaves
+/// nothing; a push of no bytes begins nothing. Bytes go to a draft beside OUT, or to OUT where that is no regular file.
 #[derive(Drop)]
 pub struct OutFile<'a, F: Files> {
+    alloc: Global,
     files: &'a F,
+    process: u32,
     path: Option<String>,
+    replaces: Replaces,
     state: OutState<F::File>,
     failures: u64,
-    given: CallLog,
-    created: CallLog,
-    // What was to be created is at the path alone, and bytes or a failure came since.
-    ghost place: { created.entries ≡ created_at (is_untouched state) (option_map string_bytes path) },
-    ghost first: { is_untouched state ≡ took_nothing given.entries failures },
+    calls: FileCalls,
+    // What was called is what its state says: nothing before the first bytes and once it was handed on, and nothing
+    // where neither bytes nor a failure came.
+    ghost so_far: { ∥ IsSoFar (option_map string_bytes path) (stage_of state) calls.entries ∥₁ },
+    ghost empty: { has_calls (stage_of state) ≡ false → calls.entries ≡ [] },
+    ghost first: { took_nothing (bytes_in calls.entries) failures ≡ true → calls.entries ≡ [] },
 }
 
 /// How far an [`OutFile`] is.
 #[derive(Drop)]
 enum OutState<T> {
+    /// No byte came.
     Untouched,
-    Created(T),
-    NotCreated,
+    /// Bytes go to what is at the path.
+    Through(T),
+    /// Bytes go to a draft.
+    Drafted(Draft<T>),
+    /// It could not be begun, or not be put in place.
+    Refused(OutFault),
+    /// Its draft was removed.
+    Removed,
+    /// It was put in place, and what was called for it handed on.
+    Settled,
 }
 
-/// Creates the file where no bytes came before: once, also where that fails, and only where there is a path. What is at
-/// the path is emptied.
-fn create<F: Files>(
+/// What bytes go to first, where OUT has this path.
+fn begun<F: Files>(
+    alloc: Global,
     files: &F,
-    path: &Option<String>,
-    state: &mut OutState<F::File>,
-    created: &mut CallLog,
-)
-    ensures once { is_untouched state.old ≡ false → state.new ≡ state.old }
-    ensures tried { is_untouched state.new ≡ false }
-    ensures place { created.old.entries ≡ created_at (is_untouched state.old) (option_map string_bytes path.now)
-        → created.new.entries ≡ created_at (is_untouched state.new) (option_map string_bytes path.now) }
+    process: u32,
+    path: &str,
+    replaces: Replaces,
+    calls: &mut FileCalls,
+) -> Result<OutState<F::File>, OutFault>
+    ensures calls { calls.old.entries ≡ [] → IfOk result
+        (λ state. IsSoFar (Some path.now) (stage_of state) calls.new.entries) }
+    ensures bytes { calls.old.entries ≡ [] → bytes_in calls.new.entries ≡ [] }
+    ensures begun { IfOk result (λ state. has_calls (stage_of state) ≡ true) }
+    ensures refused { OnErr result (calls.new.entries ≡ calls.old.entries) }
 {
-    if let OutState::Untouched = state {
-        *state = first_state(files, path, created);
+    match way_to(alloc, files, path, replaces)? {
+        Way::Through => {
+            let Ok(file) = fs::create(files, path) else {
+                return Err(OutFault::NotCreated);
+            };
+            calls.opens(path);
+            Ok(OutState::Through(file))
+        }
+        Way::Beside(target, access) => {
+            let draft = create_draft(alloc, files, process, target, access)?;
+            calls.creates(&draft.path);
+            Ok(OutState::Drafted(draft))
+        }
     }
 }
 
-/// How far OUT is once its file was created; without a path there is none.
+/// How far OUT is once it was begun; without a path there is none.
 fn first_state<F: Files>(
+    alloc: Global,
     files: &F,
+    process: u32,
     path: &Option<String>,
-    created: &mut CallLog,
+    replaces: Replaces,
+    calls: &mut FileCalls,
 ) -> OutState<F::File>
-    ensures tried { is_untouched result ≡ false }
-    ensures place { created.old.entries ≡ []
-        → created.new.entries ≡ created_at false (option_map string_bytes path.now) }
+    ensures calls { calls.old.entries ≡ []
+        → IsSoFar (option_map string_bytes path.now) (stage_of result) calls.new.entries }
+    ensures bytes { calls.old.entries ≡ [] → bytes_in calls.new.entries ≡ [] }
+    ensures begun { has_calls (stage_of result) ≡ true }
 {
     let Some(path) = path else {
-        return OutState::NotCreated;
+        return OutState::Refused(OutFault::NotCreated);
     };
-    created.note(path.as_bytes());
-    match fs::create(files, path) {
-        Ok(file) => OutState::Created(file),
-        Err(_) => OutState::NotCreated,
+    match begun(alloc, files, process, path, replaces, calls) {
+        Ok(state) => state,
+        Err(fault) => OutState::Refused(fault),
     }
 }
 
-/// Writes some first bytes, and says how many: `None` where the file does not take any.
+/// Begins OUT where no bytes came before.
+fn begin<F: Files>(
+    alloc: Global,
+    files: &F,
+    process: u32,
+    path: &Option<String>,
+    replaces: Replaces,
+    state: &mut OutState<F::File>,
+    calls: &mut FileCalls,
+)
+    ensures so_far { IsSoFar (option_map string_bytes path.now) (stage_of state.old) calls.old.entries
+        → IsSoFar (option_map string_bytes path.now) (stage_of state.new) calls.new.entries }
+    ensures bytes { (has_calls (stage_of state.old) ≡ false → calls.old.entries ≡ [])
+        → bytes_in calls.new.entries ≡ bytes_in calls.old.entries }
+    ensures empty { (has_calls (stage_of state.old) ≡ false → calls.old.entries ≡ [])
+        → has_calls (stage_of state.new) ≡ false → calls.new.entries ≡ [] }
+    ensures settled { is_settled (stage_of state.new) ≡ is_settled (stage_of state.old) }
+{
+    if let OutState::Untouched = state {
+        *state = first_state(alloc, files, process, path, replaces, calls);
+    }
+}
+
+/// Writes some first bytes, and says how many: `None` where no file takes any.
 fn write<T: Write>(state: &mut OutState<T>, bytes: &[u8]) -> Option<usize>
     ensures bound { IfSome result (λ n. n ≤ length bytes.now) }
-    ensures untouched { is_untouched state.new ≡ is_untouched state.old }
-    ensures created { IsSome result → is_created state.new ≡ true }
-    ensures given_up { is_not_created state.new ≡ is_not_created state.old }
+    ensures stage { stage_of state.new ≡ stage_of state.old }
+    ensures takes { IsSome result → takes_bytes (stage_of state.new) ≡ true }
 {
     match state {
-        OutState::Created(file) => file.write(bytes).ok(),
-        _ => None,
+        OutState::Through(file) => file.write(bytes).ok(),
+        OutState::Drafted(draft) => draft.file.write(bytes).ok(),
+        OutState::Untouched | OutState::Refused(_) | OutState::Removed | OutState::Settled => None,
+    }
+}
+
+/// Puts what was written in place, and tells whether that was done. A draft that could not be put there is removed.
+fn finish<F: Files>(files: &F, state: &mut OutState<F::File>, calls: &mut FileCalls) -> bool
+    ensures placed { result ≡ true → (path : Option (List ℕ)) → IsSoFar path (stage_of state.old) calls.old.entries
+        → HandsOn path calls.new.entries }
+    ensures settled { result ≡ true → stage_of state.new ≡ Settled }
+    ensures was_open { result ≡ true → is_settled (stage_of state.old) ≡ false }
+    ensures refused { result ≡ false → (path : Option (List ℕ)) → IsSoFar path (stage_of state.old) calls.old.entries
+        → IsSoFar path (stage_of state.new) calls.new.entries }
+    ensures same { result ≡ false → is_settled (stage_of state.new) ≡ is_settled (stage_of state.old) }
+    ensures bytes { bytes_in calls.new.entries ≡ bytes_in calls.old.entries }
+    ensures same_calls { result ≡ false
+        → (is_drafted (stage_of state.old) ≡ true) ⊎ (calls.new.entries ≡ calls.old.entries) }
+    ensures has_calls { result ≡ false → has_calls (stage_of state.new) ≡ has_calls (stage_of state.old) }
+{
+    match mem::replace(state, OutState::Settled) {
+        OutState::Through(_) => true,
+        OutState::Drafted(draft) => {
+            let placed = put_draft(files, &draft, calls);
+            if !placed {
+                *state = OutState::Refused(OutFault::NotReplaced);
+            }
+            placed
+        }
+        other => {
+            *state = other;
+            false
+        }
+    }
+}
+
+/// Removes the draft of an output that was not put in place.
+fn remove<F: Files>(files: &F, state: &mut OutState<F::File>, calls: &mut FileCalls)
+    ensures so_far { (path : Option (List ℕ)) → IsSoFar path (stage_of state.old) calls.old.entries
+        → IsSoFar path (stage_of state.new) calls.new.entries }
+    ensures removed { (path : Option (List ℕ)) → IsSoFar path (stage_of state.old) calls.old.entries
+        → IsRemoved path calls.new.entries }
+    ensures bytes { bytes_in calls.new.entries ≡ bytes_in calls.old.entries }
+    ensures same_calls { (is_drafted (stage_of state.old) ≡ true) ⊎ (calls.new.entries ≡ calls.old.entries) }
+    ensures has_calls { has_calls (stage_of state.new) ≡ has_calls (stage_of state.old) }
+    ensures settled { is_settled (stage_of state.new) ≡ is_settled (stage_of state.old) }
+    ensures fault { fault_of (stage_of state.new) ≡ fault_of (stage_of state.old) }
+{
+    match mem::replace(state, OutState::Removed) {
+        OutState::Drafted(draft) => remove_draft(files, &draft, calls),
+        other => *state = other,
     }
 }
 
 impl<'a, F: Files> OutFile<'a, F> {
-    /// A file without a path, which is never created.
-    pub fn new(files: &'a F) -> Self
+    /// A file without a path, which is never begun. Drafts are named for this process.
+    pub fn new(alloc: Global, files: &'a F, process: u32) -> Self
         ensures path { result.path ≡ None }
-        ensures untouched { is_untouched result.state ≡ true }
-        ensures created { result.created.entries ≡ [] }
+        ensures untouched { stage_of result.state ≡ Untouched }
+        ensures unfailed { result.failures ≡ 0 }
+        ensures calls { result.calls.entries ≡ [] }
     {
         OutFile {
+            alloc,
             files,
+            process,
             path: None,
+            replaces: Replaces::OwnFiles,
             state: OutState::Untouched,
             failures: 0,
-            given: CallLog::new(),
-            created: CallLog::new(),
+            calls: FileCalls::new(),
         }
     }
 
-    /// Takes a path.
-    pub fn take_path(&mut self, path: String)
-        requires { is_untouched self.old.state ≡ true }
+    /// Takes a path, and which files that are there may be replaced.
+    pub fn take_path(&mut self, path: String, replaces: Replaces)
+        requires { stage_of self.old.state ≡ Untouched }
         ensures path { self.new.path ≡ Some path }
         ensures state { self.new.state ≡ self.old.state }
+        ensures failures { self.new.failures ≡ self.old.failures }
+        ensures calls { self.new.calls ≡ self.old.calls }
     {
         self.path = Some(path);
+        self.replaces = replaces;
     }
 
     /// The files of the system.
@@ -119,11 +232,50 @@ impl<'a, F: Files> OutFile<'a, F> {
         self.files
     }
 
-    /// Whether bytes came and the file could not be created.
-    pub fn is_not_created(&self) -> bool
-        ensures { result ≡ is_not_created self.now.state }
+    /// Why it was not begun, or not put in place, if it was not.
+    pub fn fault(&self) -> Option<OutFault>
+        ensures { result ≡ fault_of (stage_of self.now.state) }
     {
-        matches!(self.state, OutState::NotCreated)
+        match self.state {
+            OutState::Refused(fault) => Some(fault),
+            _ => None,
+        }
+    }
+
+    /// Puts what was written in place, and hands on what was called for it. A draft that could not be put there is
+    /// removed.
+    pub fn settle(&mut self) -> Option<Placed>
+        ensures placed { IfSome result (λ placed.
+            (Some (string_bytes placed.path) ≡ option_map string_bytes self.old.path)
+            × (bytes_in placed.calls.entries ≡ bytes_in self.old.calls.entries)
+            × (is_settled (stage_of self.old.state) ≡ false)) }
+        ensures settled { IsSome result → stage_of self.new.state ≡ Settled }
+        ensures kept { result ≡ None
+            → (self.new.path ≡ self.old.path)
+            × (bytes_in self.new.calls.entries ≡ bytes_in self.old.calls.entries)
+            × (is_settled (stage_of self.new.state) ≡ is_settled (stage_of self.old.state)) }
+        ensures failures { self.new.failures ≡ self.old.failures }
+    {
+        if !finish(self.files, &mut self.state, &mut self.calls) {
+            return None;
+        }
+        let calls = mem::replace(&mut self.calls, FileCalls::new());
+        match mem::replace(&mut self.path, None) {
+            Some(path) => Some(Placed { path, calls }),
+            None => unreachable!(),
+        }
+    }
+
+    /// Removes the draft of an output that was not put in place.
+    pub fn discard(&mut self)
+        ensures removed { ∥ IsRemoved (option_map string_bytes self.new.path) self.new.calls.entries ∥₁ }
+        ensures path { self.new.path ≡ self.old.path }
+        ensures bytes { bytes_in self.new.calls.entries ≡ bytes_in self.old.calls.entries }
+        ensures failures { self.new.failures ≡ self.old.failures }
+        ensures settled { is_settled (stage_of self.new.state) ≡ is_settled (stage_of self.old.state) }
+        ensures fault { fault_of (stage_of self.new.state) ≡ fault_of (stage_of self.old.state) }
+    {
+        remove(self.files, &mut self.state, &mut self.calls);
     }
 }
 
@@ -132,23 +284,25 @@ impl<'a, F: Files> Sink for OutFile<'a, F> {
     ghost use Rattle.std.specs.Io.KnownBytes.{WriteAppends};
     ghost use Rattle.byte_device.specs.Devices.{CountsFailure, most_failures};
 
-    ghost held = { λ s. Some (account (option_map string_bytes s.path) s.given.entries) };
+    ghost held = { λ s. Some (draft_account (is_settled (stage_of s.state)) (option_map string_bytes s.path)
+        s.calls.entries) };
 
     ghost failures = { λ s. s.failures };
 
     fn push(&mut self, bytes: &[u8]) -> Result<usize, Failed>
         ensures bound { IfOk result (λ n. n ≤ length bytes.now) }
         ensures some { 0 < length bytes.now → IfOk result (λ n. 0 < n) }
-        ensures bytes { WriteAppends (Some (account (option_map string_bytes self.old.path) self.old.given.entries))
-            (Some (account (option_map string_bytes self.new.path) self.new.given.entries)) result bytes.now }
+        ensures bytes { WriteAppends
+            (Some (draft_account (is_settled (stage_of self.old.state)) (option_map string_bytes self.old.path)
+            self.old.calls.entries))
+            (Some (draft_account (is_settled (stage_of self.new.state)) (option_map string_bytes self.new.path)
+            self.new.calls.entries)) result bytes.now }
         ensures count { CountsFailure self.old.failures self.new.failures result }
 
-        // No bytes create no file. What takes bytes is a file that was created, and one that could not be created stays
-        // so.
+        // No bytes begin nothing, and what was not begun or not put in place stays so.
         ensures path { self.new.path ≡ self.old.path }
         ensures empty { bytes.now ≡ [] → self.new.state ≡ self.old.state }
-        ensures created { IfOk result (λ n. 0 < n → is_created self.new.state ≡ true) }
-        ensures given_up { is_not_created self.old.state ≡ true → is_not_created self.new.state ≡ true }
+        ensures taken { IfOk result (λ n. 0 < n → takes_bytes (stage_of self.new.state) ≡ true) }
     {
         if self.failures == MOST_FAILURES {
             return Err(Failed);
@@ -156,10 +310,18 @@ impl<'a, F: Files> Sink for OutFile<'a, F> {
         if bytes.is_empty() {
             return Ok(0);
         }
-        create(self.files, &self.path, &mut self.state, &mut self.created);
+        begin(
+            self.alloc,
+            self.files,
+            self.process,
+            &self.path,
+            self.replaces,
+            &mut self.state,
+            &mut self.calls,
+        );
         match write(&mut self.state, bytes) {
             Some(n) if n > 0 => {
-                self.given.note(&bytes[..n]);
+                self.calls.writes(&bytes[..n]);
                 Ok(n)
             }
             _ => {

@@ -1,12 +1,16 @@
 //! The files of the system in one command: those that it reads, and OUT.
 
-ghost use Rattle.std.specs.Prelude.{◌≡◌, [], OnOk, Some, map, option_map, string_bytes, true};
-ghost use Rattle.archive_files.specs.OutFiles.{AreFresh, IsPath, is_untouched};
+ghost use Rattle.std.specs.Prelude.{◌≡◌, [], None, OnOk, Some, map, option_map, string_bytes};
+ghost use Rattle.archive_files.specs.OutFiles.{AreFresh, Untouched, stage_of};
+ghost use Rattle.archive_files.specs.Placing.{IsPath};
 
 use crate::call_log::CallLog;
 use crate::identities::are_other_files;
 use crate::out_file::OutFile;
+use crate::out_path::OutPath;
+use crate::replaceable::Replaces;
 use crate::system_disk::SystemDisk;
+use command_ends::Output;
 use memory::NoMemory;
 use std::alloc::Global;
 use std::rt::Files;
@@ -15,7 +19,7 @@ use std::rt::Files;
 #[derive(Drop)]
 pub struct SystemFiles<'a, F: Files> {
     pub disk: SystemDisk<'a, F>,
-    pub out: OutFile<'a, F>,
+    pub out: Output<OutFile<'a, F>, OutPath<'a, F>>,
     /// The inputs that were found to be other files than OUT's.
     pub others: CallLog,
     /// The input that was found to be OUT's own file.
@@ -23,33 +27,42 @@ pub struct SystemFiles<'a, F: Files> {
 }
 
 impl<'a, F: Files> SystemFiles<'a, F> {
-    /// Files of which none was opened or created.
-    pub fn new(alloc: Global, files: &'a F) -> Self
+    /// Files of which none was opened or created. Drafts are named for this process.
+    pub fn new(alloc: Global, files: &'a F, process: u32) -> Self
         ensures opened { result.disk.opened.entries ≡ [] }
         ensures fresh { AreFresh result.others.entries result.same.entries
-            (option_map string_bytes result.out.path) result.out.state result.out.created.entries }
+            (option_map string_bytes result.out.draft.path) result.out.draft.state result.out.draft.failures
+            result.out.draft.calls.entries result.out.target.placed }
     {
         SystemFiles {
             disk: SystemDisk::new(alloc, files),
-            out: OutFile::new(files),
+            out: Output {
+                draft: OutFile::new(alloc, files, process),
+                target: OutPath::new(files),
+            },
             others: CallLog::new(),
             same: CallLog::new(),
         }
     }
 
-    /// Takes OUT's path. Where it names the same regular file as one of the inputs, OUT will not be created, since that
-    /// input would be lost with OUT's first byte.
-    pub fn begin(&mut self, path: &str, inputs: &[&str]) -> Result<(), NoMemory>
+    /// Takes OUT's path, and which files that are there may be replaced. Where it names the same regular file as one of
+    /// the inputs, OUT will not be created, since that input would be lost.
+    pub fn begin(&mut self, path: &str, inputs: &[&str], replaces: Replaces) -> Result<(), NoMemory>
         requires { AreFresh self.old.others.entries self.old.same.entries
-            (option_map string_bytes self.old.out.path) self.old.out.state self.old.out.created.entries }
+            (option_map string_bytes self.old.out.draft.path) self.old.out.draft.state self.old.out.draft.failures
+            self.old.out.draft.calls.entries self.old.out.target.placed }
         ensures opened { self.new.disk.opened.entries ≡ self.old.disk.opened.entries }
         ensures path { OnOk result (IsPath (Some path.now) (map (λ p. p.now) inputs.now) self.new.others.entries
-            self.new.same.entries (option_map string_bytes self.new.out.path)) }
-        ensures untouched { is_untouched self.new.out.state ≡ true }
+            self.new.same.entries (option_map string_bytes self.new.out.draft.path)) }
+        ensures untouched { stage_of self.new.out.draft.state ≡ Untouched }
+        ensures unfailed { self.new.out.draft.failures ≡ 0 }
+        ensures calls { self.new.out.draft.calls.entries ≡ [] }
+        ensures placed { self.new.out.target.placed ≡ None }
     {
-        let files = self.out.files();
+        let files = self.out.draft.files();
         if are_other_files(files, path, inputs, &mut self.others, &mut self.same) {
-            self.out.take_path(String::from_str(self.disk.alloc, path)?);
+            let path = String::from_str(self.disk.alloc, path)?;
+            self.out.draft.take_path(path, replaces);
         }
         Ok(())
     }

@@ -16,3 +16,4 @@ pub mod ListTold
 pub mod FindTold
 pub mod FramesTold
 pub mod OneRehearsal
+pub mod Crashes

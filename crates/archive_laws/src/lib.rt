@@ -9,7 +9,8 @@
 //! - [`admit_laws`], [`retire_laws`], [`merge_laws`], [`migrate_laws`], [`apply_laws`], [`find_laws`], [`list_laws`],
 //!   [`name_laws`], [`symbolicate_laws`], [`frames_laws`], [`exchange_laws`], [`rehearse_laws`]: what the definitions
 //!   of the commands say in the words of their user;
-//! - [`outcome_laws`]: what a command makes of accepted inputs is one OUT and one report.
+//! - [`outcome_laws`]: what a command makes of accepted inputs is one OUT and one report;
+//! - [`out_laws`]: what a crash leaves at OUT's path.
 #![tactic(auto)]
 
 pub mod admit_laws;
@@ -23,6 +24,7 @@ pub mod list_laws;
 pub mod merge_laws;
 pub mod migrate_laws;
 pub mod name_laws;
+pub mod out_laws;
 pub mod outcome_laws;
 pub mod rehearse_laws;
 pub mod retire_laws;

@@ -9,12 +9,14 @@ ghost use Rattle.command_ends.specs.Ends.{Ends};
 ghost use Rattle.command_ends.specs.Inputs.{EachUnfailed, Holds, IsAccepted, IsFileRefused};
 ghost use Rattle.command_ends.specs.Inputs.{IsFirstRefused, IsRefusal, IsRefusedBytes};
 ghost use Rattle.command_ends.specs.Inputs.{IsRefusedFile, Unfailed, reader, readers};
-ghost use Rattle.command_ends.specs.Outputs.{writer};
+ghost use Rattle.command_ends.specs.Outputs.{out_of, outs, writer};
 
 use admission::{TakeFault, Taken, take_file};
 use archive_core::Archive;
 use byte_device::{CannotOpen, Sink, Source};
-use command_ends::{CommandFault, Place, Status, Why, publish, read_file, read_input};
+use command_ends::{
+    CommandFault, Output, Place, Status, Target, Why, publish, read_file, read_input,
+};
 use memory::{Heap, NoMemory};
 use report_text::{AdmitRow, admit_lines};
 
@@ -109,16 +111,17 @@ fn admit_files<A: Archive, S: Source>(
 /// # Errors
 ///
 /// `Input` for the first input that is refused; `Output` and `Report` where that writer failed; `OutOfMemory`.
-pub fn run_admit<A: Archive + Drop, R: Source, S: Source, W: Sink, P: Sink>(
+pub fn run_admit<A: Archive + Drop, R: Source, S: Source, T: Target, P: Sink>(
     heap: Heap,
     input: &mut Result<R, CannotOpen>,
     files: &mut [Result<S, CannotOpen>],
-    out: &mut W,
+    out: &mut Output<T::Draft, T>,
     report: &mut P,
 ) -> Result<Status, CommandFault>
     ensures { Ends
         (admit (reader R.left R.failures input.old input.new) (readers S.left S.failures files.old files.new))
-        (writer W.held W.failures out.old out.new) (writer P.held P.failures report.old report.new) result }
+        (out_of (outs T.Draft.held T.Draft.failures T.placed T.failures out.old out.new))
+        (writer P.held P.failures report.old report.new) result }
 {
     let mut archive: A = read_input(heap.clone()?, 0, input)?;
     let rows = admit_files(&heap, &mut archive, files)?;

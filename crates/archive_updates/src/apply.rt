@@ -2,11 +2,11 @@
 ghost use Rattle.archive_updates.specs.Apply.{apply};
 ghost use Rattle.command_ends.specs.Ends.{Ends};
 ghost use Rattle.command_ends.specs.Inputs.{reader};
-ghost use Rattle.command_ends.specs.Outputs.{writer};
+ghost use Rattle.command_ends.specs.Outputs.{out_of, outs, writer};
 
 use archive_core::Archive;
 use byte_device::{CannotOpen, Sink, Source};
-use command_ends::{CommandFault, Status, publish, read_input, read_operations};
+use command_ends::{CommandFault, Output, Status, Target, publish, read_input, read_operations};
 use memory::Heap;
 use report_text::apply_line;
 use sorted_archive::take_each;
@@ -18,15 +18,16 @@ use sorted_archive::take_each;
 /// # Errors
 ///
 /// `Input` for the first input that is refused; `Output` and `Report` where that writer failed; `OutOfMemory`.
-pub fn run_apply<A: Archive + Drop, R: Source, S: Source, W: Sink, P: Sink>(
+pub fn run_apply<A: Archive + Drop, R: Source, S: Source, T: Target, P: Sink>(
     heap: Heap,
     input: &mut Result<R, CannotOpen>,
     ops: &mut Result<S, CannotOpen>,
-    out: &mut W,
+    out: &mut Output<T::Draft, T>,
     report: &mut P,
 ) -> Result<Status, CommandFault>
     ensures { Ends (apply (reader R.left R.failures input.old input.new) (reader S.left S.failures ops.old ops.new))
-        (writer W.held W.failures out.old out.new) (writer P.held P.failures report.old report.new) result }
+        (out_of (outs T.Draft.held T.Draft.failures T.placed T.failures out.old out.new))
+        (writer P.held P.failures report.old report.new) result }
 {
     let mut archive: A = read_input(heap.clone()?, 0, input)?;
     let operations = read_operations(heap.clone()?, ops)?;

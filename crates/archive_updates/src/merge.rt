@@ -8,14 +8,15 @@ ghost use Rattle.command_ends.specs.Inputs.{HoldsArchive};
 ghost use Rattle.command_ends.specs.Inputs.{IsRefusal, IsRefusedArchive, Unfailed, reader, readers};
 ghost use Rattle.archive_updates.specs.Merge.{HasJoined, file_place, merge};
 ghost use Rattle.archive_updates.specs.MergeStreams.{EndsMerge, EndsOfOne, EndsStreamed, IsMergeFaultTold};
-ghost use Rattle.command_ends.specs.Outputs.{writer};
+ghost use Rattle.command_ends.specs.Outputs.{out_of, outs, writer};
 ghost use Rattle.byte_device.specs.Devices.{stream};
 
 use archive_core::{Archive, take_all};
 use archive_records::{MergeCause, MergeFault};
 use byte_device::{CannotOpen, Sink, Source};
 use command_ends::{
-    CommandFault, Place, Status, opened, publish, publish_report, read_input, refusal,
+    CommandFault, Output, Place, Status, Target, opened, publish, publish_report, put_in_place,
+    read_input, refusal,
 };
 use memory::Heap;
 use record_merge::merge_streams;
@@ -62,16 +63,17 @@ fn join_files<A: Archive + Drop, S: Source>(
 
 /// Writes the join of IN's archive with that of each file to OUT, and its sizes to the report. Each is read to its end
 /// before anything is written.
-fn merge_values<A: Archive + Drop, R: Source, S: Source, W: Sink, P: Sink>(
+fn merge_values<A: Archive + Drop, R: Source, S: Source, T: Target, P: Sink>(
     heap: Heap,
     input: &mut Result<R, CannotOpen>,
     files: &mut [Result<S, CannotOpen>],
-    out: &mut W,
+    out: &mut Output<T::Draft, T>,
     report: &mut P,
 ) -> Result<Status, CommandFault>
     ensures { Ends
         (merge (reader R.left R.failures input.old input.new) (readers S.left S.failures files.old files.new))
-        (writer W.held W.failures out.old out.new) (writer P.held P.failures report.old report.new) result }
+        (out_of (outs T.Draft.held T.Draft.failures T.placed T.failures out.old out.new))
+        (writer P.held P.failures report.old report.new) result }
 {
     let mut archive: A = read_input(heap.clone()?, 0, input)?;
     join_files(&heap, &mut archive, files)?;
@@ -90,34 +92,37 @@ fn command_fault_of(fault: MergeFault) -> CommandFault
 }
 
 /// Merges two archives into OUT as they come, and writes the sizes to the report.
-fn merge_opened<R: Source, S: Source, W: Sink, P: Sink>(
+fn merge_opened<R: Source, S: Source, T: Target, P: Sink>(
     heap: Heap,
     left: &mut R,
     right: &mut S,
-    out: &mut W,
+    out: &mut Output<T::Draft, T>,
     report: &mut P,
 ) -> Result<Status, CommandFault>
     ensures { EndsStreamed (stream R.left R.failures left.old left.new) (stream S.left S.failures right.old right.new)
-        (stream W.held W.failures out.old out.new) (writer P.held P.failures report.old report.new) result }
+        (outs T.Draft.held T.Draft.failures T.placed T.failures out.old out.new)
+        (writer P.held P.failures report.old report.new) result }
 {
-    let sizes = match merge_streams(&heap, left, right, out) {
+    let sizes = match merge_streams(&heap, left, right, &mut out.draft) {
         Ok(sizes) => sizes,
         Err(fault) => return Err(command_fault_of(fault)),
     };
     let text = with_sizes(String::new(heap), sizes)?;
+    put_in_place(out, sizes.bytes)?;
     publish_report(Status::Done, &text, report)
 }
 
 /// Merges IN and the one file, if both were opened.
-fn merge_one<R: Source, S: Source, W: Sink, P: Sink>(
+fn merge_one<R: Source, S: Source, T: Target, P: Sink>(
     heap: Heap,
     input: &mut Result<R, CannotOpen>,
     file: &mut Result<S, CannotOpen>,
-    out: &mut W,
+    out: &mut Output<T::Draft, T>,
     report: &mut P,
 ) -> Result<Status, CommandFault>
     ensures { EndsOfOne (reader R.left R.failures input.old input.new) (reader S.left S.failures file.old file.new)
-        (stream W.held W.failures out.old out.new) (writer P.held P.failures report.old report.new) result }
+        (outs T.Draft.held T.Draft.failures T.placed T.failures out.old out.new)
+        (writer P.held P.failures report.old report.new) result }
 {
     let left = opened(input, Place::Archive(0))?;
     let right = opened(file, Place::Archive(1))?;
@@ -131,22 +136,23 @@ fn merge_one<R: Source, S: Source, W: Sink, P: Sink>(
 /// # Errors
 ///
 /// `Input` for the first archive that is refused, IN being archive 0 and the first file archive 1; with one file for
-/// the first that cannot be opened, or else the one that stops their merge, behind bytes in OUT that are no archive.
+/// the first that cannot be opened, or else the one that stops their merge.
 /// `Output` and `Report` where that writer failed; `OutOfMemory`.
-pub fn run_merge<A: Archive + Drop, R: Source, S: Source, W: Sink, P: Sink>(
+pub fn run_merge<A: Archive + Drop, R: Source, S: Source, T: Target, P: Sink>(
     heap: Heap,
     input: &mut Result<R, CannotOpen>,
     files: &mut [Result<S, CannotOpen>],
-    out: &mut W,
+    out: &mut Output<T::Draft, T>,
     report: &mut P,
 ) -> Result<Status, CommandFault>
     ensures { EndsMerge
         (reader R.left R.failures input.old input.new) (readers S.left S.failures files.old files.new)
-        (stream W.held W.failures out.old out.new) (writer P.held P.failures report.old report.new) result }
+        (outs T.Draft.held T.Draft.failures T.placed T.failures out.old out.new)
+        (writer P.held P.failures report.old report.new) result }
 {
     if files.len() == 1 {
         merge_one(heap, input, &mut files[0], out, report)
     } else {
-        merge_values::<A, R, S, W, P>(heap, input, files, out, report)
+        merge_values::<A, R, S, T, P>(heap, input, files, out, report)
     }
 }

@@ -2,11 +2,11 @@
 ghost use Rattle.std.specs.Prelude.{[]};
 ghost use Rattle.std.specs.FinSet as set;
 ghost use Rattle.archive_records.specs.Text.{written};
-ghost use Rattle.command_ends.specs.Outputs.{Publishes, report_of, writer};
+ghost use Rattle.command_ends.specs.Outputs.{Publishes, out_of, outs, report_of, writer};
 
 use archive_core::Archive;
 use byte_device::Sink;
-use command_ends::{CommandFault, Status, publish};
+use command_ends::{CommandFault, Output, Status, Target, publish};
 use memory::Heap;
 
 /// Writes the empty archive to OUT, and its sizes to the report.
@@ -14,12 +14,13 @@ use memory::Heap;
 /// # Errors
 ///
 /// `Output`, `Report` and `OutOfMemory`.
-pub fn run_new<A: Archive + Drop, W: Sink, P: Sink>(
+pub fn run_new<A: Archive + Drop, T: Target, P: Sink>(
     heap: Heap,
-    out: &mut W,
+    out: &mut Output<T::Draft, T>,
     report: &mut P,
 ) -> Result<Status, CommandFault>
-    ensures { Publishes (writer W.held W.failures out.old out.new) (writer P.held P.failures report.old report.new)
+    ensures { Publishes (out_of (outs T.Draft.held T.Draft.failures T.placed T.failures out.old out.new))
+        (writer P.held P.failures report.old report.new)
         (written set.empty) (report_of set.empty []) result }
 {
     let archive = A::empty(heap.clone()?);

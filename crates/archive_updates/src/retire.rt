@@ -4,12 +4,12 @@ ghost use Rattle.archive_core.specs.Content.{with_record, changes};
 ghost use Rattle.archive_core.specs.Record.{retirement_record};
 ghost use Rattle.command_ends.specs.Ends.{Ends};
 ghost use Rattle.command_ends.specs.Inputs.{reader};
-ghost use Rattle.command_ends.specs.Outputs.{writer};
+ghost use Rattle.command_ends.specs.Outputs.{out_of, outs, writer};
 ghost use Rattle.archive_updates.specs.Retire.{retire};
 
 use archive_core::{Archive, Digest, Operation, SliceKey};
 use byte_device::{CannotOpen, Sink, Source};
-use command_ends::{CommandFault, Status, publish, read_input};
+use command_ends::{CommandFault, Output, Status, Target, publish, read_input};
 use memory::{Heap, NoMemory};
 use report_text::retire_line;
 
@@ -34,16 +34,17 @@ fn take_retirement<A: Archive>(
 /// # Errors
 ///
 /// `Input` where the archive is refused; `Output` and `Report` where that writer failed; `OutOfMemory`.
-pub fn run_retire<A: Archive + Drop, R: Source, W: Sink, P: Sink>(
+pub fn run_retire<A: Archive + Drop, R: Source, T: Target, P: Sink>(
     heap: Heap,
     input: &mut Result<R, CannotOpen>,
     key: SliceKey,
     digest: Digest,
-    out: &mut W,
+    out: &mut Output<T::Draft, T>,
     report: &mut P,
 ) -> Result<Status, CommandFault>
     ensures { Ends (retire (reader R.left R.failures input.old input.new) key digest)
-        (writer W.held W.failures out.old out.new) (writer P.held P.failures report.old report.new) result }
+        (out_of (outs T.Draft.held T.Draft.failures T.placed T.failures out.old out.new))
+        (writer P.held P.failures report.old report.new) result }
 {
     let mut archive: A = read_input(heap.clone()?, 0, input)?;
     let changed = take_retirement(&mut archive, key, digest)?;

@@ -1,10 +1,12 @@
 //! Devices that fail where they are asked as no device has to be: for no byte, or again after the end; or are given
-//! none.
+//! none. And a place for a text.
 
-ghost use Rattle.std.specs.Prelude.{◌≡◌, ◌<◌, Some, []};
+ghost use Rattle.std.specs.Prelude.{◌≡◌, ◌<◌, None, Some, [], false, if◌then◌else◌};
 
 use byte_device::{Failed, Pieces, Short, Sink, Source};
+use command_ends::Target;
 use memory::Heap;
+use std::mem;
 
 /// The bytes of a file, a few at a time, once.
 #[derive(Drop)]
@@ -73,6 +75,71 @@ impl StrictSink {
         ensures { ⟦<StrictSink as Sink>⟧.held self.now ≡ Some result.now }
     {
         self.bytes.as_slice()
+    }
+
+    /// Exchanges what it holds.
+    fn exchange(&mut self, bytes: &mut Short)
+        ensures held { ⟦<StrictSink as Sink>⟧.held self.new ≡ ⟦<Short as Sink>⟧.held bytes.old }
+        ensures bytes { ⟦<Short as Sink>⟧.held bytes.new ≡ ⟦<StrictSink as Sink>⟧.held self.old }
+        ensures failures { self.new.failures ≡ self.old.failures }
+    {
+        mem::swap(&mut self.bytes, bytes);
+    }
+}
+
+/// A place in memory, at which a text is put once.
+#[derive(Drop)]
+pub struct Shelf {
+    bytes: Short,
+    is_open: bool,
+    is_placed: bool,
+    failures: u64,
+    // There is no byte before.
+    ghost empty: { is_placed ≡ false → ⟦<Short as Sink>⟧.held bytes ≡ Some [] },
+}
+
+impl Shelf {
+    /// A place at which nothing is, and at which only what is open can be put.
+    pub fn new(heap: Heap, is_open: bool) -> Self
+        ensures placed { ⟦<Shelf as Target>⟧.placed result ≡ None }
+        ensures failures { ⟦<Shelf as Target>⟧.failures result ≡ 0 }
+    {
+        Shelf {
+            bytes: Short::new(heap, 0),
+            is_open,
+            is_placed: false,
+            failures: 0,
+        }
+    }
+
+    /// What was put there.
+    pub fn placed(&self) -> Option<&[u8]> {
+        if self.is_placed {
+            Some(self.bytes.as_slice())
+        } else {
+            None
+        }
+    }
+}
+
+impl Target for Shelf {
+    type Draft = StrictSink;
+
+    ghost placed = { λ s. if s.is_placed then ⟦<Short as Sink>⟧.held s.bytes else None };
+
+    ghost failures = { λ s. s.failures };
+
+    fn place(&mut self, draft: &mut StrictSink) -> Result<(), Failed> {
+        if self.failures == u64::MAX {
+            return Err(Failed);
+        }
+        if !self.is_open || self.is_placed {
+            self.failures += 1;
+            return Err(Failed);
+        }
+        draft.exchange(&mut self.bytes);
+        self.is_placed = true;
+        Ok(())
     }
 }
 

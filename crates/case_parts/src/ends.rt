@@ -46,6 +46,10 @@ impl fmt::Display for End {
                     Ok(_) => write!(f, "status {status}"),
                     Err(Failure::Command(fault)) => write!(f, "status {status}, {fault}"),
                     Err(Failure::CannotCreate(fault)) => write!(f, "status {status}, {fault}"),
+                    Err(Failure::CannotReplace) => write!(
+                        f,
+                        "status {status}, output: cannot replace"
+                    ),
                 }
             }
             End::Given => f.write_str("given"),
@@ -58,7 +62,10 @@ impl fmt::Display for End {
 #[derive(Drop)]
 pub struct Left {
     pub end: End,
+    /// What was put in OUT's place, or else what its draft has.
     pub out: Vec<u8>,
+    /// Whether it is in place.
+    pub is_in_place: bool,
     /// The report of a command, or the lines that a call gives.
     pub report: Vec<u8>,
 }
@@ -66,17 +73,23 @@ pub struct Left {
 impl Left {
     /// Whether another case left the same.
     pub fn is_as(&self, other: &Left) -> bool {
-        self.end == other.end && self.out == other.out && self.report == other.report
+        self.end == other.end
+            && self.out == other.out
+            && self.is_in_place == other.is_in_place
+            && self.report == other.report
     }
 
-    /// Whether this may be left where memory is wanting, beside what is left where it is not: of a command no report,
-    /// and nothing in OUT or all of it, or any beginning where it writes as it reads; of a call the first of its lines.
+    /// Whether this may be left where memory is wanting, beside what is left where it is not: of a command no report
+    /// and nothing in place, and in OUT's draft nothing or the whole text, or any beginning where it writes as it reads;
+    /// of a call the first of its lines.
     pub fn may_want_memory(&self, whole: &Left, writes_as_it_reads: bool) -> bool {
         match self.end {
             End::Given | End::Fault(_) => whole.report.starts_with(&self.report),
             End::Command(_) => {
                 let begun = writes_as_it_reads && whole.out.starts_with(&self.out);
-                self.report.is_empty() && (begun || self.out.is_empty() || self.out == whole.out)
+                self.report.is_empty()
+                    && !self.is_in_place
+                    && (begun || self.out.is_empty() || self.out == whole.out)
             }
         }
     }

@@ -41,7 +41,7 @@ pub use archives::{
     read, tell_beside, tell_each_taking, tell_front, tell_merging, tell_operations, tell_summary,
     tell_whole, text_of,
 };
-pub use devices::{StrictSink, StrictSource};
+pub use devices::{Shelf, StrictSink, StrictSource};
 pub use ends::{End, Left};
 pub use faults::{CallFault, CaseFault, Ended};
 pub use growths::{tell_room, tell_room_of_bytes};

@@ -34,6 +34,8 @@ pub struct Limits<'t> {
     pub opened: u64,
     /// How many bytes OUT takes before it fails.
     pub out: usize,
+    /// Whether OUT can be put in place.
+    pub places: bool,
     /// How many bytes the report takes before it fails.
     pub report: usize,
     /// A file that ends early.
@@ -49,6 +51,7 @@ impl Limits<'_> {
         bytes: u64::MAX,
         opened: u64::MAX,
         out: usize::MAX,
+        places: true,
         report: usize::MAX,
         cut: None,
         read: None,

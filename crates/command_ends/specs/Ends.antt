@@ -7,7 +7,7 @@ use Rattle.command_ends.specs.declared.faults.CommandFault.TheVariants.{Input, O
 use Rattle.command_ends.specs.declared.faults.Place.{Place}
 use Rattle.command_ends.specs.declared.faults.Status.{Status}
 use Rattle.command_ends.specs.declared.faults.Why.{Why}
-use Rattle.command_ends.specs.Outputs.{Writer, Takes, Publishes, Reports, report_of}
+use Rattle.command_ends.specs.Outputs.{Out, Writer, IsKept, Takes, Publishes, Reports, report_of}
 
 -- A command that writes OUT, with its inputs: the text of OUT and that of the report that accepted inputs make, which
 -- input is refused, and why, and that no reader fails.
@@ -30,23 +30,23 @@ MakeOne Makes Others = (text told other other_told : List ℕ) → Makes text to
     → (text ≡ other) × (told ≡ other_told)
 
 -- The inputs are accepted, and what they make is published.
-pub record Carries (Makes : List ℕ → List ℕ → Type 0) (out report : Writer)
+pub record Carries (Makes : List ℕ → List ℕ → Type 0) (out : Out) (report : Writer)
     (result : Result Status CommandFault) : Type 0 where
   pub text : List ℕ
   pub told : List ℕ
   pub makes : Makes text told
   pub published : Publishes out report text told result
 
--- How a command ends. An input is refused, and nothing is written; or the inputs are accepted, and what they make is
--- published, wholly or up to where a writer failed. Where memory is wanting, OUT has nothing or the whole text, and the
--- report nothing. Where no input is refused, no reader fails.
-abbrev pub Ends : Command → Writer → Writer → Result Status CommandFault → Type 0
+-- How a command ends. An input is refused, and OUT is kept; or the inputs are accepted, and what they make is published:
+-- put in OUT's place and told, or up to where a writer failed. Where OUT failed or memory is wanting nothing is in
+-- place. Where no input is refused, no reader fails.
+abbrev pub Ends : Command → Out → Writer → Result Status CommandFault → Type 0
 Ends command out report (Ok status) = command.Unfailed × Carries command.Makes out report (Ok status)
-Ends command out report (Err (Input place why)) = command.Refuses place why × Takes out [] × Takes report []
+Ends command out report (Err (Input place why)) = command.Refuses place why × IsKept out × Takes report []
 Ends command out report (Err (Output n)) = command.Unfailed × Carries command.Makes out report (Err (Output n))
 Ends command out report (Err (Report n)) = command.Unfailed × Carries command.Makes out report (Err (Report n))
 Ends command out report (Err OutOfMemory) =
-    command.Unfailed × ((Takes out [] × Takes report []) ⊎ Carries command.Makes out report (Err OutOfMemory))
+    command.Unfailed × ((IsKept out × Takes report []) ⊎ Carries command.Makes out report (Err OutOfMemory))
 
 -- A command that only reports, with its input: the status and the text that an accepted input makes, whether it is
 -- refused, and why, and that its reader does not fail.

@@ -14,6 +14,10 @@ pub enum Failure {
     /// The output was not created.
     #[error("symarch: {0}")]
     CannotCreate(#[from] CannotCreate),
+    /// The output was not put in place: its bytes could not be kept on the disk or renamed, or what is there is not to
+    /// be replaced.
+    #[error("symarch: output: cannot replace")]
+    CannotReplace,
 }
 
 impl From<NoMemory> for Failure {

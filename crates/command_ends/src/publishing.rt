@@ -1,70 +1,78 @@
-//! The end of each command: OUT, and then the report.
+//! The end of each command: OUT, which is put in place, and then the report.
 ghost use Rattle.std.specs.Prelude.{[], string_bytes};
 ghost use Rattle.archive_core.specs.Summary.{delta};
 ghost use Rattle.archive_records.specs.Text.{summary_text, written};
-ghost use Rattle.command_ends.specs.Outputs.{Publishes, Reports, report_of, summary_report_of, writer};
+ghost use Rattle.command_ends.specs.Outputs.{Publishes, Reports, out_of, outs, report_of, summary_report_of, writer};
 
 use crate::faults::{CommandFault, Status};
+use crate::outputs::{Output, Target, put_in_place};
 use archive_core::Archive;
 use archive_records::{Summary, write_archive, write_delta, write_summary};
 use byte_device::{Sink, push_all};
 use memory::Heap;
 use report_text::{summary_line, with_sizes};
 
-/// Writes the archive to OUT, and then the lines and the sizes to the report, which is made whole before its first byte
-/// is given.
-pub fn publish<A: Archive, W: Sink, P: Sink>(
+/// Writes the archive to OUT, puts it in place, and then writes the lines and the sizes to the report, which is made
+/// whole before that.
+pub fn publish<A: Archive, T: Target, P: Sink>(
     archive: &A,
     lines: String<Heap>,
-    out: &mut W,
+    out: &mut Output<T::Draft, T>,
     report: &mut P,
 ) -> Result<Status, CommandFault>
-    ensures { Publishes (writer W.held W.failures out.old out.new) (writer P.held P.failures report.old report.new)
+    ensures { Publishes (out_of (outs T.Draft.held T.Draft.failures T.placed T.failures out.old out.new))
+        (writer P.held P.failures report.old report.new)
         (written (A.content archive.now)) (report_of (A.content archive.now) (string_bytes lines)) result }
 {
-    let sizes = match write_archive(archive, out) {
+    let sizes = match write_archive(archive, &mut out.draft) {
         Ok(sizes) => sizes,
         Err(fault) => return Err(CommandFault::Output(fault.written)),
     };
     let text = with_sizes(lines, sizes)?;
+    put_in_place(out, sizes.bytes)?;
     publish_report(Status::Done, &text, report)
 }
 
-/// Writes the operations that the summary does not name to OUT, as an archive, and then its sizes to the report.
-pub fn publish_delta<A: Archive, W: Sink, P: Sink>(
+/// Writes the operations that the summary does not name to OUT, as an archive, puts it in place, and then writes its
+/// sizes to the report.
+pub fn publish_delta<A: Archive, T: Target, P: Sink>(
     heap: Heap,
     archive: &A,
     summary: &Summary,
-    out: &mut W,
+    out: &mut Output<T::Draft, T>,
     report: &mut P,
 ) -> Result<Status, CommandFault>
-    ensures { Publishes (writer W.held W.failures out.old out.new) (writer P.held P.failures report.old report.new)
+    ensures { Publishes (out_of (outs T.Draft.held T.Draft.failures T.placed T.failures out.old out.new))
+        (writer P.held P.failures report.old report.new)
         (written (delta (A.content archive.now) summary.now)) (report_of (delta (A.content archive.now) summary.now) [])
         result }
 {
-    let sizes = match write_delta(archive, summary, out) {
+    let sizes = match write_delta(archive, summary, &mut out.draft) {
         Ok(sizes) => sizes,
         Err(fault) => return Err(CommandFault::Output(fault.written)),
     };
     let text = with_sizes(String::new(heap), sizes)?;
+    put_in_place(out, sizes.bytes)?;
     publish_report(Status::Done, &text, report)
 }
 
-/// Writes the summary to OUT, and then its sizes to the report.
-pub fn publish_summary<W: Sink, P: Sink>(
+/// Writes the summary to OUT, puts it in place, and then writes its sizes to the report.
+pub fn publish_summary<T: Target, P: Sink>(
     heap: Heap,
     summary: &Summary,
-    out: &mut W,
+    out: &mut Output<T::Draft, T>,
     report: &mut P,
 ) -> Result<Status, CommandFault>
-    ensures { Publishes (writer W.held W.failures out.old out.new) (writer P.held P.failures report.old report.new)
+    ensures { Publishes (out_of (outs T.Draft.held T.Draft.failures T.placed T.failures out.old out.new))
+        (writer P.held P.failures report.old report.new)
         (summary_text summary.now) (summary_report_of summary.now) result }
 {
-    let sizes = match write_summary(summary, out) {
+    let sizes = match write_summary(summary, &mut out.draft) {
         Ok(sizes) => sizes,
         Err(fault) => return Err(CommandFault::Output(fault.written)),
     };
     let text = summary_line(heap, sizes)?;
+    put_in_place(out, sizes.bytes)?;
     publish_report(Status::Done, &text, report)
 }
 

@@ -1,3 +1,3 @@
 pub mod Opened
 pub mod Places
-pub mod OutGains
+pub mod Outcomes

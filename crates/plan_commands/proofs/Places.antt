@@ -1,21 +1,22 @@
--- Where OUT was created, by what is known of it.
-use Rattle.std.proofs.Common.{◌≡◌, ◌∙◌, ◌⊎◌, ℕ, ◌==◌, Bool, true, false, List, [], ◌∷◌, ◌++◌, length, take, drop, get_or, suc}
-use Rattle.std.proofs.Common.{Option, Some, None, Result, OnOk, refl, ap, sym, subst, inl, inr, append_assoc, append-nil, arith}
-use Rattle.std.proofs.lemmas.List.{append_cancel_left, nil_from_length}
-use Rattle.std.proofs.lemmas.Bool.{and_parts}
+-- What is in place of OUT, by what is known of it.
+use Rattle.std.proofs.Common.{◌≡◌, ◌∙◌, ◌⊎◌, ℕ, ◌==◌, ◌&&◌, Bool, true, false, List, [], ◌∷◌, ◌++◌, length, take, drop, get_or, suc}
+use Rattle.std.proofs.Common.{Option, Some, None, Result, OnOk, refl, ap, sym, subst, append_assoc, append-nil, arith, string_bytes}
+use Rattle.std.proofs.lemmas.List.{append_cancel_left}
 use Rattle.std.proofs.Math.Seq.{take-append_seam}
-use Rattle.std.specs.List.{concat}
-use Rattle.std.specs.Option.{option_to_list}
+use mathlib.Core.Logic.{∥∥₁_map}
 use Rattle.std.specs.Io.KnownBytes.{Appends}
 use Rattle.clap.specs.Words.{Text}
 use Rattle.command_line.specs.Lines.{Line}
-use Rattle.byte_device.specs.Devices.{Stream}
 use Rattle.command_ends.specs.declared.faults.CommandFault.{CommandFault}
 use Rattle.command_ends.specs.declared.faults.Status.{Status}
-use Rattle.command_ends.specs.Outputs.{Writer}
+use Rattle.command_ends.specs.Outputs.{Outs, Writer}
 use Rattle.plan_commands.specs.Disks.{AreFirstOpened, Carried}
 use Rattle.byte_device.specs.Disks.{Unknown}
-use Rattle.archive_files.specs.OutFiles.{IsPath, account, created_at, place, took_nothing}
+use Rattle.archive_files.specs.FileCalls.{FileCall, bytes_in}
+use Rattle.archive_files.specs.OutFiles.{Stage, Untouched, Through, Drafted, Refused, Removed, Settled}
+use Rattle.archive_files.specs.OutFiles.{draft_account, has_calls, is_settled, placed_account, placing_calls}
+use Rattle.archive_files.specs.Placing.{IsPath, IsPlaced, account, place, took_nothing}
+use Rattle.archive_files.specs.declared.placed.Placed.{Placed}
 
 -- what is known tells the path
 place_first : (p q : Option (List ℕ)) (xs ys : List ℕ) → place p ++ xs ≡ place q ++ ys → p ≡ q
@@ -28,47 +29,67 @@ place_first (Some p) (Some q) xs ys same =
     ap (λ path. Some path) (sym (take-append_seam p xs) ∙ ap (λ l. take (length p) (drop 1 l)) same
     ∙ ap (λ n. take n (q ++ ys)) long ∙ take-append_seam q ys)
 
--- before the first byte nothing went to the file
-pub nothing_given : (given : List (List ℕ)) (failures : ℕ) → took_nothing given failures ≡ true
-    → (concat given ≡ []) × (failures ≡ 0)
-nothing_given given failures h =
-    let parts = and_parts (length (concat given) == 0) (failures == 0) h in
-    let none = parts.0 in
-    let unfailed = parts.1 in (nil_from_length (concat given) (grind (arith, none)), grind (arith, unfailed))
+-- what took a text has the path that was there, and the text
+known : (p q : Option (List ℕ)) (bytes text : List ℕ) → account q bytes ≡ account p [] ++ text
+    → (q ≡ p) × (bytes ≡ text)
+known p q bytes text took =
+    let flat : place q ++ bytes ≡ place p ++ text = took ∙ ap (λ l. l ++ text) (append-nil (place p)) in
+    let same : q ≡ p = place_first q p bytes text flat in
+    (same, append_cancel_left (place p) bytes text (subst (λ r. place r ++ bytes ≡ place p ++ text) same flat))
 
--- OUT that takes a text is where it was
-pub same_path : (p q : Option (List ℕ)) (given : List (List ℕ)) (text : List ℕ)
-    → Appends (Some (account p [])) (Some (account q given)) text → q ≡ p
-same_path p q given text took =
-    place_first q p (concat given) ([] ++ text) (took ∙ append_assoc (place p) [] text)
+-- there is always something known of a path
+some_known : (p : Option (List ℕ)) (xs : List ℕ) → place p ++ xs ≡ [] → ⊥
+some_known None xs none = let h = ap length none in grind (arith, h)
+some_known (Some p) xs none = let h = ap length none in grind (arith, h)
 
--- and its file took the text
-pub taken : (p q : Option (List ℕ)) (given : List (List ℕ)) (text : List ℕ)
-    → Appends (Some (account p [])) (Some (account q given)) text
-    → Some (account q given) ≡ Some (account p (text ∷ []))
-taken p q given text took =
-    ap (λ l. Some l) (took ∙ append_assoc (place p) [] text ∙ ap (λ t. place p ++ t) (sym (append-nil text)))
+-- nothing is known of what was put in place alone
+pub settled_of : (settled : Bool) (path : Option (List ℕ)) (calls : List FileCall)
+    → Some (draft_account settled path calls) ≡ Some [] → settled ≡ true
+settled_of true path calls none = refl
+settled_of false path calls none = absurd (some_known path (bytes_in calls) (some_inj none))
+  where
+    some_inj : {x y : List ℕ} → Some x ≡ Some y → x ≡ y
+    some_inj e = cc
 
--- and was created there and nowhere else
-pub created_there : (untouched : Bool) (p q : Option (List ℕ)) (created given : List (List ℕ)) (text : List ℕ)
-    → created ≡ created_at untouched q → Appends (Some (account p [])) (Some (account q given)) text
-    → (created ≡ []) ⊎ (created ≡ option_to_list p)
-created_there true p q created given text is took = inl is
-created_there false p q created given text is took = inr (is ∙ ap option_to_list (same_path p q given text took))
+-- what was put in place has no calls left
+pub settled_without_calls : (stage : Stage) → is_settled stage ≡ true → has_calls stage ≡ false
+settled_without_calls Untouched settled = cc
+settled_without_calls Through settled = cc
+settled_without_calls (Drafted d t) settled = cc
+settled_without_calls (Refused f) settled = cc
+settled_without_calls Removed settled = cc
+settled_without_calls Settled settled = refl
 
--- what is untouched was not created
-pub uncreated : (untouched : Bool) (path : Option (List ℕ)) (created : List (List ℕ)) → untouched ≡ true
-    → created ≡ created_at untouched path → created ≡ []
-uncreated untouched path created is at = at ∙ ap (λ u. created_at u path) is
+-- a draft that took bytes has its path, and the bytes were written
+pub draft_took : (settled : Bool) (p q : Option (List ℕ)) (calls : List FileCall) (bytes : List ℕ)
+    → Appends (Some (account p [])) (Some (draft_account settled q calls)) bytes → (q ≡ p) × (bytes_in calls ≡ bytes)
+draft_took true p q calls bytes took =
+    absurd (some_known p bytes (sym (took ∙ ap (λ l. l ++ bytes) (append-nil (place p)))))
+draft_took false p q calls bytes took = known p q (bytes_in calls) bytes took
 
--- what took nothing and did not fail is untouched
-pub took_none : (p q : Option (List ℕ)) (given : List (List ℕ)) (failures : ℕ)
-    → Appends (Some (account p [])) (Some (account q given)) [] → failures ≡ 0 → took_nothing given failures ≡ true
-took_none p q given failures took none =
-    let same = same_path p q given [] took in
-    let empty : concat given ≡ [] = append_cancel_left (place p) (concat given) []
-    (subst (λ r. place r ++ concat given ≡ place p ++ []) same (took ∙ append-nil (place p ++ []))) in
-    rw (empty, none) refl
+-- what was put in place is the text, at the path
+pub placed_there : (p : Option (List ℕ)) (placed : Option Placed) (text : List ℕ)
+    → Appends (Some (account p [])) (placed_account placed) text
+    → (q : List ℕ) × (p ≡ Some q) × ∥ IsPlaced q text (placing_calls placed) ∥₁
+placed_there p None text took = absurd took
+placed_there p (Some there) text took =
+    let is = known p (Some (string_bytes there.path)) (bytes_in there.calls.entries) text took in (
+      string_bytes there.path,
+      sym is.0,
+      ∥∥₁_map there.whole (λ whole. subst (λ t. IsPlaced (string_bytes there.path) t there.calls.entries) is.1 whole),
+    )
+
+-- and else nothing is there
+pub nothing_there : (placed : Option Placed) → placed_account placed ≡ None → placing_calls placed ≡ []
+nothing_there None none = refl
+nothing_there (Some there) none = absurd (not_none none)
+  where
+    not_none : {xs : List ℕ} → Some xs ≡ None → ⊥
+    not_none e = cc
+
+-- no bytes and no failure
+pub nothing_taken : (bytes : List ℕ) (failures : ℕ) → bytes ≡ [] → failures ≡ 0 → took_nothing bytes failures ≡ true
+nothing_taken bytes failures none unfailed = rw (none, unfailed) refl
 
 -- OUT has its path by the plan
 pub path_from : {T E : Type 0} (r : Result T E) (a b : Option Text) (xs ys others same : List Text) (path : Option Text)
@@ -82,8 +103,8 @@ pub first_from : (old first : List Text) (new : Option (List Text)) (paths : Lis
     → AreFirstOpened (Some first) new paths → AreFirstOpened (Some old) new paths
 first_from old first new paths same opened = subst (λ o. AreFirstOpened (Some o) new paths) same opened
 
-pub carried_from : {S W : Type 0} (left : S → Option (List ℕ)) (failures : S → ℕ) (old first : List Text)
-    (new : Option (List Text)) (line : Line) (out : Stream W) (report : Writer) (ended : Result Status CommandFault)
+pub carried_from : {S D T : Type 0} (left : S → Option (List ℕ)) (failures : S → ℕ) (old first : List Text)
+    (new : Option (List Text)) (line : Line) (out : Outs D T) (report : Writer) (ended : Result Status CommandFault)
     → first ≡ old → Carried left failures (λ _. Unknown) (Some first) new line out report ended
     → Carried left failures (λ _. Unknown) (Some old) new line out report ended
 carried_from left failures old first new line out report ended same carried =

@@ -3,13 +3,12 @@ use Rattle.std.specs.Prelude.{◌≡◌, ℕ, List, Option, Result, Err, take}
 use Rattle.std.specs.List.{AllZip}
 use Rattle.clap.specs.Words.{Text}
 use Rattle.command_line.specs.Lines.{Line, inputs_of}
-use Rattle.byte_device.specs.Devices.{Stream}
 use Rattle.byte_device.specs.declared.disks.CannotOpen.{CannotOpen}
 use Rattle.command_ends.specs.declared.faults.CommandFault.{CommandFault}
 use Rattle.command_ends.specs.declared.faults.CommandFault.TheVariants.{OutOfMemory}
 use Rattle.command_ends.specs.declared.faults.Status.{Status}
 use Rattle.command_ends.specs.Inputs.{readers}
-use Rattle.command_ends.specs.Outputs.{Writer}
+use Rattle.command_ends.specs.Outputs.{Outs, Writer}
 use Rattle.plan_commands.specs.Executes.{Executes}
 use Rattle.byte_device.specs.Disks.{FileAt, IsOpened, opened_with}
 
@@ -26,8 +25,8 @@ AreFirstOpened opened_old opened_new paths =
 
 -- The files at the paths of a line were opened, each once and in the order of the words, and its command ended so over
 -- them.
-pub record Carried {S W : Type 0} (left : S → Option (List ℕ)) (failures : S → ℕ) (file_at : Text → FileAt)
-    (opened_old opened_new : Option (List Text)) (line : Line) (out : Stream W) (report : Writer)
+pub record Carried {S D T : Type 0} (left : S → Option (List ℕ)) (failures : S → ℕ) (file_at : Text → FileAt)
+    (opened_old opened_new : Option (List Text)) (line : Line) (out : Outs D T) (report : Writer)
     (result : Result Status CommandFault) : Type 0 where
   pub old : List (Result S CannotOpen)
   pub new : List (Result S CannotOpen)
@@ -36,7 +35,7 @@ pub record Carried {S W : Type 0} (left : S → Option (List ℕ)) (failures : S
   pub executes : Executes line (readers left failures old new) out report result
 
 -- There was no memory to open the files of a line, or the others of them, and nothing was written.
-pub record IsUnbegun {W : Type 0} (opened_old opened_new : Option (List Text)) (line : Line) (out : Stream W)
+pub record IsUnbegun {D T : Type 0} (opened_old opened_new : Option (List Text)) (line : Line) (out : Outs D T)
     (report : Writer) (result : Result Status CommandFault) : Type 0 where
   pub wanting : result ≡ Err OutOfMemory
   pub opened : AreFirstOpened opened_old opened_new (inputs_of line)

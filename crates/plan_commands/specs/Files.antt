@@ -1,87 +1,125 @@
 -- A line that is carried out over files of the system.
-use Rattle.std.specs.Prelude.{◌≡◌, ◌⊎◌, ℕ, Bool, List, [], ◌∷◌, length, Option, Some, None, Result, Ok, Err}
-use Rattle.std.specs.Prelude.{if◌then◌else◌}
-use Rattle.std.specs.Option.{option_to_list}
+use Rattle.std.specs.Prelude.{◌≡◌, ◌⊎◌, ℕ, List, [], length, Option, Some, None, Result, Ok, Err}
+use Rattle.std.specs.Io.KnownBytes.{Appends}
 use Rattle.clap.specs.Words.{Text}
 use Rattle.command_line.specs.Lines.{Line, inputs_of, out_of}
-use Rattle.byte_device.specs.Devices.{stream}
 use Rattle.command_ends.specs.declared.failures.Failure.{Failure}
-use Rattle.command_ends.specs.declared.failures.Failure.TheVariants.{Command, CannotCreate}
+use Rattle.command_ends.specs.declared.failures.Failure.TheVariants.{Command, CannotCreate, CannotReplace}
 use Rattle.command_ends.specs.declared.faults.CommandFault.{CommandFault}
 use Rattle.command_ends.specs.declared.faults.CommandFault.TheVariants.{Input, Output, Report, OutOfMemory}
 use Rattle.command_ends.specs.declared.faults.Status.{Status}
-use Rattle.command_ends.specs.Outputs.{Writer, Takes, writer}
-use Rattle.archive_files.specs.OutFiles.{IsPath, account}
+use Rattle.command_ends.specs.declared.outputs.Output.{Output as Out}
+use Rattle.command_ends.specs.Outputs.{IsKept, Outs, Places, Writer, out_of, outs}
+use Rattle.archive_files.specs.FileCalls.{FileCall, bytes_in}
+use Rattle.archive_files.specs.Placing.{IsPath, IsPlaced, IsRemoved, account}
+use Rattle.archive_files.specs.declared.replaceable.OutFault.{OutFault}
+use Rattle.archive_files.specs.declared.replaceable.OutFault.TheVariants as fault
 use Rattle.plan_commands.specs.Disks.{AreFirstOpened, Carried}
 use Rattle.byte_device.specs.Disks.{Unknown}
 
--- what is told of a command that ended so: where the file of OUT was not created, that is why OUT failed
-abbrev pub command_fault_of : Bool → Result Status CommandFault → Result Status Failure
-command_fault_of is_not_created (Ok status) = Ok status
-command_fault_of is_not_created (Err (Input place why)) = Err (Command (Input place why))
-command_fault_of is_not_created (Err (Output n)) = Err (if is_not_created then CannotCreate (record {}) else Command
-    (Output n))
-command_fault_of is_not_created (Err (Report n)) = Err (Command (Report n))
-command_fault_of is_not_created (Err OutOfMemory) = Err (Command OutOfMemory)
+-- why OUT failed after it took so many bytes
+abbrev pub out_failure : Option OutFault → ℕ → Failure
+out_failure None n = Command (Output n)
+out_failure (Some fault.NotCreated) n = CannotCreate (record {})
+out_failure (Some fault.NotReplaced) n = CannotReplace
+out_failure (Some fault.OutOfMemory) n = Command OutOfMemory
+
+-- what is told of a command that ended so, with this fault of OUT
+abbrev pub command_fault_of : Option OutFault → Result Status CommandFault → Result Status Failure
+command_fault_of fault (Ok status) = Ok status
+command_fault_of fault (Err (Input place why)) = Err (Command (Input place why))
+command_fault_of fault (Err (Output n)) = Err (out_failure fault n)
+command_fault_of fault (Err (Report n)) = Err (Command (Report n))
+command_fault_of fault (Err OutOfMemory) = Err (Command OutOfMemory)
+
+-- Nothing was put in place. OUT's draft took these bytes, as many as are told where OUT failed.
+pub record IsNotPut {D T : Type 0} (out : Outs D T) (ended : Result Status CommandFault) : Type 0 where
+  pub bytes : List ℕ
+  pub took : Appends (out.held out.old.draft) (out.held out.new.draft) bytes
+  pub kept : out.placed out.new.target ≡ out.placed out.old.target
+  pub count : (n : ℕ) → ended ≡ Err (Output n) → n ≡ length bytes
+
+-- A text was put in place, or OUT is as it was, since the command has none.
+abbrev pub IsPut : {D T : Type 0} → Outs D T → Type 0
+IsPut out = ((text : List ℕ) × Places (out_of out) text) ⊎ (out.new ≡ out.old)
+
+-- A text is in place where the command ended well, or failed only to report it; else nothing is.
+abbrev pub IsOutcome : {D T : Type 0} → Outs D T → Result Status CommandFault → Type 0
+IsOutcome out (Ok status) = IsPut out
+IsOutcome out (Err (Input place why)) = IsNotPut out (Err (Input place why))
+IsOutcome out (Err (Output n)) = IsNotPut out (Err (Output n))
+IsOutcome out (Err (Report n)) = IsPut out
+IsOutcome out (Err OutOfMemory) = IsNotPut out (Err OutOfMemory)
 
 -- What was called of the system in a command: the paths that were opened, before it and after it, the inputs that were
--- found to be other files than OUT's, the one that was found to be OUT's own, the paths at which a file was created or
--- was to be, and OUT then. The functions tell what an input has left and how often it failed, and what is known of OUT
--- and how often it failed.
-pub record Calls (S W : Type 0) : Type 0 where
+-- found to be other files than OUT's, the one that was found to be OUT's own, the calls for OUT, and why it was not
+-- begun or not put in place, if it was not. The functions tell what an input has left and how often it failed, what is
+-- known of OUT's draft and how often it failed, and what is known of what was put in place and how often that failed.
+pub record Calls (S D T : Type 0) : Type 0 where
   pub left : S → Option (List ℕ)
   pub failures : S → ℕ
-  pub held : W → Option (List ℕ)
-  pub out_failures : W → ℕ
+  pub held : D → Option (List ℕ)
+  pub draft_failures : D → ℕ
+  pub placed : T → Option (List ℕ)
+  pub place_failures : T → ℕ
   pub opened_old : List Text
   pub opened_new : List Text
   pub others : List Text
   pub same : List Text
-  pub created : List Text
-  pub is_not_created : Bool
-  pub out : W
+  pub called : List FileCall
+  pub fault : Option OutFault
 
-abbrev pub calls_of : {S W : Type 0} → (S → Option (List ℕ)) → (S → ℕ) → (W → Option (List ℕ)) → (W → ℕ) → List Text
-    → List Text → List Text → List Text → List Text → Bool → W → Calls S W
-calls_of left failures held out_failures opened_old opened_new others same created is_not_created out = record {
+abbrev pub calls_of : {S D T : Type 0} → (S → Option (List ℕ)) → (S → ℕ) → (D → Option (List ℕ)) → (D → ℕ)
+    → (T → Option (List ℕ)) → (T → ℕ) → List Text → List Text → List Text → List Text → List FileCall → Option OutFault
+    → Calls S D T
+calls_of left failures held draft_failures placed place_failures opened_old opened_new others same called fault = record {
   left = left;
   failures = failures;
   held = held;
-  out_failures = out_failures;
+  draft_failures = draft_failures;
+  placed = placed;
+  place_failures = place_failures;
   opened_old = opened_old;
   opened_new = opened_new;
   others = others;
   same = same;
-  created = created;
-  is_not_created = is_not_created;
-  out = out;
+  called = called;
+  fault = fault;
 }
 
+-- OUT in the command, between these two states
+abbrev pub outs_in : {S D T : Type 0} → Calls S D T → Out D T → Out D T → Outs D T
+outs_in calls begun done = outs calls.held calls.draft_failures calls.placed calls.place_failures begun done
+
 -- The command of a line ended over files of which nothing is known, and this is told of it. OUT has the path of the
--- line, unless an input's file is there, and was created there or nowhere; nowhere if it took no byte and did not fail.
--- These are the bytes that its file took; where it failed, as many as are told.
-pub record IsCarriedOut {S W : Type 0} (calls : Calls S W) (line : Line) (report : Writer)
+-- line, unless an input's file is there. Where a text was put in place, the calls for OUT are those by which it was put
+-- at that path; where none was, those by which nothing is left, with the bytes that the draft took; and where the draft
+-- took none and did not fail there are none.
+pub record IsCarriedOut {S D T : Type 0} (calls : Calls S D T) (line : Line) (report : Writer)
     (told : Result Status Failure) : Type 0 where
   pub path : Option Text
-  pub begun : W
+  pub begun : Out D T
+  pub done : Out D T
   pub ended : Result Status CommandFault
-  pub bytes : List ℕ
   pub path_is : IsPath (out_of line) (inputs_of line) calls.others calls.same path
-  pub begun_is : calls.held begun ≡ Some (account path [])
-  pub begun_unfailed : calls.out_failures begun ≡ 0
+  pub begun_is : calls.held begun.draft ≡ Some (account path [])
+  pub begun_unfailed : calls.draft_failures begun.draft ≡ 0
+  pub nothing_placed : calls.placed begun.target ≡ None
   pub carried : Carried calls.left calls.failures (λ _. Unknown) (Some calls.opened_old) (Some calls.opened_new) line
-      (stream calls.held calls.out_failures begun calls.out) report ended
-  pub taken : calls.held calls.out ≡ Some (account path (bytes ∷ []))
-  pub count : (n : ℕ) → ended ≡ Err (Output n) → n ≡ length bytes
-  pub created : (calls.created ≡ []) ⊎ (calls.created ≡ option_to_list path)
-  pub untouched : Takes (writer calls.held calls.out_failures begun calls.out) [] → calls.created ≡ []
-  pub told_is : told ≡ command_fault_of calls.is_not_created ended
+      (outs_in calls begun done) report ended
+  pub outcome : IsOutcome (outs_in calls begun done) ended
+  pub placed : (text : List ℕ) → Places (out_of (outs_in calls begun done)) text
+      → (p : List ℕ) × (path ≡ Some p) × ∥ IsPlaced p text calls.called ∥₁
+  pub removed : (not_put : IsNotPut (outs_in calls begun done) ended)
+      → ∥ IsRemoved path calls.called ∥₁ × (bytes_in calls.called ≡ not_put.bytes)
+  pub untouched : IsKept (out_of (outs_in calls begun done)) → calls.called ≡ []
+  pub told_is : told ≡ command_fault_of calls.fault ended
 
--- There was no memory to begin the command: no file was created, and nothing is told.
-pub record IsUnbegun {S W : Type 0} (calls : Calls S W) (line : Line) (report : Writer)
+-- There was no memory to begin the command: nothing was called for OUT, and nothing is told.
+pub record IsUnbegun {S D T : Type 0} (calls : Calls S D T) (line : Line) (report : Writer)
     (told : Result Status Failure) : Type 0 where
   pub wanting : told ≡ Err (Command OutOfMemory)
   pub opened : AreFirstOpened (Some calls.opened_old) (Some calls.opened_new) (inputs_of line)
-  pub uncreated : calls.created ≡ []
+  pub uncalled : calls.called ≡ []
   pub report_same : report.new ≡ report.old
   pub report_unfailed : report.failures_new ≡ report.failures_old

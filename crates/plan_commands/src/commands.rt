@@ -1,9 +1,8 @@
 //! The command of a plan.
 
 ghost use Rattle.std.specs.Prelude.{◌≡◌, ◌∷◌, [], length};
-ghost use Rattle.byte_device.specs.Devices.{stream};
 ghost use Rattle.command_ends.specs.Inputs.{reader, readers};
-ghost use Rattle.command_ends.specs.Outputs.{writer};
+ghost use Rattle.command_ends.specs.Outputs.{outs, writer};
 ghost use Rattle.command_line.specs.Lines.{apply, delta, inputs_of, plan_view};
 ghost use Rattle.plan_commands.specs.Executes.{Executes, key_of};
 
@@ -13,7 +12,7 @@ use archive_updates::{
     run_admit, run_apply, run_delta, run_merge, run_migrate, run_new, run_retire, run_summary,
 };
 use byte_device::{CannotOpen, Sink, Source};
-use command_ends::{CommandFault, Status};
+use command_ends::{CommandFault, Output, Status, Target};
 use command_line::Plan;
 use memory::Heap;
 use rehearse::run_rehearse;
@@ -33,17 +32,18 @@ fn key(uuid: &Uuid, arch: &ArchKey) -> SliceKey
 }
 
 /// `apply`, whose second input is OPS.
-fn apply<A: Archive + Drop, S: Source, W: Sink, P: Sink>(
+fn apply<A: Archive + Drop, S: Source, T: Target, P: Sink>(
     heap: Heap,
     first: &mut Input<S>,
     others: &mut [Input<S>],
-    out: &mut W,
+    out: &mut Output<T::Draft, T>,
     report: &mut P,
 ) -> Result<Status, CommandFault>
     requires { length others.old ≡ 1 }
     ensures { Executes (apply [] [] [])
         (reader S.left S.failures first.old first.new ∷ readers S.left S.failures others.old others.new)
-        (stream W.held W.failures out.old out.new) (writer P.held P.failures report.old report.new) result }
+        (outs T.Draft.held T.Draft.failures T.placed T.failures out.old out.new)
+        (writer P.held P.failures report.old report.new) result }
 {
     match others {
         [ops] => run_apply::<A, _, _, _, _>(heap, first, ops, out, report),
@@ -52,17 +52,18 @@ fn apply<A: Archive + Drop, S: Source, W: Sink, P: Sink>(
 }
 
 /// `delta`, whose second input is SUMMARY.
-fn delta<A: Archive + Drop, S: Source, W: Sink, P: Sink>(
+fn delta<A: Archive + Drop, S: Source, T: Target, P: Sink>(
     heap: Heap,
     first: &mut Input<S>,
     others: &mut [Input<S>],
-    out: &mut W,
+    out: &mut Output<T::Draft, T>,
     report: &mut P,
 ) -> Result<Status, CommandFault>
     requires { length others.old ≡ 1 }
     ensures { Executes (delta [] [] [])
         (reader S.left S.failures first.old first.new ∷ readers S.left S.failures others.old others.new)
-        (stream W.held W.failures out.old out.new) (writer P.held P.failures report.old report.new) result }
+        (outs T.Draft.held T.Draft.failures T.placed T.failures out.old out.new)
+        (writer P.held P.failures report.old report.new) result }
 {
     match others {
         [summary] => run_delta::<A, _, _, _, _>(heap, first, summary, out, report),
@@ -72,16 +73,17 @@ fn delta<A: Archive + Drop, S: Source, W: Sink, P: Sink>(
 
 /// Carries out a plan over its inputs, which stand in the order of the words. An archive of the type `L` is asked for
 /// addresses, and one of `A` for all else.
-pub fn execute<A: Archive + Drop, L: Archive + Drop, S: Source, W: Sink, P: Sink>(
+pub fn execute<A: Archive + Drop, L: Archive + Drop, S: Source, T: Target, P: Sink>(
     heap: Heap,
     plan: &Plan,
     inputs: &mut [Input<S>],
-    out: &mut W,
+    out: &mut Output<T::Draft, T>,
     report: &mut P,
 ) -> Result<Status, CommandFault>
     requires { length inputs.old ≡ length (inputs_of (plan_view plan.now)) }
     ensures { Executes (plan_view plan.now) (readers S.left S.failures inputs.old inputs.new)
-        (stream W.held W.failures out.old out.new) (writer P.held P.failures report.old report.new) result }
+        (outs T.Draft.held T.Draft.failures T.placed T.failures out.old out.new)
+        (writer P.held P.failures report.old report.new) result }
 {
     if let Plan::New { .. } = plan {
         return run_new::<A, _, _>(heap, out, report);

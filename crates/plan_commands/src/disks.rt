@@ -1,8 +1,7 @@
 //! A plan that is carried out over files by their paths.
 
 ghost use Rattle.std.specs.Prelude.{◌≡◌, ◌⊎◌, IfOk, OnErr, OnOk, map};
-ghost use Rattle.byte_device.specs.Devices.{stream};
-ghost use Rattle.command_ends.specs.Outputs.{writer};
+ghost use Rattle.command_ends.specs.Outputs.{outs, writer};
 ghost use Rattle.command_line.specs.Lines.{plan_view};
 ghost use Rattle.plan_commands.specs.Disks.{AreFirstOpened, AreOpened, Carried, IsUnbegun};
 ghost use Rattle.byte_device.specs.Disks.{opened_with};
@@ -10,7 +9,7 @@ ghost use Rattle.byte_device.specs.Disks.{opened_with};
 use crate::commands::execute;
 use archive_core::Archive;
 use byte_device::{CannotOpen, Disk, Sink, Source};
-use command_ends::{CommandFault, Status};
+use command_ends::{CommandFault, Output, Status, Target};
 use command_line::Plan;
 use memory::{Heap, NoMemory};
 use std::alloc::Global;
@@ -36,18 +35,19 @@ fn open_all<D: Disk>(
 }
 
 /// Carries out a plan over the files of a disk, which are opened before its command begins.
-pub fn execute_on<A: Archive + Drop, L: Archive + Drop, D: Disk, W: Sink, P: Sink>(
+pub fn execute_on<A: Archive + Drop, L: Archive + Drop, D: Disk, T: Target, P: Sink>(
     alloc: Global,
     heap: Heap,
     disk: &mut D,
     plan: &Plan,
-    out: &mut W,
+    out: &mut Output<T::Draft, T>,
     report: &mut P,
 ) -> Result<Status, CommandFault>
     ensures { IsUnbegun (D.opened disk.old) (D.opened disk.new) (plan_view plan.now)
-        (stream W.held W.failures out.old out.new) (writer P.held P.failures report.old report.new) result
+        (outs T.Draft.held T.Draft.failures T.placed T.failures out.old out.new)
+        (writer P.held P.failures report.old report.new) result
         ⊎ Carried D.Input.left D.Input.failures (D.file_at disk.old) (D.opened disk.old) (D.opened disk.new)
-        (plan_view plan.now) (stream W.held W.failures out.old out.new)
+        (plan_view plan.now) (outs T.Draft.held T.Draft.failures T.placed T.failures out.old out.new)
         (writer P.held P.failures report.old report.new) result }
 {
     let paths = plan.inputs(alloc)?;

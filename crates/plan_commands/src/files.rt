@@ -1,71 +1,87 @@
 //! A plan, carried out over files of the system.
 
-ghost use Rattle.std.specs.Prelude.{◌≡◌, ◌⊎◌, OnErr, OnOk, option_map, string_bytes, true};
+ghost use Rattle.std.specs.Prelude.{◌≡◌, ◌⊎◌, ◌++◌, [], None, OnOk, option_map, string_bytes};
 ghost use Rattle.command_ends.specs.Outputs.{writer};
-ghost use Rattle.archive_files.specs.OutFiles.{AreFresh, IsPath, is_not_created, is_untouched};
+ghost use Rattle.archive_files.specs.OutFiles.{AreFresh, Untouched, fault_of, placing_calls, stage_of};
+ghost use Rattle.archive_files.specs.Placing.{IsPath};
 ghost use Rattle.command_line.specs.Lines.{inputs_of, out_of, plan_view};
-ghost use Rattle.plan_commands.specs.Files.{IsCarriedOut, IsUnbegun, calls_of, command_fault_of};
+ghost use Rattle.plan_commands.specs.Files.{IsCarriedOut, IsUnbegun, calls_of, command_fault_of, out_failure};
 
 use crate::execute_on;
-use archive_files::{OutFile, SystemFiles};
+use archive_files::{OutFault, OutFile, OutPath, Replaces, SystemFiles};
 use byte_device::{CannotCreate, Reading, Sink, Source};
-use command_ends::{CommandFault, Failure, Status};
+use command_ends::{CommandFault, Failure, Status, Target};
 use command_line::Plan;
 use memory::{Heap, NoMemory};
 use sorted_archive::{IndexedArchive, PlainArchive};
 use std::io::BufReader;
 use std::rt::Files;
 
-/// Takes the path of OUT, if the plan has one.
+/// Takes the path of OUT, if the plan has one. `new` replaces no archive that has records.
 fn begin<F: Files>(files: &mut SystemFiles<'_, F>, plan: &Plan) -> Result<(), NoMemory>
     requires { AreFresh files.old.others.entries files.old.same.entries
-        (option_map string_bytes files.old.out.path) files.old.out.state files.old.out.created.entries }
+        (option_map string_bytes files.old.out.draft.path) files.old.out.draft.state files.old.out.draft.failures
+        files.old.out.draft.calls.entries files.old.out.target.placed }
     ensures opened { files.new.disk.opened.entries ≡ files.old.disk.opened.entries }
     ensures path { OnOk result (IsPath (out_of (plan_view plan.now)) (inputs_of (plan_view plan.now))
-        files.new.others.entries files.new.same.entries (option_map string_bytes files.new.out.path)) }
-    ensures untouched { is_untouched files.new.out.state ≡ true }
+        files.new.others.entries files.new.same.entries (option_map string_bytes files.new.out.draft.path)) }
+    ensures untouched { stage_of files.new.out.draft.state ≡ Untouched }
+    ensures unfailed { files.new.out.draft.failures ≡ 0 }
+    ensures calls { files.new.out.draft.calls.entries ≡ [] }
+    ensures placed { files.new.out.target.placed ≡ None }
 {
     let Some(path) = plan.out() else {
         return Ok(());
     };
     let inputs = plan.inputs(files.disk.alloc)?;
-    files.begin(path, &inputs)
+    let replaces = match plan {
+        Plan::New { .. } => Replaces::NoRecords,
+        _ => Replaces::OwnFiles,
+    };
+    files.begin(path, &inputs, replaces)
 }
 
-/// What is told of a command that ended so: where the file of OUT was not created, that is why OUT failed.
-fn told<F: Files>(
-    ended: Result<Status, CommandFault>,
-    out: &OutFile<'_, F>,
-) -> Result<Status, Failure>
-    ensures { result ≡ command_fault_of (is_not_created out.now.state) ended }
+/// Why OUT failed after it took so many bytes: it was not begun, or not put in place, or its device failed.
+fn out_failure(fault: Option<OutFault>, written: u128) -> Failure
+    ensures { result ≡ out_failure fault written }
 {
-    let fault = match ended {
-        Ok(status) => return Ok(status),
-        Err(fault) => fault,
-    };
     match fault {
-        CommandFault::Output(_) if out.is_not_created() => Err(Failure::CannotCreate(CannotCreate)),
-        CommandFault::Output(_)
-        | CommandFault::Input(..)
-        | CommandFault::Report(_)
-        | CommandFault::OutOfMemory => Err(Failure::Command(fault)),
+        None => Failure::Command(CommandFault::Output(written)),
+        Some(OutFault::NotCreated) => Failure::CannotCreate(CannotCreate),
+        Some(OutFault::NotReplaced) => Failure::CannotReplace,
+        Some(OutFault::OutOfMemory) => Failure::Command(CommandFault::OutOfMemory),
+    }
+}
+
+/// What is told of a command that ended so, with this fault of OUT.
+fn told(ended: Result<Status, CommandFault>, fault: Option<OutFault>) -> Result<Status, Failure>
+    ensures { result ≡ command_fault_of fault ended }
+{
+    match ended {
+        Ok(status) => Ok(status),
+        Err(CommandFault::Output(written)) => Err(out_failure(fault, written)),
+        Err(refused) => Err(Failure::Command(refused)),
     }
 }
 
 /// Carries out a plan over files of the system, whose report goes to `report`. Inputs are opened before the command
-/// begins, and refused at their turn; OUT is created with its first bytes, and no plan without OUT has any.
+/// begins, and refused at their turn; OUT's draft is created with its first bytes, put in place when it is whole, and
+/// removed where it was not. No plan without OUT has any.
 pub fn execute<'f, F: Files, P: Sink>(
     files: &mut SystemFiles<'f, F>,
     plan: &Plan,
     report: &mut P,
 ) -> Result<Status, Failure>
     requires { AreFresh files.old.others.entries files.old.same.entries
-        (option_map string_bytes files.old.out.path) files.old.out.state files.old.out.created.entries }
+        (option_map string_bytes files.old.out.draft.path) files.old.out.draft.state files.old.out.draft.failures
+        files.old.out.draft.calls.entries files.old.out.target.placed }
     ensures { let calls = calls_of ⟦<Reading<BufReader<F::File>> as Source>⟧.left
         ⟦<Reading<BufReader<F::File>> as Source>⟧.failures ⟦<OutFile<'f, F> as Sink>⟧.held
-        ⟦<OutFile<'f, F> as Sink>⟧.failures files.old.disk.opened.entries files.new.disk.opened.entries
-        files.new.others.entries files.new.same.entries files.new.out.created.entries
-        (is_not_created files.new.out.state) files.new.out in
+        ⟦<OutFile<'f, F> as Sink>⟧.failures ⟦<OutPath<'f, F> as Target>⟧.placed
+        ⟦<OutPath<'f, F> as Target>⟧.failures files.old.disk.opened.entries files.new.disk.opened.entries
+        files.new.others.entries files.new.same.entries
+        (placing_calls files.new.out.target.placed ++ files.new.out.draft.calls.entries)
+        (fault_of (stage_of files.new.out.draft.state)) in
         let told = writer P.held P.failures report.old report.new in
         IsUnbegun calls (plan_view plan.now) told result ⊎ IsCarriedOut calls (plan_view plan.now) told result }
 {
@@ -80,5 +96,6 @@ pub fn execute<'f, F: Files, P: Sink>(
         &mut files.out,
         report,
     );
-    told(ended, &files.out)
+    files.out.draft.discard();
+    told(ended, files.out.draft.fault())
 }

@@ -1,5 +1,8 @@
 -- Words that give no plan.
-use Rattle.std.proofs.Common.{◌≡◌, ◌⊎◌, ℕ, true, List, [], ◌∷◌, ap, inl, inr, arith}
+use Rattle.std.proofs.Common.{◌≡◌, ◌⊎◌, ℕ, true, List, [], ◌∷◌, ◌++◌, Option, None, ap, refl, inl, inr, arith}
+use Rattle.archive_files.specs.FileCalls.{FileCall}
+use Rattle.archive_files.specs.OutFiles.{placing_calls}
+use Rattle.archive_files.specs.declared.placed.Placed.{Placed}
 use Rattle.clap.specs.Words.{IsAmong, Text}
 use Rattle.clap.specs.declared.error.kind.ErrorKind.TheVariants.{DisplayHelp, DisplayVersion}
 use Rattle.command_line.specs.LineFaults.{IsHelpUnlessMemory, IsRefusalUnlessMemory}
@@ -28,3 +31,8 @@ no_plan words (Help text) status is memory help version refusal = inr (inl (reco
   asked = refusal;
   status_is = is;
 }))
+
+-- nothing was called for an OUT that is as it was
+pub none_called : (placed : Option Placed) (calls : List FileCall) → placed ≡ None → calls ≡ []
+    → placing_calls placed ++ calls ≡ []
+none_called placed calls none empty = rw (none, empty) refl

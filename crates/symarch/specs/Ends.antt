@@ -18,15 +18,15 @@ status_of_line (fault.Refused _) = 3
 status_of_line fault.OutOfMemory = 4
 
 -- Nothing was called of the system, and nothing reported.
-pub record IsIdle {S W : Type 0} (calls : Calls S W) (report : Writer) : Type 0 where
+pub record IsIdle {S D T : Type 0} (calls : Calls S D T) (report : Writer) : Type 0 where
   pub opened : calls.opened_new ≡ calls.opened_old
-  pub uncreated : calls.created ≡ []
+  pub uncalled : calls.called ≡ []
   pub unreported : report.new ≡ report.old
   pub unfailed : report.failures_new ≡ report.failures_old
 
 -- The words are accepted and ask for this line, it was carried out over files of the system, unless there was no memory
 -- to begin it, and the exit status is that of how it ended.
-pub record Ran {S W : Type 0} (calls : Calls S W) (words : List Text) (report : Writer) (status : ℕ) : Type 0 where
+pub record Ran {S D T : Type 0} (calls : Calls S D T) (words : List Text) (report : Writer) (status : ℕ) : Type 0 where
   pub line : Line
   pub ended : Result Status Failure
   pub accepted : error_kinds words ≡ []
@@ -53,7 +53,7 @@ pub record IsHelped (words : List Text) (status : ℕ) : Type 0 where
 
 -- How the program ends with these words: what they ask for was carried out; or they are refused, or ask for help, or
 -- memory is wanting, and nothing was called.
-abbrev pub EndsWords : {S W : Type 0} → Calls S W → List Text → Writer → ℕ → Type 0
+abbrev pub EndsWords : {S D T : Type 0} → Calls S D T → List Text → Writer → ℕ → Type 0
 EndsWords calls words report status =
     Ran calls words report status
     ⊎ (IsIdle calls report × (IsRefused words status ⊎ IsHelped words status ⊎ (status ≡ 4)))

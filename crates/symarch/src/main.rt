@@ -10,7 +10,7 @@ mod run;
 use archive_files::SystemFiles;
 use byte_device::Writing;
 use std::fs::File;
-use std::process::ExitCode;
+use std::process::{self, ExitCode};
 use std::{env, io};
 
 fn main(rt: HostRuntime) -> ExitCode {
@@ -18,7 +18,7 @@ fn main(rt: HostRuntime) -> ExitCode {
     let _input = File::open(&rt, "/dev/null");
     let _output = File::open(&rt, "/dev/null");
     let _error = File::open(&rt, "/dev/null");
-    let mut files = SystemFiles::new(rt.alloc(), &rt);
+    let mut files = SystemFiles::new(rt.alloc(), &rt, process::id(rt.process()));
     let mut report = Writing::new(io::writer(&rt));
     run::run(&rt, words(&rt), &mut files, &mut report)
 }

@@ -1,18 +1,18 @@
 //! The program over its words, the files of the system and its report.
 
-ghost use Rattle.std.specs.Prelude.{◌≡◌, ◌≢◌, MatchResult, map, option_map, string_bytes};
+ghost use Rattle.std.specs.Prelude.{◌≡◌, ◌≢◌, ◌++◌, MatchResult, map, option_map, string_bytes};
 ghost use Rattle.std.specs.Process.{exit_status};
 ghost use Rattle.std.specs.IoError.{error_kind};
 ghost use Rattle.command_ends.specs.Outputs.{writer};
-ghost use Rattle.archive_files.specs.OutFiles.{AreFresh, is_not_created};
+ghost use Rattle.archive_files.specs.OutFiles.{AreFresh, fault_of, placing_calls, stage_of};
 ghost use Rattle.plan_commands.specs.Files.{calls_of};
 ghost use Rattle.command_ends.specs.Statuses.{status_of};
 ghost use Rattle.symarch.specs.Ends.{EndsWords, IsIdle, status_of_line};
 
 use crate::refused_line::RefusedLine;
-use archive_files::{OutFile, SystemFiles};
+use archive_files::{OutFile, OutPath, SystemFiles};
 use byte_device::{Reading, Sink, Source};
-use command_ends::{CommandFault, Failure, Status, status_of};
+use command_ends::{CommandFault, Failure, Status, Target, status_of};
 use command_line::{LineFault, plan};
 use plan_commands::execute;
 use std::fmt::Display;
@@ -33,12 +33,15 @@ pub fn run<'f, R: Print + Eprint + AllocGlobal, F: Files, P: Sink>(
     report: &mut P,
 ) -> ExitCode
     requires { AreFresh files.old.others.entries files.old.same.entries
-        (option_map string_bytes files.old.out.path) files.old.out.state files.old.out.created.entries }
+        (option_map string_bytes files.old.out.draft.path) files.old.out.draft.state files.old.out.draft.failures
+        files.old.out.draft.calls.entries files.old.out.target.placed }
     ensures { let calls = calls_of ⟦<Reading<BufReader<F::File>> as Source>⟧.left
         ⟦<Reading<BufReader<F::File>> as Source>⟧.failures ⟦<OutFile<'f, F> as Sink>⟧.held
-        ⟦<OutFile<'f, F> as Sink>⟧.failures files.old.disk.opened.entries files.new.disk.opened.entries
-        files.new.others.entries files.new.same.entries files.new.out.created.entries
-        (is_not_created files.new.out.state) files.new.out in
+        ⟦<OutFile<'f, F> as Sink>⟧.failures ⟦<OutPath<'f, F> as Target>⟧.placed
+        ⟦<OutPath<'f, F> as Target>⟧.failures files.old.disk.opened.entries files.new.disk.opened.entries
+        files.new.others.entries files.new.same.entries
+        (placing_calls files.new.out.target.placed ++ files.new.out.draft.calls.entries)
+        (fault_of (stage_of files.new.out.draft.state)) in
         let told = writer P.held P.failures report.old report.new in
         MatchResult words (λ read. EndsWords calls (map string_bytes read.items) told (exit_status result))
         (λ error. IsIdle calls told
@@ -58,12 +61,15 @@ fn run_words<'f, R: Print + Eprint + AllocGlobal, F: Files, P: Sink>(
     report: &mut P,
 ) -> ExitCode
     requires { AreFresh files.old.others.entries files.old.same.entries
-        (option_map string_bytes files.old.out.path) files.old.out.state files.old.out.created.entries }
+        (option_map string_bytes files.old.out.draft.path) files.old.out.draft.state files.old.out.draft.failures
+        files.old.out.draft.calls.entries files.old.out.target.placed }
     ensures { let calls = calls_of ⟦<Reading<BufReader<F::File>> as Source>⟧.left
         ⟦<Reading<BufReader<F::File>> as Source>⟧.failures ⟦<OutFile<'f, F> as Sink>⟧.held
-        ⟦<OutFile<'f, F> as Sink>⟧.failures files.old.disk.opened.entries files.new.disk.opened.entries
-        files.new.others.entries files.new.same.entries files.new.out.created.entries
-        (is_not_created files.new.out.state) files.new.out in
+        ⟦<OutFile<'f, F> as Sink>⟧.failures ⟦<OutPath<'f, F> as Target>⟧.placed
+        ⟦<OutPath<'f, F> as Target>⟧.failures files.old.disk.opened.entries files.new.disk.opened.entries
+        files.new.others.entries files.new.same.entries
+        (placing_calls files.new.out.target.placed ++ files.new.out.draft.calls.entries)
+        (fault_of (stage_of files.new.out.draft.state)) in
         EndsWords calls (map string_bytes words.now) (writer P.held P.failures report.old report.new)
         (exit_status result) }
 {

@@ -11,7 +11,7 @@ pub returns-in_err-operations : goal.returns-in_err-operations
 returns-in_err-operations g c =
     let p = err_from_is_err_and c.from_residual-in_err-operations.result c.from_residual-in_err-operations.ensures.1 in
     rw (p.1, p.2) (behind_refused _ _ _ _ _ _ _ c.in_err-operations.field-0.0 _ c.in_ok-archive.ensures.content c.in_ok-archive.ensures.text c.in_ok-archive.ensures.unfailed
-    c.in_err-operations.ensures.refused (Appends-none _, refl) (Appends-none _, refl))
+    c.in_err-operations.ensures.refused ((Appends-none _, refl), (refl, refl)) (Appends-none _, refl))
 
 pub overflow_sub-number : goal.overflow_sub-number
 overflow_sub-number g c =

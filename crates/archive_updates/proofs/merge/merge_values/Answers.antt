@@ -9,19 +9,19 @@ use Rattle.archive_updates.proofs.merge.merge_values.Goals as goal
 pub returns-in_err-clone : goal.returns-in_err-clone
 returns-in_err-clone g c =
     let p = err_from_is_err_and c.from_residual.result c.from_residual.ensures.1 in
-    rw (p.1, p.2) ((refl, none_failed g.S.Source.left g.S.Source.failures c.args.files.now), inl ((Appends-none _, refl), (Appends-none _, refl)))
+    rw (p.1, p.2) ((refl, none_failed g.S.Source.left g.S.Source.failures c.args.files.now), inl (((Appends-none _, refl), (refl, refl)), (Appends-none _, refl)))
 
 pub returns-in_err-archive : goal.returns-in_err-archive
 returns-in_err-archive g c =
     let p = err_from_is_err_and c.from_residual-in_err-archive.result c.from_residual-in_err-archive.ensures.1 in
     rw (p.1, p.2) (first_refused _ _ _ _ _ _ _ c.in_err-archive.field-0.0 c.in_err-archive.ensures.refused
-    (none_touched g.S.Source.left g.S.Source.failures c.args.files.now) (none_failed g.S.Source.left g.S.Source.failures c.args.files.now) (Appends-none _, refl) (Appends-none _, refl))
+    (none_touched g.S.Source.left g.S.Source.failures c.args.files.now) (none_failed g.S.Source.left g.S.Source.failures c.args.files.now) ((Appends-none _, refl), (refl, refl)) (Appends-none _, refl))
 
 pub returns-in_err-join_files : goal.returns-in_err-join_files
 returns-in_err-join_files g c =
     let p = err_from_is_err_and c.from_residual-in_err-join_files.result c.from_residual-in_err-join_files.ensures.1 in
     rw (p.1, p.2) (behind_refused _ _ _ _ _ _ _ c.in_err-join_files.field-0.0 _ c.in_ok-archive.ensures.content c.in_ok-archive.ensures.text c.in_ok-archive.ensures.unfailed
-    c.in_err-join_files.ensures.refused (Appends-none _, refl) (Appends-none _, refl))
+    c.in_err-join_files.ensures.refused ((Appends-none _, refl), (refl, refl)) (Appends-none _, refl))
 
 pub returns : goal.returns
 returns g c = published _ _ _ _ _ c.publish.result _ _ (c.in_ok-archive.ensures.unfailed, c.in_ok-join_files.ensures.unfailed)

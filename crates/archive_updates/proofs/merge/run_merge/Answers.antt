@@ -1,7 +1,6 @@
 use Rattle.std.proofs.Common.{◌≡◌, length, arith}
 use Rattle.command_ends.specs.Inputs.{reader, readers}
-use Rattle.byte_device.specs.Devices.{stream}
-use Rattle.command_ends.specs.Outputs.{writer}
+use Rattle.command_ends.specs.Outputs.{outs, writer}
 use Rattle.command_ends.proofs.Readers.{readers_long}
 use Rattle.archive_updates.proofs.Streamed.{of_many}
 use Rattle.archive_updates.proofs.merge.run_merge.Goals as goal
@@ -12,5 +11,5 @@ returns-else-files-eq1 g c =
     let new = c.merge_values.new.files in
     let long = readers_long g.S.Source.left g.S.Source.failures old new c.merge_values.auto.files in
     let many : length (readers g.S.Source.left g.S.Source.failures old new) ≡ 1 → ⊥ = λ one. c.if-files-eq1.false (omega (arith, long, one)) in
-    of_many (reader g.R.Source.left g.R.Source.failures c.args.input.now c.merge_values.new.input) (stream g.W.Sink.held g.W.Sink.failures c.args.out.now c.merge_values.new.out) (writer g.P.Sink.held g.P.Sink.failures c.args.report.now c.merge_values.new.report) c.merge_values.result
+    of_many (reader g.R.Source.left g.R.Source.failures c.args.input.now c.merge_values.new.input) (outs g.T.Draft.Sink.held g.T.Draft.Sink.failures g.T.Target.placed g.T.Target.failures c.args.out.now c.merge_values.new.out) (writer g.P.Sink.held g.P.Sink.failures c.args.report.now c.merge_values.new.report) c.merge_values.result
     (readers g.S.Source.left g.S.Source.failures old new) many c.merge_values.ensures

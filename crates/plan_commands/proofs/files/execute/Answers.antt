@@ -1,53 +1,86 @@
-use Rattle.std.proofs.Common.{◌≡◌, ◌∙◌, ℕ, List, [], ◌++◌, Some, ap, inl, inr, option_map, string_bytes, subst, sym}
+use Rattle.std.proofs.Common.{◌≡◌, ◌∙◌, ℕ, List, [], ◌++◌, Some, None, refl, true, false, ap, inl, inr, option_map, string_bytes, subst, sym, append-nil}
+use mathlib.Core.Logic.{∥∥₁_map}
 use Rattle.std.specs.Io.KnownBytes.{Appends}
-use Rattle.archive_files.specs.OutFiles.{account, is_not_created, is_untouched, place}
+use Rattle.std.proofs.KnownBytes.{Appends-nil}
+use Rattle.archive_files.specs.FileCalls.{FileCall, bytes_in}
+use Rattle.archive_files.specs.OutFiles.{draft_account, has_calls, is_settled, placed_account, placing_calls, stage_of}
+use Rattle.archive_files.specs.Placing.{IsPlaced, IsRemoved, account, place}
 use Rattle.plan_commands.specs.Files.{command_fault_of}
-use Rattle.plan_commands.proofs.Places.{carried_from, created_there, first_from, nothing_given, taken, took_none, uncreated}
-use Rattle.plan_commands.proofs.OutGains.{carried_took}
+use Rattle.plan_commands.proofs.Places.{carried_from, draft_took, first_from, nothing_taken, nothing_there, placed_there, settled_of, settled_without_calls}
+use Rattle.plan_commands.proofs.Outcomes.{carried_outcome}
 use Rattle.plan_commands.proofs.files.execute.Goals as goal
 
 pub returns : goal.returns
 returns g c =
     let before = c.begin.new.files.out in
-    let out = c.execute_on-ended.new.out in
-    let state = is_not_created out.state in
-    let after = option_map string_bytes out.path in
-    let path = option_map string_bytes before.path in
-    let none = nothing_given before.given.entries before.failures (sym before.first ∙ c.begin.ensures.untouched) in
-    let begun : Some (account path before.given.entries) ≡ Some (account path []) =
-    ap (λ bytes. Some (place path ++ bytes)) none.0 in
-    let known : (bytes : List ℕ)
-    → Appends (Some (account path before.given.entries)) (Some (account after out.given.entries)) bytes
-    → Appends (Some (account path [])) (Some (account after out.given.entries)) bytes =
-    λ bytes took. subst (λ held. Appends held (Some (account after out.given.entries)) bytes) begun took in
+    let done = c.execute_on-ended.new.out in
+    let last = c.discard.new.self in
+    let path = option_map string_bytes before.draft.path in
+    let begun : Some (draft_account (is_settled (stage_of before.draft.state)) path before.draft.calls.entries)
+    ≡ Some (account path []) =
+    ap (λ stage. Some (draft_account (is_settled stage) path before.draft.calls.entries)) c.begin.ensures.untouched
+    ∙ ap (λ calls. Some (account path (bytes_in calls))) c.begin.ensures.calls in
+    let none_before : placed_account before.target.placed ≡ None = ap placed_account c.begin.ensures.placed in
+    let settled = is_settled (stage_of done.draft.state) in
+    let after = option_map string_bytes done.draft.path in
+    let took : (bytes : List ℕ)
+    → Appends (Some (draft_account (is_settled (stage_of before.draft.state)) path before.draft.calls.entries))
+    (Some (draft_account settled after done.draft.calls.entries)) bytes
+    → (after ≡ path) × (bytes_in done.draft.calls.entries ≡ bytes) =
+    λ bytes is. draft_took settled path after done.draft.calls.entries bytes
+    (subst (λ held. Appends held (Some (draft_account settled after done.draft.calls.entries)) bytes) begun is) in
+    let none_called : (took_none : bytes_in done.draft.calls.entries ≡ [])
+    → done.draft.failures ≡ before.draft.failures → placed_account done.target.placed ≡ placed_account before.target.placed
+    → placing_calls done.target.placed ++ last.calls.entries ≡ [] =
+    λ none unfailed kept.
+    ap (λ calls. calls ++ last.calls.entries) (nothing_there done.target.placed (kept ∙ none_before))
+    ∙ last.first (nothing_taken _ _ (c.discard.ensures.bytes ∙ none)
+    (c.discard.ensures.failures ∙ unfailed ∙ c.begin.ensures.unfailed)) in
     elim c.execute_on-ended.ensures [
       | inl unbegun ↦ inl (record {
-        wanting = c.told.ensures ∙ ap (command_fault_of state) unbegun.wanting;
+        wanting = c.told.ensures ∙ ap (command_fault_of _) unbegun.wanting;
         opened = first_from _ _ _ _ c.begin.ensures.opened unbegun.opened;
-        uncreated = uncreated (is_untouched out.state) after out.created.entries
-            (ap (λ o. is_untouched o.state) unbegun.out_same ∙ c.begin.ensures.untouched) out.place;
+        uncalled =
+            let same = unbegun.out_same in
+            none_called (ap (λ o. bytes_in o.draft.calls.entries) same ∙ ap bytes_in c.begin.ensures.calls)
+            (ap (λ o. o.draft.failures) same) (ap (λ o. placed_account o.target.placed) same);
         report_same = unbegun.report_same;
         report_unfailed = unbegun.report_unfailed;
       })
-      | inr carried ↦
-          let took = carried_took _ _ _ _ _ _ _ _ _ carried in
-          let gained = known took.0 took.1 in
-          inr (record {
-            path = path;
-            begun = before;
-            ended = c.execute_on-ended.result;
-            bytes = took.0;
-            path_is = c.in_ok-begin.ensures.path;
-            begun_is = begun;
-            begun_unfailed = none.1;
-            carried = carried_from _ _ _ _ _ _ _ _ _ c.begin.ensures.opened carried;
-            taken = taken path after out.given.entries took.0 gained;
-            count = took.2;
-            created = created_there (is_untouched out.state) path after out.created.entries out.given.entries took.0
-                out.place gained;
-            untouched = λ takes. uncreated (is_untouched out.state) after out.created.entries
-                (out.first ∙ took_none path after out.given.entries out.failures (known [] takes.0) (takes.1 ∙ none.1))
-                out.place;
-            told_is = c.told.ensures;
-          })
+      | inr carried ↦ inr (record {
+        path = path;
+        begun = before;
+        done = done;
+        ended = c.execute_on-ended.result;
+        path_is = c.in_ok-begin.ensures.path;
+        begun_is = begun;
+        begun_unfailed = c.begin.ensures.unfailed;
+        nothing_placed = none_before;
+        carried = carried_from _ _ _ _ _ _ _ _ _ c.begin.ensures.opened carried;
+        outcome = carried_outcome _ _ _ _ _ _ _ _ _ carried;
+        placed = λ text is.
+            let there = placed_there path done.target.placed text
+            (subst (λ held. Appends held (placed_account done.target.placed) text) begun is.placed) in
+            let gone : last.calls.entries ≡ [] = last.empty (settled_without_calls (stage_of last.state)
+            (c.discard.ensures.settled ∙ settled_of settled after done.draft.calls.entries is.emptied)) in (
+              there.0,
+              there.1,
+              ∥∥₁_map there.2 (λ whole. subst (λ calls. IsPlaced there.0 text calls)
+                  (sym (ap (λ calls. placing_calls done.target.placed ++ calls) gone
+                  ∙ append-nil (placing_calls done.target.placed))) whole),
+            );
+        removed = λ not.
+            let is = took not.bytes not.took in
+            let gone : placing_calls done.target.placed ≡ [] = nothing_there done.target.placed (not.kept ∙ none_before) in
+            let called : placing_calls done.target.placed ++ last.calls.entries ≡ last.calls.entries =
+            ap (λ calls. calls ++ last.calls.entries) gone in (
+              ∥∥₁_map c.discard.ensures.removed (λ removed. subst (λ calls. IsRemoved path calls) (sym called)
+                  (subst (λ p. IsRemoved p last.calls.entries)
+                  (ap (option_map string_bytes) c.discard.ensures.path ∙ is.0) removed)),
+              ap bytes_in called ∙ c.discard.ensures.bytes ∙ is.1,
+            );
+        untouched = λ kept.
+            let is = took [] kept.0.0 in none_called is.1 kept.0.1 kept.1.0;
+        told_is = c.told.ensures;
+      })
     ]

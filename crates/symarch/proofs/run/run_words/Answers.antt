@@ -1,6 +1,6 @@
 use Rattle.std.proofs.Common.{inl, inr, map, string_bytes, refl}
 use Rattle.command_line.specs.Lines.{plan_view}
-use Rattle.symarch.proofs.NoPlan.{no_plan}
+use Rattle.symarch.proofs.NoPlan.{no_plan, none_called}
 use Rattle.symarch.proofs.run.run_words.Goals as goal
 
 pub returns-in-Ok : goal.returns-in-Ok
@@ -15,7 +15,7 @@ returns-in-Ok g c = inl (record {
 
 pub returns-in-Err : goal.returns-in-Err
 returns-in-Err g c = inr (
-  record { opened = refl; uncreated = c.requires.4; unreported = refl; unfailed = refl },
+  record { opened = refl; uncalled = none_called _ _ c.requires.6 c.requires.5; unreported = refl; unfailed = refl },
   no_plan (map string_bytes c.args.words.now) c.in-Err.fault _ c.refuse.ensures c.in-Err.ensures.err
       c.in-Err.ensures.help c.in-Err.ensures.version c.in-Err.ensures.refusal,
 )

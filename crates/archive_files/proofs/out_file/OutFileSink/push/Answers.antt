@@ -1,19 +1,40 @@
-use Rattle.std.proofs.Common.{◌∙◌, ap, sym, option_map, string_bytes, arith}
-use Rattle.archive_files.specs.OutFiles.{account, created_at, took_nothing}
-use Rattle.archive_files.proofs.Accounts.{account_more, took_some}
+use Rattle.std.proofs.Common.{◌∙◌, refl, sym, ap, option_map, string_bytes, subst, take}
+use mathlib.Core.Logic.{∥∥₁_map}
+use Rattle.archive_files.specs.OutFiles.{IsSoFar, has_calls, is_settled, stage_of}
+use Rattle.archive_files.proofs.Placings.{failed_some, more_account, more_so_far, takes_has_calls, took_some}
 use Rattle.archive_files.proofs.out_file.OutFileSink.push.Goals as goal
 
 pub invariant_of-self : goal.invariant_of-self
-invariant_of-self g c = record {
-  place = c.create.ensures.place c.args.self.now.place
-      ∙ ap (λ u. created_at u (option_map string_bytes c.args.self.now.path)) (sym c.write.ensures.untouched);
-  first = c.write.ensures.untouched ∙ c.create.ensures.tried
-      ∙ sym (ap (λ given. took_nothing given c.args.self.now.failures) c.note.ensures
-      ∙ took_some c.args.self.now.given.entries c.args.bytes.now c.in-Some.n c.args.self.now.failures c.if-n-gt0.true
-      c.in-Some.ensures.bound);
-}
+invariant_of-self g c =
+    let old = c.args.self.now in
+    let path = option_map string_bytes old.path in
+    let stage = stage_of c.write.new.state in
+    let begun = c.begin.new.calls.entries in
+    let bytes = take c.in-Some.n c.args.bytes.now in
+    record {
+      so_far = ∥∥₁_map old.so_far (λ so. subst (λ calls. IsSoFar path stage calls) (sym c.writes.ensures)
+          (more_so_far path stage begun bytes (c.in-Some.ensures.takes refl)
+          (subst (λ s. IsSoFar path s begun) (sym c.write.ensures.stage) (c.begin.ensures.so_far so))));
+      empty = λ no. absurd (takes_has_calls stage (c.in-Some.ensures.takes refl) no);
+      first = λ none. absurd (took_some begun _ c.args.bytes.now c.in-Some.n old.failures c.writes.ensures
+          c.if-n-gt0.true c.in-Some.ensures.bound none);
+    }
+
+pub invariant_of-self-in_default : goal.invariant_of-self-in_default
+invariant_of-self-in_default g c =
+    let old = c.args.self.now in
+    let path = option_map string_bytes old.path in
+    record {
+      so_far = ∥∥₁_map old.so_far (λ so. subst (λ s. IsSoFar path s c.begin.new.calls.entries)
+          (sym c.write.ensures.stage) (c.begin.ensures.so_far so));
+      empty = λ no. c.begin.ensures.empty old.empty (ap has_calls (sym c.write.ensures.stage) ∙ no);
+      first = λ none. absurd (failed_some _ old.failures none);
+    }
 
 pub returns-in-Some-clause-bytes : goal.returns-in-Some-clause-bytes
 returns-in-Some-clause-bytes g c =
-    let path = option_map string_bytes c.args.self.now.path in
-    ap (account path) c.note.ensures ∙ account_more path c.args.self.now.given.entries _
+    let old = c.args.self.now in
+    more_account (option_map string_bytes old.path) (stage_of old.state) (stage_of c.write.new.state)
+    old.calls.entries c.begin.new.calls.entries _ (take c.in-Some.n c.args.bytes.now)
+    (ap is_settled c.write.ensures.stage ∙ c.begin.ensures.settled) (c.in-Some.ensures.takes refl)
+    (c.begin.ensures.bytes old.empty) c.writes.ensures

@@ -1,0 +1,149 @@
+//! What stands at OUT's path, and whether it may be replaced. What the system says of it is in no contract.
+
+use archive_records::{Format, MAGIC_LEN};
+use memory::NoMemory;
+use std::alloc::Global;
+use std::fs::{self, Metadata, OpenOptions};
+use std::io::{self, ErrorKind, Read};
+use std::os::unix::fs::MetadataExt;
+use std::rt::Files;
+
+/// How long an archive without records is: its magic, and an end record of a byte and a count.
+const EMPTY_ARCHIVE_LEN: u64 = 17;
+
+/// Why OUT takes no bytes, or was not put in place.
+#[derive(Clone, Copy, Debug, PartialEq, Eq)]
+pub enum OutFault {
+    /// It could not be created, or what is there may not be written.
+    NotCreated,
+    /// What is there is none of symarch's files, or could not be replaced.
+    NotReplaced,
+    /// There was no memory for its names.
+    OutOfMemory,
+}
+
+impl From<NoMemory> for OutFault {
+    fn from(_refused: NoMemory) -> OutFault {
+        OutFault::OutOfMemory
+    }
+}
+
+/// Which of symarch's own files a command replaces.
+#[derive(Clone, Copy, Debug, PartialEq, Eq)]
+pub enum Replaces {
+    /// Each of them.
+    OwnFiles,
+    /// No archive that has records.
+    NoRecords,
+}
+
+/// Who may do what with a file.
+#[derive(Clone, Copy)]
+pub struct Access {
+    pub mode: u32,
+    pub user: u32,
+    pub group: u32,
+}
+
+impl Access {
+    fn of(metadata: &Metadata) -> Access {
+        Access {
+            mode: metadata.mode(),
+            user: metadata.uid(),
+            group: metadata.gid(),
+        }
+    }
+}
+
+/// How OUT is written.
+#[derive(Drop)]
+pub enum Way {
+    /// To what is there, which is no regular file.
+    Through,
+    /// To a draft beside this path, where no symbolic link is; with the access of a file that is there.
+    Beside(String, Option<Access>),
+}
+
+/// How OUT is written that has this path.
+///
+/// What is no regular file is written to, and so is what begins with `/dev/` or `/proc/`, where a regular file may be a
+/// descriptor that others hold. A symbolic link is followed; one that leads to nothing is refused.
+pub fn way_to<F: Files>(
+    alloc: Global,
+    files: &F,
+    path: &str,
+    replaces: Replaces,
+) -> Result<Way, OutFault> {
+    if path.starts_with("/dev/") || path.starts_with("/proc/") {
+        return Ok(Way::Through);
+    }
+    match fs::metadata(files, path) {
+        Ok(metadata) if metadata.is_file() => replaced(alloc, files, path, &metadata, replaces),
+        Ok(_) => Ok(Way::Through),
+        Err(error) if error.kind() == ErrorKind::NotFound => absent(alloc, files, path),
+        Err(_) => Err(OutFault::NotCreated),
+    }
+}
+
+/// The way to a path at which nothing is, but it may be a link.
+fn absent<F: Files>(alloc: Global, files: &F, path: &str) -> Result<Way, OutFault> {
+    if fs::symlink_metadata(files, path).is_ok() {
+        return Err(OutFault::NotCreated);
+    }
+    Ok(Way::Beside(String::from_str(alloc, path)?, None))
+}
+
+/// The way to a regular file, which has to be one that may be written and is replaced.
+fn replaced<F: Files>(
+    alloc: Global,
+    files: &F,
+    path: &str,
+    metadata: &Metadata,
+    replaces: Replaces,
+) -> Result<Way, OutFault> {
+    let Ok(mut file) = OpenOptions::new().read(true).write(true).open(files, path) else {
+        return Err(OutFault::NotCreated);
+    };
+    if metadata.len() > 0 && !is_replaced(&mut file, metadata.len(), replaces) {
+        return Err(OutFault::NotReplaced);
+    }
+    let target = target_of(alloc, files, path)?;
+    Ok(Way::Beside(target, Some(Access::of(metadata))))
+}
+
+/// The path of the file that a path names: its own, unless it is a link.
+fn target_of<F: Files>(alloc: Global, files: &F, path: &str) -> Result<String, OutFault> {
+    match fs::symlink_metadata(files, path) {
+        Ok(metadata) if !metadata.is_symlink() => return Ok(String::from_str(alloc, path)?),
+        _ => {}
+    }
+    match files.canonicalize(alloc, path) {
+        Ok(target) => Ok(target.into_string()),
+        Err(error) if error.kind() == ErrorKind::OutOfMemory => Err(OutFault::OutOfMemory),
+        Err(_) => Err(OutFault::NotCreated),
+    }
+}
+
+/// Whether a file of this length is one of symarch's own that is replaced, told by what it begins with.
+fn is_replaced<R: Read>(file: &mut R, len: u64, replaces: Replaces) -> bool {
+    let Ok(magic) = magic_in(file) else {
+        return false;
+    };
+    let is_archive = [Format::Archive, Format::OldArchive]
+        .iter()
+        .any(|format| format.magic() == magic);
+    let is_other = [Format::Operations, Format::Summary]
+        .iter()
+        .any(|format| format.magic() == magic);
+    match replaces {
+        Replaces::OwnFiles => is_archive || is_other,
+        Replaces::NoRecords => is_other || is_archive && len <= EMPTY_ARCHIVE_LEN,
+    }
+}
+
+/// The first bytes of a file, as many as a magic has.
+fn magic_in<R: Read>(file: &mut R) -> io::Result<[u8; MAGIC_LEN as usize]> {
+    let mut magic = [0; MAGIC_LEN as usize];
+    file.read_exact(&mut magic)?;
+    Ok(magic)
+}
