@@ -60,11 +60,25 @@ def retirement(made):
     return b"\x01" + key_of(made) + hashlib.sha256(made).digest()
 
 
+def admission(made):
+    return b"\x02" + key_of(made) + struct.pack(">Q", len(made)) + made
+
+
 def archive(images, retired=(), magic=b"MSYMARC2"):
     """The archive of these images, and of the retirements of those."""
-    records = {b"\x02" + key_of(made) + struct.pack(">Q", len(made)) + made for made in images}
-    records |= {retirement(made) for made in retired}
+    records = {admission(made) for made in images} | {retirement(made) for made in retired}
     return magic + b"".join(sorted(records)) + b"\x03" + struct.pack(">Q", len(records))
+
+
+def operations(images):
+    """The operations file that admits these images, in their order."""
+    return b"MSYMOPS1" + b"".join(map(admission, images))
+
+
+def summary(images):
+    """The summary of the archive of these images."""
+    entries = {b"\x02" + key_of(made) + hashlib.sha256(made).digest() for made in images}
+    return b"MSYMSUM1" + b"".join(sorted(entries)) + b"\x03" + struct.pack(">Q", len(entries))
 
 
 def line(word, made, path):
