@@ -9,7 +9,7 @@ use Rattle.command_ends.specs.declared.faults.CommandFault.{CommandFault}
 use Rattle.command_ends.specs.declared.faults.CommandFault.TheVariants.{Input, Output, Report, OutOfMemory}
 use Rattle.command_ends.specs.declared.faults.Status.{Status}
 use Rattle.command_ends.specs.declared.outputs.Output.{Output as Out}
-use Rattle.command_ends.specs.Outputs.{IsKept, Outs, Places, Writer, out_of, outs}
+use Rattle.command_ends.specs.Outputs.{IsKept, Outs, Places, Writer, out_of as known_of, outs}
 use Rattle.archive_files.specs.FileCalls.{FileCall, bytes_in}
 use Rattle.archive_files.specs.Placing.{IsPath, IsPlaced, IsRemoved, account}
 use Rattle.archive_files.specs.declared.replaceable.OutFault.{OutFault}
@@ -41,7 +41,7 @@ pub record IsNotPut {D T : Type 0} (out : Outs D T) (ended : Result Status Comma
 
 -- A text was put in place, or OUT is as it was, since the command has none.
 abbrev pub IsPut : {D T : Type 0} → Outs D T → Type 0
-IsPut out = ((text : List ℕ) × Places (out_of out) text) ⊎ (out.new ≡ out.old)
+IsPut out = ((text : List ℕ) × Places (known_of out) text) ⊎ (out.new ≡ out.old)
 
 -- A text is in place where the command ended well, or failed only to report it; else nothing is.
 abbrev pub IsOutcome : {D T : Type 0} → Outs D T → Result Status CommandFault → Type 0
@@ -108,11 +108,11 @@ pub record IsCarriedOut {S D T : Type 0} (calls : Calls S D T) (line : Line) (re
   pub carried : Carried calls.left calls.failures (λ _. Unknown) (Some calls.opened_old) (Some calls.opened_new) line
       (outs_in calls begun done) report ended
   pub outcome : IsOutcome (outs_in calls begun done) ended
-  pub placed : (text : List ℕ) → Places (out_of (outs_in calls begun done)) text
+  pub placed : (text : List ℕ) → Places (known_of (outs_in calls begun done)) text
       → (p : List ℕ) × (path ≡ Some p) × ∥ IsPlaced p text calls.called ∥₁
   pub removed : (not_put : IsNotPut (outs_in calls begun done) ended)
       → ∥ IsRemoved path calls.called ∥₁ × (bytes_in calls.called ≡ not_put.bytes)
-  pub untouched : IsKept (out_of (outs_in calls begun done)) → calls.called ≡ []
+  pub untouched : IsKept (known_of (outs_in calls begun done)) → calls.called ≡ []
   pub told_is : told ≡ command_fault_of calls.fault ended
 
 -- There was no memory to begin the command: nothing was called for OUT, and nothing is told.
