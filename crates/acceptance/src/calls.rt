@@ -69,7 +69,7 @@ impl<'a> Desk<'a> {
                 Ok(Left {
                     end,
                     out,
-                    is_in_place: false,
+                    is_draft: false,
                     report,
                 })
             }

@@ -50,7 +50,7 @@ impl<'a> Desk<'a> {
         let placed = out.target.placed();
         Ok(Left {
             end: End::of_command(ended),
-            is_in_place: placed.is_some(),
+            is_draft: placed.is_none(),
             out: placed.unwrap_or(out.draft.as_slice()).to_vec(self.alloc)?,
             report: report.as_slice().to_vec(self.alloc)?,
         })

@@ -64,8 +64,8 @@ pub struct Left {
     pub end: End,
     /// What was put in OUT's place, or else what its draft has.
     pub out: Vec<u8>,
-    /// Whether it is in place.
-    pub is_in_place: bool,
+    /// Whether it is a draft that was not put in place.
+    pub is_draft: bool,
     /// The report of a command, or the lines that a call gives.
     pub report: Vec<u8>,
 }
@@ -75,7 +75,7 @@ impl Left {
     pub fn is_as(&self, other: &Left) -> bool {
         self.end == other.end
             && self.out == other.out
-            && self.is_in_place == other.is_in_place
+            && self.is_draft == other.is_draft
             && self.report == other.report
     }
 
@@ -88,7 +88,7 @@ impl Left {
             End::Command(_) => {
                 let begun = writes_as_it_reads && whole.out.starts_with(&self.out);
                 self.report.is_empty()
-                    && !self.is_in_place
+                    && (self.is_draft || self.out.is_empty())
                     && (begun || self.out.is_empty() || self.out == whole.out)
             }
         }

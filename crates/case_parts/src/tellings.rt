@@ -18,7 +18,7 @@ pub fn tell_left(left: &Left, told: &mut String) -> Result<(), NoMemory> {
     }
     tell_report(&left.report, told)?;
     if !left.out.is_empty() {
-        told.push_str("  OUT ")?;
+        told.push_str(if left.is_draft { "  draft " } else { "  OUT " })?;
         tell_text(&left.out, told)?;
     }
     tell_end(left.end, told)

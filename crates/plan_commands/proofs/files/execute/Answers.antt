@@ -81,6 +81,6 @@ returns g c =
             );
         untouched = λ kept.
             let is = took [] kept.0.0 in none_called is.1 kept.0.1 kept.1.0;
-        told_is = c.told.ensures;
+        told_is = c.told.ensures ∙ ap (λ fault. command_fault_of fault c.execute_on-ended.result) c.fault.ensures;
       })
     ]
