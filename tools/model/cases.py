@@ -186,9 +186,22 @@ class Short:
             raise CmdFault(place, "failed after %d bytes" % self.most)
 
 
+class Out(Short):
+    """OUT's draft, which is put in place once, where there is a place"""
+
+    def __init__(self, most, places):
+        super().__init__(most)
+        self.places, self.is_draft = places, True
+
+    def place(self):
+        if not self.places:
+            raise CmdFault("output", "failed after %d bytes" % len(self.data))
+        self.is_draft = False
+
+
 class Limits:
     def __init__(self, **k):
-        self.out = self.report = self.opened = INF
+        self.out = self.report = self.opened = self.places = INF
         self.cut = self.read = None
         self.__dict__.update(k)
 
@@ -249,9 +262,13 @@ class Run:
         if lines:
             self.report.push(("\n".join(lines) + "\n").encode("latin-1"), "report")
 
+    def write(self, text):
+        self.out.push(text, "output")
+        self.out.place()
+
     def finish(self, content, lines):
         text = content.text()
-        self.out.push(text, "output")
+        self.write(text)
         self.tell(lines + ["archive: %d records, %d bytes" % (content.len(), len(text))])
         return 0
 
@@ -305,6 +322,7 @@ class Run:
                 assert bytes(self.out.data) == want and (told and (told.side, told.text)) == fault, "merge"
             if told:
                 raise CmdFault("archive %d" % told.side, told.text)
+            self.out.place()
             self.tell(["archive: %d records, %d bytes" % (n, written[0])])
             return 0
         c = self.archive(p["in"], "archive 0")
@@ -369,7 +387,7 @@ class Run:
         c = self.archive(p["archive"], "archive 0")
         e = c.summary()
         text = summary_text(e)
-        self.out.push(text, "output")
+        self.write(text)
         self.tell(["summary: %d entries, %d bytes" % (len(e), len(text))])
         return 0
 
@@ -392,19 +410,19 @@ class Run:
 
 
 class Left:
-    """end: ("done", status), ("refused", CmdFault text), ("given",), ("fault", text)"""
+    """end: ("done", status), ("refused", CmdFault text), ("given",), ("fault", text); out: OUT, or the draft of it"""
 
-    def __init__(self, end, out, report):
-        self.end, self.out, self.report = end, bytes(out), bytes(report)
+    def __init__(self, end, out, report, is_draft=False):
+        self.end, self.out, self.report, self.is_draft = end, bytes(out), bytes(report), is_draft
 
 
 def run_plan(p, open_source, limits):
-    out, report = Short(limits.out), Short(limits.report)
+    out, report = Out(limits.out, limits.places), Short(limits.report)
     try:
         end = ("done", Run(open_source, out, report).run(p))
     except CmdFault as f:
         end = ("refused", "%s: %s" % (f.place, f.text))
-    return Left(end, out.data, report.data)
+    return Left(end, out.data, report.data, out.is_draft)
 
 
 # ---------------------------------------------------------------- calls below the commands
@@ -755,7 +773,7 @@ def left_lines(left):
         return ["  nothing"]
     out = report_lines(left.report)
     if left.out:
-        out.append("  OUT " + text_line(left.out))
+        out.append("  %s %s" % ("draft" if left.is_draft else "OUT", text_line(left.out)))
     if left.end[0] == "done":
         out.append("  status %d" % left.end[1])
     elif left.end[0] == "refused":
@@ -821,12 +839,17 @@ class Folder:
         return None if i is None else self.files[i]
 
     def write(self, name, b):
-        name, i = self.resolve(name)
+        _, i = self.resolve(name)
         if i is None:
-            i = self.next
-            self.next += 1
-            self.names[name] = i
-        self.files[i] = b
+            self.put(name, b)
+        else:
+            self.files[i] = b
+
+    def put(self, name, b):
+        """a new file, in the place of the one that was there"""
+        name, _ = self.resolve(name)
+        self.names[name], self.files[self.next] = self.next, b
+        self.next += 1
 
 
 def inputs_of(p):
@@ -835,10 +858,29 @@ def inputs_of(p):
     return [p[k] for k in keys if k in p] + p.get("file", [])
 
 
+def is_replaced(cmd, there):
+    """whether a command replaces a file with these bytes"""
+    if cmd == "new" and there[:8] in F.magics():
+        return len(there) <= 17
+    return not there or there[:8] in F.magics() + [F.OPS, F.SUM]
+
+
+def out_fault(folder, p):
+    """what stops OUT at its first byte, if something does"""
+    if p["out"] == "/dev/full":
+        return "failed after 0 bytes"
+    o = p["out"][1:]
+    name, i = folder.resolve(o)
+    if i is None:
+        return "cannot create" if "/" in name or o in folder.names else None
+    if i in [folder.resolve(it[1:])[1] for it in inputs_of(p)]:
+        return "cannot create"
+    return None if is_replaced(p["cmd"], folder.files[i]) else "cannot replace"
+
+
 def run_program(folder, words, most):
     words = words_of(words)
     p = plan(words)
-    ins = inputs_of(p)
 
     def open_source(path):
         if not path.startswith("@"):
@@ -847,15 +889,11 @@ def run_program(folder, words, most):
         return None if b is None else Source(b)
     limits = Limits(report=most)
     left = run_plan(p, open_source, limits)
-    if left.out:
-        o = p["out"]
-        if o == "/dev/full":
-            return ["  symarch: output: failed after 0 bytes", "  status 2"]
-        o = o[1:]
-        if ("/" in o and not o.startswith("./")) or (folder.resolve(o)[1] is not None and any(
-                folder.resolve(i[1:])[1] == folder.resolve(o)[1] for i in ins if i.startswith("@"))):
-            return ["  symarch: output: cannot create", "  status 2"]
-        folder.write(o, left.out)
+    fault = out_fault(folder, p) if left.out else None
+    if fault:
+        return ["  symarch: output: " + fault, "  status 2"]
+    if not left.is_draft:
+        folder.put(p["out"][1:], left.out)
     # OUT is a file of the system: its length and digest are not told
     return left_lines(Left(left.end, b"", left.report))
 
@@ -902,7 +940,7 @@ class Bench:
             if what in ("cut", "read"):
                 n, v = value.split(" ")
                 self.limits = self.limits.but(**{what: (n, int(v))})
-            elif what in ("out", "report", "opened"):
+            elif what in ("out", "report", "opened", "places"):
                 self.limits = self.limits.but(**{what: int(value)})
             elif what in ("growths", "bytes"):
                 self.memory = True
@@ -951,7 +989,7 @@ class Bench:
         if memory and wants:
             if p.get("cmd") == "new":
                 self.store[p["out"]] = left.out
-                return ["  OUT " + text_line(left.out)] + old[1:]
+                return ["  draft " + text_line(left.out)] + old[1:]
             raise Copy
         if left.out and "out" in p:
             self.store[p["out"]] = left.out
