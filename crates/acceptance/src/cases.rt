@@ -19,15 +19,16 @@
 //! - `hold growths N`: N growths are granted; `hold bytes N`: growths of N bytes in all are granted to a command, or to
 //!   a call that reads;
 //! - `hold opened N`: N inputs of a command are opened, and then there is no memory to open more;
-//! - `hold out N`, `hold report N`: OUT, or the report, fails when it took N bytes;
+//! - `hold out N`, `hold report N`: OUT, or the report, fails when it took N bytes; `hold places 0`: OUT takes all
+//!   bytes, and cannot be put in place;
 //! - `hold cut NAME N`: a file has its first N bytes alone; `hold read NAME N`: it fails when it gave N bytes;
 //! - `each cut NAME`, `each read NAME`, `each out`, `each report`, `each pieces N` carry the next one out at each
 //!   place, and print places in a row that have one outcome in one line;
 //! - `each growth` carries it out with 0, 1, .. growths until none is refused, and prints how many runs met a refusal
-//!   on either archive. A refused run leaves its report empty and OUT empty or whole; one that writes as it reads
-//!   leaves a beginning. The first run that meets none ends as with ample memory, be it with a fault of its input.
-//!   Where no run meets one, the sweep shows nothing, and is `WRONG`; that a call takes no memory is shown by `hold
-//!   growths 0`.
+//!   on either archive. A refused run leaves its report empty and nothing in place, and OUT's draft empty or whole; one
+//!   that writes as it reads leaves a beginning there. The first run that meets none ends as with ample memory, be it
+//!   with a fault of its input. Where no run meets one, the sweep shows nothing, and is `WRONG`; that a call takes no
+//!   memory is shown by `hold growths 0`.
 //!
 //! Files of the system, in a folder of this run's own:
 //!
@@ -40,8 +41,9 @@
 //! The program over files in memory, whose report stands after `|`:
 //!
 //! - `plan WORD..` prints what a command line asks for, or why it is refused; `-` stands for no words;
-//! - `run WORD..` carries a command line out, and prints the report, the length and the SHA-256 of OUT, the fault and
-//!   the status. OUT is kept as a file where it took bytes.
+//! - `run WORD..` carries a command line out, and prints the report, after `OUT` the length and the SHA-256 of what was
+//!   put in place, or after `draft` those of what was not, the fault and the status. OUT, or its draft, is kept as a
+//!   file where it took bytes.
 //!
 //! Calls below the commands. What one gives stands after `|`, or is `nothing`, and its fault stands in a line of its
 //! own, `Truncated at 8`:

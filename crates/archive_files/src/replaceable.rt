@@ -85,9 +85,10 @@ pub fn way_to<F: Files>(
     }
 }
 
-/// The way to a path at which nothing is, but it may be a link.
+/// The way to a path at which nothing is, unless it is a link, or no file can have that path.
 fn absent<F: Files>(alloc: Global, files: &F, path: &str) -> Result<Way, OutFault> {
-    if fs::symlink_metadata(files, path).is_ok() {
+    let is_no_name = path.is_empty() || path.ends_with('/');
+    if is_no_name || fs::symlink_metadata(files, path).is_ok() {
         return Err(OutFault::NotCreated);
     }
     Ok(Way::Beside(String::from_str(alloc, path)?, None))
