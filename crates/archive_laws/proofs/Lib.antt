@@ -17,3 +17,4 @@ pub mod FindTold
 pub mod FramesTold
 pub mod OneRehearsal
 pub mod Crashes
+pub mod NotPlaced

@@ -5,12 +5,12 @@ ghost use Rattle.std.specs.List.{AllByRecursion, AllZip};
 ghost use Rattle.archive_core.specs.Content.{Operations, IsBelow, IsContent, content_of, joined};
 ghost use Rattle.command_ends.specs.declared.faults.Place.{Place};
 ghost use Rattle.command_ends.specs.declared.faults.Why.{Why};
-ghost use Rattle.command_ends.specs.declared.faults.CommandFault.TheVariants.{Input, OutOfMemory, Output, Report};
+ghost use Rattle.command_ends.specs.declared.faults.CommandFault.TheVariants.{Input, Report};
 ghost use Rattle.command_ends.specs.declared.faults.Status.{Status};
-ghost use Rattle.command_ends.specs.Ends.{Ends};
+ghost use Rattle.command_ends.specs.Ends.{Ends, EndsStreamed};
 ghost use Rattle.command_ends.specs.Inputs.{IsDeviceFault, Reader, IsGivenArchive};
-ghost use Rattle.archive_updates.specs.MergeStreams.{EndsOfOne};
-ghost use Rattle.command_ends.specs.Outputs.{Outs, PlacesNothing, Writer, out_of};
+ghost use Rattle.archive_updates.specs.MergeStreams.{merge_of_one};
+ghost use Rattle.command_ends.specs.Outputs.{Outs, Writer, draft_of, out_of};
 ghost use Rattle.archive_updates.specs.Merge.{merge, merged, operations_of};
 
 use crate::content_laws::contents_join;
@@ -67,22 +67,11 @@ pub fn accepted_archives_are_not_refused<R: Source, S: Source>()
 /// With one FILE `merge` writes and reports the same, where it is not stopped, as if it had read both archives first.
 pub fn both_ways_write_the_same<R: Source, S: Source, D: Sink, T: Target>()
     ensures done { (input : Reader R) (file : Reader S) (out : Outs D T) (report : Writer) (status : Status)
-        → EndsOfOne input file out report (Ok status)
+        → EndsStreamed (merge_of_one input file (draft_of out)) (out_of out) report (Ok status)
         → Ends (merge input (file ∷ [])) (out_of out) report (Ok status) }
     ensures report { (input : Reader R) (file : Reader S) (out : Outs D T) (report : Writer) (n : ℕ)
-        → EndsOfOne input file out report (Err (Report n))
+        → EndsStreamed (merge_of_one input file (draft_of out)) (out_of out) report (Err (Report n))
         → Ends (merge input (file ∷ [])) (out_of out) report (Err (Report n)) }
-{}
-
-/// With one FILE, too, nothing is in place where an input is refused, OUT fails or memory is wanting.
-pub fn merge_of_one_keeps_out<R: Source, S: Source, D: Sink, T: Target>()
-    ensures refused { (input : Reader R) (file : Reader S) (out : Outs D T) (report : Writer) (place : Place) (why : Why)
-        → EndsOfOne input file out report (Err (Input place why)) → PlacesNothing (out_of out) }
-    ensures memory { (input : Reader R) (file : Reader S) (out : Outs D T) (report : Writer)
-        → EndsOfOne input file out report (Err OutOfMemory) → PlacesNothing (out_of out) }
-    ensures output { (input : Reader R) (file : Reader S) (out : Outs D T) (report : Writer) (n : ℕ)
-        → EndsOfOne input file out report (Err (Output n))
-        → out.placed out.new.target ≡ out.placed out.old.target }
 {}
 
 /// Where IN and the one FILE are the texts of contents, neither is refused but for its device.
@@ -93,6 +82,6 @@ pub fn two_accepted_archives_are_not_refused<R: Source, S: Source, D: Sink, T: T
         → IsContent p
         → IsGivenArchive input o
         → IsGivenArchive file p
-        → EndsOfOne input file out report (Err (Input place why))
+        → EndsStreamed (merge_of_one input file (draft_of out)) (out_of out) report (Err (Input place why))
         → IsDeviceFault why }
 {}

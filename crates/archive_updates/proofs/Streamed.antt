@@ -1,4 +1,4 @@
--- How `merge` of one FILE ends, from what its parts did.
+-- How `merge` ends, with one FILE and with others, from what its parts did.
 use Rattle.std.proofs.Common.{◌≡◌, ℕ, List, [], ◌∷◌, length, Option, Some, Result, Ok, Err, refl, ap, sym, ◌∙◌, subst, inl, inr}
 use Rattle.archive_core.specs.Content.{Operations, IsContent, joined}
 use Rattle.archive_records.specs.declared.fault.MergeCause.{MergeCause}
@@ -9,7 +9,7 @@ use Rattle.archive_records.specs.Text.{written, IsArchiveOf}
 use Rattle.archive_records.specs.Reading.{IsOfMachine}
 use Rattle.std.specs.Io.KnownBytes.{Appends}
 use Rattle.byte_device.specs.Devices.{FailedIn, Stream, stream}
-use Rattle.record_merge.specs.Merging.{IsMerged, Merges, StopsBy}
+use Rattle.record_merge.specs.Merging.{GainsCount, IsMerged, Merges, StopsBy}
 use Rattle.report_text.specs.Report.{archive_line}
 use Rattle.byte_device.specs.declared.disks.CannotOpen.{CannotOpen}
 use Rattle.command_ends.specs.declared.faults.CommandFault.{CommandFault}
@@ -18,141 +18,152 @@ use Rattle.command_ends.specs.declared.faults.Place.{Place}
 use Rattle.command_ends.specs.declared.faults.Status.{Status}
 use Rattle.command_ends.specs.declared.faults.Status.TheVariants.{Done}
 use Rattle.command_ends.specs.declared.faults.Why.{Why}
-use Rattle.command_ends.specs.Ends.{Ends, MakesArchive}
-use Rattle.command_ends.specs.Inputs.{Reader, reader, Unfailed, EachUnfailed, IsDeviceFault, failures_of, IsGivenArchive}
+use Rattle.command_ends.specs.Ends.{Carries, Ends, EndsStreamed, IsStopped, MakesArchive}
+use Rattle.command_ends.specs.Inputs.{Reader, reader, Unfailed, EachUnfailed, IsDeviceFault, IsGivenArchive}
 use Rattle.archive_updates.specs.Merge.{MakesMerged, merge}
-use Rattle.archive_updates.specs.MergeStreams.{EndsStreamed, EndsOfOne, EndsMerge, IsMergedInPlace, IsNotPlaced, IsSide, IsStopped, IsMergeFaultTold}
-use Rattle.command_ends.specs.Outputs.{Outs, Writer, FailsBehind, Places, PlacesNothing, Reports, Takes, draft_of, out_of, report_of, sizes_of}
+use Rattle.archive_updates.specs.MergeStreams.{IsMergeFaultTold, IsSide, StopsMerge, StopsMergeOfOne, merge_as_it_comes, merge_of_one}
+use Rattle.command_ends.specs.Outputs.{Outs, Writer, FailsBehind, FailsToPlace, Places, PlacesNothing, Publishes, Reports, Takes, draft_of, out_of, report_of, sizes_of}
+use Rattle.command_ends.proofs.Endings.{as_streamed}
 use Rattle.command_ends.proofs.Readers.{by_device}
 
-module _ {R S D T : Type 0} (left : Stream R) (right : Stream S) (out : Outs D T) (report : Writer) where
-  -- the merge was stopped
-  pub stopped : (e : MergeFault) (fault : CommandFault) → IsStopped left right out report e → IsMergeFaultTold e fault → EndsStreamed left right out report (Err fault)
-  stopped e (Input at why) s t = (e, s, t)
-  stopped e (Output n) s t = inl (e, s, t)
-  stopped e (Report n) s t = absurd t
-  stopped e OutOfMemory s t = inl (e, s, t)
-
-  -- it was done and is in place, and its sizes are told
-  pub done : (sizes : Sizes) (text : List ℕ) (result : Result Status CommandFault) → text ≡ archive_line sizes → IsMergedInPlace left right out sizes → Reports report Done text result → EndsStreamed left right out report result
-  done sizes text (Ok status) e m r = (r.0, sizes, m, subst (Takes report) e r.1)
-  done sizes text (Err (Input at why)) e m r = absurd r
-  done sizes text (Err (Output n)) e m r = absurd r
-  done sizes text (Err (Report n)) e m r = (sizes, m, subst (λ (t : List ℕ). FailsBehind report t n) e r)
-  done sizes text (Err OutOfMemory) e m r = absurd r
-
-  -- it was done, and could not be put in place
-  pub not_placed : (sizes : Sizes) (draft : D) (fault : CommandFault) → fault ≡ Output sizes.bytes
-      → Merges left right (stream out.held out.draft_failures out.old.draft draft) (Ok sizes)
-      → out.held out.new.draft ≡ out.held draft → out.draft_failures out.new.draft ≡ out.draft_failures draft
-      → out.placed out.new.target ≡ out.placed out.old.target → FailedIn (out.failures out.old.target) (out.failures out.new.target)
-      → Takes report [] → EndsStreamed left right out report (Err fault)
-  not_placed sizes draft fault is m held unfailed kept failed told = rw is (inr (
-    record {
-      sizes = sizes;
-      draft = draft;
-      merges = m;
-      count = refl;
-      held = held;
-      draft_unfailed = unfailed;
-      kept = kept;
-      failed = failed;
-    },
-    told,
-  ))
-
--- ---- more than one FILE, or none
-
-module _ {R S D T : Type 0} (input : Reader R) (out : Outs D T) (report : Writer) (result : Result Status CommandFault) where
-  pub of_many : (files : List (Reader S)) → (length files ≡ 1 → ⊥) → Ends (merge input files) (out_of out) report result → EndsMerge input files out report result
-  of_many [] many e = e
-  of_many (file ∷ []) many e = absurd (many refl)
-  of_many (file ∷ next ∷ more) many e = e
-
-abbrev ends : Status → Result Status CommandFault
-ends status = Ok status
-
-abbrev fails : CommandFault → Result Status CommandFault
-fails fault = Err fault
-
--- ---- what one FILE makes
+-- what is told of OUT is how much was written when the merge was stopped
+counted : (e : MergeFault) (fault : CommandFault) (k n : ℕ) → k ≡ e.written → IsMergeFaultTold e fault → fault ≡ Output n → n ≡ k
+counted e (Input at why) k n is told h = cc
+counted e (Output m) k n is told h = sym (is ∙ ap (λ (f : MergeFault). f.written) told ∙ ap count_of h)
+  where
+    count_of : CommandFault → ℕ
+    count_of (Output x) = x
+    count_of (Input at why) = 0
+    count_of (Report x) = 0
+    count_of OutOfMemory = 0
+counted e (Report m) k n is told h = absurd told
+counted e OutOfMemory k n is told h = cc
 
 sizes_are : (sizes : Sizes) (o : Operations) → sizes.records ≡ (sizes_of o).records → sizes.bytes ≡ (sizes_of o).bytes → sizes ≡ sizes_of o
 sizes_are sizes o r b = λ i. record { records = r i; bytes = b i }
 
-module _ {R S D T : Type 0} (left : R → Option (List ℕ)) (failures : R → ℕ) (l l' : R) (new : Result R CannotOpen) (left2 : S → Option (List ℕ)) (failures2 : S → ℕ) (r r' : S) (new2 : Result S CannotOpen) (out : Outs D T) (report : Writer)
-    (is : new ≡ Ok l') (is2 : new2 ≡ Ok r') (sizes : Sizes) (p : IsMergedInPlace (stream left failures l l') (stream left2 failures2 r r') out sizes) where
-  abbrev m : IsMerged (stream left failures l l') (stream left2 failures2 r r') (stream out.held out.draft_failures out.old.draft p.draft) sizes
-  m = p.merges
+-- ---- one FILE, which was opened, as IN was
 
+module _ {R S D T : Type 0} (left : R → Option (List ℕ)) (failures : R → ℕ) (l l' : R) (left2 : S → Option (List ℕ)) (failures2 : S → ℕ) (r r' : S) (out : Outs D T) (report : Writer) where
   abbrev input : Reader R
-  input = reader left failures (Ok l) new
+  input = reader left failures (Ok l) (Ok l')
 
   abbrev file : Reader S
-  file = reader left2 failures2 (Ok r) new2
+  file = reader left2 failures2 (Ok r) (Ok r')
 
-  unfailed : Unfailed input × EachUnfailed (file ∷ [])
-  unfailed = (ap (failures_of failures) is ∙ m.left_is.unfailed, (ap (failures_of failures2) is2 ∙ m.right_is.unfailed, tt))
+  abbrev EndsSo : Result Status CommandFault → Type 0
+  EndsSo result = EndsStreamed (merge_of_one input file (draft_of out)) (out_of out) report result
 
-  makes : MakesArchive (MakesMerged input (file ∷ [])) (written (joined m.o m.p)) (report_of (joined m.o m.p) [])
-  makes = record {
-    content = joined m.o m.p;
-    lines = [];
+  -- the merge was stopped
+  pub stopped : (e : MergeFault) (fault : CommandFault) → Merges (stream left failures l l') (stream left2 failures2 r r') (draft_of out) (Err e)
+      → GainsCount (draft_of out) e.written → IsMergeFaultTold e fault → PlacesNothing (out_of out) → Takes report [] → EndsSo (Err fault)
+  stopped e fault merges count told nothing_placed unreported = by_fault fault told
+    where
+      is : (f : CommandFault) → IsMergeFaultTold e f → IsStopped (merge_of_one input file (draft_of out)) (out_of out) report f
+      is f t = record {
+        stops = (l', r', refl, refl, record { stopped = e; merges = merges; count = count; told = t });
+        bytes = count.0;
+        took = count.1;
+        count = λ n h. counted e f (length count.0) n (sym count.2) t h;
+        nothing_placed = nothing_placed;
+        unreported = unreported;
+      }
+
+      by_fault : (f : CommandFault) → IsMergeFaultTold e f → EndsSo (Err f)
+      by_fault (Input at why) t = is (Input at why) t
+      by_fault (Output n) t = inl (is (Output n) t)
+      by_fault (Report n) t = absurd t
+      by_fault OutOfMemory t = inl (is OutOfMemory t)
+
+  -- it was done
+  module _ (draft : D) (sizes : Sizes) (merges : Merges (stream left failures l l') (stream left2 failures2 r r') (stream out.held out.draft_failures out.old.draft draft) (Ok sizes)) where
+    abbrev m : IsMerged (stream left failures l l') (stream left2 failures2 r r') (stream out.held out.draft_failures out.old.draft draft) sizes
+    m = merges
+
+    abbrev text : List ℕ
+    text = written (joined m.o m.p)
+
+    abbrev told : List ℕ
+    told = report_of (joined m.o m.p) []
+
+    unfailed : Unfailed input × EachUnfailed (file ∷ [])
+    unfailed = (m.left_is.unfailed, (m.right_is.unfailed, tt))
+
+    makes : MakesArchive (MakesMerged input (file ∷ [])) text told
     makes = record {
-      before = m.o;
-      contents = m.p ∷ [];
-      is_content = m.left_is.is;
-      are_contents = (m.right_is.is, tt);
-      archive = m.left_is.text;
-      files_are = (m.right_is.text, tt);
-      content_is = refl;
-      lines_are = refl;
-    };
-    text_is = refl;
-    told_is = refl;
-  }
+      content = joined m.o m.p;
+      lines = [];
+      makes = record {
+        before = m.o;
+        contents = m.p ∷ [];
+        is_content = m.left_is.is;
+        are_contents = (m.right_is.is, tt);
+        archive = m.left_is.text;
+        files_are = (m.right_is.text, tt);
+        content_is = refl;
+        lines_are = refl;
+      };
+      text_is = refl;
+      told_is = refl;
+    }
 
-  told_is : archive_line sizes ≡ report_of (joined m.o m.p) []
-  told_is = ap archive_line (sizes_are sizes (joined m.o m.p) m.written_is.records_are m.written_is.bytes_are)
+    carries : (result : Result Status CommandFault) → Publishes (out_of out) report text told result
+        → Carries (MakesArchive (MakesMerged input (file ∷ []))) (out_of out) report result
+    carries result p = record { text = text; told = told; makes = makes; published = p }
 
-  text_placed : Places (out_of out) (written (joined m.o m.p))
-  text_placed = record {
-    placed = subst (λ (held : Option (List ℕ)). Appends (out.held out.old.draft) held (written (joined m.o m.p))) (sym p.placed) m.written_is.written;
-    emptied = p.emptied;
-    draft_unfailed = p.draft_unfailed ∙ m.written_is.unfailed;
-    unfailed = p.unfailed;
-  }
+    told_is : archive_line sizes ≡ told
+    told_is = ap archive_line (sizes_are sizes (joined m.o m.p) m.written_is.records_are m.written_is.bytes_are)
 
-  done_same : (status : Status) → status ≡ Done → Takes report (archive_line sizes) → Ends (merge input (file ∷ [])) (out_of out) report (Ok status)
-  done_same status is_done told = (unfailed, record { text = written (joined m.o m.p); told = report_of (joined m.o m.p) []; makes = makes; published = (is_done, text_placed, subst (Takes report) told_is told) })
+    -- its text is in place, and its sizes are told
+    pub reported : (said : List ℕ) (result : Result Status CommandFault) → said ≡ archive_line sizes
+        → out.placed out.new.target ≡ out.held draft → out.held out.new.draft ≡ Some [] → out.draft_failures out.new.draft ≡ out.draft_failures draft
+        → out.failures out.new.target ≡ out.failures out.old.target → Reports report Done said result → EndsSo result
+    reported said result is placed emptied draft_unfailed target_unfailed reports = by_result result reports
+      where
+        there : Places (out_of out) text
+        there = record {
+          placed = subst (λ (held : Option (List ℕ)). Appends (out.held out.old.draft) held text) (sym placed) m.written_is.written;
+          emptied = emptied;
+          draft_unfailed = draft_unfailed ∙ m.written_is.unfailed;
+          unfailed = target_unfailed;
+        }
 
-  report_same : (n : ℕ) → FailsBehind report (archive_line sizes) n → Ends (merge input (file ∷ [])) (out_of out) report (Err (Report n))
-  report_same n told = (unfailed, record { text = written (joined m.o m.p); told = report_of (joined m.o m.p) []; makes = makes; published = (text_placed, subst (λ t. FailsBehind report t n) told_is told) })
+        by_result : (r : Result Status CommandFault) → Reports report Done said r → EndsSo r
+        by_result (Ok status) p = (unfailed, carries (Ok status) (p.0, there, subst (Takes report) (is ∙ told_is) p.1))
+        by_result (Err (Input at why)) p = absurd p
+        by_result (Err (Output n)) p = absurd p
+        by_result (Err (Report n)) p = (unfailed, carries (Err (Report n)) (there, subst (λ (t : List ℕ). FailsBehind report t n) (is ∙ told_is) p))
+        by_result (Err OutOfMemory) p = absurd p
 
-module _ {R S D T : Type 0} (left : R → Option (List ℕ)) (failures : R → ℕ) (left2 : S → Option (List ℕ)) (failures2 : S → ℕ) (new : Result R CannotOpen) (new2 : Result S CannotOpen) (out : Outs D T) (report : Writer) where
-  pub one_done : (old : Result R CannotOpen) (old2 : Result S CannotOpen) (status : Status) → EndsOfOne (reader left failures old new) (reader left2 failures2 old2 new2) out report (Ok status)
-      → Ends (merge (reader left failures old new) (reader left2 failures2 old2 new2 ∷ [])) (out_of out) report (Ok status)
-  one_done (Ok l) (Ok r) status e = done_same left failures l e.0 new left2 failures2 r e.1 new2 out report e.2 e.3 e.4.1 e.4.2 status e.4.0 e.4.3
-  one_done (Ok l) (Err x) status e = absurd (not_done e.told)
-    where
-      not_done : {fault : CommandFault} → ends status ≡ fails fault → ⊥
-      not_done h = cc
-  one_done (Err x) old2 status e = absurd (not_done e.told)
-    where
-      not_done : {fault : CommandFault} → ends status ≡ fails fault → ⊥
-      not_done h = cc
+    -- its text could not be put in place
+    pub not_placed : (fault : CommandFault) → fault ≡ Output sizes.bytes → out.held out.new.draft ≡ out.held draft
+        → out.draft_failures out.new.draft ≡ out.draft_failures draft → out.placed out.new.target ≡ out.placed out.old.target
+        → FailedIn (out.failures out.old.target) (out.failures out.new.target) → Takes report [] → EndsSo (Err fault)
+    not_placed fault is held draft_unfailed kept failed unreported = rw is (inr (unfailed, carries (Err (Output sizes.bytes)) (inr (m.written_is.bytes_are, fails), unreported)))
+      where
+        fails : FailsToPlace (out_of out) text
+        fails = record {
+          took = (subst (λ (h : Option (List ℕ)). Appends (out.held out.old.draft) h text) (sym held) m.written_is.written, draft_unfailed ∙ m.written_is.unfailed);
+          kept = kept;
+          failed = failed;
+        }
 
-  pub one_report : (old : Result R CannotOpen) (old2 : Result S CannotOpen) (n : ℕ) → EndsOfOne (reader left failures old new) (reader left2 failures2 old2 new2) out report (Err (Report n))
-      → Ends (merge (reader left failures old new) (reader left2 failures2 old2 new2 ∷ [])) (out_of out) report (Err (Report n))
-  one_report (Ok l) (Ok r) n e = report_same left failures l e.0 new left2 failures2 r e.1 new2 out report e.2 e.3 e.4.0 e.4.1 n e.4.2
-  one_report (Ok l) (Err x) n e = absurd (not_told e.told)
-    where
-      not_told : {at : Place} {why : Why} → fails (Report n) ≡ fails (Input at why) → ⊥
-      not_told h = cc
-  one_report (Err x) old2 n e = absurd (not_told e.told)
-    where
-      not_told : {at : Place} {why : Why} → fails (Report n) ≡ fails (Input at why) → ⊥
-      not_told h = cc
+    -- memory was wanting for its report
+    pub wanting : out.held out.new.draft ≡ out.held draft → out.draft_failures out.new.draft ≡ out.draft_failures draft
+        → PlacesNothing (out_of out) → Takes report [] → EndsSo (Err OutOfMemory)
+    wanting held draft_unfailed nothing_placed unreported = inr (unfailed, carries (Err OutOfMemory) (inr took, nothing_placed, unreported))
+      where
+        took : Takes (out_of out).draft text
+        took = (subst (λ (h : Option (List ℕ)). Appends (out.held out.old.draft) h text) (sym held) m.written_is.written, draft_unfailed ∙ m.written_is.unfailed)
+
+-- ---- more than one FILE, or none
+
+module _ {R S D T : Type 0} (input : Reader R) (out : Outs D T) (report : Writer) (result : Result Status CommandFault) where
+  pub of_many : (files : List (Reader S)) → (length files ≡ 1 → ⊥) → Ends (merge input files) (out_of out) report result
+      → EndsStreamed (merge_as_it_comes input files out) (out_of out) report result
+  of_many [] many e = as_streamed (merge {S = S} input []) (out_of out) report result e
+  of_many (file ∷ []) many e = absurd (many refl)
+  of_many (file ∷ next ∷ more) many e = as_streamed (merge input (file ∷ next ∷ more)) (out_of out) report result e
 
 -- ---- accepted inputs
 
@@ -166,46 +177,14 @@ device_side left right out o p at why (Right fault) n t u co cp is_o is_p go gp 
     by_device fault why told.1 told.2 (alone p cp is_p)
 device_side left right out o p at why Write n t u co cp is_o is_p go gp s told = absurd told
 
-module _ {R S D T : Type 0} (left : R → Option (List ℕ)) (failures : R → ℕ) (left2 : S → Option (List ℕ)) (failures2 : S → ℕ) (new : Result R CannotOpen) (new2 : Result S CannotOpen) (out : Outs D T) (report : Writer) where
+module _ {R S D : Type 0} (left : R → Option (List ℕ)) (failures : R → ℕ) (left2 : S → Option (List ℕ)) (failures2 : S → ℕ) (new : Result R CannotOpen) (new2 : Result S CannotOpen) (draft : Stream D) where
+  abbrev StopsSo : Result R CannotOpen → Result S CannotOpen → CommandFault → Type 0
+  StopsSo old old2 fault = StopsMergeOfOne (reader left failures old new) (reader left2 failures2 old2 new2) draft fault
+
   pub one_device : (old : Result R CannotOpen) (old2 : Result S CannotOpen) (o p : Operations) (at : Place) (why : Why) → IsContent o → IsContent p → IsGivenArchive (reader left failures old new) o → IsGivenArchive (reader left2 failures2 old2 new2) p
-      → EndsOfOne (reader left failures old new) (reader left2 failures2 old2 new2) out report (Err (Input at why)) → IsDeviceFault why
-  one_device (Ok l) (Ok r) o p at why co cp go gp e = device_side (stream left failures l e.0) (stream left2 failures2 r e.1) (draft_of out) o p at why e.4.0.cause e.4.0.written go.0 gp.0 co cp go.1 gp.1 go.2 gp.2 e.4.1.0.0 e.4.2
-  one_device (Ok l) (Err x) o p at why co cp go gp e = absurd gp.2
-  one_device (Err x) old2 o p at why co cp go gp e = absurd go.2
-
--- ---- what is kept
-
-module _ {R S D T : Type 0} (left : R → Option (List ℕ)) (failures : R → ℕ) (left2 : S → Option (List ℕ)) (failures2 : S → ℕ) (new : Result R CannotOpen) (new2 : Result S CannotOpen) (out : Outs D T) (report : Writer) where
-  abbrev EndsSo : Result R CannotOpen → Result S CannotOpen → Result Status CommandFault → Type 0
-  EndsSo old old2 result = EndsOfOne (reader left failures old new) (reader left2 failures2 old2 new2) out report result
-
-  pub keeps_refused : (old : Result R CannotOpen) (old2 : Result S CannotOpen) (at : Place) (why : Why) → EndsSo old old2 (Err (Input at why)) → PlacesNothing (out_of out)
-  keeps_refused (Ok l) (Ok r) at why e =
-      let s : IsStopped (stream left failures l e.0) (stream left2 failures2 r e.1) out report e.4.0 = e.4.1 in s.2
-  keeps_refused (Ok l) (Err x) at why e = e.out_kept.1
-  keeps_refused (Err x) old2 at why e = e.out_kept.1
-
-  pub keeps_wanting : (old : Result R CannotOpen) (old2 : Result S CannotOpen) → EndsSo old old2 (Err OutOfMemory) → PlacesNothing (out_of out)
-  keeps_wanting (Ok l) (Ok r) e = elim e.4 [
-    | inl s ↦ stopped s.0 s.1
-    | inr d ↦ d.2
-  ]
-    where
-      stopped : (f : MergeFault) → IsStopped (stream left failures l e.0) (stream left2 failures2 r e.1) out report f → PlacesNothing (out_of out)
-      stopped f s = s.2
-  keeps_wanting (Ok l) (Err x) e = e.out_kept.1
-  keeps_wanting (Err x) old2 e = e.out_kept.1
-
-  pub keeps_failed : (old : Result R CannotOpen) (old2 : Result S CannotOpen) (n : ℕ) → EndsSo old old2 (Err (Output n)) → out.placed out.new.target ≡ out.placed out.old.target
-  keeps_failed (Ok l) (Ok r) n e = elim e.4 [
-    | inl s ↦ stopped s.0 s.1
-    | inr p ↦ not_put p.0
-  ]
-    where
-      stopped : (f : MergeFault) → IsStopped (stream left failures l e.0) (stream left2 failures2 r e.1) out report f → out.placed out.new.target ≡ out.placed out.old.target
-      stopped f s = s.2.0
-
-      not_put : IsNotPlaced (stream left failures l e.0) (stream left2 failures2 r e.1) out n → out.placed out.new.target ≡ out.placed out.old.target
-      not_put p = p.kept
-  keeps_failed (Ok l) (Err x) n e = e.out_kept.1.0
-  keeps_failed (Err x) old2 n e = e.out_kept.1.0
+      → StopsSo old old2 (Input at why) → IsDeviceFault why
+  one_device (Ok l) (Ok r) o p at why co cp go gp s =
+      let k : StopsMerge (stream left failures l s.0) (stream left2 failures2 r s.1) draft (Input at why) = s.4 in
+      device_side (stream left failures l s.0) (stream left2 failures2 r s.1) draft o p at why k.stopped.cause k.stopped.written go.0 gp.0 co cp go.1 gp.1 go.2 gp.2 k.merges.0 k.told
+  one_device (Ok l) (Err x) o p at why co cp go gp s = absurd gp.2
+  one_device (Err x) old2 o p at why co cp go gp s = absurd go.2

@@ -1,15 +1,14 @@
 //! `merge IN OUT FILE...`.
-ghost use Rattle.std.specs.Prelude.{◌≡◌, ◌+◌, OnOk, IfErr};
+ghost use Rattle.std.specs.Prelude.{◌≡◌, ◌+◌, Ok, OnOk, IfErr};
 ghost use Rattle.archive_core.specs.Content.{Operations, IsContent, joined};
 ghost use Rattle.archive_records.specs.Text.{written};
-ghost use Rattle.command_ends.specs.Ends.{Ends};
+ghost use Rattle.command_ends.specs.Ends.{Ends, EndsStreamed};
 ghost use Rattle.command_ends.specs.Inputs.{EachUnfailed, IsArchive, IsArchiveRefused, IsFirstRefused};
 ghost use Rattle.command_ends.specs.Inputs.{HoldsArchive};
 ghost use Rattle.command_ends.specs.Inputs.{IsRefusal, IsRefusedArchive, Unfailed, reader, readers};
 ghost use Rattle.archive_updates.specs.Merge.{HasJoined, file_place, merge};
-ghost use Rattle.archive_updates.specs.MergeStreams.{EndsMerge, EndsOfOne, EndsStreamed, IsMergeFaultTold};
-ghost use Rattle.command_ends.specs.Outputs.{out_of, outs, writer};
-ghost use Rattle.byte_device.specs.Devices.{stream};
+ghost use Rattle.archive_updates.specs.MergeStreams.{IsMergeFaultTold, merge_as_it_comes, merge_of_one};
+ghost use Rattle.command_ends.specs.Outputs.{draft_of, out_of, outs, writer};
 
 use archive_core::{Archive, take_all};
 use archive_records::{MergeCause, MergeFault};
@@ -99,8 +98,9 @@ fn merge_opened<R: Source, S: Source, T: Target, P: Sink>(
     out: &mut Output<T::Draft, T>,
     report: &mut P,
 ) -> Result<Status, CommandFault>
-    ensures { EndsStreamed (stream R.left R.failures left.old left.new) (stream S.left S.failures right.old right.new)
-        (outs T.Draft.held T.Draft.failures T.placed T.failures out.old out.new)
+    ensures { let known = outs T.Draft.held T.Draft.failures T.placed T.failures out.old out.new in
+        EndsStreamed (merge_of_one (reader R.left R.failures (Ok left.old) (Ok left.new))
+        (reader S.left S.failures (Ok right.old) (Ok right.new)) (draft_of known)) (out_of known)
         (writer P.held P.failures report.old report.new) result }
 {
     let sizes = match merge_streams(&heap, left, right, &mut out.draft) {
@@ -120,8 +120,9 @@ fn merge_one<R: Source, S: Source, T: Target, P: Sink>(
     out: &mut Output<T::Draft, T>,
     report: &mut P,
 ) -> Result<Status, CommandFault>
-    ensures { EndsOfOne (reader R.left R.failures input.old input.new) (reader S.left S.failures file.old file.new)
-        (outs T.Draft.held T.Draft.failures T.placed T.failures out.old out.new)
+    ensures { let known = outs T.Draft.held T.Draft.failures T.placed T.failures out.old out.new in
+        EndsStreamed (merge_of_one (reader R.left R.failures input.old input.new)
+        (reader S.left S.failures file.old file.new) (draft_of known)) (out_of known)
         (writer P.held P.failures report.old report.new) result }
 {
     let left = opened(input, Place::Archive(0))?;
@@ -145,9 +146,9 @@ pub fn run_merge<A: Archive + Drop, R: Source, S: Source, T: Target, P: Sink>(
     out: &mut Output<T::Draft, T>,
     report: &mut P,
 ) -> Result<Status, CommandFault>
-    ensures { EndsMerge
-        (reader R.left R.failures input.old input.new) (readers S.left S.failures files.old files.new)
-        (outs T.Draft.held T.Draft.failures T.placed T.failures out.old out.new)
+    ensures { let known = outs T.Draft.held T.Draft.failures T.placed T.failures out.old out.new in
+        EndsStreamed (merge_as_it_comes (reader R.left R.failures input.old input.new)
+        (readers S.left S.failures files.old files.new) known) (out_of known)
         (writer P.held P.failures report.old report.new) result }
 {
     if files.len() == 1 {

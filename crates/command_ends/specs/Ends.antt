@@ -1,5 +1,6 @@
 -- How a command ends.
-use Rattle.std.specs.Prelude.{◌≡◌, ℕ, List, [], Result, Ok, Err, ◌⊎◌}
+use Rattle.std.specs.Prelude.{◌≡◌, ℕ, List, [], length, Result, Ok, Err, ◌⊎◌}
+use Rattle.std.specs.Io.KnownBytes.{Appends}
 use Rattle.archive_core.specs.Content.{Operations}
 use Rattle.archive_records.specs.Text.{written}
 use Rattle.command_ends.specs.declared.faults.CommandFault.{CommandFault}
@@ -7,7 +8,7 @@ use Rattle.command_ends.specs.declared.faults.CommandFault.TheVariants.{Input, O
 use Rattle.command_ends.specs.declared.faults.Place.{Place}
 use Rattle.command_ends.specs.declared.faults.Status.{Status}
 use Rattle.command_ends.specs.declared.faults.Why.{Why}
-use Rattle.command_ends.specs.Outputs.{Out, Writer, IsKept, Takes, Publishes, Reports, report_of}
+use Rattle.command_ends.specs.Outputs.{Out, Writer, IsKept, PlacesNothing, Takes, Publishes, Reports, report_of}
 
 -- A command that writes OUT, with its inputs: the text of OUT and that of the report that accepted inputs make, which
 -- input is refused, and why, and that no reader fails.
@@ -47,6 +48,53 @@ Ends command out report (Err (Output n)) = command.Unfailed × Carries command.M
 Ends command out report (Err (Report n)) = command.Unfailed × Carries command.Makes out report (Err (Report n))
 Ends command out report (Err OutOfMemory) =
     command.Unfailed × ((IsKept out × Takes report []) ⊎ Carries command.Makes out report (Err OutOfMemory))
+
+-- ---- commands that write while they read
+
+-- A command that writes OUT's draft while it still reads its inputs: the text of OUT and that of the report that accepted
+-- inputs make, what is true of its inputs and of the draft where this fault stopped it before its text was whole, and
+-- that no reader fails.
+pub record Streamed : Type 1 where
+  pub Makes : List ℕ → List ℕ → Type 0
+  pub Stops : CommandFault → Type 0
+  pub Unfailed : Type 0
+
+-- It was stopped with this fault. OUT's draft has some bytes, as many as are told where it failed; nothing is in place, and
+-- nothing was reported.
+pub record IsStopped (command : Streamed) (out : Out) (report : Writer) (fault : CommandFault) : Type 0 where
+  pub stops : command.Stops fault
+  pub bytes : List ℕ
+  pub took : Appends out.draft.old out.draft.new bytes
+  pub count : (n : ℕ) → fault ≡ Output n → n ≡ length bytes
+  pub nothing_placed : PlacesNothing out
+  pub unreported : Takes report []
+
+-- How a command ends that writes while it reads. It was stopped; or its inputs are accepted, and what they make is
+-- published. An input that is refused stops it, and a report that fails does not.
+abbrev pub EndsStreamed : Streamed → Out → Writer → Result Status CommandFault → Type 0
+EndsStreamed command out report (Ok status) = command.Unfailed × Carries command.Makes out report (Ok status)
+EndsStreamed command out report (Err (Input place why)) = IsStopped command out report (Input place why)
+EndsStreamed command out report (Err (Output n)) =
+    IsStopped command out report (Output n) ⊎ (command.Unfailed × Carries command.Makes out report (Err (Output n)))
+EndsStreamed command out report (Err (Report n)) =
+    command.Unfailed × Carries command.Makes out report (Err (Report n))
+EndsStreamed command out report (Err OutOfMemory) =
+    IsStopped command out report OutOfMemory ⊎ (command.Unfailed × Carries command.Makes out report (Err OutOfMemory))
+
+-- what stops a command that writes nothing before all its inputs are accepted
+abbrev pub StopsFirst : Command → Writer → CommandFault → Type 0
+StopsFirst command draft (Input place why) = command.Refuses place why × Takes draft []
+StopsFirst command draft (Output n) = ⊥
+StopsFirst command draft (Report n) = ⊥
+StopsFirst command draft OutOfMemory = command.Unfailed × Takes draft []
+
+-- such a command, as one of those
+abbrev pub reads_first : Command → Writer → Streamed
+reads_first command draft = record {
+  Makes = command.Makes;
+  Stops = StopsFirst command draft;
+  Unfailed = command.Unfailed;
+}
 
 -- A command that only reports, with its input: the status and the text that an accepted input makes, whether it is
 -- refused, and why, and that its reader does not fail.

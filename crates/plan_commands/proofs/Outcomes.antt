@@ -1,40 +1,31 @@
 -- What is put in OUT's place in a command, however it ends.
-use Rattle.std.proofs.Common.{◌≡◌, ◌∙◌, ◌⊎◌, ℕ, List, [], ◌∷◌, length, take, Option, Result, Ok, Err, ap, sym, subst, inl, inr, arith, length-take-le}
+use Rattle.std.proofs.Common.{◌≡◌, ◌∙◌, ◌⊎◌, ℕ, List, [], ◌∷◌, length, take, Option, Result, Ok, Err, refl, ap, sym, subst, inl, inr, arith, length-take-le}
 use Rattle.std.proofs.KnownBytes.{Appends-nil}
 use Rattle.std.specs.FinSet as set
 use Rattle.std.specs.Io.KnownBytes.{Appends}
 use Rattle.clap.specs.Words.{Text}
 use Rattle.command_line.specs.Lines.{Line}
 use Rattle.command_line.specs.Lines as line
-use Rattle.archive_core.specs.Content.{joined}
-use Rattle.record_merge.specs.Merging.{IsMerged}
-use Rattle.byte_device.specs.Devices.{Stream, stream}
 use Rattle.archive_records.specs.Text.{written}
-use Rattle.archive_records.specs.declared.fault.MergeFault.{MergeFault}
-use Rattle.archive_records.specs.declared.writing.Sizes.{Sizes}
 use Rattle.byte_device.specs.declared.disks.CannotOpen.{CannotOpen}
 use Rattle.command_ends.specs.declared.faults.CommandFault.{CommandFault}
 use Rattle.command_ends.specs.declared.faults.CommandFault.TheVariants.{Input, Output, Report, OutOfMemory}
 use Rattle.command_ends.specs.declared.outputs.Output.{Output as Out}
 use Rattle.command_ends.specs.declared.faults.Place.{Place}
-use Rattle.command_ends.specs.declared.faults.Place.TheVariants.{Archive}
 use Rattle.command_ends.specs.declared.faults.Status.{Status}
 use Rattle.command_ends.specs.declared.faults.Why.{Why}
-use Rattle.command_ends.specs.declared.faults.Why.TheVariants.{CannotOpen as NotOpened}
 use Rattle.archive_updates.specs.Admit.{admit}
 use Rattle.archive_updates.specs.Apply.{apply}
 use Rattle.archive_updates.specs.Delta.{delta}
-use Rattle.command_ends.specs.Ends.{Command, Ends, Query}
+use Rattle.command_ends.specs.Ends.{Command, Ends, EndsStreamed, Query, Streamed}
 use Rattle.archive_queries.specs.Find.{find}
 use Rattle.archive_queries.specs.Frames.{frames}
 use Rattle.command_ends.specs.Inputs.{Reader, reader, readers}
 use Rattle.archive_queries.specs.List.{list}
-use Rattle.archive_updates.specs.Merge.{merge}
-use Rattle.archive_updates.specs.MergeStreams.{EndsMerge, EndsOfOne, EndsStreamed, IsMergeFaultTold, IsMergedInPlace, IsNotPlaced}
-use Rattle.archive_updates.specs.MergeStreams.{IsStopped, IsUnopened}
+use Rattle.archive_updates.specs.MergeStreams.{merge_as_it_comes}
 use Rattle.archive_updates.specs.Migrate.{migrate}
 use Rattle.archive_queries.specs.Name.{name}
-use Rattle.command_ends.specs.Outputs.{FailsAt, IsKept, Outs, Publishes, Writer, draft_of, out_of, report_of}
+use Rattle.command_ends.specs.Outputs.{FailsAt, IsKept, Outs, Publishes, Writer, out_of, report_of}
 use Rattle.rehearse.specs.Rehearse.{rehearse}
 use Rattle.archive_updates.specs.Retire.{retire}
 use Rattle.archive_updates.specs.Summary.{summary}
@@ -122,78 +113,22 @@ queried query out report (Err (Output m)) e = absurd e.0
 queried query out report (Err (Report m)) e = inr e.1
 queried query out report (Err OutOfMemory) e = unchanged out (Err OutOfMemory) e.1 (memory_counts 0)
 
--- ---- `merge`
+-- ---- what is written as it is read
 
-module _ {R S D T : Type 0} (left : Stream R) (right : Stream S) (out : Outs D T) (report : Writer) where
-  -- the merge is in place
-  merged_there : (sizes : Sizes) → IsMergedInPlace left right out sizes → IsPut out
-  merged_there sizes p =
-      let m : IsMerged left right (stream out.held out.draft_failures out.old.draft p.draft) sizes = p.merges in
-      let text = written (joined m.o m.p) in
-      inl (
-        text,
-        record {
-          placed = subst (λ held. Appends (out.held out.old.draft) held text) (sym p.placed) m.written_is.written;
-          emptied = p.emptied;
-          draft_unfailed = p.draft_unfailed ∙ m.written_is.unfailed;
-          unfailed = p.unfailed;
-        },
-      )
-
-  not_there : (n : ℕ) → IsNotPlaced left right out n → IsNotPut out (Err (Output n))
-  not_there n p =
-      let m : IsMerged left right (stream out.held out.draft_failures out.old.draft p.draft) p.sizes = p.merges in
-      let text = written (joined m.o m.p) in
-      not_put out (Err (Output n)) text
-      (subst (λ held. Appends (out.held out.old.draft) held text) (sym p.held) m.written_is.written) p.kept
-      (output_counts n (length text) (p.count ∙ m.written_is.bytes_are))
-
-  streamed : (r : Result Status CommandFault) → EndsStreamed left right out report r → IsOutcome out r
-  streamed (Ok status) e = merged_there e.1 e.2
-  streamed (Err (Report n)) e = merged_there e.0 e.1
-  streamed (Err (Input at why)) e =
-      let s : IsStopped left right out report e.0 = e.1 in
-      not_put out (Err (Input at why)) s.1.0 s.1.1 s.2.0 (input_counts at why (length s.1.0))
-  streamed (Err (Output n)) e = elim e [
-    | inl s ↦ stopped s.0 s.1 s.2
-    | inr p ↦ not_there n p.0
-  ]
-    where
-      stopped : (e : MergeFault) → IsStopped left right out report e → IsMergeFaultTold e (Output n)
-          → IsNotPut out (Err (Output n))
-      stopped e s told = not_put out (Err (Output n)) s.1.0 s.1.1 s.2.0
-          (output_counts n (length s.1.0) (sym (ap (λ (f : MergeFault). f.written) told) ∙ s.1.2))
-  streamed (Err OutOfMemory) e = elim e [
-    | inl s ↦ stopped s.0 s.1
-    | inr d ↦ done d.0 d.1 d.2.0
-  ]
-    where
-      stopped : (e : MergeFault) → IsStopped left right out report e → IsNotPut out (Err OutOfMemory)
-      stopped e s = not_put out (Err OutOfMemory) s.1.0 s.1.1 s.2.0 (memory_counts (length s.1.0))
-
-      done : (sizes : Sizes) → IsMerged left right (draft_of out) sizes
-          → out.placed out.new.target ≡ out.placed out.old.target → IsNotPut out (Err OutOfMemory)
-      done sizes m kept =
-          let text = written (joined m.o m.p) in
-          not_put out (Err OutOfMemory) text m.written_is.written kept (memory_counts (length text))
-
-module _ {R S D T : Type 0} (left : R → Option (List ℕ)) (failures : R → ℕ) (left2 : S → Option (List ℕ)) (failures2 : S → ℕ) (new : Result R CannotOpen) (new2 : Result S CannotOpen) (out : Outs D T) (report : Writer) (r : Result Status CommandFault) where
-  unopened : (input : Reader R) (file : Reader S) (at : Place) → IsUnopened input file at out report r → IsOutcome out r
-  unopened input file at e = subst (IsOutcome out) (sym e.told)
-      (kept_out out (Err (Input at NotOpened)) e.out_kept (input_counts at NotOpened 0))
-
-  of_one : (old : Result R CannotOpen) (old2 : Result S CannotOpen)
-      → EndsOfOne (reader left failures old new) (reader left2 failures2 old2 new2) out report r → IsOutcome out r
-  of_one (Ok l) (Ok m) e = streamed (stream left failures l e.0) (stream left2 failures2 m e.1) out report r e.4
-  of_one (Ok l) (Err x) e = unopened (reader left failures (Ok l) new) (reader left2 failures2 (Err x) new2) (Archive 1) e
-  of_one (Err x) old2 e = unopened (reader left failures (Err x) new) (reader left2 failures2 old2 new2) (Archive 0) e
-
-merged : {S D T : Type 0} (input : Reader S) (files : List (Reader S)) (out : Outs D T) (report : Writer)
-    (r : Result Status CommandFault) → EndsMerge input files out report r → IsOutcome out r
-merged {S = S} input [] out report r e = ended (merge {S = S} input []) out report r e
-merged input (file ∷ []) out report r e =
-    of_one input.left input.failures file.left file.failures input.new file.new out report r input.old file.old e
-merged input (file ∷ next ∷ more) out report r e = ended (merge input (file ∷ next ∷ more)) out report r e
+streamed : {D T : Type 0} (command : Streamed) (out : Outs D T) (report : Writer) (r : Result Status CommandFault)
+    → EndsStreamed command (out_of out) report r → IsOutcome out r
+streamed command out report (Ok status) e = published out report e.1.text e.1.told (Ok status) e.1.published
+streamed command out report (Err (Input at why)) e =
+    not_put out (Err (Input at why)) e.bytes e.took e.nothing_placed.0 (input_counts at why (length e.bytes))
+streamed command out report (Err (Output n)) e = elim e [
+  | inl s ↦ not_put out (Err (Output n)) s.bytes s.took s.nothing_placed.0 (output_counts n (length s.bytes) (s.count n refl))
+  | inr c ↦ published out report c.1.text c.1.told (Err (Output n)) c.1.published
+]
+streamed command out report (Err (Report n)) e = published out report e.1.text e.1.told (Err (Report n)) e.1.published
+streamed command out report (Err OutOfMemory) e = elim e [
+  | inl s ↦ not_put out (Err OutOfMemory) s.bytes s.took s.nothing_placed.0 (memory_counts (length s.bytes))
+  | inr c ↦ published out report c.1.text c.1.told (Err OutOfMemory) c.1.published
+]
 
 -- ---- every line
 
@@ -204,7 +139,8 @@ executed (line.new _) inputs out report r e =
 executed (line.admit _ _ _) (input ∷ files) out report r e = ended (admit input files) out report r e
 executed (line.retire _ _ uuid arch digest) (input ∷ _) out report r e =
     ended (retire input (key_of uuid arch) digest) out report r e
-executed (line.merge _ _ _) (input ∷ files) out report r e = merged input files out report r e
+executed (line.merge _ _ _) (input ∷ files) out report r e =
+    streamed (merge_as_it_comes input files out) out report r e
 executed (line.migrate _ _) (input ∷ _) out report r e = ended (migrate input) out report r e
 executed (line.apply _ _ _) (input ∷ ops ∷ _) out report r e = ended (apply input ops) out report r e
 executed (line.find _ uuid) (archive ∷ _) out report r e = queried (find archive uuid) out report r e
