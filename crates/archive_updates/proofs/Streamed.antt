@@ -1,5 +1,5 @@
 -- How `merge` ends, with one FILE and with others, from what its parts did.
-use Rattle.std.proofs.Common.{◌≡◌, ℕ, List, [], ◌∷◌, length, Option, Some, Result, Ok, Err, refl, ap, sym, ◌∙◌, subst, inl, inr}
+use Rattle.std.proofs.Common.{◌≡◌, ℕ, List, [], ◌∷◌, length, MatchResult, Option, Some, Result, Ok, Err, refl, ap, sym, ◌∙◌, subst, inl, inr}
 use Rattle.archive_core.specs.Content.{Operations, IsContent, joined}
 use Rattle.archive_records.specs.declared.fault.MergeCause.{MergeCause}
 use Rattle.archive_records.specs.declared.fault.MergeCause.TheVariants.{Left, Right, Write}
@@ -41,6 +41,11 @@ counted e OutOfMemory k n is told h = cc
 
 sizes_are : (sizes : Sizes) (o : Operations) → sizes.records ≡ (sizes_of o).records → sizes.bytes ≡ (sizes_of o).bytes → sizes ≡ sizes_of o
 sizes_are sizes o r b = λ i. record { records = r i; bytes = b i }
+
+-- what an input lends is what was opened
+pub lent_from : {S : Type 0} (old : Result S CannotOpen) (lent : S) → MatchResult old (λ source. lent ≡ source) (λ _. ⊥) → old ≡ Ok lent
+lent_from {S = S} (Ok source) lent is = ap (λ (s : S). Ok s) (sym is)
+lent_from (Err e) lent is = absurd is
 
 -- ---- one FILE, which was opened, as IN was
 
@@ -162,7 +167,7 @@ module _ {R S D T : Type 0} (input : Reader R) (out : Outs D T) (report : Writer
   pub of_many : (files : List (Reader S)) → (length files ≡ 1 → ⊥) → Ends (merge input files) (out_of out) report result
       → EndsStreamed (merge_as_it_comes input files out) (out_of out) report result
   of_many [] many e = as_streamed (merge {S = S} input []) (out_of out) report result e
-  of_many (file ∷ []) many e = absurd (many refl)
+  of_many (_ ∷ []) many e = absurd (many refl)
   of_many (file ∷ next ∷ more) many e = as_streamed (merge input (file ∷ next ∷ more)) (out_of out) report result e
 
 -- ---- accepted inputs

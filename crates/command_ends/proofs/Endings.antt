@@ -1,5 +1,5 @@
 -- How a command ends, from what its parts did.
-use Rattle.std.proofs.Common.{ℕ, refl, List, [], Result, Ok, Err, inl, inr}
+use Rattle.std.proofs.Common.{◌≡◌, ℕ, refl, List, [], Result, Ok, Err, inl, inr}
 use Rattle.archive_core.specs.Content.{Operations, IsContent}
 use Rattle.archive_records.specs.Text.{written}
 use Rattle.command_ends.specs.declared.faults.CommandFault.{CommandFault}
@@ -90,12 +90,12 @@ module _ (command : Command) (out : Out) (report : Writer) where
   as_streamed (Err (Report n)) e = e
   as_streamed (Err OutOfMemory) e = elim e.1 [
     | inl kept ↦ inl (record {
-        stops = (e.0, kept.0.0);
-        bytes = [];
-        took = kept.0.0.0;
-        count = no_count_memory 0;
-        nothing_placed = kept.0.1;
-        unreported = kept.1;
-      })
+      stops = (e.0, kept.0.0);
+      bytes = [];
+      took = kept.0.0.0;
+      count = no_count_memory 0;
+      nothing_placed = kept.0.1;
+      unreported = kept.1;
+    })
     | inr carried ↦ inr (e.0, carried)
   ]
