@@ -1,5 +1,6 @@
 -- OUT: how far it is, and what is known of it.
-use Rattle.std.specs.Prelude.{◌≡◌, ◌⊎◌, ℕ, Bool, true, false, List, [], ◌++◌, Option, Some, None, string_bytes}
+use Rattle.std.specs.Prelude.{◌≡◌, ◌⊎◌, ℕ, Bool, true, false, List, [], ◌++◌, Option, Some, None, Result, IsErr, string_bytes}
+use Rattle.std.specs.Io.KnownBytes.{WriteAppends}
 use Rattle.archive_files.specs.FileCalls.{FileCall, bytes_in}
 use Rattle.archive_files.specs.Placing.{IsDrafted, IsRemoved, IsWrittenThrough, account}
 use Rattle.archive_files.specs.declared.out_file.OutState.{OutState}
@@ -23,6 +24,17 @@ stage_of (state.Drafted draft) = Drafted (string_bytes draft.path) (string_bytes
 stage_of (state.Refused fault) = Refused fault
 stage_of state.Removed = Removed
 stage_of state.Settled = Settled
+
+-- The file took exactly the first bytes that are told, and none where it failed; where there is no file nothing is told
+-- to be taken.
+abbrev pub WritesTo : {T E : Type 0} → (T → Option (List ℕ)) → OutState T → OutState T → Result ℕ E → List ℕ → Type 0
+WritesTo contents (state.Through old) (state.Through new) result bytes =
+    WriteAppends (contents old) (contents new) result bytes
+WritesTo contents (state.Drafted old) (state.Drafted new) result bytes =
+    WriteAppends (contents old.file) (contents new.file) result bytes
+WritesTo contents (state.Through old) _ result bytes = ⊥
+WritesTo contents (state.Drafted old) _ result bytes = ⊥
+WritesTo contents _ _ result bytes = IsErr result
 
 -- it takes bytes
 abbrev pub takes_bytes : Stage → Bool

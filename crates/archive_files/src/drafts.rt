@@ -1,7 +1,7 @@
 //! Drafts of OUT: a file of its own beside OUT, which takes the bytes and is renamed when it is whole. What the system
 //! does is in no contract; what is called of it is.
 
-ghost use Rattle.std.specs.Prelude.{◌≡◌, ◌∷◌, ◌++◌, ◌⊎◌, [], IfOk, string_bytes, true, false};
+ghost use Rattle.std.specs.Prelude.{◌≡◌, ◌∷◌, ◌++◌, ◌⊎◌, [], IfOk, OnErr, OnOk, string_bytes};
 ghost use Rattle.std.specs.Path.{path_with_file_name};
 ghost use Rattle.archive_files.specs.FileCalls.{Removes, Syncs, SyncsFolder, placing};
 ghost use Rattle.archive_files.specs.Placing.{IsBeside, draft_name, folder_of};
@@ -84,10 +84,10 @@ pub fn create_draft<F: Files>(
         match new_file(files, &path, access) {
             Ok(file) => return Ok(Draft { file, path, target }),
             Err(error) if error.kind() == ErrorKind::AlreadyExists => {}
-            Err(_) => return Err(OutFault::NotCreated),
+            Err(error) => return Err(OutFault::NotCreated(Some(error))),
         }
     }
-    Err(OutFault::NotCreated)
+    Err(OutFault::NotCreated(Some(ErrorKind::AlreadyExists.into())))
 }
 
 /// The folder that a path stands in.
@@ -119,24 +119,28 @@ pub fn remove_draft<F: Files, T>(files: &F, draft: &Draft<T>, calls: &mut FileCa
 }
 
 /// Puts a draft in the place of what it is to replace, or removes it. Its bytes are on the disk before it is renamed.
-pub fn put_draft<F: Files>(files: &F, draft: &Draft<F::File>, calls: &mut FileCalls) -> bool
-    ensures placed { result ≡ true → calls.new.entries ≡ calls.old.entries
+pub fn put_draft<F: Files>(
+    files: &F,
+    draft: &Draft<F::File>,
+    calls: &mut FileCalls,
+) -> io::Result<()>
+    ensures placed { OnOk result (calls.new.entries ≡ calls.old.entries
         ++ placing (string_bytes draft.now.path) (string_bytes draft.now.target)
-        (folder_of (string_bytes draft.now.target)) }
-    ensures removed { result ≡ false
-        → (calls.new.entries ≡ calls.old.entries ++ Removes (string_bytes draft.now.path) ∷ [])
-        ⊎ (calls.new.entries ≡ calls.old.entries ++ Syncs ∷ Removes (string_bytes draft.now.path) ∷ []) }
+        (folder_of (string_bytes draft.now.target))) }
+    ensures removed { OnErr result
+        ((calls.new.entries ≡ calls.old.entries ++ Removes (string_bytes draft.now.path) ∷ [])
+        ⊎ (calls.new.entries ≡ calls.old.entries ++ Syncs ∷ Removes (string_bytes draft.now.path) ∷ [])) }
 {
-    if draft.file.sync_all().is_err() {
+    if let Err(error) = draft.file.sync_all() {
         remove_draft(files, draft, calls);
-        return false;
+        return Err(error);
     }
     calls.syncs();
-    if fs::rename(files, &draft.path, &draft.target).is_err() {
+    if let Err(error) = fs::rename(files, &draft.path, &draft.target) {
         remove_draft(files, draft, calls);
-        return false;
+        return Err(error);
     }
     calls.renames(&draft.path, &draft.target);
     sync_folder(files, folder_of(&draft.target), calls);
-    true
+    Ok(())
 }

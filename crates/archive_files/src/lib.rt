@@ -2,7 +2,8 @@
 //!
 //! - `call_log`: a list of calls that only clauses read;
 //! - `file_calls`: the same, of the calls for one output;
-//! - `system_disk`: files that are read;
+//! - `opened_file`: a file that is read;
+//! - `system_disk`: files by their paths;
 //! - `identities`: which file a path names;
 //! - `replaceable`: what stands at OUT's path, and whether it may be replaced;
 //! - `drafts`: a file beside OUT, which is renamed when it is whole;
@@ -16,6 +17,7 @@ mod call_log;
 mod drafts;
 mod file_calls;
 mod identities;
+mod opened_file;
 mod out_file;
 mod out_path;
 mod placed;
@@ -23,6 +25,7 @@ mod replaceable;
 mod system_disk;
 mod system_files;
 
+pub use opened_file::{Front, OpenedFile};
 pub use out_file::OutFile;
 pub use out_path::OutPath;
 pub use replaceable::{OutFault, Replaces};

@@ -1,10 +1,10 @@
 //! OUT, whose draft is created with its first bytes, and put in place when it is whole. What the files hold is in no
 //! contract; what was called of the system is.
 
-ghost use Rattle.std.specs.Prelude.{◌≡◌, ◌⊎◌, ◌≤◌, ◌<◌, ℕ, List, Option, None, Some, IfSome, IfOk, IsSome, OnErr};
+ghost use Rattle.std.specs.Prelude.{◌≡◌, ◌⊎◌, ◌≤◌, ◌<◌, ℕ, List, Option, None, Some, IfSome, IfOk, IsSome, OnErr, OnOk};
 ghost use Rattle.std.specs.Prelude.{length, true, false, [], option_map, string_bytes};
 ghost use Rattle.archive_files.specs.FileCalls.{bytes_in};
-ghost use Rattle.archive_files.specs.OutFiles.{IsSoFar, Settled, Untouched, draft_account, fault_of};
+ghost use Rattle.archive_files.specs.OutFiles.{IsSoFar, Settled, Untouched, WritesTo, draft_account, fault_of};
 ghost use Rattle.archive_files.specs.OutFiles.{has_calls, is_drafted, is_settled, stage_of, takes_bytes};
 ghost use Rattle.archive_files.specs.Placing.{HandsOn, IsRemoved, took_nothing};
 
@@ -14,7 +14,7 @@ use crate::placed::Placed;
 use crate::replaceable::{OutFault, Replaces, Way, way_to};
 use byte_device::{Failed, Sink};
 use std::alloc::Global;
-use std::io::Write;
+use std::io::{self, Write};
 use std::rt::Files;
 use std::{fs, mem};
 
@@ -32,6 +32,8 @@ pub struct OutFile<'a, F: Files> {
     replaces: Replaces,
     state: OutState<F::File>,
     failures: u64,
+    /// Why it took no bytes last, if the system said.
+    reason: Option<io::Error>,
     calls: FileCalls,
     // What was called is what its state says: nothing before the first bytes and once it was handed on, and nothing
     // where neither bytes nor a failure came.
@@ -74,8 +76,9 @@ fn begun<F: Files>(
 {
     match way_to(alloc, files, path, replaces)? {
         Way::Through => {
-            let Ok(file) = fs::create(files, path) else {
-                return Err(OutFault::NotCreated);
+            let file = match fs::create(files, path) {
+                Ok(file) => file,
+                Err(error) => return Err(OutFault::NotCreated(Some(error))),
             };
             calls.opens(path);
             Ok(OutState::Through(file))
@@ -103,7 +106,7 @@ fn first_state<F: Files>(
     ensures begun { has_calls (stage_of result) ≡ true }
 {
     let Some(path) = path else {
-        return OutState::Refused(OutFault::NotCreated);
+        return OutState::Refused(OutFault::NotCreated(None));
     };
     match begun(alloc, files, process, path, replaces, calls) {
         Ok(state) => state,
@@ -134,16 +137,20 @@ fn begin<F: Files>(
     }
 }
 
-/// Writes some first bytes, and says how many: `None` where no file takes any.
-fn write<T: Write>(state: &mut OutState<T>, bytes: &[u8]) -> Option<usize>
-    ensures bound { IfSome result (λ n. n ≤ length bytes.now) }
+/// Writes some first bytes, and says how many; `Err` with what the system said where the file took none, and with
+/// `None` where there is no file.
+fn write<T: Write>(state: &mut OutState<T>, bytes: &[u8]) -> Result<usize, Option<io::Error>>
+    ensures bound { IfOk result (λ n. n ≤ length bytes.now) }
+    ensures bytes { WritesTo T.contents state.old state.new result bytes.now }
     ensures stage { stage_of state.new ≡ stage_of state.old }
-    ensures takes { IsSome result → takes_bytes (stage_of state.new) ≡ true }
+    ensures takes { OnOk result (takes_bytes (stage_of state.new) ≡ true) }
 {
     match state {
-        OutState::Through(file) => file.write(bytes).ok(),
-        OutState::Drafted(draft) => draft.file.write(bytes).ok(),
-        OutState::Untouched | OutState::Refused(_) | OutState::Removed | OutState::Settled => None,
+        OutState::Through(file) => file.write(bytes).map_err(Some),
+        OutState::Drafted(draft) => draft.file.write(bytes).map_err(Some),
+        OutState::Untouched | OutState::Refused(_) | OutState::Removed | OutState::Settled => Err(
+            None,
+        ),
     }
 }
 
@@ -163,13 +170,13 @@ fn finish<F: Files>(files: &F, state: &mut OutState<F::File>, calls: &mut FileCa
 {
     match mem::replace(state, OutState::Settled) {
         OutState::Through(_) => true,
-        OutState::Drafted(draft) => {
-            let placed = put_draft(files, &draft, calls);
-            if !placed {
-                *state = OutState::Refused(OutFault::NotReplaced);
+        OutState::Drafted(draft) => match put_draft(files, &draft, calls) {
+            Ok(()) => true,
+            Err(error) => {
+                *state = OutState::Refused(OutFault::NotReplaced(Some(error)));
+                false
             }
-            placed
-        }
+        },
         other => {
             *state = other;
             false
@@ -211,6 +218,7 @@ impl<'a, F: Files> OutFile<'a, F> {
             replaces: Replaces::OwnFiles,
             state: OutState::Untouched,
             failures: 0,
+            reason: None,
             calls: FileCalls::new(),
         }
     }
@@ -239,6 +247,15 @@ impl<'a, F: Files> OutFile<'a, F> {
         match self.state {
             OutState::Refused(fault) => Some(fault),
             _ => None,
+        }
+    }
+
+    /// What the system said where it failed, if it did.
+    pub fn reason(&self) -> Option<io::Error> {
+        match self.state {
+            OutState::Refused(OutFault::NotCreated(reason) | OutFault::NotReplaced(reason)) =>
+                reason,
+            _ => self.reason,
         }
     }
 
@@ -320,11 +337,12 @@ impl<'a, F: Files> Sink for OutFile<'a, F> {
             &mut self.calls,
         );
         match write(&mut self.state, bytes) {
-            Some(n) if n > 0 => {
+            Ok(n) if n > 0 => {
                 self.calls.writes(&bytes[..n]);
                 Ok(n)
             }
-            _ => {
+            taken => {
+                self.reason = taken.err().flatten();
                 self.failures += 1;
                 Err(Failed)
             }

@@ -11,13 +11,13 @@ use std::rt::Files;
 /// How long an archive without records is: its magic, and an end record of a byte and a count.
 const EMPTY_ARCHIVE_LEN: u64 = 17;
 
-/// Why OUT takes no bytes, or was not put in place.
-#[derive(Clone, Copy, Debug, PartialEq, Eq)]
+/// Why OUT takes no bytes, or was not put in place, with what the system said, if it was the system that refused.
+#[derive(Clone, Copy, Debug)]
 pub enum OutFault {
     /// It could not be created, or what is there may not be written.
-    NotCreated,
+    NotCreated(Option<io::Error>),
     /// What is there is none of symarch's files, or could not be replaced.
-    NotReplaced,
+    NotReplaced(Option<io::Error>),
     /// There was no memory for its names.
     OutOfMemory,
 }
@@ -81,7 +81,7 @@ pub fn way_to<F: Files>(
         Ok(metadata) if metadata.is_file() => replaced(alloc, files, path, &metadata, replaces),
         Ok(_) => Ok(Way::Through),
         Err(error) if error.kind() == ErrorKind::NotFound => absent(alloc, files, path),
-        Err(_) => Err(OutFault::NotCreated),
+        Err(error) => Err(OutFault::NotCreated(Some(error))),
     }
 }
 
@@ -89,7 +89,7 @@ pub fn way_to<F: Files>(
 fn absent<F: Files>(alloc: Global, files: &F, path: &str) -> Result<Way, OutFault> {
     let is_no_name = path.is_empty() || path.ends_with('/');
     if is_no_name || fs::symlink_metadata(files, path).is_ok() {
-        return Err(OutFault::NotCreated);
+        return Err(OutFault::NotCreated(Some(ErrorKind::NotFound.into())));
     }
     Ok(Way::Beside(String::from_str(alloc, path)?, None))
 }
@@ -102,11 +102,12 @@ fn replaced<F: Files>(
     metadata: &Metadata,
     replaces: Replaces,
 ) -> Result<Way, OutFault> {
-    let Ok(mut file) = OpenOptions::new().read(true).write(true).open(files, path) else {
-        return Err(OutFault::NotCreated);
+    let mut file = match OpenOptions::new().read(true).write(true).open(files, path) {
+        Ok(file) => file,
+        Err(error) => return Err(OutFault::NotCreated(Some(error))),
     };
     if metadata.len() > 0 && !is_replaced(&mut file, metadata.len(), replaces) {
-        return Err(OutFault::NotReplaced);
+        return Err(OutFault::NotReplaced(None));
     }
     let target = target_of(alloc, files, path)?;
     Ok(Way::Beside(target, Some(Access::of(metadata))))
@@ -121,7 +122,7 @@ fn target_of<F: Files>(alloc: Global, files: &F, path: &str) -> Result<String, O
     match files.canonicalize(alloc, path) {
         Ok(target) => Ok(target.into_string()),
         Err(error) if error.kind() == ErrorKind::OutOfMemory => Err(OutFault::OutOfMemory),
-        Err(_) => Err(OutFault::NotCreated),
+        Err(error) => Err(OutFault::NotCreated(Some(error))),
     }
 }
 

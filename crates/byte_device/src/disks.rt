@@ -7,10 +7,14 @@ use crate::Source;
 use memory::NoMemory;
 use std::error::Error;
 use std::fmt::{self, Display};
+use std::io;
 
 /// An input could not be opened.
-#[derive(Clone, Copy, Debug, PartialEq, Eq)]
-pub struct CannotOpen;
+#[derive(Clone, Copy, Debug)]
+pub struct CannotOpen {
+    /// What the system said.
+    pub reason: io::Error,
+}
 
 /// The file of an output could not be created.
 #[derive(Clone, Copy, Debug, PartialEq, Eq)]
@@ -23,13 +27,16 @@ pub trait Disk {
     // What is known of the file at a path.
     ghost file_at: { Self → Path → FileAt };
 
+    // The path at which an input was opened, alone in the list, where its disk says it.
+    ghost path_of: { Self.Input → List Path };
+
     // The paths that were opened, in their order, where they are known.
     ghost opened: { Self → Option (List Path) };
 
     /// Opens the file at a path, if that can be done. Where memory is wanting it was opened too.
     fn open(&mut self, path: &str) -> Result<Result<Self::Input, CannotOpen>, NoMemory>
         ensures input { IfOk result
-            (λ input. IsOpened Self.Input.left Self.Input.failures (file_at self.old path.now) input) }
+            (λ input. IsOpened Self.Input.left Self.Input.failures path_of (file_at self.old path.now) input) }
         ensures files { file_at self.new ≡ file_at self.old }
         ensures opened { opened self.new ≡ opened_with (opened self.old) (path.now ∷ []) };
 }

@@ -3,13 +3,14 @@
 ghost use Rattle.std.specs.Prelude.{◌≡◌, ℕ};
 
 use crate::{Failed, Sink, Source};
-use std::io::{Read, Write};
+use std::io::{self, Read, Write};
 
 /// The bytes of a reader. Each error of the reader, `Interrupted` too, is a failure.
 #[derive(Drop)]
 pub struct Reading<R> {
     reader: R,
     failures: u64,
+    reason: Option<io::Error>,
 }
 
 impl<R: Read + Drop> Reading<R> {
@@ -21,7 +22,13 @@ impl<R: Read + Drop> Reading<R> {
         Reading {
             reader,
             failures: 0,
+            reason: None,
         }
+    }
+
+    /// The reader's last error, if it had one.
+    pub fn reason(&self) -> Option<io::Error> {
+        self.reason
     }
 }
 
@@ -36,7 +43,8 @@ impl<R: Read + Drop> Source for Reading<R> {
         }
         match self.reader.read(buf) {
             Ok(n) => Ok(n),
-            Err(_) => {
+            Err(error) => {
+                self.reason = Some(error);
                 self.failures += 1;
                 Err(Failed)
             }
@@ -51,6 +59,7 @@ impl<R: Read + Drop> Source for Reading<R> {
 pub struct Writing<W> {
     writer: W,
     failures: u64,
+    reason: Option<io::Error>,
 }
 
 impl<W: Write + Drop> Writing<W> {
@@ -62,7 +71,13 @@ impl<W: Write + Drop> Writing<W> {
         Writing {
             writer,
             failures: 0,
+            reason: None,
         }
+    }
+
+    /// The writer's last error, if it had one.
+    pub fn reason(&self) -> Option<io::Error> {
+        self.reason
     }
 }
 
@@ -77,7 +92,8 @@ impl<W: Write + Drop> Sink for Writing<W> {
         }
         match self.writer.write(bytes) {
             Ok(n) if n > 0 || bytes.is_empty() => Ok(n),
-            _ => {
+            taken => {
+                self.reason = taken.err();
                 self.failures += 1;
                 Err(Failed)
             }

@@ -36,7 +36,7 @@ pub fn opened<S>(input: &mut Result<S, CannotOpen>, at: Place) -> Result<&mut S,
 {
     match input {
         Ok(source) => Ok(source),
-        Err(CannotOpen) => Err(CommandFault::Input(at, Why::CannotOpen)),
+        Err(_) => Err(CommandFault::Input(at, Why::CannotOpen)),
     }
 }
 
