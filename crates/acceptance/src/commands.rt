@@ -10,7 +10,7 @@ use memory::{Heap, NoMemory};
 use plan_commands::execute_on;
 
 impl<'a> Disk for Desk<'a> {
-    ghost use Rattle.std.specs.Prelude.{None, is_some, option_map, if◌then◌else◌};
+    ghost use Rattle.std.specs.Prelude.{[], None, is_some, option_map, if◌then◌else◌};
     ghost use Rattle.std.specs.BTreeMap.{get_by_text};
     ghost use Rattle.byte_device.specs.Disks.{Unknown, file_of};
 
@@ -19,6 +19,8 @@ impl<'a> Disk for Desk<'a> {
     // Of files nothing is known where one of them is cut.
     ghost file_at = { λ desk path. if is_some desk.limits.cut then Unknown
         else file_of (option_map (λ v. v.items) (get_by_text desk.store.now.files path)) };
+
+    ghost path_of = { λ _. [] };
 
     ghost opened = { λ _. None };
 
@@ -39,10 +41,12 @@ impl<'a> Desk<'a> {
             target: Shelf::new(Heap::new(self.alloc)?, self.limits.places),
         };
         let mut report = StrictSink::new(Heap::new(self.alloc)?, self.limits.report);
+        let mut inputs = Vec::new(self.alloc);
         let ended = execute_on::<A, A, _, _, _>(
             self.alloc,
             self.heap()?,
             &mut self,
+            &mut inputs,
             plan,
             &mut out,
             &mut report,

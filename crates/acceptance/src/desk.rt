@@ -1,6 +1,6 @@
 //! What a case goes over: files in memory, and what its devices give and take.
 
-ghost use Rattle.std.specs.Prelude.{◌≡◌, None, option_map};
+ghost use Rattle.std.specs.Prelude.{◌≡◌, [], None, option_map};
 ghost use Rattle.std.specs.BTreeMap.{get_by_text};
 ghost use Rattle.byte_device.specs.Disks.{IsOpened, file_of};
 
@@ -8,6 +8,7 @@ use byte_device::{CannotOpen, Source};
 use case_parts::{CaseFault, Limits, Store, StrictSource};
 use memory::{Heap, NoMemory};
 use std::alloc::Global;
+use std::io::ErrorKind;
 
 /// The archive that a case is tried on.
 #[derive(Clone, Copy, Debug)]
@@ -42,11 +43,13 @@ impl<'a> Desk<'a> {
     pub fn input(self, name: &str) -> Result<StrictSource<'a>, CannotOpen>
         ensures { self.entry.limits.cut ≡ None
             → IsOpened ⟦<StrictSource<'a> as Source>⟧.left
-            ⟦<StrictSource<'a> as Source>⟧.failures
+            ⟦<StrictSource<'a> as Source>⟧.failures (λ _. [])
             (file_of (option_map (λ v. v.items) (get_by_text self.entry.store.now.files name.now))) result }
     {
         let Some(bytes) = self.bytes(name) else {
-            return Err(CannotOpen);
+            return Err(CannotOpen {
+                reason: ErrorKind::NotFound.into(),
+            });
         };
         let size = self.limits.pieces.max(1);
         Ok(StrictSource::new(bytes, size, self.limits.given_of(name)))

@@ -6,7 +6,7 @@ use case_parts::{
 };
 use command_line::{LineFault, Plan, plan};
 use memory::{Heap, NoMemory};
-use plan_commands::execute;
+use plan_commands::{Seen, execute};
 use std::os::unix::fs::symlink;
 use std::rt::Files;
 use std::{fs, io, process};
@@ -102,7 +102,8 @@ impl<'a, R: Files + AllocGlobal> Folder<'a, R> {
     fn tell_run(&self, plan: &Plan, most: usize, told: &mut String) -> Result<(), CaseFault> {
         let mut report = StrictSink::new(Heap::new(self.rt.alloc())?, most);
         let mut files = SystemFiles::new(self.rt.alloc(), self.rt, self.process);
-        let ended = execute(&mut files, plan, &mut report);
+        let mut seen = Seen::NOTHING;
+        let ended = execute(&mut files, plan, &mut report, &mut seen);
         tell_report(report.as_slice(), told)?;
         Ok(tell_ended(ended, told)?)
     }

@@ -112,17 +112,11 @@ hands_on_draft path draft target calls new so is =
       }),
     )
 
--- a draft that was put in place or removed has the same bytes
-pub put_bytes : (placed : Bool) (draft target folder : List ℕ) (calls new : List FileCall)
-    → (placed ≡ true → new ≡ calls ++ placing draft target folder)
-    → (placed ≡ false → (new ≡ calls ++ Removes draft ∷ []) ⊎ (new ≡ calls ++ Syncs ∷ Removes draft ∷ []))
-    → bytes_in new ≡ bytes_in calls
-put_bytes true draft target folder calls new done not =
-    ap bytes_in (done refl) ∙ bytes_same calls (placing draft target folder) refl
-put_bytes false draft target folder calls new done not = elim (not refl) [
-  | inl removed ↦ ap bytes_in removed ∙ bytes_same calls (Removes draft ∷ []) refl
-  | inr synced ↦ ap bytes_in synced ∙ bytes_same calls (Syncs ∷ Removes draft ∷ []) refl
-]
+-- a draft that was removed has the same bytes
+pub removed_bytes : (draft : List ℕ) (calls new : List FileCall)
+    → (new ≡ calls ++ Removes draft ∷ []) ⊎ (new ≡ calls ++ Syncs ∷ Removes draft ∷ []) → bytes_in new ≡ bytes_in calls
+removed_bytes draft calls new (inl removed) = ap bytes_in removed ∙ bytes_same calls (Removes draft ∷ []) refl
+removed_bytes draft calls new (inr synced) = ap bytes_in synced ∙ bytes_same calls (Syncs ∷ Removes draft ∷ []) refl
 
 -- ---- states
 

@@ -59,12 +59,12 @@ pub record IsDraftRemoved (calls : List FileCall) : Type 0 where
   pub is_drafted : IsDrafted draft target drafted
   pub calls_are : (calls ≡ drafted ++ Removes draft ∷ []) ⊎ (calls ≡ drafted ++ Syncs ∷ Removes draft ∷ [])
 
--- Nothing was called for OUT; or it has this path, and had a draft, which was removed, or is no regular file, and bytes
--- went to it.
+-- Nothing was called for OUT; or it has this path, and had a draft, which was removed; or, at this path, it is no regular
+-- file, and bytes went to it.
 abbrev pub IsRemoved : Option (List ℕ) → List FileCall → Type 0
 IsRemoved path calls =
-    (calls ≡ []) ⊎ ((p : List ℕ) × (path ≡ Some p)
-    × (IsDraftRemoved calls ⊎ ((text : List ℕ) × IsWrittenThrough p text calls)))
+    (calls ≡ []) ⊎ ((p : List ℕ) × (path ≡ Some p) × IsDraftRemoved calls)
+    ⊎ ((p : List ℕ) × (path ≡ Some p) × (text : List ℕ) × IsWrittenThrough p text calls)
 
 -- OUT has a path, at which the bytes of these calls are
 abbrev pub HandsOn : Option (List ℕ) → List FileCall → Type 0

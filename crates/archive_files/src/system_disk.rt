@@ -1,6 +1,6 @@
 //! Files of the system that are read. What they hold is in no contract, and which were opened is.
 
-ghost use Rattle.std.specs.Prelude.{◌≡◌, ◌≢◌, Err, Ok};
+ghost use Rattle.std.specs.Prelude.{◌≡◌, ◌≢◌, Err, IsErr, Ok};
 ghost use Rattle.std.specs.IoError.{error_kind};
 
 use crate::call_log::CallLog;
@@ -40,7 +40,7 @@ impl<'a, F: Files> SystemDisk<'a, F> {
 
 /// What is handed out where a file was not opened for this reason.
 fn unopened<T>(reason: io::Error) -> Result<Result<T, CannotOpen>, NoMemory>
-    ensures memory { error_kind reason ≡ ErrorKind.OutOfMemory → result ≡ Err NoMemory }
+    ensures memory { error_kind reason ≡ ErrorKind.OutOfMemory → IsErr result }
     ensures other { error_kind reason ≢ ErrorKind.OutOfMemory → result ≡ Ok (Err (record { reason = reason })) }
 {
     if reason.kind() == ErrorKind::OutOfMemory {

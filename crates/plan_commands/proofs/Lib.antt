@@ -1,3 +1,4 @@
 pub mod Opened
 pub mod Places
+pub mod Pathless
 pub mod Outcomes

@@ -1,5 +1,5 @@
 -- Inputs that are opened one after another.
-use Rattle.std.proofs.Common.{◌≡◌, ◌∙◌, ℕ, ◌+◌, ◌<◌, List, [], ◌∷◌, ◌++◌, length, take, map, get_or, suc, refl, ap, sym}
+use Rattle.std.proofs.Common.{◌≡◌, ◌∙◌, ℕ, ◌+◌, ◌<◌, List, [], ◌∷◌, ◌++◌, length, take, map, zip, get_or, suc, refl, ap, sym, arith}
 use Rattle.std.proofs.Common.{Option, Some, None, Result, Ok, Err, OnErr, append_assoc, subst}
 use Rattle.std.proofs.lemmas.List.{map_more, take-map}
 use Rattle.std.specs.List.{AllZip}
@@ -17,15 +17,15 @@ zip_more R (a ∷ xs) [] x y all one = absurd all
 zip_more R (a ∷ xs) (b ∷ ys) x y all one = (all.0, zip_more R xs ys x y all.1 one)
 
 -- one more input is opened, of a disk that is as it was
-pub inputs_more : {S X : Type 0} (left : S → Option (List ℕ)) (failures : S → ℕ) (f : X → Text) (xs : List X) (i : ℕ)
+pub inputs_more : {S X : Type 0} (left : S → Option (List ℕ)) (failures : S → ℕ) (path_of : S → List Text) (f : X → Text) (xs : List X) (i : ℕ)
     (ys zs : List (Result S CannotOpen)) (d : X) (y : Result S CannotOpen) (first last : Text → FileAt)
-    → i < length xs → zs ≡ ys ++ y ∷ [] → last ≡ first → AreOpened left failures first (map f (take i xs)) ys
-    → IsOpened left failures (last (f (get_or xs i d))) y
-    → AreOpened left failures first (map f (take (i + 1) xs)) zs
-inputs_more left failures f xs i ys zs d y first last lt is same all one =
+    → i < length xs → zs ≡ ys ++ y ∷ [] → last ≡ first → AreOpened left failures path_of first (map f (take i xs)) ys
+    → IsOpened left failures path_of (last (f (get_or xs i d))) y
+    → AreOpened left failures path_of first (map f (take (i + 1) xs)) zs
+inputs_more left failures path_of f xs i ys zs d y first last lt is same all one =
     rw (map_more f xs i d lt, is)
-    (zip_more (λ path input. IsOpened left failures (first path) input) (map f (take i xs)) ys (f (get_or xs i d)) y all
-    (subst (λ at. IsOpened left failures (at (f (get_or xs i d))) y) same one))
+    (zip_more (λ path input. IsOpened left failures path_of (first path) input) (map f (take i xs)) ys (f (get_or xs i d)) y all
+    (subst (λ at. IsOpened left failures path_of (at (f (get_or xs i d))) y) same one))
 
 -- one more path is opened
 pub opened_more : {X : Type 0} (f : X → Text) (xs : List X) (i : ℕ) (d : X) (first last new : Option (List Text))
@@ -58,3 +58,27 @@ as_many R [] [] all = refl
 as_many R [] (y ∷ ys) all = absurd all
 as_many R (x ∷ xs) [] all = absurd all
 as_many R (x ∷ xs) (y ∷ ys) all = ap suc (as_many R xs ys all.1)
+
+-- ---- states before a call and behind it
+
+-- what relates what stands before the call relates the states
+pub before_is : {A B C : Type 0} (R : A → B → Type 0) (xs : List A) (old : List B) (new : List C) → length new ≡ length old
+    → AllZip R xs old → AllZip (λ x state. R x state.0) xs (zip old new)
+before_is R [] [] new long all = tt
+before_is R [] (b ∷ old) new long all = absurd all
+before_is R (a ∷ xs) [] new long all = absurd all
+before_is R (a ∷ xs) (b ∷ old) [] long all = let e = long in grind (arith, e)
+before_is R (a ∷ xs) (b ∷ old) (c ∷ new) long all = (all.0, before_is R xs old new (suc_inj long) all.1)
+  where
+    suc_inj : {n m : ℕ} → suc n ≡ suc m → n ≡ m
+    suc_inj e = grind (arith, e)
+
+-- and what stands behind it is theirs
+pub behind_is : {B C : Type 0} (old : List B) (new : List C) → length new ≡ length old → map (λ state. state.1) (zip old new) ≡ new
+behind_is [] [] long = refl
+behind_is [] (c ∷ new) long = let e = long in grind (arith, e)
+behind_is (b ∷ old) [] long = let e = long in grind (arith, e)
+behind_is (b ∷ old) (c ∷ new) long = ap (λ rest. c ∷ rest) (behind_is old new (suc_inj long))
+  where
+    suc_inj : {n m : ℕ} → suc n ≡ suc m → n ≡ m
+    suc_inj e = grind (arith, e)

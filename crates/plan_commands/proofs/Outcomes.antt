@@ -1,5 +1,5 @@
 -- What is put in OUT's place in a command, however it ends.
-use Rattle.std.proofs.Common.{◌≡◌, ◌∙◌, ◌⊎◌, ℕ, List, [], ◌∷◌, length, take, Option, Result, Ok, Err, refl, ap, sym, subst, inl, inr, arith, length-take-le}
+use Rattle.std.proofs.Common.{◌≡◌, ◌∙◌, ◌⊎◌, ℕ, List, [], ◌∷◌, length, map, take, Option, Result, Ok, Err, refl, ap, sym, subst, inl, inr, arith, length-take-le}
 use Rattle.std.proofs.KnownBytes.{Appends-nil}
 use Rattle.std.specs.FinSet as set
 use Rattle.std.specs.Io.KnownBytes.{Appends}
@@ -20,7 +20,7 @@ use Rattle.archive_updates.specs.Delta.{delta}
 use Rattle.command_ends.specs.Ends.{Command, Ends, EndsStreamed, Query, Streamed}
 use Rattle.archive_queries.specs.Find.{find}
 use Rattle.archive_queries.specs.Frames.{frames}
-use Rattle.command_ends.specs.Inputs.{Reader, reader, readers}
+use Rattle.command_ends.specs.Inputs.{Reader, reader}
 use Rattle.archive_queries.specs.List.{list}
 use Rattle.archive_updates.specs.MergeStreams.{merge_as_it_comes}
 use Rattle.archive_updates.specs.Migrate.{migrate}
@@ -154,8 +154,9 @@ executed (line.delta _ _ _) (archive ∷ named ∷ _) out report r e = ended (de
 executed (line.rehearse _) (script ∷ _) out report r e = queried (rehearse script) out report r e
 executed _ _ out report r e = absurd e
 
-pub carried_outcome : {S D T : Type 0} (left : S → Option (List ℕ)) (failures : S → ℕ) (file_at : Text → FileAt)
-    (old new : Option (List Text)) (l : Line) (out : Outs D T) (report : Writer) (r : Result Status CommandFault)
-    → Carried left failures file_at old new l out report r → IsOutcome out r
-carried_outcome left failures file_at old new l out report r c =
-    executed l (readers left failures c.old c.new) out report r c.executes
+pub carried_outcome : {S D T : Type 0} (left : S → Option (List ℕ)) (failures : S → ℕ) (path_of : S → List Text)
+    (file_at : Text → FileAt) (old new : Option (List Text)) (l : Line) (behind : List (Result S CannotOpen)) (out : Outs D T)
+    (report : Writer) (r : Result Status CommandFault)
+    → Carried left failures path_of file_at old new l behind out report r → IsOutcome out r
+carried_outcome left failures path_of file_at old new l behind out report r c =
+    executed l (map (λ state. reader left failures state.0 state.1) c.states) out report r c.executes

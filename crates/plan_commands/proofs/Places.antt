@@ -1,8 +1,9 @@
 -- What is in place of OUT, by what is known of it.
 use Rattle.std.proofs.Common.{◌≡◌, ◌∙◌, ◌⊎◌, ℕ, ◌==◌, ◌&&◌, Bool, true, false, List, [], ◌∷◌, ◌++◌, length, take, drop, get_or, suc}
-use Rattle.std.proofs.Common.{Option, Some, None, Result, OnOk, refl, ap, sym, subst, append_assoc, append-nil, arith, string_bytes}
+use Rattle.std.proofs.Common.{Option, Some, None, Result, OnOk, refl, ap, sym, subst, inl, inr, append_assoc, append-nil, arith, string_bytes}
 use Rattle.std.proofs.lemmas.List.{append_cancel_left}
 use Rattle.std.proofs.Math.Seq.{take-append_seam}
+use Rattle.std.proofs.lemmas.Grind.{not_there}
 use mathlib.Core.Logic.{∥∥₁_map}
 use Rattle.std.specs.Io.KnownBytes.{Appends}
 use Rattle.clap.specs.Words.{Text}
@@ -11,11 +12,12 @@ use Rattle.command_ends.specs.declared.faults.CommandFault.{CommandFault}
 use Rattle.command_ends.specs.declared.faults.Status.{Status}
 use Rattle.command_ends.specs.Outputs.{Outs, Writer}
 use Rattle.plan_commands.specs.Disks.{AreFirstOpened, Carried}
-use Rattle.byte_device.specs.Disks.{Unknown}
+use Rattle.byte_device.specs.declared.disks.CannotOpen.{CannotOpen}
+use Rattle.byte_device.specs.Disks.{At}
 use Rattle.archive_files.specs.FileCalls.{FileCall, bytes_in}
 use Rattle.archive_files.specs.OutFiles.{Stage, Untouched, Through, Drafted, Refused, Removed, Settled}
 use Rattle.archive_files.specs.OutFiles.{draft_account, has_calls, is_settled, placed_account, placing_calls}
-use Rattle.archive_files.specs.Placing.{IsPath, IsPlaced, account, place, took_nothing}
+use Rattle.archive_files.specs.Placing.{IsPath, IsPlaced, IsRemoved, account, place, took_nothing}
 use Rattle.archive_files.specs.declared.placed.Placed.{Placed}
 
 -- what is known tells the path
@@ -103,12 +105,29 @@ pub first_from : (old first : List Text) (new : Option (List Text)) (paths : Lis
     → AreFirstOpened (Some first) new paths → AreFirstOpened (Some old) new paths
 first_from old first new paths same opened = subst (λ o. AreFirstOpened (Some o) new paths) same opened
 
-pub carried_from : {S D T : Type 0} (left : S → Option (List ℕ)) (failures : S → ℕ) (old first : List Text)
-    (new : Option (List Text)) (line : Line) (out : Outs D T) (report : Writer) (ended : Result Status CommandFault)
-    → first ≡ old → Carried left failures (λ _. Unknown) (Some first) new line out report ended
-    → Carried left failures (λ _. Unknown) (Some old) new line out report ended
-carried_from left failures old first new line out report ended same carried =
-    subst (λ o. Carried left failures (λ _. Unknown) (Some o) new line out report ended) same carried
+pub carried_from : {S D T : Type 0} (left : S → Option (List ℕ)) (failures : S → ℕ) (path_of : S → List Text) (old first : List Text)
+    (new : Option (List Text)) (line : Line) (behind : List (Result S CannotOpen)) (out : Outs D T) (report : Writer)
+    (ended : Result Status CommandFault)
+    → first ≡ old → Carried left failures path_of At (Some first) new line behind out report ended
+    → Carried left failures path_of At (Some old) new line behind out report ended
+carried_from left failures path_of old first new line behind out report ended same carried =
+    subst (λ o. Carried left failures path_of At (Some o) new line behind out report ended) same carried
+
+-- without a path nothing was called
+pub called_nowhere : (path : Option (List ℕ)) (calls : List FileCall) → path ≡ None → ∥ IsRemoved path calls ∥₁ → calls ≡ []
+called_nowhere path [] none removed = refl
+called_nowhere path (call ∷ calls) none removed = absurd (not_there removed by_case)
+  where
+    none_some : (p : List ℕ) → path ≡ Some p → ⊥
+    none_some p is = let e = sym none ∙ is in cc
+
+    some_call : call ∷ calls ≡ [] → ⊥
+    some_call e = cc
+
+    by_case : IsRemoved path (call ∷ calls) → ⊥
+    by_case (inl empty) = some_call empty
+    by_case (inr (inl drafted)) = none_some drafted.0 drafted.1
+    by_case (inr (inr through)) = none_some through.0 through.1
 
 -- no path was opened yet
 pub none_opened : (opened paths : List Text) → AreFirstOpened (Some opened) (Some opened) paths

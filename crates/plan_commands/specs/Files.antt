@@ -15,13 +15,14 @@ use Rattle.archive_files.specs.Placing.{IsPath, IsPlaced, IsRemoved, account}
 use Rattle.archive_files.specs.declared.replaceable.OutFault.{OutFault}
 use Rattle.archive_files.specs.declared.replaceable.OutFault.TheVariants as fault
 use Rattle.plan_commands.specs.Disks.{AreFirstOpened, Carried}
-use Rattle.byte_device.specs.Disks.{Unknown}
+use Rattle.byte_device.specs.declared.disks.CannotOpen.{CannotOpen}
+use Rattle.byte_device.specs.Disks.{At}
 
 -- why OUT failed after it took so many bytes
 abbrev pub out_failure : Option OutFault → ℕ → Failure
 out_failure None n = Command (Output n)
-out_failure (Some fault.NotCreated) n = CannotCreate (record {})
-out_failure (Some fault.NotReplaced) n = CannotReplace
+out_failure (Some (fault.NotCreated _)) n = CannotCreate (record {})
+out_failure (Some (fault.NotReplaced _)) n = CannotReplace
 out_failure (Some fault.OutOfMemory) n = Command OutOfMemory
 
 -- what is told of a command that ended so, with this fault of OUT
@@ -55,9 +56,11 @@ IsOutcome out (Err OutOfMemory) = IsNotPut out (Err OutOfMemory)
 -- found to be other files than OUT's, the one that was found to be OUT's own, the calls for OUT, and why it was not
 -- begun or not put in place, if it was not. The functions tell what an input has left and how often it failed, what is
 -- known of OUT's draft and how often it failed, and what is known of what was put in place and how often that failed.
+-- Before these stands the path at which an input was opened.
 pub record Calls (S D T : Type 0) : Type 0 where
   pub left : S → Option (List ℕ)
   pub failures : S → ℕ
+  pub path_of : S → List Text
   pub held : D → Option (List ℕ)
   pub draft_failures : D → ℕ
   pub placed : T → Option (List ℕ)
@@ -69,12 +72,13 @@ pub record Calls (S D T : Type 0) : Type 0 where
   pub called : List FileCall
   pub fault : Option OutFault
 
-abbrev pub calls_of : {S D T : Type 0} → (S → Option (List ℕ)) → (S → ℕ) → (D → Option (List ℕ)) → (D → ℕ)
+abbrev pub calls_of : {S D T : Type 0} → (S → Option (List ℕ)) → (S → ℕ) → (S → List Text) → (D → Option (List ℕ)) → (D → ℕ)
     → (T → Option (List ℕ)) → (T → ℕ) → List Text → List Text → List Text → List Text → List FileCall → Option OutFault
     → Calls S D T
-calls_of left failures held draft_failures placed place_failures opened_old opened_new others same called fault = record {
+calls_of left failures path_of held draft_failures placed place_failures opened_old opened_new others same called fault = record {
   left = left;
   failures = failures;
+  path_of = path_of;
   held = held;
   draft_failures = draft_failures;
   placed = placed;
@@ -105,8 +109,9 @@ pub record IsCarriedOut {S D T : Type 0} (calls : Calls S D T) (line : Line) (re
   pub begun_is : calls.held begun.draft ≡ Some (account path [])
   pub begun_unfailed : calls.draft_failures begun.draft ≡ 0
   pub nothing_placed : calls.placed begun.target ≡ None
-  pub carried : Carried calls.left calls.failures (λ _. Unknown) (Some calls.opened_old) (Some calls.opened_new) line
-      (outs_in calls begun done) report ended
+  pub behind : List (Result S CannotOpen)
+  pub carried : Carried calls.left calls.failures calls.path_of At (Some calls.opened_old) (Some calls.opened_new) line
+      behind (outs_in calls begun done) report ended
   pub outcome : IsOutcome (outs_in calls begun done) ended
   pub placed : (text : List ℕ) → Places (known_of (outs_in calls begun done)) text
       → (p : List ℕ) × (path ≡ Some p) × ∥ IsPlaced p text calls.called ∥₁

@@ -1,6 +1,6 @@
 //! A plan that is carried out over files by their paths.
 
-ghost use Rattle.std.specs.Prelude.{◌≡◌, ◌⊎◌, IfOk, OnErr, OnOk, map};
+ghost use Rattle.std.specs.Prelude.{◌≡◌, ◌⊎◌, [], OnErr, OnOk, map};
 ghost use Rattle.command_ends.specs.Outputs.{outs, writer};
 ghost use Rattle.command_line.specs.Lines.{plan_view};
 ghost use Rattle.plan_commands.specs.Disks.{AreFirstOpened, AreOpened, Carried, IsUnbegun};
@@ -14,43 +14,46 @@ use command_line::Plan;
 use memory::{Heap, NoMemory};
 use std::alloc::Global;
 
-/// Opens the files at these paths.
+/// Opens the files at these paths, one after another.
 fn open_all<D: Disk>(
-    alloc: Global,
     disk: &mut D,
     paths: &[&str],
-) -> Result<Vec<Result<D::Input, CannotOpen>>, NoMemory>
-    ensures inputs { IfOk result (λ inputs. AreOpened D.Input.left D.Input.failures (D.file_at disk.old)
-        (map (λ p. p.now) paths.now) inputs.items) }
+    inputs: &mut Vec<Result<D::Input, CannotOpen>>,
+) -> Result<(), NoMemory>
+    requires { inputs.old.items ≡ [] }
+    ensures inputs { OnOk result (AreOpened D.Input.left D.Input.failures D.path_of (D.file_at disk.old)
+        (map (λ p. p.now) paths.now) inputs.new.items) }
     ensures opened { OnOk result
         (D.opened disk.new ≡ opened_with (D.opened disk.old) (map (λ p. p.now) paths.now)) }
     ensures first { OnErr result
         (AreFirstOpened (D.opened disk.old) (D.opened disk.new) (map (λ p. p.now) paths.now)) }
 {
-    let mut inputs = Vec::new(alloc);
     'paths: for path in paths {
         inputs.push(disk.open(path)?)?;
     }
-    Ok(inputs)
+    Ok(())
 }
 
-/// Carries out a plan over the files of a disk, which are opened before its command begins.
+/// Carries out a plan over the files of a disk, which are opened before its command begins, and stand in `inputs` behind
+/// it.
 pub fn execute_on<A: Archive + Drop, L: Archive + Drop, D: Disk, T: Target, P: Sink>(
     alloc: Global,
     heap: Heap,
     disk: &mut D,
+    inputs: &mut Vec<Result<D::Input, CannotOpen>>,
     plan: &Plan,
     out: &mut Output<T::Draft, T>,
     report: &mut P,
 ) -> Result<Status, CommandFault>
+    requires { inputs.old.items ≡ [] }
     ensures { IsUnbegun (D.opened disk.old) (D.opened disk.new) (plan_view plan.now)
         (outs T.Draft.held T.Draft.failures T.placed T.failures out.old out.new)
         (writer P.held P.failures report.old report.new) result
-        ⊎ Carried D.Input.left D.Input.failures (D.file_at disk.old) (D.opened disk.old) (D.opened disk.new)
-        (plan_view plan.now) (outs T.Draft.held T.Draft.failures T.placed T.failures out.old out.new)
+        ⊎ Carried D.Input.left D.Input.failures D.path_of (D.file_at disk.old) (D.opened disk.old) (D.opened disk.new)
+        (plan_view plan.now) inputs.new.items (outs T.Draft.held T.Draft.failures T.placed T.failures out.old out.new)
         (writer P.held P.failures report.old report.new) result }
 {
     let paths = plan.inputs(alloc)?;
-    let mut inputs = open_all(alloc, disk, &paths)?;
-    execute::<A, L, _, _, _>(heap, plan, &mut inputs, out, report)
+    open_all(disk, &paths, inputs)?;
+    execute::<A, L, _, _, _>(heap, plan, inputs, out, report)
 }

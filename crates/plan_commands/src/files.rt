@@ -8,8 +8,9 @@ ghost use Rattle.command_line.specs.Lines.{inputs_of, out_of, plan_view};
 ghost use Rattle.plan_commands.specs.Files.{IsCarriedOut, IsUnbegun, calls_of, command_fault_of, out_failure};
 
 use crate::execute_on;
-use archive_files::{OutFault, OutFile, OutPath, Replaces, SystemFiles};
-use byte_device::{CannotCreate, Reading, Sink, Source};
+use crate::hints::Seen;
+use archive_files::{OpenedFile, OutFault, OutFile, OutPath, Replaces, SystemDisk, SystemFiles};
+use byte_device::{CannotCreate, Disk, Sink, Source};
 use command_ends::{CommandFault, Failure, Status, Target};
 use command_line::Plan;
 use memory::{Heap, NoMemory};
@@ -47,8 +48,8 @@ fn out_failure(fault: Option<OutFault>, written: u128) -> Failure
 {
     match fault {
         None => Failure::Command(CommandFault::Output(written)),
-        Some(OutFault::NotCreated) => Failure::CannotCreate(CannotCreate),
-        Some(OutFault::NotReplaced) => Failure::CannotReplace,
+        Some(OutFault::NotCreated(_)) => Failure::CannotCreate(CannotCreate),
+        Some(OutFault::NotReplaced(_)) => Failure::CannotReplace,
         Some(OutFault::OutOfMemory) => Failure::Command(CommandFault::OutOfMemory),
     }
 }
@@ -66,17 +67,19 @@ fn told(ended: Result<Status, CommandFault>, fault: Option<OutFault>) -> Result<
 
 /// Carries out a plan over files of the system, whose report goes to `report`. Inputs are opened before the command
 /// begins, and refused at their turn; OUT's draft is created with its first bytes, put in place when it is whole, and
-/// removed where it was not. No plan without OUT has any.
+/// removed where it was not. No plan without OUT has any. What was seen of the file that it failed at is in `seen`.
 pub fn execute<'f, F: Files, P: Sink>(
     files: &mut SystemFiles<'f, F>,
     plan: &Plan,
     report: &mut P,
+    seen: &mut Seen,
 ) -> Result<Status, Failure>
     requires { AreFresh files.old.others.entries files.old.same.entries
         (option_map string_bytes files.old.out.draft.path) files.old.out.draft.state files.old.out.draft.failures
         files.old.out.draft.calls.entries files.old.out.target.placed }
-    ensures { let calls = calls_of ⟦<Reading<BufReader<F::File>> as Source>⟧.left
-        ⟦<Reading<BufReader<F::File>> as Source>⟧.failures ⟦<OutFile<'f, F> as Sink>⟧.held
+    ensures { let calls = calls_of ⟦<OpenedFile<BufReader<F::File>> as Source>⟧.left
+        ⟦<OpenedFile<BufReader<F::File>> as Source>⟧.failures ⟦<SystemDisk<'f, F> as Disk>⟧.path_of
+        ⟦<OutFile<'f, F> as Sink>⟧.held
         ⟦<OutFile<'f, F> as Sink>⟧.failures ⟦<OutPath<'f, F> as Target>⟧.placed
         ⟦<OutPath<'f, F> as Target>⟧.failures files.old.disk.opened.entries files.new.disk.opened.entries
         files.new.others.entries files.new.same.entries
@@ -88,14 +91,17 @@ pub fn execute<'f, F: Files, P: Sink>(
     let alloc = files.disk.alloc;
     let heap = Heap::new(alloc)?;
     begin(files, plan)?;
+    let mut inputs = Vec::new(alloc);
     let ended = execute_on::<PlainArchive, IndexedArchive, _, _, _>(
         alloc,
         heap,
         &mut files.disk,
+        &mut inputs,
         plan,
         &mut files.out,
         report,
     );
     files.out.draft.discard();
+    *seen = Seen::by(&ended, plan, &inputs, &files.out.draft);
     told(ended, files.out.draft.fault())
 }

@@ -2,12 +2,19 @@
 //!
 //! - `commands`: the command of a plan, over its inputs, OUT and the report;
 //! - `disks`: a plan over files by their paths;
-//! - `files`: a plan over files of the system.
+//! - `looks`: what a file that is refused looks like;
+//! - `hints`: what helps a person with a failure;
+//! - `files`: a plan over files of the system;
+//! - `laws`: what is said of an output without a path.
 #![tactic(auto)]
 
 mod commands;
 mod disks;
 mod files;
+mod hints;
+mod laws;
+mod looks;
 
 pub use disks::execute_on;
 pub use files::execute;
+pub use hints::{Hint, Seen, hint};

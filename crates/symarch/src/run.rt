@@ -10,14 +10,13 @@ ghost use Rattle.command_ends.specs.Statuses.{status_of};
 ghost use Rattle.symarch.specs.Ends.{EndsWords, IsIdle, status_of_line};
 
 use crate::refused_line::RefusedLine;
-use archive_files::{OutFile, OutPath, SystemFiles};
-use byte_device::{Reading, Sink, Source};
+use archive_files::{OpenedFile, OutFile, OutPath, SystemDisk, SystemFiles};
+use byte_device::{Disk, Sink, Source, Writing};
 use command_ends::{CommandFault, Failure, Status, Target, status_of};
-use command_line::{LineFault, plan};
-use plan_commands::execute;
+use command_line::{LineFault, Plan, plan};
+use plan_commands::{Seen, execute, hint};
 use std::fmt::Display;
-use std::io;
-use std::io::{BufReader, ErrorKind};
+use std::io::{self, BufReader, ErrorKind, Write};
 use std::process::ExitCode;
 use std::rt::Files;
 
@@ -26,23 +25,24 @@ const BAD_LINE: u8 = 3;
 
 /// Carries out what the words of the command line ask for over these files, with the report going to `report`, and
 /// tells the exit status. What else is said goes to the standard streams.
-pub fn run<'f, R: Print + Eprint + AllocGlobal, F: Files, P: Sink>(
+pub fn run<'f, R: Print + Eprint + AllocGlobal, F: Files, W: Write + Drop>(
     rt: &R,
     words: io::Result<Vec<String>>,
     files: &mut SystemFiles<'f, F>,
-    report: &mut P,
+    report: &mut Writing<W>,
 ) -> ExitCode
     requires { AreFresh files.old.others.entries files.old.same.entries
         (option_map string_bytes files.old.out.draft.path) files.old.out.draft.state files.old.out.draft.failures
         files.old.out.draft.calls.entries files.old.out.target.placed }
-    ensures { let calls = calls_of ⟦<Reading<BufReader<F::File>> as Source>⟧.left
-        ⟦<Reading<BufReader<F::File>> as Source>⟧.failures ⟦<OutFile<'f, F> as Sink>⟧.held
+    ensures { let calls = calls_of ⟦<OpenedFile<BufReader<F::File>> as Source>⟧.left
+        ⟦<OpenedFile<BufReader<F::File>> as Source>⟧.failures ⟦<SystemDisk<'f, F> as Disk>⟧.path_of
+        ⟦<OutFile<'f, F> as Sink>⟧.held
         ⟦<OutFile<'f, F> as Sink>⟧.failures ⟦<OutPath<'f, F> as Target>⟧.placed
         ⟦<OutPath<'f, F> as Target>⟧.failures files.old.disk.opened.entries files.new.disk.opened.entries
         files.new.others.entries files.new.same.entries
         (placing_calls files.new.out.target.placed ++ files.new.out.draft.calls.entries)
         (fault_of (stage_of files.new.out.draft.state)) in
-        let told = writer P.held P.failures report.old report.new in
+        let told = writer ⟦<Writing<W> as Sink>⟧.held ⟦<Writing<W> as Sink>⟧.failures report.old report.new in
         MatchResult words (λ read. EndsWords calls (map string_bytes read.items) told (exit_status result))
         (λ error. IsIdle calls told
         × (error_kind error ≡ ErrorKind.OutOfMemory → exit_status result ≡ 4)
@@ -54,27 +54,32 @@ pub fn run<'f, R: Print + Eprint + AllocGlobal, F: Files, P: Sink>(
     }
 }
 
-fn run_words<'f, R: Print + Eprint + AllocGlobal, F: Files, P: Sink>(
+fn run_words<'f, R: Print + Eprint + AllocGlobal, F: Files, W: Write + Drop>(
     rt: &R,
     words: &[String],
     files: &mut SystemFiles<'f, F>,
-    report: &mut P,
+    report: &mut Writing<W>,
 ) -> ExitCode
     requires { AreFresh files.old.others.entries files.old.same.entries
         (option_map string_bytes files.old.out.draft.path) files.old.out.draft.state files.old.out.draft.failures
         files.old.out.draft.calls.entries files.old.out.target.placed }
-    ensures { let calls = calls_of ⟦<Reading<BufReader<F::File>> as Source>⟧.left
-        ⟦<Reading<BufReader<F::File>> as Source>⟧.failures ⟦<OutFile<'f, F> as Sink>⟧.held
+    ensures { let calls = calls_of ⟦<OpenedFile<BufReader<F::File>> as Source>⟧.left
+        ⟦<OpenedFile<BufReader<F::File>> as Source>⟧.failures ⟦<SystemDisk<'f, F> as Disk>⟧.path_of
+        ⟦<OutFile<'f, F> as Sink>⟧.held
         ⟦<OutFile<'f, F> as Sink>⟧.failures ⟦<OutPath<'f, F> as Target>⟧.placed
         ⟦<OutPath<'f, F> as Target>⟧.failures files.old.disk.opened.entries files.new.disk.opened.entries
         files.new.others.entries files.new.same.entries
         (placing_calls files.new.out.target.placed ++ files.new.out.draft.calls.entries)
         (fault_of (stage_of files.new.out.draft.state)) in
-        EndsWords calls (map string_bytes words.now) (writer P.held P.failures report.old report.new)
-        (exit_status result) }
+        let told = writer ⟦<Writing<W> as Sink>⟧.held ⟦<Writing<W> as Sink>⟧.failures report.old report.new in
+        EndsWords calls (map string_bytes words.now) told (exit_status result) }
 {
     match plan(rt.alloc(), words) {
-        Ok(plan) => end(rt, execute(files, &plan, report)),
+        Ok(plan) => {
+            let mut seen = Seen::NOTHING;
+            let ended = execute(files, &plan, report, &mut seen);
+            end_plan(rt, &plan, ended, seen, report.reason())
+        }
         Err(fault) => refuse(rt, fault),
     }
 }
@@ -90,6 +95,28 @@ fn refuse_words<R: Eprint>(rt: &R, error: &io::Error) -> ExitCode
         let refused = RefusedLine("error: invalid word: expected UTF-8 text\n");
         end_with(rt, refused, BAD_LINE)
     }
+}
+
+/// Ends as a plan did. Why it failed goes to standard error, and behind it what helps a person.
+fn end_plan<R: Eprint>(
+    rt: &R,
+    plan: &Plan,
+    ended: Result<Status, Failure>,
+    seen: Seen,
+    report: Option<io::Error>,
+) -> ExitCode
+    ensures { exit_status result ≡ status_of ended }
+{
+    let status = status_of(&ended);
+    let Err(failure) = ended else {
+        return ExitCode::from(status);
+    };
+    let help = hint(plan, &failure, seen, report);
+    let _ = rt.eprintln(failure);
+    if let Some(help) = help {
+        let _ = rt.eprintln(help);
+    }
+    ExitCode::from(status)
 }
 
 fn end<R: Eprint>(rt: &R, ended: Result<Status, Failure>) -> ExitCode

@@ -56,8 +56,9 @@ returns g c =
         begun_is = begun;
         begun_unfailed = c.begin.ensures.unfailed;
         nothing_placed = none_before;
-        carried = carried_from _ _ _ _ _ _ _ _ _ c.begin.ensures.opened carried;
-        outcome = carried_outcome _ _ _ _ _ _ _ _ _ carried;
+        behind = c.execute_on-ended.new.inputs.items;
+        carried = carried_from _ _ _ _ _ _ _ _ _ _ _ c.begin.ensures.opened carried;
+        outcome = carried_outcome _ _ _ _ _ _ _ _ _ _ _ carried;
         placed = λ text is.
             let there = placed_there path done.target.placed text
             (subst (λ held. Appends held (placed_account done.target.placed) text) begun is.placed) in

@@ -10,14 +10,14 @@ invariant_of-self g c =
     let path = option_map string_bytes old.path in
     let stage = stage_of c.write.new.state in
     let begun = c.begin.new.calls.entries in
-    let bytes = take c.in-Some.n c.args.bytes.now in
+    let bytes = take c.in-Ok.n c.args.bytes.now in
     record {
       so_far = ∥∥₁_map old.so_far (λ so. subst (λ calls. IsSoFar path stage calls) (sym c.writes.ensures)
-          (more_so_far path stage begun bytes (c.in-Some.ensures.takes refl)
+          (more_so_far path stage begun bytes c.in-Ok.ensures.takes
           (subst (λ s. IsSoFar path s begun) (sym c.write.ensures.stage) (c.begin.ensures.so_far so))));
-      empty = λ no. absurd (takes_has_calls stage (c.in-Some.ensures.takes refl) no);
-      first = λ none. absurd (took_some begun _ c.args.bytes.now c.in-Some.n old.failures c.writes.ensures
-          c.if-n-gt0.true c.in-Some.ensures.bound none);
+      empty = λ no. absurd (takes_has_calls stage c.in-Ok.ensures.takes no);
+      first = λ none. absurd (took_some begun _ c.args.bytes.now c.in-Ok.n old.failures c.writes.ensures
+          c.if-n-gt0.true c.in-Ok.ensures.bound none);
     }
 
 pub invariant_of-self-in_default : goal.invariant_of-self-in_default
@@ -31,10 +31,10 @@ invariant_of-self-in_default g c =
       first = λ none. absurd (failed_some _ old.failures none);
     }
 
-pub returns-in-Some-clause-bytes : goal.returns-in-Some-clause-bytes
-returns-in-Some-clause-bytes g c =
+pub returns-in-Ok-clause-bytes : goal.returns-in-Ok-clause-bytes
+returns-in-Ok-clause-bytes g c =
     let old = c.args.self.now in
     more_account (option_map string_bytes old.path) (stage_of old.state) (stage_of c.write.new.state)
-    old.calls.entries c.begin.new.calls.entries _ (take c.in-Some.n c.args.bytes.now)
-    (ap is_settled c.write.ensures.stage ∙ c.begin.ensures.settled) (c.in-Some.ensures.takes refl)
+    old.calls.entries c.begin.new.calls.entries _ (take c.in-Ok.n c.args.bytes.now)
+    (ap is_settled c.write.ensures.stage ∙ c.begin.ensures.settled) c.in-Ok.ensures.takes
     (c.begin.ensures.bytes old.empty) c.writes.ensures
