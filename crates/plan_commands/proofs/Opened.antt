@@ -2,10 +2,17 @@
 use Rattle.std.proofs.Common.{◌≡◌, ◌∙◌, ℕ, ◌+◌, ◌<◌, List, [], ◌∷◌, ◌++◌, length, take, map, zip, get_or, suc, refl, ap, sym, arith}
 use Rattle.std.proofs.Common.{Option, Some, None, Result, Ok, Err, OnErr, append_assoc, subst}
 use Rattle.std.proofs.lemmas.List.{map_more, take-map}
+use Rattle.std.proofs.Math.Seq.{take-append_seam}
 use Rattle.std.specs.List.{AllZip}
 use Rattle.clap.specs.Words.{Text}
 use Rattle.byte_device.specs.declared.disks.CannotOpen.{CannotOpen}
-use Rattle.plan_commands.specs.Disks.{AreFirstOpened, AreOpened}
+use Rattle.command_line.specs.Lines.{Line, inputs_of}
+use Rattle.command_ends.specs.declared.faults.CommandFault.{CommandFault}
+use Rattle.command_ends.specs.declared.faults.Status.{Status}
+use Rattle.command_ends.specs.Inputs.{readers}
+use Rattle.command_ends.specs.Outputs.{Outs, Writer}
+use Rattle.plan_commands.specs.Disks.{AreFirstOpened, AreOpened, Carried}
+use Rattle.plan_commands.specs.Executes.{Executes}
 use Rattle.byte_device.specs.Disks.{FileAt, IsOpened, opened_with}
 
 -- relations hold along lists with one more element each
@@ -82,3 +89,25 @@ behind_is (b ∷ old) (c ∷ new) long = ap (λ rest. c ∷ rest) (behind_is old
   where
     suc_inj : {n m : ℕ} → suc n ≡ suc m → n ≡ m
     suc_inj e = grind (arith, e)
+
+-- what a list has behind a call that it lent all its elements to
+pub written_back : {X : Type 0} (len : ℕ) (new rest : List X) → len ≡ length new → new ≡ take len (new ++ rest)
+written_back len new rest is = sym (ap (λ n. take n (new ++ rest)) is ∙ take-append_seam new rest)
+
+-- the files of a line were opened, and its command ended so
+pub carried_of : {S D T : Type 0} (left : S → Option (List ℕ)) (failures : S → ℕ) (path_of : S → List Text) (file_at : Text → FileAt)
+    (opened_old opened_new : Option (List Text)) (line : Line) (paths : List Text) (opened old new behind : List (Result S CannotOpen))
+    (out : Outs D T) (report : Writer) (result : Result Status CommandFault)
+    → paths ≡ inputs_of line → AreOpened left failures path_of file_at paths opened → old ≡ opened → length new ≡ length old
+    → new ≡ behind → opened_new ≡ opened_with opened_old paths → Executes line (readers left failures old new) out report result
+    → Carried left failures path_of file_at opened_old opened_new line behind out report result
+carried_of left failures path_of file_at opened_old opened_new line paths opened old new behind out report result is all same long last noted executes =
+    record {
+      states = zip old new;
+      inputs = before_is (λ path input. IsOpened left failures path_of (file_at path) input) (inputs_of line) old new long
+          (subst (AreOpened left failures path_of file_at (inputs_of line)) (sym same)
+          (subst (λ (ps : List Text). AreOpened left failures path_of file_at ps opened) is all));
+      behind_is = behind_is old new long ∙ last;
+      opened = noted ∙ ap (opened_with opened_old) is;
+      executes = executes;
+    }

@@ -1,5 +1,5 @@
 -- A plan over files by their paths.
-use Rattle.std.specs.Prelude.{◌≡◌, ℕ, List, ◌×◌, Option, Result, Err, map, take}
+use Rattle.std.specs.Prelude.{◌≡◌, ℕ, List, Option, Result, Err, map, take}
 use Rattle.std.specs.List.{AllZip}
 use Rattle.clap.specs.Words.{Text}
 use Rattle.command_line.specs.Lines.{Line, inputs_of}

@@ -78,10 +78,11 @@ fn index_of(plan: &Plan, place: Place) -> usize {
 fn path_at(plan: &Plan, index: usize) -> Option<&str> {
     match plan {
         Plan::New { .. } => None,
-        Plan::Admit { input, files, .. } | Plan::Merge { input, files, .. } => match index.checked_sub(1) {
-            Some(behind) => files.get(behind).map(String::as_str),
-            None => Some(input),
-        },
+        Plan::Admit { input, files, .. } | Plan::Merge { input, files, .. } =>
+            match index.checked_sub(1) {
+                Some(behind) => files.get(behind).map(String::as_str),
+                None => Some(input),
+            },
         Plan::Retire { input: path, .. }
         | Plan::Migrate { input: path, .. }
         | Plan::Find { archive: path, .. }
@@ -90,11 +91,20 @@ fn path_at(plan: &Plan, index: usize) -> Option<&str> {
         | Plan::Symbolicate { archive: path, .. }
         | Plan::Summary { archive: path, .. }
         | Plan::Rehearse { script: path } => Some(path),
-        Plan::Apply { input: first, ops: second, .. }
-        | Plan::Frames { frames: first, archive: second }
-        | Plan::Delta { archive: first, summary: second, .. } => {
-            Some(if index == 0 { first } else { second })
+        Plan::Apply {
+            input: first,
+            ops: second,
+            ..
         }
+        | Plan::Frames {
+            frames: first,
+            archive: second,
+        }
+        | Plan::Delta {
+            archive: first,
+            summary: second,
+            ..
+        } => { Some(if index == 0 { first } else { second }) }
     }
 }
 
@@ -136,7 +146,7 @@ fn look_of(why: Why, look: Option<Look>) -> Option<Look> {
 }
 
 /// The line that helps with this failure of a plan, if there is one. `report` is why the report failed last.
-pub fn hint<'p>(
+pub fn help_with<'p>(
     plan: &'p Plan,
     failure: &Failure,
     seen: Seen,

@@ -17,4 +17,4 @@ mod looks;
 
 pub use disks::execute_on;
 pub use files::execute;
-pub use hints::{Hint, Seen, hint};
+pub use hints::{Hint, Seen, help_with};

@@ -42,7 +42,9 @@ impl Look {
     /// What a file with these first bytes looks like, if that is known.
     pub fn of(front: &Front) -> Option<Look> {
         let own = OWN.iter().find(|(format, _)| format.magic() == *front);
-        let other = BEGINNINGS.iter().find(|(begins, _)| front.starts_with(begins));
+        let other = BEGINNINGS
+            .iter()
+            .find(|(begins, _)| front.starts_with(begins));
         match (own, other) {
             (Some((_, look)), _) | (None, Some((_, look))) => Some(*look),
             (None, None) => None,

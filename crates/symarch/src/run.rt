@@ -14,7 +14,7 @@ use archive_files::{OpenedFile, OutFile, OutPath, SystemDisk, SystemFiles};
 use byte_device::{Disk, Sink, Source, Writing};
 use command_ends::{CommandFault, Failure, Status, Target, status_of};
 use command_line::{LineFault, Plan, plan};
-use plan_commands::{Seen, execute, hint};
+use plan_commands::{Seen, execute, help_with};
 use std::fmt::Display;
 use std::io::{self, BufReader, ErrorKind, Write};
 use std::process::ExitCode;
@@ -111,7 +111,7 @@ fn end_plan<R: Eprint>(
     let Err(failure) = ended else {
         return ExitCode::from(status);
     };
-    let help = hint(plan, &failure, seen, report);
+    let help = help_with(plan, &failure, seen, report);
     let _ = rt.eprintln(failure);
     if let Some(help) = help {
         let _ = rt.eprintln(help);

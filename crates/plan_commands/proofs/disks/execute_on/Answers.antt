@@ -1,6 +1,5 @@
-use Rattle.std.proofs.Common.{◌∙◌, ap, arith, length, subst, inr, zip}
-use Rattle.std.specs.List.{AllZip}
-use Rattle.plan_commands.proofs.Opened.{as_many, before_is, behind_is}
+use Rattle.std.proofs.Common.{◌∙◌, ℕ, List, Bor, ap, arith, length, map, ◌≡◌, inr}
+use Rattle.plan_commands.proofs.Opened.{as_many, carried_of, written_back}
 use Rattle.plan_commands.proofs.disks.execute_on.Goals as goal
 
 pub execute-requires : goal.execute-requires
@@ -11,10 +10,11 @@ execute-requires g c =
 
 pub returns : goal.returns
 returns g c =
-    inr (record {
-      states = zip c.open_all.new.inputs.items c.execute.new.inputs;
-      inputs = before_is _ _ _ _ c.execute.auto.inputs c.in_ok-open_all.ensures.inputs;
-      behind_is = behind_is _ _ c.execute.auto.inputs;
-      opened = c.in_ok-open_all.ensures.opened;
-      executes = c.execute.ensures;
-    })
+    let vec = c.open_all.new.inputs in
+    let same = ap length c.deref_mut.ensures.value in
+    let long : vec.len ≡ length c.execute.new.inputs = grind (arith, vec.ok.0, same, c.execute.auto.inputs) in
+    inr (carried_of g.D.Input.Source.left g.D.Input.Source.failures g.D.Disk.path_of (g.D.Disk.file_at c.args.disk.now) _ _ _ _
+    c.open_all.new.inputs.items _ c.execute.new.inputs _ _ _ _
+    (ap (map (λ (p : Bor (List ℕ)). p.now)) c.deref.ensures.value ∙ c.in_ok-paths.ensures)
+    c.in_ok-open_all.ensures.inputs c.deref_mut.ensures.value c.execute.auto.inputs (written_back vec.len c.execute.new.inputs _ long) c.in_ok-open_all.ensures.opened
+    c.execute.ensures)
