@@ -6,11 +6,11 @@ use Rattle.symarch.proofs.run.run_words.Goals as goal
 pub returns-in-Ok : goal.returns-in-Ok
 returns-in-Ok g c = inl (record {
   line = plan_view c.in-Ok.plan;
-  ended = c.execute.result;
+  ended = c.execute-ended.result;
   accepted = c.in-Ok.ensures.accepted;
   line_is = c.in-Ok.ensures.ok;
-  carried = c.execute.ensures;
-  status_is = c.end.ensures;
+  carried = c.execute-ended.ensures;
+  status_is = c.end_plan.ensures;
 })
 
 pub returns-in-Err : goal.returns-in-Err
