@@ -17,4 +17,3 @@ pub mod FindTold
 pub mod FramesTold
 pub mod OneRehearsal
 pub mod Crashes
-pub mod NotPlaced

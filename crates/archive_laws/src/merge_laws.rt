@@ -1,10 +1,11 @@
 //! What the definitions of `merge` say in the words of its user. Each law is the contract of a function that does
 //! nothing but call other laws.
-ghost use Rattle.std.specs.Prelude.{◌≡◌, ◌↔◌, ◌++◌, ◌∷◌, [], ℕ, List, Contains, map, Ok, Err};
+ghost use Rattle.std.specs.Prelude.{◌≡◌, ◌≢◌, ◌↔◌, ◌++◌, ◌∷◌, [], ℕ, List, Contains, map, Ok, Err};
 ghost use Rattle.std.specs.List.{AllByRecursion, AllZip};
 ghost use Rattle.archive_core.specs.Content.{Operations, IsBelow, IsContent, content_of, joined};
 ghost use Rattle.command_ends.specs.declared.faults.Place.{Place};
 ghost use Rattle.command_ends.specs.declared.faults.Why.{Why};
+ghost use Rattle.command_ends.specs.declared.faults.CommandFault.{CommandFault};
 ghost use Rattle.command_ends.specs.declared.faults.CommandFault.TheVariants.{Input, Report};
 ghost use Rattle.command_ends.specs.declared.faults.Status.{Status};
 ghost use Rattle.command_ends.specs.Ends.{Ends, EndsStreamed};
@@ -72,6 +73,14 @@ pub fn both_ways_write_the_same<R: Source, S: Source, D: Sink, T: Target>()
     ensures report { (input : Reader R) (file : Reader S) (out : Outs D T) (report : Writer) (n : ℕ)
         → EndsStreamed (merge_of_one input file (draft_of out)) (out_of out) report (Err (Report n))
         → Ends (merge input (file ∷ [])) (out_of out) report (Err (Report n)) }
+{}
+
+/// With one FILE, too, nothing is in place where an input is refused, OUT fails or memory is wanting.
+pub fn merge_of_one_keeps_out<R: Source, S: Source, D: Sink, T: Target>()
+    ensures { (input : Reader R) (file : Reader S) (out : Outs D T) (report : Writer) (fault : CommandFault)
+        → ((n : ℕ) → fault ≢ Report n)
+        → EndsStreamed (merge_of_one input file (draft_of out)) (out_of out) report (Err fault)
+        → out.placed out.new.target ≡ out.placed out.old.target }
 {}
 
 /// Where IN and the one FILE are the texts of contents, neither is refused but for its device.

@@ -1,6 +1,6 @@
 //! What the commands that write OUT make is one. Each clause is a law of the definitions; the function does nothing but
 //! call laws of the crates below.
-ghost use Rattle.std.specs.Prelude.{◌≡◌, ◌≢◌, ℕ, List, Err};
+ghost use Rattle.std.specs.Prelude.{ℕ, List};
 ghost use Rattle.std.specs.List.{AllByRecursion, AllZip};
 ghost use Rattle.archive_core.specs.Content.{Operations, IsContent};
 ghost use Rattle.archive_core.specs.declared.keys.Digest.{Digest};
@@ -8,11 +8,8 @@ ghost use Rattle.archive_core.specs.declared.keys.SliceKey.{SliceKey};
 ghost use Rattle.archive_updates.specs.Admit.{admit};
 ghost use Rattle.archive_updates.specs.Apply.{apply};
 ghost use Rattle.archive_updates.specs.Delta.{delta};
-ghost use Rattle.command_ends.specs.Ends.{Command, Ends, EndsStreamed, MakeOne, Streamed};
-ghost use Rattle.command_ends.specs.declared.faults.CommandFault.{CommandFault};
-ghost use Rattle.command_ends.specs.declared.faults.CommandFault.TheVariants.{Report};
+ghost use Rattle.command_ends.specs.Ends.{MakeOne};
 ghost use Rattle.command_ends.specs.Inputs.{IsGiven, IsGivenArchive, Reader};
-ghost use Rattle.command_ends.specs.Outputs.{Out, Writer};
 ghost use Rattle.archive_updates.specs.Merge.{merge};
 ghost use Rattle.archive_updates.specs.Migrate.{migrate};
 ghost use Rattle.archive_updates.specs.Retire.{retire};
@@ -76,15 +73,3 @@ pub fn one_outcome<Q: Source, R: Source, S: Source, T: Source>()
     one_list_of_operations();
     one_summary();
 }
-
-/// Where an input is refused, OUT fails or memory is wanting, nothing is in place, whichever command it is.
-pub fn nothing_is_in_place()
-    ensures first { (command : Command) (out : Out) (report : Writer) (fault : CommandFault)
-        → ((n : ℕ) → fault ≢ Report n)
-        → Ends command out report (Err fault)
-        → out.placed_new ≡ out.placed_old }
-    ensures streamed { (command : Streamed) (out : Out) (report : Writer) (fault : CommandFault)
-        → ((n : ℕ) → fault ≢ Report n)
-        → EndsStreamed command out report (Err fault)
-        → out.placed_new ≡ out.placed_old }
-{}

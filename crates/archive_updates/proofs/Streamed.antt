@@ -18,11 +18,11 @@ use Rattle.command_ends.specs.declared.faults.Place.{Place}
 use Rattle.command_ends.specs.declared.faults.Status.{Status}
 use Rattle.command_ends.specs.declared.faults.Status.TheVariants.{Done}
 use Rattle.command_ends.specs.declared.faults.Why.{Why}
-use Rattle.command_ends.specs.Ends.{Carries, Ends, EndsStreamed, IsStopped, MakesArchive}
+use Rattle.command_ends.specs.Ends.{Carries, Ends, EndsStreamed, IsStopped, MakesArchive, Streamed}
 use Rattle.command_ends.specs.Inputs.{Reader, reader, Unfailed, EachUnfailed, IsDeviceFault, IsGivenArchive}
 use Rattle.archive_updates.specs.Merge.{MakesMerged, merge}
 use Rattle.archive_updates.specs.MergeStreams.{IsMergeFaultTold, IsSide, StopsMerge, StopsMergeOfOne, merge_as_it_comes, merge_of_one}
-use Rattle.command_ends.specs.Outputs.{Outs, Writer, FailsBehind, FailsToPlace, Places, PlacesNothing, Publishes, Reports, Takes, draft_of, out_of, report_of, sizes_of}
+use Rattle.command_ends.specs.Outputs.{Out, Outs, Writer, FailsAt, FailsBehind, FailsToPlace, Places, PlacesNothing, Publishes, Reports, Takes, draft_of, out_of, report_of, sizes_of}
 use Rattle.command_ends.proofs.Endings.{as_streamed}
 use Rattle.command_ends.proofs.Readers.{by_device}
 
@@ -193,3 +193,23 @@ module _ {R S D : Type 0} (left : R → Option (List ℕ)) (failures : R → ℕ
       device_side (stream left failures l s.0) (stream left2 failures2 r s.1) draft o p at why k.stopped.cause k.stopped.written go.0 gp.0 co cp go.1 gp.1 go.2 gp.2 k.merges.0 k.told
   one_device (Ok l) (Err x) o p at why co cp go gp s = absurd gp.2
   one_device (Err x) old2 o p at why co cp go gp s = absurd go.2
+
+-- ---- what is kept
+
+fails_keeps : (out : Out) (text : List ℕ) (n : ℕ) → FailsAt out text n → out.placed_new ≡ out.placed_old
+fails_keeps out _ n (inl f) = f.1.0
+fails_keeps out _ n (inr f) = f.1.kept
+
+-- nothing is in place where such a command ended otherwise than by its report
+pub stopped_keeps : (command : Streamed) (out : Out) (report : Writer) (fault : CommandFault) → ((n : ℕ) → fault ≡ Report n → ⊥)
+    → EndsStreamed command out report (Err fault) → out.placed_new ≡ out.placed_old
+stopped_keeps command out report (Input at why) other e = e.nothing_placed.0
+stopped_keeps command out report (Output n) other e = elim e [
+  | inl s ↦ s.nothing_placed.0
+  | inr c ↦ fails_keeps out c.1.text n c.1.published.0
+]
+stopped_keeps command out report (Report n) other e = absurd (other n refl)
+stopped_keeps command out report OutOfMemory other e = elim e [
+  | inl s ↦ s.nothing_placed.0
+  | inr c ↦ c.1.published.1.0
+]
