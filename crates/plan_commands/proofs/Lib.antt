@@ -2,3 +2,4 @@ pub mod Opened
 pub mod Places
 pub mod Pathless
 pub mod Outcomes
+pub mod Saying

@@ -1,3 +1,5 @@
 pub mod Executes
 pub mod Disks
 pub mod Files
+pub mod Said
+pub mod Ends

@@ -113,7 +113,6 @@ fn path_at(plan: &Plan, index: usize) -> Option<&str> {
 enum Subject {
     Input(Place),
     Output,
-    Report,
 }
 
 impl Display for Subject {
@@ -121,7 +120,6 @@ impl Display for Subject {
         match self {
             Subject::Input(place) => Display::fmt(place, f),
             Subject::Output => f.write_str("output"),
-            Subject::Report => f.write_str("report"),
         }
     }
 }
@@ -145,13 +143,8 @@ fn look_of(why: Why, look: Option<Look>) -> Option<Look> {
     }
 }
 
-/// The line that helps with this failure of a plan, if there is one. `report` is why the report failed last.
-pub fn help_with<'p>(
-    plan: &'p Plan,
-    failure: &Failure,
-    seen: Seen,
-    report: Option<io::Error>,
-) -> Option<Hint<'p>> {
+/// The line that helps with this failure of a plan, if there is one.
+pub fn help_with<'p>(plan: &'p Plan, failure: &Failure, seen: Seen) -> Option<Hint<'p>> {
     match failure {
         Failure::Command(CommandFault::Input(place, why)) => {
             Some(Hint {
@@ -165,16 +158,8 @@ pub fn help_with<'p>(
             })
         }
         Failure::Command(CommandFault::Output(_)) => out_hint(plan, None, seen),
-        Failure::Command(CommandFault::Report(_)) => Some(Hint {
-            subject: Subject::Report,
-            path: "standard output",
-            note: None,
-            seen: Seen {
-                reason: report,
-                look: None,
-            },
-        }),
-        Failure::Command(CommandFault::OutOfMemory) => None,
+        // Why the report failed is known to its owner.
+        Failure::Command(CommandFault::Report(_) | CommandFault::OutOfMemory) => None,
         Failure::CannotCreate(_) => out_hint(plan, Some(SAME_FILE), seen),
         Failure::CannotReplace => out_hint(plan, Some(not_replaced(plan)), seen),
     }

@@ -1,14 +1,19 @@
 //! What is said on standard error.
 
-ghost use Rattle.std.specs.Prelude.{◌≡◌, ◌++◌, ◌∷◌, [], IfOk, IfSome, Some, codes, string_bytes};
+ghost use Rattle.std.specs.Prelude.{◌≡◌, IfOk, IfSome, List, string_bytes, ℕ};
+ghost use Rattle.std.specs.Io.KnownBytes.{Appends};
 ghost use Rattle.command_ends.specs.Outputs.{writer};
-ghost use Rattle.plan_commands.specs.Said.{IsSaid, line_feed};
+ghost use Rattle.report_text.specs.Report.{line};
+ghost use Rattle.plan_commands.specs.Said.{IsPushed, IsSaid, SaysWanting};
 
 use byte_device::{Sink, push_all};
-use command_ends::{CommandFault, Failure};
+use command_ends::Failure;
 use memory::NoMemory;
 use std::alloc::Global;
-use std::fmt::{self, Display};
+use std::fmt::{self, Display, Write};
+
+/// What is said of want of memory, with its line feed.
+const OUT_OF_MEMORY: &str = "symarch: out of memory\n";
 
 /// The line of a failure.
 #[derive(Clone, Copy)]
@@ -16,9 +21,10 @@ pub struct FailureLine(pub Failure);
 
 #[tactic(auto, unfolding(crate::specs::Said::failure_text))]
 impl Display for FailureLine {
+    ghost use Rattle.std.specs.Prelude.{Some};
     ghost use Rattle.plan_commands.specs.Said.{failure_text};
 
-    ghost output = { λ line. Some (failure_text line.field-0) };
+    ghost output = { λ line. Some (failure_text line.0) };
 
     fn fmt<W: fmt::Write>(&self, f: &mut fmt::Formatter<W>) -> fmt::Result {
         match self.0 {
@@ -34,32 +40,58 @@ impl Display for FailureLine {
 pub struct RefusedLine<'a>(pub &'a str);
 
 impl Display for RefusedLine<'_> {
-    ghost output = { λ line. Some (codes "symarch: " ++ line.field-0.now) };
+    ghost use Rattle.std.specs.Prelude.{◌++◌, Some, codes};
+
+    ghost output = { λ line. Some (codes "symarch: " ++ line.0.now) };
 
     fn fmt<W: fmt::Write>(&self, f: &mut fmt::Formatter<W>) -> fmt::Result {
-        write!(f, "symarch: {}", self.0)
+        let reason = self.0;
+        write!(f, "symarch: {reason}")
     }
 }
 
 /// A line with its line feed.
-fn line_of<T: Display>(alloc: Global, line: &T) -> Result<String, NoMemory>
-    ensures { IfSome (T.output line.now) (λ text. IfOk result (λ whole. string_bytes whole ≡ text ++ line_feed)) }
+fn line_of<T: Display>(alloc: Global, told: &T) -> Result<String, NoMemory>
+    ensures { IfOk result (λ whole. IfSome (T.output told.now) (λ text. string_bytes whole ≡ line text)) }
 {
     let mut whole = String::new(alloc);
-    writeln!(whole, "{line}")?;
+    writeln!(whole, "{told}")?;
     Ok(whole)
 }
 
-/// Says a line; or, where there is no memory for it, that memory is wanting. Whether it was said is handed back.
-pub fn say<E: Sink, T: Display>(alloc: Global, errors: &mut E, line: &T) -> bool
-    ensures { IfSome (T.output line.now) (λ text.
-        IsSaid (writer E.held E.failures errors.old errors.new) text result) }
+/// Gives the writer these bytes, and says whether it took them.
+fn push_whole<E: Sink>(errors: &mut E, bytes: &[u8]) -> bool
+    ensures { IsPushed (writer E.held E.failures errors.old errors.new) bytes.now result }
 {
-    match line_of(alloc, line) {
-        Ok(whole) => push_all(errors, whole.as_bytes()).is_ok(),
-        Err(NoMemory) => push_all(errors, OUT_OF_MEMORY.as_bytes()).is_ok(),
+    match push_all(errors, bytes) {
+        Ok(()) => true,
+        Err(_) => false,
     }
 }
 
-/// What is said of want of memory.
-const OUT_OF_MEMORY: &str = "symarch: out of memory\n";
+/// Says that memory is wanting, for which none is needed.
+pub fn say_wanting<E: Sink>(errors: &mut E) -> bool
+    ensures { SaysWanting (writer E.held E.failures errors.old errors.new) result }
+{
+    push_whole(errors, OUT_OF_MEMORY.as_bytes())
+}
+
+/// Says a line; or, where there is no memory for it, that memory is wanting. Whether it was said is handed back.
+pub fn say<E: Sink, T: Display>(alloc: Global, told: &T, errors: &mut E) -> bool
+    ensures { IfSome (T.output told.now)
+        (λ text. IsSaid (writer E.held E.failures errors.old errors.new) text result) }
+{
+    match line_of(alloc, told) {
+        Ok(whole) => push_whole(errors, whole.as_bytes()),
+        Err(NoMemory) => say_wanting(errors),
+    }
+}
+
+/// Says a line behind another, where there is memory for it.
+pub fn say_more<E: Sink, T: Display>(alloc: Global, told: &T, errors: &mut E)
+    ensures { (more : List ℕ) × Appends (E.held errors.old) (E.held errors.new) more }
+{
+    if let Ok(whole) = line_of(alloc, told) {
+        push_whole(errors, whole.as_bytes());
+    }
+}

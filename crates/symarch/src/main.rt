@@ -1,17 +1,18 @@
 //! `symarch`: an archive of Mach-O images and their dSYM companions, kept on several sites.
 //!
 //! `command_line` reads the words. `plan_commands` carries the line out over files of the system, by the commands of
-//! `archive_queries`, `archive_updates` and `rehearse`; `run` says how it ended.
+//! `archive_queries`, `archive_updates` and `rehearse`, and says how it ended.
 #![tactic(auto)]
-
-mod refused_line;
-mod run;
 
 use archive_files::SystemFiles;
 use byte_device::Writing;
+use plan_commands::{run, say_report};
 use std::fs::File;
 use std::process::{self, ExitCode};
 use std::{env, io};
+
+/// The exit status of a command that failed.
+const FAILED: u8 = 2;
 
 fn main(rt: HostRuntime) -> ExitCode {
     // Where a standard stream is closed, one of these takes its place, and not OUT, which would get what is printed.
@@ -20,7 +21,12 @@ fn main(rt: HostRuntime) -> ExitCode {
     let _error = File::open(&rt, "/dev/null");
     let mut files = SystemFiles::new(rt.alloc(), &rt, process::id(rt.process()));
     let mut report = Writing::new(io::writer(&rt));
-    run::run(&rt, words(&rt), &mut files, &mut report)
+    let mut errors = Writing::new(rt.stderr());
+    let status = run(words(&rt), &mut files, &mut report, &mut errors);
+    if status == FAILED {
+        say_report(rt.alloc(), report.reason(), &mut errors);
+    }
+    ExitCode::from(status)
 }
 
 /// The words of the command line, of which the first is the program's name.

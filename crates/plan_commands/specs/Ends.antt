@@ -1,0 +1,79 @@
+-- How the program ends.
+use Rattle.std.specs.Prelude.{◌≡◌, ◌≢◌, ◌⊎◌, ℕ, Bool, true, List, [], ◌∷◌, Option, Some, Result, string_bytes}
+use Rattle.clap.specs.Words.{IsAmong, Text}
+use Rattle.clap.specs.declared.error.kind.ErrorKind.TheVariants.{DisplayHelp, DisplayVersion}
+use Rattle.command_line.specs.Lines.{Line, error_kinds, is_in_order, line_of}
+use Rattle.command_line.specs.declared.line_faults.LineFault.{LineFault}
+use Rattle.command_line.specs.declared.line_faults.LineFault.TheVariants as fault
+use Rattle.command_ends.specs.declared.failures.Failure.{Failure}
+use Rattle.command_ends.specs.declared.faults.Status.{Status}
+use Rattle.command_ends.specs.Outputs.{Takes, Writer}
+use Rattle.command_ends.specs.Statuses.{status_of}
+use Rattle.plan_commands.specs.Files.{Calls, IsCarriedOut, IsUnbegun}
+use Rattle.plan_commands.specs.Said.{IsPushed, SaysEnd, SaysRefused, SaysWanting}
+
+-- No call of the system was noted.
+pub record IsIdle {S D T : Type 0} (calls : Calls S D T) : Type 0 where
+  pub opened : calls.opened_new ≡ calls.opened_old
+  pub uncalled : calls.called ≡ []
+
+-- The words are accepted and ask for this line, it was carried out over files of the system, unless there was no memory
+-- to begin it, why it failed was said, if it did, and the exit status is that of how it ended.
+pub record Ran {S D T : Type 0} (calls : Calls S D T) (words : List Text) (told said : Writer) (status : ℕ) : Type 0 where
+  pub line : Line
+  pub ended : Result Status Failure
+  pub accepted : error_kinds words ≡ []
+  pub line_is : Some line ≡ line_of words
+  pub carried : IsUnbegun calls line told ended ⊎ IsCarriedOut calls line told ended
+  pub says : SaysEnd said ended
+  pub status_is : status ≡ status_of ended
+
+-- the words are not accepted, or a value has not its form, or OUT is an input
+abbrev pub HasNoPlan : List Text → Type 0
+HasNoPlan words = error_kinds words ≡ [] → is_in_order words ≡ true → ⊥
+
+-- The words are refused, and why is said.
+pub record IsRefused (words : List Text) (told said : Writer) (status : ℕ) : Type 0 where
+  pub no_plan : HasNoPlan words
+  pub no_help : error_kinds words ≢ DisplayHelp ∷ []
+  pub no_version : error_kinds words ≢ DisplayVersion ∷ []
+  pub nothing_told : Takes told []
+  pub says : SaysRefused said
+  pub status_is : status ≡ 3
+
+-- The words ask for help or for the version, and that is told.
+pub record IsHelped (words : List Text) (told said : Writer) (status : ℕ) : Type 0 where
+  pub no_plan : HasNoPlan words
+  pub asked : ¬ IsAmong DisplayHelp (error_kinds words) → ¬ IsAmong DisplayVersion (error_kinds words) → ⊥
+  pub text : List ℕ
+  pub whole : Bool
+  pub tells : IsPushed told text whole
+  pub nothing_said : Takes said []
+  pub status_is : status ≡ 0
+
+-- Memory is wanting, and that is said.
+pub record WantsMemory (told said : Writer) (status : ℕ) : Type 0 where
+  pub nothing_told : Takes told []
+  pub whole : Bool
+  pub says : SaysWanting said whole
+  pub status_is : status ≡ 4
+
+-- How the program ends with these words: what they ask for was carried out; or they are refused, or ask for help, or
+-- memory is wanting, and nothing was called.
+abbrev pub EndsWords : {S D T : Type 0} → Calls S D T → List Text → Writer → Writer → ℕ → Type 0
+EndsWords calls words told said status =
+    Ran calls words told said status
+    ⊎ (IsIdle calls × (IsRefused words told said status ⊎ IsHelped words told said status ⊎ WantsMemory told said status))
+
+-- It ends so where the words could not be read, for another reason than want of memory.
+pub record IsUnreadable (told said : Writer) (status : ℕ) : Type 0 where
+  pub nothing_told : Takes told []
+  pub says : SaysRefused said
+  pub status_is : status ≡ 3
+
+-- what is told and said of a line that gives no plan, and the exit status
+abbrev pub EndsLine : LineFault → Writer → Writer → ℕ → Type 0
+EndsLine (fault.Help text) told said status =
+    (whole : Bool) × IsPushed told (string_bytes text) whole × Takes said [] × (status ≡ 0)
+EndsLine (fault.Refused _) told said status = IsUnreadable told said status
+EndsLine fault.OutOfMemory told said status = WantsMemory told said status

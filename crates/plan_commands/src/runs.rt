@@ -1,0 +1,199 @@
+//! The program over its words, the files of the system, its report and standard error.
+
+ghost use Rattle.std.specs.Prelude.{◌≡◌, ◌≢◌, ◌++◌, MatchResult, map, option_map, string_bytes};
+ghost use Rattle.std.specs.IoError.{error_kind};
+ghost use Rattle.command_ends.specs.Outputs.{writer};
+ghost use Rattle.archive_files.specs.OutFiles.{AreFresh, fault_of, placing_calls, stage_of};
+ghost use Rattle.plan_commands.specs.Files.{calls_of};
+ghost use Rattle.command_ends.specs.Statuses.{status_of};
+ghost use Rattle.plan_commands.specs.Ends.{EndsLine, EndsWords, IsIdle, IsUnreadable, WantsMemory};
+ghost use Rattle.plan_commands.specs.Said.{SaysEnd, SaysFailure};
+
+use crate::execute;
+use crate::hints::{Seen, help_with};
+use crate::said::{FailureLine, RefusedLine, say, say_more, say_wanting};
+use archive_files::{OpenedFile, OutFile, OutPath, SystemDisk, SystemFiles};
+use byte_device::{Disk, Sink, Source, push_all};
+use command_ends::{Failure, Status, Target, status_of};
+use command_line::{LineFault, Plan, plan};
+use std::alloc::Global;
+use std::fmt::{self, Display, Write};
+use std::io::{self, BufReader, ErrorKind};
+use std::rt::Files;
+
+/// The exit status of help and of the version.
+const DONE: u8 = 0;
+
+/// The exit status of a command line that is refused.
+const BAD_LINE: u8 = 3;
+
+/// The exit status of want of memory.
+const OUT_OF_MEMORY: u8 = 4;
+
+/// Carries out what the words of the command line ask for over these files, and gives the exit status. The report, help
+/// and the version go to `report`; why it failed goes to `errors`, in one line, and what helps a person in a second one.
+pub fn run<'f, F: Files, P: Sink, E: Sink>(
+    words: io::Result<Vec<String>>,
+    files: &mut SystemFiles<'f, F>,
+    report: &mut P,
+    errors: &mut E,
+) -> u8
+    requires { AreFresh files.old.others.entries files.old.same.entries
+        (option_map string_bytes files.old.out.draft.path) files.old.out.draft.state files.old.out.draft.failures
+        files.old.out.draft.calls.entries files.old.out.target.placed }
+    ensures { let calls = calls_of ⟦<OpenedFile<BufReader<F::File>> as Source>⟧.left
+        ⟦<OpenedFile<BufReader<F::File>> as Source>⟧.failures ⟦<SystemDisk<'f, F> as Disk>⟧.path_of
+        ⟦<OutFile<'f, F> as Sink>⟧.held
+        ⟦<OutFile<'f, F> as Sink>⟧.failures ⟦<OutPath<'f, F> as Target>⟧.placed
+        ⟦<OutPath<'f, F> as Target>⟧.failures files.old.disk.opened.entries files.new.disk.opened.entries
+        files.new.others.entries files.new.same.entries
+        (placing_calls files.new.out.target.placed ++ files.new.out.draft.calls.entries)
+        (fault_of (stage_of files.new.out.draft.state)) in
+        let told = writer P.held P.failures report.old report.new in
+        let said = writer E.held E.failures errors.old errors.new in
+        MatchResult words (λ read. EndsWords calls (map string_bytes read.items) told said result)
+        (λ error. IsIdle calls
+        × (error_kind error ≡ ErrorKind.OutOfMemory → WantsMemory told said result)
+        × (error_kind error ≢ ErrorKind.OutOfMemory → IsUnreadable told said result)) }
+{
+    match words {
+        Ok(words) => run_words(&words, files, report, errors),
+        Err(error) => refuse_words(files.disk.alloc, &error, report, errors),
+    }
+}
+
+fn run_words<'f, F: Files, P: Sink, E: Sink>(
+    words: &[String],
+    files: &mut SystemFiles<'f, F>,
+    report: &mut P,
+    errors: &mut E,
+) -> u8
+    requires { AreFresh files.old.others.entries files.old.same.entries
+        (option_map string_bytes files.old.out.draft.path) files.old.out.draft.state files.old.out.draft.failures
+        files.old.out.draft.calls.entries files.old.out.target.placed }
+    ensures { let calls = calls_of ⟦<OpenedFile<BufReader<F::File>> as Source>⟧.left
+        ⟦<OpenedFile<BufReader<F::File>> as Source>⟧.failures ⟦<SystemDisk<'f, F> as Disk>⟧.path_of
+        ⟦<OutFile<'f, F> as Sink>⟧.held
+        ⟦<OutFile<'f, F> as Sink>⟧.failures ⟦<OutPath<'f, F> as Target>⟧.placed
+        ⟦<OutPath<'f, F> as Target>⟧.failures files.old.disk.opened.entries files.new.disk.opened.entries
+        files.new.others.entries files.new.same.entries
+        (placing_calls files.new.out.target.placed ++ files.new.out.draft.calls.entries)
+        (fault_of (stage_of files.new.out.draft.state)) in
+        EndsWords calls (map string_bytes words.now) (writer P.held P.failures report.old report.new)
+        (writer E.held E.failures errors.old errors.new) result }
+{
+    let alloc = files.disk.alloc;
+    match plan(alloc, words) {
+        Ok(plan) => {
+            let mut seen = Seen::NOTHING;
+            let ended = execute(files, &plan, report, &mut seen);
+            end(alloc, &plan, ended, seen, errors)
+        }
+        Err(fault) => end_without_plan(alloc, fault, report, errors),
+    }
+}
+
+/// Ends as a plan did, of which why it failed is said.
+fn end<E: Sink>(
+    alloc: Global,
+    plan: &Plan,
+    ended: Result<Status, Failure>,
+    seen: Seen,
+    errors: &mut E,
+) -> u8
+    ensures says { SaysEnd (writer E.held E.failures errors.old errors.new) ended }
+    ensures status { result ≡ status_of ended }
+{
+    if let Err(failure) = ended {
+        say_failure(alloc, plan, failure, seen, errors);
+    }
+    status_of(&ended)
+}
+
+/// Says why a plan failed, and behind it what helps a person.
+fn say_failure<E: Sink>(
+    alloc: Global,
+    plan: &Plan,
+    failure: Failure,
+    seen: Seen,
+    errors: &mut E,
+)
+    ensures { SaysFailure (writer E.held E.failures errors.old errors.new) failure }
+{
+    if !say(alloc, &FailureLine(failure), errors) {
+        return;
+    }
+    if let Some(hint) = help_with(plan, &failure, seen) {
+        say_more(alloc, &hint, errors);
+    }
+}
+
+/// Ends where the words give no plan.
+fn end_without_plan<P: Sink, E: Sink>(
+    alloc: Global,
+    fault: LineFault,
+    report: &mut P,
+    errors: &mut E,
+) -> u8
+    ensures { EndsLine fault (writer P.held P.failures report.old report.new)
+        (writer E.held E.failures errors.old errors.new) result }
+{
+    match fault {
+        LineFault::Help(text) => {
+            let _ = push_all(report, text.as_bytes());
+            DONE
+        }
+        LineFault::Refused(text) => {
+            say(alloc, &RefusedLine(reason_in(&text)), errors);
+            BAD_LINE
+        }
+        LineFault::OutOfMemory => {
+            say_wanting(errors);
+            OUT_OF_MEMORY
+        }
+    }
+}
+
+/// The reason in the text of a refused line, which begins with `error: ` and ends with a line feed.
+fn reason_in(text: &str) -> &str {
+    let line = text.strip_suffix("\n").unwrap_or(text);
+    line.strip_prefix("error: ").unwrap_or(line)
+}
+
+/// Refuses words that could not be read: there was no memory for them, or one is no text.
+fn refuse_words<P: Sink, E: Sink>(
+    alloc: Global,
+    error: &io::Error,
+    report: &mut P,
+    errors: &mut E,
+) -> u8
+    ensures memory { error_kind error.now ≡ ErrorKind.OutOfMemory
+        → WantsMemory (writer P.held P.failures report.old report.new)
+        (writer E.held E.failures errors.old errors.new) result }
+    ensures text { error_kind error.now ≢ ErrorKind.OutOfMemory
+        → IsUnreadable (writer P.held P.failures report.old report.new)
+        (writer E.held E.failures errors.old errors.new) result }
+{
+    if error.kind() == ErrorKind::OutOfMemory {
+        end_without_plan(alloc, LineFault::OutOfMemory, report, errors)
+    } else {
+        say(alloc, &RefusedLine("invalid word: expected UTF-8 text"), errors);
+        BAD_LINE
+    }
+}
+
+/// Why the report failed.
+struct ReportHint(io::Error);
+
+impl Display for ReportHint {
+    fn fmt<W: fmt::Write>(&self, f: &mut fmt::Formatter<W>) -> fmt::Result {
+        write!(f, "  report is standard output: {}", self.0)
+    }
+}
+
+/// Says why the report failed, if that is known, behind the line of that failure.
+pub fn say_report<E: Sink>(alloc: Global, reason: Option<io::Error>, errors: &mut E) {
+    if let Some(reason) = reason {
+        say_more(alloc, &ReportHint(reason), errors);
+    }
+}
