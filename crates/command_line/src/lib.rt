@@ -7,11 +7,13 @@
 //! - `updates`: the plans of the commands that write an archive;
 //! - `queries`: the plans of the commands that ask one;
 //! - `exchanges`: the plans of the commands by which sites exchange;
-//! - `reads`: a line, read.
+//! - `reads`: a line, read;
+//! - `laws`: what the definitions say of words.
 #![tactic(auto)]
 
 mod commands;
 mod exchanges;
+pub mod laws;
 mod line_faults;
 mod plans;
 mod queries;
