@@ -2,3 +2,4 @@ pub mod Commands
 pub mod InnerCommands
 pub mod Lines
 pub mod LineFaults
+pub mod Samples
