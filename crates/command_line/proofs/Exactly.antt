@@ -20,15 +20,15 @@ use Rattle.clap.specs.Kinds.{Kinds, check_kinds, or_else, range_kinds, request_k
 use Rattle.clap.specs.Lexer.{long_of, short_of}
 use Rattle.clap.specs.Matches.{count_text}
 use Rattle.clap.specs.Simple.{App, Shape, argument_words, built, entered, is_simple, label_of, names_of}
-use Rattle.clap.specs.Takes.{action_passes, built_takes, bundle_passes, bundle_step_passes, count_passes, default_passes}
-use Rattle.clap.specs.Takes.{entered_passes, flag_word_passes, flags_pass, is_given, is_valid, level_passes, long_passes}
-use Rattle.clap.specs.Takes.{option_passes, other_passes, positional_passes, react_passes, set_passes, settle_passes}
+use Rattle.clap.specs.Takes.{action_passes, built_takes, bundle_passes, bundle_step_passes, count_passes}
+use Rattle.clap.specs.Takes.{default_passes, entered_passes, flag_word_passes, flags_pass, is_given, is_valid}
+use Rattle.clap.specs.Takes.{level_passes, long_passes, option_passes, other_passes, positional_passes, react_passes, set_passes, settle_passes}
 use Rattle.clap.specs.Takes.{short_passes, step_passes, takes, turn_passes, use_passes, values_pass, walk_passes}
 use Rattle.clap.specs.ValueTests.{accepts}
 use Rattle.clap.specs.Values.{is_request, refused_kind}
 use Rattle.clap.specs.Walk.{Held, Names, Row, Rule, Step, Text, Walk, action_of, answers_to, arg_by_id}
-use Rattle.clap.specs.Walk.{arg_by_index, arg_by_long, arg_by_short, attached_value, count_of, finished, has_row, is_empty}
-use Rattle.clap.specs.Walk.{is_pending, most_values, next, nothing_held, reacted, settled, subcommand, subcommand_met}
+use Rattle.clap.specs.Walk.{arg_by_index, arg_by_long, arg_by_short, attached_value, count_of, finished, has_row}
+use Rattle.clap.specs.Walk.{is_empty, is_pending, most_values, next, nothing_held, reacted, settled, subcommand, subcommand_met}
 use Rattle.clap.specs.Walk.{takes_several, takes_values, trailing, value, values_or_missing, walk, walk_from, walked}
 use Rattle.clap.specs.Walk.{with_default, word_met}
 use Rattle.clap.specs.declared.builder.action.ArgAction.{ArgAction}
@@ -134,7 +134,8 @@ too_few true one many = refl
 too_few false true many = refl
 too_few false false many = refl
 
-too_many : (lacks one same few : Bool) → (one ≡ true → same ≡ false) → none (range_tests lacks one same few true) ≡ false
+too_many : (lacks one same few : Bool) → (one ≡ true → same ≡ false)
+    → none (range_tests lacks one same few true) ≡ false
 too_many true one same few other = refl
 too_many false true same few other = ap (λ b. none (cond b [] (kind.WrongNumberOfValues ∷ []))) (other refl)
 too_many false false same true other = refl
@@ -186,7 +187,8 @@ use_none : (again : Bool) (a : Rule) (vs : List Text) (rows : List Row)
 use_none again a vs rows =
     let least = (unwrap_or_range a.range).start_inclusive in
     joined (range_kinds least (most_values a) (length vs))
-    (action_fault (action_of a) again a (values_or_missing a vs) rows) _ _ (range_none least (most_values a) (length vs))
+    (action_fault (action_of a) again a (values_or_missing a vs) rows) _ _
+    (range_none least (most_values a) (length vs))
     (action_none (action_of a) again a (values_or_missing a vs) rows)
     ∙ and_assoc (nat_le least (length vs)) (nat_le (length vs) (most_values a)) _
 
@@ -400,7 +402,8 @@ valid_none s rows has free =
     let argument = no_argument excused _ given (none_missing s.rules rows) in
     checks_none (not has && (s.arg_required_else_help && not some)) (not has && s.subcommand_required) _
     ∙ ap₂ (λ x y. x && y) (no_help has s.arg_required_else_help some)
-    (ap₂ (λ x y. x && y) (no_command has s.subcommand_required) (argument ∙ sym (ap (λ b. b && (excused || given)) free)))
+    (ap₂ (λ x y. x && y) (no_command has s.subcommand_required)
+    (argument ∙ sym (ap (λ b. b && (excused || given)) free)))
 
 -- ---- a level, and the command
 
@@ -409,7 +412,8 @@ level_none : (s : Shape) (names : Names) (h : Held) (words : List Text) (has : B
     → none (level_fault s names h words has below) ≡ (none below && level_passes s names h words has)
 level_none s names h words has below free pass =
     let end = (walk s.rules names h words).held in
-    let checked = joined (defaults_fault (settled s.rules end).rows s.rules) (check_fault s (finished s.rules end) has) true _
+    let checked = joined (defaults_fault (settled s.rules end).rows s.rules)
+    (check_fault s (finished s.rules end) has) true _
     (defaults_none (settled s.rules end).rows s.rules pass) (valid_none s (finished s.rules end) has free)
     ∙ sym (ap (λ b. b && is_valid s (finished s.rules end) has) pass) in
     let settled_none = joined (settle_fault s.rules s.args_override_self end) _ _ _

@@ -5,3 +5,4 @@ pub mod Simple
 pub mod Accepted
 pub mod LineFaultLemmas
 pub mod Exactly
+pub mod Made

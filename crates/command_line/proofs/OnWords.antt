@@ -9,7 +9,8 @@ use Rattle.command_line.specs.Commands.{symarch_command}
 use Rattle.command_line.specs.Lines.{admit, are_accepted, error_kinds, find, frames, is_in_order, line_of, merge}
 use Rattle.command_line.specs.Lines.{migrate, named_command, new, retire, symbolicate}
 use Rattle.archive_words.specs.Words.{address_of, arch_key, arch_of, digest_of}
-use Rattle.command_line.specs.Samples.{Asks, EachAsks, Sample, digest_bytes, digest_text, samples, uuid_bytes, uuid_text}
+use Rattle.command_line.specs.Samples.{Asks, EachAsks, Sample, digest_bytes}
+use Rattle.command_line.specs.Samples.{digest_text, samples, uuid_bytes, uuid_text}
 
 -- the program's name, which is the first word of each line
 abbrev symarch : List Text → List Text
@@ -84,7 +85,8 @@ unfolding named_command symarch_command clap_on_literals
 file_missing_in_order = refl
 
 -- OUT is the last FILE
-out_is_last_in_order : is_in_order (symarch (codes "admit" ∷ codes "i" ∷ codes "o" ∷ codes "f" ∷ codes "o" ∷ [])) ≡ false
+out_is_last_in_order : is_in_order (symarch (codes "admit" ∷ codes "i" ∷ codes "o" ∷ codes "f" ∷ codes "o" ∷ []))
+    ≡ false
 unfolding named_command symarch_command clap_on_literals
 out_is_last_in_order = refl
 
@@ -198,7 +200,8 @@ file_missing : are_accepted (symarch (codes "admit" ∷ codes "i" ∷ codes "o" 
 unfolding are_accepted symarch_command clap_on_literals
 file_missing = refl
 
-file_missing_fault : error_kinds (symarch (codes "admit" ∷ codes "i" ∷ codes "o" ∷ [])) ≡ kind.MissingRequiredArgument ∷ []
+file_missing_fault : error_kinds (symarch (codes "admit" ∷ codes "i" ∷ codes "o" ∷ []))
+    ≡ kind.MissingRequiredArgument ∷ []
 unfolding error_kinds symarch_command clap_on_literals
 file_missing_fault = refl
 
@@ -251,42 +254,14 @@ command_version_unknown = refl
 asks : (s : Sample) → error_kinds s.words ≡ [] → is_in_order s.words ≡ true → line_of s.words ≡ Some s.line → Asks s
 asks s accepted in_order line_is = record { accepted = accepted; in_order = in_order; line_is = line_is }
 
+and : {P Q : Type 0} → P → Q → P × Q
+and p q = (p, q)
+
 pub each_asks : EachAsks samples
 unfolding error_kinds named_command symarch_command clap_on_literals hex_on_literals uuid_on_literals
-each_asks = (
-  asks _ refl refl refl,
-  (
-    asks _ refl refl refl,
-    (
-      asks _ refl refl refl,
-      (
-        asks _ refl refl refl,
-        (
-          asks _ refl refl refl,
-          (
-            asks _ refl refl refl,
-            (
-              asks _ refl refl refl,
-              (
-                asks _ refl refl refl,
-                (
-                  asks _ refl refl refl,
-                  (
-                    asks _ refl refl refl,
-                    (
-                      asks _ refl refl refl,
-                      (
-                        asks _ refl refl refl,
-                        (asks _ refl refl refl, (asks _ refl refl refl, tt)),
-                      ),
-                    ),
-                  ),
-                ),
-              ),
-            ),
-          ),
-        ),
-      ),
-    ),
-  ),
-)
+each_asks =
+    and (asks _ refl refl refl) (and (asks _ refl refl refl) (and (asks _ refl refl refl)
+    (and (asks _ refl refl refl) (and (asks _ refl refl refl) (and (asks _ refl refl refl)
+    (and (asks _ refl refl refl) (and (asks _ refl refl refl) (and (asks _ refl refl refl)
+    (and (asks _ refl refl refl) (and (asks _ refl refl refl) (and (asks _ refl refl refl)
+    (and (asks _ refl refl refl) (and (asks _ refl refl refl) tt)))))))))))))

@@ -2,8 +2,8 @@
 use Rattle.std.specs.Prelude.{◌≡◌, ⊤, ℕ, true, List, [], ◌∷◌, Some, codes}
 use Rattle.clap.specs.Words.{Text}
 use Rattle.archive_words.specs.Words.{arch_key}
-use Rattle.command_line.specs.Lines.{Line, admit, apply, delta, error_kinds, find, frames, is_in_order, line_of, list, merge}
-use Rattle.command_line.specs.Lines.{migrate, name, new, rehearse, retire, summary, symbolicate}
+use Rattle.command_line.specs.Lines.{Line, admit, apply, delta, error_kinds, find, frames, is_in_order, line_of, list}
+use Rattle.command_line.specs.Lines.{merge, migrate, name, new, rehearse, retire, summary, symbolicate}
 
 -- words behind the program's name, and a line
 pub record Sample : Type 0 where
