@@ -1,29 +1,25 @@
 -- A line that `clap` accepts names a command, with a value at each name that has to have one.
 use Rattle.std.proofs.Common.{◌≡◌, ◌∙◌, ◌&&◌, ◌||◌, Bool, true, false, not, cond, refl, sym, ap, ap₂, subst}
 use Rattle.std.proofs.Common.{List, [], ◌∷◌, Option, Some, None, IsSome, is_some, option_map, true≢false, codes}
-use Rattle.std.proofs.Common.{if◌then◌else◌}
-use Rattle.std.specs.Prelude.{⊤, find, option_and_then, slice_get, unwrap_or}
+use Rattle.std.specs.Prelude.{find, option_and_then, slice_get}
 use Rattle.std.specs.List.{list_all, list_any}
 use Rattle.std.specs.Option.{option_map_or}
 use Rattle.std.specs.Str.{bytes_eq}
 use Rattle.std.proofs.lemmas.Slice.Eq.{bytes_eq-Decides}
-use Rattle.uuid.specs.Text.{parsed}
-use Rattle.clap.specs.Words.{App, Row, Rule, Shape, Text, all_of, built, first_of, subcommand_of, takes}
+use Rattle.clap.specs.Words.{App, Row, Rule, Shape, Text, built, first_of, subcommand_of, takes}
 use Rattle.clap.specs.Facts.{explicit_source}
 use Rattle.clap.specs.Walk.{answers_to, is_empty, nothing_held, rows_after, stop_after}
 use Rattle.clap.specs.Simple.{argument_words, entered, is_simple, label_of, names_of, rows_at}
 use Rattle.clap.specs.Takes.{built_takes, entered_passes, is_given, is_valid, level_passes}
 use Rattle.clap.proofs.SimpleLemmas.{is_nil}
 use Rattle.clap.proofs.WalkLemmas.{both}
+use Rattle.command_line.specs.Arguments.{Argument, Count, Once, Perhaps, Several, Value, form_of, spelled}
 use Rattle.command_line.specs.Commands.{symarch_command}
-use Rattle.command_line.specs.Lines.{Line, admit, all_spelled, all_spelled_at, apply, are_accepted, asked_of, delta}
-use Rattle.command_line.specs.Lines.{find as find_archive, find_line, frames, has_form, have_forms, line_in, list, merge}
-use Rattle.command_line.specs.Lines.{migrate, name as name_symbol, named_command, new, of_five, of_three, of_two}
-use Rattle.command_line.specs.Lines.{optional_at, rehearse, retire, retire_line, spelled_at, spelled_if_there, summary}
-use Rattle.command_line.specs.Lines.{symbolicate, symbolicate_line}
-use Rattle.archive_words.specs.Words.{address_of, arch_of, digest_of}
-use Rattle.command_line.proofs.Filled.{are_filled, found_passes, is_filled, lets_name, lets_stop, level}
-use Rattle.command_line.proofs.Filled.{want_values}
+use Rattle.command_line.specs.Lines.{Line, are_accepted, asked_of, at_named, has_form, have_forms, line_at, line_from}
+use Rattle.command_line.specs.Lines.{line_in, named_command, spelled_if_there, value_at, value_by}
+use Rattle.command_line.specs.Table.{Command, Makes, commands}
+use Rattle.command_line.specs.declared.table.Form.{Form}
+use Rattle.command_line.proofs.Filled.{are_filled, found_passes, is_filled, lets_name, lets_stop, level, want_values}
 
 -- ---- tests
 
@@ -57,30 +53,19 @@ found_holds q (y ∷ ys) x is = go (q y) refl (found_holds q ys x) is
 
 -- ---- what stands at a name
 
--- a word stands at this name
-record Stands (id : Text) (rows : List Row) : Type 0 where
-  word : Text
-  more : List Text
-  first : first_of id rows ≡ Some word
-  all : all_of id rows ≡ Some (word ∷ more)
-
-row_stands : (id : Text) (rows : List Row) (r : Row) (values : List Text) → find (λ x. bytes_eq x.id id) rows ≡ Some r
-    → r.values ≡ values → is_filled values ≡ true → Stands id rows
-row_stands id rows r [] found is filled = absurd (true≢false (sym filled))
-row_stands id rows r (v ∷ vs) found is filled = record {
-  word = v;
-  more = vs;
-  first = ap (option_and_then (λ (x : Row). slice_get x.values 0)) found ∙ ap (λ (xs : List Text). slice_get xs 0) is;
-  all = ap (option_map (λ (x : Row). x.values)) found ∙ ap (λ (xs : List Text). Some xs) is;
-}
-
-given_stands : (id : Text) (rows : List Row) → is_given id rows ≡ true → are_filled rows ≡ true → Stands id rows
+given_stands : (id : Text) (rows : List Row) → is_given id rows ≡ true → are_filled rows ≡ true
+    → is_some (first_of id rows) ≡ true
 given_stands id rows given filled = go (find (λ x. bytes_eq x.id id) rows) refl given
   where
+    filled_first : (values : List Text) → is_filled values ≡ true → is_some (slice_get values 0) ≡ true
+    filled_first [] is = absurd (true≢false (sym is))
+    filled_first (v ∷ vs) is = refl
+
     go : (o : Option Row) → find (λ x. bytes_eq x.id id) rows ≡ o
-        → option_map_or (λ (r : Row). explicit_source r.source) o false ≡ true → Stands id rows
+        → option_map_or (λ (r : Row). explicit_source r.source) o false ≡ true
+        → is_some (option_and_then (λ (r : Row). slice_get r.values 0) o) ≡ true
     go None found is = absurd (true≢false (sym is))
-    go (Some r) found is = row_stands id rows r r.values found refl
+    go (Some r) found is = filled_first r.values
         (found_passes (λ (x : Row). is_filled x.values) (λ x. bytes_eq x.id id) rows r filled found)
 
 -- the command requires the argument with this id
@@ -106,212 +91,121 @@ required_given id (a ∷ rules) rows asks given =
         subst (λ i. is_given i rows ≡ true) same (given_if a.required _ (both _ _ given).0 parts.0)
     go false here is later = later is
 
--- ---- values with their forms
+-- ---- the line of a command, where what is required stands there
 
-abbrev spells : {X : Type 0} → (Text → Option X) → List Text → Bool
-spells form words = list_all (λ word. is_some (form word)) words
+-- it may be left out
+abbrev is_free : Count → Bool
+is_free (Perhaps option) = true
+is_free _ = false
 
-stands_spelled : {X : Type 0} (form : Text → Option X) (id : Text) (rows : List Row) → Stands id rows
-    → has_form form id rows ≡ true
-    → (x : X) × (spelled_at form id rows ≡ Some x)
-stands_spelled form id rows there has =
-    let words : spells form (there.word ∷ there.more) ≡ true =
-    ap (λ o. spells form (unwrap_or o [])) (sym there.all) ∙ has in
-    let x = some_of (form there.word) (both _ _ words).0 in
-    (x.0, ap (option_and_then form) there.first ∙ x.1)
+-- the command requires each argument that has to be there
+abbrev asks_for : List Argument → List Rule → Bool
+asks_for arguments rules = list_all (λ a. is_free a.count || requires a.name rules) arguments
 
-each_spelled : {X : Type 0} (form : Text → Option X) (words : List Text) → spells form words ≡ true
-    → (xs : List X) × (all_spelled form words ≡ Some xs)
-each_spelled form [] has = ([], refl)
-each_spelled form (word ∷ words) has =
-    let x = some_of (form word) (both _ _ has).0 in
-    let xs = each_spelled form words (both (is_some (form word)) _ has).1 in (
-      x.0 ∷ xs.0,
-      ap (option_and_then (λ y. option_map (λ ys. y ∷ ys) (all_spelled form words))) x.1
-          ∙ ap (option_map (λ ys. x.0 ∷ ys)) xs.1,
-    )
-
-stands_all_spelled : {X : Type 0} (form : Text → Option X) (id : Text) (rows : List Row) → Stands id rows
-    → has_form form id rows ≡ true
-    → (xs : List X) × (all_spelled_at form id rows ≡ Some xs)
-stands_all_spelled form id rows there has =
-    let words : spells form (there.word ∷ there.more) ≡ true =
-    ap (λ o. spells form (unwrap_or o [])) (sym there.all) ∙ has in
-    let xs = each_spelled form (there.word ∷ there.more) words in
-    (xs.0, ap (option_and_then (all_spelled form)) there.all ∙ xs.1)
-
-first_spelled : {X : Type 0} (form : Text → Option X) (words : List Text) → spells form words ≡ true
-    → (o : Option X) × (spelled_if_there form (slice_get words 0) ≡ Some o)
-first_spelled form [] has = (None, refl)
-first_spelled form (word ∷ words) has =
-    let x = some_of (form word) (both _ _ has).0 in
-    (Some x.0, ap (option_map (λ y. Some y)) x.1)
-
-optional_spelled : {X : Type 0} (form : Text → Option X) (id : Text) (rows : List Row) → has_form form id rows ≡ true
-    → (o : Option X) × (optional_at form id rows ≡ Some o)
-optional_spelled form id rows has = go (find (λ r. bytes_eq r.id id) rows) has
-  where
-    go : (o : Option Row) → spells form (unwrap_or (option_map (λ (r : Row). r.values) o) []) ≡ true
-        → (x : Option _) × (spelled_if_there form (option_and_then (λ (r : Row). slice_get r.values 0) o) ≡ Some x)
-    go None is = (None, refl)
-    go (Some r) is = first_spelled form r.values is
-
-three : {X Y Z W : Type 0} {x x' : X} {y y' : Y} {z z' : Z} (f : X → Y → Z → W) → x ≡ x' → y ≡ y' → z ≡ z'
-    → f x y z ≡ f x' y' z'
-three f p q r = λ i. f (p i) (q i) (r i)
-
--- ---- the line of each command, where what is required stands there
-
--- what a command's line needs of what stands at its names
-record InOrder (rules : List Rule) (rows : List Row) : Type 0 where
+-- what a level of a parse leaves, where it passes
+record Stood (rules : List Rule) (rows : List Row) : Type 0 where
   given : all_given rules rows ≡ true
   filled : are_filled rows ≡ true
-  forms : have_forms rows ≡ true
 
--- the command requires each of these
-requires_all : List Text → List Rule → Bool
-requires_all [] rules = true
-requires_all (id ∷ ids) rules = requires id rules && requires_all ids rules
+-- an argument that has its form has its value
+value_some : (a : Argument) (rules : List Rule) (rows : List Row) → Stood rules rows
+    → (is_free a.count || requires a.name rules) ≡ true → has_form a rows ≡ true → is_some (value_at a rows) ≡ true
+value_some a rules rows stood asks has = go a.count (form_of a.role) asks has
+  where
+    stands : requires a.name rules ≡ true → not (is_some (first_of a.name rows)) ≡ false
+    stands asks = ap not (given_stands a.name rows (required_given a.name rules rows asks stood.given) stood.filled)
 
--- a word stands at each of these
-abbrev AllStand : List Text → List Row → Type 0
-AllStand [] rows = ⊤
-AllStand (id ∷ ids) rows = Stands id rows × AllStand ids rows
+    if_there : (form : Form) (o : Option Text)
+        → (is_some (spelled_if_there (spelled form) o) || not (is_some o)) ≡ true
+        → is_some (spelled_if_there (spelled form) o) ≡ true
+    if_there form None has = refl
+    if_there form (Some word) has = first_of_two (is_some (spelled_if_there (spelled form) (Some word))) false has refl
 
-all_stand : (ids : List Text) (rules : List Rule) (rows : List Row) → requires_all ids rules ≡ true
-    → InOrder rules rows → AllStand ids rows
-unfolding requires_all
-all_stand [] rules rows asks o = tt
-all_stand (id ∷ ids) rules rows asks o =
-    let parts = both (requires id rules) _ asks in
-    let given = required_given id rules rows parts.0 o.given in
-    (given_stands id rows given o.filled, all_stand ids rules rows parts.1 o)
+    go : (count : Count) (form : Form) → (is_free count || requires a.name rules) ≡ true
+        → (is_some (value_by count form a.name rows) || not (is_some (first_of a.name rows))) ≡ true
+        → is_some (value_by count form a.name rows) ≡ true
+    go Once form asks has = first_of_two (is_some (value_by Once form a.name rows)) _ has (stands asks)
+    go Several form asks has = first_of_two (is_some (value_by Several form a.name rows)) _ has (stands asks)
+    go (Perhaps option) form asks has = if_there form (first_of a.name rows) has
 
-uuids : (rows : List Row) → have_forms rows ≡ true → has_form parsed (codes "UUID") rows ≡ true
-uuids rows has = (both _ _ has).0
+abbrev each_has_form : List Argument → List Row → Bool
+each_has_form arguments rows = list_all (λ a. has_form a rows) arguments
 
-archs : (rows : List Row) → have_forms rows ≡ true → has_form arch_of (codes "ARCH") rows ≡ true
-archs rows has = (both _ _ (both (has_form parsed (codes "UUID") rows) _ has).1).0
+-- the induction: where each argument has its form, the line is there
+values_some : (arguments : List Argument) (line : Makes arguments) (rules : List Rule) (rows : List Row)
+    → Stood rules rows → asks_for arguments rules ≡ true → each_has_form arguments rows ≡ true
+    → IsSome (line_from arguments line rows)
+values_some [] line rules rows stood asks have = refl
+values_some (a ∷ rest) line rules rows stood asks have =
+    let asked = both (is_free a.count || requires a.name rules) _ asks in
+    let has = both (has_form a rows) _ have in
+    let value = some_of (value_at a rows) (value_some a rules rows stood asked.0 has.0) in
+    subst (λ o. IsSome (option_and_then (λ v. line_from rest (line v) rows) o)) (sym value.1)
+    (values_some rest (line value.0) rules rows stood asked.1 has.1)
 
-digests : (rows : List Row) → have_forms rows ≡ true → has_form digest_of (codes "DIGEST") rows ≡ true
-digests rows has = (both _ _ (both (has_form arch_of (codes "ARCH") rows) _
-    (both (has_form parsed (codes "UUID") rows) _ has).1).1).0
+-- and where it is there, each has its form
+forms_of_line : (arguments : List Argument) (line : Makes arguments) (rows : List Row)
+    → IsSome (line_from arguments line rows) → each_has_form arguments rows ≡ true
+forms_of_line [] line rows some = refl
+forms_of_line (a ∷ rest) line rows some =
+    go (value_at a rows) refl (λ v. forms_of_line rest (line v) rows) some
+  where
+    go : (o : Option (Value a)) → value_at a rows ≡ o
+        → ((v : Value a) → IsSome (line_from rest (line v) rows) → each_has_form rest rows ≡ true)
+        → IsSome (option_and_then (λ v. line_from rest (line v) rows) o) → each_has_form (a ∷ rest) rows ≡ true
+    go None is after some = absurd (true≢false (sym some))
+    go (Some v) is after some =
+        ap₂ (λ x y. x && y) (ap (λ o. is_some o || not (is_some (first_of a.name rows))) is) (after v some)
 
-numbers : (rows : List Row) → have_forms rows ≡ true
-    → (has_form address_of (codes "HEX") rows && has_form address_of (codes "ADDRESS") rows) ≡ true
-numbers rows has = (both (has_form digest_of (codes "DIGEST") rows) _
-    (both (has_form arch_of (codes "ARCH") rows) _ (both (has_form parsed (codes "UUID") rows) _ has).1).1).1
+-- ---- any of a table
 
-one_some : (id : Text) (line : Text → Line) (rules : List Rule) (rows : List Row)
-    → requires_all (id ∷ []) rules ≡ true → InOrder rules rows → IsSome (option_map line (first_of id rows))
-one_some id line rules rows asks o =
-    let at = all_stand (id ∷ []) rules rows asks o in
-    subst (λ x. IsSome (option_map line x)) (sym at.0.first) refl
+named_some : (table : List Command) (name : Text) (asks forms : Command → Bool) (line : Command → Option Line)
+    → ((c : Command) → asks c ≡ true → forms c ≡ true → IsSome (line c))
+    → at_named table name asks false ≡ true → at_named table name forms true ≡ true
+    → IsSome (at_named table name line None)
+named_some [] name asks forms line each is have = absurd (true≢false (sym is))
+named_some (c ∷ cs) name asks forms line each is have =
+    go (bytes_eq name c.signature.name) is have (named_some cs name asks forms line each)
+  where
+    go : (b : Bool) → cond b (asks c) (at_named cs name asks false) ≡ true
+        → cond b (forms c) (at_named cs name forms true) ≡ true
+        → (at_named cs name asks false ≡ true → at_named cs name forms true ≡ true
+        → IsSome (at_named cs name line None))
+        → IsSome (cond b (line c) (at_named cs name line None))
+    go true is have after = each c is have
+    go false is have after = after is have
 
-two_some : (id other : Text) (line : Text → Text → Line) (rules : List Rule) (rows : List Row)
-    → requires_all (id ∷ other ∷ []) rules ≡ true → InOrder rules rows
-    → IsSome (of_two line (first_of id rows) (first_of other rows))
-two_some id other line rules rows asks o =
-    let at = all_stand (id ∷ other ∷ []) rules rows asks o in
-    subst IsSome (sym (ap₂ (of_two line) at.0.first at.1.0.first)) refl
-
-three_some : (id other third : Text) (line : Text → Text → Text → Line) (rules : List Rule) (rows : List Row)
-    → requires_all (id ∷ other ∷ third ∷ []) rules ≡ true → InOrder rules rows
-    → IsSome (of_three line (first_of id rows) (first_of other rows) (first_of third rows))
-three_some id other third line rules rows asks o =
-    let at = all_stand (id ∷ other ∷ third ∷ []) rules rows asks o in
-    subst IsSome (sym (three (of_three line) at.0.first at.1.0.first at.1.1.0.first)) refl
-
-files_some : (line : Text → Text → List Text → Line) (rules : List Rule) (rows : List Row)
-    → requires_all (codes "IN" ∷ codes "OUT" ∷ codes "FILE" ∷ []) rules ≡ true → InOrder rules rows
-    → IsSome (of_three line (first_of (codes "IN") rows) (first_of (codes "OUT") rows) (all_of (codes "FILE") rows))
-files_some line rules rows asks o =
-    let at = all_stand (codes "IN" ∷ codes "OUT" ∷ codes "FILE" ∷ []) rules rows asks o in
-    subst IsSome (sym (three (of_three line) at.0.first at.1.0.first at.1.1.0.all)) refl
-
-find_some : (rules : List Rule) (rows : List Row) → requires_all (codes "ARCHIVE" ∷ codes "UUID" ∷ []) rules ≡ true
-    → InOrder rules rows → IsSome (find_line rows)
-find_some rules rows asks o =
-    let at = all_stand (codes "ARCHIVE" ∷ codes "UUID" ∷ []) rules rows asks o in
-    let uuid = stands_spelled parsed (codes "UUID") rows at.1.0 (uuids rows o.forms) in
-    subst IsSome (sym (ap₂ (of_two find_archive) at.0.first uuid.1)) refl
-
-retire_some : (rules : List Rule) (rows : List Row)
-    → requires_all (codes "IN" ∷ codes "OUT" ∷ codes "UUID" ∷ codes "ARCH" ∷ codes "DIGEST" ∷ []) rules ≡ true
-    → InOrder rules rows → IsSome (retire_line rows)
-retire_some rules rows asks o =
-    let at =
-    all_stand (codes "IN" ∷ codes "OUT" ∷ codes "UUID" ∷ codes "ARCH" ∷ codes "DIGEST" ∷ []) rules rows asks o in
-    let uuid = stands_spelled parsed (codes "UUID") rows at.1.1.0 (uuids rows o.forms) in
-    let arch = stands_spelled arch_of (codes "ARCH") rows at.1.1.1.0 (archs rows o.forms) in
-    let digest = stands_spelled digest_of (codes "DIGEST") rows at.1.1.1.1.0 (digests rows o.forms) in
-    subst IsSome (sym (λ i. of_five retire (at.0.first i) (at.1.0.first i) (uuid.1 i) (arch.1 i) (digest.1 i))) refl
-
-symbolicate_some : (rules : List Rule) (rows : List Row)
-    → requires_all (codes "ARCHIVE" ∷ codes "UUID" ∷ codes "ARCH" ∷ codes "ADDRESS" ∷ []) rules ≡ true
-    → InOrder rules rows → IsSome (symbolicate_line rows)
-symbolicate_some rules rows asks o =
-    let at = all_stand (codes "ARCHIVE" ∷ codes "UUID" ∷ codes "ARCH" ∷ codes "ADDRESS" ∷ []) rules rows asks o in
-    let tests = both (has_form address_of (codes "HEX") rows) _ (numbers rows o.forms) in
-    let uuid = stands_spelled parsed (codes "UUID") rows at.1.0 (uuids rows o.forms) in
-    let arch = stands_spelled arch_of (codes "ARCH") rows at.1.1.0 (archs rows o.forms) in
-    let load = optional_spelled address_of (codes "HEX") rows tests.0 in
-    let addresses = stands_all_spelled address_of (codes "ADDRESS") rows at.1.1.1.0 tests.1 in
-    subst IsSome (sym (λ i. of_five symbolicate (at.0.first i) (uuid.1 i) (arch.1 i) (load.1 i) (addresses.1 i))) refl
-
--- ---- any of them
+named_forms : (table : List Command) (name : Text) (forms : Command → Bool) (line : Command → Option Line)
+    → ((c : Command) → IsSome (line c) → forms c ≡ true)
+    → IsSome (at_named table name line None) → at_named table name forms true ≡ true
+named_forms [] name forms line each some = refl
+named_forms (c ∷ cs) name forms line each some =
+    go (bytes_eq name c.signature.name) some (named_forms cs name forms line each)
+  where
+    go : (b : Bool) → IsSome (cond b (line c) (at_named cs name line None))
+        → (IsSome (at_named cs name line None) → at_named cs name forms true ≡ true)
+        → cond b (forms c) (at_named cs name forms true) ≡ true
+    go true some after = each c some
+    go false some after = after some
 
 -- the command of this name requires what its line asks for
-asks : Text → List Rule → Bool
-asks name rules =
-    if bytes_eq name (codes "new") then requires_all (codes "OUT" ∷ []) rules
-    else if bytes_eq name (codes "admit") then requires_all (codes "IN" ∷ codes "OUT" ∷ codes "FILE" ∷ []) rules
-    else if bytes_eq name (codes "retire")
-    then requires_all (codes "IN" ∷ codes "OUT" ∷ codes "UUID" ∷ codes "ARCH" ∷ codes "DIGEST" ∷ []) rules
-    else if bytes_eq name (codes "merge") then requires_all (codes "IN" ∷ codes "OUT" ∷ codes "FILE" ∷ []) rules
-    else if bytes_eq name (codes "migrate") then requires_all (codes "IN" ∷ codes "OUT" ∷ []) rules
-    else if bytes_eq name (codes "apply") then requires_all (codes "IN" ∷ codes "OUT" ∷ codes "OPS" ∷ []) rules
-    else if bytes_eq name (codes "find") then requires_all (codes "ARCHIVE" ∷ codes "UUID" ∷ []) rules
-    else if bytes_eq name (codes "list") then requires_all (codes "ARCHIVE" ∷ []) rules
-    else if bytes_eq name (codes "name") then requires_all (codes "ARCHIVE" ∷ codes "NAME" ∷ []) rules
-    else if bytes_eq name (codes "symbolicate")
-    then requires_all (codes "ARCHIVE" ∷ codes "UUID" ∷ codes "ARCH" ∷ codes "ADDRESS" ∷ []) rules
-    else if bytes_eq name (codes "frames") then requires_all (codes "FRAMES" ∷ codes "ARCHIVE" ∷ []) rules
-    else if bytes_eq name (codes "summary") then requires_all (codes "ARCHIVE" ∷ codes "OUT" ∷ []) rules
-    else if bytes_eq name (codes "delta")
-    then requires_all (codes "ARCHIVE" ∷ codes "SUMMARY" ∷ codes "OUT" ∷ []) rules
-    else if bytes_eq name (codes "rehearse") then requires_all (codes "SCRIPT" ∷ []) rules
-    else false
+abbrev asks : Text → List Rule → Bool
+asks name rules = at_named commands name (λ c. asks_for c.signature.arguments rules) false
 
-chosen : (b p q : Bool) (x y : Option Line) → (p ≡ true → IsSome x) → (q ≡ true → IsSome y)
-    → (if b then p else q) ≡ true → IsSome (if b then x else y)
-chosen true p q x y here after is = here is
-chosen false p q x y here after is = after is
+line_some : (name : Text) (rules : List Rule) (rows : List Row) → Stood rules rows → asks name rules ≡ true
+    → have_forms (name, rows) ≡ true → IsSome (line_in (name, rows))
+line_some name rules rows stood =
+    named_some commands name (λ c. asks_for c.signature.arguments rules)
+    (λ c. each_has_form c.signature.arguments rows) (λ c. line_at c rows)
+    (λ c. values_some c.signature.arguments c.line rules rows stood)
 
-line_some : (name : Text) (rules : List Rule) (rows : List Row) → InOrder rules rows → asks name rules ≡ true
-    → IsSome (line_in (name, rows))
-unfolding asks
-line_some name rules rows o =
-    chosen (bytes_eq name (codes "new")) _ _ _ _ (λ is. one_some (codes "OUT") new rules rows is o)
-    (chosen (bytes_eq name (codes "admit")) _ _ _ _ (λ is. files_some admit rules rows is o)
-    (chosen (bytes_eq name (codes "retire")) _ _ _ _ (λ is. retire_some rules rows is o)
-    (chosen (bytes_eq name (codes "merge")) _ _ _ _ (λ is. files_some merge rules rows is o)
-    (chosen (bytes_eq name (codes "migrate")) _ _ _ _ (λ is. two_some (codes "IN") (codes "OUT") migrate rules rows is o)
-    (chosen (bytes_eq name (codes "apply")) _ _ _ _
-    (λ is. three_some (codes "IN") (codes "OUT") (codes "OPS") apply rules rows is o)
-    (chosen (bytes_eq name (codes "find")) _ _ _ _ (λ is. find_some rules rows is o)
-    (chosen (bytes_eq name (codes "list")) _ _ _ _ (λ is. one_some (codes "ARCHIVE") list rules rows is o)
-    (chosen (bytes_eq name (codes "name")) _ _ _ _
-    (λ is. two_some (codes "ARCHIVE") (codes "NAME") name_symbol rules rows is o)
-    (chosen (bytes_eq name (codes "symbolicate")) _ _ _ _ (λ is. symbolicate_some rules rows is o)
-    (chosen (bytes_eq name (codes "frames")) _ _ _ _
-    (λ is. two_some (codes "FRAMES") (codes "ARCHIVE") frames rules rows is o)
-    (chosen (bytes_eq name (codes "summary")) _ _ _ _
-    (λ is. two_some (codes "ARCHIVE") (codes "OUT") summary rules rows is o)
-    (chosen (bytes_eq name (codes "delta")) _ _ _ _
-    (λ is. three_some (codes "ARCHIVE") (codes "SUMMARY") (codes "OUT") delta rules rows is o)
-    (chosen (bytes_eq name (codes "rehearse")) _ _ _ _ (λ is. one_some (codes "SCRIPT") rehearse rules rows is o)
-    (λ is. absurd (true≢false (sym is))))))))))))))))
+-- where a line is asked for, each value has its form
+pub forms_of_asked : (named : Option (Text × List Row)) → IsSome (option_and_then line_in named)
+    → option_map_or have_forms named true ≡ true
+forms_of_asked None some = refl
+forms_of_asked (Some p) some =
+    named_forms commands p.0 (λ c. each_has_form c.signature.arguments p.1) (λ c. line_at c p.1)
+    (λ c. forms_of_line c.signature.arguments c.line p.1) some
 
 -- ---- commands that are built
 
@@ -327,7 +221,7 @@ record IsSound (a : App) : Type 0 where
   commands : list_all is_sound a.subs ≡ true
 
 abbrev in_order : Option (Text × List Row) → Bool
-in_order named = option_map_or (λ p. have_forms p.1) named true
+in_order named = option_map_or have_forms named true
 
 required_here : (s : Shape) (rows : List Row) (has : Bool) → is_valid s rows has ≡ true
     → (s.subcommand_negates_reqs && has) ≡ false
@@ -360,8 +254,7 @@ entered_some top s name words sound answers lets help passes tests =
     line_some s.name s.rules (rows_after s.rules [] words) (record {
       given = required_here s (rows_after s.rules [] words) false passed.valid (and_false s.subcommand_negates_reqs);
       filled = passed.filled;
-      forms = tests;
-    }) own.1
+    }) own.1 tests
 
 found_some : (a : App) (p : Text × List Text) (o : Option Shape) → find (λ s. answers_to p.0 (label_of s)) a.subs ≡ o
     → IsSound a
@@ -401,11 +294,11 @@ accepted_some a words sound accepted tests =
 -- ---- the program's command
 
 symarch_sound : IsSound (built symarch_command)
-unfolding symarch_command is_sound asks requires_all
+unfolding symarch_command is_sound
 symarch_sound = record { needs_command = refl; has_help = refl; values = refl; commands = refl }
 
 -- a line that is accepted, in which each value has its form, asks for something
 pub accepted_line : (words : List Text) → are_accepted words ≡ true
-    → option_map_or (λ p. have_forms p.1) (named_command words) true ≡ true → IsSome (asked_of words)
+    → option_map_or have_forms (named_command words) true ≡ true → IsSome (asked_of words)
 unfolding are_accepted named_command
 accepted_line words = accepted_some symarch_command words symarch_sound

@@ -1,6 +1,6 @@
 -- A line whose OUT is none of its inputs is kept.
 use Rattle.std.proofs.Common.{◌≡◌, ◌∙◌, Bool, true, false, not, List, Contains, Option, Some, None, IfSome, ap, refl}
-use Rattle.std.proofs.Common.{if◌then◌else◌, sym, true≢false}
+use Rattle.std.proofs.Common.{if◌then◌else◌, IsSome, ◌&&◌, ap₂, subst, sym, true≢false}
 use Rattle.std.specs.Prelude.{option_and_then}
 use Rattle.std.specs.Bool.{Decides}
 use Rattle.std.specs.Option.{option_map_or}
@@ -8,8 +8,10 @@ use Rattle.std.specs.Str.{bytes_eq}
 use Rattle.std.proofs.lemmas.Bool.Decides.{Decides-by_or}
 use Rattle.std.proofs.lemmas.List.Elements.{Decides-contains}
 use Rattle.std.proofs.lemmas.Slice.Eq.{bytes_eq-Decides}
-use Rattle.clap.specs.Words.{Text}
-use Rattle.command_line.specs.Lines.{KeepsInputs, Line, inputs_of, is_path_among, kept, out_of, overwrites_input}
+use Rattle.clap.specs.Words.{Row, Text}
+use Rattle.command_line.specs.Lines.{KeepsInputs, Line, have_forms, inputs_of, is_path_among, kept, line_in, out_of}
+use Rattle.command_line.specs.Lines.{overwrites_input}
+use Rattle.command_line.proofs.Accepted.{forms_of_asked}
 
 -- the test of OUT's path says whether it is one of the inputs
 is_path_among-Decides : (path : Text) (paths : List Text)
@@ -41,3 +43,12 @@ in_order_apart asked line is ordered =
     go : (b : Bool) → not b ≡ true → b ≡ false
     go true is = absurd (true≢false (sym is))
     go false is = refl
+
+-- a line that is asked for and overwrites no input is in order
+pub in_order_of : (named : Option (Text × List Row)) (line : Line) → Some line ≡ option_and_then line_in named
+    → overwrites_input line ≡ false
+    → (option_map_or have_forms named true
+    && option_map_or (λ l. not (overwrites_input l)) (option_and_then line_in named) true) ≡ true
+in_order_of named line asked apart =
+    ap₂ (λ x y. x && y) (forms_of_asked named (subst IsSome asked refl))
+    (ap (λ o. option_map_or (λ l. not (overwrites_input l)) o true) (sym asked) ∙ ap not apart)

@@ -4,3 +4,5 @@ pub mod OnWords
 pub mod Simple
 pub mod Accepted
 pub mod LineFaultLemmas
+pub mod Exactly
+pub mod Made

@@ -1,5 +1,5 @@
 -- Lines that are written out.
-use Rattle.std.proofs.Common.{◌≡◌, refl, true, false, codes, ℕ, Some, None, List, [], ◌∷◌}
+use Rattle.std.proofs.Common.{◌≡◌, refl, true, false, codes, Some, None, List, [], ◌∷◌}
 use Rattle.clap.specs.Words.{Text}
 use Rattle.hex.proofs.OnLiterals.{hex_on_literals}
 use Rattle.uuid.proofs.OnLiterals.{uuid_on_literals}
@@ -9,6 +9,8 @@ use Rattle.command_line.specs.Commands.{symarch_command}
 use Rattle.command_line.specs.Lines.{admit, are_accepted, error_kinds, find, frames, is_in_order, line_of, merge}
 use Rattle.command_line.specs.Lines.{migrate, named_command, new, retire, symbolicate}
 use Rattle.archive_words.specs.Words.{address_of, arch_key, arch_of, digest_of}
+use Rattle.command_line.specs.Samples.{Asks, EachAsks, Sample, digest_bytes}
+use Rattle.command_line.specs.Samples.{digest_text, samples, uuid_bytes, uuid_text}
 
 -- the program's name, which is the first word of each line
 abbrev symarch : List Text → List Text
@@ -83,7 +85,8 @@ unfolding named_command symarch_command clap_on_literals
 file_missing_in_order = refl
 
 -- OUT is the last FILE
-out_is_last_in_order : is_in_order (symarch (codes "admit" ∷ codes "i" ∷ codes "o" ∷ codes "f" ∷ codes "o" ∷ [])) ≡ false
+out_is_last_in_order : is_in_order (symarch (codes "admit" ∷ codes "i" ∷ codes "o" ∷ codes "f" ∷ codes "o" ∷ []))
+    ≡ false
 unfolding named_command symarch_command clap_on_literals
 out_is_last_in_order = refl
 
@@ -93,22 +96,6 @@ unfolding named_command symarch_command clap_on_literals uuid_on_literals
 no_uuid_in_order = refl
 
 -- ---- the other commands
-
--- a UUID in one of its forms, and its bytes
-abbrev uuid_text : Text
-uuid_text = codes "00112233-4455-6677-8899-AABBCCDDEEFF"
-
-abbrev uuid_bytes : List ℕ
-uuid_bytes = 0 ∷ 17 ∷ 34 ∷ 51 ∷ 68 ∷ 85 ∷ 102 ∷ 119 ∷ 136 ∷ 153 ∷ 170 ∷ 187 ∷ 204 ∷ 221 ∷ 238 ∷ 255 ∷ []
-
--- the SHA-256 of no bytes
-abbrev digest_text : Text
-digest_text = codes "e3b0c44298fc1c149afbf4c8996fb92427ae41e4649b934ca495991b7852B855"
-
-abbrev digest_bytes : List ℕ
-digest_bytes =
-    0xe3 ∷ 0xb0 ∷ 0xc4 ∷ 0x42 ∷ 0x98 ∷ 0xfc ∷ 0x1c ∷ 0x14 ∷ 0x9a ∷ 0xfb ∷ 0xf4 ∷ 0xc8 ∷ 0x99 ∷ 0x6f ∷ 0xb9 ∷ 0x24
-    ∷ 0x27 ∷ 0xae ∷ 0x41 ∷ 0xe4 ∷ 0x64 ∷ 0x9b ∷ 0x93 ∷ 0x4c ∷ 0xa4 ∷ 0x95 ∷ 0x99 ∷ 0x1b ∷ 0x78 ∷ 0x52 ∷ 0xb8 ∷ 0x55 ∷ []
 
 retire_read : line_of (symarch (codes "retire" ∷ codes "i" ∷ codes "o" ∷ uuid_text ∷ codes "arm64e" ∷ digest_text ∷ []))
     ≡ Some (retire (codes "i") (codes "o") uuid_bytes (arch_key 0x0100_000c 2) (record { 0 = digest_bytes }))
@@ -213,7 +200,8 @@ file_missing : are_accepted (symarch (codes "admit" ∷ codes "i" ∷ codes "o" 
 unfolding are_accepted symarch_command clap_on_literals
 file_missing = refl
 
-file_missing_fault : error_kinds (symarch (codes "admit" ∷ codes "i" ∷ codes "o" ∷ [])) ≡ kind.MissingRequiredArgument ∷ []
+file_missing_fault : error_kinds (symarch (codes "admit" ∷ codes "i" ∷ codes "o" ∷ []))
+    ≡ kind.MissingRequiredArgument ∷ []
 unfolding error_kinds symarch_command clap_on_literals
 file_missing_fault = refl
 
@@ -260,3 +248,20 @@ short_version_asked = refl
 command_version_unknown : error_kinds (symarch (codes "new" ∷ codes "--version" ∷ [])) ≡ kind.UnknownArgument ∷ []
 unfolding error_kinds symarch_command clap_on_literals
 command_version_unknown = refl
+
+-- ---- for each command a line
+
+asks : (s : Sample) → error_kinds s.words ≡ [] → is_in_order s.words ≡ true → line_of s.words ≡ Some s.line → Asks s
+asks s accepted in_order line_is = record { accepted = accepted; in_order = in_order; line_is = line_is }
+
+and : {P Q : Type 0} → P → Q → P × Q
+and p q = (p, q)
+
+pub each_asks : EachAsks samples
+unfolding error_kinds named_command symarch_command clap_on_literals hex_on_literals uuid_on_literals
+each_asks =
+    and (asks _ refl refl refl) (and (asks _ refl refl refl) (and (asks _ refl refl refl)
+    (and (asks _ refl refl refl) (and (asks _ refl refl refl) (and (asks _ refl refl refl)
+    (and (asks _ refl refl refl) (and (asks _ refl refl refl) (and (asks _ refl refl refl)
+    (and (asks _ refl refl refl) (and (asks _ refl refl refl) (and (asks _ refl refl refl)
+    (and (asks _ refl refl refl) (and (asks _ refl refl refl) tt)))))))))))))

@@ -1,4 +1,8 @@
+pub mod Arguments
+pub mod Table
+pub mod WellFormed
+pub mod InnerTable
 pub mod Commands
-pub mod InnerCommands
 pub mod Lines
 pub mod LineFaults
+pub mod Samples

@@ -1,69 +1,47 @@
 -- What a command line asks for.
-use Rattle.std.specs.Prelude.{ℕ, Bool, true, false, not, ◌&&◌, List, [], ◌∷◌, map, Contains, codes, string_bytes}
-use Rattle.std.specs.Prelude.{unwrap_or, Option, Some, None, IfSome, is_some, option_and_then, option_map}
+use Rattle.std.specs.Prelude.{Bool, true, false, not, ◌&&◌, ◌||◌, List, [], ◌∷◌, ◌++◌, map, Contains, string_bytes}
+use Rattle.std.specs.Prelude.{Option, Some, None, IfSome, is_some, option_and_then, option_map, slice_get}
 use Rattle.std.specs.Prelude.{if◌then◌else◌}
 use Rattle.std.specs.List.{list_all, list_any}
 use Rattle.std.specs.Option.{option_map_or}
 use Rattle.std.specs.Str.{bytes_eq}
 use Rattle.clap.specs.Words.{Kinds, Row, Text, all_of, fault_of, first_of, subcommand_of, takes}
-use Rattle.uuid.specs.Text.{parsed}
-use Rattle.archive_core.specs.declared.keys.ArchKey.{ArchKey}
-use Rattle.archive_core.specs.declared.keys.Digest.{Digest}
-use Rattle.command_line.specs.Commands.{symarch_command}
-use Rattle.archive_words.specs.Words.{address_of, arch_of, digest_of}
 use Rattle.command_line.specs.declared.plans.Plan.{Plan}
 use Rattle.command_line.specs.declared.plans.Plan.TheVariants as plan
+use Rattle.command_line.specs.declared.table.Form.{Form}
+use Rattle.command_line.specs.declared.table.Form.TheVariants as forms
+use Rattle.command_line.specs.declared.table.Role.{Role}
+use Rattle.command_line.specs.Arguments.{Argument, Count, Once, Perhaps, Several, Spelled, Value, ValueOf, Values}
+use Rattle.command_line.specs.Arguments.{form_of, reads, spelled, writes}
+use Rattle.command_line.specs.Commands.{symarch_command}
+use Rattle.command_line.specs.Table.{Command, Makes, commands, of_command}
+pub use Rattle.command_line.specs.Table.{Line, admit, apply, delta, find, frames, list, merge, migrate, name, new}
+pub use Rattle.command_line.specs.Table.{rehearse, retire, summary, symbolicate}
 
--- a command, with the value of each of its names; a path is the word itself
-pub data Line : Type 0 where
-  new : (out : Text) → Line
-  admit : (input out : Text) (files : List Text) → Line
-  retire : (input out : Text) (uuid : List ℕ) (arch : ArchKey) (digest : Digest) → Line
-  merge : (input out : Text) (files : List Text) → Line
-  migrate : (input out : Text) → Line
-  apply : (input out ops : Text) → Line
-  find : (archive : Text) (uuid : List ℕ) → Line
-  list : (archive : Text) → Line
-  name : (archive sought : Text) → Line
-  symbolicate : (archive : Text) (uuid : List ℕ) (arch : ArchKey) (load : Option ℕ) (addresses : List ℕ) → Line
-  frames : (crash archive : Text) → Line
-  summary : (archive out : Text) → Line
-  delta : (archive summary out : Text) → Line
-  rehearse : (script : Text) → Line
+-- ---- paths
 
--- the paths of the inputs of a line, in the order of the words
+-- the texts of a value, in front of others
+abbrev pub texts_before : (count : Count) (form : Form) → ValueOf count form → List Text → List Text
+texts_before Once forms.Plain text more = text ∷ more
+texts_before Several forms.Plain texts [] = texts
+texts_before Several forms.Plain texts (next ∷ more) = texts ++ next ∷ more
+texts_before (Perhaps option) forms.Plain (Some text) more = text ∷ more
+texts_before _ _ _ more = more
+
+-- the texts of the arguments whose role is wanted
+abbrev pub texts_by : (Role → Bool) → (arguments : List Argument) → Values arguments → List Text
+texts_by wants [] values = []
+texts_by wants (a ∷ rest) values =
+    if wants a.role then texts_before a.count (form_of a.role) values.0 (texts_by wants rest values.1)
+    else texts_by wants rest values.1
+
+-- the paths of the inputs of a line, in the order of the table
 abbrev pub inputs_of : Line → List Text
-inputs_of (new out) = []
-inputs_of (admit input out files) = input ∷ files
-inputs_of (retire input out uuid arch digest) = input ∷ []
-inputs_of (merge input out files) = input ∷ files
-inputs_of (migrate input out) = input ∷ []
-inputs_of (apply input out ops) = input ∷ ops ∷ []
-inputs_of (find archive uuid) = archive ∷ []
-inputs_of (list archive) = archive ∷ []
-inputs_of (name archive sought) = archive ∷ []
-inputs_of (symbolicate archive uuid arch load addresses) = archive ∷ []
-inputs_of (frames crash archive) = crash ∷ archive ∷ []
-inputs_of (summary archive out) = archive ∷ []
-inputs_of (delta archive named out) = archive ∷ named ∷ []
-inputs_of (rehearse script) = script ∷ []
+inputs_of line = of_command (λ c values. texts_by reads c.signature.arguments values) line
 
 -- the path of OUT, if the line has one
 abbrev pub out_of : Line → Option Text
-out_of (new out) = Some out
-out_of (admit input out files) = Some out
-out_of (retire input out uuid arch digest) = Some out
-out_of (merge input out files) = Some out
-out_of (migrate input out) = Some out
-out_of (apply input out ops) = Some out
-out_of (find archive uuid) = None
-out_of (list archive) = None
-out_of (name archive sought) = None
-out_of (symbolicate archive uuid arch load addresses) = None
-out_of (frames crash archive) = None
-out_of (summary archive out) = Some out
-out_of (delta archive named out) = Some out
-out_of (rehearse script) = None
+out_of line = of_command (λ c values. slice_get (texts_by writes c.signature.arguments values) 0) line
 
 -- OUT is no input, as text
 abbrev pub KeepsInputs : Line → Type 0
@@ -118,112 +96,37 @@ all_spelled form (word ∷ words) =
 abbrev pub all_spelled_at : {X : Type 0} → (Text → Option X) → Text → List Row → Option (List X)
 all_spelled_at form id rows = option_and_then (all_spelled form) (all_of id rows)
 
--- the line of two values, or three, or five; nothing where one is missing, or a word has another form
-abbrev pub of_two : {X Y : Type 0} → (X → Y → Line) → Option X → Option Y → Option Line
-of_two line (Some x) (Some y) = Some (line x y)
-of_two _ _ _ = None
+-- each word itself, where it has to have no form
+abbrev pub each_spelled : (form : Form) → List Text → Option (List (Spelled form))
+each_spelled forms.Plain = λ words. Some words
+each_spelled form = all_spelled (spelled form)
 
-abbrev pub of_three : {X Y Z : Type 0} → (X → Y → Z → Line) → Option X → Option Y → Option Z → Option Line
-of_three line (Some x) (Some y) (Some z) = Some (line x y z)
-of_three _ _ _ _ = None
+-- the value of an argument, where it is there and each word has its form
+abbrev pub value_by : (count : Count) (form : Form) → Text → List Row → Option (ValueOf count form)
+value_by Once form id rows = spelled_at (spelled form) id rows
+value_by Several form id rows = option_and_then (each_spelled form) (all_of id rows)
+value_by (Perhaps option) form id rows = optional_at (spelled form) id rows
 
-abbrev pub of_five : {V W X Y Z : Type 0} → (V → W → X → Y → Z → Line) → Option V → Option W → Option X → Option Y
-    → Option Z → Option Line
-of_five line (Some v) (Some w) (Some x) (Some y) (Some z) = Some (line v w x y z)
-of_five _ _ _ _ _ _ = None
+abbrev pub value_at : (a : Argument) → List Row → Option (Value a)
+value_at a rows = value_by a.count (form_of a.role) a.name rows
 
--- `new OUT`
-abbrev pub new_line : List Row → Option Line
-new_line rows = option_map new (first_of (codes "OUT") rows)
+-- the line that the values of these arguments make
+abbrev pub line_from : (arguments : List Argument) → Makes arguments → List Row → Option Line
+line_from [] line rows = Some line
+line_from (a ∷ rest) line rows = option_and_then (λ value. line_from rest (line value) rows) (value_at a rows)
 
--- `admit IN OUT FILE...`
-abbrev pub admit_line : List Row → Option Line
-admit_line rows = of_three admit (first_of (codes "IN") rows) (first_of (codes "OUT") rows)
-    (all_of (codes "FILE") rows)
+abbrev pub line_at : Command → List Row → Option Line
+line_at c rows = line_from c.signature.arguments c.line rows
 
--- `retire IN OUT UUID ARCH DIGEST`
-abbrev pub retire_line : List Row → Option Line
-retire_line rows = of_five retire (first_of (codes "IN") rows) (first_of (codes "OUT") rows)
-    (spelled_at parsed (codes "UUID") rows) (spelled_at arch_of (codes "ARCH") rows)
-    (spelled_at digest_of (codes "DIGEST") rows)
+-- what is said of the first command of this name, or this if none has it
+abbrev pub at_named : {X : Type 0} → List Command → Text → (Command → X) → X → X
+at_named [] called found none = none
+at_named (c ∷ cs) called found none =
+    if bytes_eq called c.signature.name then found c else at_named cs called found none
 
--- `merge IN OUT FILE...`
-abbrev pub merge_line : List Row → Option Line
-merge_line rows = of_three merge (first_of (codes "IN") rows) (first_of (codes "OUT") rows)
-    (all_of (codes "FILE") rows)
-
--- `migrate IN OUT`
-abbrev pub migrate_line : List Row → Option Line
-migrate_line rows = of_two migrate (first_of (codes "IN") rows) (first_of (codes "OUT") rows)
-
--- `apply IN OUT OPS`
-abbrev pub apply_line : List Row → Option Line
-apply_line rows = of_three apply (first_of (codes "IN") rows) (first_of (codes "OUT") rows)
-    (first_of (codes "OPS") rows)
-
--- `find ARCHIVE UUID`
-abbrev pub find_line : List Row → Option Line
-find_line rows = of_two find (first_of (codes "ARCHIVE") rows) (spelled_at parsed (codes "UUID") rows)
-
--- `list ARCHIVE`
-abbrev pub list_line : List Row → Option Line
-list_line rows = option_map list (first_of (codes "ARCHIVE") rows)
-
--- `name ARCHIVE NAME`
-abbrev pub name_line : List Row → Option Line
-name_line rows = of_two name (first_of (codes "ARCHIVE") rows) (first_of (codes "NAME") rows)
-
--- `symbolicate ARCHIVE UUID ARCH [--load HEX] ADDRESS...`
-abbrev pub symbolicate_line : List Row → Option Line
-symbolicate_line rows = of_five symbolicate (first_of (codes "ARCHIVE") rows)
-    (spelled_at parsed (codes "UUID") rows) (spelled_at arch_of (codes "ARCH") rows)
-    (optional_at address_of (codes "HEX") rows) (all_spelled_at address_of (codes "ADDRESS") rows)
-
--- `frames FRAMES ARCHIVE`
-abbrev pub frames_line : List Row → Option Line
-frames_line rows = of_two frames (first_of (codes "FRAMES") rows) (first_of (codes "ARCHIVE") rows)
-
--- `summary ARCHIVE OUT`
-abbrev pub summary_line : List Row → Option Line
-summary_line rows = of_two summary (first_of (codes "ARCHIVE") rows) (first_of (codes "OUT") rows)
-
--- `delta ARCHIVE SUMMARY OUT`
-abbrev pub delta_line : List Row → Option Line
-delta_line rows = of_three delta (first_of (codes "ARCHIVE") rows) (first_of (codes "SUMMARY") rows)
-    (first_of (codes "OUT") rows)
-
--- `rehearse SCRIPT`
-abbrev pub rehearse_line : List Row → Option Line
-rehearse_line rows = option_map rehearse (first_of (codes "SCRIPT") rows)
-
--- by the command's name and what stands at its names, of the commands by which sites exchange
-abbrev pub exchange_line_in : Text × List Row → Option Line
-exchange_line_in p =
-    if bytes_eq p.0 (codes "summary") then summary_line p.1
-    else if bytes_eq p.0 (codes "delta") then delta_line p.1
-    else if bytes_eq p.0 (codes "rehearse") then rehearse_line p.1
-    else None
-
--- the same of those too that ask an archive
-abbrev pub query_line_in : Text × List Row → Option Line
-query_line_in p =
-    if bytes_eq p.0 (codes "find") then find_line p.1
-    else if bytes_eq p.0 (codes "list") then list_line p.1
-    else if bytes_eq p.0 (codes "name") then name_line p.1
-    else if bytes_eq p.0 (codes "symbolicate") then symbolicate_line p.1
-    else if bytes_eq p.0 (codes "frames") then frames_line p.1
-    else exchange_line_in p
-
--- the same of all commands
+-- by the command's name and what stands at its names
 abbrev pub line_in : Text × List Row → Option Line
-line_in p =
-    if bytes_eq p.0 (codes "new") then new_line p.1
-    else if bytes_eq p.0 (codes "admit") then admit_line p.1
-    else if bytes_eq p.0 (codes "retire") then retire_line p.1
-    else if bytes_eq p.0 (codes "merge") then merge_line p.1
-    else if bytes_eq p.0 (codes "migrate") then migrate_line p.1
-    else if bytes_eq p.0 (codes "apply") then apply_line p.1
-    else query_line_in p
+line_in p = at_named commands p.0 (λ c. line_at c p.1) None
 
 -- what the words ask for, where each value is there and has its form
 abbrev pub asked_of : List Text → Option Line
@@ -235,24 +138,18 @@ line_of words = option_and_then kept (asked_of words)
 
 -- ---- lines that are in order
 
--- the words at this name
-abbrev pub words_at : Text → List Row → List Text
-words_at id rows = unwrap_or (all_of id rows) []
+-- the argument has its value, unless no word stands at its name
+abbrev pub has_form : Argument → List Row → Bool
+has_form a rows = is_some (value_at a rows) || not (is_some (first_of a.name rows))
 
--- each word at this name has the form
-abbrev pub has_form : {X : Type 0} → (Text → Option X) → Text → List Row → Bool
-has_form form id rows = list_all (λ word. is_some (form word)) (words_at id rows)
+-- each argument of the command of this name does
+abbrev pub have_forms : Text × List Row → Bool
+have_forms p = at_named commands p.0 (λ c. list_all (λ a. has_form a p.1) c.signature.arguments) true
 
--- each value has the form that its name asks for
-abbrev pub have_forms : List Row → Bool
-have_forms rows = has_form parsed (codes "UUID") rows && (has_form arch_of (codes "ARCH") rows
-    && (has_form digest_of (codes "DIGEST") rows && (has_form address_of (codes "HEX") rows
-    && has_form address_of (codes "ADDRESS") rows)))
-
--- of what stands at the names of the command that the words name, each value has its form, and OUT is no input
+-- each value of the command that the words name has its form, and OUT is no input
 abbrev pub is_in_order : List Text → Bool
 is_in_order words =
-    option_map_or (λ p. have_forms p.1) (named_command words) true
+    option_map_or have_forms (named_command words) true
     && option_map_or (λ line. not (overwrites_input line)) (asked_of words) true
 
 -- ---- plans

@@ -1,21 +1,25 @@
 //! What a command line asks for.
 //!
+//! - `table`: the commands, with their helps and arguments;
 //! - `plans`: what a command line asks for, a case a command;
 //! - `line_faults`: why a line gives no plan;
-//! - `commands`: the commands, as `clap` builds them;
+//! - `commands`: the commands of the table, as `clap` builds them;
 //! - `values`: the values that `clap` puts at the names of a command;
 //! - `updates`: the plans of the commands that write an archive;
 //! - `queries`: the plans of the commands that ask one;
 //! - `exchanges`: the plans of the commands by which sites exchange;
-//! - `reads`: a line, read.
+//! - `reads`: a line, read;
+//! - `laws`: what the definitions say of words and of the table.
 #![tactic(auto)]
 
 mod commands;
 mod exchanges;
+pub mod laws;
 mod line_faults;
 mod plans;
 mod queries;
 mod reads;
+mod table;
 mod updates;
 mod values;
 

@@ -3,9 +3,8 @@
 ghost use Rattle.std.specs.Prelude.{◌≡◌, ◌⊎◌, IfErr, IfOk, IsErrAnd, IsSome, OnOk, Some, [], ◌∷◌};
 ghost use Rattle.std.specs.Prelude.{false, map, option_map, true};
 ghost use Rattle.clap.specs.Words.{IsAmong, found_of, rows_of, subcommand_rows_of};
-ghost use Rattle.command_line.specs.Lines.{KeepsInputs, are_accepted, error_kinds, exchange_line_in, is_in_order};
-ghost use Rattle.command_line.specs.Lines.{line_in, line_of, named_command, overwrites_input, plan_view};
-ghost use Rattle.command_line.specs.Lines.{query_line_in};
+ghost use Rattle.command_line.specs.Lines.{KeepsInputs, are_accepted, error_kinds, is_in_order, line_in, line_of};
+ghost use Rattle.command_line.specs.Lines.{named_command, overwrites_input, plan_view};
 ghost use Rattle.command_line.specs.LineFaults.{IsHelpUnlessMemory, IsRefusalUnlessMemory, Plans};
 
 use crate::commands::symarch_command;
@@ -19,41 +18,6 @@ use clap::ArgMatches;
 use clap::error::ErrorKind;
 use std::alloc::Global;
 use std::convert::AsStr;
-
-/// The plan of the command with this name, if it is one by which sites exchange.
-fn plan_exchange_in(alloc: Global, name: &str, matches: &ArgMatches) -> Result<Plan, LineFault>
-    ensures { Plans (exchange_line_in (name.now, rows_of (found_of matches.now))) result }
-{
-    if name == "summary" {
-        plan_summary(alloc, matches)
-    } else if name == "delta" {
-        plan_delta(alloc, matches)
-    } else if name == "rehearse" {
-        plan_rehearse(alloc, matches)
-    } else {
-        Err(refused(format!(in alloc; "error: invalid command '{name}'\n")))
-    }
-}
-
-/// The plan of the command with this name, if it is one that asks an archive or by which sites
-/// exchange.
-fn plan_query_in(alloc: Global, name: &str, matches: &ArgMatches) -> Result<Plan, LineFault>
-    ensures { Plans (query_line_in (name.now, rows_of (found_of matches.now))) result }
-{
-    if name == "find" {
-        plan_find(alloc, matches)
-    } else if name == "list" {
-        plan_list(alloc, matches)
-    } else if name == "name" {
-        plan_name(alloc, matches)
-    } else if name == "symbolicate" {
-        plan_symbolicate(alloc, matches)
-    } else if name == "frames" {
-        plan_frames(alloc, matches)
-    } else {
-        plan_exchange_in(alloc, name, matches)
-    }
-}
 
 /// The plan of the command with this name.
 fn plan_in(alloc: Global, name: &str, matches: &ArgMatches) -> Result<Plan, LineFault>
@@ -71,8 +35,24 @@ fn plan_in(alloc: Global, name: &str, matches: &ArgMatches) -> Result<Plan, Line
         plan_migrate(alloc, matches)
     } else if name == "apply" {
         plan_apply(alloc, matches)
+    } else if name == "find" {
+        plan_find(alloc, matches)
+    } else if name == "list" {
+        plan_list(alloc, matches)
+    } else if name == "name" {
+        plan_name(alloc, matches)
+    } else if name == "symbolicate" {
+        plan_symbolicate(alloc, matches)
+    } else if name == "frames" {
+        plan_frames(alloc, matches)
+    } else if name == "summary" {
+        plan_summary(alloc, matches)
+    } else if name == "delta" {
+        plan_delta(alloc, matches)
+    } else if name == "rehearse" {
+        plan_rehearse(alloc, matches)
     } else {
-        plan_query_in(alloc, name, matches)
+        Err(refused(format!(in alloc; "error: invalid command '{name}'\n")))
     }
 }
 
@@ -129,6 +109,7 @@ pub fn plan<S: AsStr>(alloc: Global, words: &[S]) -> Result<Plan, LineFault>
     // A plan asks for what the words ask for, by `clap`'s own definition of a command's matches.
     ensures ok { IfOk result (λ p. Some (plan_view p) ≡ line_of (map S.text words.now)) }
     ensures accepted { OnOk result (error_kinds (map S.text words.now) ≡ []) }
+    ensures in_order { OnOk result (is_in_order (map S.text words.now) ≡ true) }
     ensures keeps_inputs { IfOk result (λ p. KeepsInputs (plan_view p)) }
 
     // A line that `clap` accepts, in which each value has its form and OUT's path is no input's, is refused for memory

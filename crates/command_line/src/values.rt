@@ -3,10 +3,12 @@
 ghost use Rattle.std.specs.Prelude.{◌≡◌, ◌⊎◌, IfErr, IfOk, None, Some, map, option_map};
 ghost use Rattle.std.specs.Prelude.{string_bytes};
 ghost use Rattle.clap.specs.Words.{all_of, first_of, found_of, rows_of};
+ghost use Rattle.command_line.specs.InnerTable.{argument_in};
+ghost use Rattle.command_line.specs.LineFaults.{IsRefusalUnlessMemory, IsRefusedAs, other_form, without_value};
 ghost use Rattle.command_line.specs.Lines.{all_spelled, all_spelled_at, is_path_among, optional_at, spelled_at};
-ghost use Rattle.command_line.specs.LineFaults.{IsRefusalUnlessMemory};
 
 use crate::line_faults::{LineFault, refused};
+use crate::table::{Argument, form_of, form_text};
 use archive_words::Word;
 use clap::ArgMatches;
 use std::alloc::{AllocError, Global};
@@ -27,26 +29,35 @@ fn values<'m, 'a>(matches: &'m ArgMatches<'a>, id: &str) -> Option<&'m [&'a str]
 }
 
 /// The value of a name that has to have one, as each line that `clap` accepts gives it.
-fn one_value<'a>(alloc: Global, matches: &ArgMatches<'a>, id: &str) -> Result<&'a str, LineFault>
-    ensures ok { IfOk result (λ s. first_of id.now (rows_of (found_of matches.now)) ≡ Some s.now) }
+fn one_value<'a>(
+    alloc: Global,
+    matches: &ArgMatches<'a>,
+    argument: Argument,
+) -> Result<&'a str, LineFault>
+    ensures ok { IfOk result (λ s. first_of argument.name.now (rows_of (found_of matches.now)) ≡ Some s.now) }
     ensures err { IfErr result (λ e. (e ≡ LineFault.OutOfMemory)
-        ⊎ (first_of id.now (rows_of (found_of matches.now)) ≡ None)) }
+        ⊎ (first_of argument.name.now (rows_of (found_of matches.now)) ≡ None)) }
     ensures refusal { IfErr result IsRefusalUnlessMemory }
 {
-    match value(matches, id) {
+    match value(matches, argument.name) {
         Some(word) => Ok(word),
-        None => Err(missing(alloc, id)),
+        None => Err(missing(alloc, argument)),
     }
 }
 
 /// A copy of the value of a name that has to have one.
-pub fn text_value(alloc: Global, matches: &ArgMatches, id: &str) -> Result<String, LineFault>
-    ensures ok { IfOk result (λ s. first_of id.now (rows_of (found_of matches.now)) ≡ Some (string_bytes s)) }
+pub fn text_value(
+    alloc: Global,
+    matches: &ArgMatches,
+    argument: Argument,
+) -> Result<String, LineFault>
+    ensures ok { IfOk result (λ s. first_of argument.name.now (rows_of (found_of matches.now))
+        ≡ Some (string_bytes s)) }
     ensures err { IfErr result (λ e. (e ≡ LineFault.OutOfMemory)
-        ⊎ (first_of id.now (rows_of (found_of matches.now)) ≡ None)) }
+        ⊎ (first_of argument.name.now (rows_of (found_of matches.now)) ≡ None)) }
     ensures refusal { IfErr result IsRefusalUnlessMemory }
 {
-    let word = one_value(alloc, matches, id)?;
+    let word = one_value(alloc, matches, argument)?;
     Ok(String::from_str(alloc, word)?)
 }
 
@@ -54,46 +65,50 @@ pub fn text_value(alloc: Global, matches: &ArgMatches, id: &str) -> Result<Strin
 pub fn several_values<'m, 'a>(
     alloc: Global,
     matches: &'m ArgMatches<'a>,
-    id: &str,
+    argument: Argument,
 ) -> Result<&'m [&'a str], LineFault>
-    ensures ok { IfOk result (λ vs. all_of id.now (rows_of (found_of matches.now))
+    ensures ok { IfOk result (λ vs. all_of argument.name.now (rows_of (found_of matches.now))
         ≡ Some (map (λ v. v.now) vs.now)) }
     ensures err { IfErr result (λ e. (e ≡ LineFault.OutOfMemory)
-        ⊎ (all_of id.now (rows_of (found_of matches.now)) ≡ None)) }
+        ⊎ (all_of argument.name.now (rows_of (found_of matches.now)) ≡ None)) }
     ensures refusal { IfErr result IsRefusalUnlessMemory }
 {
-    match values(matches, id) {
+    match values(matches, argument.name) {
         Some(values) => Ok(values),
-        None => Err(missing(alloc, id)),
+        None => Err(missing(alloc, argument)),
     }
 }
 
 /// The value that the word of a name spells.
-pub fn spelled_value<T: Word>(alloc: Global, matches: &ArgMatches, id: &str) -> Result<T, LineFault>
-    ensures ok { IfOk result (λ x. spelled_at T.form_of id.now (rows_of (found_of matches.now))
+pub fn spelled_value<T: Word>(
+    alloc: Global,
+    matches: &ArgMatches,
+    argument: Argument,
+) -> Result<T, LineFault>
+    ensures ok { IfOk result (λ x. spelled_at T.form_of argument.name.now (rows_of (found_of matches.now))
         ≡ Some x) }
     ensures err { IfErr result (λ e. (e ≡ LineFault.OutOfMemory)
-        ⊎ (spelled_at T.form_of id.now (rows_of (found_of matches.now)) ≡ None)) }
+        ⊎ (spelled_at T.form_of argument.name.now (rows_of (found_of matches.now)) ≡ None)) }
     ensures refusal { IfErr result IsRefusalUnlessMemory }
 {
-    let word = one_value(alloc, matches, id)?;
-    spelled(alloc, id, word)
+    let word = one_value(alloc, matches, argument)?;
+    spelled(alloc, argument, word)
 }
 
 /// The value that the word of a name spells which may be left out.
 pub fn optional_value<T: Word>(
     alloc: Global,
     matches: &ArgMatches,
-    id: &str,
+    argument: Argument,
 ) -> Result<Option<T>, LineFault>
-    ensures ok { IfOk result (λ x. optional_at T.form_of id.now (rows_of (found_of matches.now))
+    ensures ok { IfOk result (λ x. optional_at T.form_of argument.name.now (rows_of (found_of matches.now))
         ≡ Some x) }
     ensures err { IfErr result (λ e. (e ≡ LineFault.OutOfMemory)
-        ⊎ (optional_at T.form_of id.now (rows_of (found_of matches.now)) ≡ None)) }
+        ⊎ (optional_at T.form_of argument.name.now (rows_of (found_of matches.now)) ≡ None)) }
     ensures refusal { IfErr result IsRefusalUnlessMemory }
 {
-    match value(matches, id) {
-        Some(word) => Ok(Some(spelled(alloc, id, word)?)),
+    match value(matches, argument.name) {
+        Some(word) => Ok(Some(spelled(alloc, argument, word)?)),
         None => Ok(None),
     }
 }
@@ -102,22 +117,22 @@ pub fn optional_value<T: Word>(
 pub fn spelled_values<T: Word + Drop>(
     alloc: Global,
     matches: &ArgMatches,
-    id: &str,
+    argument: Argument,
 ) -> Result<Vec<T>, LineFault>
-    ensures ok { IfOk result (λ xs. all_spelled_at T.form_of id.now (rows_of (found_of matches.now))
+    ensures ok { IfOk result (λ xs. all_spelled_at T.form_of argument.name.now (rows_of (found_of matches.now))
         ≡ Some xs.items) }
     ensures err { IfErr result (λ e. (e ≡ LineFault.OutOfMemory)
-        ⊎ (all_spelled_at T.form_of id.now (rows_of (found_of matches.now)) ≡ None)) }
+        ⊎ (all_spelled_at T.form_of argument.name.now (rows_of (found_of matches.now)) ≡ None)) }
     ensures refusal { IfErr result IsRefusalUnlessMemory }
 {
-    let words = several_values(alloc, matches, id)?;
-    each_spelled(alloc, id, words)
+    let words = several_values(alloc, matches, argument)?;
+    each_spelled(alloc, argument, words)
 }
 
 /// The value that each of these words spells.
 fn each_spelled<T: Word + Drop>(
     alloc: Global,
-    id: &str,
+    argument: Argument,
     words: &[&str],
 ) -> Result<Vec<T>, LineFault>
     ensures ok { IfOk result (λ xs. all_spelled T.form_of (map (λ w. w.now) words.now)
@@ -128,46 +143,39 @@ fn each_spelled<T: Word + Drop>(
 {
     let mut values = Vec::new(alloc);
     'words: for word in words {
-        values.push(spelled(alloc, id, word)?)?;
+        values.push(spelled(alloc, argument, word)?)?;
     }
     Ok(values)
 }
 
 /// The value that a word spells, which stands at this name.
-fn spelled<T: Word>(alloc: Global, id: &str, word: &str) -> Result<T, LineFault>
+fn spelled<T: Word>(alloc: Global, argument: Argument, word: &str) -> Result<T, LineFault>
     ensures ok { IfOk result (λ x. T.form_of word.now ≡ Some x) }
     ensures err { IfErr result (λ e. (e ≡ LineFault.OutOfMemory) ⊎ (T.form_of word.now ≡ None)) }
     ensures refusal { IfErr result IsRefusalUnlessMemory }
+    ensures text { IfErr result (IsRefusedAs (other_form (argument_in argument) word.now)) }
 {
     match T::read(word) {
         Some(value) => Ok(value),
-        None => Err(other_form(alloc, id, word)),
+        None => Err(other_form(alloc, argument, word)),
     }
 }
 
-/// The refusal of a line in which a word has another form than its name asks for.
-fn other_form(alloc: Global, id: &str, word: &str) -> LineFault
-    ensures { IsRefusalUnlessMemory result }
+/// The refusal of a line in which a word has another form than its argument.
+fn other_form(alloc: Global, argument: Argument, word: &str) -> LineFault
+    ensures { IsRefusedAs (other_form (argument_in argument) word.now) result }
 {
-    let form = form_of(id);
-    refused(format!(in alloc; "error: invalid {id} '{word}': expected {form}\n"))
-}
-
-/// The form that a name asks for, in words.
-fn form_of(id: &str) -> &'static str {
-    match id {
-        "UUID" => "32 hex digits, with or without hyphens",
-        "ARCH" => "x86_64, x86_64h, arm64, arm64e or cpu:CCCCCCCC/00SSSSSS",
-        "DIGEST" => "64 hex digits",
-        _ => "1 to 16 hex digits, with or without 0x",
-    }
+    let name = argument.name;
+    let form = form_text(form_of(argument.role));
+    refused(format!(in alloc; "error: invalid {name} '{word}': expected {form}\n"))
 }
 
 /// The refusal of a line in which a value is missing.
-fn missing(alloc: Global, id: &str) -> LineFault
-    ensures { IsRefusalUnlessMemory result }
+fn missing(alloc: Global, argument: Argument) -> LineFault
+    ensures { IsRefusedAs (without_value (argument_in argument)) result }
 {
-    refused(format!(in alloc; "error: missing {id}\n"))
+    let name = argument.name;
+    refused(format!(in alloc; "error: missing {name}\n"))
 }
 
 /// Whether a path is one of these, as text.

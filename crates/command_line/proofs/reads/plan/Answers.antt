@@ -3,11 +3,11 @@ use Rattle.std.proofs.Common.{inr, is_some, map, option_map, refl, subst, sym, t
 use Rattle.std.specs.Prelude.{option_and_then}
 use Rattle.clap.specs.Words.{Row, Text, found_of, rows_of}
 use Rattle.clap.proofs.WalkLemmas.{both}
-use Rattle.command_line.specs.Lines.{line_in}
+use Rattle.command_line.specs.Lines.{line_in, named_command}
 use Rattle.command_line.specs.declared.line_faults.LineFault.{LineFault}
 use Rattle.command_line.specs.declared.line_faults.LineFault.TheVariants.{OutOfMemory}
 use Rattle.command_line.specs.declared.plans.Plan.{Plan}
-use Rattle.command_line.proofs.KeptInputs.{in_order_apart, keeps_inputs, kept_line}
+use Rattle.command_line.proofs.KeptInputs.{in_order_apart, in_order_of, keeps_inputs, kept_line}
 use Rattle.command_line.proofs.Accepted.{accepted_line}
 use Rattle.command_line.proofs.reads.plan.Goals as goal
 
@@ -27,6 +27,12 @@ pub returns-clause-ok : goal.returns-clause-ok
 returns-clause-ok g c =
     let named = c.in-Some.ensures ∙ c.in_ok-matches.ensures.ok in
     kept_line _ _ (c.in_ok-plan.ensures.ok ∙ ap (option_and_then line_in) named) c.in_ok-check_out.ensures.ok
+
+pub returns-clause-in_order : goal.returns-clause-in_order
+returns-clause-in_order g c =
+    let named = c.in-Some.ensures ∙ c.in_ok-matches.ensures.ok in
+    in_order_of (named_command (map g.S.AsStr.text c.args.words.now)) _
+    (c.in_ok-plan.ensures.ok ∙ ap (option_and_then line_in) named) c.in_ok-check_out.ensures.ok
 
 pub returns-clause-keeps_inputs : goal.returns-clause-keeps_inputs
 returns-clause-keeps_inputs g c = keeps_inputs _ c.in_ok-check_out.ensures.ok

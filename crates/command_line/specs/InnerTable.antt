@@ -1,0 +1,20 @@
+-- The table of the program, as definitions see it.
+use Rattle.std.specs.Prelude.{map}
+use Rattle.command_line.specs.Arguments.{Argument, Count, Once, Perhaps, Several}
+use Rattle.command_line.specs.Table.{Signature}
+use Rattle.command_line.specs.declared.table.Argument.{Argument as ArgumentOfProgram}
+use Rattle.command_line.specs.declared.table.Count.{Count as CountOfProgram}
+use Rattle.command_line.specs.declared.table.Count.TheVariants as counts
+use Rattle.command_line.specs.declared.table.Signature.{Signature as SignatureOfProgram}
+
+abbrev pub count_in : CountOfProgram → Count
+count_in counts.Once = Once
+count_in counts.Several = Several
+count_in (counts.Perhaps option) = Perhaps option.now
+
+abbrev pub argument_in : ArgumentOfProgram → Argument
+argument_in a = record { name = a.name.now; count = count_in a.count; role = a.role }
+
+-- the helps are in no definition
+abbrev pub signature_in : SignatureOfProgram → Signature
+signature_in s = record { name = s.name.now; arguments = map argument_in s.arguments.now }

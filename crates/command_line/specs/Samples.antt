@@ -1,0 +1,62 @@
+-- For each command a line of words, and what they ask for.
+use Rattle.std.specs.Prelude.{◌≡◌, ⊤, ℕ, true, List, [], ◌∷◌, Some, codes}
+use Rattle.clap.specs.Words.{Text}
+use Rattle.archive_words.specs.Words.{arch_key}
+use Rattle.command_line.specs.Lines.{Line, admit, apply, delta, error_kinds, find, frames, is_in_order, line_of, list}
+use Rattle.command_line.specs.Lines.{merge, migrate, name, new, rehearse, retire, summary, symbolicate}
+
+-- words behind the program's name, and a line
+pub record Sample : Type 0 where
+  pub words : List Text
+  pub line : Line
+
+abbrev pub sample : List Text → Line → Sample
+sample words line = record { words = codes "symarch" ∷ words; line = line }
+
+-- The words have no kind of error and are in order, and they ask for the line.
+pub record Asks (s : Sample) : Type 0 where
+  pub accepted : error_kinds s.words ≡ []
+  pub in_order : is_in_order s.words ≡ true
+  pub line_is : line_of s.words ≡ Some s.line
+
+abbrev pub EachAsks : List Sample → Type 0
+EachAsks [] = ⊤
+EachAsks (s ∷ rest) = Asks s × EachAsks rest
+
+-- a UUID in one of its forms, and its bytes
+abbrev pub uuid_text : Text
+uuid_text = codes "00112233-4455-6677-8899-AABBCCDDEEFF"
+
+abbrev pub uuid_bytes : List ℕ
+uuid_bytes = 0 ∷ 17 ∷ 34 ∷ 51 ∷ 68 ∷ 85 ∷ 102 ∷ 119 ∷ 136 ∷ 153 ∷ 170 ∷ 187 ∷ 204 ∷ 221 ∷ 238 ∷ 255 ∷ []
+
+-- the SHA-256 of no bytes
+abbrev pub digest_text : Text
+digest_text = codes "e3b0c44298fc1c149afbf4c8996fb92427ae41e4649b934ca495991b7852B855"
+
+abbrev pub digest_bytes : List ℕ
+digest_bytes =
+    0xe3 ∷ 0xb0 ∷ 0xc4 ∷ 0x42 ∷ 0x98 ∷ 0xfc ∷ 0x1c ∷ 0x14 ∷ 0x9a ∷ 0xfb ∷ 0xf4 ∷ 0xc8 ∷ 0x99 ∷ 0x6f ∷ 0xb9 ∷ 0x24
+    ∷ 0x27 ∷ 0xae ∷ 0x41 ∷ 0xe4 ∷ 0x64 ∷ 0x9b ∷ 0x93 ∷ 0x4c ∷ 0xa4 ∷ 0x95 ∷ 0x99 ∷ 0x1b ∷ 0x78 ∷ 0x52 ∷ 0xb8 ∷ 0x55 ∷ []
+
+abbrev pub samples : List Sample
+samples =
+    sample (codes "new" ∷ codes "o" ∷ []) (new (codes "o"))
+    ∷ sample (codes "admit" ∷ codes "i" ∷ codes "o" ∷ codes "f" ∷ codes "g" ∷ [])
+    (admit (codes "i") (codes "o") (codes "f" ∷ codes "g" ∷ []))
+    ∷ sample (codes "retire" ∷ codes "i" ∷ codes "o" ∷ uuid_text ∷ codes "arm64e" ∷ digest_text ∷ [])
+    (retire (codes "i") (codes "o") uuid_bytes (arch_key 0x0100_000c 2) (record { 0 = digest_bytes }))
+    ∷ sample (codes "merge" ∷ codes "i" ∷ codes "o" ∷ codes "f" ∷ codes "g" ∷ [])
+    (merge (codes "i") (codes "o") (codes "f" ∷ codes "g" ∷ []))
+    ∷ sample (codes "migrate" ∷ codes "i" ∷ codes "o" ∷ []) (migrate (codes "i") (codes "o"))
+    ∷ sample (codes "apply" ∷ codes "i" ∷ codes "o" ∷ codes "p" ∷ []) (apply (codes "i") (codes "o") (codes "p"))
+    ∷ sample (codes "find" ∷ codes "a" ∷ uuid_text ∷ []) (find (codes "a") uuid_bytes)
+    ∷ sample (codes "list" ∷ codes "a" ∷ []) (list (codes "a"))
+    ∷ sample (codes "name" ∷ codes "a" ∷ codes "--" ∷ codes "-n" ∷ []) (name (codes "a") (codes "-n"))
+    ∷ sample (codes "symbolicate" ∷ codes "a" ∷ uuid_text ∷ codes "x86_64h" ∷ codes "10" ∷ codes "--load=0xfF"
+    ∷ codes "0x20" ∷ [])
+    (symbolicate (codes "a") uuid_bytes (arch_key 0x0100_0007 8) (Some 255) (0x10 ∷ 0x20 ∷ []))
+    ∷ sample (codes "frames" ∷ codes "f" ∷ codes "a" ∷ []) (frames (codes "f") (codes "a"))
+    ∷ sample (codes "summary" ∷ codes "a" ∷ codes "o" ∷ []) (summary (codes "a") (codes "o"))
+    ∷ sample (codes "delta" ∷ codes "a" ∷ codes "s" ∷ codes "o" ∷ []) (delta (codes "a") (codes "s") (codes "o"))
+    ∷ sample (codes "rehearse" ∷ codes "s" ∷ []) (rehearse (codes "s")) ∷ []
