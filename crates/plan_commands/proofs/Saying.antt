@@ -18,10 +18,10 @@ use Rattle.plan_commands.specs.Ends.{EndsLine, IsHelped, IsRefused, WantsMemory}
 use Rattle.plan_commands.specs.Said.{Begins, IsPushed, IsSaid, SaysFailure, failure_text, wanting_text}
 
 -- a line whose text is known was said
-pub said_of : (text : Option (List ℕ)) (w : Writer) (bytes : List ℕ) (whole : Bool) → IfSome text (λ t. bytes ≡ line t)
-    → IsPushed w bytes whole → IfSome text (λ t. IsSaid w t whole)
-said_of None w bytes whole is pushed = tt
-said_of (Some t) w bytes whole is pushed = inl (subst (λ b. IsPushed w b whole) is pushed)
+pub said_of : (text : Option (List ℕ)) (w : Writer) (bytes given : List ℕ) (whole : Bool) → IfSome text (λ t. bytes ≡ line t)
+    → given ≡ bytes → IsPushed w given whole → IfSome text (λ t. IsSaid w t whole)
+said_of None w bytes given whole is same pushed = tt
+said_of (Some t) w bytes given whole is same pushed = inl (subst (λ b. IsPushed w b whole) (same ∙ is) pushed)
 
 pub wanting_said : (text : Option (List ℕ)) (w : Writer) (whole : Bool) → IsPushed w (line wanting_text) whole
     → IfSome text (λ t. IsSaid w t whole)

@@ -111,13 +111,7 @@ fn end<E: Sink>(
 }
 
 /// Says why a plan failed, and behind it what helps a person.
-fn say_failure<E: Sink>(
-    alloc: Global,
-    plan: &Plan,
-    failure: Failure,
-    seen: Seen,
-    errors: &mut E,
-)
+fn say_failure<E: Sink>(alloc: Global, plan: &Plan, failure: Failure, seen: Seen, errors: &mut E)
     ensures { SaysFailure (writer E.held E.failures errors.old errors.new) failure }
 {
     if !say(alloc, &FailureLine(failure), errors) {
@@ -177,12 +171,17 @@ fn refuse_words<P: Sink, E: Sink>(
     if error.kind() == ErrorKind::OutOfMemory {
         end_without_plan(alloc, LineFault::OutOfMemory, report, errors)
     } else {
-        say(alloc, &RefusedLine("invalid word: expected UTF-8 text"), errors);
+        say(
+            alloc,
+            &RefusedLine("invalid word: expected UTF-8 text"),
+            errors,
+        );
         BAD_LINE
     }
 }
 
 /// Why the report failed.
+#[derive(Clone, Copy)]
 struct ReportHint(io::Error);
 
 impl Display for ReportHint {

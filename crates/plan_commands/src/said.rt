@@ -12,9 +12,6 @@ use memory::NoMemory;
 use std::alloc::Global;
 use std::fmt::{self, Display, Write};
 
-/// What is said of want of memory, with its line feed.
-const OUT_OF_MEMORY: &str = "symarch: out of memory\n";
-
 /// The line of a failure.
 #[derive(Clone, Copy)]
 pub struct FailureLine(pub Failure);
@@ -73,7 +70,7 @@ fn push_whole<E: Sink>(errors: &mut E, bytes: &[u8]) -> bool
 pub fn say_wanting<E: Sink>(errors: &mut E) -> bool
     ensures { SaysWanting (writer E.held E.failures errors.old errors.new) result }
 {
-    push_whole(errors, OUT_OF_MEMORY.as_bytes())
+    push_whole(errors, b"symarch: out of memory\n")
 }
 
 /// Says a line; or, where there is no memory for it, that memory is wanting. Whether it was said is handed back.

@@ -1,0 +1,10 @@
+use Rattle.std.proofs.Common.{codes, refl}
+use Rattle.std.proofs.KnownBytes.{Appends-nil}
+use Rattle.plan_commands.proofs.runs.refuse_words.Goals as goal
+
+pub returns-else-eq-clause-text : goal.returns-else-eq-clause-text
+returns-else-eq-clause-text g c = λ other. record {
+  nothing_told = (Appends-nil _, refl);
+  says = (codes "invalid word: expected UTF-8 text", c.say.result, c.say.ensures);
+  status_is = refl;
+}
