@@ -4,8 +4,8 @@ use Rattle.std.specs.Prelude.{string_bytes}
 use Rattle.clap.specs.Words.{Row, Text}
 use Rattle.command_line.specs.Arguments.{Argument, form_of}
 use Rattle.command_line.specs.Lines.{Line, at_named, plan_view}
-use Rattle.command_line.specs.declared.table.Form.{Form}
-use Rattle.command_line.specs.declared.table.Form.TheVariants as forms
+use Rattle.command_line.specs.declared.commands.Form.{Form}
+use Rattle.command_line.specs.declared.commands.Form.TheVariants as forms
 use Rattle.command_line.specs.Table.{commands}
 use Rattle.command_line.specs.declared.plans.Plan.{Plan}
 use Rattle.command_line.specs.declared.line_faults.LineFault.{LineFault}

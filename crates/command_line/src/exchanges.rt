@@ -6,9 +6,9 @@ ghost use Rattle.command_line.specs.LineFaults.{IsToldAmong, Plans};
 ghost use Rattle.command_line.specs.Lines.{line_at};
 ghost use Rattle.command_line.specs.Table.{delta_command, rehearse_command, summary_command};
 
+use crate::commands::{ARCHIVE, OUT, SCRIPT, SUMMARY, SUMMARY_OUT};
 use crate::line_faults::LineFault;
 use crate::plans::Plan;
-use crate::table::{ARCHIVE, OUT, SCRIPT, SUMMARY, SUMMARY_OUT};
 use crate::values::text_value;
 use clap::ArgMatches;
 use std::alloc::Global;

@@ -7,9 +7,11 @@ ghost use Rattle.command_line.specs.Lines.{line_at};
 ghost use Rattle.command_line.specs.Table.{find_command, frames_command, list_command, name_command};
 ghost use Rattle.command_line.specs.Table.{symbolicate_command};
 
+use crate::commands::{
+    ADDRESSES, ARCH, ARCHIVE, FRAMES, IMAGE_UUID, LOAD, SOUGHT_UUID, SYMBOL_NAME,
+};
 use crate::line_faults::LineFault;
 use crate::plans::Plan;
-use crate::table::{ADDRESSES, ARCH, ARCHIVE, FRAMES, IMAGE_UUID, LOAD, SOUGHT_UUID, SYMBOL_NAME};
 use crate::values::{optional_value, spelled_value, spelled_values, text_value};
 use clap::ArgMatches;
 use std::alloc::Global;

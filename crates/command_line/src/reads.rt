@@ -8,7 +8,7 @@ ghost use Rattle.command_line.specs.Lines.{named_command, out_of, overwrites_inp
 ghost use Rattle.command_line.specs.LineFaults.{IsHelpUnlessMemory, IsRefusalUnlessMemory, IsRefusedAs, IsToldFor};
 ghost use Rattle.command_line.specs.LineFaults.{IsToldIn, Plans, out_is_input};
 
-use crate::commands::symarch_command;
+use crate::apps::symarch_command;
 use crate::exchanges::{plan_delta, plan_rehearse, plan_summary};
 use crate::line_faults::{LineFault, parse_fault, refused};
 use crate::plans::Plan;

@@ -7,9 +7,9 @@ ghost use Rattle.command_line.specs.Lines.{line_at};
 ghost use Rattle.command_line.specs.Table.{admit_command, apply_command, merge_command, migrate_command};
 ghost use Rattle.command_line.specs.Table.{new_command, retire_command};
 
+use crate::commands::{ARCH, ARCHIVES, DIGEST, IMAGES, IN, OPS, OUT, SLICE_UUID};
 use crate::line_faults::LineFault;
 use crate::plans::Plan;
-use crate::table::{ARCH, ARCHIVES, DIGEST, IMAGES, IN, OPS, OUT, SLICE_UUID};
 use crate::values::{copies, several_values, spelled_value, text_value};
 use clap::ArgMatches;
 use std::alloc::Global;

@@ -8,8 +8,8 @@ ghost use Rattle.command_line.specs.LineFaults.{IsRefusalUnlessMemory, IsRefused
 ghost use Rattle.command_line.specs.LineFaults.{without_value};
 ghost use Rattle.command_line.specs.Lines.{all_spelled, all_spelled_at, is_path_among, optional_at, spelled_at};
 
+use crate::commands::{Argument, form_of, form_text};
 use crate::line_faults::{LineFault, refused};
-use crate::table::{Argument, form_of, form_text};
 use archive_words::Word;
 use clap::ArgMatches;
 use std::alloc::{AllocError, Global};
