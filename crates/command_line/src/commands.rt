@@ -187,11 +187,11 @@ pub const ADDRESSES: Argument = Argument {
     role: Role::Says(Form::Number),
 };
 
-/// What `symbolicate` and `frames` print behind an address, and what their status 1 says.
-const ANSWERS: &str = "After each address stands the symbol that is nearest, or\n\
-    -   no symbol is: the address lies in no section, or below the section's first symbol\n\
-    ?   no slice of the archive answers for the UUID and the ARCH\n\
-    !N  N slices answer, and each has a line below\n\
+/// What `symbolicate` and `frames` print for an address, and what their exit status 1 says.
+const ANSWERS: &str = "Each address gets a line, with the symbol nearest to it, or with\n\
+    -   if it has none: it lies in no section, or below the section's first symbol\n\
+    ?   if no slice answers for the UUID and the ARCH\n\
+    !N  if N slices answer, of which each gets a line below\n\
     The exit status is 1 if an address has another answer than one symbol.\n\
     A number without 0x is hexadecimal too.";
 
