@@ -18,7 +18,7 @@ use Rattle.command_line.specs.Commands.{symarch_command}
 use Rattle.command_line.specs.Lines.{Line, are_accepted, asked_of, at_named, has_form, have_forms, line_at, line_from}
 use Rattle.command_line.specs.Lines.{line_in, named_command, spelled_if_there, value_at, value_by}
 use Rattle.command_line.specs.Table.{Command, Makes, commands}
-use Rattle.command_line.specs.declared.table.Form.{Form}
+use Rattle.command_line.specs.declared.commands.Form.{Form}
 use Rattle.command_line.proofs.Filled.{are_filled, found_passes, is_filled, lets_name, lets_stop, level, want_values}
 
 -- ---- tests

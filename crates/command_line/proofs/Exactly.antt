@@ -22,13 +22,15 @@ use Rattle.clap.specs.Matches.{count_text}
 use Rattle.clap.specs.Simple.{App, Shape, argument_words, built, entered, is_simple, label_of, names_of}
 use Rattle.clap.specs.Takes.{action_passes, built_takes, bundle_passes, bundle_step_passes, count_passes}
 use Rattle.clap.specs.Takes.{default_passes, entered_passes, flag_word_passes, flags_pass, is_given, is_valid}
-use Rattle.clap.specs.Takes.{level_passes, long_passes, option_passes, other_passes, positional_passes, react_passes, set_passes, settle_passes}
+use Rattle.clap.specs.Takes.{level_passes, long_passes, option_passes, other_passes, positional_passes, react_passes}
+use Rattle.clap.specs.Takes.{set_passes, settle_passes}
 use Rattle.clap.specs.Takes.{short_passes, step_passes, takes, turn_passes, use_passes, values_pass, walk_passes}
 use Rattle.clap.specs.ValueTests.{accepts}
 use Rattle.clap.specs.Values.{is_request, refused_kind}
 use Rattle.clap.specs.Walk.{Held, Names, Row, Rule, Step, Text, Walk, action_of, answers_to, arg_by_id}
 use Rattle.clap.specs.Walk.{arg_by_index, arg_by_long, arg_by_short, attached_value, count_of, finished, has_row}
-use Rattle.clap.specs.Walk.{is_empty, is_pending, most_values, next, nothing_held, reacted, settled, subcommand, subcommand_met}
+use Rattle.clap.specs.Walk.{is_empty, is_pending, most_values, next, nothing_held, reacted, settled, subcommand}
+use Rattle.clap.specs.Walk.{subcommand_met}
 use Rattle.clap.specs.Walk.{takes_several, takes_values, trailing, value, values_or_missing, walk, walk_from, walked}
 use Rattle.clap.specs.Walk.{with_default, word_met}
 use Rattle.clap.specs.declared.builder.action.ArgAction.{ArgAction}

@@ -1,12 +1,14 @@
 -- What a line that `clap` refuses has for an answer, by the kinds of error that its own definition names.
-use Rattle.std.proofs.Common.{◌≡◌, ◌∙◌, inl, inr, [], ◌∷◌, subst, sym}
-use Rattle.clap.specs.Words.{HasKind, IsAmong, Kinds, kind_of}
+use Rattle.std.proofs.Common.{◌≡◌, ◌∙◌, ℕ, inl, inr, List, [], ◌∷◌, Option, Some, None, Result, Ok, Err, IfOk}
+use Rattle.std.proofs.Common.{Global, IfErr, IsErrAnd, IsSomeAnd, MatchResult, String, string_bytes, subst, sym}
+use Rattle.clap.specs.Words.{HasKind, IsAmong, Kinds, Row, Text, kind_of}
 use Rattle.clap.specs.declared.error.Error.{Error}
 use Rattle.clap.specs.declared.error.kind.ErrorKind.{ErrorKind}
 use Rattle.clap.specs.declared.error.kind.ErrorKind.TheVariants as kind
-use Rattle.command_line.specs.LineFaults.{IsHelpUnlessMemory, IsRefusalUnlessMemory}
+use Rattle.command_line.specs.LineFaults.{IsHelpUnlessMemory, IsRefusalUnlessMemory, IsRefusedAs, IsToldFor}
+use Rattle.command_line.specs.LineFaults.{out_is_input}
 use Rattle.command_line.specs.declared.line_faults.LineFault.{LineFault}
-use Rattle.command_line.specs.declared.line_faults.LineFault.TheVariants.{OutOfMemory}
+use Rattle.command_line.specs.declared.line_faults.LineFault.TheVariants.{OutOfMemory, Refused}
 
 -- words that are accepted ask for no text
 pub never_asked : (kinds : Kinds) (asked : ErrorKind) → kinds ≡ [] → kinds ≡ asked ∷ [] → ⊥
@@ -35,3 +37,26 @@ other_is_refusal e fault kinds same has is no_help no_version memory refusal =
       | inr among ↦ refusal (λ is_help. no_help (subst (λ k. IsAmong k same) is_help among))
           (λ is_version. no_version (subst (λ k. IsAmong k same) is_version among))
     ]
+
+-- a refusal with a text that was made
+pub refused_as : {E : Type 0} (made : Result (String Global) E) (fault : LineFault) (text : List ℕ)
+    → IfOk made (λ t. string_bytes t ≡ text)
+    → MatchResult made (λ t. fault ≡ Refused t) (λ _. fault ≡ OutOfMemory) → IsRefusedAs text fault
+refused_as (Ok t) fault text is told = subst (IsRefusedAs text) (sym told) is
+refused_as (Err e) fault text is told = subst (IsRefusedAs text) (sym told) tt
+
+-- want of memory is told at any words
+pub memory_told : (named : Option (Text × List Row)) (fault : LineFault) → fault ≡ OutOfMemory → IsToldFor named fault
+memory_told None fault is = subst (IsToldFor None) (sym is) tt
+memory_told (Some p) fault is = subst (IsToldFor (Some p)) (sym is) (inr ([], tt))
+
+pub out_told : (out : Option Text) (p : Text × List Row) (fault : LineFault)
+    → IsSomeAnd out (λ o. IsRefusedAs (out_is_input o) fault) → IsToldFor (Some p) fault
+out_told None p fault told = absurd told
+out_told (Some o) p fault told = inr (o, told)
+
+-- what is handed on as it came
+pub handed_on : {T : Type 0} (P : LineFault → Type 0) (fault : LineFault) (result : Result T LineFault)
+    → IsErrAnd result (λ e. e ≡ fault) → P fault → IfErr result P
+handed_on P fault (Ok p) told is = absurd told
+handed_on P fault (Err e) told is = subst P (sym told) is

@@ -5,10 +5,10 @@ use Rattle.uuid.specs.Text.{parsed}
 use Rattle.archive_core.specs.declared.keys.ArchKey.{ArchKey}
 use Rattle.archive_core.specs.declared.keys.Digest.{Digest}
 use Rattle.archive_words.specs.Words.{address_of, arch_of, digest_of}
-use Rattle.command_line.specs.declared.table.Form.{Form}
-use Rattle.command_line.specs.declared.table.Form.TheVariants as forms
-use Rattle.command_line.specs.declared.table.Role.{Role}
-use Rattle.command_line.specs.declared.table.Role.TheVariants as roles
+use Rattle.command_line.specs.declared.commands.Form.{Form}
+use Rattle.command_line.specs.declared.commands.Form.TheVariants as forms
+use Rattle.command_line.specs.declared.commands.Role.{Role}
+use Rattle.command_line.specs.declared.commands.Role.TheVariants as roles
 
 -- how often an argument stands in a line: one word; the last words; or the word behind an option, at most once
 pub data Count : Type 0 where

@@ -1,10 +1,12 @@
 -- The fault of a line that gives no plan.
-use Rattle.std.specs.Prelude.{◌≡◌, ⊤, [], ◌∷◌, ◌++◌, codes, Option, Some, Result, IfErr, IfOk, IsSome, string_bytes}
-use Rattle.clap.specs.Words.{Text}
+use Rattle.std.specs.Prelude.{◌≡◌, ◌⊎◌, ⊤, List, [], ◌∷◌, ◌++◌, codes, Option, Some, None, Result, IfErr, IfOk, IsSome}
+use Rattle.std.specs.Prelude.{string_bytes}
+use Rattle.clap.specs.Words.{Row, Text}
 use Rattle.command_line.specs.Arguments.{Argument, form_of}
-use Rattle.command_line.specs.Lines.{Line, plan_view}
-use Rattle.command_line.specs.declared.table.Form.{Form}
-use Rattle.command_line.specs.declared.table.Form.TheVariants as forms
+use Rattle.command_line.specs.Lines.{Line, at_named, plan_view}
+use Rattle.command_line.specs.declared.commands.Form.{Form}
+use Rattle.command_line.specs.declared.commands.Form.TheVariants as forms
+use Rattle.command_line.specs.Table.{commands}
 use Rattle.command_line.specs.declared.plans.Plan.{Plan}
 use Rattle.command_line.specs.declared.line_faults.LineFault.{LineFault}
 use Rattle.command_line.specs.declared.line_faults.LineFault.TheVariants.{Refused, OutOfMemory, Help}
@@ -42,6 +44,33 @@ other_form a word = codes "error: invalid "
 
 abbrev pub without_value : Argument → Text
 without_value a = codes "error: missing " ++ (a.name ++ 10 ∷ [])
+
+-- what is told of this argument: that it has no word, or that a word has another form
+abbrev pub IsToldOf : Argument → LineFault → Type 0
+IsToldOf a fault = IsRefusedAs (without_value a) fault ⊎ ((word : Text) × IsRefusedAs (other_form a word) fault)
+
+-- or of one of these
+abbrev pub IsToldAmong : List Argument → LineFault → Type 0
+IsToldAmong [] fault = ⊥
+IsToldAmong (a ∷ rest) fault = IsToldOf a fault ⊎ IsToldAmong rest fault
+
+abbrev pub arguments_named : Text → List Argument
+arguments_named called = at_named commands called (λ c. c.signature.arguments) []
+
+abbrev pub unknown_command : Text → Text
+unknown_command called = codes "error: invalid command '" ++ (called ++ 39 ∷ 10 ∷ [])
+
+-- what is told at a command of this name
+abbrev pub IsToldIn : Text → LineFault → Type 0
+IsToldIn called fault = IsToldAmong (arguments_named called) fault ⊎ IsRefusedAs (unknown_command called) fault
+
+abbrev pub out_is_input : Text → Text
+out_is_input out = codes "error: invalid OUT '" ++ (out ++ (codes "': expected a path that is no input" ++ 10 ∷ []))
+
+-- what is told of words that are accepted, by the command that they name
+abbrev pub IsToldFor : Option (Text × List Row) → LineFault → Type 0
+IsToldFor None fault = IsRefusedAs (codes "error: missing command" ++ 10 ∷ []) fault
+IsToldFor (Some p) fault = IsToldIn p.0 fault ⊎ ((out : Text) × IsRefusedAs (out_is_input out) fault)
 
 -- The plan of this line, if there is one, and else a refusal. Memory may be wanting in either case.
 pub record Plans (line : Option Line) (result : Result Plan LineFault) : Type 0 where

@@ -8,9 +8,9 @@ use Rattle.std.specs.Str.{bytes_eq}
 use Rattle.clap.specs.Words.{Kinds, Row, Text, all_of, fault_of, first_of, subcommand_of, takes}
 use Rattle.command_line.specs.declared.plans.Plan.{Plan}
 use Rattle.command_line.specs.declared.plans.Plan.TheVariants as plan
-use Rattle.command_line.specs.declared.table.Form.{Form}
-use Rattle.command_line.specs.declared.table.Form.TheVariants as forms
-use Rattle.command_line.specs.declared.table.Role.{Role}
+use Rattle.command_line.specs.declared.commands.Form.{Form}
+use Rattle.command_line.specs.declared.commands.Form.TheVariants as forms
+use Rattle.command_line.specs.declared.commands.Role.{Role}
 use Rattle.command_line.specs.Arguments.{Argument, Count, Once, Perhaps, Several, Spelled, Value, ValueOf, Values}
 use Rattle.command_line.specs.Arguments.{form_of, reads, spelled, writes}
 use Rattle.command_line.specs.Commands.{symarch_command}

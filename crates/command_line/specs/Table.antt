@@ -3,8 +3,8 @@ use Rattle.std.specs.Prelude.{ℕ, List, [], ◌∷◌, map, codes, Option}
 use Rattle.clap.specs.Words.{Text}
 use Rattle.archive_core.specs.declared.keys.ArchKey.{ArchKey}
 use Rattle.archive_core.specs.declared.keys.Digest.{Digest}
-use Rattle.command_line.specs.declared.table.Form.TheVariants as forms
-use Rattle.command_line.specs.declared.table.Role.TheVariants as roles
+use Rattle.command_line.specs.declared.commands.Form.TheVariants as forms
+use Rattle.command_line.specs.declared.commands.Role.TheVariants as roles
 use Rattle.command_line.specs.Arguments.{Argument, Once, Perhaps, Several, Value, Values, argument}
 
 -- ---- lines

@@ -1,93 +1,314 @@
-//! The commands of the table, as `clap` builds them.
+//! The commands: of each its name, its help, and its arguments in the order of the words. What `clap` is told of a
+//! command, which of its words are paths, and the form that a word is refused with are all read from this table.
 
-ghost use Rattle.std.specs.Prelude.{◌≡◌, IfOk, false, map};
-ghost use Rattle.clap.specs.Words.{app_of, rule_of};
-ghost use Rattle.clap.specs.declared.builder.command.Command.TheViews.{out-Command};
-ghost use Rattle.command_line.specs.Commands.{command_for, rule_for, symarch_command, with_commands, with_rules};
-ghost use Rattle.command_line.specs.InnerTable.{argument_in, signature_in};
-
-use crate::table::{Argument, Count, Signature, commands};
-use clap::{Arg, ArgAction, Command};
-use std::alloc::{AllocError, Global};
+ghost use Rattle.std.specs.Prelude.{◌≡◌, map};
+ghost use Rattle.command_line.specs.Arguments.{form_of};
+ghost use Rattle.command_line.specs.InnerTable.{signature_in};
+ghost use Rattle.command_line.specs.LineFaults.{form_words};
+ghost use Rattle.command_line.specs.Table.{signatures};
 
 /// The number of the program, of which the first part is the version of the archives that it writes.
-const VERSION: &str = "2.2.3";
+pub const VERSION: &str = "2.2.3";
 
-/// An argument, as `clap` builds it.
-fn arg<'a>(alloc: Global, argument: Argument) -> Arg<'a>
-    ensures rule { rule_of result ≡ rule_for (argument_in argument) }
-    ensures local { result.global ≡ false }
+/// What a word spells.
+#[derive(Clone, Copy)]
+pub enum Form {
+    /// Itself.
+    Plain,
+    Uuid,
+    Arch,
+    Digest,
+    Number,
+}
+
+/// What an argument is to its command.
+#[derive(Clone, Copy)]
+pub enum Role {
+    /// The path of an input.
+    Reads,
+    /// The path of OUT.
+    Writes,
+    /// A value.
+    Says(Form),
+}
+
+/// How often an argument stands in a line, and where.
+#[derive(Clone, Copy)]
+pub enum Count {
+    /// One word, which has to be there.
+    Once,
+    /// The last words, of which one has to be there.
+    Several,
+    /// The word behind the option of this name, that may be left out.
+    Perhaps(&'static str),
+}
+
+/// An argument of a command.
+#[derive(Clone, Copy)]
+pub struct Argument {
+    pub name: &'static str,
+    pub help: &'static str,
+    pub count: Count,
+    pub role: Role,
+}
+
+/// A command, with its arguments in the order of the words, and what its help says behind them.
+#[derive(Clone, Copy)]
+pub struct Signature {
+    pub name: &'static str,
+    pub about: &'static str,
+    pub more: Option<&'static str>,
+    pub arguments: &'static [Argument],
+}
+
+pub const ARCHIVE: Argument = Argument {
+    name: "ARCHIVE",
+    help: "The archive to read",
+    count: Count::Once,
+    role: Role::Reads,
+};
+
+pub const IN: Argument = Argument {
+    name: "IN",
+    help: "The archive to read",
+    count: Count::Once,
+    role: Role::Reads,
+};
+
+pub const OUT: Argument = Argument {
+    name: "OUT",
+    help: "The archive to write, which is replaced if it is there",
+    count: Count::Once,
+    role: Role::Writes,
+};
+
+pub const SUMMARY_OUT: Argument = Argument {
+    name: "OUT",
+    help: "The summary to write, which is replaced if it is there",
+    count: Count::Once,
+    role: Role::Writes,
+};
+
+pub const IMAGES: Argument = Argument {
+    name: "FILE",
+    help: "The Mach-O files to take; of a dSYM bundle the one in Contents/Resources/DWARF",
+    count: Count::Several,
+    role: Role::Reads,
+};
+
+pub const ARCHIVES: Argument = Argument {
+    name: "FILE",
+    help: "The archives to join to it",
+    count: Count::Several,
+    role: Role::Reads,
+};
+
+pub const OPS: Argument = Argument {
+    name: "OPS",
+    help: "The operations file to take",
+    count: Count::Once,
+    role: Role::Reads,
+};
+
+pub const SUMMARY: Argument = Argument {
+    name: "SUMMARY",
+    help: "The summary to compare with",
+    count: Count::Once,
+    role: Role::Reads,
+};
+
+pub const SCRIPT: Argument = Argument {
+    name: "SCRIPT",
+    help: "The script of the events",
+    count: Count::Once,
+    role: Role::Reads,
+};
+
+pub const FRAMES: Argument = Argument {
+    name: "FRAMES",
+    help: "The file of the frames, with a line UUID ARCH LOAD ADDRESS for each",
+    count: Count::Once,
+    role: Role::Reads,
+};
+
+pub const SLICE_UUID: Argument = Argument {
+    name: "UUID",
+    help: "The UUID of the slice",
+    count: Count::Once,
+    role: Role::Says(Form::Uuid),
+};
+
+pub const SOUGHT_UUID: Argument = Argument {
+    name: "UUID",
+    help: "The UUID to look for",
+    count: Count::Once,
+    role: Role::Says(Form::Uuid),
+};
+
+pub const IMAGE_UUID: Argument = Argument {
+    name: "UUID",
+    help: "The UUID of the image",
+    count: Count::Once,
+    role: Role::Says(Form::Uuid),
+};
+
+pub const ARCH: Argument = Argument {
+    name: "ARCH",
+    help: "The architecture: x86_64, x86_64h, arm64, arm64e or cpu:CCCCCCCC/00SSSSSS",
+    count: Count::Once,
+    role: Role::Says(Form::Arch),
+};
+
+pub const DIGEST: Argument = Argument {
+    name: "DIGEST",
+    help: "The SHA-256 of the slice, as find prints it",
+    count: Count::Once,
+    role: Role::Says(Form::Digest),
+};
+
+pub const SYMBOL_NAME: Argument = Argument {
+    name: "NAME",
+    help: "The whole name of a symbol; one that begins with - stands behind --",
+    count: Count::Once,
+    role: Role::Says(Form::Plain),
+};
+
+pub const LOAD: Argument = Argument {
+    name: "HEX",
+    help: "Where the image was loaded, in hexadecimal, with or without 0x",
+    count: Count::Perhaps("load"),
+    role: Role::Says(Form::Number),
+};
+
+pub const ADDRESSES: Argument = Argument {
+    name: "ADDRESS",
+    help: "The addresses to look up, in hexadecimal, with or without 0x",
+    count: Count::Several,
+    role: Role::Says(Form::Number),
+};
+
+/// What `symbolicate` and `frames` print for an address, and what their exit status 1 says.
+const ANSWERS: &str = "Each address gets a line, with the symbol nearest to it, or with\n\
+    -   if it has none: it lies in no section, or below the section's first symbol\n\
+    ?   if no slice answers for the UUID and the ARCH\n\
+    !N  if N slices answer, of which each gets a line below\n\
+    The exit status is 1 if an address has another answer than one symbol.\n\
+    A number without 0x is hexadecimal too.";
+
+/// The commands, in the order in which help lists them.
+const COMMANDS: &[Signature] = &[
+    Signature {
+        name: "new",
+        about: "Write the empty archive",
+        more: None,
+        arguments: &[OUT],
+    },
+    Signature {
+        name: "admit",
+        about: "Take Mach-O images into an archive",
+        more: None,
+        arguments: &[IN, OUT, IMAGES],
+    },
+    Signature {
+        name: "retire",
+        about: "Withdraw a slice for good, on every site",
+        more: None,
+        arguments: &[IN, OUT, SLICE_UUID, ARCH, DIGEST],
+    },
+    Signature {
+        name: "merge",
+        about: "Join archives",
+        more: None,
+        arguments: &[IN, OUT, ARCHIVES],
+    },
+    Signature {
+        name: "migrate",
+        about: "Take an archive over to the present version",
+        more: None,
+        arguments: &[IN, OUT],
+    },
+    Signature {
+        name: "apply",
+        about: "Take the records of an operations file",
+        more: None,
+        arguments: &[IN, OUT, OPS],
+    },
+    Signature {
+        name: "find",
+        about: "List what an archive has of a UUID",
+        more: None,
+        arguments: &[ARCHIVE, SOUGHT_UUID],
+    },
+    Signature {
+        name: "list",
+        about: "List all that an archive has",
+        more: None,
+        arguments: &[ARCHIVE],
+    },
+    Signature {
+        name: "name",
+        about: "Find a symbol by its exact name",
+        more: None,
+        arguments: &[ARCHIVE, SYMBOL_NAME],
+    },
+    Signature {
+        name: "symbolicate",
+        about: "Name the symbols at addresses",
+        more: Some(ANSWERS),
+        arguments: &[ARCHIVE, IMAGE_UUID, ARCH, LOAD, ADDRESSES],
+    },
+    Signature {
+        name: "frames",
+        about: "Name the symbols of all frames of a crash",
+        more: Some(ANSWERS),
+        arguments: &[FRAMES, ARCHIVE],
+    },
+    Signature {
+        name: "summary",
+        about: "Write what an archive has, without its slices",
+        more: None,
+        arguments: &[ARCHIVE, SUMMARY_OUT],
+    },
+    Signature {
+        name: "delta",
+        about: "Write the records that a summary does not name",
+        more: None,
+        arguments: &[ARCHIVE, SUMMARY, OUT],
+    },
+    Signature {
+        name: "rehearse",
+        about: "Carry out events at sites that exchange",
+        more: None,
+        arguments: &[SCRIPT],
+    },
+];
+
+/// The table of the commands.
+pub fn table() -> &'static [Signature]
+    ensures { map signature_in result.now ≡ signatures }
 {
-    let arg = Arg::new(alloc, argument.name).help(argument.help);
-    match argument.count {
-        Count::Once => arg.required(true),
-        Count::Several => arg.required(true).action(ArgAction::Append),
-        Count::Perhaps(option) => arg.long(option),
+    COMMANDS
+}
+
+/// The form of the words of an argument. A path is any text.
+pub fn form_of(role: Role) -> Form
+    ensures { result ≡ form_of role }
+{
+    match role {
+        Role::Reads | Role::Writes => Form::Plain,
+        Role::Says(form) => form,
     }
 }
 
-/// Adds arguments, in this order.
-fn with_arguments<'a>(
-    alloc: Global,
-    mut command: Command<'a>,
-    arguments: &[Argument],
-) -> Result<Command<'a>, AllocError>
-    ensures app { IfOk result (λ c. app_of c
-        ≡ with_rules (app_of command.entry) (map rule_for (map argument_in arguments.now))) }
-    ensures local { (out-Command command.entry).has_globals ≡ false
-        → IfOk result (λ c. (out-Command c).has_globals ≡ false) }
+/// A form, in words.
+pub fn form_text(form: Form) -> &'static str
+    ensures { result.now ≡ form_words form }
 {
-    'arguments: for argument in arguments {
-        command = command.arg(arg(alloc, *argument))?;
+    match form {
+        Form::Plain => "any text",
+        Form::Uuid => "32 hex digits, with or without hyphens",
+        Form::Arch => "x86_64, x86_64h, arm64, arm64e or cpu:CCCCCCCC/00SSSSSS",
+        Form::Digest => "64 hex digits",
+        Form::Number => "1 to 16 hex digits, with or without 0x",
     }
-    Ok(command)
-}
-
-/// With what stands behind its help, if there is something.
-fn with_more<'a>(command: Command<'a>, more: Option<&'static str>) -> Command<'a>
-    ensures app { app_of result ≡ app_of command.entry }
-    ensures local { (out-Command result).has_globals ≡ (out-Command command.entry).has_globals }
-{
-    match more {
-        Some(text) => command.after_help(text),
-        None => command,
-    }
-}
-
-/// The command of a row of the table.
-fn command_in<'a>(alloc: Global, row: Signature) -> Result<Command<'a>, AllocError>
-    ensures app { IfOk result (λ c. app_of c ≡ command_for (signature_in row)) }
-    ensures local { IfOk result (λ c. (out-Command c).has_globals ≡ false) }
-{
-    let command = with_more(Command::new(alloc, row.name).about(row.about), row.more);
-    with_arguments(alloc, command, row.arguments)
-}
-
-/// Adds the commands of a table, in its order.
-fn with_table<'a>(
-    alloc: Global,
-    mut command: Command<'a>,
-    table: &[Signature],
-) -> Result<Command<'a>, AllocError>
-    ensures app { IfOk result (λ c. app_of c
-        ≡ with_commands (app_of command.entry) (map command_for (map signature_in table.now))) }
-    ensures local { (out-Command command.entry).has_globals ≡ false
-        → IfOk result (λ c. (out-Command c).has_globals ≡ false) }
-{
-    'table: for row in table {
-        command = command.subcommand(command_in(alloc, *row)?)?;
-    }
-    Ok(command)
-}
-
-/// The program's command with its subcommands, one of which has to be named, and its version.
-#[tactic(auto, unfolding(crate::specs::Commands::symarch_command))]
-pub fn symarch_command<'a>(alloc: Global) -> Result<Command<'a>, AllocError>
-    ensures app { IfOk result (λ c. app_of c ≡ symarch_command) }
-    ensures local { IfOk result (λ c. (out-Command c).has_globals ≡ false) }
-{
-    let about = "Keep Mach-O images in archives, and name the addresses of a crash";
-    let command = Command::new(alloc, "symarch").about(about);
-    let command = with_table(alloc, command, commands())?;
-    Ok(command.version(VERSION).subcommand_required(true))
 }

@@ -1,9 +1,9 @@
 //! What a command line asks for.
 //!
-//! - `table`: the commands, with their helps and arguments;
+//! - `commands`: the table of the commands, with their helps and arguments;
 //! - `plans`: what a command line asks for, a case a command;
 //! - `line_faults`: why a line gives no plan;
-//! - `commands`: the commands of the table, as `clap` builds them;
+//! - `apps`: the commands of the table, as `clap` builds them;
 //! - `values`: the values that `clap` puts at the names of a command;
 //! - `updates`: the plans of the commands that write an archive;
 //! - `queries`: the plans of the commands that ask one;
@@ -12,6 +12,7 @@
 //! - `laws`: what the definitions say of words and of the table.
 #![tactic(auto)]
 
+mod apps;
 mod commands;
 mod exchanges;
 pub mod laws;
@@ -19,7 +20,6 @@ mod line_faults;
 mod plans;
 mod queries;
 mod reads;
-mod table;
 mod updates;
 mod values;
 

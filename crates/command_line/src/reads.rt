@@ -1,13 +1,14 @@
 //! A command line, read by `clap`.
 
-ghost use Rattle.std.specs.Prelude.{◌≡◌, ◌⊎◌, IfErr, IfOk, IsErrAnd, IsSome, OnOk, Some, [], ◌∷◌};
+ghost use Rattle.std.specs.Prelude.{◌≡◌, ◌⊎◌, IfErr, IfOk, IsErrAnd, IsSome, IsSomeAnd, OnOk, Some, [], ◌∷◌};
 ghost use Rattle.std.specs.Prelude.{false, map, option_map, true};
 ghost use Rattle.clap.specs.Words.{IsAmong, found_of, rows_of, subcommand_rows_of};
 ghost use Rattle.command_line.specs.Lines.{KeepsInputs, are_accepted, error_kinds, is_in_order, line_in, line_of};
-ghost use Rattle.command_line.specs.Lines.{named_command, overwrites_input, plan_view};
-ghost use Rattle.command_line.specs.LineFaults.{IsHelpUnlessMemory, IsRefusalUnlessMemory, Plans};
+ghost use Rattle.command_line.specs.Lines.{named_command, out_of, overwrites_input, plan_view};
+ghost use Rattle.command_line.specs.LineFaults.{IsHelpUnlessMemory, IsRefusalUnlessMemory, IsRefusedAs, IsToldFor};
+ghost use Rattle.command_line.specs.LineFaults.{IsToldIn, Plans, out_is_input};
 
-use crate::commands::symarch_command;
+use crate::apps::symarch_command;
 use crate::exchanges::{plan_delta, plan_rehearse, plan_summary};
 use crate::line_faults::{LineFault, parse_fault, refused};
 use crate::plans::Plan;
@@ -21,7 +22,8 @@ use std::convert::AsStr;
 
 /// The plan of the command with this name.
 fn plan_in(alloc: Global, name: &str, matches: &ArgMatches) -> Result<Plan, LineFault>
-    ensures { Plans (line_in (name.now, rows_of (found_of matches.now))) result }
+    ensures plans { Plans (line_in (name.now, rows_of (found_of matches.now))) result }
+    ensures told { IfErr result (IsToldIn name.now) }
 {
     if name == "new" {
         plan_new(alloc, matches)
@@ -90,6 +92,8 @@ fn check_out(alloc: Global, plan: &Plan) -> Result<(), LineFault>
     ensures ok { OnOk result (overwrites_input (plan_view plan.now) ≡ false) }
     ensures err { IfErr result (λ e. (e ≡ LineFault.OutOfMemory) ⊎ (overwrites_input (plan_view plan.now) ≡ true)) }
     ensures refusal { IfErr result IsRefusalUnlessMemory }
+    ensures told { IfErr result (λ e. IsSomeAnd (out_of (plan_view plan.now))
+        (λ out. IsRefusedAs (out_is_input out) e)) }
 {
     let Some(out) = plan.out() else {
         return Ok(());
@@ -124,6 +128,11 @@ pub fn plan<S: AsStr>(alloc: Global, words: &[S]) -> Result<Plan, LineFault>
     ensures refusal { ¬ IsAmong ErrorKind.DisplayHelp (error_kinds (map S.text words.now))
         → ¬ IsAmong ErrorKind.DisplayVersion (error_kinds (map S.text words.now))
         → IfErr result IsRefusalUnlessMemory }
+
+    // Words that `clap` accepts are refused with the name, the word and the form of one of the command's arguments, or
+    // with OUT's path.
+    ensures told { error_kinds (map S.text words.now) ≡ []
+        → IfErr result (IsToldFor (named_command (map S.text words.now))) }
 {
     let matches = matches_of(alloc, words)?;
     let Some((name, inner)) = named_command(&matches) else {

@@ -4,11 +4,12 @@ ghost use Rattle.std.specs.Prelude.{◌≡◌, ◌⊎◌, IfErr, IfOk, None, Som
 ghost use Rattle.std.specs.Prelude.{string_bytes};
 ghost use Rattle.clap.specs.Words.{all_of, first_of, found_of, rows_of};
 ghost use Rattle.command_line.specs.InnerTable.{argument_in};
-ghost use Rattle.command_line.specs.LineFaults.{IsRefusalUnlessMemory, IsRefusedAs, other_form, without_value};
+ghost use Rattle.command_line.specs.LineFaults.{IsRefusalUnlessMemory, IsRefusedAs, IsToldOf, other_form};
+ghost use Rattle.command_line.specs.LineFaults.{without_value};
 ghost use Rattle.command_line.specs.Lines.{all_spelled, all_spelled_at, is_path_among, optional_at, spelled_at};
 
+use crate::commands::{Argument, form_of, form_text};
 use crate::line_faults::{LineFault, refused};
-use crate::table::{Argument, form_of, form_text};
 use archive_words::Word;
 use clap::ArgMatches;
 use std::alloc::{AllocError, Global};
@@ -38,6 +39,7 @@ fn one_value<'a>(
     ensures err { IfErr result (λ e. (e ≡ LineFault.OutOfMemory)
         ⊎ (first_of argument.name.now (rows_of (found_of matches.now)) ≡ None)) }
     ensures refusal { IfErr result IsRefusalUnlessMemory }
+    ensures told { IfErr result (IsToldOf (argument_in argument)) }
 {
     match value(matches, argument.name) {
         Some(word) => Ok(word),
@@ -56,6 +58,7 @@ pub fn text_value(
     ensures err { IfErr result (λ e. (e ≡ LineFault.OutOfMemory)
         ⊎ (first_of argument.name.now (rows_of (found_of matches.now)) ≡ None)) }
     ensures refusal { IfErr result IsRefusalUnlessMemory }
+    ensures told { IfErr result (IsToldOf (argument_in argument)) }
 {
     let word = one_value(alloc, matches, argument)?;
     Ok(String::from_str(alloc, word)?)
@@ -72,6 +75,7 @@ pub fn several_values<'m, 'a>(
     ensures err { IfErr result (λ e. (e ≡ LineFault.OutOfMemory)
         ⊎ (all_of argument.name.now (rows_of (found_of matches.now)) ≡ None)) }
     ensures refusal { IfErr result IsRefusalUnlessMemory }
+    ensures told { IfErr result (IsToldOf (argument_in argument)) }
 {
     match values(matches, argument.name) {
         Some(values) => Ok(values),
@@ -90,6 +94,7 @@ pub fn spelled_value<T: Word>(
     ensures err { IfErr result (λ e. (e ≡ LineFault.OutOfMemory)
         ⊎ (spelled_at T.form_of argument.name.now (rows_of (found_of matches.now)) ≡ None)) }
     ensures refusal { IfErr result IsRefusalUnlessMemory }
+    ensures told { IfErr result (IsToldOf (argument_in argument)) }
 {
     let word = one_value(alloc, matches, argument)?;
     spelled(alloc, argument, word)
@@ -106,6 +111,7 @@ pub fn optional_value<T: Word>(
     ensures err { IfErr result (λ e. (e ≡ LineFault.OutOfMemory)
         ⊎ (optional_at T.form_of argument.name.now (rows_of (found_of matches.now)) ≡ None)) }
     ensures refusal { IfErr result IsRefusalUnlessMemory }
+    ensures told { IfErr result (IsToldOf (argument_in argument)) }
 {
     match value(matches, argument.name) {
         Some(word) => Ok(Some(spelled(alloc, argument, word)?)),
@@ -124,6 +130,7 @@ pub fn spelled_values<T: Word + Drop>(
     ensures err { IfErr result (λ e. (e ≡ LineFault.OutOfMemory)
         ⊎ (all_spelled_at T.form_of argument.name.now (rows_of (found_of matches.now)) ≡ None)) }
     ensures refusal { IfErr result IsRefusalUnlessMemory }
+    ensures told { IfErr result (IsToldOf (argument_in argument)) }
 {
     let words = several_values(alloc, matches, argument)?;
     each_spelled(alloc, argument, words)
@@ -140,6 +147,7 @@ fn each_spelled<T: Word + Drop>(
     ensures err { IfErr result (λ e. (e ≡ LineFault.OutOfMemory)
         ⊎ (all_spelled T.form_of (map (λ w. w.now) words.now) ≡ None)) }
     ensures refusal { IfErr result IsRefusalUnlessMemory }
+    ensures told { IfErr result (IsToldOf (argument_in argument)) }
 {
     let mut values = Vec::new(alloc);
     'words: for word in words {
@@ -154,6 +162,7 @@ fn spelled<T: Word>(alloc: Global, argument: Argument, word: &str) -> Result<T, 
     ensures err { IfErr result (λ e. (e ≡ LineFault.OutOfMemory) ⊎ (T.form_of word.now ≡ None)) }
     ensures refusal { IfErr result IsRefusalUnlessMemory }
     ensures text { IfErr result (IsRefusedAs (other_form (argument_in argument) word.now)) }
+    ensures told { IfErr result (IsToldOf (argument_in argument)) }
 {
     match T::read(word) {
         Some(value) => Ok(value),

@@ -3,7 +3,7 @@ use Rattle.std.proofs.lemmas.List.{at_drop_more}
 use Rattle.clap.specs.Words.{app_of, with_subcommand}
 use Rattle.command_line.specs.Commands.{command_for, with_commands}
 use Rattle.command_line.specs.InnerTable.{signature_in}
-use Rattle.command_line.proofs.commands.with_table.Goals as goal
+use Rattle.command_line.proofs.apps.with_table.Goals as goal
 
 pub table-preserved : goal.table-preserved
 table-preserved c =

@@ -3,7 +3,7 @@ use Rattle.clap.specs.Words.{app_of}
 use Rattle.clap.specs.declared.builder.command.Command.TheViews.{out-Command}
 use Rattle.command_line.specs.Commands.{command_for, with_commands}
 use Rattle.command_line.specs.InnerTable.{signature_in}
-use Rattle.command_line.proofs.commands.with_table.Given as goal
+use Rattle.command_line.proofs.apps.with_table.Given as goal
 
 -- what is left to add gives what all of them give
 abbrev pub invariant-table : goal.invariant-table
