@@ -95,7 +95,7 @@ module _ (file : Format) where
   seen kind bytes s e = rw s e
 
   module _ (bytes more grown : List ℕ) (head : ℕ) (grows : grown ≡ bytes ++ more) (le : 1 ≤ length bytes) (h : head_length file (get_or bytes 0 0) ≡ Some head) where
-    tag_kept : head_length file (get_or grown 0 0) ≡ Some head
+    pub tag_kept : head_length file (get_or grown 0 0) ≡ Some head
     tag_kept = rw grows (ap (head_length file) (same_tag bytes more le) ∙ h)
 
     long_kept : 1 ≤ length grown

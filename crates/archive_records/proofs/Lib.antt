@@ -27,3 +27,6 @@ pub mod Inputs
 pub mod Ascending
 pub mod Taken
 pub mod KeptRecords
+pub mod Blamed
+pub mod Together
+pub mod Gathered

@@ -1,5 +1,5 @@
 -- What a plain archive tells as it goes through its operations.
-use Rattle.std.proofs.Common.{◌≡◌, ◌+◌, ℕ, Bool, true, false, List, [], ◌∷◌, ◌<◌, length, take, slice_index_or, map, filter, ◌++◌, Option, Some, None, if◌then◌else◌, refl, sym, ap, ◌∙◌, subst, add-one}
+use Rattle.std.proofs.Common.{◌≡◌, ◌+◌, ℕ, Bool, true, false, List, [], ◌∷◌, ◌<◌, length, take, slice_index_or, map, filter, ◌++◌, if◌then◌else◌, refl, sym, ap, ◌∙◌, subst, add-one}
 use Rattle.std.specs.List.Sorted.{IsSorted, IsPermutation}
 use Rattle.std.specs.FinSet.{from_list, contains}
 use Rattle.std.proofs.lemmas.Slice.Eq.{bytes_eq-Decides}
@@ -30,25 +30,11 @@ module _ (test : Operation → Bool) (operations : List Operation) (i : ℕ) (a 
   last true h = ap (filter test) (front operations i a lt is) ∙ filter-append test (take i operations) (a ∷ []) ∙ ap (λ (xs : List Operation). filter test (take i operations) ++ xs) (rw h refl)
   last false h = ap (filter test) (front operations i a lt is) ∙ filter-append test (take i operations) (a ∷ []) ∙ ap (λ (xs : List Operation). filter test (take i operations) ++ xs) (rw h refl)
 
-  passed_by : (old new : List Operation) (found : Operation) (passes : Bool) → test a ≡ passes → old ≡ filter test (take i operations)
-      → (if passes then Some a else None) ≡ Some found → new ≡ old ++ found ∷ [] → new ≡ filter test (take (i + 1) operations)
-  passed_by old new found true h old_is told_is new_is =
-      let same : a ≡ found = cc in
-      new_is ∙ ap (λ (xs : List Operation). xs ++ found ∷ []) old_is ∙ ap (λ (x : Operation). filter test (take i operations) ++ x ∷ []) (sym same) ∙ sym (last true h)
-  passed_by old new found false h old_is told_is new_is = cc
+  pub one_kept : (old new : List Operation) (copy : Operation) → test a ≡ true → old ≡ filter test (take i operations) → copy ≡ a → new ≡ old ++ copy ∷ [] → new ≡ filter test (take (i + 1) operations)
+  one_kept old new copy h old_is copy_is new_is = new_is ∙ (λ j. old_is j ++ copy_is j ∷ []) ∙ sym (last true h)
 
-  pub passed_more : (old new : List Operation) (found : Operation) (told : Option Operation) → old ≡ filter test (take i operations)
-      → told ≡ (if test a then Some a else None) → told ≡ Some found → new ≡ old ++ found ∷ [] → new ≡ filter test (take (i + 1) operations)
-  passed_more old new found told old_is told_is is_some new_is = passed_by old new found (test a) refl old_is (sym told_is ∙ is_some) new_is
-
-  failed_by : (old new : List Operation) (passes : Bool) → test a ≡ passes → old ≡ filter test (take i operations)
-      → (if passes then Some a else None) ≡ None → new ≡ old → new ≡ filter test (take (i + 1) operations)
-  failed_by old new true h old_is told_is new_is = cc
-  failed_by old new false h old_is told_is new_is = new_is ∙ old_is ∙ sym (append-nil (filter test (take i operations))) ∙ sym (last false h)
-
-  pub failed_more : (old new : List Operation) (told : Option Operation) → old ≡ filter test (take i operations)
-      → told ≡ (if test a then Some a else None) → told ≡ None → new ≡ old → new ≡ filter test (take (i + 1) operations)
-  failed_more old new told old_is told_is is_none new_is = failed_by old new (test a) refl old_is (sym told_is ∙ is_none) new_is
+  pub one_left_out : (old new : List Operation) → test a ≡ false → old ≡ filter test (take i operations) → new ≡ old → new ≡ filter test (take (i + 1) operations)
+  one_left_out old new h old_is new_is = new_is ∙ old_is ∙ sym (last false h ∙ append-nil (filter test (take i operations)))
 
 -- what is held under the UUID is what a search tells
 found_by_test : (o : Operations) (uuid : List ℕ) (a : Operation) → IsContent o → IsOperation a → contains o (record_bytes a) ≡ true → is_found_under uuid a ≡ true → IsFoundUnder o uuid a

@@ -1,8 +1,12 @@
-use Rattle.std.proofs.Common.{◌∙◌, sym, ap, arith}
+use Rattle.std.proofs.Common.{◌∙◌, sym, ap, arith, inl, inr, refl}
 use Rattle.std.specs.Prelude.{take}
 use Rattle.std.proofs.lemmas.Bool.{false≢true}
 use Rattle.std.proofs.lemmas.List.{length-take}
+use Rattle.archive_records.specs.declared.fault.RecordFaultKind.TheVariants.{BadMagic}
+use Rattle.archive_records.specs.Reader.{bytes_so_far}
+use Rattle.archive_records.proofs.Blamed.{filled_first, text_blames}
 use Rattle.archive_records.proofs.Formats.{other_magic, other_front}
+use Rattle.archive_records.proofs.Laid.{length-bytes_so_far}
 use Rattle.archive_records.proofs.reader.read_magic.Goals as goal
 
 pub returns-in-None-clause-stops : goal.returns-in-None-clause-stops
@@ -17,3 +21,39 @@ returns-else-begins-clause-stops g c = λ format is.
     let items = c.fill.new.buffer.bytes.items in
     let value = c.deref-in-Err-Truncated.ensures.value in
     other_front format (take at items) (omega (arith, c.in-Err-Truncated.ensures.err, c.requires.start, c.fill.ensures.within, length-take at items)) (λ e. false≢true (sym c.if-begins.false ∙ (rw value at (c.begins.ensures format is)).1 e))
+
+pub returns-in-Some-clause-taken : goal.returns-in-Some-clause-taken
+returns-in-Some-clause-taken g c = filled_first (g.R.Source.left c.args.r.now) (g.R.Source.left c.fill.new.r) c.args.buffer.now (bytes_so_far c.fill.new.buffer) c.requires.start c.fill.ensures.fills
+
+pub returns-in-None-clause-taken : goal.returns-in-None-clause-taken
+returns-in-None-clause-taken g c = filled_first (g.R.Source.left c.args.r.now) (g.R.Source.left c.fill.new.r) c.args.buffer.now (bytes_so_far c.fill.new.buffer) c.requires.start c.fill.ensures.fills
+
+pub returns-then-begins-clause-taken : goal.returns-then-begins-clause-taken
+returns-then-begins-clause-taken g c = filled_first (g.R.Source.left c.args.r.now) (g.R.Source.left c.fill.new.r) c.args.buffer.now (bytes_so_far c.fill.new.buffer) c.requires.start c.fill.ensures.fills
+
+pub returns-else-begins-clause-taken : goal.returns-else-begins-clause-taken
+returns-else-begins-clause-taken g c = filled_first (g.R.Source.left c.args.r.now) (g.R.Source.left c.fill.new.r) c.args.buffer.now (bytes_so_far c.fill.new.buffer) c.requires.start c.fill.ensures.fills
+
+pub returns-in-Err-Device-clause-taken : goal.returns-in-Err-Device-clause-taken
+returns-in-Err-Device-clause-taken g c = filled_first (g.R.Source.left c.args.r.now) (g.R.Source.left c.fill.new.r) c.args.buffer.now (bytes_so_far c.fill.new.buffer) c.requires.start c.fill.ensures.fills
+
+pub returns-in-Some-clause-reader : goal.returns-in-Some-clause-reader
+returns-in-Some-clause-reader g c = c.in-Ok.ensures.reader
+
+pub returns-in-None-clause-reader : goal.returns-in-None-clause-reader
+returns-in-None-clause-reader g c = text_blames g.R.Source.left g.R.Source.failures c.args.r.now c.fill.new.r BadMagic (λ e. cc) (λ e. cc) c.in-Ok.ensures.reader
+
+pub returns-then-begins-clause-reader : goal.returns-then-begins-clause-reader
+returns-then-begins-clause-reader g c = rw c.in-Err-Truncated.field-0-is at c.in-Err-Truncated.ensures.reader
+
+pub returns-else-begins-clause-reader : goal.returns-else-begins-clause-reader
+returns-else-begins-clause-reader g c = text_blames g.R.Source.left g.R.Source.failures c.args.r.now c.fill.new.r BadMagic (λ e. cc) (λ e. cc) ((rw c.in-Err-Truncated.field-0-is at c.in-Err-Truncated.ensures.reader).1 (λ e. cc))
+
+pub returns-in-Err-Device-clause-reader : goal.returns-in-Err-Device-clause-reader
+returns-in-Err-Device-clause-reader g c = rw c.in-Err-Device.field-0-is at c.in-Err-Device.ensures.reader
+
+pub returns-in-Err-Device-clause-stops : goal.returns-in-Err-Device-clause-stops
+returns-in-Err-Device-clause-stops g c = λ format is. inr (inl (refl, omega (arith, c.in-Err-Device.ensures.err, c.requires.start, length-bytes_so_far c.fill.new.buffer c.fill.ensures.within)))
+
+pub returns-in-Some-clause-magic : goal.returns-in-Some-clause-magic
+returns-in-Some-clause-magic g c = (c.in-Some.ensures.found.0, ap (take c.fill.new.buffer.at) (sym c.deref.ensures.value) ∙ c.in-Some.ensures.found.1)

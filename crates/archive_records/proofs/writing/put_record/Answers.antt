@@ -10,3 +10,11 @@ returns-in-Admit-clause-ok g c =
 pub returns-in-Admit-clause-err : goal.returns-in-Admit-clause-err
 returns-in-Admit-clause-err g c =
     err_along c.put_both.result c.args.done _ _ _ _ (head_and_slice c.admission_head.result c.bytes.result.now c.in-Admit.slice.now c.admission_head.ensures.head c.bytes.ensures.bytes ∙ sym (ap lent_bytes c.in-Admit.is)) c.put_both.ensures.err
+
+pub returns-in-Retire-clause-ok : goal.returns-in-Retire-clause-ok
+returns-in-Retire-clause-ok g c =
+    ok_along c.put.result c.args.done _ _ _ _ (c.retirement_bytes.ensures ∙ sym (ap lent_bytes c.in-Retire.is)) c.put.ensures.ok
+
+pub returns-in-Retire-clause-err : goal.returns-in-Retire-clause-err
+returns-in-Retire-clause-err g c =
+    err_along c.put.result c.args.done _ _ _ _ (c.retirement_bytes.ensures ∙ sym (ap lent_bytes c.in-Retire.is)) c.put.ensures.err

@@ -1,6 +1,7 @@
 use Rattle.std.proofs.Common.{inl, inr, refl, ap, subst, arith, ◌∙◌, ◌+◌}
 use Rattle.std.specs.Io.KnownBytes.{Consumes}
 use Rattle.archive_records.specs.Reader.{bytes_so_far, KeepsIn, Position}
+use Rattle.archive_records.proofs.Blamed.{bounds_kept}
 use Rattle.archive_records.proofs.FaultKinds.{cut_off, memory_blames}
 use Rattle.archive_records.proofs.Forms.{item-found}
 use Rattle.archive_records.proofs.Steps.{step_passes, step_refused, refused_blames}
@@ -78,3 +79,20 @@ returns-in-Err g c =
       c.in-Err.ensures.reader,
       λ memory. inr (cut_off c.self.inside.file _ _ _ (rw memory at c.in-Err.ensures.fails), c.clear.ensures.items),
     )
+
+pub invariant_of-self : goal.invariant_of-self
+invariant_of-self g c = bounds_kept c.self.inside.chunk.items c.read_next.new.chunk c.self.inside.chunk.len c.self.inside.count c.self.inside.offset c.self.inside.chunk.ok.0 c.self.invariant
+
+pub invariant_of-self-in-Err-keep : goal.invariant_of-self-in-Err-keep
+invariant_of-self-in-Err-keep g c = bounds_kept c.self.inside.chunk.items c.read_next.new.chunk c.self.inside.chunk.len c.self.inside.count c.self.inside.offset c.self.inside.chunk.ok.0 c.self.invariant
+
+pub invariant_of-self-then-self-eq-MOST : goal.invariant_of-self-then-self-eq-MOST
+invariant_of-self-then-self-eq-MOST g c = bounds_kept c.self.inside.chunk.items c.read_next.new.chunk c.self.inside.chunk.len c.self.inside.count c.self.inside.offset c.self.inside.chunk.ok.0 c.self.invariant
+
+pub invariant_of-self-in-Err : goal.invariant_of-self-in-Err
+invariant_of-self-in-Err g c = bounds_kept c.self.inside.chunk.items c.read_next.new.chunk c.self.inside.chunk.len c.self.inside.count c.self.inside.offset c.self.inside.chunk.ok.0 c.self.invariant
+
+pub invariant_of-self-in-Ok-Item : goal.invariant_of-self-in-Ok-Item
+invariant_of-self-in-Ok-Item g c =
+    let kept = bounds_kept c.self.inside.chunk.items c.read_next.new.chunk c.self.inside.chunk.len c.self.inside.count c.self.inside.offset c.self.inside.chunk.ok.0 c.self.invariant in
+    record { some = kept.some; few = omega (arith, c.if-self-eq-MOST.false, kept.few); fits = omega (arith, c.len.type_inv, kept.fits) }

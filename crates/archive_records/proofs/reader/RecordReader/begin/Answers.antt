@@ -1,8 +1,11 @@
-use Rattle.std.proofs.Common.{refl, sym, subst, ◌∙◌}
+use Rattle.std.proofs.Common.{[], inr, refl, sym, subst, arith, ◌∙◌}
 use Rattle.std.specs.Io.KnownBytes.{Consumes}
 use Rattle.std.proofs.lemmas.List.{append-nil}
+use Rattle.byte_device.proofs.Known.{Consumes-none}
 use Rattle.archive_records.specs.Kind.{magic_of}
+use Rattle.archive_records.specs.Reader.{bytes_so_far}
 use Rattle.archive_records.proofs.Apart.{apart_none, retired_none, drops_none}
+use Rattle.archive_records.proofs.FaultKinds.{memory_blames}
 use Rattle.archive_records.proofs.reader.RecordReader.begin.Goals as goal
 
 pub returns-clause-read : goal.returns-clause-read
@@ -20,3 +23,24 @@ returns-clause-read g c =
       retired_are = retired_none file c.none.result c.none.ensures;
       dropped_is = drops_none file _ refl;
     }
+
+pub returns-in_default-clause-stops : goal.returns-in_default-clause-stops
+returns-in_default-clause-stops g c = rw c.out_of_memory.ensures ([], Consumes-none (g.R.Source.left c.args.r.now), λ format is. inr (inr (refl, omega arith)))
+
+pub returns-in_default-clause-reader : goal.returns-in_default-clause-reader
+returns-in_default-clause-reader g c = rw c.out_of_memory.ensures (memory_blames g.R.Source.left g.R.Source.failures c.args.r.now c.args.r.now refl)
+
+pub returns-in_default-clone-clause-stops : goal.returns-in_default-clone-clause-stops
+returns-in_default-clone-clause-stops g c = rw c.out_of_memory-in_default-clone.ensures ([], Consumes-none (g.R.Source.left c.args.r.now), λ format is. inr (inr (refl, omega arith)))
+
+pub returns-in_default-clone-clause-reader : goal.returns-in_default-clone-clause-reader
+returns-in_default-clone-clause-reader g c = rw c.out_of_memory-in_default-clone.ensures (memory_blames g.R.Source.left g.R.Source.failures c.args.r.now c.args.r.now refl)
+
+pub returns-in-Err-clause-stops : goal.returns-in-Err-clause-stops
+returns-in-Err-clause-stops g c = (bytes_so_far c.read_magic.new.buffer, c.in-Err.ensures.taken, c.in-Err.ensures.stops)
+
+pub returns-in-Err-clause-reader : goal.returns-in-Err-clause-reader
+returns-in-Err-clause-reader g c = c.in-Err.ensures.reader
+
+pub returns-clause-reader : goal.returns-clause-reader
+returns-clause-reader g c = c.in-Ok-read_magic.ensures.reader

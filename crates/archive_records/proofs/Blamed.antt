@@ -1,0 +1,82 @@
+-- What steps that read say of the reader and of what they took: one alone, one behind the other, and one that failed.
+use Rattle.std.proofs.Common.{◌≡◌, ◌≢◌, ℕ, zero, suc, List, [], ◌∷◌, ◌++◌, length, take, drop, ap, refl, sym, ◌∙◌, subst, Option, arith, length-append, length-take, length-drop}
+use Rattle.std.specs.Prelude.{Result, Ok, Err, IfErr, IsErrAnd, OnOk}
+use Rattle.std.proofs.lemmas.Result.{err_from_is_err_and}
+use Rattle.std.specs.Io.KnownBytes.{Consumes, IsAtEnd}
+use Rattle.byte_device.specs.Devices.{FailedIn}
+use Rattle.byte_device.proofs.Known.{Consumes-none, Consumes-then}
+use Rattle.archive_records.specs.declared.fault.RecordFaultKind.{RecordFaultKind}
+use Rattle.archive_records.specs.declared.fault.RecordFaultKind.TheVariants.{Device, Truncated}
+use Rattle.archive_records.specs.declared.buffer.Buffer.{Buffer}
+use Rattle.archive_records.specs.Reader.{BlamesReader, Bounds, Fills, bytes_so_far}
+use Rattle.archive_records.specs.Reading.{Blames}
+
+-- what `?` passes on is the fault
+pub failed : {T E : Type 0} (result : Result T E) (kind : E) → IsErrAnd result (λ e. e ≡ kind) → result ≡ Err kind
+failed result kind is = let p = err_from_is_err_and result is in p.1 ∙ ap (λ e. Err e) p.2
+
+-- what the second step took came behind what the first did
+pub filled : (a b c : Option (List ℕ)) (old new : List ℕ) → Consumes a b old → Fills b c old new → Consumes a c new
+filled a b c old new taken fills = subst (Consumes a c) (sym fills.grows) (Consumes-then a b c old fills.more taken fills.taken)
+
+-- what the first step took stands in an empty buffer
+pub filled_first : (a b : Option (List ℕ)) (buffer : Buffer) (new : List ℕ) → buffer.at ≡ 0 → Fills a b (bytes_so_far buffer) new → Consumes a b new
+filled_first a b buffer new start fills = filled a a b (bytes_so_far buffer) new (subst (Consumes a a) (sym none) (Consumes-none a)) fills
+  where
+    none : bytes_so_far buffer ≡ []
+    none = ap (λ (n : ℕ). take n buffer.bytes.items) start
+
+-- a fault of the text says that the reader did not fail
+pub text_blames : {R : Type 0} (left : R → Option (List ℕ)) (failures : R → ℕ) (old new : R) (kind : RecordFaultKind) → (kind ≡ Device → ⊥) → (kind ≡ Truncated → ⊥) → failures new ≡ failures old → Blames left failures old new kind
+text_blames left failures old new kind no_device no_end unfailed = (λ e. absurd (no_device e), λ _. unfailed, λ e. absurd (no_end e))
+
+-- where the input ended, the reader did not fail, and is at its end
+pub end_blames : {R : Type 0} (left : R → Option (List ℕ)) (failures : R → ℕ) (old new : R) → failures new ≡ failures old → IsAtEnd (left new) → Blames left failures old new Truncated
+end_blames left failures old new unfailed end = (λ e. absurd (no_device e), λ _. unfailed, λ _. end)
+  where
+    no_device : Truncated ≡ Device → ⊥
+    no_device e = cc
+
+-- a device that failed says so
+pub device_blames : {R : Type 0} (left : R → Option (List ℕ)) (failures : R → ℕ) (old new : R) → FailedIn (failures old) (failures new) → Blames left failures old new Device
+device_blames left failures old new failed_in = (λ _. failed_in, λ other. absurd (other refl), λ e. absurd (no_end e))
+  where
+    no_end : Device ≡ Truncated → ⊥
+    no_end e = cc
+
+-- a reader that did not fail in the first step is blamed for the second
+module _ {R : Type 0} (left : R → Option (List ℕ)) (failures : R → ℕ) (old mid new : R) (unfailed : failures mid ≡ failures old) where
+  pub blames_behind : (kind : RecordFaultKind) → Blames left failures mid new kind → Blames left failures old new kind
+  blames_behind kind blames = (λ device. subst (λ n. FailedIn n (failures new)) unfailed (blames.0 device), λ other. blames.1 other ∙ unfailed, blames.2)
+
+  pub blamed_behind : {T : Type 0} (result : Result T RecordFaultKind) → BlamesReader left failures mid new result → BlamesReader left failures old new result
+  blamed_behind (Ok value) same = same ∙ unfailed
+  blamed_behind (Err kind) blames = blames_behind kind blames
+
+-- what is kept of a list that was cut off
+pub cut_same : (items cut : List ℕ) (at : ℕ) → cut ≡ take at items → take at cut ≡ take at items
+cut_same items cut at is = ap (take at) is ∙ cut_again items at
+  where
+    cut_again : (items : List ℕ) (at : ℕ) → take at (take at items) ≡ take at items
+    cut_again [] zero = refl
+    cut_again [] (suc at) = refl
+    cut_again (x ∷ xs) zero = refl
+    cut_again (x ∷ xs) (suc at) = ap (λ (t : List ℕ). x ∷ t) (cut_again xs at)
+
+-- what holds whatever the result is
+pub on_any : {T E : Type 0} {P : Type 0} (result : Result T E) → P → OnOk result P
+on_any (Ok value) p = p
+on_any (Err kind) p = tt
+
+-- a test of what came blames no reader
+pub tested_blames : {R T : Type 0} (left : R → Option (List ℕ)) (failures : R → ℕ) (old new : R) (result : Result T RecordFaultKind) → failures new ≡ failures old → IfErr result (λ kind. (kind ≢ Truncated) × (kind ≢ Device)) → BlamesReader left failures old new result
+tested_blames left failures old new (Ok value) unfailed other = unfailed
+tested_blames left failures old new (Err kind) unfailed other = text_blames left failures old new kind other.1 other.0 unfailed
+
+-- a chunk that was pulled into is as long as it was
+pub bounds_kept : (items pulled : List ℕ) (len count offset : ℕ) → len ≡ length items → Bounds (length items) count offset → Bounds (length (take len (pulled ++ drop (length pulled) items))) count offset
+bounds_kept items pulled len count offset long bounds = record {
+  some = let some = bounds.some in omega (arith, length-take len (pulled ++ drop (length pulled) items), length-append pulled (drop (length pulled) items), length-drop (length pulled) items);
+  few = bounds.few;
+  fits = bounds.fits;
+}
