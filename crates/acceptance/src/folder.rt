@@ -1,12 +1,9 @@
 //! Files of the system, in a folder of this run's own.
 
 use archive_files::SystemFiles;
-use case_parts::{
-    CaseFault, Store, StrictSink, first_word, tell_ended, tell_line_fault, tell_report, words_of,
-};
-use command_line::{LineFault, Plan, plan};
+use case_parts::{CaseFault, Store, StrictSink, first_word, tell_report, words_of};
 use memory::{Heap, NoMemory};
-use plan_commands::{Seen, execute};
+use plan_commands::run;
 use std::os::unix::fs::symlink;
 use std::rt::Files;
 use std::{fs, io, process};
@@ -77,17 +74,21 @@ impl<'a, R: Files + AllocGlobal> Folder<'a, R> {
         store.keep(self.rt.alloc(), name, bytes)
     }
 
-    /// Carries a command line out over files of the folder, with a report that takes so many bytes, and tells the
-    /// report, the fault and the status.
+    /// Carries out the words of a command line over files of the folder, with a report that takes so many bytes, and tells
+    /// the report, what was said on standard error, and the status.
     pub fn run(&self, words: &str, most: usize, told: &mut String) -> Result<(), CaseFault> {
-        match self.planned(words) {
-            Ok(plan) => self.tell_run(&plan, most, told),
-            Err(fault) => Ok(tell_line_fault(&fault, told)?),
-        }
+        let mut report = StrictSink::new(Heap::new(self.rt.alloc())?, most);
+        let mut errors = StrictSink::new(Heap::new(self.rt.alloc())?, usize::MAX);
+        let mut files = SystemFiles::new(self.rt.alloc(), self.rt, self.process);
+        let line = self.line_of(words)?;
+        let status = run(Ok(line), &mut files, &mut report, &mut errors);
+        tell_report(report.as_slice(), told)?;
+        self.tell_said(errors.as_slice(), told)?;
+        Ok(writeln!(told, "  status {status}")?)
     }
 
-    // What the words of a line ask for, which stand behind the program's name.
-    fn planned(&self, words: &str) -> Result<Plan, LineFault> {
+    // The words of a command line, which stand behind the program's name.
+    fn line_of(&self, words: &str) -> Result<Vec<String>, NoMemory> {
         let mut line = Vec::new(self.rt.alloc());
         line.push(String::from_str(self.rt.alloc(), "symarch")?)?;
         for word in words_of(self.rt.alloc(), words)? {
@@ -96,15 +97,18 @@ impl<'a, R: Files + AllocGlobal> Folder<'a, R> {
                 None => String::from_str(self.rt.alloc(), word)?,
             })?;
         }
-        plan(self.rt.alloc(), &line)
+        Ok(line)
     }
 
-    fn tell_run(&self, plan: &Plan, most: usize, told: &mut String) -> Result<(), CaseFault> {
-        let mut report = StrictSink::new(Heap::new(self.rt.alloc())?, most);
-        let mut files = SystemFiles::new(self.rt.alloc(), self.rt, self.process);
-        let mut seen = Seen::NOTHING;
-        let ended = execute(&mut files, plan, &mut report, &mut seen);
-        tell_report(report.as_slice(), told)?;
-        Ok(tell_ended(ended, told)?)
+    // Tells the lines of standard error, in which `@` stands for the folder.
+    fn tell_said(&self, said: &[u8], told: &mut String) -> Result<(), CaseFault> {
+        let text = str::from_utf8(said).ok().ok_or(CaseFault::BadLine)?;
+        for line in text.lines() {
+            match line.split_once(self.path.as_str()) {
+                Some((before, behind)) => writeln!(told, "  {before}@{behind}")?,
+                None => writeln!(told, "  {line}")?,
+            }
+        }
+        Ok(())
     }
 }

@@ -21,6 +21,4 @@ mod runs;
 mod said;
 
 pub use disks::execute_on;
-pub use files::execute;
-pub use hints::Seen;
 pub use runs::{run, say_report};

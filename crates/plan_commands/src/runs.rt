@@ -9,7 +9,7 @@ ghost use Rattle.command_ends.specs.Statuses.{status_of};
 ghost use Rattle.plan_commands.specs.Ends.{EndsLine, EndsWords, IsIdle, IsUnreadable, WantsMemory};
 ghost use Rattle.plan_commands.specs.Said.{SaysEnd, SaysFailure};
 
-use crate::execute;
+use crate::files::execute;
 use crate::hints::{Seen, help_with};
 use crate::said::{FailureLine, RefusedLine, say, say_more, say_wanting};
 use archive_files::{OpenedFile, OutFile, OutPath, SystemDisk, SystemFiles};
