@@ -1,4 +1,4 @@
-use Rattle.std.proofs.Common.{inr, refl, sym, ◌∙◌}
+use Rattle.std.proofs.Common.{inr, sym, ◌∙◌}
 use Rattle.std.proofs.lemmas.Bool.{false≢true}
 use Rattle.byte_device.proofs.Known.{Consumes-none}
 use Rattle.archive_records.proofs.Blamed.{blames_behind, failed}
