@@ -61,12 +61,3 @@ returns-clause-counted g c =
     let none : length left ≡ 0 = omega (arith, long, c.in-None.ensures.steps) in
     all_counted old (g.A.Join.content at.archive) all left at.new at.invariant.way none
     ∙ ap (λ (l : List Operation). new_among old (map record_bytes l)) c.into_iter-operation-iterator.ensures.into_iter_gives.0
-
-pub returns-in_err-changed-clause-taken : goal.returns-in_err-changed-clause-taken
-returns-in_err-changed-clause-taken g c = rw (err_from_is_err_and c.from_residual.result c.from_residual.ensures.1).1 tt
-
-pub returns-in_err-changed-clause-counted : goal.returns-in_err-changed-clause-counted
-returns-in_err-changed-clause-counted g c = rw (err_from_is_err_and c.from_residual.result c.from_residual.ensures.1).1 tt
-
-pub returns-in_err-changed-clause-content : goal.returns-in_err-changed-clause-content
-returns-in_err-changed-clause-content g c = rw (err_from_is_err_and c.from_residual.result c.from_residual.ensures.1).1 tt

@@ -29,21 +29,3 @@ overflow_add-result g c =
     let old = g.A.Join.content c.args.archive.now in
     let most = new_within old (map record_bytes c.args.operations.items) in
     omega (arith, most, length-map c.args.operations.items record_bytes, c.in_ok-parts.ensures.counted, c.in_ok-admitted.ensures.counted, c.len-retired.ensures, c.args.operations.ok.0, c.args.operations.ok.1, c.args.operations.small)
-
-pub returns-in_err-parts-clause-taken : goal.returns-in_err-parts-clause-taken
-returns-in_err-parts-clause-taken g c = rw (err_from_is_err_and c.from_residual.result c.from_residual.ensures.1).1 tt
-
-pub returns-in_err-parts-clause-counted : goal.returns-in_err-parts-clause-counted
-returns-in_err-parts-clause-counted g c = rw (err_from_is_err_and c.from_residual.result c.from_residual.ensures.1).1 tt
-
-pub returns-in_err-admitted-clause-taken : goal.returns-in_err-admitted-clause-taken
-returns-in_err-admitted-clause-taken g c = rw (err_from_is_err_and c.from_residual-in_err-admitted.result c.from_residual-in_err-admitted.ensures.1).1 tt
-
-pub returns-in_err-admitted-clause-counted : goal.returns-in_err-admitted-clause-counted
-returns-in_err-admitted-clause-counted g c = rw (err_from_is_err_and c.from_residual-in_err-admitted.result c.from_residual-in_err-admitted.ensures.1).1 tt
-
-pub returns-in_err-take_sorted-clause-taken : goal.returns-in_err-take_sorted-clause-taken
-returns-in_err-take_sorted-clause-taken g c = rw (err_from_is_err_and c.from_residual-in_err-take_sorted.result c.from_residual-in_err-take_sorted.ensures.1).1 tt
-
-pub returns-in_err-take_sorted-clause-counted : goal.returns-in_err-take_sorted-clause-counted
-returns-in_err-take_sorted-clause-counted g c = rw (err_from_is_err_and c.from_residual-in_err-take_sorted.result c.from_residual-in_err-take_sorted.ensures.1).1 tt

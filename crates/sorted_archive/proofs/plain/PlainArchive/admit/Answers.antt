@@ -2,7 +2,6 @@ use Rattle.std.proofs.Common.{rules, ◌≡◌, true, false, sym, ◌∙◌, ap,
 use Rattle.std.specs.Ordering.{nat_cmp}
 use Rattle.std.specs.Cmp.Lexicographic.{slice_cmp}
 use Rattle.std.specs.FinSet as set
-use Rattle.std.proofs.lemmas.Result.{err_from_is_err_and}
 use Rattle.archive_core.specs.Content.{is_covered, IsMade}
 use Rattle.archive_core.specs.Record.{record_bytes, admission_record}
 use Rattle.archive_core.specs.declared.operations.Operation.TheVariants.{Admit}
@@ -63,9 +62,3 @@ returns-in_ok-insert-in-Err-clause-answer c =
     let slice = c.args.slice in
     let free : is_covered o (admission_record slice) ≡ false = covered_slice o slice c.retires.ensures.valid ∙ rw (c.of.ensures, c.deref.ensures.value, c.self.view_is) at (sym c.retires.ensures.retires ∙ c.if-retires.false) in
     sym (new_changes o (admission_record slice) (rw (← c.self.view_is, ← c.deref-2.ensures.value) c.in-Err.ensures.found.absent.absent) free)
-
-pub returns-in_err-insert-in-Err-clause-taken : goal.returns-in_err-insert-in-Err-clause-taken
-returns-in_err-insert-in-Err-clause-taken c = rw (err_from_is_err_and c.from_residual.result c.from_residual.ensures.1).1 tt
-
-pub returns-in_err-insert-in-Err-clause-answer : goal.returns-in_err-insert-in-Err-clause-answer
-returns-in_err-insert-in-Err-clause-answer c = rw (err_from_is_err_and c.from_residual.result c.from_residual.ensures.1).1 tt

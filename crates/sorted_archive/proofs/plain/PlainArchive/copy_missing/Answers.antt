@@ -1,5 +1,4 @@
 use Rattle.std.proofs.Common.{ap, sym, ◌∙◌}
-use Rattle.std.proofs.lemmas.Result.{err_from_is_err_and}
 use Rattle.archive_core.specs.Content.{changes}
 use Rattle.archive_core.specs.Record.{record_bytes}
 use Rattle.archive_core.specs.declared.operations.Operation.{Operation}
@@ -24,15 +23,3 @@ operations-preserved c =
       | else-not-knows w ↦
           one_left_out test operations i a c.operations-test.true c.operation-item.is old new (told ∙ w.if-not-knows.ensures.changes) c.operations.invariant (ap (λ v. v.items) w.missing-is)
     ]
-
-pub returns-in_err-clone : goal.returns-in_err-clone
-returns-in_err-clone c = rw (err_from_is_err_and c.from_residual.result c.from_residual.ensures.1).1 tt
-
-pub returns-in_err-clone-2 : goal.returns-in_err-clone-2
-returns-in_err-clone-2 c = rw (err_from_is_err_and c.from_residual-in_err-clone-2.result c.from_residual-in_err-clone-2.ensures.1).1 tt
-
-pub returns-in_err-copy : goal.returns-in_err-copy
-returns-in_err-copy c = rw (err_from_is_err_and c.from_residual-in_err-copy.result c.from_residual-in_err-copy.ensures.1).1 tt
-
-pub returns-in_err-push : goal.returns-in_err-push
-returns-in_err-push c = rw (err_from_is_err_and c.from_residual-in_err-push.result c.from_residual-in_err-push.ensures.1).1 tt

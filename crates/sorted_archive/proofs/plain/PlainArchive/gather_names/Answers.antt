@@ -1,6 +1,5 @@
 use Rattle.std.proofs.Common.{◌++◌, ap, sym, ◌∙◌, map}
 use Rattle.std.proofs.lemmas.List.{map-append}
-use Rattle.std.proofs.lemmas.Result.{err_from_is_err_and}
 use Rattle.archive_core.specs.Names.{name_view}
 use Rattle.sorted_archive.specs.InnerNames.{names_among}
 use Rattle.sorted_archive.proofs.Naming.{names_more}
@@ -17,12 +16,3 @@ operations-preserved c =
     ∙ map-append name_view c.operations.rows.items more
     ∙ (λ j. c.operations.invariant j ++ c.in_ok-more.ensures j)
     ∙ sym (names_more c.args.name.now c.args.operations.now c.operations.operation-index c.operation-item.result c.operations-test.true c.operation-item.is)
-
-pub returns-in_err-clone : goal.returns-in_err-clone
-returns-in_err-clone c = rw (err_from_is_err_and c.from_residual.result c.from_residual.ensures.1).1 tt
-
-pub returns-in_err-more : goal.returns-in_err-more
-returns-in_err-more c = rw (err_from_is_err_and c.from_residual-in_err-more.result c.from_residual-in_err-more.ensures.1).1 tt
-
-pub returns-in_err-append : goal.returns-in_err-append
-returns-in_err-append c = rw (err_from_is_err_and c.from_residual-in_err-append.result c.from_residual-in_err-append.ensures.1).1 tt

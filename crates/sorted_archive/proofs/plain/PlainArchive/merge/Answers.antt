@@ -1,5 +1,4 @@
 use Rattle.std.proofs.Common.{not}
-use Rattle.std.proofs.lemmas.Result.{err_from_is_err_and}
 use Rattle.archive_core.specs.Content.{is_covered}
 use Rattle.sorted_archive.proofs.Merged.{held_left, merged_is}
 use Rattle.sorted_archive.proofs.plain.PlainArchive.merge.Goals as goal
@@ -22,9 +21,3 @@ returns-clause-merged c =
     (merged_is c.self.inside.operations.items c.other.inside.operations.items c.drop_covered.new.operations.items c.drop_covered-2.new.operations.items c.append.new.self.items c.order.new.operations.items c.args.self.now c.args.other c.lend-2.result
     c.self.invariant c.other.invariant c.self.view_is c.other.view_is first c.lend-2.ensures.lent c.drop_covered-2.ensures.items c.in_ok-append.ensures.items
     (record { ascending = c.order.ensures.ascending; same = c.order.ensures.same; are = c.order.ensures.are })).is
-
-pub returns-in_err-reserve-clause-merged : goal.returns-in_err-reserve-clause-merged
-returns-in_err-reserve-clause-merged c = rw (err_from_is_err_and c.from_residual.result c.from_residual.ensures.1).1 tt
-
-pub returns-in_err-append-clause-merged : goal.returns-in_err-append-clause-merged
-returns-in_err-append-clause-merged c = rw (err_from_is_err_and c.from_residual-in_err-append.result c.from_residual-in_err-append.ensures.1).1 tt

@@ -1,6 +1,5 @@
 use Rattle.std.proofs.Common.{sym, subst, ap, map, take, ◌∙◌}
 use Rattle.std.specs.List.{AllZip}
-use Rattle.std.proofs.lemmas.Result.{err_from_is_err_and}
 use Rattle.archive_core.specs.Lookup.{IsOwnRow, own_row}
 use Rattle.sorted_archive.specs.InnerScan.{held_among}
 use Rattle.sorted_archive.proofs.Lookups.{one_more, none_more, rows_more}
@@ -28,9 +27,3 @@ operations-preserved c =
           subst (λ slices. AllZip (IsOwnRow c.args.asked) slices (map own_row rows)) (sym same)
           (subst (λ items. AllZip (IsOwnRow c.args.asked) before (map own_row items)) (sym (ap (λ v. v.items) w.rows-is)) c.operations.invariant)
     ]
-
-pub returns-in_err-clone : goal.returns-in_err-clone
-returns-in_err-clone c = rw (err_from_is_err_and c.from_residual.result c.from_residual.ensures.1).1 tt
-
-pub returns-in_err-push : goal.returns-in_err-push
-returns-in_err-push c = rw (err_from_is_err_and c.from_residual-in_err-push.result c.from_residual-in_err-push.ensures.1).1 tt

@@ -3,7 +3,6 @@ use Rattle.std.specs.Ordering.{nat_cmp}
 use Rattle.std.specs.Cmp.Lexicographic.{slice_cmp}
 use Rattle.std.specs.FinSet as set
 use Rattle.join_core.specs.InnerSearch.{IsPlaceFor}
-use Rattle.std.proofs.lemmas.Result.{err_from_is_err_and}
 use Rattle.archive_core.specs.Content.{is_covered, IsMade, with_record}
 use Rattle.archive_core.specs.Record.{record_bytes, retirement_record}
 use Rattle.archive_core.specs.declared.operations.Operation.TheVariants.{Retire}
@@ -59,9 +58,3 @@ returns-in_ok-insert-in-Err-clause-answer c =
     let r = retirement_record c.args.key c.args.digest.0 in
     let absent : set.contains o r ≡ false = rw (← c.self.view_is, ← c.deref.ensures.value) (rw c.retirement-retirement.ensures.retirement at c.in-Err.ensures.found.absent.absent) in
     sym (new_changes o r absent refl)
-
-pub returns-in_err-insert-in-Err-clause-taken : goal.returns-in_err-insert-in-Err-clause-taken
-returns-in_err-insert-in-Err-clause-taken c = rw (err_from_is_err_and c.from_residual.result c.from_residual.ensures.1).1 tt
-
-pub returns-in_err-insert-in-Err-clause-answer : goal.returns-in_err-insert-in-Err-clause-answer
-returns-in_err-insert-in-Err-clause-answer c = rw (err_from_is_err_and c.from_residual.result c.from_residual.ensures.1).1 tt
