@@ -236,7 +236,7 @@ impl<'a, F: Files> OutFile<'a, F> {
     }
 
     /// The files of the system.
-    pub fn files(&self) -> &'a F {
+    pub(crate) fn files(&self) -> &'a F {
         self.files
     }
 

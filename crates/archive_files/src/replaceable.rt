@@ -80,16 +80,21 @@ pub fn way_to<F: Files>(
     match fs::metadata(files, path) {
         Ok(metadata) if metadata.is_file() => replaced(alloc, files, path, &metadata, replaces),
         Ok(_) => Ok(Way::Through),
-        Err(error) if error.kind() == ErrorKind::NotFound => absent(alloc, files, path),
+        Err(error) if error.kind() == ErrorKind::NotFound => absent(alloc, files, path, error),
         Err(error) => Err(OutFault::NotCreated(Some(error))),
     }
 }
 
-/// The way to a path at which nothing is, unless it is a link, or no file can have that path.
-fn absent<F: Files>(alloc: Global, files: &F, path: &str) -> Result<Way, OutFault> {
+/// The way to a path at which the system finds nothing, unless it is a link, or no file can have that path.
+fn absent<F: Files>(
+    alloc: Global,
+    files: &F,
+    path: &str,
+    error: io::Error,
+) -> Result<Way, OutFault> {
     let is_no_name = path.is_empty() || path.ends_with('/');
     if is_no_name || fs::symlink_metadata(files, path).is_ok() {
-        return Err(OutFault::NotCreated(Some(ErrorKind::NotFound.into())));
+        return Err(OutFault::NotCreated(Some(error)));
     }
     Ok(Way::Beside(String::from_str(alloc, path)?, None))
 }

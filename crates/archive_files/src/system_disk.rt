@@ -18,7 +18,7 @@ const PIECE: usize = 64 * 1024;
 /// The files of the system.
 #[derive(Drop)]
 pub struct SystemDisk<'a, F: Files> {
-    pub alloc: Global,
+    alloc: Global,
     files: &'a F,
     opened: CallLog,
 }
@@ -35,6 +35,11 @@ impl<'a, F: Files> SystemDisk<'a, F> {
             files,
             opened: CallLog::new(),
         }
+    }
+
+    /// The memory that its readers take.
+    pub fn alloc(&self) -> Global {
+        self.alloc
     }
 }
 

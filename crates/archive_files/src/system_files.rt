@@ -21,9 +21,9 @@ pub struct SystemFiles<'a, F: Files> {
     pub disk: SystemDisk<'a, F>,
     pub out: Output<OutFile<'a, F>, OutPath<'a, F>>,
     /// The inputs that were found to be other files than OUT's.
-    pub others: CallLog,
+    others: CallLog,
     /// The input that was found to be OUT's own file.
-    pub same: CallLog,
+    same: CallLog,
 }
 
 impl<'a, F: Files> SystemFiles<'a, F> {
@@ -61,7 +61,7 @@ impl<'a, F: Files> SystemFiles<'a, F> {
     {
         let files = self.out.draft.files();
         if are_other_files(files, path, inputs, &mut self.others, &mut self.same) {
-            let path = String::from_str(self.disk.alloc, path)?;
+            let path = String::from_str(self.disk.alloc(), path)?;
             self.out.draft.take_path(path, replaces);
         }
         Ok(())

@@ -1,11 +1,11 @@
 -- What one pass over the records of a file made, and that it came to its end.
 use Rattle.std.proofs.Common.{◌≡◌, ℕ, List, [], Option, Some, refl, subst}
 use Rattle.std.proofs.lemmas.List.{append-nil}
-use Rattle.std.specs.Io.KnownBytes.{Consumes, IsAtEnd}
+use Rattle.std.specs.Io.KnownBytes.{Consumes}
 use Rattle.byte_device.proofs.Known.{Consumes-then}
 use Rattle.archive_records.specs.Kind.{kind_of, end_length}
 use Rattle.archive_records.specs.Text.{text_of}
-use Rattle.archive_records.specs.Reader.{Position, GathersAll, IsGathered, IsEnded}
+use Rattle.archive_records.specs.Reader.{Position, GathersAll, IsGathered}
 use Rattle.archive_records.specs.declared.kind.TextKind.{TextKind}
 use Rattle.archive_records.specs.declared.kind.TextKind.TheVariants.{Operations as Operations_text}
 use Rattle.archive_records.specs.declared.format.Format.{Format}
@@ -24,14 +24,7 @@ gathered kind Makes a b c value position format is all more = record {
   makes = all.makes;
 }
 
--- an operations file ends with the input
-pub open_at_end : (format : Format) (b : Option (List ℕ)) → kind_of format ≡ Operations_text → IsEnded format b → IsAtEnd b
-open_at_end Archive b is ended = cc
-open_at_end OldArchive b is ended = cc
-open_at_end Operations b is ended = ended
-open_at_end Summary b is ended = cc
-
--- and each other file with an end record
+-- a file that is not open has an end record
 pub closed_end : (format : Format) → (kind_of format ≡ Operations_text → ⊥) → end_length format ≡ Some 9
 closed_end Archive closed = refl
 closed_end OldArchive closed = refl

@@ -1,5 +1,5 @@
 -- Two parts of a text that are given to a writer, one behind the other.
-use Rattle.std.proofs.Common.{◌≡◌, ℕ, ◌+◌, List, [], ◌++◌, length, Option, Result, Ok, Err, refl, sym, ap, ◌∙◌, subst, arith, length-append}
+use Rattle.std.proofs.Common.{◌≡◌, ℕ, ◌+◌, ◌^◌, ◌<◌, ◌≤◌, List, [], ◌++◌, length, Option, Result, Ok, Err, refl, sym, ap, ◌∙◌, subst, arith, length-append}
 use Rattle.std.proofs.lemmas.List.{append-nil}
 use Rattle.std.specs.Prelude.{IfOk, OnOk, IfErr}
 use Rattle.std.specs.Io.KnownBytes.{Appends}
@@ -51,3 +51,14 @@ module _ {W : Type 0} (held : W → Option (List ℕ)) (failures : W → ℕ) (o
         err_of (Ok n) err = tt
         err_of (Err fault) err = subst (WritesFirst (held old) (held new) (front ++ behind)) (sym err.1)
             (stopped (held old) (held mid) (held new) front behind [] (front ++ behind) done err.0 front_len (ap (λ (t : List ℕ). front ++ t) (sym (append-nil behind))) (subst (Appends (held old) (held mid)) same gained) err.2)
+
+-- a head of 33 bytes and a slice are short
+pub head_and_slice_short : (head body slice : List ℕ) → length head ≡ 33 → body ≡ slice → length slice < 2 ^ 32 → length (head ++ body) ≤ 2 ^ 33
+head_and_slice_short head body slice long same short = rw same (omega (arith, length-append head slice))
+
+pub fits_behind : (done n : ℕ) → done + 2 ^ 33 < 2 ^ 128 → n ≤ 2 ^ 33 → done + n < 2 ^ 128
+fits_behind done n room short = omega arith
+
+pub short_behind : (P : ℕ → Type 0) (r : Result ℕ WriteFault) (done k : ℕ) → k ≤ 2 ^ 33 → IfOk r (λ n. (n ≡ done + k) × P n) → IfOk r (λ n. n ≤ done + 2 ^ 33)
+short_behind P (Ok n) done k short ok = omega (arith, ok.0)
+short_behind P (Err fault) done k short ok = tt

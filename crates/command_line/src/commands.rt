@@ -70,9 +70,7 @@ pub const ARCHIVE: Argument = Argument {
 
 pub const IN: Argument = Argument {
     name: "IN",
-    help: "The archive to read",
-    count: Count::Once,
-    role: Role::Reads,
+    ..ARCHIVE
 };
 
 pub const OUT: Argument = Argument {
@@ -83,10 +81,8 @@ pub const OUT: Argument = Argument {
 };
 
 pub const SUMMARY_OUT: Argument = Argument {
-    name: "OUT",
     help: "The summary to write, which is replaced if it is there",
-    count: Count::Once,
-    role: Role::Writes,
+    ..OUT
 };
 
 pub const IMAGES: Argument = Argument {
@@ -97,38 +93,32 @@ pub const IMAGES: Argument = Argument {
 };
 
 pub const ARCHIVES: Argument = Argument {
-    name: "FILE",
     help: "The archives to join to it",
-    count: Count::Several,
-    role: Role::Reads,
+    ..IMAGES
 };
 
 pub const OPS: Argument = Argument {
     name: "OPS",
     help: "The operations file to take",
-    count: Count::Once,
-    role: Role::Reads,
+    ..ARCHIVE
 };
 
 pub const SUMMARY: Argument = Argument {
     name: "SUMMARY",
     help: "The summary to compare with",
-    count: Count::Once,
-    role: Role::Reads,
+    ..ARCHIVE
 };
 
 pub const SCRIPT: Argument = Argument {
     name: "SCRIPT",
     help: "The script of the events",
-    count: Count::Once,
-    role: Role::Reads,
+    ..ARCHIVE
 };
 
 pub const FRAMES: Argument = Argument {
     name: "FRAMES",
     help: "The file of the frames, with a line UUID ARCH LOAD ADDRESS for each",
-    count: Count::Once,
-    role: Role::Reads,
+    ..ARCHIVE
 };
 
 pub const SLICE_UUID: Argument = Argument {
@@ -139,17 +129,13 @@ pub const SLICE_UUID: Argument = Argument {
 };
 
 pub const SOUGHT_UUID: Argument = Argument {
-    name: "UUID",
     help: "The UUID to look for",
-    count: Count::Once,
-    role: Role::Says(Form::Uuid),
+    ..SLICE_UUID
 };
 
 pub const IMAGE_UUID: Argument = Argument {
-    name: "UUID",
     help: "The UUID of the image",
-    count: Count::Once,
-    role: Role::Says(Form::Uuid),
+    ..SLICE_UUID
 };
 
 pub const ARCH: Argument = Argument {

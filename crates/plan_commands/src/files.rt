@@ -34,7 +34,7 @@ fn begin<F: Files>(files: &mut SystemFiles<'_, F>, plan: &Plan) -> Result<(), No
     let Some(path) = plan.out() else {
         return Ok(());
     };
-    let inputs = plan.inputs(files.disk.alloc)?;
+    let inputs = plan.inputs(files.disk.alloc())?;
     let replaces = match plan {
         Plan::New { .. } => Replaces::NoRecords,
         _ => Replaces::OwnFiles,
@@ -88,7 +88,7 @@ pub fn execute<'f, F: Files, P: Sink>(
         let told = writer P.held P.failures report.old report.new in
         IsUnbegun calls (plan_view plan.now) told result ⊎ IsCarriedOut calls (plan_view plan.now) told result }
 {
-    let alloc = files.disk.alloc;
+    let alloc = files.disk.alloc();
     let heap = Heap::new(alloc)?;
     begin(files, plan)?;
     let mut inputs = Vec::new(alloc);

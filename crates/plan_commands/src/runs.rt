@@ -58,7 +58,7 @@ pub fn run<'f, F: Files, P: Sink, E: Sink>(
 {
     match words {
         Ok(words) => run_words(&words, files, report, errors),
-        Err(error) => refuse_words(files.disk.alloc, &error, report, errors),
+        Err(error) => refuse_words(files.disk.alloc(), &error, report, errors),
     }
 }
 
@@ -82,7 +82,7 @@ fn run_words<'f, F: Files, P: Sink, E: Sink>(
         EndsWords calls (map string_bytes words.now) (writer P.held P.failures report.old report.new)
         (writer E.held E.failures errors.old errors.new) result }
 {
-    let alloc = files.disk.alloc;
+    let alloc = files.disk.alloc();
     match plan(alloc, words) {
         Ok(plan) => {
             let mut seen = Seen::NOTHING;

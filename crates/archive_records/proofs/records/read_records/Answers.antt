@@ -1,8 +1,8 @@
-use Rattle.std.proofs.Common.{inr, refl, sym, ◌∙◌}
+use Rattle.std.proofs.Common.{inr, sym, ◌∙◌}
 use Rattle.std.proofs.lemmas.Bool.{false≢true}
 use Rattle.byte_device.proofs.Known.{Consumes-none}
 use Rattle.archive_records.proofs.Blamed.{blames_behind, failed}
-use Rattle.archive_records.proofs.Gathered.{closed_end, gathered, open_at_end}
+use Rattle.archive_records.proofs.Gathered.{closed_end, gathered}
 use Rattle.archive_records.proofs.records.read_records.Goals as goal
 
 pub returns-in_err-taker-clause-read : goal.returns-in_err-taker-clause-read
@@ -21,11 +21,6 @@ pub returns-then-is_open-clause-read : goal.returns-then-is_open-clause-read
 returns-then-is_open-clause-read g c =
     let all = c.in_ok-taker.ensures.read in
     gathered g.T.FromRecords.file (g.T.FromRecords.makes c.args.taker) (g.R.Source.left c.args.r.now) (g.R.Source.left c.read_text.new.r) (g.R.Source.left c.read_text.new.r) c.in_ok-taker.taker c.in_ok-taker.reader all.0 all.1 all.2 (Consumes-none (g.R.Source.left c.read_text.new.r))
-
-pub returns-then-is_open-clause-at_end : goal.returns-then-is_open-clause-at_end
-returns-then-is_open-clause-at_end g c =
-    let all = c.in_ok-taker.ensures.read in
-    open_at_end all.0 (g.R.Source.left c.read_text.new.r) (all.1 ∙ sym c.kind.ensures ∙ c.if-is_open.ensures.0 refl) all.2.read.ended
 
 pub returns-then-is_open-clause-reader : goal.returns-then-is_open-clause-reader
 returns-then-is_open-clause-reader g c = c.in_ok-taker.ensures.reader

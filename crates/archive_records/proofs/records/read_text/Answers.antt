@@ -1,7 +1,7 @@
-use Rattle.std.proofs.Common.{[], inl, inr, refl, arith, ◌∙◌}
+use Rattle.std.proofs.Common.{[], inl, inr, refl, arith}
 use Rattle.std.proofs.lemmas.Result.{err_from_is_err_and}
 use Rattle.byte_device.proofs.Known.{Consumes-none}
-use Rattle.archive_records.proofs.Blamed.{blames_behind, failed}
+use Rattle.archive_records.proofs.Blamed.{failed}
 use Rattle.archive_records.proofs.FaultKinds.{memory_blames}
 use Rattle.archive_records.proofs.Formats.{begun_no_trailing}
 use Rattle.archive_records.proofs.records.read_text.Goals as goal
@@ -28,20 +28,3 @@ returns-in_err-reader-clause-stopped g c =
 
 pub returns-in_err-reader-clause-reader : goal.returns-in_err-reader-clause-reader
 returns-in_err-reader-clause-reader g c = rw (failed c.from_residual.result c.in_err-reader.field-0.0 c.from_residual.ensures.1) c.in_err-reader.ensures.reader
-
-pub returns-in_err-take_records-clause-read : goal.returns-in_err-take_records-clause-read
-returns-in_err-take_records-clause-read g c = rw (failed c.from_residual-in_err-take_records.result c.in_err-take_records.field-0.0 c.from_residual-in_err-take_records.ensures.1) tt
-
-pub returns-in_err-take_records-clause-stopped : goal.returns-in_err-take_records-clause-stopped
-returns-in_err-take_records-clause-stopped g c = rw (failed c.from_residual-in_err-take_records.result c.in_err-take_records.field-0.0 c.from_residual-in_err-take_records.ensures.1) (c.in_err-take_records.ensures.stopped (g.R.Source.left c.args.r.now) c.in_ok-reader.ensures.read)
-
-pub returns-in_err-take_records-clause-reader : goal.returns-in_err-take_records-clause-reader
-returns-in_err-take_records-clause-reader g c =
-    rw (failed c.from_residual-in_err-take_records.result c.in_err-take_records.field-0.0 c.from_residual-in_err-take_records.ensures.1)
-    (blames_behind g.R.Source.left g.R.Source.failures c.args.r.now c.begin.new.r c.take_records.new.r c.in_ok-reader.ensures.reader _ c.in_err-take_records.ensures.reader)
-
-pub returns-clause-read : goal.returns-clause-read
-returns-clause-read g c = (c.in_ok-reader.reader.file, c.in_ok-reader.ensures.kind ∙ c.kind.ensures, c.in_ok-take_records.ensures.all (g.R.Source.left c.args.r.now) c.in_ok-reader.ensures.read)
-
-pub returns-clause-reader : goal.returns-clause-reader
-returns-clause-reader g c = c.in_ok-take_records.ensures.reader ∙ c.in_ok-reader.ensures.reader

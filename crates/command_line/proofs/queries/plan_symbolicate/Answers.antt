@@ -8,3 +8,13 @@ pub returns-in_err-spelled_values-clause-told : goal.returns-in_err-spelled_valu
 returns-in_err-spelled_values-clause-told c =
     handed_on (IsToldAmong symbolicate_command.signature.arguments) _ _
     c.from_residual-in_err-spelled_values.ensures.1 (inr (inr (inr (inr (inl c.in_err-spelled_values.ensures.told)))))
+
+pub returns-in_err-spelled_value-2-clause-told : goal.returns-in_err-spelled_value-2-clause-told
+returns-in_err-spelled_value-2-clause-told c =
+    handed_on (IsToldAmong symbolicate_command.signature.arguments) _ _
+    c.from_residual-in_err-spelled_value-2.ensures.1 (inr (inr (inl c.in_err-spelled_value-2.ensures.told)))
+
+pub returns-in_err-optional_value-clause-told : goal.returns-in_err-optional_value-clause-told
+returns-in_err-optional_value-clause-told c =
+    handed_on (IsToldAmong symbolicate_command.signature.arguments) _ _
+    c.from_residual-in_err-optional_value.ensures.1 (inr (inr (inr (inl c.in_err-optional_value.ensures.told))))

@@ -8,3 +8,8 @@ pub returns-in_err-spelled_value-3-clause-told : goal.returns-in_err-spelled_val
 returns-in_err-spelled_value-3-clause-told c =
     handed_on (IsToldAmong retire_command.signature.arguments) _ _
     c.from_residual-in_err-spelled_value-3.ensures.1 (inr (inr (inr (inr (inl c.in_err-spelled_value-3.ensures.told)))))
+
+pub returns-in_err-spelled_value-2-clause-told : goal.returns-in_err-spelled_value-2-clause-told
+returns-in_err-spelled_value-2-clause-told c =
+    handed_on (IsToldAmong retire_command.signature.arguments) _ _
+    c.from_residual-in_err-spelled_value-2.ensures.1 (inr (inr (inr (inl c.in_err-spelled_value-2.ensures.told))))
