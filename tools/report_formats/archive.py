@@ -20,7 +20,7 @@ NO_SYMBOL, NOT_THERE = b"-", b"0x%016x ?\n"
 NONE, MANY = -1, -2
 # The lines of so many questions are given to the program at once.
 MOST_LINES = 10_000
-# The program begins each line on standard error so; more of them is not read.
+# The program begins its first line on standard error so; more than this of all is not read.
 OWN_WORDS = b"symarch: "
 MOST_SAID = 100_000
 # What a program begins with that runs by itself. A script might begin a build.

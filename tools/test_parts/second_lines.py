@@ -1,0 +1,38 @@
+"""The line behind a fault, for people, by docs/COMMANDS.md: which input it is of, or OUT, its path, and what is known
+of it: what the system said, or what is there."""
+import os
+import re
+
+OF_AN_INPUT = ", the file of an input"
+MACHO = ", a Mach-O file, which `admit` takes"
+IN_A_BUNDLE = "; of a dSYM, name the file in its folder Contents/Resources/DWARF"
+# What is at OUT that a command does not replace.
+NO_OTHER = dict.fromkeys(
+    ("admit", "retire", "merge", "migrate", "apply", "summary", "delta"),
+    ", there, and neither empty nor one of symarch's files",
+)
+NO_OTHER["new"] = ", there, and neither empty nor an archive without records"
+# Which word an input is that is not the first one, and OUT that is not the second one. FILEs begin behind OUT.
+PLACES = {"frames": {"archive": 2}, "delta": {"summary": 2}, "apply": {"ops": 3}}
+OUT_PLACES = {"new": 1, "delta": 3}
+
+
+def said_by(number):
+    """What the system says, by the number of its error."""
+    return f": {os.strerror(number)} (os error {number})"
+
+
+def path_in(words, line):
+    """The word of the file that a fault is of."""
+    place, number = re.match(r"([a-z]+)(?: ([0-9]+))?: ", line).groups()
+    if place == "output":
+        return words[OUT_PLACES.get(words[0], 2)]
+    if place == "file" or (place == "archive" and int(number) > 0):
+        return words[3 + int(number) - (place == "archive")]
+    return words[PLACES.get(words[0], {}).get(place, 1)]
+
+
+def second_line(words, line, out, hint):
+    """The line behind the fault of a line, where OUT is this path."""
+    path = path_in(words, line)
+    return f"  {line.partition(': ')[0]} is {out if path == 'OUT' else path}{hint}\n"
