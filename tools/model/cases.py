@@ -2,6 +2,7 @@
 begin with two spaces."""
 import re
 import formats as F
+from hints import second_line
 from formats import (Content, Fault, MergeFault, Refused, Reader, Source, addr, admission, answering, answer_lines,
                      arch_word, address_word, covering, digest_word, find_lines, find_rows, key_of, key_text,
                      merge_streams, name_lines, parts_of_file, read_archive, read_frames, read_ops, read_script,
@@ -891,11 +892,14 @@ def run_program(folder, words, most):
     left = run_plan(p, open_source, limits)
     fault = out_fault(folder, p) if left.out else None
     if fault:
-        return ["  symarch: output: " + fault, "  status 2"]
+        return ["  symarch: output: " + fault] + second_line(p, "output: " + fault, folder) + ["  status 2"]
     if not left.is_draft:
         folder.put(p["out"][1:], left.out)
     # OUT is a file of the system: its length and digest are not told
-    return left_lines(Left(left.end, b"", left.report))
+    lines = left_lines(Left(left.end, b"", left.report))
+    if left.end[0] == "refused":
+        lines[-1:-1] = second_line(p, left.end[1], folder)
+    return lines
 
 
 # ---------------------------------------------------------------- a text of cases
