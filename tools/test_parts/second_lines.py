@@ -5,7 +5,6 @@ import re
 
 OF_AN_INPUT = ", the file of an input"
 MACHO = ", a Mach-O file, which `admit` takes"
-IN_A_BUNDLE = "; of a dSYM, name the file in its folder Contents/Resources/DWARF"
 # What is at OUT that a command does not replace.
 NO_OTHER = dict.fromkeys(
     ("admit", "retire", "merge", "migrate", "apply", "summary", "delta"),

@@ -87,7 +87,8 @@ pub fn create_draft<F: Files>(
             Err(error) => return Err(OutFault::NotCreated(Some(error))),
         }
     }
-    Err(OutFault::NotCreated(Some(ErrorKind::AlreadyExists.into())))
+    let taken = io::Error::new(ErrorKind::AlreadyExists, "no name is free for its draft");
+    Err(OutFault::NotCreated(Some(taken)))
 }
 
 /// The folder that a path stands in.

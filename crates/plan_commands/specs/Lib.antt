@@ -3,3 +3,4 @@ pub mod Disks
 pub mod Files
 pub mod Said
 pub mod Ends
+pub mod Hints

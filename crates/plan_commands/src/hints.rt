@@ -1,5 +1,9 @@
 //! What helps a person with a failure: which file it was, what the system said, and what a refused file looks like. It
-//! stands in a line of its own behind that of the failure, which programs read. No contract speaks of it.
+//! stands in a line of its own behind that of the failure, which programs read. Of it contracts say the path alone.
+
+ghost use Rattle.std.specs.Prelude.{◌≡◌, IfSome, Some, map, option_map, slice_get, string_bytes};
+ghost use Rattle.command_line.specs.Lines.{out_of, plan_view};
+ghost use Rattle.plan_commands.specs.Hints.{archive_at, file_of, path_at};
 
 use crate::looks::Look;
 use archive_files::{OpenedFile, OutFile};
@@ -74,37 +78,53 @@ fn index_of(plan: &Plan, place: Place) -> usize {
     }
 }
 
-/// The path of the input of this number, in the order of the words.
-fn path_at(plan: &Plan, index: usize) -> Option<&str> {
-    match plan {
-        Plan::New { .. } => None,
-        Plan::Admit { input, files, .. } | Plan::Merge { input, files, .. } =>
-            match index.checked_sub(1) {
-                Some(behind) => files.get(behind).map(String::as_str),
-                None => Some(input),
-            },
-        Plan::Retire { input: path, .. }
-        | Plan::Migrate { input: path, .. }
-        | Plan::Find { archive: path, .. }
-        | Plan::List { archive: path }
-        | Plan::Name { archive: path, .. }
-        | Plan::Symbolicate { archive: path, .. }
-        | Plan::Summary { archive: path, .. }
-        | Plan::Rehearse { script: path } => Some(path),
-        Plan::Apply {
-            input: first,
-            ops: second,
-            ..
-        }
-        | Plan::Frames {
-            frames: first,
-            archive: second,
-        }
-        | Plan::Delta {
-            archive: first,
-            summary: second,
-            ..
-        } => { Some(if index == 0 { first } else { second }) }
+/// The path of this number.
+fn file_at(files: &[String], number: u64) -> Option<&str>
+    ensures { option_map (λ p. p.now) result ≡ slice_get (map string_bytes files.now) number }
+{
+    match files.get(number as usize) {
+        Some(file) => Some(file.as_str()),
+        None => None,
+    }
+}
+
+/// The path of the archive of this number among those of the words.
+fn archive_at(plan: &Plan, number: u64) -> Option<&str>
+    ensures { option_map (λ p. p.now) result ≡ archive_at (plan_view plan.now) number }
+{
+    match (plan, number.checked_sub(1)) {
+        (Plan::Merge { files, .. }, Some(behind)) => file_at(files, behind),
+        (
+            Plan::Admit { input: path, .. }
+            | Plan::Retire { input: path, .. }
+            | Plan::Merge { input: path, .. }
+            | Plan::Migrate { input: path, .. }
+            | Plan::Apply { input: path, .. }
+            | Plan::Find { archive: path, .. }
+            | Plan::List { archive: path }
+            | Plan::Name { archive: path, .. }
+            | Plan::Symbolicate { archive: path, .. }
+            | Plan::Frames { archive: path, .. }
+            | Plan::Summary { archive: path, .. }
+            | Plan::Delta { archive: path, .. },
+            None,
+        ) => Some(path),
+        _ => None,
+    }
+}
+
+/// The path of the input that is reported by this place.
+fn path_at(plan: &Plan, place: Place) -> Option<&str>
+    ensures { option_map (λ p. p.now) result ≡ path_at (plan_view plan.now) place }
+{
+    match (place, plan) {
+        (Place::Archive(number), _) => archive_at(plan, number),
+        (Place::File(number), Plan::Admit { files, .. }) => file_at(files, number),
+        (Place::Ops, Plan::Apply { ops: path, .. })
+        | (Place::Summary, Plan::Delta { summary: path, .. })
+        | (Place::Script, Plan::Rehearse { script: path })
+        | (Place::Frames, Plan::Frames { frames: path, .. }) => Some(path),
+        _ => None,
     }
 }
 
@@ -136,20 +156,23 @@ pub struct Hint<'p> {
 /// What a refused file looks like, where that says why it is refused.
 fn look_of(why: Why, look: Option<Look>) -> Option<Look> {
     match (why, look) {
+        (Why::BadFrame { line: 1 } | Why::Script { line: 1, .. }, Some(Look::Marked)) => look,
         (Why::Record(fault), _) if fault.offset == 0 => look,
-        (Why::Take(_), Some(Look::MachO | Look::Universal)) => None,
+        (Why::Take(_), Some(Look::MachO | Look::Universal | Look::Marked)) => None,
         (Why::Take(_), _) => look,
         _ => None,
     }
 }
 
 /// The line that helps with this failure of a plan, if there is one.
-pub fn help_with<'p>(plan: &'p Plan, failure: &Failure, seen: Seen) -> Option<Hint<'p>> {
+pub fn help_with<'p>(plan: &'p Plan, failure: &Failure, seen: Seen) -> Option<Hint<'p>>
+    ensures { IfSome result (λ hint. Some hint.path.now ≡ file_of (plan_view plan.now) failure.now) }
+{
     match failure {
         Failure::Command(CommandFault::Input(place, why)) => {
             Some(Hint {
                 subject: Subject::Input(*place),
-                path: path_at(plan, index_of(plan, *place))?,
+                path: path_at(plan, *place)?,
                 note: None,
                 seen: Seen {
                     reason: seen.reason,
@@ -177,7 +200,9 @@ fn not_replaced(plan: &Plan) -> &'static str {
 }
 
 /// A line of OUT. What is noted of it is said where the system said nothing.
-fn out_hint<'p>(plan: &'p Plan, note: Option<&'static str>, seen: Seen) -> Option<Hint<'p>> {
+fn out_hint<'p>(plan: &'p Plan, note: Option<&'static str>, seen: Seen) -> Option<Hint<'p>>
+    ensures { IfSome result (λ hint. Some hint.path.now ≡ out_of (plan_view plan.now)) }
+{
     Some(Hint {
         subject: Subject::Output,
         path: plan.out()?,
@@ -209,9 +234,11 @@ impl Display for Hint<'_> {
             return Ok(());
         };
         write!(f, ": {reason}")?;
-        if reason.kind() == ErrorKind::IsADirectory {
-            f.write_str("; of a dSYM, name the file in its folder Contents/Resources/DWARF")?;
+        match self.subject {
+            Subject::Input(Place::File(_)) if reason.kind() == ErrorKind::IsADirectory => {
+                f.write_str("; of a dSYM, name the file in its folder Contents/Resources/DWARF")
+            }
+            _ => Ok(()),
         }
-        Ok(())
     }
 }

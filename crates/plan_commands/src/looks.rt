@@ -15,10 +15,12 @@ pub enum Look {
     Elf,
     Zip,
     Gzip,
+    /// It is a text with a byte-order mark.
+    Marked,
 }
 
 /// What files of others begin with: mach-o/loader.h and mach-o/fat.h, in either byte order, and common formats.
-const BEGINNINGS: [(&[u8], Look); 9] = [
+const BEGINNINGS: [(&[u8], Look); 10] = [
     (b"\xcf\xfa\xed\xfe", Look::MachO),
     (b"\xce\xfa\xed\xfe", Look::MachO),
     (b"\xfe\xed\xfa\xcf", Look::MachO),
@@ -28,6 +30,7 @@ const BEGINNINGS: [(&[u8], Look); 9] = [
     (b"\x7fELF", Look::Elf),
     (b"PK\x03\x04", Look::Zip),
     (b"\x1f\x8b", Look::Gzip),
+    (b"\xef\xbb\xbf", Look::Marked),
 ];
 
 /// symarch's own files.
@@ -63,6 +66,7 @@ impl fmt::Display for Look {
             Look::Elf => "an ELF file, which no command takes",
             Look::Zip => "a zip file, which has to be unpacked first",
             Look::Gzip => "a gzip file, which has to be unpacked first",
+            Look::Marked => "which begins with a byte-order mark",
         })
     }
 }
