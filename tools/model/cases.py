@@ -970,6 +970,9 @@ class Bench:
             if verb not in ("plan", "room", "room-of-bytes"):
                 self.reset()
             raise Copy
+        if verb == "unread":
+            said = {"text": ("invalid word: expected UTF-8 text", 3), "memory": ("out of memory", 4)}[words]
+            return ["  symarch: " + said[0], "  status %d" % said[1]]
         if verb == "program":
             most = self.limits.report
             self.limits = Limits()

@@ -35,8 +35,10 @@
 //! - `lay NAME..` writes files in memory to the folder; `fetch NAME` reads one of the folder into memory, and prints
 //!   the number of its bytes, or that it is not there;
 //! - `link hard NEW OLD` and `link soft NEW OLD` make a link to a file of the folder;
-//! - `program WORD..` carries a command line out over files of the system, and prints the report, the fault and the
-//!   status. A word that begins with `@` names a file of the folder. Of `hold` it heeds `report` alone.
+//! - `program WORD..` carries a command line out over files of the system, and prints the report, what was said on
+//!   standard error, where `@` stands for the folder, and the status. A word that begins with `@` names a file of the
+//!   folder. Of `hold` it heeds `report` alone; `unread text` and `unread memory` do the same of words that could not
+//!   be read, since one is no text, or for want of memory.
 //!
 //! The program over files in memory, whose report stands after `|`:
 //!
@@ -234,6 +236,7 @@ impl<'t> Bench<'t> {
             "fetch" => folder.fetch(&mut self.store, words, told),
             "link" => folder.link(words),
             "program" => self.run_over_files(words, folder, told),
+            "unread" => folder.run_unread(words, told),
             "room-of-bytes" => Ok(tell_room_of_bytes(self.alloc, number(words)?, told)?),
             "room" => Ok(tell_room(self.alloc, number(words)?, told)?),
             "plan" => self.plan(words, told),

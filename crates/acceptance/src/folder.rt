@@ -4,9 +4,10 @@ use archive_files::SystemFiles;
 use case_parts::{CaseFault, Store, StrictSink, first_word, tell_report, words_of};
 use memory::{Heap, NoMemory};
 use plan_commands::run;
+use std::io::{self, ErrorKind};
 use std::os::unix::fs::symlink;
 use std::rt::Files;
-use std::{fs, io, process};
+use std::{fs, process};
 
 /// A folder, whose files a command line names by words that begin with `@`.
 #[derive(Drop)]
@@ -77,11 +78,29 @@ impl<'a, R: Files + AllocGlobal> Folder<'a, R> {
     /// Carries out the words of a command line over files of the folder, with a report that takes so many bytes, and tells
     /// the report, what was said on standard error, and the status.
     pub fn run(&self, words: &str, most: usize, told: &mut String) -> Result<(), CaseFault> {
+        self.tell_run(Ok(self.line_of(words)?), most, told)
+    }
+
+    /// The same of words that could not be read: one is no text, or there was no memory for them.
+    pub fn run_unread(&self, why: &str, told: &mut String) -> Result<(), CaseFault> {
+        let error = match why {
+            "text" => ErrorKind::InvalidData,
+            "memory" => ErrorKind::OutOfMemory,
+            _ => return Err(CaseFault::BadLine),
+        };
+        self.tell_run(Err(error.into()), usize::MAX, told)
+    }
+
+    fn tell_run(
+        &self,
+        words: io::Result<Vec<String>>,
+        most: usize,
+        told: &mut String,
+    ) -> Result<(), CaseFault> {
         let mut report = StrictSink::new(Heap::new(self.rt.alloc())?, most);
         let mut errors = StrictSink::new(Heap::new(self.rt.alloc())?, usize::MAX);
         let mut files = SystemFiles::new(self.rt.alloc(), self.rt, self.process);
-        let line = self.line_of(words)?;
-        let status = run(Ok(line), &mut files, &mut report, &mut errors);
+        let status = run(words, &mut files, &mut report, &mut errors);
         tell_report(report.as_slice(), told)?;
         self.tell_said(errors.as_slice(), told)?;
         Ok(writeln!(told, "  status {status}")?)
