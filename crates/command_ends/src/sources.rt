@@ -23,10 +23,11 @@ use archive_reading::{
     Questions, Selects, answer_by_key, list_rows, read_archive, read_ops, read_part, summarize,
 };
 use archive_records::{RecordFault, RecordFaultKind, Summary, read_summary};
+use archive_words::line_at;
 use byte_device::{CannotOpen, ReadFault, Source, read_to_end};
-use crash_frames::{Frame, FramesError, read_frames};
+use crash_frames::{Frame, FramesError, frame_flaw, read_frames};
 use memory::Heap;
-use rehearsal::{Script, ScriptError, read_script};
+use rehearsal::{Script, ScriptError, read_script, script_flaw};
 
 /// The source of an input, or its refusal where it could not be opened.
 pub fn opened<S>(input: &mut Result<S, CannotOpen>, at: Place) -> Result<&mut S, CommandFault>
@@ -251,7 +252,8 @@ pub fn read_events<S: Source>(
     match read_script(heap, &bytes) {
         Ok(said) => Ok(said),
         Err(ScriptError::Faulty { fault, line }) => {
-            Err(CommandFault::Input(Place::Script, Why::Script { fault, line }))
+            let flaw = script_flaw(fault, line_at(&bytes, line));
+            Err(CommandFault::Input(Place::Script, Why::Script { fault, line, flaw }))
         }
         Err(ScriptError::OutOfMemory) => Err(CommandFault::OutOfMemory),
     }
@@ -273,7 +275,8 @@ pub fn read_crash<S: Source>(
     match read_frames(heap, &bytes) {
         Ok(said) => Ok(said),
         Err(FramesError::BadFrame { line }) => {
-            Err(CommandFault::Input(Place::Frames, Why::BadFrame { line }))
+            let flaw = frame_flaw(line_at(&bytes, line));
+            Err(CommandFault::Input(Place::Frames, Why::BadFrame { line, flaw }))
         }
         Err(FramesError::OutOfMemory) => Err(CommandFault::OutOfMemory),
     }
