@@ -7,7 +7,7 @@ ghost use Rattle.archive_files.specs.OutFiles.{AreFresh, fault_of, placing_calls
 ghost use Rattle.plan_commands.specs.Files.{calls_of};
 ghost use Rattle.command_ends.specs.Statuses.{status_of};
 ghost use Rattle.plan_commands.specs.Ends.{EndsLine, EndsWords, IsIdle, IsUnreadable, WantsMemory};
-ghost use Rattle.plan_commands.specs.Said.{SaysEnd, SaysFailure};
+ghost use Rattle.plan_commands.specs.Said.{SaysEnd, SaysFailure, behind_error, reason_in};
 
 use crate::files::execute;
 use crate::hints::{Seen, help_with};
@@ -149,9 +149,17 @@ fn end_without_plan<P: Sink, E: Sink>(
 }
 
 /// The reason in the text of a refused line, which begins with `error: ` and ends with a line feed.
-fn reason_in(text: &str) -> &str {
-    let line = text.strip_suffix("\n").unwrap_or(text);
-    line.strip_prefix("error: ").unwrap_or(line)
+fn reason_in(text: &str) -> &str
+    ensures { result.now ≡ reason_in text.now }
+{
+    behind_error(text.strip_suffix('\n').unwrap_or(text))
+}
+
+/// A text without the word before its reason.
+fn behind_error(text: &str) -> &str
+    ensures { result.now ≡ behind_error text.now }
+{
+    text.strip_prefix("error: ").unwrap_or(text)
 }
 
 /// Refuses words that could not be read: there was no memory for them, or one is no text.

@@ -38,7 +38,7 @@ key_flaw (Some _) (Some _) = flaw.Digest
 
 -- what is wrong with the one field behind a word and a site
 abbrev pub one_flaw : Field → ScriptFlaw
-one_flaw word = if bytes_eq word (codes "take") then flaw.File else flaw.Message
+one_flaw word = if bytes_eq word (codes "take") then flaw.Bytes else flaw.Message
 
 -- what is wrong with the fields behind a word and a site, of which there is one, or there are those of a slice
 abbrev pub flaw_behind_site : Field → List Field → ScriptFlaw

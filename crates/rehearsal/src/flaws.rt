@@ -27,7 +27,7 @@ pub enum ScriptFlaw {
     FieldCount,
     /// The field of this name has not its form. Those before it have theirs.
     Site,
-    File,
+    Bytes,
     Message,
     Uuid,
     Arch,
@@ -128,7 +128,7 @@ fn one_flaw(word: &str) -> ScriptFlaw
     ensures { result ≡ one_flaw word.now }
 {
     if word == "take" {
-        ScriptFlaw::File
+        ScriptFlaw::Bytes
     } else {
         ScriptFlaw::Message
     }
