@@ -1,11 +1,13 @@
 -- Which file a failure is of, and which of its lines.
-use Rattle.std.specs.Prelude.{ℕ, zero, suc, Option, Some, None, option_map, slice_get}
+use Rattle.std.specs.Prelude.{ℕ, zero, suc, Option, Some, None, option_map, slice_get, Result, Ok, Err, ⊤}
 use Rattle.clap.specs.Words.{Text}
 use Rattle.command_ends.specs.declared.failures.Failure.{Failure}
 use Rattle.command_ends.specs.declared.failures.Failure.TheVariants.{Command, CannotCreate, CannotReplace}
 use Rattle.command_ends.specs.declared.faults.CommandFault.TheVariants.{Input, Output, Report, OutOfMemory}
+use Rattle.command_ends.specs.declared.faults.CommandFault.{CommandFault}
 use Rattle.command_ends.specs.declared.faults.Place.{Place}
 use Rattle.command_ends.specs.declared.faults.Place.TheVariants.{Archive, File, Ops, Summary, Script, Frames}
+use Rattle.command_ends.specs.declared.faults.Status.{Status}
 use Rattle.command_ends.specs.declared.faults.Why.{Why}
 use Rattle.command_ends.specs.declared.faults.Why.TheVariants.{CannotOpen, Device, Record, Take}
 use Rattle.command_ends.specs.declared.faults.Why.TheVariants.{Script as ScriptFaulty, BadFrame}
@@ -68,3 +70,19 @@ faulty_line_of (Command (Report n)) = None
 faulty_line_of (Command OutOfMemory) = None
 faulty_line_of (CannotCreate _) = None
 faulty_line_of CannotReplace = None
+
+-- It ended without a fault of an input or of OUT.
+abbrev pub IsOfNoFile : Result Status CommandFault → Type 0
+IsOfNoFile (Ok _) = ⊤
+IsOfNoFile (Err (Input place why)) = ⊥
+IsOfNoFile (Err (Output n)) = ⊥
+IsOfNoFile (Err (Report n)) = ⊤
+IsOfNoFile (Err OutOfMemory) = ⊤
+
+-- It ended with a fault of OUT.
+abbrev pub IsOfOut : Result Status CommandFault → Type 0
+IsOfOut (Ok _) = ⊥
+IsOfOut (Err (Input place why)) = ⊥
+IsOfOut (Err (Output n)) = ⊤
+IsOfOut (Err (Report n)) = ⊥
+IsOfOut (Err OutOfMemory) = ⊥

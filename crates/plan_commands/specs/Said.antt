@@ -1,8 +1,7 @@
 -- What is said on standard error.
-use Rattle.std.specs.Prelude.{◌⊎◌, ℕ, Bool, true, false, List, [], ◌++◌, codes, drop, if◌then◌else◌, nat_eq, Result, Ok, Err}
-use Rattle.std.specs.Io.BufRead.{strip_last}
+use Rattle.std.specs.Prelude.{◌⊎◌, ℕ, Bool, true, false, List, [], ◌∷◌, ◌++◌, ◌-◌, codes, drop, length, take, if◌then◌else◌, nat_eq, Result, Ok, Err}
 use Rattle.std.specs.Io.KnownBytes.{Appends}
-use Rattle.std.specs.List.{starts_with}
+use Rattle.std.specs.List.{ends_with, starts_with}
 use Rattle.clap.specs.Words.{Text}
 use Rattle.byte_device.specs.Disks.{cannot_create_text}
 use Rattle.report_text.specs.Report.{line}
@@ -49,13 +48,16 @@ abbrev pub SaysEnd : Writer → Result Status Failure → Type 0
 SaysEnd said (Ok _) = Takes said []
 SaysEnd said (Err failure) = SaysFailure said failure
 
--- a text without the word before its reason
+-- a text without the line feed at its end, and without the word at its front
+abbrev pub without_line_feed : Text → Text
+without_line_feed text = if ends_with nat_eq text (10 ∷ []) then take (length text - 1) text else text
+
 abbrev pub behind_error : Text → Text
 behind_error text = if starts_with nat_eq text (codes "error: ") then drop 7 text else text
 
 -- the reason in the text of a refused line, which begins with `error: ` and ends with a line feed
 abbrev pub reason_in : Text → Text
-reason_in text = behind_error (strip_last 10 text)
+reason_in text = behind_error (without_line_feed text)
 
 -- This reason is said for which words are refused.
 abbrev pub SaysRefused : Writer → Text → Type 0

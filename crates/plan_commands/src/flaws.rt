@@ -86,11 +86,7 @@ fn write_script_flaw<W: fmt::Write>(flaw: ScriptFlaw, f: &mut fmt::Formatter<W>)
 const DECIMAL: &str = "a decimal number without leading zeros";
 
 /// A field that has not this form.
-fn write_invalid<W: fmt::Write>(
-    field: &str,
-    form: &str,
-    f: &mut fmt::Formatter<W>,
-) -> fmt::Result {
+fn write_invalid<W: fmt::Write>(field: &str, form: &str, f: &mut fmt::Formatter<W>) -> fmt::Result {
     write!(f, "has an invalid {field}: expected {form}")
 }
 

@@ -4,7 +4,8 @@
 
 ghost use Rattle.std.specs.Prelude.{◌≡◌, IfSome, None, Some, map, option_map, slice_get, string_bytes};
 ghost use Rattle.command_line.specs.Lines.{out_of, plan_view};
-ghost use Rattle.plan_commands.specs.Hints.{archive_at, faulty_line_of, file_of, path_at};
+ghost use Rattle.plan_commands.specs.Hints.{IsOfNoFile, IsOfOut, archive_at, faulty_line_of, file_of};
+ghost use Rattle.plan_commands.specs.Hints.{path_at};
 
 use crate::flaws::FaultyLine;
 use crate::looks::Look;
@@ -52,7 +53,10 @@ impl Seen {
         plan: &Plan,
         inputs: &[Result<OpenedFile<R>, CannotOpen>],
         out: &OutFile<'_, F>,
-    ) -> Seen {
+    ) -> Seen
+        ensures nothing { IsOfNoFile ended.now → (result.reason ≡ None) × (result.look ≡ None) }
+        ensures out { IsOfOut ended.now → result.look ≡ None }
+    {
         match ended {
             Err(CommandFault::Input(place, _)) => match inputs.get(index_of(plan, *place)) {
                 Some(input) => Seen::of_input(input),

@@ -88,7 +88,7 @@ pub fn say<E: Sink, T: Display>(alloc: Global, told: &T, errors: &mut E) -> bool
     }
 }
 
-/// Says a line behind another, where there is memory for it.
+/// Says a line after another, where there is memory for it.
 pub fn say_more<E: Sink, T: Display>(alloc: Global, told: &T, errors: &mut E)
     ensures { (more : List ℕ) × Appends (E.held errors.old) (E.held errors.new) more }
 {
