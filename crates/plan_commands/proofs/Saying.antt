@@ -7,15 +7,15 @@ use Rattle.clap.specs.declared.error.kind.ErrorKind.TheVariants.{DisplayHelp, Di
 use Rattle.archive_files.specs.FileCalls.{FileCall}
 use Rattle.archive_files.specs.OutFiles.{placing_calls}
 use Rattle.archive_files.specs.declared.placed.Placed.{Placed}
-use Rattle.command_line.specs.LineFaults.{IsHelpUnlessMemory, IsRefusalUnlessMemory}
-use Rattle.command_line.specs.Lines.{are_accepted, error_kinds, is_in_order}
+use Rattle.command_line.specs.LineFaults.{IsHelpUnlessMemory, IsRefusalUnlessMemory, IsToldFor}
+use Rattle.command_line.specs.Lines.{error_kinds, is_in_order, named_command}
 use Rattle.command_line.specs.declared.line_faults.LineFault.{LineFault}
 use Rattle.command_line.specs.declared.line_faults.LineFault.TheVariants.{Help, Refused, OutOfMemory}
 use Rattle.report_text.specs.Report.{line}
 use Rattle.command_ends.specs.declared.failures.Failure.{Failure}
 use Rattle.command_ends.specs.Outputs.{FailsBehind, Takes, Writer}
 use Rattle.plan_commands.specs.Ends.{EndsLine, IsHelped, IsRefused, WantsMemory}
-use Rattle.plan_commands.specs.Said.{Begins, IsPushed, IsSaid, SaysFailure, failure_text, wanting_text}
+use Rattle.plan_commands.specs.Said.{IsPushed, IsSaid, SaysFailure, failure_text, wanting_text}
 
 -- a line whose text is known was said
 pub said_of : (text : Option (List ℕ)) (w : Writer) (bytes given : List ℕ) (whole : Bool) → IfSome text (λ t. bytes ≡ line t)

@@ -1,5 +1,6 @@
 -- How the program ends.
-use Rattle.std.specs.Prelude.{◌≡◌, ◌≢◌, ◌⊎◌, ℕ, Bool, true, List, [], ◌∷◌, codes, Option, Some, Result, string_bytes}
+use Rattle.std.specs.Prelude.{◌≡◌, ◌≢◌, ◌⊎◌, ℕ, Bool, true, List, [], ◌∷◌, codes, Option, Some, Result, String, string_bytes}
+use Rattle.std.specs.declared.alloc.Global.{Global}
 use Rattle.clap.specs.Words.{IsAmong, Text}
 use Rattle.clap.specs.declared.error.kind.ErrorKind.TheVariants.{DisplayHelp, DisplayVersion}
 use Rattle.command_line.specs.LineFaults.{IsToldFor}
@@ -44,7 +45,7 @@ pub record IsRefused (words : List Text) (told said : Writer) (status : ℕ) : T
   pub no_plan : HasNoPlan words
   pub no_help : error_kinds words ≢ DisplayHelp ∷ []
   pub no_version : error_kinds words ≢ DisplayVersion ∷ []
-  pub text : String
+  pub text : String Global
   pub accepted : error_kinds words ≡ [] → IsToldFor (named_command words) (fault.Refused text)
   pub refuses : Refuses told said (reason_in (string_bytes text)) status
 
