@@ -1,6 +1,9 @@
 -- A line that is carried out over files of the system.
 use Rattle.std.specs.Prelude.{◌≡◌, ◌⊎◌, ℕ, List, [], ◌++◌, length, Option, Some, None, Result, Ok, Err}
 use Rattle.std.specs.Io.KnownBytes.{Appends}
+use Rattle.std.specs.declared.io.traits.Read.{Ghosts as Reads}
+use Rattle.std.specs.declared.io.traits.Seek.{Ghosts as Seeks}
+use Rattle.std.specs.declared.io.traits.Write.{Ghosts as Writes}
 use Rattle.clap.specs.Words.{Text}
 use Rattle.command_line.specs.Lines.{Line, inputs_of, out_of}
 use Rattle.command_ends.specs.declared.failures.Failure.{Failure}
@@ -75,8 +78,9 @@ pub record Calls (S D T : Type 0) : Type 0 where
   pub fault : Option OutFault
 
 -- the calls between these two states of the files
-abbrev pub calls_of : {F T E S D P : Type 0} → (S → Option (List ℕ)) → (S → ℕ) → (S → List Text) → (D → Option (List ℕ)) → (D → ℕ)
-    → (P → Option (List ℕ)) → (P → ℕ) → SystemFiles F T E → SystemFiles F T E → Calls S D P
+abbrev pub calls_of : {F T E S D P : Type 0} {reads : Reads T} {writes : Writes T} {seeks : Seeks T} {lists : Reads E} → (S → Option (List ℕ)) → (S → ℕ) → (S → List Text) → (D → Option (List ℕ)) → (D → ℕ)
+    → (P → Option (List ℕ)) → (P → ℕ) → SystemFiles F T E reads writes seeks lists
+    → SystemFiles F T E reads writes seeks lists → Calls S D P
 calls_of left failures path_of held draft_failures placed place_failures old new = record {
   left = left;
   failures = failures;
