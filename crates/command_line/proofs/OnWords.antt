@@ -6,13 +6,13 @@ use Rattle.uuid.proofs.OnLiterals.{uuid_on_literals}
 use Rattle.clap.specs.declared.error.kind.ErrorKind.TheVariants as kind
 use Rattle.clap.proofs.OnLiterals.{clap_on_literals}
 use Rattle.command_line.specs.Commands.{symarch_command}
-use Rattle.command_line.specs.Arguments.{archs, digests, numbers, one, perhaps, several, texts, uuids}
+use Rattle.command_line.specs.Arguments.{archs, digests, numbers, one, perhaps, several, text, texts, uuids}
 use Rattle.command_line.specs.Lines.{are_accepted, error_kinds, is_in_order, line_of, line_with, named_command}
 use Rattle.command_line.specs.Table.{admit_command, find_command, frames_command, merge_command, migrate_command}
 use Rattle.command_line.specs.Table.{new_command, retire_command, symbolicate_command}
 use Rattle.archive_words.specs.Words.{address_of, arch_key, arch_of, digest_of}
 use Rattle.command_line.specs.Samples.{Asks, EachAsks, Sample, digest_bytes}
-use Rattle.command_line.specs.Samples.{digest_text, samples, text, uuid_bytes, uuid_text}
+use Rattle.command_line.specs.Samples.{digest_text, samples, uuid_bytes, uuid_text}
 
 -- the program's name, which is the first word of each line
 abbrev symarch : List Text → List Text

@@ -67,6 +67,10 @@ pub data Values : Type 0 where
   digests : Amount Digest → Values
   numbers : Amount ℕ → Values
 
+-- one word that stands for itself
+abbrev pub text : Text → Values
+text word = texts (one word)
+
 -- as many as the argument asks for
 abbrev pub is_counted : {X : Type 0} → Count → Amount X → Bool
 is_counted Once (one x) = true

@@ -2,15 +2,11 @@
 use Rattle.std.specs.Prelude.{◌≡◌, ⊤, ℕ, true, List, [], ◌∷◌, Some, codes}
 use Rattle.clap.specs.Words.{Text}
 use Rattle.archive_words.specs.Words.{arch_key}
-use Rattle.command_line.specs.Arguments.{Values, archs, digests, numbers, one, perhaps, several, texts, uuids}
+use Rattle.command_line.specs.Arguments.{archs, digests, numbers, one, perhaps, several, text, texts, uuids}
 use Rattle.command_line.specs.Lines.{Line, error_kinds, is_in_order, line_of, line_with}
 use Rattle.command_line.specs.Table.{admit_command, apply_command, delta_command, find_command, frames_command}
 use Rattle.command_line.specs.Table.{list_command, merge_command, migrate_command, name_command, new_command}
 use Rattle.command_line.specs.Table.{rehearse_command, retire_command, summary_command, symbolicate_command}
-
--- one word that is itself
-abbrev pub text : Text → Values
-text word = texts (one word)
 
 -- words behind the program's name, and a line
 pub record Sample : Type 0 where

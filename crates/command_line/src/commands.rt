@@ -2,7 +2,7 @@
 //! command, which of its words are paths, and the form that a word is refused with are all read from this table.
 
 ghost use Rattle.std.specs.Prelude.{◌≡◌, IfSome, map, option_map};
-ghost use Rattle.command_line.specs.Arguments.{form_of, reads, writes};
+ghost use Rattle.command_line.specs.Arguments.{form_of, reads, reads_kind, writes};
 ghost use Rattle.command_line.specs.InnerTable.{signature_in};
 ghost use Rattle.command_line.specs.LineFaults.{form_words};
 ghost use Rattle.command_line.specs.Table.{commands, signature_named};
@@ -306,14 +306,24 @@ pub fn signature_named(name: &str) -> Option<Signature>
 }
 
 /// Whether it is the path of an input.
-pub fn reads(role: Role) -> bool
+pub fn is_input(role: Role) -> bool
     ensures { result ≡ reads role }
 {
     matches!(role, Role::Reads(_))
 }
 
+/// Whether it is the path of an input of this kind.
+pub fn is_input_of(role: Role, kind: Kind) -> bool
+    ensures { result ≡ reads_kind kind role }
+{
+    match role {
+        Role::Reads(other) => kind == other,
+        Role::Writes | Role::Says(_) => false,
+    }
+}
+
 /// Whether it is the path of OUT.
-pub fn writes(role: Role) -> bool
+pub fn is_out(role: Role) -> bool
     ensures { result ≡ writes role }
 {
     matches!(role, Role::Writes)

@@ -19,7 +19,7 @@ mod readings;
 mod reads;
 mod values;
 
-pub use commands::Kind;
+pub use commands::{Argument, Form, Kind, Role, is_input, is_input_of};
 pub use line_faults::LineFault;
 pub use lines::Line;
 pub use reads::read_line;

@@ -4,7 +4,7 @@ ghost use Rattle.std.specs.Prelude.{◌≡◌, ◌++◌, OnOk, map, string_bytes
 ghost use Rattle.command_line.specs.InnerValues.{values_view};
 ghost use Rattle.command_line.specs.Table.{is_listed};
 
-use crate::commands::{Argument, reads, signature_named, writes};
+use crate::commands::{Argument, is_input, is_out, signature_named};
 use crate::values::Values;
 use std::alloc::{AllocError, Global};
 
@@ -24,7 +24,7 @@ impl Line {
     ghost use Rattle.command_line.specs.Table.{arguments_named};
 
     /// The arguments of its command.
-    fn arguments(&self) -> &'static [Argument]
+    pub fn arguments(&self) -> &'static [Argument]
         ensures { map argument_in result.now ≡ arguments_named self.now.name.now }
     {
         match signature_named(self.name) {
@@ -40,7 +40,7 @@ impl Line {
         let arguments = self.arguments();
         let mut paths = Vec::new(alloc);
         'arguments: for (argument, values) in arguments.iter().zip(&self.values) {
-            if reads(argument.role) {
+            if is_input(argument.role) {
                 push_all(&mut paths, values.texts())?;
             }
         }
@@ -53,7 +53,7 @@ impl Line {
     {
         let arguments = self.arguments();
         'arguments: for (argument, values) in arguments.iter().zip(&self.values) {
-            if writes(argument.role)
+            if is_out(argument.role)
                 && let Some(path) = values.texts().first()
             {
                 return Some(path);
