@@ -63,8 +63,8 @@ impl Look {
 
 /// Whether what begins as a universal file is a Java class file.
 fn is_class(front: Front) -> bool {
-    let [_, _, _, last, slices @ ..] = front;
-    last == 0xbe && u32::from_be_bytes(slices) > MOST_SLICES
+    let slices = u32::from_be_bytes([front[4], front[5], front[6], front[7]]);
+    front[3] == 0xbe && slices > MOST_SLICES
 }
 
 impl fmt::Display for Look {
