@@ -1,7 +1,7 @@
 //! The commands: of each its name, its help, and its arguments in the order of the words. What `clap` is told of a
 //! command, which of its words are paths, and the form that a word is refused with are all read from this table.
 
-ghost use Rattle.std.specs.Prelude.{◌≡◌, IfSome, map, option_map};
+ghost use Rattle.std.specs.Prelude.{◌≡◌, map, option_map};
 ghost use Rattle.command_line.specs.Arguments.{form_of, reads, reads_kind, writes};
 ghost use Rattle.command_line.specs.InnerTable.{signature_in};
 ghost use Rattle.command_line.specs.LineFaults.{form_words};
@@ -294,8 +294,7 @@ pub fn table() -> &'static [Signature]
 
 /// The command of this name, if there is one.
 pub fn signature_named(name: &str) -> Option<Signature>
-    ensures found { option_map signature_in result ≡ signature_named name.now }
-    ensures named { IfSome result (λ row. row.name.now ≡ name.now) }
+    ensures { option_map signature_in result ≡ signature_named name.now }
 {
     'table: for row in table() {
         if name == row.name {

@@ -11,13 +11,13 @@ use std::alloc::{AllocError, Global};
 /// What a command line asks for: a command of the table, and the values of its arguments in the table's order.
 #[derive(Drop)]
 pub struct Line {
-    pub name: &'static str,
+    pub name: String,
     pub values: Vec<Values>,
-    pub ghost of_table: { is_listed name.now (map values_view values.items) ≡ true },
+    pub ghost of_table: { is_listed (string_bytes name) (map values_view values.items) ≡ true },
 }
 
 impl Line {
-    ghost use Rattle.std.specs.Prelude.{◌≡◌, IfOk, map, option_map};
+    ghost use Rattle.std.specs.Prelude.{◌≡◌, IfOk, map, option_map, string_bytes};
     ghost use Rattle.command_line.specs.InnerLine.{line_view};
     ghost use Rattle.command_line.specs.InnerTable.{argument_in};
     ghost use Rattle.command_line.specs.Lines.{inputs_of, out_of};
@@ -25,9 +25,9 @@ impl Line {
 
     /// The arguments of its command.
     pub fn arguments(&self) -> &'static [Argument]
-        ensures { map argument_in result.now ≡ arguments_named self.now.name.now }
+        ensures { map argument_in result.now ≡ arguments_named (string_bytes self.now.name) }
     {
-        match signature_named(self.name) {
+        match signature_named(&self.name) {
             Some(row) => row.arguments,
             None => &[],
         }

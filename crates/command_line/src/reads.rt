@@ -28,10 +28,8 @@ fn line_in(alloc: Global, name: &str, matches: &ArgMatches) -> Result<Line, Line
         return Err(refused(format!(in alloc; "error: invalid command '{name}'\n")));
     };
     let values = all_values(alloc, row.arguments, matches)?;
-    Ok(Line {
-        name: row.name,
-        values,
-    })
+    let name = String::from_str(alloc, name)?;
+    Ok(Line { name, values })
 }
 
 /// What `clap` makes of the words.

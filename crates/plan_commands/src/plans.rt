@@ -119,7 +119,7 @@ impl<'l> Plan<'l> {
         ensures { plan_view result ≡ line_view line.now }
     {
         let values = line.values.as_slice();
-        match line.name {
+        match line.name.as_str() {
             "new" => new(values),
             "admit" => admit(values),
             "retire" => retire(values),
