@@ -178,11 +178,15 @@ class Archive:
         new = os.path.join(room, b"new")
         with open(new, "rb") as file:
             if heads_in(file) != content.heads():
-                raise Failed(f"a slice or a retirement of {shown(self.path)} changed; `symarch-keep check` says which", 4)
-        self.lay(room, NEXT_LOG, dated(lines))
-        self.lay(room, NEXT_SUM, kept_text(content))
-        self.give_rights(new)
-        os.replace(new, self.path)
+                raise Failed(f"something in {shown(self.path)} changed; `symarch-keep check` says what", 4)
+        try:
+            self.lay(room, NEXT_LOG, dated(lines))
+            self.lay(room, NEXT_SUM, kept_text(content))
+            self.give_rights(new)
+            os.replace(new, self.path)
+        except OSError:
+            self.drop(NEXT_SUM, NEXT_LOG)
+            raise
         sync_folder(self.folder)
         self.finish(screen)
 
@@ -207,7 +211,7 @@ class Archive:
             with contextlib.suppress(FileNotFoundError):
                 os.replace(self.beside(NEXT_SUM), self.beside(SUM))
         except OSError as error:
-            screen.fail(f"{shown(self.beside(LOG))}: {error.strerror}; the archive has all, and the next call writes it")
+            screen.fail(f"{shown(self.beside(LOG))}: {error.strerror}; the archive has all, and the next call goes on")
 
     def append(self, text):
         """Adds lines to the log, unless they are its last ones."""

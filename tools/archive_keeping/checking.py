@@ -1,14 +1,15 @@
-"""Reads all of ARCHIVE, and holds it against ARCHIVE.sum, which has the SHA-256 of each slice as it came in. So it finds
-each byte that changed, also those that leave ARCHIVE an archive.
+"""Reads all of ARCHIVE, and holds it against ARCHIVE.sum, which has the SHA-256 of each slice as it came in. So it
+finds each byte that changed, also those that leave ARCHIVE an archive.
 
   changed UUID ARCH DIGEST            the slice that had this SHA-256 has not, or its head has other bytes
   changed retired UUID ARCH DIGEST    the retirement has other bytes
   changed ends                        the first 8 or the last 9 bytes of ARCHIVE are others
-  lost UUID ARCH DIGEST               it was there, and is neither there nor retired: ARCHIVE was replaced, as by an
-  lost retired UUID ARCH DIGEST       older one
+  lost UUID ARCH DIGEST               the slice was there, and neither it nor its retirement is
+  lost retired UUID ARCH DIGEST       the retirement was there, and is not
 
-`symarch-keep repair` mends what changed, and `symarch-keep exchange` brings back what is lost. What came in without
-symarch-keep is known from now on. While it reads, other words may write; it reads on in the file that was there.
+Something is lost if ARCHIVE was replaced, as by an older one. `symarch-keep repair` mends what changed, and
+`symarch-keep exchange` brings back what is lost. What came in without symarch-keep is known from now on. While it
+reads, other words may write; it reads on in the file that was there.
 
 Status:
   0    all is as it was, or nothing was known of it, as the last line says

@@ -1,5 +1,5 @@
-"""Contents of archives: the retirements and the slices of one, by key and digest. docs/FILES.md has the bytes of archives
-and summaries, docs/OPERATING.md the lines of the files that are kept beside an archive."""
+"""Contents of archives: the retirements and the slices of one, by key and digest. docs/FILES.md has the bytes of
+archives and summaries."""
 import hashlib
 import os
 import re

@@ -1,5 +1,5 @@
-"""Exchanges with the other sites over FOLDER, which may be a disk that all mount, a folder that rsync copies, a stick, or
-a bucket that `rclone` or `aws s3 sync` mirrors. NAME is the name of this site, which no other one has: lower-case
+"""Exchanges with the other sites over FOLDER, which may be a disk that all mount, a folder that rsync copies, a stick,
+or a bucket that `rclone` or `aws s3 sync` mirrors. NAME is the name of this site, which no other one has: lower-case
 letters, digits, `-` and `_`.
 
 One call joins what others answered, asks anew if ARCHIVE changed, answers what others ask, and removes what is done
@@ -32,7 +32,7 @@ import re
 import time
 
 from .archive import ASKED, DATE, Archive
-from .contents import ADMISSION, RETIREMENT, Content, Malformed, chunks_in
+from .contents import ADMISSION, Content, Malformed, chunks_in
 from .contents import content_in, content_of, digest_in, entries_in, kept_text, summary_of, words_of
 from .program import Program
 from .screen import Failed, Screen, shown
@@ -230,7 +230,9 @@ class Exchange:
     # ---- what is done with
 
     def clear(self, _room):
-        """Removes answers that were joined or are late, and this site's files that are no longer right."""
+        """Removes answers that were joined or are late, this site's files that are no longer right, and what a kill
+        left."""
+        self.folder.remove_part()
         mine = [one.name for one in self.folder.questions if one.site == self.folder.site]
         own = (one for one in self.folder.answers if one.site == self.folder.site and one.to not in self.unsure)
         for name in sorted(self.done.union(mine, (one.name for one in own)) - self.kept):

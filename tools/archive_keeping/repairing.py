@@ -1,5 +1,5 @@
-"""Mends what changed in ARCHIVE, as `symarch-keep check` finds it: takes the good bytes of each changed slice out of the
-archive FROM, as another site has it. ARCHIVE is then what it was, byte for byte.
+"""Mends what changed in ARCHIVE, as `symarch-keep check` finds it: takes the good bytes of each changed slice out of
+the archive FROM, as another site has it. ARCHIVE is then what it was, byte for byte.
 
 FROM may also be an archive that you made of the dSYM by `symarch-keep add`. Of retirements, of heads, and of the first
 and last bytes of ARCHIVE, ARCHIVE.sum has all, so FROM need not have them. FROM is only read, and what else it has is
@@ -12,7 +12,7 @@ Status:
   0    all is as it was
   2    something is still changed, or some line could not be printed or kept
   3    the words have another form
-  4    ARCHIVE or FROM could not be read, or ARCHIVE could not be written, or there is no ARCHIVE.sum: ARCHIVE is as it was
+  4    ARCHIVE or FROM could not be read, ARCHIVE not written, or there is no ARCHIVE.sum: ARCHIVE is as it was
   126  there is no program"""
 import functools
 import os

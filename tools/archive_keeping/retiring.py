@@ -1,4 +1,5 @@
-"""Withdraws a slice of ARCHIVE for good: the one of UUID and ARCH whose SHA-256 is DIGEST, as `symarch find` prints them.
+"""Withdraws a slice of ARCHIVE for good: the one of UUID and ARCH whose SHA-256 is DIGEST, as `symarch find` prints
+them.
 
 The bytes of the slice go out of ARCHIVE, and the retirement stays. It reaches each site by `exchange`, and the slice
 comes back at none. A slice that ARCHIVE does not have is refused, since a word may be wrong; --before-it-comes retires

@@ -107,8 +107,11 @@ class SharedFolder:
             write_synced(part, chunks)
             os.replace(part, self.at(name))
         finally:
-            self.remove(f".{self.site}.part")
+            self.remove_part()
         sync_folder(self.path)
+
+    def remove_part(self):
+        self.remove(f".{self.site}.part")
 
     def remove(self, name):
         with contextlib.suppress(FileNotFoundError):

@@ -6,7 +6,7 @@ the slices, and not their bytes, so it takes little time; `symarch-keep check` r
   retirements N     slices that were withdrawn
   conflicts N       UUIDs and architectures for which several slices answer, so that `symarch` prints !N
   bytes N           of ARCHIVE
-  site NAME ...     when that site last asked, by its clock, and when it was last answered and its answer last joined here
+  site NAME ...     when that site last asked, by its clock; when it was last answered, and its answer last joined
   left PATH         what a kill left, which the next word that writes removes
 
 Status:
