@@ -104,7 +104,7 @@ class Archive:
     def known(self, screen):
         """The content that the last word left, or None; and whether the archive has the heads of that one."""
         heads, following = self.heads(), self.kept(NEXT_SUM)
-        if following and following[0].heads() == heads:
+        if following and following[1] == file_note(self.path) and following[0].heads() == heads:
             self.finish(screen)
             return following[0], True
         if self.writes:
@@ -146,8 +146,8 @@ class Archive:
     def tell_lost(self, changed, lost, screen):
         lines = lost_lines(changed, lost)
         if lines:
-            told = f"{shown(self.path)} has not what it had of {len(changed) + len(lost.held)} slices"
-            screen.line(f"{told} and {len(lost.retired)} retirements; its log names them")
+            told = f"slices {len(changed) + len(lost.held)}, retirements {len(lost.retired)}"
+            screen.line(f"{shown(self.path)}: changed or lost: {told}; its log names them")
             self.note(lines, screen)
 
     # ---- what takes its place
@@ -180,8 +180,8 @@ class Archive:
             if heads_in(file) != content.heads():
                 raise Failed(f"something in {shown(self.path)} changed; `symarch-keep check` says what", 4)
         try:
-            self.lay(room, NEXT_LOG, dated(lines))
-            self.lay(room, NEXT_SUM, kept_text(content))
+            self.lay(room, NEXT_LOG, self.pending() + dated(lines))
+            self.lay(room, NEXT_SUM, kept_text(content, file_note(new)))
             self.give_rights(new)
             os.replace(new, self.path)
         except OSError:
@@ -203,22 +203,32 @@ class Archive:
         if not self.writes:
             return
         try:
-            with open(self.beside(NEXT_LOG), "rb") as file:
-                self.append(file.read())
+            text = self.pending()
+            if not self.log_ends_with(text):
+                self.append(text)
             self.drop(NEXT_LOG)
             os.replace(self.beside(NEXT_SUM), self.beside(SUM))
-        except FileNotFoundError:
-            with contextlib.suppress(FileNotFoundError):
-                os.replace(self.beside(NEXT_SUM), self.beside(SUM))
         except OSError as error:
             screen.fail(f"{shown(self.beside(LOG))}: {error.strerror}; the archive has all, and the next call goes on")
 
+    def pending(self):
+        """The lines that are still to be added to the log."""
+        try:
+            with open(self.beside(NEXT_LOG), "rb") as file:
+                return file.read()
+        except FileNotFoundError:
+            return b""
+
+    def log_ends_with(self, text):
+        try:
+            with open(self.beside(LOG), "rb") as file:
+                file.seek(max(size_of(self.beside(LOG)) - len(text), 0))
+                return file.read() == text
+        except FileNotFoundError:
+            return not text
+
     def append(self, text):
-        """Adds lines to the log, unless they are its last ones."""
-        with contextlib.suppress(FileNotFoundError), open(self.beside(LOG), "rb") as file:
-            file.seek(max(size_of(self.beside(LOG)) - len(text), 0))
-            if file.read() == text:
-                return
+        """Adds lines to the log."""
         with self.room() as room:
             try:
                 file = open(self.beside(LOG), "ab", buffering=0)
@@ -265,6 +275,13 @@ def held_against(known, came):
             content.held[entry] = length
             changed.append(entry)
     return content, changed, lost
+
+
+def file_note(path):
+    """Which file it is, so that a new archive is told from one with the same heads."""
+    with contextlib.suppress(FileNotFoundError):
+        return [f"file {os.stat(path).st_ino}"]
+    return []
 
 
 def lost_lines(changed, lost):

@@ -15,6 +15,7 @@ Status:
   3    the words have another form
   4    ARCHIVE could not be read or written, or memory ran out: ARCHIVE is as it was
   126  there is no program"""
+import contextlib
 import os
 
 from .archive import Archive
@@ -24,6 +25,7 @@ from .screen import Failed, Screen, shown
 
 USAGE = "symarch-keep retire [--before-it-comes] ARCHIVE UUID ARCH DIGEST"
 ABOUT = "withdraw a slice for good"
+HIGH_BYTE = 20
 
 
 def define(parser):
@@ -32,11 +34,17 @@ def define(parser):
         parser.add_argument(name.lower(), metavar=name)
 
 
-def carry_out(words):
-    try:
+def entry_in(words):
+    """The key and the digest that the words mean. No slice has a bit in the high byte of its cpusubtype."""
+    with contextlib.suppress(ValueError):
         entry = entry_of(words.uuid, words.arch, words.digest)
-    except ValueError:
-        raise Failed("UUID, ARCH and DIGEST have the forms that `symarch find` prints", 3) from None
+        if entry[HIGH_BYTE] == 0:
+            return entry
+    raise Failed("UUID, ARCH and DIGEST have the forms that `symarch find` prints", 3)
+
+
+def carry_out(words):
+    entry = entry_in(words)
     screen = Screen()
     program = Program()
     archive = Archive(os.fsencode(words.archive))
