@@ -20,7 +20,8 @@ For each slice a line is printed after ARCHIVE is in place, in the order in whic
 DIGEST is the SHA-256 that `symarch find` prints. PATH is printed as UTF-8; the backslash, each byte that is no UTF-8
 and each byte of a character that does not print, as a newline, stand as \x and two hex digits.
 
-If no slice is new, ARCHIVE is not touched, and what it has is not read again.
+The lines are kept in ARCHIVE.log too, with the date. If no slice is new, ARCHIVE is not touched, and what it has is
+not read again.
 
 Status:
   0    each slice that was found is in ARCHIVE, or is retired there
