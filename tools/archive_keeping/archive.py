@@ -183,6 +183,8 @@ class Archive:
             self.lay(room, NEXT_LOG, self.pending() + dated(lines))
             self.lay(room, NEXT_SUM, kept_text(content, file_note(new)))
             self.give_rights(new)
+            # What is known of the new archive is there before it.
+            sync_folder(self.folder)
             os.replace(new, self.path)
         except OSError:
             self.drop(NEXT_SUM, NEXT_LOG)

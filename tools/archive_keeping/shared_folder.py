@@ -51,6 +51,12 @@ def question_name(site, at, digest):
     return f"{site}.asks.{at}.{digest}.sum"
 
 
+def is_time(text):
+    with contextlib.suppress(ValueError):
+        return bool(time.strptime(text, TIME))
+    return False
+
+
 def time_after(times):
     """Now, or a second after the last of some times, if that is later."""
     last = max((calendar.timegm(time.strptime(one, TIME)) for one in times), default=0)
@@ -63,7 +69,8 @@ class SharedFolder:
     def __init__(self, path, site):
         self.path, self.site = path, site
         names = sorted(os.listdir(os.fsdecode(path)))
-        self.questions = [Question(name, **found.groupdict()) for name in names if (found := QUESTION.fullmatch(name))]
+        questions = [Question(name, **found.groupdict()) for name in names if (found := QUESTION.fullmatch(name))]
+        self.questions = [one for one in questions if is_time(one.time)]
         self.answers = [Answer(name, **found.groupdict()) for name in names if (found := ANSWER.fullmatch(name))]
 
     def at(self, name):
