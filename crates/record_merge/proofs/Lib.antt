@@ -8,3 +8,5 @@ pub mod Orders
 pub mod Unread
 pub mod Merges
 pub mod Gained
+pub mod Tells
+pub mod Told

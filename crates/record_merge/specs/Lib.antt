@@ -1,2 +1,4 @@
 pub mod Merging
 pub mod MergeSteps
+pub mod Telling
+pub mod TellingSteps

@@ -1,10 +1,13 @@
 //! Two texts of archives, merged record by record.
 //!
-//! - `side`, `merging`, `streams`: [`merge_streams`], in the memory of one record of each side and of its retirements.
+//! - `side`, `merging`, `streams`: [`merge_streams`], in the memory of one record of each side and of its retirements;
+//! - `telling`: [`merge_telling`], which tells, too, which records of the right side were new.
 #![tactic(auto)]
 
 mod merging;
 mod side;
 mod streams;
+mod telling;
 
 pub use streams::merge_streams;
+pub use telling::merge_telling;
