@@ -11,7 +11,7 @@ use Rattle.archive_records.specs.declared.kind.TextKind.TheVariants.{Archive as 
 use Rattle.record_merge.specs.declared.merging.Merge.{Merge}
 use Rattle.record_merge.specs.declared.side.Lookahead.TheVariants.{Unread, Held, Ended}
 use Rattle.record_merge.specs.declared.side.MergeInput.{MergeInput}
-use Rattle.archive_records.specs.Kind.{magic, magic_of, kind_of, may_follow, IsItem, end_length}
+use Rattle.archive_records.specs.Kind.{magic, kind_of, may_follow, IsItem, end_length}
 use Rattle.archive_records.specs.Text.{end_record, text_of, last_of, kept}
 use Rattle.archive_records.specs.Reader.{HasRead, Passes, Position, Stopped, HasWhole, StoppedWith}
 use Rattle.archive_records.specs.declared.fault.RecordFault.{RecordFault}

@@ -8,7 +8,7 @@ use Rattle.std.specs.Io.KnownBytes.{Consumes, IsAtEnd}
 use Rattle.join_core.specs.Listing.{listing}
 use Rattle.join_core.proofs.Listing.{listing_ascending}
 use Rattle.byte_device.specs.Devices.{Stream}
-use Rattle.archive_core.specs.Content.{Operations, IsContent, IsMade, changes, content_of, covering, is_admission, is_covered}
+use Rattle.archive_core.specs.Content.{Operations, IsContent, IsMade, changes, content_of, is_admission, is_covered}
 use Rattle.archive_core.proofs.Made.{contains_made, covers_same}
 use Rattle.archive_records.specs.declared.format.Format.{Format}
 use Rattle.archive_records.specs.declared.format.Format.TheVariants.{Archive, OldArchive, Operations as Operations_file, Summary as Summary_file}
@@ -16,13 +16,13 @@ use Rattle.archive_records.specs.declared.kind.TextKind.TheVariants.{Archive as 
 use Rattle.archive_records.specs.declared.writing.Sizes.{Sizes}
 use Rattle.archive_records.specs.Kind.{archive_format, kind_of}
 use Rattle.archive_records.specs.Reader.{set_of}
-use Rattle.archive_records.specs.Text.{text_of, InOrder, AreApart, IsArchiveOf, AreOperations, ending, old_written, taken_of, written}
+use Rattle.archive_records.specs.Text.{text_of, InOrder, AreApart, IsArchiveOf, taken_of}
 use Rattle.archive_records.proofs.Contents.{InOrder-set, are_records, content_is, sorted-InOrder, written-records, written_text}
 use Rattle.archive_records.proofs.Exact.{same_records}
 use Rattle.archive_records.proofs.Formats.{format_magic, in_order_of, no_operations_text, no_summary_text, old_in_order}
 use Rattle.archive_records.proofs.Puts.{bytes_same}
 use Rattle.archive_records.proofs.Versions.{kept_set, no_operations, old_written-records, old_written_text}
-use Rattle.record_merge.specs.Merging.{IsMerged, IsUnfailed}
+use Rattle.record_merge.specs.Merging.{IsUnfailed}
 use Rattle.record_merge.specs.Telling.{HasOperations, IsMergedTelling}
 use Rattle.record_merge.specs.TellingSteps.{ToldAll}
 use Rattle.record_merge.proofs.Fronts.{taken_rest}
