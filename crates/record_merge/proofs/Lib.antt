@@ -10,3 +10,4 @@ pub mod Merges
 pub mod Gained
 pub mod Tells
 pub mod Told
+pub mod TextPieces

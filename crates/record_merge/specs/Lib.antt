@@ -1,3 +1,4 @@
+pub mod Lent
 pub mod Merging
 pub mod MergeSteps
 pub mod Telling
