@@ -225,6 +225,14 @@ IsRefusal Refused Unfailed OutOfMemory = Unfailed
 abbrev pub IsGiven : {S : Type 0} → Reader S → List ℕ → Type 0
 IsGiven input bytes = MatchResult input.old (λ source. input.left source ≡ Some bytes) (λ _. ⊥)
 
+-- The input was opened, and its bytes are known.
+abbrev pub IsKnown : {S : Type 0} → Reader S → Type 0
+IsKnown input = (bytes : List ℕ) × IsGiven input bytes
+
+-- So it is with each of these inputs.
+abbrev pub EachKnown : {S : Type 0} → List (Reader S) → Type 0
+EachKnown inputs = AllByRecursion IsKnown inputs
+
 -- The input was opened, and its bytes are an archive's text that gives this content.
 abbrev pub IsGivenArchive : {S : Type 0} → Reader S → Operations → Type 0
 IsGivenArchive input o = (text : List ℕ) × IsArchiveOf o text × IsGiven input text
