@@ -214,6 +214,12 @@ IsRefusedInOrder input Untouched IsRefusedBehind at why =
     (IsRefusedArchive 0 input at why × Untouched)
     ⊎ (IsArchive input × Unfailed input × IsRefusedBehind at why)
 
+-- The same of a command that reads what is behind its first input before that one, and tests that one to its end before it
+-- tells of a refusal behind it.
+abbrev pub IsRefusedInTurn : {S : Type 0} → Reader S → (Place → Why → Type 0) → Place → Why → Type 0
+IsRefusedInTurn input IsRefusedBehind at why =
+    IsRefusedArchive 0 input at why ⊎ (IsArchive input × Unfailed input × IsRefusedBehind at why)
+
 -- The fault is that of an input, of which this holds, or want of memory, where this does.
 abbrev pub IsRefusal : (Place → Why → Type 0) → Type 0 → CommandFault → Type 0
 IsRefusal Refused Unfailed (Input place why) = Refused place why
