@@ -6,3 +6,4 @@ pub mod MergeStreams
 pub mod Apply
 pub mod Summary
 pub mod Delta
+pub mod Joining

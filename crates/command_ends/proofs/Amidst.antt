@@ -1,37 +1,15 @@
 -- How a command ends that writes while its inputs come, from what its parts did.
-use Rattle.std.proofs.Common.{◌≡◌, ℕ, List, [], length, Option, Some, None, Result, Ok, Err, refl, sym, ap, ◌∙◌, subst, inl, inr}
-use Rattle.std.specs.Prelude.{◌×◌}
-use Rattle.std.specs.Io.KnownBytes.{Appends}
+use Rattle.std.proofs.Common.{◌≡◌, ℕ, List, [], Option, Result, Ok, Err, inl, inr}
 use Rattle.archive_core.specs.Content.{Operations}
-use Rattle.archive_records.specs.Text.{IsArchiveOf}
 use Rattle.byte_device.specs.declared.disks.CannotOpen.{CannotOpen}
 use Rattle.command_ends.specs.declared.faults.CommandFault.{CommandFault}
 use Rattle.command_ends.specs.declared.faults.CommandFault.TheVariants.{Input, Output, Report, OutOfMemory}
 use Rattle.command_ends.specs.declared.faults.Place.{Place}
 use Rattle.command_ends.specs.declared.faults.Status.{Status}
 use Rattle.command_ends.specs.declared.faults.Why.{Why}
-use Rattle.command_ends.specs.Ends.{EndsAsItComes, StopsAmidst}
-use Rattle.command_ends.specs.Inputs.{HoldsArchive, IsGiven, IsGivenArchive, IsKnown, Reader, reader}
+use Rattle.command_ends.specs.Ends.{EndsAsItComes, HasTaken, StopsAmidst}
+use Rattle.command_ends.specs.Inputs.{HoldsArchive, IsGivenArchive, IsKnown, reader}
 use Rattle.command_ends.specs.Outputs.{Out, PlacesNothing, Publishes, Takes, Writer}
-
-no_count_input : (at : Place) (why : Why) (k n : ℕ) → Input at why ≡ Output n → n ≡ k
-no_count_input at why k n h = cc
-
-no_count_memory : (k n : ℕ) → OutOfMemory ≡ Output n → n ≡ k
-no_count_memory k n h = cc
-
-one_count : (m n : ℕ) → Output m ≡ Output n → n ≡ m
-one_count m n h = sym (ap count_of h)
-  where
-    count_of : CommandFault → ℕ
-    count_of (Output x) = x
-    count_of (Input at why) = 0
-    count_of (Report x) = 0
-    count_of OutOfMemory = 0
-
--- What the draft took where this fault stopped the command: as many bytes as are told, where it failed.
-abbrev pub HasTaken : Writer → CommandFault → Type 0
-HasTaken draft fault = (bytes : List ℕ) × Appends draft.old draft.new bytes × ((n : ℕ) → fault ≡ Output n → n ≡ length bytes)
 
 module _ (Makes : List ℕ → List ℕ → Type 0) (Refuses : Place → Why → Type 0) (NoneFailed Known : Type 0) (out : Out) (report : Writer) where
   abbrev EndsSo : Result Status CommandFault → Type 0
@@ -54,6 +32,16 @@ module _ (Makes : List ℕ → List ℕ → Type 0) (Refuses : Place → Why →
   published_amidst (Err (Output n)) text told u makes p = inr (u, record { text = text; told = told; makes = makes; published = p })
   published_amidst (Err (Report n)) text told u makes p = (u, record { text = text; told = told; makes = makes; published = p })
   published_amidst (Err OutOfMemory) text told u makes p = inr (u, record { text = text; told = told; makes = makes; published = p })
+
+-- what stops one command stops another that makes no more, is refused where that one is, and blames no more readers
+module _ (Makes Others : List ℕ → List ℕ → Type 0) (Refuses RefusesToo : Place → Why → Type 0) (NoneFailed NoneFailedToo Known KnownToo : Type 0) (draft : Writer)
+    (makes : (text told : List ℕ) → Others text told → Makes text told) (refuses : (at : Place) (why : Why) → Refuses at why → RefusesToo at why) (unfailed : NoneFailed → NoneFailedToo) (known : KnownToo → Known) where
+  pub stops_alike : (fault : CommandFault) → StopsAmidst (record { Makes = Makes; Refuses = Refuses; Unfailed = NoneFailed }) Known draft fault
+      → StopsAmidst (record { Makes = Others; Refuses = RefusesToo; Unfailed = NoneFailedToo }) KnownToo draft fault
+  stops_alike (Input at why) s = (refuses at why s.0, s.1, (s.2.0, λ k text told m. s.2.1 (known k) text told (makes text told m)))
+  stops_alike (Output n) s = (unfailed s.0, s.1, λ k text told m. s.2 (known k) text told (makes text told m))
+  stops_alike (Report n) s = absurd s
+  stops_alike OutOfMemory s = (unfailed s.0, s.1, (s.2.0, λ k text told m. s.2.1 (known k) text told (makes text told m)))
 
 -- an archive whose bytes are known and that holds a content gives it
 pub gives_known : {S : Type 0} (left : S → Option (List ℕ)) (failures : S → ℕ) (old new : Result S CannotOpen) (o : Operations)

@@ -116,6 +116,11 @@ StopsAmidst command Known draft (Report n) = ⊥
 StopsAmidst command Known draft OutOfMemory =
     command.Unfailed × (draft.failures_new ≡ draft.failures_old) × ((n : ℕ) × HasFirst command Known draft n)
 
+-- What the draft took where a command was stopped with this fault: some bytes, as many as are told where it failed.
+abbrev pub HasTaken : Writer → CommandFault → Type 0
+HasTaken draft fault =
+    (bytes : List ℕ) × Appends draft.old draft.new bytes × ((n : ℕ) → fault ≡ Output n → n ≡ length bytes)
+
 -- such a command, as one of those
 abbrev pub writes_amidst : Command → Type 0 → Writer → Streamed
 writes_amidst command Known draft = record {
