@@ -1,5 +1,4 @@
-pub mod Files
-pub mod Rows
-pub mod Joins
-pub mod Streamed
-pub mod Counts
+
+pub mod Beginnings
+pub mod Joining
+pub mod Migrated

@@ -7,3 +7,4 @@ pub mod Apply
 pub mod Summary
 pub mod Delta
 pub mod Joining
+pub mod Copying
