@@ -1,4 +1,9 @@
-
+pub mod Files
+pub mod Rows
+pub mod Joins
+pub mod Streamed
+pub mod Counts
 pub mod Beginnings
-pub mod Joining
+pub mod AtHand
 pub mod Migrated
+pub mod Copied

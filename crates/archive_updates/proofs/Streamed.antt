@@ -18,7 +18,7 @@ use Rattle.command_ends.specs.declared.faults.Status.{Status}
 use Rattle.command_ends.specs.declared.faults.Why.{Why}
 use Rattle.command_ends.specs.Ends.{Carries, Ends, EndsStreamed, IsStopped, MakesArchive, Streamed}
 use Rattle.command_ends.specs.Inputs.{Reader, reader, Unfailed, EachUnfailed, IsDeviceFault, IsGivenArchive}
-use Rattle.archive_updates.proofs.Joining.{counted, sizes_are}
+use Rattle.archive_updates.proofs.AtHand.{counted, sizes_are}
 use Rattle.archive_updates.specs.Merge.{MakesMerged, merge}
 use Rattle.archive_updates.specs.MergeStreams.{IsMergeFaultTold, IsSide, StopsMerge, StopsMergeOfOne, merge_as_it_comes, merge_of_one}
 use Rattle.command_ends.specs.Outputs.{Out, Outs, Writer, FailsAt, PlacesNothing, Publishes, Takes, draft_of, out_of, report_of}

@@ -8,6 +8,7 @@
 
 mod admit;
 mod apply;
+mod copying;
 mod delta;
 mod joining;
 mod merge;

@@ -1,4 +1,4 @@
-use Rattle.archive_updates.proofs.Joining.{lent_from}
+use Rattle.archive_updates.proofs.AtHand.{lent_from}
 use Rattle.archive_updates.proofs.joining.join_input.Goals as goal
 
 pub returns-clause-joined : goal.returns-clause-joined

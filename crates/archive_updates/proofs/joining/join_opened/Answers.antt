@@ -1,4 +1,4 @@
-use Rattle.archive_updates.proofs.Joining.{joined_opened, stopped_opened, taken_of}
+use Rattle.archive_updates.proofs.AtHand.{joined_opened, stopped_opened, taken_of}
 use Rattle.archive_updates.proofs.joining.join_opened.Goals as goal
 
 pub returns-in-Ok-clause-joined : goal.returns-in-Ok-clause-joined

@@ -1,5 +1,5 @@
 -- IN's archive, merged with one that is at hand: what came of it.
-use Rattle.std.proofs.Common.{◌≡◌, ℕ, List, [], length, MatchResult, Option, Some, Result, Ok, Err, refl, ap, sym, ◌∙◌, subst, arith}
+use Rattle.std.proofs.Common.{◌≡◌, ℕ, List, [], length, MatchResult, Option, Some, Result, min, ◌+◌, Ok, Err, refl, ap, sym, ◌∙◌, subst, arith, ◌⊎◌, inl, inr}
 use Rattle.std.specs.FinSet as set
 use Rattle.archive_core.specs.Content.{Operations, IsContent, joined}
 use Rattle.archive_records.specs.declared.fault.MergeCause.{MergeCause}
@@ -12,7 +12,7 @@ use Rattle.archive_records.specs.declared.writing.Sizes.{Sizes}
 use Rattle.archive_records.specs.Text.{written, IsArchiveOf}
 use Rattle.archive_records.specs.Writing.{IsWrittenWhole}
 use Rattle.byte_device.specs.declared.disks.CannotOpen.{CannotOpen}
-use Rattle.byte_device.specs.Devices.{FailedIn, Stream, stream}
+use Rattle.byte_device.specs.Devices.{FailedIn, Stream, most_failures, stream}
 use Rattle.byte_device.specs.Writes.{WritesFirst}
 use Rattle.record_merge.specs.Merging.{GainsCount, IsMerged, IsRefusedAlone, Merges, StopsBy}
 use Rattle.command_ends.specs.declared.faults.CommandFault.{CommandFault}
@@ -46,7 +46,10 @@ memory_not_device kind m d = cc
 
 -- a device that has never failed did not fail
 never_failed : (old new : ℕ) → old ≡ 0 → new ≡ 0 → FailedIn old new → ⊥
-never_failed old new o n failed = let one : 0 ≡ 1 = rw (← o, ← n) failed in omega (arith, one)
+never_failed old new o n failed = absurd (no_one (subst (λ (m : ℕ). m ≡ 1) n (subst (λ (m : ℕ). new ≡ min (m + 1) most_failures) o failed)))
+  where
+    no_one : ◌≡◌ {A = ℕ} 0 1 → ⊥
+    no_one h = omega (arith, h)
 
 module _ {S : Type 0} (left2 : S → Option (List ℕ)) (failures2 : S → ℕ) (r r' : S) (p : Operations) (at : IsAtHand (stream left2 failures2 r r') p) where
   abbrev other : Stream S
