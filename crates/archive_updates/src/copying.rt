@@ -1,6 +1,6 @@
 //! The records of an archive that a summary does not name, copied as they come.
 
-ghost use Rattle.std.specs.Prelude.{◌≡◌, ◌+◌, ◌<◌, ◌≤◌, ◌^◌, ◌∷◌, [], ℕ, List, Option, length, OnOk, IfOk, IfErr};
+ghost use Rattle.std.specs.Prelude.{◌≡◌, ◌+◌, ◌*◌, ◌<◌, ◌≤◌, ◌^◌, ◌∷◌, [], ℕ, List, Option, length, OnOk, IfOk, IfErr};
 ghost use Rattle.std.specs.List.{concat};
 ghost use Rattle.std.specs.Io.KnownBytes.{Appends, Consumes, IsAtEnd};
 ghost use Rattle.archive_records.specs.Kind.{kind_of, magic};
@@ -40,6 +40,8 @@ fn put_unnamed<W: Sink>(
         × Appends (W.held w.old) (W.held w.new) (concat (missing summary.now (bytes.now ∷ [])))) }
     ensures records { IfOk result (λ n. n.records
         ≡ written.records + length (missing summary.now (bytes.now ∷ []))) }
+    ensures fits { written.bytes ≤ 8 + written.records * 2 ^ 64
+        → IfOk result (λ n. n.bytes ≤ 8 + n.records * 2 ^ 64) }
     ensures unfailed { OnOk result (W.failures w.new ≡ W.failures w.old) }
     ensures err { IfErr result (λ e. (k : ℕ) × (e.written ≡ written.bytes + k)
         × WritesFirst (W.held w.old) (W.held w.new) (concat (missing summary.now (bytes.now ∷ []))) k) }
