@@ -6,3 +6,5 @@ pub mod MergeStreams
 pub mod Apply
 pub mod Summary
 pub mod Delta
+pub mod Joining
+pub mod Copying

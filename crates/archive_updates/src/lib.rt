@@ -1,13 +1,16 @@
 //! The commands that write OUT, over any archive, sources and sinks.
 //!
-//! `merge` of one FILE alone writes OUT while it reads; each other one reads all its inputs first.
+//! `merge` of one FILE and `migrate` write OUT while they read; each other one reads all its inputs first.
 //!
-//! - `new`, `admit`, `retire`, `merge`, `migrate`, `apply`, `summary`, `delta`: a command each.
+//! - `new`, `admit`, `retire`, `merge`, `migrate`, `apply`, `summary`, `delta`: a command each;
+//! - `joining`: IN, merged with an archive that is at hand.
 #![tactic(auto)]
 
 mod admit;
 mod apply;
+mod copying;
 mod delta;
+mod joining;
 mod merge;
 mod migrate;
 mod new;

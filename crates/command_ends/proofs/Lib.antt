@@ -1,3 +1,4 @@
 pub mod Readers
 pub mod Endings
 pub mod Lent
+pub mod Amidst

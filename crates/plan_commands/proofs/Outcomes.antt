@@ -17,10 +17,10 @@ use Rattle.command_ends.specs.declared.faults.Why.{Why}
 use Rattle.archive_updates.specs.Admit.{admit}
 use Rattle.archive_updates.specs.Apply.{apply}
 use Rattle.archive_updates.specs.Delta.{delta}
-use Rattle.command_ends.specs.Ends.{Command, Ends, EndsStreamed, Query, Streamed}
+use Rattle.command_ends.specs.Ends.{Command, Ends, EndsStreamed, Query, Streamed, writes_amidst}
 use Rattle.archive_queries.specs.Find.{find}
 use Rattle.archive_queries.specs.Frames.{frames}
-use Rattle.command_ends.specs.Inputs.{Reader, reader}
+use Rattle.command_ends.specs.Inputs.{IsKnown, Reader, reader}
 use Rattle.archive_queries.specs.List.{list}
 use Rattle.archive_updates.specs.MergeStreams.{merge_as_it_comes}
 use Rattle.archive_updates.specs.Migrate.{migrate}
@@ -141,7 +141,8 @@ executed (line.retire _ _ uuid arch digest) (input ∷ _) out report r e =
     ended (retire input (key_of uuid arch) digest) out report r e
 executed (line.merge _ _ _) (input ∷ files) out report r e =
     streamed (merge_as_it_comes input files out) out report r e
-executed (line.migrate _ _) (input ∷ _) out report r e = ended (migrate input) out report r e
+executed (line.migrate _ _) (input ∷ _) out report r e =
+    streamed (writes_amidst (migrate input) (IsKnown input) (out_of out).draft) out report r e
 executed (line.apply _ _ _) (input ∷ ops ∷ _) out report r e = ended (apply input ops) out report r e
 executed (line.find _ uuid) (archive ∷ _) out report r e = queried (find archive uuid) out report r e
 executed (line.list _) (archive ∷ _) out report r e = queried (list archive) out report r e

@@ -11,10 +11,10 @@ use Rattle.command_ends.specs.declared.faults.Status.{Status}
 use Rattle.archive_updates.specs.Admit.{admit}
 use Rattle.archive_updates.specs.Apply.{apply}
 use Rattle.archive_updates.specs.Delta.{delta}
-use Rattle.command_ends.specs.Ends.{Ends, EndsReport, EndsStreamed, Query}
+use Rattle.command_ends.specs.Ends.{Ends, EndsAsItComes, EndsReport, EndsStreamed, Query}
 use Rattle.archive_queries.specs.Find.{find}
 use Rattle.archive_queries.specs.Frames.{frames}
-use Rattle.command_ends.specs.Inputs.{Reader}
+use Rattle.command_ends.specs.Inputs.{IsKnown, Reader}
 use Rattle.archive_queries.specs.List.{list}
 use Rattle.archive_updates.specs.MergeStreams.{merge_as_it_comes}
 use Rattle.archive_updates.specs.Migrate.{migrate}
@@ -42,7 +42,8 @@ Executes (line.retire _ _ uuid arch digest) (input ∷ _) out report result =
     Ends (retire input (key_of uuid arch) digest) (out_of out) report result
 Executes (line.merge _ _ _) (input ∷ files) out report result =
     EndsStreamed (merge_as_it_comes input files out) (out_of out) report result
-Executes (line.migrate _ _) (input ∷ _) out report result = Ends (migrate input) (out_of out) report result
+Executes (line.migrate _ _) (input ∷ _) out report result =
+    EndsAsItComes (migrate input) (IsKnown input) (out_of out) report result
 Executes (line.apply _ _ _) (input ∷ ops ∷ _) out report result = Ends (apply input ops) (out_of out) report result
 Executes (line.find _ uuid) (archive ∷ _) out report result = EndsQuery (find archive uuid) out report result
 Executes (line.list _) (archive ∷ _) out report result = EndsQuery (list archive) out report result

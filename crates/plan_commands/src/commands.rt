@@ -101,7 +101,7 @@ pub fn execute<A: Archive + Drop, L: Archive + Drop, S: Source, T: Target, P: Si
             ..
         } => run_retire::<A, _, _, _>(heap, first, key(uuid, arch), *digest, out, report),
         Plan::Merge { .. } => run_merge::<A, _, _, _, _>(heap, first, others, out, report),
-        Plan::Migrate { .. } => run_migrate::<A, _, _, _>(heap, first, out, report),
+        Plan::Migrate { .. } => run_migrate(heap, first, out, report),
         Plan::Apply { .. } => apply::<A, _, _, _>(heap, first, others, out, report),
         Plan::Find { uuid, .. } => run_find::<A, _, _>(heap, first, uuid, report),
         Plan::List { .. } => run_list(heap, first, report),
