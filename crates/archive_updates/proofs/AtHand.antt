@@ -77,7 +77,7 @@ module _ {S : Type 0} (left2 : S → Option (List ℕ)) (failures2 : S → ℕ) 
     MergesSo result = Merges (stream left failures l l') other (stream held draft_failures w w') result
 
     -- it was merged
-    pub joined_opened : (sizes : Sizes) → MergesSo (Ok sizes) → IsJoined input p (stream held draft_failures w w') sizes
+    unfoldable pub joined_opened : (sizes : Sizes) → MergesSo (Ok sizes) → IsJoined input p (stream held draft_failures w w') sizes
     joined_opened sizes merges =
         let m : IsMerged (stream left failures l l') other (stream held draft_failures w w') sizes = merges in
         let alone : (q : Operations) → IsContent q → IsArchiveOf q at.text → m.p ≡ q = rw at.bytes at m.right_is.alone in

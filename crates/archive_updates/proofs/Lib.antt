@@ -7,3 +7,5 @@ pub mod Beginnings
 pub mod AtHand
 pub mod Migrated
 pub mod Copied
+pub mod Tellings
+pub mod Retired

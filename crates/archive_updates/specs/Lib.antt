@@ -8,3 +8,4 @@ pub mod Summary
 pub mod Delta
 pub mod Joining
 pub mod Copying
+pub mod InnerTelling

@@ -138,7 +138,7 @@ executed (line.new _) inputs out report r e =
     published out report (written set.empty) (report_of set.empty []) r e
 executed (line.admit _ _ _) (input ∷ files) out report r e = ended (admit input files) out report r e
 executed (line.retire _ _ uuid arch digest) (input ∷ _) out report r e =
-    ended (retire input (key_of uuid arch) digest) out report r e
+    streamed (writes_amidst (retire input (key_of uuid arch) digest) (IsKnown input) (out_of out).draft) out report r e
 executed (line.merge _ _ _) (input ∷ files) out report r e =
     streamed (merge_as_it_comes input files out) out report r e
 executed (line.migrate _ _) (input ∷ _) out report r e =

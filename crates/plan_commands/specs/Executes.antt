@@ -39,7 +39,7 @@ Executes (line.new _) _ out report result =
     Publishes (out_of out) report (written set.empty) (report_of set.empty []) result
 Executes (line.admit _ _ _) (input ∷ files) out report result = Ends (admit input files) (out_of out) report result
 Executes (line.retire _ _ uuid arch digest) (input ∷ _) out report result =
-    Ends (retire input (key_of uuid arch) digest) (out_of out) report result
+    EndsAsItComes (retire input (key_of uuid arch) digest) (IsKnown input) (out_of out) report result
 Executes (line.merge _ _ _) (input ∷ files) out report result =
     EndsStreamed (merge_as_it_comes input files out) (out_of out) report result
 Executes (line.migrate _ _) (input ∷ _) out report result =

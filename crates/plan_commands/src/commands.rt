@@ -99,7 +99,7 @@ pub fn execute<A: Archive + Drop, L: Archive + Drop, S: Source, T: Target, P: Si
             arch,
             digest,
             ..
-        } => run_retire::<A, _, _, _>(heap, first, key(uuid, arch), *digest, out, report),
+        } => run_retire(heap, first, key(uuid, arch), *digest, out, report),
         Plan::Merge { .. } => run_merge::<A, _, _, _, _>(heap, first, others, out, report),
         Plan::Migrate { .. } => run_migrate(heap, first, out, report),
         Plan::Apply { .. } => apply::<A, _, _, _>(heap, first, others, out, report),
