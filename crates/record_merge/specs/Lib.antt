@@ -3,3 +3,4 @@ pub mod Merging
 pub mod MergeSteps
 pub mod Telling
 pub mod TellingSteps
+pub mod Losses
