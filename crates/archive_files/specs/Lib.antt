@@ -1,3 +1,4 @@
 pub mod FileCalls
 pub mod OutFiles
 pub mod Placing
+pub mod Fresh

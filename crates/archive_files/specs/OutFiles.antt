@@ -90,14 +90,6 @@ IsSoFar path (Refused fault) calls = IsRemoved path calls
 IsSoFar path Removed calls = IsRemoved path calls
 IsSoFar path Settled calls = calls ≡ []
 
--- No input was compared with OUT, which has no path and did not fail, for which nothing was called, and of which nothing
--- is in place.
-abbrev pub AreFresh : {T : Type 0} → List (List ℕ) → List (List ℕ) → Option (List ℕ) → OutState T → ℕ → List FileCall
-    → Option Placed → Type 0
-AreFresh others same path state failures calls placed =
-    (others ≡ []) × (same ≡ []) × (path ≡ None) × (stage_of state ≡ Untouched) × (failures ≡ 0) × (calls ≡ [])
-    × (placed ≡ None)
-
 -- What is known of OUT's draft: the same; and nothing of one that was put in place.
 abbrev pub draft_account : Bool → Option (List ℕ) → List FileCall → List ℕ
 draft_account true path calls = []

@@ -1,7 +1,8 @@
 //! The files of the system in one command: those that it reads, and OUT.
 
 ghost use Rattle.std.specs.Prelude.{◌≡◌, [], None, OnOk, Some, map, option_map, string_bytes};
-ghost use Rattle.archive_files.specs.OutFiles.{AreFresh, Untouched, stage_of};
+ghost use Rattle.archive_files.specs.Fresh.{AreFresh};
+ghost use Rattle.archive_files.specs.OutFiles.{Untouched, stage_of};
 ghost use Rattle.archive_files.specs.Placing.{IsPath};
 
 use crate::call_log::CallLog;
@@ -30,9 +31,7 @@ impl<'a, F: Files> SystemFiles<'a, F> {
     /// Files of which none was opened or created. Drafts are named for this process.
     pub fn new(alloc: Global, files: &'a F, process: u32) -> Self
         ensures opened { result.disk.opened.entries ≡ [] }
-        ensures fresh { AreFresh result.others.entries result.same.entries
-            (option_map string_bytes result.out.draft.path) result.out.draft.state result.out.draft.failures
-            result.out.draft.calls.entries result.out.target.placed }
+        ensures fresh { AreFresh result }
     {
         SystemFiles {
             disk: SystemDisk::new(alloc, files),
@@ -48,9 +47,7 @@ impl<'a, F: Files> SystemFiles<'a, F> {
     /// Takes OUT's path, and which files that are there may be replaced. Where it names the same regular file as one of
     /// the inputs, OUT will not be created, since that input would be lost.
     pub fn begin(&mut self, path: &str, inputs: &[&str], replaces: Replaces) -> Result<(), NoMemory>
-        requires { AreFresh self.old.others.entries self.old.same.entries
-            (option_map string_bytes self.old.out.draft.path) self.old.out.draft.state self.old.out.draft.failures
-            self.old.out.draft.calls.entries self.old.out.target.placed }
+        requires { AreFresh self.old }
         ensures opened { self.new.disk.opened.entries ≡ self.old.disk.opened.entries }
         ensures path { OnOk result (IsPath (Some path.now) (map (λ p. p.now) inputs.now) self.new.others.entries
             self.new.same.entries (option_map string_bytes self.new.out.draft.path)) }

@@ -8,6 +8,8 @@ use Rattle.archive_core.specs.Lookup.{AnswerRecord, IsAnswer, answer_view}
 use Rattle.archive_core.specs.declared.keys.SliceKey.{SliceKey}
 use Rattle.archive_core.specs.declared.lookup.Where.{Where}
 use Rattle.archive_records.specs.Text.{IsArchiveOf}
+use Rattle.archive_words.specs.Lines.{line_at}
+use Rattle.crash_frames.specs.Flaws.{frame_flaw}
 use Rattle.crash_frames.specs.Frames.{frames_of}
 use Rattle.crash_frames.specs.declared.frame.Frame.{Frame}
 use Rattle.report_text.specs.Answers.{answer_lines}
@@ -179,9 +181,10 @@ frames_alone left failures (Err _) new bytes said NotOpened is says refused = ab
 frames_alone left failures old new bytes said CannotRead is says refused = tt
 frames_alone left failures old new bytes said (Record fault) is says refused = absurd refused
 frames_alone left failures old new bytes said (Take fault) is says refused = absurd refused
-frames_alone left failures old new bytes said (Faulty fault line) is says refused = absurd refused
-frames_alone left failures old new bytes said (BadFrame line) is says refused =
-    absurd (no_fault (frames_of bytes) said line says (given left failures old new bytes (λ b. frames_of b ≡ Err line) is refused.1))
+frames_alone left failures old new bytes said (Faulty fault line flaw) is says refused = absurd refused
+frames_alone left failures old new bytes said (BadFrame line flaw) is says refused =
+    absurd (no_fault (frames_of bytes) said line says (given left failures old new bytes
+    (λ b. (frames_of b ≡ Err line) × (flaw ≡ frame_flaw (line_at b line))) is refused.1).0)
 
 pub not_refused : {R S : Type 0} (input : Reader R) (other : Reader S) (bytes : List ℕ) (said : List Frame) (o : Operations) (place : Place) (why : Why)
     → IsContent o → IsGiven input bytes → frames_of bytes ≡ Ok said → IsGivenArchive other o → RefusesFrames input other place why → IsDeviceFault why

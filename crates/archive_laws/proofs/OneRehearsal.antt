@@ -10,6 +10,8 @@ use Rattle.exchange_model.specs.World.{state, outcomes}
 use Rattle.archive_exchange.specs.InnerEvents.{SeenFile}
 use Rattle.archive_exchange.specs.ModelEvent.{ModelEvent, IsFile, IsSeen, AreSeen, OutcomeIs, row_told, fault_told}
 use Rattle.admission.specs.declared.fault.TakeFault.{TakeFault}
+use Rattle.archive_words.specs.Lines.{line_at}
+use Rattle.rehearsal.specs.Flaws.{script_flaw}
 use Rattle.rehearsal.specs.declared.event.Event.{Event}
 use Rattle.rehearsal.specs.declared.event.Event.TheVariants as event
 use Rattle.archive_exchange.specs.declared.outcome.Outcome.{Outcome}
@@ -46,9 +48,10 @@ refused_so left failures (Err _) new bytes said NotOpened is says refused = absu
 refused_so left failures old new bytes said CannotRead is says refused = tt
 refused_so left failures old new bytes said (Record fault) is says refused = absurd refused
 refused_so left failures old new bytes said (TakeRefused fault) is says refused = absurd refused
-refused_so left failures old new bytes said (BadFrame line) is says refused = absurd refused
-refused_so left failures old new bytes said (Faulty fault line) is says refused =
-    absurd (no_fault (script_of bytes) said (fault, line) says (given left failures old new bytes (λ b. script_of b ≡ Err (fault, line)) is refused.1))
+refused_so left failures old new bytes said (BadFrame line flaw) is says refused = absurd refused
+refused_so left failures old new bytes said (Faulty fault line flaw) is says refused =
+    absurd (no_fault (script_of bytes) said (fault, line) says (given left failures old new bytes
+    (λ b. (script_of b ≡ Err (fault, line)) × (flaw ≡ script_flaw fault (line_at b line))) is refused.1).0)
 
 pub script_not_refused : {S : Type 0} (script : Reader S) (bytes : List ℕ) (sites : ℕ) (events : List Act) (place : Place) (why : Why)
     → IsGiven script bytes → script_of bytes ≡ Ok (sites, events) → IsRefusedScript script place why → IsDeviceFault why

@@ -1,7 +1,7 @@
 -- The lines of a file that the program is given, and their fields.
 use Rattle.std.specs.Prelude.{ℕ, Bool, false, not, ◌+◌, ◌-◌, ◌==◌, ◌&&◌, nat_lt, if◌then◌else◌}
-use Rattle.std.specs.Prelude.{List, [], ◌∷◌, filter, length, map, slice_index}
-use Rattle.std.specs.Prelude.{Option, Some, None}
+use Rattle.std.specs.Prelude.{List, [], ◌∷◌, filter, length, map, slice_get, slice_index}
+use Rattle.std.specs.Prelude.{Option, Some, None, unwrap_or}
 use Rattle.std.specs.List.{count_by, enumerate_from, slice_split}
 use Rattle.std.specs.Str.{is_utf8}
 use Rattle.std.specs.Borrow.{Bor}
@@ -37,6 +37,10 @@ counts (first ∷ rest) = not (first == hash)
 -- the lines that count, each behind the number of the lines before it
 abbrev pub counting : List ℕ → List (ℕ × Line)
 counting bytes = filter (λ l. counts l.1) (enumerate_from 0 (lines bytes))
+
+-- the line of this number, counted from 1; an empty one where there is none
+abbrev pub line_at : List ℕ → ℕ → Line
+line_at bytes number = unwrap_or (slice_get (lines bytes) (number - 1)) []
 
 -- such lines, as the program has them
 abbrev pub seen : List (ℕ × Bor (List ℕ)) → List (ℕ × Line)

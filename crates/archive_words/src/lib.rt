@@ -8,10 +8,12 @@
 //! - `numbers`: hex digits, and the word of an address;
 //! - `identities`: the words of a UUID and of a digest;
 //! - `words`: what a word is;
-//! - `lines`: the lines of a file that count, and the fields in which its words stand.
+//! - `lines`: the lines of a file that count, and the fields in which its words stand;
+//! - `flaws`: what keeps a line from having such fields.
 #![tactic(auto)]
 
 mod archs;
+mod flaws;
 mod identities;
 pub mod laws;
 mod lines;
@@ -19,6 +21,7 @@ pub mod machine;
 mod numbers;
 mod words;
 
-pub use lines::{cut_field, lines_that_count, number_of_lines};
+pub use flaws::{LineFlaw, line_flaw};
+pub use lines::{cut_field, line_at, lines_that_count, number_of_lines};
 pub use numbers::Address;
 pub use words::{Spelled, Word};

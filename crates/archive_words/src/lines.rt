@@ -1,7 +1,8 @@
 //! The lines of a file that count, and their fields.
 
-ghost use Rattle.std.specs.Prelude.{◌≡◌, ◌<◌, ◌^◌, ◌∷◌, All, IfOk, length, option_map};
-ghost use Rattle.archive_words.specs.Lines.{counting, counts, fields_behind, line_count, parts, seen};
+ghost use Rattle.std.specs.Prelude.{◌≡◌, ◌<◌, ◌^◌, ◌∷◌, All, IfOk, length, option_map, slice_get};
+ghost use Rattle.archive_words.specs.Lines.{counting, counts, fields_behind, line_at, line_count, lines};
+ghost use Rattle.archive_words.specs.Lines.{parts, seen};
 
 use memory::{Heap, NoMemory};
 
@@ -26,6 +27,23 @@ fn line_counts(line: &[u8]) -> bool
         [] => false,
         [first, ..] => *first != b'#',
     }
+}
+
+/// The line of this number, counted from 1; an empty one where there is none.
+pub fn line_at(bytes: &[u8], number: u64) -> &[u8]
+    ensures { result.now ≡ line_at bytes.now number }
+{
+    match line_behind(bytes, number.saturating_sub(1) as usize) {
+        Some(line) => line,
+        None => &[],
+    }
+}
+
+// The line behind so many others.
+fn line_behind(bytes: &[u8], others: usize) -> Option<&[u8]>
+    ensures { option_map (λ line. line.now) result ≡ slice_get (lines bytes.now) others }
+{
+    bytes.split(|byte| *byte == b'\n').nth(others)
 }
 
 /// The number of lines: one for each newline, and one more where bytes follow the last of them.

@@ -2,3 +2,4 @@ pub mod Readers
 pub mod Endings
 pub mod Lent
 pub mod Amidst
+pub mod Given

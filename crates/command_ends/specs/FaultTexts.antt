@@ -26,8 +26,8 @@ why_text CannotOpen = codes "cannot open"
 why_text Device = codes "Device"
 why_text (Record fault) = record_fault_text fault
 why_text (Take fault) = take_fault_text fault
-why_text (Script fault line) = script_fault_text fault ++ codes " at line " ++ decimal line
-why_text (BadFrame line) = codes "BadFrame at line " ++ decimal line
+why_text (Script fault line _) = script_fault_text fault ++ codes " at line " ++ decimal line
+why_text (BadFrame line _) = codes "BadFrame at line " ++ decimal line
 
 -- where a device failed: the number of bytes that it had taken
 abbrev pub failed_after : ℕ → List ℕ

@@ -16,8 +16,11 @@ use Rattle.archive_records.specs.declared.kind.TextKind.TheVariants.{Summary as 
 use Rattle.admission.specs.File.{IsAcceptedFile, IsTakeFault}
 use Rattle.admission.specs.declared.fault.TakeFault.{TakeFault}
 use Rattle.admission.specs.declared.fault.TakeFault.TheVariants.{OutOfMemory as TakeOutOfMemory}
+use Rattle.archive_words.specs.Lines.{line_at}
+use Rattle.crash_frames.specs.Flaws.{frame_flaw}
 use Rattle.crash_frames.specs.Frames.{frames_of}
 use Rattle.crash_frames.specs.declared.frame.Frame.{Frame}
+use Rattle.rehearsal.specs.Flaws.{script_flaw}
 use Rattle.rehearsal.specs.Script.{script_of}
 use Rattle.byte_device.specs.declared.disks.CannotOpen.{CannotOpen}
 use Rattle.command_ends.specs.declared.faults.CommandFault.{CommandFault}
@@ -118,26 +121,30 @@ IsUnread input CannotRead =
     MatchResult input.old (λ source. FailedIn (input.failures source) (failures_of input.failures input.new)) (λ _. ⊥)
 IsUnread input (Record _) = ⊥
 IsUnread input (Take _) = ⊥
-IsUnread input (Faulty _ _) = ⊥
-IsUnread input (BadFrame _) = ⊥
+IsUnread input (Faulty _ _ _) = ⊥
+IsUnread input (BadFrame _ _) = ⊥
 
--- why a script is not carried out: its bytes are not read, or they are and this is wrong with their first faulty line
+-- why a script is not carried out: its bytes are not read, or they are and this is wrong with their first faulty
+-- line, which has this flaw
 abbrev pub IsScriptRefused : {S : Type 0} → Reader S → Why → Type 0
 IsScriptRefused input NotOpened = IsUnread input NotOpened
 IsScriptRefused input CannotRead = IsUnread input CannotRead
 IsScriptRefused input (Record _) = ⊥
 IsScriptRefused input (Take _) = ⊥
-IsScriptRefused input (Faulty fault line) = Unfailed input × Gives input (λ bytes. script_of bytes ≡ Err (fault, line))
-IsScriptRefused input (BadFrame _) = ⊥
+IsScriptRefused input (Faulty fault line flaw) = Unfailed input
+    × Gives input (λ bytes. (script_of bytes ≡ Err (fault, line)) × (flaw ≡ script_flaw fault (line_at bytes line)))
+IsScriptRefused input (BadFrame _ _) = ⊥
 
--- why nothing is told of frames: their bytes are not read, or they are and this is their first faulty line
+-- why nothing is told of frames: their bytes are not read, or they are and this is their first faulty line, with its
+-- flaw
 abbrev pub IsFramesRefused : {S : Type 0} → Reader S → Why → Type 0
 IsFramesRefused input NotOpened = IsUnread input NotOpened
 IsFramesRefused input CannotRead = IsUnread input CannotRead
 IsFramesRefused input (Record _) = ⊥
 IsFramesRefused input (Take _) = ⊥
-IsFramesRefused input (Faulty _ _) = ⊥
-IsFramesRefused input (BadFrame line) = Unfailed input × Gives input (λ bytes. frames_of bytes ≡ Err line)
+IsFramesRefused input (Faulty _ _ _) = ⊥
+IsFramesRefused input (BadFrame line flaw) = Unfailed input
+    × Gives input (λ bytes. (frames_of bytes ≡ Err line) × (flaw ≡ frame_flaw (line_at bytes line)))
 
 -- The input is an archive's text.
 abbrev pub IsArchive : {S : Type 0} → Reader S → Type 0
@@ -249,8 +256,8 @@ IsDeviceFault NotOpened = ⊥
 IsDeviceFault CannotRead = Unit {0}
 IsDeviceFault (Record fault) = fault.kind ≡ Device
 IsDeviceFault (Take _) = ⊥
-IsDeviceFault (Faulty _ _) = ⊥
-IsDeviceFault (BadFrame _) = ⊥
+IsDeviceFault (Faulty _ _ _) = ⊥
+IsDeviceFault (BadFrame _ _) = ⊥
 
 -- An archive's text is refused for its device alone.
 abbrev pub RefusesDevicesAlone : {R : Type 0} → (Reader R → Place → Why → Type 0) → Type 0

@@ -2,7 +2,8 @@
 
 use admission::TakeFault;
 use archive_records::RecordFault;
-use rehearsal::ScriptFault;
+use crash_frames::FrameFlaw;
+use rehearsal::{ScriptFault, ScriptFlaw};
 use report_text::Text;
 use std::alloc::{AllocError, AllocFailed};
 use std::error::Error;
@@ -45,10 +46,17 @@ pub enum Why {
     Record(RecordFault),
     /// Its slices are not taken.
     Take(TakeFault),
-    /// It is no script; the line is the first faulty one, counted from 1.
-    Script { fault: ScriptFault, line: u64 },
-    /// It is no text of frames; the line is the first faulty one, counted from 1.
-    BadFrame { line: u64 },
+    /// It is no script; the line is the first faulty one, counted from 1. Its flaw is not printed with it.
+    Script {
+        fault: ScriptFault,
+        line: u64,
+        flaw: Option<ScriptFlaw>,
+    },
+    /// It is no text of frames; the line is the first faulty one, counted from 1. Its flaw is not printed with it.
+    BadFrame {
+        line: u64,
+        flaw: FrameFlaw,
+    },
 }
 
 /// Why a command is refused.
@@ -126,11 +134,11 @@ impl fmt::Display for Why {
                 let fault = Text(*fault);
                 write!(f, "{fault}")
             }
-            Why::Script { fault, line } => {
+            Why::Script { fault, line, .. } => {
                 let fault = Text(*fault);
                 write!(f, "{fault} at line {line}")
             }
-            Why::BadFrame { line } => write!(f, "BadFrame at line {line}"),
+            Why::BadFrame { line, .. } => write!(f, "BadFrame at line {line}"),
         }
     }
 }

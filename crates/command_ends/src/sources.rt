@@ -24,10 +24,11 @@ use archive_reading::{
     test_archive,
 };
 use archive_records::{RecordFault, RecordFaultKind, Summary, read_summary};
+use archive_words::line_at;
 use byte_device::{CannotOpen, ReadFault, Source, read_to_end};
-use crash_frames::{Frame, FramesError, read_frames};
+use crash_frames::{Frame, FramesError, frame_flaw, read_frames};
 use memory::Heap;
-use rehearsal::{Script, ScriptError, read_script};
+use rehearsal::{Script, ScriptError, read_script, script_flaw};
 
 /// The source of an input, or its refusal where it could not be opened.
 pub fn opened<S>(input: &mut Result<S, CannotOpen>, at: Place) -> Result<&mut S, CommandFault>
@@ -272,7 +273,8 @@ pub fn read_events<S: Source>(
     match read_script(heap, &bytes) {
         Ok(said) => Ok(said),
         Err(ScriptError::Faulty { fault, line }) => {
-            Err(CommandFault::Input(Place::Script, Why::Script { fault, line }))
+            let flaw = script_flaw(fault, line_at(&bytes, line));
+            Err(CommandFault::Input(Place::Script, Why::Script { fault, line, flaw }))
         }
         Err(ScriptError::OutOfMemory) => Err(CommandFault::OutOfMemory),
     }
@@ -294,7 +296,8 @@ pub fn read_crash<S: Source>(
     match read_frames(heap, &bytes) {
         Ok(said) => Ok(said),
         Err(FramesError::BadFrame { line }) => {
-            Err(CommandFault::Input(Place::Frames, Why::BadFrame { line }))
+            let flaw = frame_flaw(line_at(&bytes, line));
+            Err(CommandFault::Input(Place::Frames, Why::BadFrame { line, flaw }))
         }
         Err(FramesError::OutOfMemory) => Err(CommandFault::OutOfMemory),
     }

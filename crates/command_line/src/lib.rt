@@ -23,6 +23,7 @@ mod reads;
 mod updates;
 mod values;
 
+pub use commands::{Form, form_text};
 pub use line_faults::LineFault;
 pub use plans::Plan;
 pub use reads::plan;

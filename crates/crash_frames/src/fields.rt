@@ -1,6 +1,6 @@
 //! The frame that a line tells.
 
-ghost use Rattle.std.specs.Prelude.{◌≡◌};
+ghost use Rattle.std.specs.Prelude.{◌≡◌, ◌≢◌, [], ◌∷◌, MatchOption, length};
 ghost use Rattle.uuid.specs.Text.{parsed};
 ghost use Rattle.archive_words.specs.Lines.{parts};
 ghost use Rattle.archive_words.specs.Words.{address_of, arch_of};
@@ -26,6 +26,24 @@ pub fn read_frame(line: &[u8]) -> Option<Frame>
 fn frame_in(text: &str) -> Option<Frame>
     ensures { result ≡ fields_frame (parts text.now) }
 {
+    let fields = four_fields(text)?;
+    frame_of(fields.uuid, fields.arch, fields.load, fields.address)
+}
+
+/// Four fields, none of which need have its form.
+#[derive(Clone, Copy)]
+pub struct FourFields<'t> {
+    pub uuid: &'t str,
+    pub arch: &'t str,
+    pub load: &'t str,
+    pub address: &'t str,
+}
+
+/// The fields of a text that has four.
+pub fn four_fields(text: &str) -> Option<FourFields<'_>>
+    ensures { MatchOption result (length (parts text.now) ≢ 4)
+        (λ f. parts text.now ≡ f.uuid.now ∷ f.arch.now ∷ f.load.now ∷ f.address.now ∷ []) }
+{
     let (uuid, behind) = cut_field(text);
     let (arch, behind) = cut_field(behind?);
     let (load, behind) = cut_field(behind?);
@@ -33,7 +51,12 @@ fn frame_in(text: &str) -> Option<Frame>
     if more.is_some() {
         return None;
     }
-    frame_of(uuid, arch, load, address)
+    Some(FourFields {
+        uuid,
+        arch,
+        load,
+        address,
+    })
 }
 
 fn frame_of(uuid: &str, arch: &str, load: &str, address: &str) -> Option<Frame>
@@ -50,8 +73,8 @@ fn frame_of(uuid: &str, arch: &str, load: &str, address: &str) -> Option<Frame>
     })
 }
 
-// Where an image was loaded, or `-` where the address is one of the file.
-fn read_load(text: &str) -> Option<Option<u64>>
+/// Where an image was loaded, or `-` where the address is one of the file.
+pub fn read_load(text: &str) -> Option<Option<u64>>
     ensures { result ≡ load_of text.now }
 {
     if text == "-" {

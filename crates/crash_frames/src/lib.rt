@@ -2,14 +2,17 @@
 //!
 //! - `frame`: a frame, and why bytes are no frames;
 //! - `fields`: the frame that a line tells;
+//! - `flaws`: what is wrong with a line that tells none;
 //! - `reading`: frames, read;
 //! - [`laws`]: what holds of frames.
 #![tactic(auto)]
 
 mod fields;
+mod flaws;
 mod frame;
 pub mod laws;
 mod reading;
 
+pub use flaws::{FrameFlaw, frame_flaw};
 pub use frame::{Frame, FramesError};
 pub use reading::read_frames;

@@ -3,3 +3,4 @@ pub mod Places
 pub mod Pathless
 pub mod Outcomes
 pub mod Saying
+pub mod Reasons

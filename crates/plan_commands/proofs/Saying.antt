@@ -7,47 +7,27 @@ use Rattle.clap.specs.declared.error.kind.ErrorKind.TheVariants.{DisplayHelp, Di
 use Rattle.archive_files.specs.FileCalls.{FileCall}
 use Rattle.archive_files.specs.OutFiles.{placing_calls}
 use Rattle.archive_files.specs.declared.placed.Placed.{Placed}
-use Rattle.command_line.specs.LineFaults.{IsHelpUnlessMemory, IsRefusalUnlessMemory}
-use Rattle.command_line.specs.Lines.{are_accepted, error_kinds, is_in_order}
+use Rattle.command_line.specs.LineFaults.{IsHelpUnlessMemory, IsRefusalUnlessMemory, IsToldFor}
+use Rattle.command_line.specs.Lines.{error_kinds, is_in_order, named_command}
 use Rattle.command_line.specs.declared.line_faults.LineFault.{LineFault}
 use Rattle.command_line.specs.declared.line_faults.LineFault.TheVariants.{Help, Refused, OutOfMemory}
 use Rattle.report_text.specs.Report.{line}
 use Rattle.command_ends.specs.declared.failures.Failure.{Failure}
 use Rattle.command_ends.specs.Outputs.{FailsBehind, Takes, Writer}
 use Rattle.plan_commands.specs.Ends.{EndsLine, IsHelped, IsRefused, WantsMemory}
-use Rattle.plan_commands.specs.Said.{Begins, IsPushed, IsSaid, SaysFailure, failure_text, wanting_text}
+use Rattle.plan_commands.specs.Said.{IsPushed, IsSaid, SaysFailure, failure_text, wanting_text}
 
 -- a line whose text is known was said
 pub said_of : (text : Option (List ℕ)) (w : Writer) (bytes given : List ℕ) (whole : Bool) → IfSome text (λ t. bytes ≡ line t)
     → given ≡ bytes → IsPushed w given whole → IfSome text (λ t. IsSaid w t whole)
 said_of None w bytes given whole is same pushed = tt
-said_of (Some t) w bytes given whole is same pushed = inl (subst (λ b. IsPushed w b whole) (same ∙ is) pushed)
+said_of (Some t) w bytes given true is same pushed = subst (λ b. Takes w b) (same ∙ is) pushed
+said_of (Some t) w bytes given false is same failed = inl (subst (λ b. (n : ℕ) × FailsBehind w b n) (same ∙ is) failed)
 
 pub wanting_said : (text : Option (List ℕ)) (w : Writer) (whole : Bool) → IsPushed w (line wanting_text) whole
-    → IfSome text (λ t. IsSaid w t whole)
+    → IfSome text (λ t. IsSaid w t false)
 wanting_said None w whole pushed = tt
-wanting_said (Some t) w whole pushed = inr pushed
-
--- whatever came of bytes that were given, some of them were taken
-pub some_taken : (w : Writer) (bytes : List ℕ) (whole : Bool) → IsPushed w bytes whole → (more : List ℕ) × Appends w.old w.new more
-some_taken w bytes true took = (bytes, took.0)
-some_taken w bytes false failed = (take failed.0 bytes, failed.1.0.gained)
-
-abbrev between : Option (List ℕ) → Option (List ℕ) → ℕ → ℕ → Writer
-between old new before after = record { old = old; new = new; failures_old = before; failures_new = after }
-
--- a line was said, and more behind it
-pub says_more : (old mid new : Option (List ℕ)) (a b c : ℕ) (failure : Failure) → IsSaid (between old mid a b) (failure_text failure) true
-    → (more : List ℕ) → Appends mid new more → SaysFailure (between old new a c) failure
-says_more old mid new a b c failure (inl took) more is =
-    inl (inl (more, Appends-trans old mid new (line (failure_text failure)) more took.0 is))
-says_more old mid new a b c failure (inr took) more is =
-    inr (inl (more, Appends-trans old mid new (line wanting_text) more took.0 is))
-
--- or none was said to its end
-pub says_part : (w : Writer) (failure : Failure) → IsSaid w (failure_text failure) false → SaysFailure w failure
-says_part w failure (inl failed) = inl (inr failed)
-says_part w failure (inr failed) = inr (inr failed)
+wanting_said (Some t) w whole pushed = inr (whole, pushed)
 
 -- ---- words that give no plan
 
@@ -57,20 +37,21 @@ pub no_plan : (words : List Text) (fault : LineFault) (told said : Writer) (stat
     → (error_kinds words ≡ DisplayVersion ∷ [] → IsHelpUnlessMemory fault)
     → (¬ IsAmong DisplayHelp (error_kinds words) → ¬ IsAmong DisplayVersion (error_kinds words)
     → IsRefusalUnlessMemory fault)
+    → (error_kinds words ≡ [] → IsToldFor (named_command words) fault)
     → IsRefused words told said status ⊎ IsHelped words told said status ⊎ WantsMemory told said status
-no_plan words OutOfMemory told said status is memory help version refusal = inr (inr is)
-no_plan words (Refused text) told said status is memory help version refusal = inl (record {
+no_plan words OutOfMemory told said status is memory help version refusal telling = inr (inr is)
+no_plan words (Refused text) told said status is memory help version refusal telling = inl (record {
   no_plan = λ accepted ordered. not_wanting (memory accepted ordered);
   no_help = help;
   no_version = version;
-  nothing_told = is.nothing_told;
-  says = is.says;
-  status_is = is.status_is;
+  text = text;
+  accepted = telling;
+  refuses = is;
 })
   where
     not_wanting : Refused text ≡ OutOfMemory → ⊥
     not_wanting h = cc
-no_plan words (Help text) told said status is memory help version refusal = inr (inl (record {
+no_plan words (Help text) told said status is memory help version refusal telling = inr (inl (record {
   no_plan = λ accepted ordered. not_wanting (memory accepted ordered);
   asked = refusal;
   text = string_bytes text;

@@ -1,8 +1,10 @@
 -- How the program ends.
-use Rattle.std.specs.Prelude.{◌≡◌, ◌≢◌, ◌⊎◌, ℕ, Bool, true, List, [], ◌∷◌, Option, Some, Result, string_bytes}
+use Rattle.std.specs.Prelude.{◌≡◌, ◌≢◌, ◌⊎◌, ℕ, Bool, true, List, [], ◌∷◌, codes, Option, Some, Result, String, string_bytes}
+use Rattle.std.specs.declared.alloc.Global.{Global}
 use Rattle.clap.specs.Words.{IsAmong, Text}
 use Rattle.clap.specs.declared.error.kind.ErrorKind.TheVariants.{DisplayHelp, DisplayVersion}
-use Rattle.command_line.specs.Lines.{Line, error_kinds, is_in_order, line_of}
+use Rattle.command_line.specs.LineFaults.{IsToldFor}
+use Rattle.command_line.specs.Lines.{Line, error_kinds, is_in_order, line_of, named_command}
 use Rattle.command_line.specs.declared.line_faults.LineFault.{LineFault}
 use Rattle.command_line.specs.declared.line_faults.LineFault.TheVariants as fault
 use Rattle.command_ends.specs.declared.failures.Failure.{Failure}
@@ -10,7 +12,7 @@ use Rattle.command_ends.specs.declared.faults.Status.{Status}
 use Rattle.command_ends.specs.Outputs.{Takes, Writer}
 use Rattle.command_ends.specs.Statuses.{status_of}
 use Rattle.plan_commands.specs.Files.{Calls, IsCarriedOut, IsUnbegun}
-use Rattle.plan_commands.specs.Said.{IsPushed, SaysEnd, SaysRefused, SaysWanting}
+use Rattle.plan_commands.specs.Said.{IsPushed, SaysEnd, SaysRefused, SaysWanting, reason_in}
 
 -- No call of the system was noted.
 pub record IsIdle {S D T : Type 0} (calls : Calls S D T) : Type 0 where
@@ -32,14 +34,20 @@ pub record Ran {S D T : Type 0} (calls : Calls S D T) (words : List Text) (told 
 abbrev pub HasNoPlan : List Text → Type 0
 HasNoPlan words = error_kinds words ≡ [] → is_in_order words ≡ true → ⊥
 
--- The words are refused, and why is said.
+-- Nothing is told, and this reason is said.
+pub record Refuses (told said : Writer) (reason : Text) (status : ℕ) : Type 0 where
+  pub nothing_told : Takes told []
+  pub says : SaysRefused said reason
+  pub status_is : status ≡ 3
+
+-- The words are refused, and why is said: words that are accepted have one of the reasons of the command that they name.
 pub record IsRefused (words : List Text) (told said : Writer) (status : ℕ) : Type 0 where
   pub no_plan : HasNoPlan words
   pub no_help : error_kinds words ≢ DisplayHelp ∷ []
   pub no_version : error_kinds words ≢ DisplayVersion ∷ []
-  pub nothing_told : Takes told []
-  pub says : SaysRefused said
-  pub status_is : status ≡ 3
+  pub text : String Global
+  pub accepted : error_kinds words ≡ [] → IsToldFor (named_command words) (fault.Refused text)
+  pub refuses : Refuses told said (reason_in (string_bytes text)) status
 
 -- The words ask for help or for the version, and that is told.
 pub record IsHelped (words : List Text) (told said : Writer) (status : ℕ) : Type 0 where
@@ -66,14 +74,12 @@ EndsWords calls words told said status =
     ⊎ (IsIdle calls × (IsRefused words told said status ⊎ IsHelped words told said status ⊎ WantsMemory told said status))
 
 -- It ends so where the words could not be read, for another reason than want of memory.
-pub record IsUnreadable (told said : Writer) (status : ℕ) : Type 0 where
-  pub nothing_told : Takes told []
-  pub says : SaysRefused said
-  pub status_is : status ≡ 3
+abbrev pub IsUnreadable : Writer → Writer → ℕ → Type 0
+IsUnreadable told said status = Refuses told said (codes "invalid word: expected UTF-8 text") status
 
 -- what is told and said of a line that gives no plan, and the exit status
 abbrev pub EndsLine : LineFault → Writer → Writer → ℕ → Type 0
 EndsLine (fault.Help text) told said status =
     (whole : Bool) × IsPushed told (string_bytes text) whole × Takes said [] × (status ≡ 0)
-EndsLine (fault.Refused _) told said status = IsUnreadable told said status
+EndsLine (fault.Refused text) told said status = Refuses told said (reason_in (string_bytes text)) status
 EndsLine fault.OutOfMemory told said status = WantsMemory told said status

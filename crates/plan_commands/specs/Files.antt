@@ -1,6 +1,9 @@
 -- A line that is carried out over files of the system.
-use Rattle.std.specs.Prelude.{◌≡◌, ◌⊎◌, ℕ, List, [], length, Option, Some, None, Result, Ok, Err}
+use Rattle.std.specs.Prelude.{◌≡◌, ◌⊎◌, ℕ, List, [], ◌++◌, length, Option, Some, None, Result, Ok, Err}
 use Rattle.std.specs.Io.KnownBytes.{Appends}
+use Rattle.std.specs.declared.io.traits.Read.{Ghosts as Reads}
+use Rattle.std.specs.declared.io.traits.Seek.{Ghosts as Seeks}
+use Rattle.std.specs.declared.io.traits.Write.{Ghosts as Writes}
 use Rattle.clap.specs.Words.{Text}
 use Rattle.command_line.specs.Lines.{Line, inputs_of, out_of}
 use Rattle.command_ends.specs.declared.failures.Failure.{Failure}
@@ -11,9 +14,11 @@ use Rattle.command_ends.specs.declared.faults.Status.{Status}
 use Rattle.command_ends.specs.declared.outputs.Output.{Output as Out}
 use Rattle.command_ends.specs.Outputs.{IsKept, Outs, Places, Writer, out_of as known_of, outs}
 use Rattle.archive_files.specs.FileCalls.{FileCall, bytes_in}
+use Rattle.archive_files.specs.OutFiles.{fault_of, placing_calls, stage_of}
 use Rattle.archive_files.specs.Placing.{IsPath, IsPlaced, IsRemoved, account}
 use Rattle.archive_files.specs.declared.replaceable.OutFault.{OutFault}
 use Rattle.archive_files.specs.declared.replaceable.OutFault.TheVariants as fault
+use Rattle.archive_files.specs.declared.system_files.SystemFiles.{SystemFiles}
 use Rattle.plan_commands.specs.Disks.{AreFirstOpened, Carried}
 use Rattle.byte_device.specs.declared.disks.CannotOpen.{CannotOpen}
 use Rattle.byte_device.specs.Disks.{At}
@@ -72,10 +77,11 @@ pub record Calls (S D T : Type 0) : Type 0 where
   pub called : List FileCall
   pub fault : Option OutFault
 
-abbrev pub calls_of : {S D T : Type 0} → (S → Option (List ℕ)) → (S → ℕ) → (S → List Text) → (D → Option (List ℕ)) → (D → ℕ)
-    → (T → Option (List ℕ)) → (T → ℕ) → List Text → List Text → List Text → List Text → List FileCall → Option OutFault
-    → Calls S D T
-calls_of left failures path_of held draft_failures placed place_failures opened_old opened_new others same called fault = record {
+-- the calls between these two states of the files
+abbrev pub calls_of : {F T E S D P : Type 0} {reads : Reads T} {writes : Writes T} {seeks : Seeks T} {lists : Reads E} → (S → Option (List ℕ)) → (S → ℕ) → (S → List Text) → (D → Option (List ℕ)) → (D → ℕ)
+    → (P → Option (List ℕ)) → (P → ℕ) → SystemFiles F T E reads writes seeks lists
+    → SystemFiles F T E reads writes seeks lists → Calls S D P
+calls_of left failures path_of held draft_failures placed place_failures old new = record {
   left = left;
   failures = failures;
   path_of = path_of;
@@ -83,12 +89,12 @@ calls_of left failures path_of held draft_failures placed place_failures opened_
   draft_failures = draft_failures;
   placed = placed;
   place_failures = place_failures;
-  opened_old = opened_old;
-  opened_new = opened_new;
-  others = others;
-  same = same;
-  called = called;
-  fault = fault;
+  opened_old = old.disk.opened.entries;
+  opened_new = new.disk.opened.entries;
+  others = new.others.entries;
+  same = new.same.entries;
+  called = placing_calls new.out.target.placed ++ new.out.draft.calls.entries;
+  fault = fault_of (stage_of new.out.draft.state);
 }
 
 -- OUT in the command, between these two states

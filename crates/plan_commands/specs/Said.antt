@@ -1,6 +1,8 @@
 -- What is said on standard error.
-use Rattle.std.specs.Prelude.{◌⊎◌, ℕ, Bool, true, false, List, [], ◌++◌, codes, Result, Ok, Err}
+use Rattle.std.specs.Prelude.{◌⊎◌, ℕ, Bool, true, false, List, [], ◌∷◌, ◌++◌, ◌-◌, codes, drop, length, take, if◌then◌else◌, nat_eq, Result, Ok, Err}
 use Rattle.std.specs.Io.KnownBytes.{Appends}
+use Rattle.std.specs.List.{ends_with, starts_with}
+use Rattle.clap.specs.Words.{Text}
 use Rattle.byte_device.specs.Disks.{cannot_create_text}
 use Rattle.report_text.specs.Report.{line}
 use Rattle.command_ends.specs.declared.failures.Failure.{Failure}
@@ -28,24 +30,35 @@ IsPushed said bytes false = (n : ℕ) × FailsBehind said bytes n
 abbrev pub SaysWanting : Writer → Bool → Type 0
 SaysWanting said whole = IsPushed said (line wanting_text) whole
 
--- The line was said, or, where there was no memory for it, that of want of memory.
+-- The line was said to its end; or the writer failed inside it, or there was no memory for it, and want of memory was
+-- said in its place.
 abbrev pub IsSaid : Writer → List ℕ → Bool → Type 0
-IsSaid said text whole = IsPushed said (line text) whole ⊎ SaysWanting said whole
+IsSaid said text true = Takes said (line text)
+IsSaid said text false = ((n : ℕ) × FailsBehind said (line text) n) ⊎ ((whole : Bool) × SaysWanting said whole)
 
--- The writer took this line, and what helps a person behind it; or it failed inside the line.
-abbrev pub Begins : Writer → List ℕ → Type 0
-Begins said text =
-    ((more : List ℕ) × Appends said.old said.new (line text ++ more)) ⊎ ((n : ℕ) × FailsBehind said (line text) n)
-
--- the line of a failure was said, or that of want of memory, and behind it what helps a person
+-- The writer took the line of a failure, and what helps a person after it; or it failed inside the line; or there was
+-- no memory for it, and want of memory was said in its place, and no more.
 abbrev pub SaysFailure : Writer → Failure → Type 0
-SaysFailure said failure = Begins said (failure_text failure) ⊎ Begins said wanting_text
+SaysFailure said failure =
+    ((more : List ℕ) × Appends said.old said.new (line (failure_text failure) ++ more))
+    ⊎ IsSaid said (failure_text failure) false
 
 -- what a command that ended so says: nothing, or why it failed
 abbrev pub SaysEnd : Writer → Result Status Failure → Type 0
 SaysEnd said (Ok _) = Takes said []
 SaysEnd said (Err failure) = SaysFailure said failure
 
--- A reason is said for which words are refused.
-abbrev pub SaysRefused : Writer → Type 0
-SaysRefused said = (reason : List ℕ) × (whole : Bool) × IsSaid said (codes "symarch: " ++ reason) whole
+-- a text without the line feed at its end, and without the word at its front
+abbrev pub without_line_feed : Text → Text
+without_line_feed text = if ends_with nat_eq text (10 ∷ []) then take (length text - 1) text else text
+
+abbrev pub behind_error : Text → Text
+behind_error text = if starts_with nat_eq text (codes "error: ") then drop 7 text else text
+
+-- the reason in the text of a refused line, which begins with `error: ` and ends with a line feed
+abbrev pub reason_in : Text → Text
+reason_in text = behind_error (without_line_feed text)
+
+-- This reason is said for which words are refused.
+abbrev pub SaysRefused : Writer → Text → Type 0
+SaysRefused said reason = (whole : Bool) × IsSaid said (codes "symarch: " ++ reason) whole

@@ -1,8 +1,9 @@
 //! A plan, carried out over files of the system.
 
-ghost use Rattle.std.specs.Prelude.{◌≡◌, ◌⊎◌, ◌++◌, [], None, OnOk, option_map, string_bytes};
+ghost use Rattle.std.specs.Prelude.{◌≡◌, ◌⊎◌, [], None, OnOk, option_map, string_bytes};
 ghost use Rattle.command_ends.specs.Outputs.{writer};
-ghost use Rattle.archive_files.specs.OutFiles.{AreFresh, Untouched, fault_of, placing_calls, stage_of};
+ghost use Rattle.archive_files.specs.Fresh.{AreFresh};
+ghost use Rattle.archive_files.specs.OutFiles.{Untouched, stage_of};
 ghost use Rattle.archive_files.specs.Placing.{IsPath};
 ghost use Rattle.command_line.specs.Lines.{inputs_of, out_of, plan_view};
 ghost use Rattle.plan_commands.specs.Files.{IsCarriedOut, IsUnbegun, calls_of, command_fault_of, out_failure};
@@ -20,9 +21,7 @@ use std::rt::Files;
 
 /// Takes the path of OUT, if the plan has one. `new` replaces no archive that has records.
 fn begin<F: Files>(files: &mut SystemFiles<'_, F>, plan: &Plan) -> Result<(), NoMemory>
-    requires { AreFresh files.old.others.entries files.old.same.entries
-        (option_map string_bytes files.old.out.draft.path) files.old.out.draft.state files.old.out.draft.failures
-        files.old.out.draft.calls.entries files.old.out.target.placed }
+    requires { AreFresh files.old }
     ensures opened { files.new.disk.opened.entries ≡ files.old.disk.opened.entries }
     ensures path { OnOk result (IsPath (out_of (plan_view plan.now)) (inputs_of (plan_view plan.now))
         files.new.others.entries files.new.same.entries (option_map string_bytes files.new.out.draft.path)) }
@@ -74,17 +73,12 @@ pub fn execute<'f, F: Files, P: Sink>(
     report: &mut P,
     seen: &mut Seen,
 ) -> Result<Status, Failure>
-    requires { AreFresh files.old.others.entries files.old.same.entries
-        (option_map string_bytes files.old.out.draft.path) files.old.out.draft.state files.old.out.draft.failures
-        files.old.out.draft.calls.entries files.old.out.target.placed }
+    requires { AreFresh files.old }
     ensures { let calls = calls_of ⟦<OpenedFile<BufReader<F::File>> as Source>⟧.left
         ⟦<OpenedFile<BufReader<F::File>> as Source>⟧.failures ⟦<SystemDisk<'f, F> as Disk>⟧.path_of
         ⟦<OutFile<'f, F> as Sink>⟧.held
         ⟦<OutFile<'f, F> as Sink>⟧.failures ⟦<OutPath<'f, F> as Target>⟧.placed
-        ⟦<OutPath<'f, F> as Target>⟧.failures files.old.disk.opened.entries files.new.disk.opened.entries
-        files.new.others.entries files.new.same.entries
-        (placing_calls files.new.out.target.placed ++ files.new.out.draft.calls.entries)
-        (fault_of (stage_of files.new.out.draft.state)) in
+        ⟦<OutPath<'f, F> as Target>⟧.failures files.old files.new in
         let told = writer P.held P.failures report.old report.new in
         IsUnbegun calls (plan_view plan.now) told result ⊎ IsCarriedOut calls (plan_view plan.now) told result }
 {

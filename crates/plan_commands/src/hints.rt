@@ -1,10 +1,13 @@
 //! What helps a person with a failure: which file it was, what the system said, and what a refused file looks like. It
-//! stands in a line of its own behind that of the failure, which programs read. Of it contracts say the path alone.
+//! stands in a line of its own after that of the failure, which programs read. Of it contracts say the path and the
+//! faulty line alone.
 
-ghost use Rattle.std.specs.Prelude.{◌≡◌, IfSome, Some, map, option_map, slice_get, string_bytes};
+ghost use Rattle.std.specs.Prelude.{◌≡◌, IfSome, None, Some, map, option_map, slice_get, string_bytes};
 ghost use Rattle.command_line.specs.Lines.{out_of, plan_view};
-ghost use Rattle.plan_commands.specs.Hints.{archive_at, file_of, path_at};
+ghost use Rattle.plan_commands.specs.Hints.{IsOfNoFile, IsOfOut, archive_at, faulty_line_of, file_of};
+ghost use Rattle.plan_commands.specs.Hints.{path_at};
 
+use crate::flaws::FaultyLine;
 use crate::looks::Look;
 use archive_files::{OpenedFile, OutFile};
 use byte_device::CannotOpen;
@@ -50,7 +53,10 @@ impl Seen {
         plan: &Plan,
         inputs: &[Result<OpenedFile<R>, CannotOpen>],
         out: &OutFile<'_, F>,
-    ) -> Seen {
+    ) -> Seen
+        ensures nothing { IsOfNoFile ended.now → (result.reason ≡ None) × (result.look ≡ None) }
+        ensures out { IsOfOut ended.now → result.look ≡ None }
+    {
         match ended {
             Err(CommandFault::Input(place, _)) => match inputs.get(index_of(plan, *place)) {
                 Some(input) => Seen::of_input(input),
@@ -150,13 +156,13 @@ pub struct Hint<'p> {
     subject: Subject,
     path: &'p str,
     note: Option<&'static str>,
+    faulty: Option<FaultyLine>,
     seen: Seen,
 }
 
 /// What a refused file looks like, where that says why it is refused.
 fn look_of(why: Why, look: Option<Look>) -> Option<Look> {
     match (why, look) {
-        (Why::BadFrame { line: 1 } | Why::Script { line: 1, .. }, Some(Look::Marked)) => look,
         (Why::Record(fault), _) if fault.offset == 0 => look,
         (Why::Take(_), Some(Look::MachO | Look::Universal | Look::Marked)) => None,
         (Why::Take(_), _) => look,
@@ -166,7 +172,8 @@ fn look_of(why: Why, look: Option<Look>) -> Option<Look> {
 
 /// The line that helps with this failure of a plan, if there is one.
 pub fn help_with<'p>(plan: &'p Plan, failure: &Failure, seen: Seen) -> Option<Hint<'p>>
-    ensures { IfSome result (λ hint. Some hint.path.now ≡ file_of (plan_view plan.now) failure.now) }
+    ensures path { IfSome result (λ hint. Some hint.path.now ≡ file_of (plan_view plan.now) failure.now) }
+    ensures faulty { IfSome result (λ hint. hint.faulty ≡ faulty_line_of failure.now) }
 {
     match failure {
         Failure::Command(CommandFault::Input(place, why)) => {
@@ -174,6 +181,7 @@ pub fn help_with<'p>(plan: &'p Plan, failure: &Failure, seen: Seen) -> Option<Hi
                 subject: Subject::Input(*place),
                 path: path_at(plan, *place)?,
                 note: None,
+                faulty: FaultyLine::of(*why),
                 seen: Seen {
                     reason: seen.reason,
                     look: look_of(*why, seen.look),
@@ -201,12 +209,14 @@ fn not_replaced(plan: &Plan) -> &'static str {
 
 /// A line of OUT. What is noted of it is said where the system said nothing.
 fn out_hint<'p>(plan: &'p Plan, note: Option<&'static str>, seen: Seen) -> Option<Hint<'p>>
-    ensures { IfSome result (λ hint. Some hint.path.now ≡ out_of (plan_view plan.now)) }
+    ensures path { IfSome result (λ hint. Some hint.path.now ≡ out_of (plan_view plan.now)) }
+    ensures faulty { IfSome result (λ hint. hint.faulty ≡ None) }
 {
     Some(Hint {
         subject: Subject::Output,
         path: plan.out()?,
         note: if seen.reason.is_none() { note } else { None },
+        faulty: None,
         seen,
     })
 }
@@ -226,6 +236,9 @@ impl Display for Hint<'_> {
         write_path(self.path, f)?;
         if let Some(note) = self.note {
             write!(f, ", {note}")?;
+        }
+        if let Some(faulty) = self.faulty {
+            write!(f, ", {faulty}")?;
         }
         if let Some(look) = self.seen.look {
             write!(f, ", {look}")?;

@@ -4,6 +4,7 @@
 //! - `commands`: the command of a plan, over its inputs, OUT and the report;
 //! - `disks`: a plan over files by their paths;
 //! - `looks`: what a file that is refused looks like;
+//! - `flaws`: the faulty line of an input, in words;
 //! - `hints`: what helps a person with a failure;
 //! - `files`: a plan over files of the system;
 //! - `said`: what is said on standard error;
@@ -14,6 +15,7 @@
 mod commands;
 mod disks;
 mod files;
+mod flaws;
 mod hints;
 mod laws;
 mod looks;

@@ -12,6 +12,7 @@ pub enum Look {
     Summary,
     MachO,
     Universal,
+    JavaClass,
     Elf,
     Zip,
     Gzip,
@@ -33,6 +34,10 @@ const BEGINNINGS: [(&[u8], Look); 10] = [
     (b"\xef\xbb\xbf", Look::Marked),
 ];
 
+/// The most slices of a universal file. In a Java class file, which begins alike, its version stands at their number,
+/// and the first version is 45.
+const MOST_SLICES: u32 = 42;
+
 /// symarch's own files.
 const OWN: [(Format, Look); 4] = [
     (Format::Archive, Look::Archive),
@@ -49,10 +54,17 @@ impl Look {
             .iter()
             .find(|(begins, _)| front.starts_with(begins));
         match (own, other) {
+            (_, Some((_, Look::Universal))) if is_class(*front) => Some(Look::JavaClass),
             (Some((_, look)), _) | (None, Some((_, look))) => Some(*look),
             (None, None) => None,
         }
     }
+}
+
+/// Whether what begins as a universal file is a Java class file.
+fn is_class(front: Front) -> bool {
+    let slices = u32::from_be_bytes([front[4], front[5], front[6], front[7]]);
+    front[3] == 0xbe && slices > MOST_SLICES
 }
 
 impl fmt::Display for Look {
@@ -63,6 +75,7 @@ impl fmt::Display for Look {
             Look::Summary => "a summary, which `delta` takes",
             Look::MachO => "a Mach-O file, which `admit` takes",
             Look::Universal => "a universal file, which `admit` takes",
+            Look::JavaClass => "a Java class file, which no command takes",
             Look::Elf => "an ELF file, which no command takes",
             Look::Zip => "a zip file, which has to be unpacked first",
             Look::Gzip => "a gzip file, which has to be unpacked first",

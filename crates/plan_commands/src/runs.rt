@@ -1,13 +1,14 @@
 //! The program over its words, the files of the system, its report and standard error.
 
-ghost use Rattle.std.specs.Prelude.{◌≡◌, ◌≢◌, ◌++◌, MatchResult, map, option_map, string_bytes};
+ghost use Rattle.std.specs.Prelude.{◌≡◌, ◌≢◌, [], List, MatchResult, None, map, string_bytes, ℕ};
 ghost use Rattle.std.specs.IoError.{error_kind};
-ghost use Rattle.command_ends.specs.Outputs.{writer};
-ghost use Rattle.archive_files.specs.OutFiles.{AreFresh, fault_of, placing_calls, stage_of};
+ghost use Rattle.std.specs.Io.KnownBytes.{Appends};
+ghost use Rattle.command_ends.specs.Outputs.{Takes, writer};
+ghost use Rattle.archive_files.specs.Fresh.{AreFresh};
 ghost use Rattle.plan_commands.specs.Files.{calls_of};
 ghost use Rattle.command_ends.specs.Statuses.{status_of};
 ghost use Rattle.plan_commands.specs.Ends.{EndsLine, EndsWords, IsIdle, IsUnreadable, WantsMemory};
-ghost use Rattle.plan_commands.specs.Said.{SaysEnd, SaysFailure};
+ghost use Rattle.plan_commands.specs.Said.{SaysEnd, SaysFailure, behind_error, reason_in, without_line_feed};
 
 use crate::files::execute;
 use crate::hints::{Seen, help_with};
@@ -38,17 +39,12 @@ pub fn run<'f, F: Files, P: Sink, E: Sink>(
     report: &mut P,
     errors: &mut E,
 ) -> u8
-    requires { AreFresh files.old.others.entries files.old.same.entries
-        (option_map string_bytes files.old.out.draft.path) files.old.out.draft.state files.old.out.draft.failures
-        files.old.out.draft.calls.entries files.old.out.target.placed }
+    requires { AreFresh files.old }
     ensures { let calls = calls_of ⟦<OpenedFile<BufReader<F::File>> as Source>⟧.left
         ⟦<OpenedFile<BufReader<F::File>> as Source>⟧.failures ⟦<SystemDisk<'f, F> as Disk>⟧.path_of
         ⟦<OutFile<'f, F> as Sink>⟧.held
         ⟦<OutFile<'f, F> as Sink>⟧.failures ⟦<OutPath<'f, F> as Target>⟧.placed
-        ⟦<OutPath<'f, F> as Target>⟧.failures files.old.disk.opened.entries files.new.disk.opened.entries
-        files.new.others.entries files.new.same.entries
-        (placing_calls files.new.out.target.placed ++ files.new.out.draft.calls.entries)
-        (fault_of (stage_of files.new.out.draft.state)) in
+        ⟦<OutPath<'f, F> as Target>⟧.failures files.old files.new in
         let told = writer P.held P.failures report.old report.new in
         let said = writer E.held E.failures errors.old errors.new in
         MatchResult words (λ read. EndsWords calls (map string_bytes read.items) told said result)
@@ -68,17 +64,12 @@ fn run_words<'f, F: Files, P: Sink, E: Sink>(
     report: &mut P,
     errors: &mut E,
 ) -> u8
-    requires { AreFresh files.old.others.entries files.old.same.entries
-        (option_map string_bytes files.old.out.draft.path) files.old.out.draft.state files.old.out.draft.failures
-        files.old.out.draft.calls.entries files.old.out.target.placed }
+    requires { AreFresh files.old }
     ensures { let calls = calls_of ⟦<OpenedFile<BufReader<F::File>> as Source>⟧.left
         ⟦<OpenedFile<BufReader<F::File>> as Source>⟧.failures ⟦<SystemDisk<'f, F> as Disk>⟧.path_of
         ⟦<OutFile<'f, F> as Sink>⟧.held
         ⟦<OutFile<'f, F> as Sink>⟧.failures ⟦<OutPath<'f, F> as Target>⟧.placed
-        ⟦<OutPath<'f, F> as Target>⟧.failures files.old.disk.opened.entries files.new.disk.opened.entries
-        files.new.others.entries files.new.same.entries
-        (placing_calls files.new.out.target.placed ++ files.new.out.draft.calls.entries)
-        (fault_of (stage_of files.new.out.draft.state)) in
+        ⟦<OutPath<'f, F> as Target>⟧.failures files.old files.new in
         EndsWords calls (map string_bytes words.now) (writer P.held P.failures report.old report.new)
         (writer E.held E.failures errors.old errors.new) result }
 {
@@ -110,7 +101,7 @@ fn end<E: Sink>(
     status_of(&ended)
 }
 
-/// Says why a plan failed, and behind it what helps a person.
+/// Says why a plan failed, and after it what helps a person.
 fn say_failure<E: Sink>(alloc: Global, plan: &Plan, failure: Failure, seen: Seen, errors: &mut E)
     ensures { SaysFailure (writer E.held E.failures errors.old errors.new) failure }
 {
@@ -149,9 +140,28 @@ fn end_without_plan<P: Sink, E: Sink>(
 }
 
 /// The reason in the text of a refused line, which begins with `error: ` and ends with a line feed.
-fn reason_in(text: &str) -> &str {
-    let line = text.strip_suffix("\n").unwrap_or(text);
-    line.strip_prefix("error: ").unwrap_or(line)
+fn reason_in(text: &str) -> &str
+    ensures { result.now ≡ reason_in text.now }
+{
+    behind_error(without_line_feed(text))
+}
+
+fn without_line_feed(text: &str) -> &str
+    ensures { result.now ≡ without_line_feed text.now }
+{
+    match text.strip_suffix("\n") {
+        Some(line) => line,
+        None => text,
+    }
+}
+
+fn behind_error(text: &str) -> &str
+    ensures { result.now ≡ behind_error text.now }
+{
+    match text.strip_prefix("error: ") {
+        Some(reason) => reason,
+        None => text,
+    }
 }
 
 /// Refuses words that could not be read: there was no memory for them, or one is no text.
@@ -190,8 +200,11 @@ impl Display for ReportHint {
     }
 }
 
-/// Says why the report failed, if that is known, behind the line of that failure.
-pub fn say_report<E: Sink>(alloc: Global, reason: Option<io::Error>, errors: &mut E) {
+/// Says why the report failed, if that is known, after the line of that failure.
+pub fn say_report<E: Sink>(alloc: Global, reason: Option<io::Error>, errors: &mut E)
+    ensures unknown { reason ≡ None → Takes (writer E.held E.failures errors.old errors.new) [] }
+    ensures known { (more : List ℕ) × Appends (E.held errors.old) (E.held errors.new) more }
+{
     if let Some(reason) = reason {
         say_more(alloc, &ReportHint(reason), errors);
     }

@@ -73,18 +73,22 @@ pub fn say_wanting<E: Sink>(errors: &mut E) -> bool
     push_whole(errors, b"symarch: out of memory\n")
 }
 
-/// Says a line; or, where there is no memory for it, that memory is wanting. Whether it was said is handed back.
+/// Says a line; or, where there is no memory for it, that memory is wanting. Whether the line itself was said to its end
+/// is handed back.
 pub fn say<E: Sink, T: Display>(alloc: Global, told: &T, errors: &mut E) -> bool
     ensures { IfSome (T.output told.now)
         (λ text. IsSaid (writer E.held E.failures errors.old errors.new) text result) }
 {
     match line_of(alloc, told) {
         Ok(whole) => push_whole(errors, whole.as_bytes()),
-        Err(NoMemory) => say_wanting(errors),
+        Err(NoMemory) => {
+            say_wanting(errors);
+            false
+        }
     }
 }
 
-/// Says a line behind another, where there is memory for it.
+/// Says a line after another, where there is memory for it.
 pub fn say_more<E: Sink, T: Display>(alloc: Global, told: &T, errors: &mut E)
     ensures { (more : List ℕ) × Appends (E.held errors.old) (E.held errors.new) more }
 {

@@ -2,3 +2,4 @@ pub mod EventSite
 pub mod Numbers
 pub mod Events
 pub mod Script
+pub mod Flaws

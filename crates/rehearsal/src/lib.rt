@@ -4,17 +4,20 @@
 //! - `script`: what a script says, and why bytes are none;
 //! - `numbers`: decimal numbers;
 //! - `events`: what a line asks for;
+//! - `flaws`: what is wrong with a faulty line;
 //! - `reading`: a script, read;
 //! - [`laws`]: what holds of scripts.
 #![tactic(auto)]
 
 mod event;
 mod events;
+mod flaws;
 pub mod laws;
 mod numbers;
 mod reading;
 mod script;
 
 pub use event::Event;
+pub use flaws::{ScriptFlaw, script_flaw};
 pub use reading::read_script;
 pub use script::{Script, ScriptError, ScriptFault};

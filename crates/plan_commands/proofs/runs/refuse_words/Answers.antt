@@ -5,6 +5,6 @@ use Rattle.plan_commands.proofs.runs.refuse_words.Goals as goal
 pub returns-else-eq-clause-text : goal.returns-else-eq-clause-text
 returns-else-eq-clause-text g c = λ other. record {
   nothing_told = (Appends-nil _, refl);
-  says = (codes "invalid word: expected UTF-8 text", c.say.result, c.say.ensures);
+  says = (c.say.result, c.say.ensures);
   status_is = refl;
 }

@@ -21,5 +21,5 @@ returns-in-Err g c =
       record { opened = refl; uncalled = none_called _ _ c.requires.6 c.requires.5 },
       no_plan words c.in-Err.fault _ _ _ c.end_without_plan.ensures
           (λ faultless ordered. c.in-Err.ensures.err (accepted_if_faultless words faultless) ordered)
-          c.in-Err.ensures.help c.in-Err.ensures.version c.in-Err.ensures.refusal,
+          c.in-Err.ensures.help c.in-Err.ensures.version c.in-Err.ensures.refusal c.in-Err.ensures.told,
     )

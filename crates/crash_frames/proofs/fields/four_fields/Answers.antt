@@ -1,6 +1,6 @@
 use Rattle.std.proofs.Common.{◌∙◌, sym}
 use Rattle.crash_frames.proofs.FourFields.{four_cuts, longer}
-use Rattle.crash_frames.proofs.fields.frame_in.Goals as goal
+use Rattle.crash_frames.proofs.fields.four_fields.Goals as goal
 
 pub returns-then-is_some : goal.returns-then-is_some
 returns-then-is_some c =
