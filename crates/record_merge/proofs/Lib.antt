@@ -11,3 +11,4 @@ pub mod Gained
 pub mod Tells
 pub mod Told
 pub mod TextPieces
+pub mod Lost
