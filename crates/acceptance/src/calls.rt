@@ -1,4 +1,4 @@
-//! What a case asks for: a plan, or a call below the commands.
+//! What a case asks for: a command line, or a call below the commands.
 
 use crate::changes::tell_change;
 use crate::desk::{Desk, Tried};
@@ -11,8 +11,9 @@ use case_parts::{
     tell_named, tell_nearest, tell_operations, tell_pairs, tell_part, tell_reading, tell_slice,
     tell_summary, tell_whole, tell_writing,
 };
-use command_line::Plan;
+use command_line::Line;
 use memory::Heap;
+use plan_commands::Plan;
 use rehearsal::read_script;
 use sorted_archive::{IndexedArchive, PlainArchive};
 
@@ -29,7 +30,7 @@ pub struct Call<'t> {
 /// What a case asks for.
 #[derive(Clone, Copy)]
 pub enum Task<'t> {
-    Run(&'t Plan),
+    Run(&'t Line),
     Call(Call<'t>),
 }
 
@@ -43,8 +44,11 @@ impl<'t> Task<'t> {
     /// Whether OUT is written while the inputs are read, as by `merge` of one FILE.
     pub fn writes_as_it_reads(self) -> bool {
         match self {
-            Task::Run(Plan::Merge { files, .. }) => files.len() == 1,
-            _ => false,
+            Task::Run(line) => match Plan::of(line) {
+                Plan::Merge { files, .. } => files.len() == 1,
+                _ => false,
+            },
+            Task::Call(_) => false,
         }
     }
 }
@@ -60,7 +64,7 @@ impl<'a> Desk<'a> {
 
     fn carry_out_on<A: Archive + Drop>(self, task: Task<'a>) -> Result<Left, CaseFault> {
         match task {
-            Task::Run(plan) => Ok(self.run::<A>(plan)?),
+            Task::Run(line) => Ok(self.run::<A>(line)?),
             Task::Call(call) => {
                 let mut told = String::new(self.alloc);
                 let end = End::of_call(self.call::<A>(call, &mut told)?);

@@ -121,8 +121,9 @@ use case_parts::{
     CaseFault, Front, Left, Limits, Store, Sweep, bytes_of, first_word, number, tell_left,
     tell_line_fault, tell_room, tell_room_of_bytes, tell_same, words_of,
 };
-use command_line::{LineFault, Plan, plan};
+use command_line::{Line, LineFault, read_line};
 use memory::NoMemory;
+use plan_commands::Plan;
 use std::alloc::Global;
 use std::mem;
 use std::rt::Files;
@@ -314,19 +315,19 @@ impl<'t> Bench<'t> {
     }
 
     // What the words of a line ask for, which stand behind the program's name.
-    fn planned(&self, words: &str) -> Result<Plan, LineFault> {
-        let mut line = Vec::new(self.alloc);
-        line.push("symarch")?;
+    fn read(&self, words: &str) -> Result<Line, LineFault> {
+        let mut all = Vec::new(self.alloc);
+        all.push("symarch")?;
         if words != "-" {
-            line.extend_from_slice(&words_of(self.alloc, words)?)?;
+            all.extend_from_slice(&words_of(self.alloc, words)?)?;
         }
-        plan(self.alloc, &line)
+        read_line(self.alloc, &all)
     }
 
     // Tells what a command line asks for.
     fn plan(&self, words: &str, told: &mut String) -> Result<(), CaseFault> {
-        match self.planned(words) {
-            Ok(plan) => writeln!(told, "  {plan:?}")?,
+        match self.read(words) {
+            Ok(line) => writeln!(told, "  {:?}", Plan::of(&line))?,
             Err(fault) => tell_line_fault(&fault, told)?,
         }
         Ok(())
@@ -334,8 +335,8 @@ impl<'t> Bench<'t> {
 
     // Carries out a command line.
     fn run(&mut self, words: &str, told: &mut String) -> Result<(), CaseFault> {
-        match self.planned(words) {
-            Ok(plan) => self.carry(Task::Run(&plan), plan.out(), told),
+        match self.read(words) {
+            Ok(line) => self.carry(Task::Run(&line), line.out(), told),
             Err(fault) => Ok(tell_line_fault(&fault, told)?),
         }
     }

@@ -1,11 +1,11 @@
-//! A plan, carried out over files in memory.
+//! A line, carried out over files in memory.
 
 use crate::desk::Desk;
 use archive_core::Archive;
 use byte_device::{CannotOpen, Disk};
 use case_parts::{End, Left, Shelf, StrictSink, StrictSource};
 use command_ends::Output;
-use command_line::Plan;
+use command_line::Line;
 use memory::{Heap, NoMemory};
 use plan_commands::execute_on;
 
@@ -34,8 +34,8 @@ impl<'a> Disk for Desk<'a> {
 }
 
 impl<'a> Desk<'a> {
-    /// Carries out a plan.
-    pub fn run<A: Archive + Drop>(mut self, plan: &Plan) -> Result<Left, NoMemory> {
+    /// Carries out a line.
+    pub fn run<A: Archive + Drop>(mut self, line: &Line) -> Result<Left, NoMemory> {
         let mut out = Output {
             draft: StrictSink::new(Heap::new(self.alloc)?, self.limits.out),
             target: Shelf::new(Heap::new(self.alloc)?, self.limits.places),
@@ -47,7 +47,7 @@ impl<'a> Desk<'a> {
             self.heap()?,
             &mut self,
             &mut inputs,
-            plan,
+            line,
             &mut out,
             &mut report,
         );

@@ -10,7 +10,7 @@
 //! - `verdicts`: whether what came is what has to come;
 //! - `folder`: files of the system;
 //! - `desk`: what a case goes over;
-//! - `commands`: a plan, carried out;
+//! - `commands`: a line, carried out;
 //! - `subjects`, `changes`: calls that may change an archive, and what they leave where memory is refused;
 //! - `worlds`: events, carried out on sites;
 //! - `calls`: calls below the commands;

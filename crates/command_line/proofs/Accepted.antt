@@ -13,12 +13,13 @@ use Rattle.clap.specs.Simple.{argument_words, entered, is_simple, label_of, name
 use Rattle.clap.specs.Takes.{built_takes, entered_passes, is_given, is_valid, level_passes}
 use Rattle.clap.proofs.SimpleLemmas.{is_nil}
 use Rattle.clap.proofs.WalkLemmas.{both}
-use Rattle.command_line.specs.Arguments.{Argument, Count, Once, Perhaps, Several, Value, form_of, spelled}
+use Rattle.command_line.specs.Arguments.{Argument, Count, Once, Perhaps, Several, Values, form_of, perhaps}
 use Rattle.command_line.specs.Commands.{symarch_command}
-use Rattle.command_line.specs.Lines.{Line, are_accepted, asked_of, at_named, has_form, have_forms, line_at, line_from}
-use Rattle.command_line.specs.Lines.{line_in, named_command, spelled_if_there, value_at, value_by}
-use Rattle.command_line.specs.Table.{Command, Makes, commands}
+use Rattle.command_line.specs.Lines.{all_values, are_accepted, asked_of, has_form, have_forms, line_at, line_in}
+use Rattle.command_line.specs.Lines.{line_with, named_command, values_at, values_spelled, words_by}
+use Rattle.command_line.specs.Table.{Signature, signature_named}
 use Rattle.command_line.specs.declared.commands.Form.{Form}
+use Rattle.command_line.specs.declared.commands.Form.TheVariants as forms
 use Rattle.command_line.proofs.Filled.{are_filled, found_passes, is_filled, lets_name, lets_stop, level, want_values}
 
 -- ---- tests
@@ -107,105 +108,101 @@ record Stood (rules : List Rule) (rows : List Row) : Type 0 where
   given : all_given rules rows ≡ true
   filled : are_filled rows ≡ true
 
--- an argument that has its form has its value
-value_some : (a : Argument) (rules : List Rule) (rows : List Row) → Stood rules rows
-    → (is_free a.count || requires a.name rules) ≡ true → has_form a rows ≡ true → is_some (value_at a rows) ≡ true
-value_some a rules rows stood asks has = go a.count (form_of a.role) asks has
+-- an argument that has its form has its values
+values_some : (a : Argument) (rules : List Rule) (rows : List Row) → Stood rules rows
+    → (is_free a.count || requires a.name rules) ≡ true → has_form a rows ≡ true → is_some (values_at a rows) ≡ true
+values_some a rules rows stood asks has = go a.count asks has
   where
     stands : requires a.name rules ≡ true → not (is_some (first_of a.name rows)) ≡ false
     stands asks = ap not (given_stands a.name rows (required_given a.name rules rows asks stood.given) stood.filled)
 
-    if_there : (form : Form) (o : Option Text)
-        → (is_some (spelled_if_there (spelled form) o) || not (is_some o)) ≡ true
-        → is_some (spelled_if_there (spelled form) o) ≡ true
-    if_there form None has = refl
-    if_there form (Some word) has = first_of_two (is_some (spelled_if_there (spelled form) (Some word))) false has refl
+    left_out : (form : Form) → is_some (values_spelled form (perhaps None)) ≡ true
+    left_out forms.Plain = refl
+    left_out forms.Uuid = refl
+    left_out forms.Arch = refl
+    left_out forms.Digest = refl
+    left_out forms.Number = refl
 
-    go : (count : Count) (form : Form) → (is_free count || requires a.name rules) ≡ true
-        → (is_some (value_by count form a.name rows) || not (is_some (first_of a.name rows))) ≡ true
-        → is_some (value_by count form a.name rows) ≡ true
-    go Once form asks has = first_of_two (is_some (value_by Once form a.name rows)) _ has (stands asks)
-    go Several form asks has = first_of_two (is_some (value_by Several form a.name rows)) _ has (stands asks)
-    go (Perhaps option) form asks has = if_there form (first_of a.name rows) has
+    if_there : (form : Form) (o : Option Text)
+        → (is_some (values_spelled form (perhaps o)) || not (is_some o)) ≡ true
+        → is_some (values_spelled form (perhaps o)) ≡ true
+    if_there form None has = left_out form
+    if_there form (Some word) has = first_of_two (is_some (values_spelled form (perhaps (Some word)))) false has refl
+
+    go : (count : Count) → (is_free count || requires a.name rules) ≡ true
+        → (is_some (option_and_then (values_spelled (form_of a.role)) (words_by count a.name rows))
+        || not (is_some (first_of a.name rows))) ≡ true
+        → is_some (option_and_then (values_spelled (form_of a.role)) (words_by count a.name rows)) ≡ true
+    go Once asks has = first_of_two _ _ has (stands asks)
+    go Several asks has = first_of_two _ _ has (stands asks)
+    go (Perhaps option) asks has = if_there (form_of a.role) (first_of a.name rows) has
 
 abbrev each_has_form : List Argument → List Row → Bool
 each_has_form arguments rows = list_all (λ a. has_form a rows) arguments
 
--- the induction: where each argument has its form, the line is there
-values_some : (arguments : List Argument) (line : Makes arguments) (rules : List Rule) (rows : List Row)
+-- the induction: where each argument has its form, the values are there
+all_some : (arguments : List Argument) (rules : List Rule) (rows : List Row)
     → Stood rules rows → asks_for arguments rules ≡ true → each_has_form arguments rows ≡ true
-    → IsSome (line_from arguments line rows)
-values_some [] line rules rows stood asks have = refl
-values_some (a ∷ rest) line rules rows stood asks have =
+    → IsSome (all_values arguments rows)
+all_some [] rules rows stood asks have = refl
+all_some (a ∷ rest) rules rows stood asks have =
     let asked = both (is_free a.count || requires a.name rules) _ asks in
     let has = both (has_form a rows) _ have in
-    let value = some_of (value_at a rows) (value_some a rules rows stood asked.0 has.0) in
-    subst (λ o. IsSome (option_and_then (λ v. line_from rest (line v) rows) o)) (sym value.1)
-    (values_some rest (line value.0) rules rows stood asked.1 has.1)
+    let value = some_of (values_at a rows) (values_some a rules rows stood asked.0 has.0) in
+    let others = some_of (all_values rest rows) (all_some rest rules rows stood asked.1 has.1) in
+    ap₂ (λ o p. is_some (option_and_then (λ v. option_map (λ vs. v ∷ vs) p) o)) value.1 others.1
 
--- and where it is there, each has its form
-forms_of_line : (arguments : List Argument) (line : Makes arguments) (rows : List Row)
-    → IsSome (line_from arguments line rows) → each_has_form arguments rows ≡ true
-forms_of_line [] line rows some = refl
-forms_of_line (a ∷ rest) line rows some =
-    go (value_at a rows) refl (λ v. forms_of_line rest (line v) rows) some
+-- and where they are there, each has its form
+forms_of_all : (arguments : List Argument) (rows : List Row) → IsSome (all_values arguments rows)
+    → each_has_form arguments rows ≡ true
+forms_of_all [] rows some = refl
+forms_of_all (a ∷ rest) rows some =
+    go (values_at a rows) refl (all_values rest rows) (forms_of_all rest rows) some
   where
-    go : (o : Option (Value a)) → value_at a rows ≡ o
-        → ((v : Value a) → IsSome (line_from rest (line v) rows) → each_has_form rest rows ≡ true)
-        → IsSome (option_and_then (λ v. line_from rest (line v) rows) o) → each_has_form (a ∷ rest) rows ≡ true
-    go None is after some = absurd (true≢false (sym some))
-    go (Some v) is after some =
-        ap₂ (λ x y. x && y) (ap (λ o. is_some o || not (is_some (first_of a.name rows))) is) (after v some)
+    go : (o : Option Values) → values_at a rows ≡ o → (p : Option (List Values))
+        → (IsSome p → each_has_form rest rows ≡ true)
+        → IsSome (option_and_then (λ v. option_map (λ vs. v ∷ vs) p) o) → each_has_form (a ∷ rest) rows ≡ true
+    go None is p after some = absurd (true≢false (sym some))
+    go (Some v) is None after some = absurd (true≢false (sym some))
+    go (Some v) is (Some vs) after some =
+        ap₂ (λ x y. x && y) (ap (λ o. is_some o || not (is_some (first_of a.name rows))) is) (after refl)
 
--- ---- any of a table
+-- ---- any of the table
 
-named_some : (table : List Command) (name : Text) (asks forms : Command → Bool) (line : Command → Option Line)
-    → ((c : Command) → asks c ≡ true → forms c ≡ true → IsSome (line c))
-    → at_named table name asks false ≡ true → at_named table name forms true ≡ true
-    → IsSome (at_named table name line None)
-named_some [] name asks forms line each is have = absurd (true≢false (sym is))
-named_some (c ∷ cs) name asks forms line each is have =
-    go (bytes_eq name c.signature.name) is have (named_some cs name asks forms line each)
-  where
-    go : (b : Bool) → cond b (asks c) (at_named cs name asks false) ≡ true
-        → cond b (forms c) (at_named cs name forms true) ≡ true
-        → (at_named cs name asks false ≡ true → at_named cs name forms true ≡ true
-        → IsSome (at_named cs name line None))
-        → IsSome (cond b (line c) (at_named cs name line None))
-    go true is have after = each c is have
-    go false is have after = after is have
+map_some : {X Y : Type 0} (f : X → Y) (o : Option X) → IsSome o → IsSome (option_map f o)
+map_some f None some = some
+map_some f (Some x) some = refl
 
-named_forms : (table : List Command) (name : Text) (forms : Command → Bool) (line : Command → Option Line)
-    → ((c : Command) → IsSome (line c) → forms c ≡ true)
-    → IsSome (at_named table name line None) → at_named table name forms true ≡ true
-named_forms [] name forms line each some = refl
-named_forms (c ∷ cs) name forms line each some =
-    go (bytes_eq name c.signature.name) some (named_forms cs name forms line each)
-  where
-    go : (b : Bool) → IsSome (cond b (line c) (at_named cs name line None))
-        → (IsSome (at_named cs name line None) → at_named cs name forms true ≡ true)
-        → cond b (forms c) (at_named cs name forms true) ≡ true
-    go true some after = each c some
-    go false some after = after some
+some_mapped : {X Y : Type 0} (f : X → Y) (o : Option X) → IsSome (option_map f o) → IsSome o
+some_mapped f None some = some
+some_mapped f (Some x) some = refl
 
 -- the command of this name requires what its line asks for
 abbrev asks : Text → List Rule → Bool
-asks name rules = at_named commands name (λ c. asks_for c.signature.arguments rules) false
+asks name rules = option_map_or (λ s. asks_for s.arguments rules) (signature_named name) false
 
 line_some : (name : Text) (rules : List Rule) (rows : List Row) → Stood rules rows → asks name rules ≡ true
     → have_forms (name, rows) ≡ true → IsSome (line_in (name, rows))
-line_some name rules rows stood =
-    named_some commands name (λ c. asks_for c.signature.arguments rules)
-    (λ c. each_has_form c.signature.arguments rows) (λ c. line_at c rows)
-    (λ c. values_some c.signature.arguments c.line rules rows stood)
+line_some name rules rows stood = go (signature_named name)
+  where
+    go : (o : Option Signature) → option_map_or (λ s. asks_for s.arguments rules) o false ≡ true
+        → each_has_form (option_map_or (λ s. s.arguments) o []) rows ≡ true
+        → IsSome (option_and_then (λ s. line_at s rows) o)
+    go None asked have = absurd (true≢false (sym asked))
+    go (Some s) asked have =
+        map_some (line_with s) (all_values s.arguments rows) (all_some s.arguments rules rows stood asked have)
 
 -- where a line is asked for, each value has its form
 pub forms_of_asked : (named : Option (Text × List Row)) → IsSome (option_and_then line_in named)
     → option_map_or have_forms named true ≡ true
 forms_of_asked None some = refl
-forms_of_asked (Some p) some =
-    named_forms commands p.0 (λ c. each_has_form c.signature.arguments p.1) (λ c. line_at c p.1)
-    (λ c. forms_of_line c.signature.arguments c.line p.1) some
+forms_of_asked (Some p) some = go (signature_named p.0) some
+  where
+    go : (o : Option Signature) → IsSome (option_and_then (λ s. line_at s p.1) o)
+        → each_has_form (option_map_or (λ s. s.arguments) o []) p.1 ≡ true
+    go None some = absurd (true≢false (sym some))
+    go (Some s) some =
+        forms_of_all s.arguments p.1 (some_mapped (line_with s) (all_values s.arguments p.1) some)
 
 -- ---- commands that are built
 

@@ -5,4 +5,5 @@ pub mod Simple
 pub mod Accepted
 pub mod LineFaultLemmas
 pub mod Exactly
-pub mod Made
+pub mod Listed
+pub mod Passed

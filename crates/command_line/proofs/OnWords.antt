@@ -6,8 +6,10 @@ use Rattle.uuid.proofs.OnLiterals.{uuid_on_literals}
 use Rattle.clap.specs.declared.error.kind.ErrorKind.TheVariants as kind
 use Rattle.clap.proofs.OnLiterals.{clap_on_literals}
 use Rattle.command_line.specs.Commands.{symarch_command}
-use Rattle.command_line.specs.Lines.{admit, are_accepted, error_kinds, find, frames, is_in_order, line_of, merge}
-use Rattle.command_line.specs.Lines.{migrate, named_command, new, retire, symbolicate}
+use Rattle.command_line.specs.Arguments.{archs, digests, numbers, one, perhaps, several, text, texts, uuids}
+use Rattle.command_line.specs.Lines.{are_accepted, error_kinds, is_in_order, line_of, line_with, named_command}
+use Rattle.command_line.specs.Table.{admit_command, find_command, frames_command, merge_command, migrate_command}
+use Rattle.command_line.specs.Table.{new_command, retire_command, symbolicate_command}
 use Rattle.archive_words.specs.Words.{address_of, arch_key, arch_of, digest_of}
 use Rattle.command_line.specs.Samples.{Asks, EachAsks, Sample, digest_bytes}
 use Rattle.command_line.specs.Samples.{digest_text, samples, uuid_bytes, uuid_text}
@@ -20,7 +22,7 @@ new_accepted : are_accepted (symarch (codes "new" ∷ codes "o" ∷ [])) ≡ tru
 unfolding are_accepted symarch_command clap_on_literals
 new_accepted = refl
 
-new_read : line_of (symarch (codes "new" ∷ codes "o" ∷ [])) ≡ Some (new (codes "o"))
+new_read : line_of (symarch (codes "new" ∷ codes "o" ∷ [])) ≡ Some (line_with new_command (text (codes "o") ∷ []))
 unfolding named_command symarch_command clap_on_literals
 new_read = refl
 
@@ -33,7 +35,7 @@ unfolding error_kinds symarch_command clap_on_literals
 admit_faultless = refl
 
 admit_read : line_of (symarch (codes "admit" ∷ codes "i" ∷ codes "o" ∷ codes "f" ∷ []))
-    ≡ Some (admit (codes "i") (codes "o") (codes "f" ∷ []))
+    ≡ Some (line_with admit_command (text (codes "i") ∷ text (codes "o") ∷ texts (several (codes "f" ∷ [])) ∷ []))
 unfolding named_command symarch_command clap_on_literals
 admit_read = refl
 
@@ -43,19 +45,20 @@ unfolding are_accepted symarch_command clap_on_literals
 repeated_accepted = refl
 
 repeated_read : line_of (symarch (codes "admit" ∷ codes "i" ∷ codes "o" ∷ codes "f" ∷ codes "f" ∷ []))
-    ≡ Some (admit (codes "i") (codes "o") (codes "f" ∷ codes "f" ∷ []))
+    ≡ Some (line_with admit_command
+    (text (codes "i") ∷ text (codes "o") ∷ texts (several (codes "f" ∷ codes "f" ∷ [])) ∷ []))
 unfolding named_command symarch_command clap_on_literals
 repeated_read = refl
 
 -- so does one that is the archive itself
 input_twice_read : line_of (symarch (codes "admit" ∷ codes "i" ∷ codes "o" ∷ codes "i" ∷ []))
-    ≡ Some (admit (codes "i") (codes "o") (codes "i" ∷ []))
+    ≡ Some (line_with admit_command (text (codes "i") ∷ text (codes "o") ∷ texts (several (codes "i" ∷ [])) ∷ []))
 unfolding named_command symarch_command clap_on_literals
 input_twice_read = refl
 
 -- a path that begins with `-` stands behind `--`
 dashes_read : line_of (symarch (codes "admit" ∷ codes "i" ∷ codes "o" ∷ codes "--" ∷ codes "-f" ∷ []))
-    ≡ Some (admit (codes "i") (codes "o") (codes "-f" ∷ []))
+    ≡ Some (line_with admit_command (text (codes "i") ∷ text (codes "o") ∷ texts (several (codes "-f" ∷ [])) ∷ []))
 unfolding named_command symarch_command clap_on_literals
 dashes_read = refl
 
@@ -98,7 +101,8 @@ no_uuid_in_order = refl
 -- ---- the other commands
 
 retire_read : line_of (symarch (codes "retire" ∷ codes "i" ∷ codes "o" ∷ uuid_text ∷ codes "arm64e" ∷ digest_text ∷ []))
-    ≡ Some (retire (codes "i") (codes "o") uuid_bytes (arch_key 0x0100_000c 2) (record { 0 = digest_bytes }))
+    ≡ Some (line_with retire_command (text (codes "i") ∷ text (codes "o") ∷ uuids (one uuid_bytes)
+    ∷ archs (one (arch_key 0x0100_000c 2)) ∷ digests (one (record { 0 = digest_bytes })) ∷ []))
 unfolding named_command symarch_command clap_on_literals hex_on_literals uuid_on_literals
 retire_read = refl
 
@@ -108,11 +112,13 @@ unfolding named_command symarch_command clap_on_literals
 out_is_ops = refl
 
 merge_read : line_of (symarch (codes "merge" ∷ codes "i" ∷ codes "o" ∷ codes "f" ∷ codes "g" ∷ []))
-    ≡ Some (merge (codes "i") (codes "o") (codes "f" ∷ codes "g" ∷ []))
+    ≡ Some (line_with merge_command
+    (text (codes "i") ∷ text (codes "o") ∷ texts (several (codes "f" ∷ codes "g" ∷ [])) ∷ []))
 unfolding named_command symarch_command clap_on_literals
 merge_read = refl
 
-migrate_read : line_of (symarch (codes "migrate" ∷ codes "i" ∷ codes "o" ∷ [])) ≡ Some (migrate (codes "i") (codes "o"))
+migrate_read : line_of (symarch (codes "migrate" ∷ codes "i" ∷ codes "o" ∷ []))
+    ≡ Some (line_with migrate_command (text (codes "i") ∷ text (codes "o") ∷ []))
 unfolding named_command symarch_command clap_on_literals
 migrate_read = refl
 
@@ -121,7 +127,8 @@ migrate_out_is_in : line_of (symarch (codes "migrate" ∷ codes "i" ∷ codes "i
 unfolding named_command symarch_command clap_on_literals
 migrate_out_is_in = refl
 
-find_read : line_of (symarch (codes "find" ∷ codes "a" ∷ uuid_text ∷ [])) ≡ Some (find (codes "a") uuid_bytes)
+find_read : line_of (symarch (codes "find" ∷ codes "a" ∷ uuid_text ∷ []))
+    ≡ Some (line_with find_command (text (codes "a") ∷ uuids (one uuid_bytes) ∷ []))
 unfolding named_command symarch_command clap_on_literals uuid_on_literals
 find_read = refl
 
@@ -132,18 +139,22 @@ find_no_uuid = refl
 -- `--load HEX` before the others, and between them as one word
 symbolicate_read : line_of (symarch (codes "symbolicate" ∷ codes "--load" ∷ codes "0x104000000" ∷ codes "a" ∷ uuid_text
     ∷ codes "x86_64" ∷ codes "104001040" ∷ codes "0x10" ∷ []))
-    ≡ Some (symbolicate (codes "a") uuid_bytes (arch_key 0x0100_0007 3) (Some 0x104000000) (0x104001040 ∷ 0x10 ∷ []))
+    ≡ Some (line_with symbolicate_command (text (codes "a") ∷ uuids (one uuid_bytes)
+    ∷ archs (one (arch_key 0x0100_0007 3)) ∷ numbers (perhaps (Some 0x104000000))
+    ∷ numbers (several (0x104001040 ∷ 0x10 ∷ [])) ∷ []))
 unfolding named_command symarch_command clap_on_literals uuid_on_literals
 symbolicate_read = refl
 
 load_between : line_of (symarch (codes "symbolicate" ∷ codes "a" ∷ uuid_text ∷ codes "x86_64h" ∷ codes "10"
     ∷ codes "--load=fF" ∷ codes "20" ∷ []))
-    ≡ Some (symbolicate (codes "a") uuid_bytes (arch_key 0x0100_0007 8) (Some 255) (0x10 ∷ 0x20 ∷ []))
+    ≡ Some (line_with symbolicate_command (text (codes "a") ∷ uuids (one uuid_bytes)
+    ∷ archs (one (arch_key 0x0100_0007 8)) ∷ numbers (perhaps (Some 255)) ∷ numbers (several (0x10 ∷ 0x20 ∷ [])) ∷ []))
 unfolding named_command symarch_command clap_on_literals uuid_on_literals
 load_between = refl
 
 no_load : line_of (symarch (codes "symbolicate" ∷ codes "a" ∷ uuid_text ∷ codes "arm64" ∷ codes "10" ∷ []))
-    ≡ Some (symbolicate (codes "a") uuid_bytes (arch_key 0x0100_000c 0) None (0x10 ∷ []))
+    ≡ Some (line_with symbolicate_command (text (codes "a") ∷ uuids (one uuid_bytes)
+    ∷ archs (one (arch_key 0x0100_000c 0)) ∷ numbers (perhaps None) ∷ numbers (several (0x10 ∷ [])) ∷ []))
 unfolding named_command symarch_command clap_on_literals uuid_on_literals
 no_load = refl
 
@@ -157,7 +168,8 @@ frames_accepted : are_accepted (symarch (codes "frames" ∷ codes "f" ∷ codes 
 unfolding are_accepted symarch_command clap_on_literals
 frames_accepted = refl
 
-frames_read : line_of (symarch (codes "frames" ∷ codes "f" ∷ codes "a" ∷ [])) ≡ Some (frames (codes "f") (codes "a"))
+frames_read : line_of (symarch (codes "frames" ∷ codes "f" ∷ codes "a" ∷ []))
+    ≡ Some (line_with frames_command (text (codes "f") ∷ text (codes "a") ∷ []))
 unfolding named_command symarch_command clap_on_literals
 frames_read = refl
 

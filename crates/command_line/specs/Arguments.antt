@@ -1,12 +1,12 @@
 -- Arguments of commands, and their values.
-use Rattle.std.specs.Prelude.{ℕ, ⊤, Bool, true, false, List, [], ◌∷◌, Option, Some}
+use Rattle.std.specs.Prelude.{ℕ, Bool, true, false, ◌&&◌, List, [], ◌∷◌, Option}
 use Rattle.clap.specs.Words.{Text}
-use Rattle.uuid.specs.Text.{parsed}
 use Rattle.archive_core.specs.declared.keys.ArchKey.{ArchKey}
 use Rattle.archive_core.specs.declared.keys.Digest.{Digest}
-use Rattle.archive_words.specs.Words.{address_of, arch_of, digest_of}
 use Rattle.command_line.specs.declared.commands.Form.{Form}
 use Rattle.command_line.specs.declared.commands.Form.TheVariants as forms
+use Rattle.command_line.specs.declared.commands.Kind.{Kind}
+use Rattle.command_line.specs.declared.commands.Kind.TheVariants as kinds
 use Rattle.command_line.specs.declared.commands.Role.{Role}
 use Rattle.command_line.specs.declared.commands.Role.TheVariants as roles
 
@@ -26,44 +26,69 @@ argument name count role = record { name = name; count = count; role = role }
 
 -- it is the path of an input, or OUT's
 abbrev pub reads : Role → Bool
-reads roles.Reads = true
+reads (roles.Reads kind) = true
 reads _ = false
 
 abbrev pub writes : Role → Bool
 writes roles.Writes = true
 writes _ = false
 
+-- it is the path of an input of this kind
+abbrev pub is_kind : Kind → Kind → Bool
+is_kind kinds.Archive kinds.Archive = true
+is_kind kinds.File kinds.File = true
+is_kind kinds.Ops kinds.Ops = true
+is_kind kinds.Summary kinds.Summary = true
+is_kind kinds.Script kinds.Script = true
+is_kind kinds.Frames kinds.Frames = true
+is_kind _ _ = false
+
+abbrev pub reads_kind : Kind → Role → Bool
+reads_kind kind (roles.Reads other) = is_kind kind other
+reads_kind kind _ = false
+
 -- a path is any text
 abbrev pub form_of : Role → Form
-form_of roles.Reads = forms.Plain
+form_of (roles.Reads kind) = forms.Plain
 form_of roles.Writes = forms.Plain
 form_of (roles.Says form) = form
 
--- what a word of this form spells
-abbrev pub Spelled : Form → Type 0
-Spelled forms.Plain = Text
-Spelled forms.Uuid = List ℕ
-Spelled forms.Arch = ArchKey
-Spelled forms.Digest = Digest
-Spelled forms.Number = ℕ
+-- what stands at an argument: one, one or more, or one that may be left out
+pub data Amount (X : Type 0) : Type 0 where
+  one : X → Amount X
+  several : List X → Amount X
+  perhaps : Option X → Amount X
 
-abbrev pub spelled : (form : Form) → Text → Option (Spelled form)
-spelled forms.Plain = λ word. Some word
-spelled forms.Uuid = parsed
-spelled forms.Arch = arch_of
-spelled forms.Digest = digest_of
-spelled forms.Number = address_of
+-- its values, by the form of its words
+pub data Values : Type 0 where
+  texts : Amount Text → Values
+  uuids : Amount (List ℕ) → Values
+  archs : Amount ArchKey → Values
+  digests : Amount Digest → Values
+  numbers : Amount ℕ → Values
 
--- the value of an argument
-abbrev pub ValueOf : Count → Form → Type 0
-ValueOf Once form = Spelled form
-ValueOf Several form = List (Spelled form)
-ValueOf (Perhaps option) form = Option (Spelled form)
+-- one word that stands for itself
+abbrev pub text : Text → Values
+text word = texts (one word)
 
-abbrev pub Value : Argument → Type 0
-Value a = ValueOf a.count (form_of a.role)
+-- as many as the argument asks for
+abbrev pub is_counted : {X : Type 0} → Count → Amount X → Bool
+is_counted Once (one x) = true
+is_counted Several (several xs) = true
+is_counted (Perhaps option) (perhaps x) = true
+is_counted _ _ = false
 
--- the value of each of these
-abbrev pub Values : List Argument → Type 0
-Values [] = ⊤
-Values (a ∷ rest) = Value a × Values rest
+-- of its form
+abbrev pub is_formed : Form → Count → Values → Bool
+is_formed forms.Plain count (texts xs) = is_counted count xs
+is_formed forms.Uuid count (uuids xs) = is_counted count xs
+is_formed forms.Arch count (archs xs) = is_counted count xs
+is_formed forms.Digest count (digests xs) = is_counted count xs
+is_formed forms.Number count (numbers xs) = is_counted count xs
+is_formed _ _ _ = false
+
+-- each of these arguments has values of its own
+abbrev pub are_values_of : List Argument → List Values → Bool
+are_values_of [] [] = true
+are_values_of (a ∷ rest) (v ∷ vs) = is_formed (form_of a.role) a.count v && are_values_of rest vs
+are_values_of _ _ = false

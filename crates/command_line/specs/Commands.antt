@@ -3,7 +3,7 @@ use Rattle.std.specs.Prelude.{List, [], ◌∷◌, codes, map, Some, true}
 use Rattle.clap.specs.Words.{App, Rule, Text, new_app, new_rule, with_rule, with_subcommand}
 use Rattle.clap.specs.declared.builder.action.ArgAction.TheVariants.{Append}
 use Rattle.command_line.specs.Arguments.{Argument, Count, Once, Perhaps, Several}
-use Rattle.command_line.specs.Table.{Signature, signatures}
+use Rattle.command_line.specs.Table.{Signature, commands}
 
 -- an argument that has one value; the last, that has one value or more, each a word of its own; or an option `--name`
 -- that has one value, and may be left out
@@ -41,4 +41,4 @@ program_for name table = needing_command (with_version (with_commands (new_app n
 
 -- the program's own
 unfoldable pub symarch_command : App
-symarch_command = program_for (codes "symarch") signatures
+symarch_command = program_for (codes "symarch") commands

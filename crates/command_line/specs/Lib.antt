@@ -4,5 +4,8 @@ pub mod WellFormed
 pub mod InnerTable
 pub mod Commands
 pub mod Lines
+pub mod InnerValues
+pub mod InnerLine
+pub mod InnerWords
 pub mod LineFaults
 pub mod Samples

@@ -1,13 +1,14 @@
--- The fault of a line that gives no plan.
+-- The fault of a line that asks for nothing.
 use Rattle.std.specs.Prelude.{◌≡◌, ◌⊎◌, ⊤, List, [], ◌∷◌, ◌++◌, codes, Option, Some, None, Result, IfErr, IfOk, IsSome}
 use Rattle.std.specs.Prelude.{string_bytes}
 use Rattle.clap.specs.Words.{Row, Text}
 use Rattle.command_line.specs.Arguments.{Argument, form_of}
-use Rattle.command_line.specs.Lines.{Line, at_named, plan_view}
+use Rattle.command_line.specs.InnerLine.{line_view}
+use Rattle.command_line.specs.Lines.{Line}
 use Rattle.command_line.specs.declared.commands.Form.{Form}
 use Rattle.command_line.specs.declared.commands.Form.TheVariants as forms
-use Rattle.command_line.specs.Table.{commands}
-use Rattle.command_line.specs.declared.plans.Plan.{Plan}
+use Rattle.command_line.specs.Table.{arguments_named}
+use Rattle.command_line.specs.declared.lines.Line.{Line as LineOfProgram}
 use Rattle.command_line.specs.declared.line_faults.LineFault.{LineFault}
 use Rattle.command_line.specs.declared.line_faults.LineFault.TheVariants.{Refused, OutOfMemory, Help}
 
@@ -54,9 +55,6 @@ abbrev pub IsToldAmong : List Argument → LineFault → Type 0
 IsToldAmong [] fault = ⊥
 IsToldAmong (a ∷ rest) fault = IsToldOf a fault ⊎ IsToldAmong rest fault
 
-abbrev pub arguments_named : Text → List Argument
-arguments_named called = at_named commands called (λ c. c.signature.arguments) []
-
 abbrev pub unknown_command : Text → Text
 unknown_command called = codes "error: invalid command '" ++ (called ++ 39 ∷ 10 ∷ [])
 
@@ -72,8 +70,8 @@ abbrev pub IsToldFor : Option (Text × List Row) → LineFault → Type 0
 IsToldFor None fault = IsRefusedAs (codes "error: missing command" ++ 10 ∷ []) fault
 IsToldFor (Some p) fault = IsToldIn p.0 fault ⊎ ((out : Text) × IsRefusedAs (out_is_input out) fault)
 
--- The plan of this line, if there is one, and else a refusal. Memory may be wanting in either case.
-pub record Plans (line : Option Line) (result : Result Plan LineFault) : Type 0 where
-  pub ok : IfOk result (λ p. Some (plan_view p) ≡ line)
+-- This line, if there is one, and else a refusal. Memory may be wanting in either case.
+pub record Reads (line : Option Line) (result : Result LineOfProgram LineFault) : Type 0 where
+  pub ok : IfOk result (λ read. Some (line_view read) ≡ line)
   pub err : IsSome line → IfErr result (λ e. e ≡ OutOfMemory)
   pub refusal : IfErr result IsRefusalUnlessMemory

@@ -1,47 +1,56 @@
 -- What a command line asks for.
-use Rattle.std.specs.Prelude.{Bool, true, false, not, ◌&&◌, ◌||◌, List, [], ◌∷◌, ◌++◌, map, Contains, string_bytes}
+use Rattle.std.specs.Prelude.{Bool, true, false, not, ◌&&◌, ◌||◌, List, [], ◌∷◌, ◌++◌, Contains}
 use Rattle.std.specs.Prelude.{Option, Some, None, IfSome, is_some, option_and_then, option_map, slice_get}
 use Rattle.std.specs.Prelude.{if◌then◌else◌}
 use Rattle.std.specs.List.{list_all, list_any}
 use Rattle.std.specs.Option.{option_map_or}
 use Rattle.std.specs.Str.{bytes_eq}
 use Rattle.clap.specs.Words.{Kinds, Row, Text, all_of, fault_of, first_of, subcommand_of, takes}
-use Rattle.command_line.specs.declared.plans.Plan.{Plan}
-use Rattle.command_line.specs.declared.plans.Plan.TheVariants as plan
+use Rattle.uuid.specs.Text.{parsed}
+use Rattle.archive_words.specs.Words.{address_of, arch_of, digest_of}
 use Rattle.command_line.specs.declared.commands.Form.{Form}
 use Rattle.command_line.specs.declared.commands.Form.TheVariants as forms
+use Rattle.command_line.specs.declared.commands.Kind.{Kind}
 use Rattle.command_line.specs.declared.commands.Role.{Role}
-use Rattle.command_line.specs.Arguments.{Argument, Count, Once, Perhaps, Several, Spelled, Value, ValueOf, Values}
-use Rattle.command_line.specs.Arguments.{form_of, reads, spelled, writes}
+use Rattle.command_line.specs.Arguments.{Amount, Argument, Count, Once, Perhaps, Several, Values, archs, digests}
+use Rattle.command_line.specs.Arguments.{form_of, numbers, one, perhaps, reads, reads_kind, several, texts, uuids, writes}
 use Rattle.command_line.specs.Commands.{symarch_command}
-use Rattle.command_line.specs.Table.{Command, Makes, commands, of_command}
-pub use Rattle.command_line.specs.Table.{Line, admit, apply, delta, find, frames, list, merge, migrate, name, new}
-pub use Rattle.command_line.specs.Table.{rehearse, retire, summary, symbolicate}
+use Rattle.command_line.specs.Table.{Signature, arguments_named, signature_named}
+
+-- the command of this name, with the values of its arguments in the order of the table; a path is the word itself
+pub record Line : Type 0 where
+  pub name : Text
+  pub values : List Values
+
+abbrev pub line_with : Signature → List Values → Line
+line_with s values = record { name = s.name; values = values }
 
 -- ---- paths
 
--- the texts of a value, in front of others
-abbrev pub texts_before : (count : Count) (form : Form) → ValueOf count form → List Text → List Text
-texts_before Once forms.Plain text more = text ∷ more
-texts_before Several forms.Plain texts [] = texts
-texts_before Several forms.Plain texts (next ∷ more) = texts ++ next ∷ more
-texts_before (Perhaps option) forms.Plain (Some text) more = text ∷ more
-texts_before _ _ _ more = more
+-- the texts among the values of an argument
+abbrev pub texts_of : Values → List Text
+texts_of (texts (one text)) = text ∷ []
+texts_of (texts (several words)) = words
+texts_of (texts (perhaps (Some text))) = text ∷ []
+texts_of _ = []
 
 -- the texts of the arguments whose role is wanted
-abbrev pub texts_by : (Role → Bool) → (arguments : List Argument) → Values arguments → List Text
-texts_by wants [] values = []
-texts_by wants (a ∷ rest) values =
-    if wants a.role then texts_before a.count (form_of a.role) values.0 (texts_by wants rest values.1)
-    else texts_by wants rest values.1
+abbrev pub texts_by : (Role → Bool) → List Argument → List Values → List Text
+texts_by wants (a ∷ rest) (v ∷ vs) =
+    if wants a.role then texts_of v ++ texts_by wants rest vs else texts_by wants rest vs
+texts_by wants _ _ = []
 
 -- the paths of the inputs of a line, in the order of the table
 abbrev pub inputs_of : Line → List Text
-inputs_of line = of_command (λ c values. texts_by reads c.signature.arguments values) line
+inputs_of line = texts_by reads (arguments_named line.name) line.values
+
+-- those of one kind
+abbrev pub inputs_of_kind : Kind → Line → List Text
+inputs_of_kind kind line = texts_by (reads_kind kind) (arguments_named line.name) line.values
 
 -- the path of OUT, if the line has one
 abbrev pub out_of : Line → Option Text
-out_of line = of_command (λ c values. slice_get (texts_by writes c.signature.arguments values) 0) line
+out_of line = slice_get (texts_by writes (arguments_named line.name) line.values) 0
 
 -- OUT is no input, as text
 abbrev pub KeepsInputs : Line → Type 0
@@ -75,17 +84,11 @@ overwrites_input line = option_map_or (λ out. is_path_among out (inputs_of line
 abbrev pub kept : Line → Option Line
 kept line = if overwrites_input line then None else Some line
 
--- what the word at this name spells, where it has the form
-abbrev pub spelled_at : {X : Type 0} → (Text → Option X) → Text → List Row → Option X
-spelled_at form id rows = option_and_then form (first_of id rows)
-
--- the same of a name that may be left out
-abbrev pub spelled_if_there : {X : Type 0} → (Text → Option X) → Option Text → Option (Option X)
-spelled_if_there form None = Some None
-spelled_if_there form (Some word) = option_map (λ x. Some x) (form word)
-
-abbrev pub optional_at : {X : Type 0} → (Text → Option X) → Text → List Row → Option (Option X)
-optional_at form id rows = spelled_if_there form (first_of id rows)
+-- the words of an argument, if as many stand at its name as it asks for
+abbrev pub words_by : Count → Text → List Row → Option (Amount Text)
+words_by Once id rows = option_map (λ word. one word) (first_of id rows)
+words_by Several id rows = option_map (λ words. several words) (all_of id rows)
+words_by (Perhaps option) id rows = Some (perhaps (first_of id rows))
 
 -- what each word spells, where each has the form
 abbrev pub all_spelled : {X : Type 0} → (Text → Option X) → List Text → Option (List X)
@@ -93,40 +96,34 @@ all_spelled form [] = Some []
 all_spelled form (word ∷ words) =
     option_and_then (λ x. option_map (λ xs. x ∷ xs) (all_spelled form words)) (form word)
 
-abbrev pub all_spelled_at : {X : Type 0} → (Text → Option X) → Text → List Row → Option (List X)
-all_spelled_at form id rows = option_and_then (all_spelled form) (all_of id rows)
+abbrev pub amount_spelled : {X : Type 0} → (Text → Option X) → Amount Text → Option (Amount X)
+amount_spelled form (one word) = option_map (λ x. one x) (form word)
+amount_spelled form (several words) = option_map (λ xs. several xs) (all_spelled form words)
+amount_spelled form (perhaps None) = Some (perhaps None)
+amount_spelled form (perhaps (Some word)) = option_map (λ x. perhaps (Some x)) (form word)
 
--- each word itself, where it has to have no form
-abbrev pub each_spelled : (form : Form) → List Text → Option (List (Spelled form))
-each_spelled forms.Plain = λ words. Some words
-each_spelled form = all_spelled (spelled form)
+abbrev pub values_spelled : Form → Amount Text → Option Values
+values_spelled forms.Plain words = Some (texts words)
+values_spelled forms.Uuid words = option_map (λ xs. uuids xs) (amount_spelled parsed words)
+values_spelled forms.Arch words = option_map (λ xs. archs xs) (amount_spelled arch_of words)
+values_spelled forms.Digest words = option_map (λ xs. digests xs) (amount_spelled digest_of words)
+values_spelled forms.Number words = option_map (λ xs. numbers xs) (amount_spelled address_of words)
 
--- the value of an argument, where it is there and each word has its form
-abbrev pub value_by : (count : Count) (form : Form) → Text → List Row → Option (ValueOf count form)
-value_by Once form id rows = spelled_at (spelled form) id rows
-value_by Several form id rows = option_and_then (each_spelled form) (all_of id rows)
-value_by (Perhaps option) form id rows = optional_at (spelled form) id rows
+-- the values of an argument, where they are there and each word has its form
+abbrev pub values_at : Argument → List Row → Option Values
+values_at a rows = option_and_then (values_spelled (form_of a.role)) (words_by a.count a.name rows)
 
-abbrev pub value_at : (a : Argument) → List Row → Option (Value a)
-value_at a rows = value_by a.count (form_of a.role) a.name rows
+-- of each of these
+abbrev pub all_values : List Argument → List Row → Option (List Values)
+all_values [] rows = Some []
+all_values (a ∷ rest) rows = option_and_then (λ v. option_map (λ vs. v ∷ vs) (all_values rest rows)) (values_at a rows)
 
--- the line that the values of these arguments make
-abbrev pub line_from : (arguments : List Argument) → Makes arguments → List Row → Option Line
-line_from [] line rows = Some line
-line_from (a ∷ rest) line rows = option_and_then (λ value. line_from rest (line value) rows) (value_at a rows)
-
-abbrev pub line_at : Command → List Row → Option Line
-line_at c rows = line_from c.signature.arguments c.line rows
-
--- what is said of the first command of this name, or this if none has it
-abbrev pub at_named : {X : Type 0} → List Command → Text → (Command → X) → X → X
-at_named [] called found none = none
-at_named (c ∷ cs) called found none =
-    if bytes_eq called c.signature.name then found c else at_named cs called found none
+abbrev pub line_at : Signature → List Row → Option Line
+line_at s rows = option_map (line_with s) (all_values s.arguments rows)
 
 -- by the command's name and what stands at its names
 abbrev pub line_in : Text × List Row → Option Line
-line_in p = at_named commands p.0 (λ c. line_at c p.1) None
+line_in p = option_and_then (λ s. line_at s p.1) (signature_named p.0)
 
 -- what the words ask for, where each value is there and has its form
 abbrev pub asked_of : List Text → Option Line
@@ -138,40 +135,16 @@ line_of words = option_and_then kept (asked_of words)
 
 -- ---- lines that are in order
 
--- the argument has its value, unless no word stands at its name
+-- the argument has its values, unless no word stands at its name
 abbrev pub has_form : Argument → List Row → Bool
-has_form a rows = is_some (value_at a rows) || not (is_some (first_of a.name rows))
+has_form a rows = is_some (values_at a rows) || not (is_some (first_of a.name rows))
 
 -- each argument of the command of this name does
 abbrev pub have_forms : Text × List Row → Bool
-have_forms p = at_named commands p.0 (λ c. list_all (λ a. has_form a p.1) c.signature.arguments) true
+have_forms p = list_all (λ a. has_form a p.1) (arguments_named p.0)
 
 -- each value of the command that the words name has its form, and OUT is no input
 abbrev pub is_in_order : List Text → Bool
 is_in_order words =
     option_map_or have_forms (named_command words) true
     && option_map_or (λ line. not (overwrites_input line)) (asked_of words) true
-
--- ---- plans
-
--- what a plan asks for
-abbrev pub plan_view : Plan → Line
-plan_view (plan.New out) = new (string_bytes out)
-plan_view (plan.Admit input out files) =
-    admit (string_bytes input) (string_bytes out) (map string_bytes files.items)
-plan_view (plan.Retire input out uuid arch digest) =
-    retire (string_bytes input) (string_bytes out) uuid arch digest
-plan_view (plan.Merge input out files) =
-    merge (string_bytes input) (string_bytes out) (map string_bytes files.items)
-plan_view (plan.Migrate input out) = migrate (string_bytes input) (string_bytes out)
-plan_view (plan.Apply input out ops) =
-    apply (string_bytes input) (string_bytes out) (string_bytes ops)
-plan_view (plan.Find archive uuid) = find (string_bytes archive) uuid
-plan_view (plan.List archive) = list (string_bytes archive)
-plan_view (plan.Name archive sought) = name (string_bytes archive) (string_bytes sought)
-plan_view (plan.Symbolicate archive uuid arch load addresses) =
-    symbolicate (string_bytes archive) uuid arch load addresses.items
-plan_view (plan.Frames crash archive) = frames (string_bytes crash) (string_bytes archive)
-plan_view (plan.Summary archive out) = summary (string_bytes archive) (string_bytes out)
-plan_view (plan.Delta archive named out) = delta (string_bytes archive) (string_bytes named) (string_bytes out)
-plan_view (plan.Rehearse script) = rehearse (string_bytes script)

@@ -2,8 +2,11 @@
 use Rattle.std.specs.Prelude.{◌≡◌, ⊤, ℕ, true, List, [], ◌∷◌, Some, codes}
 use Rattle.clap.specs.Words.{Text}
 use Rattle.archive_words.specs.Words.{arch_key}
-use Rattle.command_line.specs.Lines.{Line, admit, apply, delta, error_kinds, find, frames, is_in_order, line_of, list}
-use Rattle.command_line.specs.Lines.{merge, migrate, name, new, rehearse, retire, summary, symbolicate}
+use Rattle.command_line.specs.Arguments.{archs, digests, numbers, one, perhaps, several, text, texts, uuids}
+use Rattle.command_line.specs.Lines.{Line, error_kinds, is_in_order, line_of, line_with}
+use Rattle.command_line.specs.Table.{admit_command, apply_command, delta_command, find_command, frames_command}
+use Rattle.command_line.specs.Table.{list_command, merge_command, migrate_command, name_command, new_command}
+use Rattle.command_line.specs.Table.{rehearse_command, retire_command, summary_command, symbolicate_command}
 
 -- words behind the program's name, and a line
 pub record Sample : Type 0 where
@@ -41,22 +44,33 @@ digest_bytes =
 
 abbrev pub samples : List Sample
 samples =
-    sample (codes "new" ∷ codes "o" ∷ []) (new (codes "o"))
+    sample (codes "new" ∷ codes "o" ∷ []) (line_with new_command (text (codes "o") ∷ []))
     ∷ sample (codes "admit" ∷ codes "i" ∷ codes "o" ∷ codes "f" ∷ codes "g" ∷ [])
-    (admit (codes "i") (codes "o") (codes "f" ∷ codes "g" ∷ []))
+    (line_with admit_command
+    (text (codes "i") ∷ text (codes "o") ∷ texts (several (codes "f" ∷ codes "g" ∷ [])) ∷ []))
     ∷ sample (codes "retire" ∷ codes "i" ∷ codes "o" ∷ uuid_text ∷ codes "arm64e" ∷ digest_text ∷ [])
-    (retire (codes "i") (codes "o") uuid_bytes (arch_key 0x0100_000c 2) (record { 0 = digest_bytes }))
+    (line_with retire_command (text (codes "i") ∷ text (codes "o") ∷ uuids (one uuid_bytes)
+    ∷ archs (one (arch_key 0x0100_000c 2)) ∷ digests (one (record { 0 = digest_bytes })) ∷ []))
     ∷ sample (codes "merge" ∷ codes "i" ∷ codes "o" ∷ codes "f" ∷ codes "g" ∷ [])
-    (merge (codes "i") (codes "o") (codes "f" ∷ codes "g" ∷ []))
-    ∷ sample (codes "migrate" ∷ codes "i" ∷ codes "o" ∷ []) (migrate (codes "i") (codes "o"))
-    ∷ sample (codes "apply" ∷ codes "i" ∷ codes "o" ∷ codes "p" ∷ []) (apply (codes "i") (codes "o") (codes "p"))
-    ∷ sample (codes "find" ∷ codes "a" ∷ uuid_text ∷ []) (find (codes "a") uuid_bytes)
-    ∷ sample (codes "list" ∷ codes "a" ∷ []) (list (codes "a"))
-    ∷ sample (codes "name" ∷ codes "a" ∷ codes "--" ∷ codes "-n" ∷ []) (name (codes "a") (codes "-n"))
+    (line_with merge_command
+    (text (codes "i") ∷ text (codes "o") ∷ texts (several (codes "f" ∷ codes "g" ∷ [])) ∷ []))
+    ∷ sample (codes "migrate" ∷ codes "i" ∷ codes "o" ∷ [])
+    (line_with migrate_command (text (codes "i") ∷ text (codes "o") ∷ []))
+    ∷ sample (codes "apply" ∷ codes "i" ∷ codes "o" ∷ codes "p" ∷ [])
+    (line_with apply_command (text (codes "i") ∷ text (codes "o") ∷ text (codes "p") ∷ []))
+    ∷ sample (codes "find" ∷ codes "a" ∷ uuid_text ∷ [])
+    (line_with find_command (text (codes "a") ∷ uuids (one uuid_bytes) ∷ []))
+    ∷ sample (codes "list" ∷ codes "a" ∷ []) (line_with list_command (text (codes "a") ∷ []))
+    ∷ sample (codes "name" ∷ codes "a" ∷ codes "--" ∷ codes "-n" ∷ [])
+    (line_with name_command (text (codes "a") ∷ text (codes "-n") ∷ []))
     ∷ sample (codes "symbolicate" ∷ codes "a" ∷ uuid_text ∷ codes "x86_64h" ∷ codes "10" ∷ codes "--load=0xfF"
     ∷ codes "0x20" ∷ [])
-    (symbolicate (codes "a") uuid_bytes (arch_key 0x0100_0007 8) (Some 255) (0x10 ∷ 0x20 ∷ []))
-    ∷ sample (codes "frames" ∷ codes "f" ∷ codes "a" ∷ []) (frames (codes "f") (codes "a"))
-    ∷ sample (codes "summary" ∷ codes "a" ∷ codes "o" ∷ []) (summary (codes "a") (codes "o"))
-    ∷ sample (codes "delta" ∷ codes "a" ∷ codes "s" ∷ codes "o" ∷ []) (delta (codes "a") (codes "s") (codes "o"))
-    ∷ sample (codes "rehearse" ∷ codes "s" ∷ []) (rehearse (codes "s")) ∷ []
+    (line_with symbolicate_command (text (codes "a") ∷ uuids (one uuid_bytes) ∷ archs (one (arch_key 0x0100_0007 8))
+    ∷ numbers (perhaps (Some 255)) ∷ numbers (several (0x10 ∷ 0x20 ∷ [])) ∷ []))
+    ∷ sample (codes "frames" ∷ codes "f" ∷ codes "a" ∷ [])
+    (line_with frames_command (text (codes "f") ∷ text (codes "a") ∷ []))
+    ∷ sample (codes "summary" ∷ codes "a" ∷ codes "o" ∷ [])
+    (line_with summary_command (text (codes "a") ∷ text (codes "o") ∷ []))
+    ∷ sample (codes "delta" ∷ codes "a" ∷ codes "s" ∷ codes "o" ∷ [])
+    (line_with delta_command (text (codes "a") ∷ text (codes "s") ∷ text (codes "o") ∷ []))
+    ∷ sample (codes "rehearse" ∷ codes "s" ∷ []) (line_with rehearse_command (text (codes "s") ∷ [])) ∷ []

@@ -1,11 +1,11 @@
 //! The commands: of each its name, its help, and its arguments in the order of the words. What `clap` is told of a
 //! command, which of its words are paths, and the form that a word is refused with are all read from this table.
 
-ghost use Rattle.std.specs.Prelude.{◌≡◌, map};
-ghost use Rattle.command_line.specs.Arguments.{form_of};
+ghost use Rattle.std.specs.Prelude.{◌≡◌, map, option_map};
+ghost use Rattle.command_line.specs.Arguments.{form_of, reads, reads_kind, writes};
 ghost use Rattle.command_line.specs.InnerTable.{signature_in};
 ghost use Rattle.command_line.specs.LineFaults.{form_words};
-ghost use Rattle.command_line.specs.Table.{signatures};
+ghost use Rattle.command_line.specs.Table.{commands, signature_named};
 
 /// The number of the program, of which the first part is the version of the archives that it writes.
 pub const VERSION: &str = "2.2.3";
@@ -21,11 +21,22 @@ pub enum Form {
     Number,
 }
 
+/// What is read at a path, by which an input is told where it is refused.
+#[derive(Clone, Copy, PartialEq, Eq)]
+pub enum Kind {
+    Archive,
+    File,
+    Ops,
+    Summary,
+    Script,
+    Frames,
+}
+
 /// What an argument is to its command.
 #[derive(Clone, Copy)]
 pub enum Role {
     /// The path of an input.
-    Reads,
+    Reads(Kind),
     /// The path of OUT.
     Writes,
     /// A value.
@@ -61,112 +72,117 @@ pub struct Signature {
     pub arguments: &'static [Argument],
 }
 
-pub const ARCHIVE: Argument = Argument {
+const ARCHIVE: Argument = Argument {
     name: "ARCHIVE",
     help: "The archive to read",
     count: Count::Once,
-    role: Role::Reads,
+    role: Role::Reads(Kind::Archive),
 };
 
-pub const IN: Argument = Argument {
+const IN: Argument = Argument {
     name: "IN",
     ..ARCHIVE
 };
 
-pub const OUT: Argument = Argument {
+const OUT: Argument = Argument {
     name: "OUT",
     help: "The archive to write, which is replaced if it is there",
     count: Count::Once,
     role: Role::Writes,
 };
 
-pub const SUMMARY_OUT: Argument = Argument {
+const SUMMARY_OUT: Argument = Argument {
     help: "The summary to write, which is replaced if it is there",
     ..OUT
 };
 
-pub const IMAGES: Argument = Argument {
+const IMAGES: Argument = Argument {
     name: "FILE",
     help: "The Mach-O files to take; of a dSYM bundle the one in Contents/Resources/DWARF",
     count: Count::Several,
-    role: Role::Reads,
+    role: Role::Reads(Kind::File),
 };
 
-pub const ARCHIVES: Argument = Argument {
+const ARCHIVES: Argument = Argument {
     help: "The archives to join to it",
+    role: Role::Reads(Kind::Archive),
     ..IMAGES
 };
 
-pub const OPS: Argument = Argument {
+const OPS: Argument = Argument {
     name: "OPS",
     help: "The operations file to take",
+    role: Role::Reads(Kind::Ops),
     ..ARCHIVE
 };
 
-pub const SUMMARY: Argument = Argument {
+const SUMMARY: Argument = Argument {
     name: "SUMMARY",
     help: "The summary to compare with",
+    role: Role::Reads(Kind::Summary),
     ..ARCHIVE
 };
 
-pub const SCRIPT: Argument = Argument {
+const SCRIPT: Argument = Argument {
     name: "SCRIPT",
     help: "The script of the events",
+    role: Role::Reads(Kind::Script),
     ..ARCHIVE
 };
 
-pub const FRAMES: Argument = Argument {
+const FRAMES: Argument = Argument {
     name: "FRAMES",
     help: "The file of the frames, with a line UUID ARCH LOAD ADDRESS for each",
+    role: Role::Reads(Kind::Frames),
     ..ARCHIVE
 };
 
-pub const SLICE_UUID: Argument = Argument {
+const SLICE_UUID: Argument = Argument {
     name: "UUID",
     help: "The UUID of the slice",
     count: Count::Once,
     role: Role::Says(Form::Uuid),
 };
 
-pub const SOUGHT_UUID: Argument = Argument {
+const SOUGHT_UUID: Argument = Argument {
     help: "The UUID to look for",
     ..SLICE_UUID
 };
 
-pub const IMAGE_UUID: Argument = Argument {
+const IMAGE_UUID: Argument = Argument {
     help: "The UUID of the image",
     ..SLICE_UUID
 };
 
-pub const ARCH: Argument = Argument {
+const ARCH: Argument = Argument {
     name: "ARCH",
     help: "The architecture: x86_64, x86_64h, arm64, arm64e or cpu:CCCCCCCC/00SSSSSS",
     count: Count::Once,
     role: Role::Says(Form::Arch),
 };
 
-pub const DIGEST: Argument = Argument {
+const DIGEST: Argument = Argument {
     name: "DIGEST",
     help: "The SHA-256 of the slice, as find prints it",
     count: Count::Once,
     role: Role::Says(Form::Digest),
 };
 
-pub const SYMBOL_NAME: Argument = Argument {
+const SYMBOL_NAME: Argument = Argument {
     name: "NAME",
     help: "The whole name of a symbol; one that begins with - stands behind --",
     count: Count::Once,
     role: Role::Says(Form::Plain),
 };
 
-pub const LOAD: Argument = Argument {
+const LOAD: Argument = Argument {
     name: "HEX",
     help: "Where the image was loaded, in hexadecimal, with or without 0x",
     count: Count::Perhaps("load"),
     role: Role::Says(Form::Number),
 };
 
-pub const ADDRESSES: Argument = Argument {
+const ADDRESSES: Argument = Argument {
     name: "ADDRESS",
     help: "The addresses to look up, in hexadecimal, with or without 0x",
     count: Count::Several,
@@ -271,9 +287,45 @@ const COMMANDS: &[Signature] = &[
 
 /// The table of the commands.
 pub fn table() -> &'static [Signature]
-    ensures { map signature_in result.now ≡ signatures }
+    ensures { map signature_in result.now ≡ commands }
 {
     COMMANDS
+}
+
+/// The command of this name, if there is one.
+pub fn signature_named(name: &str) -> Option<Signature>
+    ensures { option_map signature_in result ≡ signature_named name.now }
+{
+    'table: for row in table() {
+        if name == row.name {
+            return Some(*row);
+        }
+    }
+    None
+}
+
+/// Whether it is the path of an input.
+pub fn is_input(role: Role) -> bool
+    ensures { result ≡ reads role }
+{
+    matches!(role, Role::Reads(_))
+}
+
+/// Whether it is the path of an input of this kind.
+pub fn is_input_of(role: Role, kind: Kind) -> bool
+    ensures { result ≡ reads_kind kind role }
+{
+    match role {
+        Role::Reads(other) => kind == other,
+        Role::Writes | Role::Says(_) => false,
+    }
+}
+
+/// Whether it is the path of OUT.
+pub fn is_out(role: Role) -> bool
+    ensures { result ≡ writes role }
+{
+    matches!(role, Role::Writes)
 }
 
 /// The form of the words of an argument. A path is any text.
@@ -281,7 +333,7 @@ pub fn form_of(role: Role) -> Form
     ensures { result ≡ form_of role }
 {
     match role {
-        Role::Reads | Role::Writes => Form::Plain,
+        Role::Reads(_) | Role::Writes => Form::Plain,
         Role::Says(form) => form,
     }
 }

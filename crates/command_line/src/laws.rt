@@ -1,9 +1,9 @@
 //! What the definitions say of words and of the commands. Each law is the contract of a function that does nothing.
 
 ghost use Rattle.std.specs.Prelude.{◌≡◌, ◌↔◌, ℕ, List, [], map, true};
-ghost use Rattle.command_line.specs.Lines.{Line, are_accepted, error_kinds};
+ghost use Rattle.command_line.specs.Lines.{are_accepted, error_kinds};
 ghost use Rattle.command_line.specs.Samples.{EachAsks, samples};
-ghost use Rattle.command_line.specs.Table.{line_again, name_of, signatures};
+ghost use Rattle.command_line.specs.Table.{commands};
 ghost use Rattle.command_line.specs.WellFormed.{are_well_formed};
 
 /// Words are accepted exactly where they have no kind of error.
@@ -14,15 +14,10 @@ pub fn accepted_exactly()
 /// Each command has a line that is accepted, in which each value has its form and OUT's path is no input's.
 pub fn each_command_is_asked_for()
     ensures asked { EachAsks samples }
-    ensures each { map (λ s. name_of s.line) samples ≡ map (λ s. s.name) signatures }
+    ensures each { map (λ s. s.line.name) samples ≡ map (λ s. s.name) commands }
 {}
 
 /// The commands can be told apart, and so can the arguments of each.
 pub fn table_is_well_formed()
-    ensures { are_well_formed signatures ≡ true }
-{}
-
-/// A line is what its command makes of the values of its arguments.
-pub fn lines_are_made()
-    ensures { (line : Line) → line_again line ≡ line }
+    ensures { are_well_formed commands ≡ true }
 {}

@@ -1,4 +1,4 @@
-//! Why a command line gives no plan.
+//! Why a command line asks for nothing.
 
 ghost use Rattle.std.specs.Prelude.{◌≡◌, ◌≢◌, MatchResult};
 ghost use Rattle.clap.specs.Words.{kind_of};
@@ -8,7 +8,7 @@ use clap::Error;
 use clap::error::ErrorKind;
 use std::alloc::{AllocError, AllocFailed, Global};
 
-/// Why a command line gives no plan.
+/// Why a command line asks for nothing.
 #[derive(Debug, Drop)]
 pub enum LineFault {
     /// The line is refused: status 3. The text begins with `error: ` and ends with a line feed, as

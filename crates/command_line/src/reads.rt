@@ -3,59 +3,33 @@
 ghost use Rattle.std.specs.Prelude.{◌≡◌, ◌⊎◌, IfErr, IfOk, IsErrAnd, IsSome, IsSomeAnd, OnOk, Some, [], ◌∷◌};
 ghost use Rattle.std.specs.Prelude.{false, map, option_map, true};
 ghost use Rattle.clap.specs.Words.{IsAmong, found_of, rows_of, subcommand_rows_of};
-ghost use Rattle.command_line.specs.Lines.{KeepsInputs, are_accepted, error_kinds, is_in_order, line_in, line_of};
-ghost use Rattle.command_line.specs.Lines.{named_command, out_of, overwrites_input, plan_view};
+ghost use Rattle.command_line.specs.Lines.{KeepsInputs, are_accepted, error_kinds, is_in_order, is_path_among, line_in, line_of};
+ghost use Rattle.command_line.specs.Lines.{named_command, out_of, overwrites_input};
+ghost use Rattle.command_line.specs.InnerLine.{line_view};
 ghost use Rattle.command_line.specs.LineFaults.{IsHelpUnlessMemory, IsRefusalUnlessMemory, IsRefusedAs, IsToldFor};
-ghost use Rattle.command_line.specs.LineFaults.{IsToldIn, Plans, out_is_input};
+ghost use Rattle.command_line.specs.LineFaults.{IsToldIn, Reads, out_is_input};
 
 use crate::apps::symarch_command;
-use crate::exchanges::{plan_delta, plan_rehearse, plan_summary};
+use crate::commands::signature_named;
 use crate::line_faults::{LineFault, parse_fault, refused};
-use crate::plans::Plan;
-use crate::queries::{plan_find, plan_frames, plan_list, plan_name, plan_symbolicate};
-use crate::updates::{plan_admit, plan_apply, plan_merge, plan_migrate, plan_new, plan_retire};
-use crate::values::is_among;
+use crate::lines::Line;
+use crate::readings::all_values;
 use clap::ArgMatches;
 use clap::error::ErrorKind;
 use std::alloc::Global;
 use std::convert::AsStr;
 
-/// The plan of the command with this name.
-fn plan_in(alloc: Global, name: &str, matches: &ArgMatches) -> Result<Plan, LineFault>
-    ensures plans { Plans (line_in (name.now, rows_of (found_of matches.now))) result }
+/// The line of the command of this name.
+fn line_in(alloc: Global, name: &str, matches: &ArgMatches) -> Result<Line, LineFault>
+    ensures reads { Reads (line_in (name.now, rows_of (found_of matches.now))) result }
     ensures told { IfErr result (IsToldIn name.now) }
 {
-    if name == "new" {
-        plan_new(alloc, matches)
-    } else if name == "admit" {
-        plan_admit(alloc, matches)
-    } else if name == "retire" {
-        plan_retire(alloc, matches)
-    } else if name == "merge" {
-        plan_merge(alloc, matches)
-    } else if name == "migrate" {
-        plan_migrate(alloc, matches)
-    } else if name == "apply" {
-        plan_apply(alloc, matches)
-    } else if name == "find" {
-        plan_find(alloc, matches)
-    } else if name == "list" {
-        plan_list(alloc, matches)
-    } else if name == "name" {
-        plan_name(alloc, matches)
-    } else if name == "symbolicate" {
-        plan_symbolicate(alloc, matches)
-    } else if name == "frames" {
-        plan_frames(alloc, matches)
-    } else if name == "summary" {
-        plan_summary(alloc, matches)
-    } else if name == "delta" {
-        plan_delta(alloc, matches)
-    } else if name == "rehearse" {
-        plan_rehearse(alloc, matches)
-    } else {
-        Err(refused(format!(in alloc; "error: invalid command '{name}'\n")))
-    }
+    let Some(row) = signature_named(name) else {
+        return Err(refused(format!(in alloc; "error: invalid command '{name}'\n")));
+    };
+    let values = all_values(alloc, row.arguments, matches)?;
+    let name = String::from_str(alloc, name)?;
+    Ok(Line { name, values })
 }
 
 /// What `clap` makes of the words.
@@ -87,18 +61,25 @@ fn named_command<'m, 'a>(matches: &'m ArgMatches<'a>) -> Option<(&'a str, &'m Ar
     matches.subcommand()
 }
 
-/// Refuses a plan that would write over one of its inputs.
-fn check_out(alloc: Global, plan: &Plan) -> Result<(), LineFault>
-    ensures ok { OnOk result (overwrites_input (plan_view plan.now) ≡ false) }
-    ensures err { IfErr result (λ e. (e ≡ LineFault.OutOfMemory) ⊎ (overwrites_input (plan_view plan.now) ≡ true)) }
+/// Whether a path is one of these, as text.
+fn is_among(path: &str, paths: &[&str]) -> bool
+    ensures { result ≡ is_path_among path.now (map (λ p. p.now) paths.now) }
+{
+    paths.contains(&path)
+}
+
+/// Refuses a line that would write over one of its inputs.
+fn check_out(alloc: Global, line: &Line) -> Result<(), LineFault>
+    ensures ok { OnOk result (overwrites_input (line_view line.now) ≡ false) }
+    ensures err { IfErr result (λ e. (e ≡ LineFault.OutOfMemory) ⊎ (overwrites_input (line_view line.now) ≡ true)) }
     ensures refusal { IfErr result IsRefusalUnlessMemory }
-    ensures told { IfErr result (λ e. IsSomeAnd (out_of (plan_view plan.now))
+    ensures told { IfErr result (λ e. IsSomeAnd (out_of (line_view line.now))
         (λ out. IsRefusedAs (out_is_input out) e)) }
 {
-    let Some(out) = plan.out() else {
+    let Some(out) = line.out() else {
         return Ok(());
     };
-    if is_among(out, &plan.inputs(alloc)?) {
+    if is_among(out, &line.inputs(alloc)?) {
         return Err(refused(format!(in alloc;
             "error: invalid OUT '{out}': expected a path that is no input\n"
         )));
@@ -109,12 +90,12 @@ fn check_out(alloc: Global, plan: &Plan) -> Result<(), LineFault>
 /// Reads a command line, of which the first word is the program's name. A line that `clap` refuses
 /// has `clap`'s own text. One in which a word has another form than its name asks for has a text with
 /// the name, the word and the form, and one in which OUT is an input a text with its path.
-pub fn plan<S: AsStr>(alloc: Global, words: &[S]) -> Result<Plan, LineFault>
-    // A plan asks for what the words ask for, by `clap`'s own definition of a command's matches.
-    ensures ok { IfOk result (λ p. Some (plan_view p) ≡ line_of (map S.text words.now)) }
+pub fn read_line<S: AsStr>(alloc: Global, words: &[S]) -> Result<Line, LineFault>
+    // A line asks for what the words ask for, by `clap`'s own definition of a command's matches.
+    ensures ok { IfOk result (λ line. Some (line_view line) ≡ line_of (map S.text words.now)) }
     ensures accepted { OnOk result (error_kinds (map S.text words.now) ≡ []) }
     ensures in_order { OnOk result (is_in_order (map S.text words.now) ≡ true) }
-    ensures keeps_inputs { IfOk result (λ p. KeepsInputs (plan_view p)) }
+    ensures keeps_inputs { IfOk result (λ line. KeepsInputs (line_view line)) }
 
     // A line that `clap` accepts, in which each value has its form and OUT's path is no input's, is refused for memory
     // alone.
@@ -138,7 +119,7 @@ pub fn plan<S: AsStr>(alloc: Global, words: &[S]) -> Result<Plan, LineFault>
     let Some((name, inner)) = named_command(&matches) else {
         return Err(refused(String::from_str(alloc, "error: missing command\n")));
     };
-    let plan = plan_in(alloc, name, inner)?;
-    check_out(alloc, &plan)?;
-    Ok(plan)
+    let line = line_in(alloc, name, inner)?;
+    check_out(alloc, &line)?;
+    Ok(line)
 }

@@ -12,7 +12,8 @@ use Rattle.command_ends.specs.declared.faults.Status.{Status}
 use Rattle.command_ends.specs.Inputs.{readers}
 use Rattle.command_ends.specs.Outputs.{Outs, Writer}
 use Rattle.plan_commands.specs.Disks.{AreFirstOpened, AreOpened, Carried}
-use Rattle.plan_commands.specs.Executes.{Executes}
+use Rattle.plan_commands.specs.Plans.{Executes, plan_view}
+use Rattle.plan_commands.specs.declared.plans.Plan.{Plan}
 use Rattle.byte_device.specs.Disks.{FileAt, IsOpened, opened_with}
 
 -- relations hold along lists with one more element each
@@ -96,13 +97,15 @@ written_back len new rest is = sym (ap (λ n. take n (new ++ rest)) is ∙ take-
 
 -- the files of a line were opened, and its command ended so
 pub carried_of : {S D T : Type 0} (left : S → Option (List ℕ)) (failures : S → ℕ) (path_of : S → List Text) (file_at : Text → FileAt)
-    (opened_old opened_new : Option (List Text)) (line : Line) (paths : List Text) (opened old new behind : List (Result S CannotOpen))
+    (opened_old opened_new : Option (List Text)) (line : Line) (plan : Plan) (paths : List Text) (opened old new behind : List (Result S CannotOpen))
     (out : Outs D T) (report : Writer) (result : Result Status CommandFault)
-    → paths ≡ inputs_of line → AreOpened left failures path_of file_at paths opened → old ≡ opened → length new ≡ length old
-    → new ≡ behind → opened_new ≡ opened_with opened_old paths → Executes line (readers left failures old new) out report result
+    → plan_view plan ≡ line → paths ≡ inputs_of line → AreOpened left failures path_of file_at paths opened → old ≡ opened → length new ≡ length old
+    → new ≡ behind → opened_new ≡ opened_with opened_old paths → Executes plan (readers left failures old new) out report result
     → Carried left failures path_of file_at opened_old opened_new line behind out report result
-carried_of left failures path_of file_at opened_old opened_new line paths opened old new behind out report result is all same long last noted executes =
+carried_of left failures path_of file_at opened_old opened_new line plan paths opened old new behind out report result plan_is is all same long last noted executes =
     record {
+      plan = plan;
+      plan_is = plan_is;
       states = zip old new;
       inputs = before_is (λ path input. IsOpened left failures path_of (file_at path) input) (inputs_of line) old new long
           (subst (AreOpened left failures path_of file_at (inputs_of line)) (sym same)

@@ -5,7 +5,6 @@ use Rattle.std.specs.FinSet as set
 use Rattle.std.specs.Io.KnownBytes.{Appends}
 use Rattle.clap.specs.Words.{Text}
 use Rattle.command_line.specs.Lines.{Line}
-use Rattle.command_line.specs.Lines as line
 use Rattle.archive_records.specs.Text.{written}
 use Rattle.byte_device.specs.declared.disks.CannotOpen.{CannotOpen}
 use Rattle.command_ends.specs.declared.faults.CommandFault.{CommandFault}
@@ -14,25 +13,12 @@ use Rattle.command_ends.specs.declared.outputs.Output.{Output as Out}
 use Rattle.command_ends.specs.declared.faults.Place.{Place}
 use Rattle.command_ends.specs.declared.faults.Status.{Status}
 use Rattle.command_ends.specs.declared.faults.Why.{Why}
-use Rattle.archive_updates.specs.Admit.{admit}
-use Rattle.archive_updates.specs.Apply.{apply}
-use Rattle.archive_updates.specs.Delta.{delta}
-use Rattle.command_ends.specs.Ends.{Command, Ends, EndsStreamed, Query, Streamed, writes_amidst}
-use Rattle.archive_queries.specs.Find.{find}
-use Rattle.archive_queries.specs.Frames.{frames}
-use Rattle.command_ends.specs.Inputs.{IsKnown, Reader, reader}
-use Rattle.archive_queries.specs.List.{list}
-use Rattle.archive_updates.specs.MergeStreams.{merge_as_it_comes}
-use Rattle.archive_updates.specs.Migrate.{migrate}
-use Rattle.archive_queries.specs.Name.{name}
+use Rattle.command_ends.specs.Ends.{Command, Ends, EndsStreamed, Query, Streamed}
+use Rattle.command_ends.specs.Inputs.{reader}
 use Rattle.command_ends.specs.Outputs.{FailsAt, IsKept, Outs, Publishes, Writer, out_of, report_of}
-use Rattle.rehearse.specs.Rehearse.{rehearse}
-use Rattle.archive_updates.specs.Retire.{retire}
-use Rattle.archive_updates.specs.Summary.{summary}
-use Rattle.archive_queries.specs.Symbolicate.{symbolicate}
 use Rattle.plan_commands.specs.Disks.{Carried}
 use Rattle.byte_device.specs.Disks.{FileAt}
-use Rattle.plan_commands.specs.Executes.{EndsQuery, Executes, key_of}
+use Rattle.plan_commands.specs.Plans.{Deed, EndsDeed, EndsQuery, answers, changes, deed_of, empties, none, streams}
 use Rattle.plan_commands.specs.Files.{IsNotPut, IsOutcome, IsPut}
 
 -- if OUT failed, this is told of it
@@ -82,7 +68,7 @@ published out report text told (Err (Input at why)) p = absurd p
 published out report text told (Err (Output m)) p = failed out text m p.0
 published out report text told (Err (Report m)) p = inl (text, p.0)
 published out report text told (Err OutOfMemory) p = elim p.0 [
-  | inl none ↦ not_put out (Err OutOfMemory) [] none.0 p.1.0 (memory_counts 0)
+  | inl kept ↦ not_put out (Err OutOfMemory) [] kept.0 p.1.0 (memory_counts 0)
   | inr whole ↦ not_put out (Err OutOfMemory) text whole.0 p.1.0 (memory_counts (length text))
 ]
 
@@ -93,7 +79,7 @@ ended command out report (Err (Input at why)) e = kept_out out (Err (Input at wh
 ended command out report (Err (Output m)) e = published out report e.1.text e.1.told (Err (Output m)) e.1.published
 ended command out report (Err (Report m)) e = published out report e.1.text e.1.told (Err (Report m)) e.1.published
 ended command out report (Err OutOfMemory) e = elim e.1 [
-  | inl none ↦ kept_out out (Err OutOfMemory) none.0 (memory_counts 0)
+  | inl kept ↦ kept_out out (Err OutOfMemory) kept.0 (memory_counts 0)
   | inr c ↦ published out report c.text c.told (Err OutOfMemory) c.published
 ]
 
@@ -130,34 +116,19 @@ streamed command out report (Err OutOfMemory) e = elim e [
   | inr c ↦ published out report c.1.text c.1.told (Err OutOfMemory) c.1.published
 ]
 
--- ---- every line
+-- ---- every plan
 
-executed : {S D T : Type 0} (l : Line) (inputs : List (Reader S)) (out : Outs D T) (report : Writer)
-    (r : Result Status CommandFault) → Executes l inputs out report r → IsOutcome out r
-executed (line.new _) inputs out report r e =
-    published out report (written set.empty) (report_of set.empty []) r e
-executed (line.admit _ _ _) (input ∷ files) out report r e = ended (admit input files) out report r e
-executed (line.retire _ _ uuid arch digest) (input ∷ _) out report r e =
-    streamed (writes_amidst (retire input (key_of uuid arch) digest) (IsKnown input) (out_of out).draft) out report r e
-executed (line.merge _ _ _) (input ∷ files) out report r e =
-    streamed (merge_as_it_comes input files out) out report r e
-executed (line.migrate _ _) (input ∷ _) out report r e =
-    streamed (writes_amidst (migrate input) (IsKnown input) (out_of out).draft) out report r e
-executed (line.apply _ _ _) (input ∷ ops ∷ _) out report r e = ended (apply input ops) out report r e
-executed (line.find _ uuid) (archive ∷ _) out report r e = queried (find archive uuid) out report r e
-executed (line.list _) (archive ∷ _) out report r e = queried (list archive) out report r e
-executed (line.name _ sought) (archive ∷ _) out report r e = queried (name archive sought) out report r e
-executed (line.symbolicate _ uuid arch load addresses) (archive ∷ _) out report r e =
-    queried (symbolicate archive (key_of uuid arch) load addresses) out report r e
-executed (line.frames _ _) (crash ∷ archive ∷ _) out report r e = queried (frames crash archive) out report r e
-executed (line.summary _ _) (archive ∷ _) out report r e = ended (summary archive) out report r e
-executed (line.delta _ _ _) (archive ∷ named ∷ _) out report r e = ended (delta archive named) out report r e
-executed (line.rehearse _) (script ∷ _) out report r e = queried (rehearse script) out report r e
-executed _ _ out report r e = absurd e
+done : {D T : Type 0} (deed : Deed) (out : Outs D T) (report : Writer) (r : Result Status CommandFault)
+    → EndsDeed deed out report r → IsOutcome out r
+done empties out report r e = published out report (written set.empty) (report_of set.empty []) r e
+done (changes command) out report r e = ended command out report r e
+done (streams command) out report r e = streamed command out report r e
+done (answers query) out report r e = queried query out report r e
+done none out report r e = absurd e
 
 pub carried_outcome : {S D T : Type 0} (left : S → Option (List ℕ)) (failures : S → ℕ) (path_of : S → List Text)
     (file_at : Text → FileAt) (old new : Option (List Text)) (l : Line) (behind : List (Result S CannotOpen)) (out : Outs D T)
     (report : Writer) (r : Result Status CommandFault)
     → Carried left failures path_of file_at old new l behind out report r → IsOutcome out r
 carried_outcome left failures path_of file_at old new l behind out report r c =
-    executed l (map (λ state. reader left failures state.0 state.1) c.states) out report r c.executes
+    done (deed_of c.plan (map (λ state. reader left failures state.0 state.1) c.states) out) out report r c.executes

@@ -9,7 +9,8 @@ use Rattle.command_ends.specs.declared.faults.CommandFault.TheVariants.{OutOfMem
 use Rattle.command_ends.specs.declared.faults.Status.{Status}
 use Rattle.command_ends.specs.Inputs.{reader}
 use Rattle.command_ends.specs.Outputs.{Outs, Writer}
-use Rattle.plan_commands.specs.Executes.{Executes}
+use Rattle.plan_commands.specs.Plans.{Executes, plan_view}
+use Rattle.plan_commands.specs.declared.plans.Plan.{Plan}
 use Rattle.byte_device.specs.Disks.{FileAt, IsOpened, opened_with}
 
 -- The inputs are what opening the files at these paths gives.
@@ -29,11 +30,13 @@ pub record Carried {S D T : Type 0} (left : S → Option (List ℕ)) (failures :
     (file_at : Text → FileAt) (opened_old opened_new : Option (List Text)) (line : Line)
     (behind : List (Result S CannotOpen)) (out : Outs D T) (report : Writer) (result : Result Status CommandFault)
     : Type 0 where
+  pub plan : Plan
+  pub plan_is : plan_view plan ≡ line
   pub states : List (Result S CannotOpen × Result S CannotOpen)
   pub inputs : AllZip (λ path state. IsOpened left failures path_of (file_at path) state.0) (inputs_of line) states
   pub behind_is : map (λ state. state.1) states ≡ behind
   pub opened : opened_new ≡ opened_with opened_old (inputs_of line)
-  pub executes : Executes line (map (λ state. reader left failures state.0 state.1) states) out report result
+  pub executes : Executes plan (map (λ state. reader left failures state.0 state.1) states) out report result
 
 -- There was no memory to open the files of a line, or the others of them, and nothing was written.
 pub record IsUnbegun {D T : Type 0} (opened_old opened_new : Option (List Text)) (line : Line) (out : Outs D T)

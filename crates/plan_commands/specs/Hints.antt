@@ -1,5 +1,5 @@
 -- Which file a failure is of, and which of its lines.
-use Rattle.std.specs.Prelude.{ℕ, zero, suc, Option, Some, None, option_map, slice_get, Result, Ok, Err, ⊤}
+use Rattle.std.specs.Prelude.{Option, Some, None, option_map, slice_get, Result, Ok, Err, ⊤}
 use Rattle.clap.specs.Words.{Text}
 use Rattle.command_ends.specs.declared.failures.Failure.{Failure}
 use Rattle.command_ends.specs.declared.failures.Failure.TheVariants.{Command, CannotCreate, CannotReplace}
@@ -11,46 +11,28 @@ use Rattle.command_ends.specs.declared.faults.Status.{Status}
 use Rattle.command_ends.specs.declared.faults.Why.{Why}
 use Rattle.command_ends.specs.declared.faults.Why.TheVariants.{CannotOpen, Device, Record, Take}
 use Rattle.command_ends.specs.declared.faults.Why.TheVariants.{Script as ScriptFaulty, BadFrame}
-use Rattle.command_line.specs.Lines.{Line, out_of}
-use Rattle.command_line.specs.Lines as line
+use Rattle.command_line.specs.Lines.{Line, inputs_of_kind, out_of}
+use Rattle.command_line.specs.declared.commands.Kind.TheVariants as kinds
 use Rattle.plan_commands.specs.declared.flaws.FaultyLine.{FaultyLine}
 use Rattle.plan_commands.specs.declared.flaws.Flaw.TheVariants as flaw
 
--- the path of the archive of this number among those of the words
-abbrev pub archive_at : Line → ℕ → Option Text
-archive_at (line.admit input out files) zero = Some input
-archive_at (line.retire input out uuid arch digest) zero = Some input
-archive_at (line.merge input out files) zero = Some input
-archive_at (line.merge input out files) (suc number) = slice_get files number
-archive_at (line.migrate input out) zero = Some input
-archive_at (line.apply input out ops) zero = Some input
-archive_at (line.find archive uuid) zero = Some archive
-archive_at (line.list archive) zero = Some archive
-archive_at (line.name archive sought) zero = Some archive
-archive_at (line.symbolicate archive uuid arch load addresses) zero = Some archive
-archive_at (line.frames crash archive) zero = Some archive
-archive_at (line.summary archive out) zero = Some archive
-archive_at (line.delta archive summary out) zero = Some archive
-archive_at _ _ = None
-
--- the path of the input that is reported by this place
+-- the path of the input that is reported by this place: the one of that number among those of its kind
 abbrev pub path_at : Line → Place → Option Text
-path_at l (Archive number) = archive_at l number
-path_at (line.admit input out files) (File number) = slice_get files number
-path_at (line.apply input out ops) Ops = Some ops
-path_at (line.delta archive summary out) Summary = Some summary
-path_at (line.rehearse script) Script = Some script
-path_at (line.frames crash archive) Frames = Some crash
-path_at _ _ = None
+path_at line (Archive number) = slice_get (inputs_of_kind kinds.Archive line) number
+path_at line (File number) = slice_get (inputs_of_kind kinds.File line) number
+path_at line Ops = slice_get (inputs_of_kind kinds.Ops line) 0
+path_at line Summary = slice_get (inputs_of_kind kinds.Summary line) 0
+path_at line Script = slice_get (inputs_of_kind kinds.Script line) 0
+path_at line Frames = slice_get (inputs_of_kind kinds.Frames line) 0
 
 -- the path of the file that a failure is of
 abbrev pub file_of : Line → Failure → Option Text
-file_of l (Command (Input place why)) = path_at l place
-file_of l (Command (Output n)) = out_of l
-file_of l (Command (Report n)) = None
-file_of l (Command OutOfMemory) = None
-file_of l (CannotCreate _) = out_of l
-file_of l CannotReplace = out_of l
+file_of line (Command (Input place why)) = path_at line place
+file_of line (Command (Output n)) = out_of line
+file_of line (Command (Report n)) = None
+file_of line (Command OutOfMemory) = None
+file_of line (CannotCreate _) = out_of line
+file_of line CannotReplace = out_of line
 
 -- the line for which an input is refused, with what is wrong with it, where more is known of that
 abbrev pub faulty_line : Why → Option FaultyLine

@@ -1,4 +1,4 @@
-pub mod Executes
+pub mod Plans
 pub mod Disks
 pub mod Files
 pub mod Said

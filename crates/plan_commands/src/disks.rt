@@ -1,16 +1,16 @@
-//! A plan that is carried out over files by their paths.
+//! A line that is carried out over files by their paths.
 
 ghost use Rattle.std.specs.Prelude.{◌≡◌, ◌⊎◌, [], OnErr, OnOk, map};
 ghost use Rattle.command_ends.specs.Outputs.{outs, writer};
-ghost use Rattle.command_line.specs.Lines.{plan_view};
+ghost use Rattle.command_line.specs.InnerLine.{line_view};
 ghost use Rattle.plan_commands.specs.Disks.{AreFirstOpened, AreOpened, Carried, IsUnbegun};
 ghost use Rattle.byte_device.specs.Disks.{opened_with};
 
-use crate::commands::execute;
+use crate::plans::{Plan, execute};
 use archive_core::Archive;
 use byte_device::{CannotOpen, Disk, Sink, Source};
 use command_ends::{CommandFault, Output, Status, Target};
-use command_line::Plan;
+use command_line::Line;
 use memory::{Heap, NoMemory};
 use std::alloc::Global;
 
@@ -34,26 +34,26 @@ fn open_all<D: Disk>(
     Ok(())
 }
 
-/// Carries out a plan over the files of a disk, which are opened before its command begins, and stand in `inputs` behind
+/// Carries out a line over the files of a disk, which are opened before its command begins, and stand in `inputs` behind
 /// it.
 pub fn execute_on<A: Archive + Drop, L: Archive + Drop, D: Disk, T: Target, P: Sink>(
     alloc: Global,
     heap: Heap,
     disk: &mut D,
     inputs: &mut Vec<Result<D::Input, CannotOpen>>,
-    plan: &Plan,
+    line: &Line,
     out: &mut Output<T::Draft, T>,
     report: &mut P,
 ) -> Result<Status, CommandFault>
     requires { inputs.old.items ≡ [] }
-    ensures { IsUnbegun (D.opened disk.old) (D.opened disk.new) (plan_view plan.now)
+    ensures { IsUnbegun (D.opened disk.old) (D.opened disk.new) (line_view line.now)
         (outs T.Draft.held T.Draft.failures T.placed T.failures out.old out.new)
         (writer P.held P.failures report.old report.new) result
         ⊎ Carried D.Input.left D.Input.failures D.path_of (D.file_at disk.old) (D.opened disk.old) (D.opened disk.new)
-        (plan_view plan.now) inputs.new.items (outs T.Draft.held T.Draft.failures T.placed T.failures out.old out.new)
+        (line_view line.now) inputs.new.items (outs T.Draft.held T.Draft.failures T.placed T.failures out.old out.new)
         (writer P.held P.failures report.old report.new) result }
 {
-    let paths = plan.inputs(alloc)?;
+    let paths = line.inputs(alloc)?;
     open_all(disk, &paths, inputs)?;
-    execute::<A, L, _, _, _>(heap, plan, inputs, out, report)
+    execute::<A, L, _, _, _>(heap, &Plan::of(line), inputs, out, report)
 }

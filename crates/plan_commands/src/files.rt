@@ -1,40 +1,42 @@
-//! A plan, carried out over files of the system.
+//! A line, carried out over files of the system.
 
 ghost use Rattle.std.specs.Prelude.{◌≡◌, ◌⊎◌, [], None, OnOk, option_map, string_bytes};
 ghost use Rattle.command_ends.specs.Outputs.{writer};
 ghost use Rattle.archive_files.specs.Fresh.{AreFresh};
 ghost use Rattle.archive_files.specs.OutFiles.{Untouched, stage_of};
 ghost use Rattle.archive_files.specs.Placing.{IsPath};
-ghost use Rattle.command_line.specs.Lines.{inputs_of, out_of, plan_view};
+ghost use Rattle.command_line.specs.Lines.{inputs_of, out_of};
+ghost use Rattle.command_line.specs.InnerLine.{line_view};
 ghost use Rattle.plan_commands.specs.Files.{IsCarriedOut, IsUnbegun, calls_of, command_fault_of, out_failure};
 
 use crate::execute_on;
 use crate::hints::Seen;
+use crate::plans::Plan;
 use archive_files::{OpenedFile, OutFault, OutFile, OutPath, Replaces, SystemDisk, SystemFiles};
 use byte_device::{CannotCreate, Disk, Sink, Source};
 use command_ends::{CommandFault, Failure, Status, Target};
-use command_line::Plan;
+use command_line::Line;
 use memory::{Heap, NoMemory};
 use sorted_archive::{IndexedArchive, PlainArchive};
 use std::io::BufReader;
 use std::rt::Files;
 
-/// Takes the path of OUT, if the plan has one. `new` replaces no archive that has records.
-fn begin<F: Files>(files: &mut SystemFiles<'_, F>, plan: &Plan) -> Result<(), NoMemory>
+/// Takes the path of OUT, if the line has one. `new` replaces no archive that has records.
+fn begin<F: Files>(files: &mut SystemFiles<'_, F>, line: &Line) -> Result<(), NoMemory>
     requires { AreFresh files.old }
     ensures opened { files.new.disk.opened.entries ≡ files.old.disk.opened.entries }
-    ensures path { OnOk result (IsPath (out_of (plan_view plan.now)) (inputs_of (plan_view plan.now))
+    ensures path { OnOk result (IsPath (out_of (line_view line.now)) (inputs_of (line_view line.now))
         files.new.others.entries files.new.same.entries (option_map string_bytes files.new.out.draft.path)) }
     ensures untouched { stage_of files.new.out.draft.state ≡ Untouched }
     ensures unfailed { files.new.out.draft.failures ≡ 0 }
     ensures calls { files.new.out.draft.calls.entries ≡ [] }
     ensures placed { files.new.out.target.placed ≡ None }
 {
-    let Some(path) = plan.out() else {
+    let Some(path) = line.out() else {
         return Ok(());
     };
-    let inputs = plan.inputs(files.disk.alloc())?;
-    let replaces = match plan {
+    let inputs = line.inputs(files.disk.alloc())?;
+    let replaces = match Plan::of(line) {
         Plan::New { .. } => Replaces::NoRecords,
         _ => Replaces::OwnFiles,
     };
@@ -64,12 +66,12 @@ fn told(ended: Result<Status, CommandFault>, fault: Option<OutFault>) -> Result<
     }
 }
 
-/// Carries out a plan over files of the system, whose report goes to `report`. Inputs are opened before the command
+/// Carries out a line over files of the system, whose report goes to `report`. Inputs are opened before the command
 /// begins, and refused at their turn; OUT's draft is created with its first bytes, put in place when it is whole, and
-/// removed where it was not. No plan without OUT has any. What was seen of the file that it failed at is in `seen`.
+/// removed where it was not. No line without OUT has any. What was seen of the file that it failed at is in `seen`.
 pub fn execute<'f, F: Files, P: Sink>(
     files: &mut SystemFiles<'f, F>,
-    plan: &Plan,
+    line: &Line,
     report: &mut P,
     seen: &mut Seen,
 ) -> Result<Status, Failure>
@@ -80,22 +82,22 @@ pub fn execute<'f, F: Files, P: Sink>(
         ⟦<OutFile<'f, F> as Sink>⟧.failures ⟦<OutPath<'f, F> as Target>⟧.placed
         ⟦<OutPath<'f, F> as Target>⟧.failures files.old files.new in
         let told = writer P.held P.failures report.old report.new in
-        IsUnbegun calls (plan_view plan.now) told result ⊎ IsCarriedOut calls (plan_view plan.now) told result }
+        IsUnbegun calls (line_view line.now) told result ⊎ IsCarriedOut calls (line_view line.now) told result }
 {
     let alloc = files.disk.alloc();
     let heap = Heap::new(alloc)?;
-    begin(files, plan)?;
+    begin(files, line)?;
     let mut inputs = Vec::new(alloc);
     let ended = execute_on::<PlainArchive, IndexedArchive, _, _, _>(
         alloc,
         heap,
         &mut files.disk,
         &mut inputs,
-        plan,
+        line,
         &mut files.out,
         report,
     );
     files.out.draft.discard();
-    *seen = Seen::by(&ended, plan, &inputs, &files.out.draft);
+    *seen = Seen::by(&ended, line, &inputs, &files.out.draft);
     told(ended, files.out.draft.fault())
 }

@@ -2,17 +2,18 @@
 //! stands in a line of its own after that of the failure, which programs read. Of it contracts say the path and the
 //! faulty line alone.
 
-ghost use Rattle.std.specs.Prelude.{◌≡◌, IfSome, None, Some, map, option_map, slice_get, string_bytes};
-ghost use Rattle.command_line.specs.Lines.{out_of, plan_view};
-ghost use Rattle.plan_commands.specs.Hints.{IsOfNoFile, IsOfOut, archive_at, faulty_line_of, file_of};
-ghost use Rattle.plan_commands.specs.Hints.{path_at};
+ghost use Rattle.std.specs.Prelude.{◌≡◌, IfSome, None, Some, option_map, slice_get};
+ghost use Rattle.command_line.specs.InnerLine.{line_view};
+ghost use Rattle.command_line.specs.Lines.{inputs_of_kind, out_of};
+ghost use Rattle.plan_commands.specs.Hints.{IsOfNoFile, IsOfOut, faulty_line_of, file_of, path_at};
 
 use crate::flaws::FaultyLine;
 use crate::looks::Look;
+use crate::plans::Plan;
 use archive_files::{OpenedFile, OutFile};
 use byte_device::CannotOpen;
 use command_ends::{CommandFault, Failure, Place, Status, Why};
-use command_line::Plan;
+use command_line::{Kind, Line, is_input, is_input_of};
 use std::fmt::{self, Display, Write};
 use std::io::{self, ErrorKind, Read};
 use std::rt::Files;
@@ -47,10 +48,10 @@ impl Seen {
         }
     }
 
-    /// What was seen of the file that a command of this plan failed at.
+    /// What was seen of the file that the command of this line failed at.
     pub fn by<R: Read + Drop, F: Files>(
         ended: &Result<Status, CommandFault>,
-        plan: &Plan,
+        line: &Line,
         inputs: &[Result<OpenedFile<R>, CannotOpen>],
         out: &OutFile<'_, F>,
     ) -> Seen
@@ -58,10 +59,12 @@ impl Seen {
         ensures out { IsOfOut ended.now → result.look ≡ None }
     {
         match ended {
-            Err(CommandFault::Input(place, _)) => match inputs.get(index_of(plan, *place)) {
-                Some(input) => Seen::of_input(input),
-                None => Seen::NOTHING,
-            },
+            Err(CommandFault::Input(place, _)) => {
+                match input_at(line, *place).and_then(|(number, _)| inputs.get(number)) {
+                    Some(input) => Seen::of_input(input),
+                    None => Seen::NOTHING,
+                }
+            }
             Err(CommandFault::Output(_)) => Seen {
                 reason: out.reason(),
                 look: None,
@@ -71,66 +74,40 @@ impl Seen {
     }
 }
 
-/// The number among the inputs of a plan of the one that is reported by this place.
-fn index_of(plan: &Plan, place: Place) -> usize {
+/// The input of this number among those of a kind: its number among all, and its path.
+fn input_of(line: &Line, kind: Kind, number: u64) -> Option<(usize, &str)>
+    ensures { option_map (λ at. at.1.now) result
+        ≡ slice_get (inputs_of_kind kind (line_view line.now)) number }
+{
+    let arguments = line.arguments();
+    let mut passed = 0_usize;
+    let mut left = number as usize;
+    'arguments: for (argument, values) in arguments.iter().zip(&line.values) {
+        let paths = values.texts();
+        if is_input_of(argument.role, kind) {
+            if let Some(path) = paths.get(left) {
+                return Some((passed.saturating_add(left), path));
+            }
+            left -= paths.len();
+        }
+        if is_input(argument.role) {
+            passed = passed.saturating_add(paths.len());
+        }
+    }
+    None
+}
+
+/// The input that is reported by this place.
+fn input_at(line: &Line, place: Place) -> Option<(usize, &str)>
+    ensures { option_map (λ at. at.1.now) result ≡ path_at (line_view line.now) place }
+{
     match place {
-        Place::Archive(number) => match plan {
-            Plan::Frames { .. } => 1,
-            _ => number as usize,
-        },
-        Place::File(number) => (number as usize).saturating_add(1),
-        Place::Ops | Place::Summary => 1,
-        Place::Script | Place::Frames => 0,
-    }
-}
-
-/// The path of this number.
-fn file_at(files: &[String], number: u64) -> Option<&str>
-    ensures { option_map (λ p. p.now) result ≡ slice_get (map string_bytes files.now) number }
-{
-    match files.get(number as usize) {
-        Some(file) => Some(file.as_str()),
-        None => None,
-    }
-}
-
-/// The path of the archive of this number among those of the words.
-fn archive_at(plan: &Plan, number: u64) -> Option<&str>
-    ensures { option_map (λ p. p.now) result ≡ archive_at (plan_view plan.now) number }
-{
-    match (plan, number.checked_sub(1)) {
-        (Plan::Merge { files, .. }, Some(behind)) => file_at(files, behind),
-        (
-            Plan::Admit { input: path, .. }
-            | Plan::Retire { input: path, .. }
-            | Plan::Merge { input: path, .. }
-            | Plan::Migrate { input: path, .. }
-            | Plan::Apply { input: path, .. }
-            | Plan::Find { archive: path, .. }
-            | Plan::List { archive: path }
-            | Plan::Name { archive: path, .. }
-            | Plan::Symbolicate { archive: path, .. }
-            | Plan::Frames { archive: path, .. }
-            | Plan::Summary { archive: path, .. }
-            | Plan::Delta { archive: path, .. },
-            None,
-        ) => Some(path),
-        _ => None,
-    }
-}
-
-/// The path of the input that is reported by this place.
-fn path_at(plan: &Plan, place: Place) -> Option<&str>
-    ensures { option_map (λ p. p.now) result ≡ path_at (plan_view plan.now) place }
-{
-    match (place, plan) {
-        (Place::Archive(number), _) => archive_at(plan, number),
-        (Place::File(number), Plan::Admit { files, .. }) => file_at(files, number),
-        (Place::Ops, Plan::Apply { ops: path, .. })
-        | (Place::Summary, Plan::Delta { summary: path, .. })
-        | (Place::Script, Plan::Rehearse { script: path })
-        | (Place::Frames, Plan::Frames { frames: path, .. }) => Some(path),
-        _ => None,
+        Place::Archive(number) => input_of(line, Kind::Archive, number),
+        Place::File(number) => input_of(line, Kind::File, number),
+        Place::Ops => input_of(line, Kind::Ops, 0),
+        Place::Summary => input_of(line, Kind::Summary, 0),
+        Place::Script => input_of(line, Kind::Script, 0),
+        Place::Frames => input_of(line, Kind::Frames, 0),
     }
 }
 
@@ -170,16 +147,16 @@ fn look_of(why: Why, look: Option<Look>) -> Option<Look> {
     }
 }
 
-/// The line that helps with this failure of a plan, if there is one.
-pub fn help_with<'p>(plan: &'p Plan, failure: &Failure, seen: Seen) -> Option<Hint<'p>>
-    ensures path { IfSome result (λ hint. Some hint.path.now ≡ file_of (plan_view plan.now) failure.now) }
+/// The line that helps with this failure of a line, if there is one.
+pub fn help_with<'p>(line: &'p Line, failure: &Failure, seen: Seen) -> Option<Hint<'p>>
+    ensures path { IfSome result (λ hint. Some hint.path.now ≡ file_of (line_view line.now) failure.now) }
     ensures faulty { IfSome result (λ hint. hint.faulty ≡ faulty_line_of failure.now) }
 {
     match failure {
         Failure::Command(CommandFault::Input(place, why)) => {
             Some(Hint {
                 subject: Subject::Input(*place),
-                path: path_at(plan, *place)?,
+                path: input_at(line, *place)?.1,
                 note: None,
                 faulty: FaultyLine::of(*why),
                 seen: Seen {
@@ -188,11 +165,11 @@ pub fn help_with<'p>(plan: &'p Plan, failure: &Failure, seen: Seen) -> Option<Hi
                 },
             })
         }
-        Failure::Command(CommandFault::Output(_)) => out_hint(plan, None, seen),
+        Failure::Command(CommandFault::Output(_)) => out_hint(line, None, seen),
         // Why the report failed is known to its owner.
         Failure::Command(CommandFault::Report(_) | CommandFault::OutOfMemory) => None,
-        Failure::CannotCreate(_) => out_hint(plan, Some(SAME_FILE), seen),
-        Failure::CannotReplace => out_hint(plan, Some(not_replaced(plan)), seen),
+        Failure::CannotCreate(_) => out_hint(line, Some(SAME_FILE), seen),
+        Failure::CannotReplace => out_hint(line, Some(not_replaced(line)), seen),
     }
 }
 
@@ -200,21 +177,21 @@ pub fn help_with<'p>(plan: &'p Plan, failure: &Failure, seen: Seen) -> Option<Hi
 const SAME_FILE: &str = "the file of an input";
 
 /// Why OUT is not replaced where the system says nothing.
-fn not_replaced(plan: &Plan) -> &'static str {
-    match plan {
+fn not_replaced(line: &Line) -> &'static str {
+    match Plan::of(line) {
         Plan::New { .. } => "there, and neither empty nor an archive without records",
         _ => "there, and neither empty nor one of symarch's files",
     }
 }
 
 /// A line of OUT. What is noted of it is said where the system said nothing.
-fn out_hint<'p>(plan: &'p Plan, note: Option<&'static str>, seen: Seen) -> Option<Hint<'p>>
-    ensures path { IfSome result (λ hint. Some hint.path.now ≡ out_of (plan_view plan.now)) }
+fn out_hint<'p>(line: &'p Line, note: Option<&'static str>, seen: Seen) -> Option<Hint<'p>>
+    ensures path { IfSome result (λ hint. Some hint.path.now ≡ out_of (line_view line.now)) }
     ensures faulty { IfSome result (λ hint. hint.faulty ≡ None) }
 {
     Some(Hint {
         subject: Subject::Output,
-        path: plan.out()?,
+        path: line.out()?,
         note: if seen.reason.is_none() { note } else { None },
         faulty: None,
         seen,

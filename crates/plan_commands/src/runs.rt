@@ -16,7 +16,7 @@ use crate::said::{FailureLine, RefusedLine, say, say_more, say_wanting};
 use archive_files::{OpenedFile, OutFile, OutPath, SystemDisk, SystemFiles};
 use byte_device::{Disk, Sink, Source, push_all};
 use command_ends::{Failure, Status, Target, status_of};
-use command_line::{LineFault, Plan, plan};
+use command_line::{Line, LineFault, read_line};
 use std::alloc::Global;
 use std::fmt::{self, Display, Write};
 use std::io::{self, BufReader, ErrorKind};
@@ -74,20 +74,20 @@ fn run_words<'f, F: Files, P: Sink, E: Sink>(
         (writer E.held E.failures errors.old errors.new) result }
 {
     let alloc = files.disk.alloc();
-    match plan(alloc, words) {
-        Ok(plan) => {
+    match read_line(alloc, words) {
+        Ok(line) => {
             let mut seen = Seen::NOTHING;
-            let ended = execute(files, &plan, report, &mut seen);
-            end(alloc, &plan, ended, seen, errors)
+            let ended = execute(files, &line, report, &mut seen);
+            end(alloc, &line, ended, seen, errors)
         }
-        Err(fault) => end_without_plan(alloc, fault, report, errors),
+        Err(fault) => end_without_line(alloc, fault, report, errors),
     }
 }
 
-/// Ends as a plan did, of which why it failed is said.
+/// Ends as a line did, of which why it failed is said.
 fn end<E: Sink>(
     alloc: Global,
-    plan: &Plan,
+    line: &Line,
     ended: Result<Status, Failure>,
     seen: Seen,
     errors: &mut E,
@@ -96,25 +96,25 @@ fn end<E: Sink>(
     ensures status { result ≡ status_of ended }
 {
     if let Err(failure) = ended {
-        say_failure(alloc, plan, failure, seen, errors);
+        say_failure(alloc, line, failure, seen, errors);
     }
     status_of(&ended)
 }
 
-/// Says why a plan failed, and after it what helps a person.
-fn say_failure<E: Sink>(alloc: Global, plan: &Plan, failure: Failure, seen: Seen, errors: &mut E)
+/// Says why a line failed, and after it what helps a person.
+fn say_failure<E: Sink>(alloc: Global, line: &Line, failure: Failure, seen: Seen, errors: &mut E)
     ensures { SaysFailure (writer E.held E.failures errors.old errors.new) failure }
 {
     if !say(alloc, &FailureLine(failure), errors) {
         return;
     }
-    if let Some(hint) = help_with(plan, &failure, seen) {
+    if let Some(hint) = help_with(line, &failure, seen) {
         say_more(alloc, &hint, errors);
     }
 }
 
-/// Ends where the words give no plan.
-fn end_without_plan<P: Sink, E: Sink>(
+/// Ends where the words ask for nothing.
+fn end_without_line<P: Sink, E: Sink>(
     alloc: Global,
     fault: LineFault,
     report: &mut P,
@@ -179,7 +179,7 @@ fn refuse_words<P: Sink, E: Sink>(
         (writer E.held E.failures errors.old errors.new) result }
 {
     if error.kind() == ErrorKind::OutOfMemory {
-        end_without_plan(alloc, LineFault::OutOfMemory, report, errors)
+        end_without_line(alloc, LineFault::OutOfMemory, report, errors)
     } else {
         say(
             alloc,

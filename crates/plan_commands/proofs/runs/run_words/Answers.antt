@@ -1,12 +1,12 @@
 use Rattle.std.proofs.Common.{inl, inr, map, string_bytes, refl}
-use Rattle.command_line.specs.Lines.{plan_view}
+use Rattle.command_line.specs.InnerLine.{line_view}
 use Rattle.command_line.proofs.Exactly.{accepted_if_faultless}
 use Rattle.plan_commands.proofs.Saying.{no_plan, none_called}
 use Rattle.plan_commands.proofs.runs.run_words.Goals as goal
 
 pub returns-in-Ok : goal.returns-in-Ok
 returns-in-Ok g c = inl (record {
-  line = plan_view c.in-Ok.plan;
+  line = line_view c.in-Ok.line;
   ended = c.execute-ended.result;
   accepted = c.in-Ok.ensures.accepted;
   line_is = c.in-Ok.ensures.ok;
@@ -19,7 +19,7 @@ pub returns-in-Err : goal.returns-in-Err
 returns-in-Err g c =
     let words = map string_bytes c.args.words.now in inr (
       record { opened = refl; uncalled = none_called _ _ c.requires.6 c.requires.5 },
-      no_plan words c.in-Err.fault _ _ _ c.end_without_plan.ensures
+      no_plan words c.in-Err.fault _ _ _ c.end_without_line.ensures
           (λ faultless ordered. c.in-Err.ensures.err (accepted_if_faultless words faultless) ordered)
           c.in-Err.ensures.help c.in-Err.ensures.version c.in-Err.ensures.refusal c.in-Err.ensures.told,
     )

@@ -1,0 +1,14 @@
+use Rattle.std.proofs.Common.{◌≡◌, ◌++◌, map}
+use Rattle.command_line.specs.Arguments.{reads}
+use Rattle.command_line.specs.InnerLine.{line_view}
+use Rattle.command_line.specs.InnerTable.{argument_in}
+use Rattle.command_line.specs.InnerValues.{values_view}
+use Rattle.command_line.specs.Lines.{inputs_of, texts_by}
+use Rattle.command_line.proofs.lines.Line.inputs.Given as goal
+
+-- the paths of what is passed, and those of what is left
+abbrev pub invariant-arguments : goal.invariant-arguments
+invariant-arguments l =
+    map (λ p. p.now) l.paths.items
+    ++ texts_by reads (map argument_in l.argument-iterator.a.rest.now) (map values_view l.argument-iterator.b.rest.now)
+    ≡ inputs_of (line_view l.self)

@@ -1,0 +1,15 @@
+use Rattle.std.proofs.Common.{◌≡◌, map}
+use Rattle.std.specs.Prelude.{slice_get}
+use Rattle.command_line.specs.Arguments.{writes}
+use Rattle.command_line.specs.InnerLine.{line_view}
+use Rattle.command_line.specs.InnerTable.{argument_in}
+use Rattle.command_line.specs.InnerValues.{values_view}
+use Rattle.command_line.specs.Lines.{out_of, texts_by}
+use Rattle.command_line.proofs.lines.Line.out.Given as goal
+
+-- OUT is not passed
+abbrev pub invariant-arguments : goal.invariant-arguments
+invariant-arguments l =
+    slice_get (texts_by writes (map argument_in l.argument-iterator.a.rest.now)
+    (map values_view l.argument-iterator.b.rest.now)) 0
+    ≡ out_of (line_view l.self)

@@ -1,9 +1,0 @@
-use Rattle.std.proofs.Common.{◌≡◌, ◌++◌, drop, map, option_map}
-use Rattle.command_line.specs.Lines.{all_spelled}
-use Rattle.command_line.proofs.values.each_spelled.Given as goal
-
-abbrev pub invariant-words : goal.invariant-words
-invariant-words g l =
-    option_map (λ xs. l.values.items ++ xs)
-    (all_spelled g.T.Word.form_of (map (λ w. w.now) (drop l.word-index l.words)))
-    ≡ all_spelled g.T.Word.form_of (map (λ w. w.now) l.words)

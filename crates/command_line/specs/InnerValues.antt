@@ -1,0 +1,27 @@
+-- The values of an argument, as definitions see them.
+use Rattle.std.specs.Global.{Global}
+use Rattle.std.specs.Prelude.{None, Some, String, map, string_bytes}
+use Rattle.clap.specs.Words.{Text}
+use Rattle.command_line.specs.Arguments.{Amount, Values, archs, digests, numbers, one, perhaps, several, texts, uuids}
+use Rattle.command_line.specs.declared.values.Amount.{Amount as AmountOfProgram}
+use Rattle.command_line.specs.declared.values.Amount.TheVariants as amounts
+use Rattle.command_line.specs.declared.values.Values.{Values as ValuesOfProgram}
+use Rattle.command_line.specs.declared.values.Values.TheVariants as forms
+
+abbrev pub amount_view : {X : Type 0} → AmountOfProgram X → Amount X
+amount_view (amounts.One x) = one x
+amount_view (amounts.Several xs) = several xs.items
+amount_view (amounts.Perhaps x) = perhaps x
+
+abbrev pub texts_view : AmountOfProgram (String Global) → Amount Text
+texts_view (amounts.One text) = one (string_bytes text)
+texts_view (amounts.Several all) = several (map string_bytes all.items)
+texts_view (amounts.Perhaps None) = perhaps None
+texts_view (amounts.Perhaps (Some text)) = perhaps (Some (string_bytes text))
+
+abbrev pub values_view : ValuesOfProgram → Values
+values_view (forms.Texts xs) = texts (texts_view xs)
+values_view (forms.Uuids xs) = uuids (amount_view xs)
+values_view (forms.Archs xs) = archs (amount_view xs)
+values_view (forms.Digests xs) = digests (amount_view xs)
+values_view (forms.Numbers xs) = numbers (amount_view xs)

@@ -1,0 +1,15 @@
+use Rattle.std.proofs.Common.{◌≡◌, map}
+use Rattle.std.specs.Prelude.{slice_get}
+use Rattle.command_line.specs.Arguments.{reads_kind}
+use Rattle.command_line.specs.InnerLine.{line_view}
+use Rattle.command_line.specs.InnerTable.{argument_in}
+use Rattle.command_line.specs.InnerValues.{values_view}
+use Rattle.command_line.specs.Lines.{inputs_of_kind, texts_by}
+use Rattle.plan_commands.proofs.hints.input_of.Given as goal
+
+-- so many of the kind are left to pass
+abbrev pub invariant-arguments : goal.invariant-arguments
+invariant-arguments l =
+    slice_get (texts_by (reads_kind l.kind) (map argument_in l.argument-iterator.a.rest.now)
+    (map values_view l.argument-iterator.b.rest.now)) l.left
+    ≡ slice_get (inputs_of_kind l.kind (line_view l.line)) l.number

@@ -1,0 +1,113 @@
+-- What a line asks for, by name, and how its command ends.
+use Rattle.std.specs.Prelude.{◌≡◌, ℕ, List, [], ◌∷◌, Result, map, string_bytes}
+use Rattle.std.specs.FinSet as set
+use Rattle.command_line.specs.Arguments.{archs, digests, numbers, one, perhaps, several, text, texts, uuids}
+use Rattle.command_line.specs.Lines.{Line, line_with}
+use Rattle.command_line.specs.Table.{admit_command, apply_command, delta_command, find_command, frames_command}
+use Rattle.command_line.specs.Table.{list_command, merge_command, migrate_command, name_command, new_command}
+use Rattle.command_line.specs.Table.{rehearse_command, retire_command, summary_command, symbolicate_command}
+use Rattle.archive_core.specs.declared.keys.ArchKey.{ArchKey}
+use Rattle.archive_core.specs.declared.keys.SliceKey.{SliceKey}
+use Rattle.archive_records.specs.Text.{written}
+use Rattle.command_ends.specs.declared.faults.CommandFault.{CommandFault}
+use Rattle.command_ends.specs.declared.faults.Status.{Status}
+use Rattle.archive_updates.specs.Admit.{admit}
+use Rattle.archive_updates.specs.Apply.{apply}
+use Rattle.archive_updates.specs.Delta.{delta}
+use Rattle.command_ends.specs.Ends.{Command, Ends, EndsReport, EndsStreamed, Query, Streamed, writes_amidst}
+use Rattle.archive_queries.specs.Find.{find}
+use Rattle.archive_queries.specs.Frames.{frames}
+use Rattle.command_ends.specs.Inputs.{IsKnown, Reader}
+use Rattle.archive_queries.specs.List.{list}
+use Rattle.archive_updates.specs.MergeStreams.{merge_as_it_comes}
+use Rattle.archive_updates.specs.Migrate.{migrate}
+use Rattle.archive_queries.specs.Name.{name}
+use Rattle.command_ends.specs.Outputs.{Outs, Publishes, Writer, out_of, report_of}
+use Rattle.rehearse.specs.Rehearse.{rehearse}
+use Rattle.archive_updates.specs.Retire.{retire}
+use Rattle.archive_updates.specs.Summary.{summary}
+use Rattle.archive_queries.specs.Symbolicate.{symbolicate}
+use Rattle.plan_commands.specs.declared.plans.Plan.{Plan}
+use Rattle.plan_commands.specs.declared.plans.Plan.TheVariants as plan
+
+-- the line that asks for this
+abbrev pub plan_view : Plan → Line
+plan_view (plan.New out) =
+    line_with new_command (text out.now ∷ [])
+plan_view (plan.Admit input out files) =
+    line_with admit_command (text input.now ∷ text out.now ∷ texts (several (map string_bytes files.now)) ∷ [])
+plan_view (plan.Retire input out uuid arch digest) =
+    line_with retire_command (text input.now ∷ text out.now ∷ uuids (one uuid) ∷ archs (one arch) ∷ digests (one digest) ∷ [])
+plan_view (plan.Merge input out files) =
+    line_with merge_command (text input.now ∷ text out.now ∷ texts (several (map string_bytes files.now)) ∷ [])
+plan_view (plan.Migrate input out) =
+    line_with migrate_command (text input.now ∷ text out.now ∷ [])
+plan_view (plan.Apply input out ops) =
+    line_with apply_command (text input.now ∷ text out.now ∷ text ops.now ∷ [])
+plan_view (plan.Find archive uuid) =
+    line_with find_command (text archive.now ∷ uuids (one uuid) ∷ [])
+plan_view (plan.List archive) =
+    line_with list_command (text archive.now ∷ [])
+plan_view (plan.Name archive name) =
+    line_with name_command (text archive.now ∷ text name.now ∷ [])
+plan_view (plan.Symbolicate archive uuid arch load addresses) =
+    line_with symbolicate_command (text archive.now ∷ uuids (one uuid) ∷ archs (one arch) ∷ numbers (perhaps load) ∷ numbers (several addresses.now) ∷ [])
+plan_view (plan.Frames frames archive) =
+    line_with frames_command (text frames.now ∷ text archive.now ∷ [])
+plan_view (plan.Summary archive out) =
+    line_with summary_command (text archive.now ∷ text out.now ∷ [])
+plan_view (plan.Delta archive summary out) =
+    line_with delta_command (text archive.now ∷ text summary.now ∷ text out.now ∷ [])
+plan_view (plan.Rehearse script) =
+    line_with rehearse_command (text script.now ∷ [])
+
+-- the key that a line names
+abbrev pub key_of : List ℕ → ArchKey → SliceKey
+key_of uuid arch = record { uuid = uuid; arch = arch }
+
+-- what the command of a plan is, over inputs: it writes the empty archive, it writes OUT, it writes OUT while it reads,
+-- or it reports; and it is none where inputs are wanting
+pub data Deed : Type 1 where
+  empties : Deed
+  changes : Command → Deed
+  streams : Streamed → Deed
+  answers : Query → Deed
+  none : Deed
+
+-- over the inputs at the paths of its line, in their order
+abbrev pub deed_of : {S D T : Type 0} → Plan → List (Reader S) → Outs D T → Deed
+deed_of (plan.New _) _ out = empties
+deed_of (plan.Admit _ _ _) (input ∷ files) out = changes (admit input files)
+deed_of (plan.Retire _ _ uuid arch digest) (input ∷ _) out =
+    streams (writes_amidst (retire input (key_of uuid arch) digest) (IsKnown input) (out_of out).draft)
+deed_of (plan.Merge _ _ _) (input ∷ files) out = streams (merge_as_it_comes input files out)
+deed_of (plan.Migrate _ _) (input ∷ _) out =
+    streams (writes_amidst (migrate input) (IsKnown input) (out_of out).draft)
+deed_of (plan.Apply _ _ _) (input ∷ ops ∷ _) out = changes (apply input ops)
+deed_of (plan.Find _ uuid) (archive ∷ _) out = answers (find archive uuid)
+deed_of (plan.List _) (archive ∷ _) out = answers (list archive)
+deed_of (plan.Name _ sought) (archive ∷ _) out = answers (name archive sought.now)
+deed_of (plan.Symbolicate _ uuid arch load addresses) (archive ∷ _) out =
+    answers (symbolicate archive (key_of uuid arch) load addresses.now)
+deed_of (plan.Frames _ _) (crash ∷ archive ∷ _) out = answers (frames crash archive)
+deed_of (plan.Summary _ _) (archive ∷ _) out = changes (summary archive)
+deed_of (plan.Delta _ _ _) (archive ∷ named ∷ _) out = changes (delta archive named)
+deed_of (plan.Rehearse _) (script ∷ _) out = answers (rehearse script)
+deed_of _ _ out = none
+
+-- The query ends so, and OUT is as it was.
+abbrev pub EndsQuery : {D T : Type 0} → Query → Outs D T → Writer → Result Status CommandFault → Type 0
+EndsQuery query out report result = EndsReport query report result × (out.new ≡ out.old)
+
+-- It ends so.
+abbrev pub EndsDeed : {D T : Type 0} → Deed → Outs D T → Writer → Result Status CommandFault → Type 0
+EndsDeed empties out report result =
+    Publishes (out_of out) report (written set.empty) (report_of set.empty []) result
+EndsDeed (changes command) out report result = Ends command (out_of out) report result
+EndsDeed (streams command) out report result = EndsStreamed command (out_of out) report result
+EndsDeed (answers query) out report result = EndsQuery query out report result
+EndsDeed none out report result = ⊥
+
+-- How the command of a plan ends over the inputs at the paths of its line, in their order.
+abbrev pub Executes : {S D T : Type 0} → Plan → List (Reader S) → Outs D T → Writer → Result Status CommandFault → Type 0
+Executes asked inputs out report result = EndsDeed (deed_of asked inputs out) out report result

@@ -1,0 +1,384 @@
+//! What a line asks for, by name, and the command that does it.
+
+ghost use Rattle.std.specs.Prelude.{◌≡◌, length, map, true};
+ghost use Rattle.command_ends.specs.Inputs.{readers};
+ghost use Rattle.command_ends.specs.Outputs.{outs, writer};
+ghost use Rattle.command_line.specs.Arguments.{are_values_of};
+ghost use Rattle.command_line.specs.InnerValues.{values_view};
+ghost use Rattle.command_line.specs.Lines.{inputs_of, line_with};
+ghost use Rattle.command_line.specs.Table.{admit_command, apply_command, delta_command, find_command, frames_command};
+ghost use Rattle.command_line.specs.Table.{list_command, merge_command, migrate_command, name_command, new_command};
+ghost use Rattle.command_line.specs.Table.{rehearse_command, retire_command, summary_command, symbolicate_command};
+ghost use Rattle.plan_commands.specs.Plans.{Executes, key_of, plan_view};
+
+use archive_core::{ArchKey, Archive, Digest, SliceKey};
+use archive_queries::{run_find, run_frames, run_list, run_name, run_symbolicate};
+use archive_updates::{
+    run_admit, run_apply, run_delta, run_merge, run_migrate, run_new, run_retire, run_summary,
+};
+use byte_device::{CannotOpen, Sink, Source};
+use command_ends::{CommandFault, Output, Status, Target};
+use command_line::Amount::{One, Perhaps, Several};
+use command_line::Values::{Archs, Digests, Numbers, Texts, Uuids};
+use command_line::{Line, Values};
+use memory::Heap;
+use rehearse::run_rehearse;
+use uuid::Uuid;
+
+/// What a line asks for: its command, with its values by name.
+#[derive(Clone, Copy, Debug)]
+pub enum Plan<'l> {
+    /// `new OUT`: to write the empty archive.
+    New {
+        out: &'l str,
+    },
+    /// `admit IN OUT FILE...`: to take each file, in the order of the words. A file that is named
+    /// twice stands here twice.
+    Admit {
+        input: &'l str,
+        out: &'l str,
+        files: &'l [String],
+    },
+    /// `retire IN OUT UUID ARCH DIGEST`: to take one retirement.
+    Retire {
+        input: &'l str,
+        out: &'l str,
+        uuid: Uuid,
+        arch: ArchKey,
+        digest: Digest,
+    },
+    /// `merge IN OUT FILE...`: to join archives, in the order of the words.
+    Merge {
+        input: &'l str,
+        out: &'l str,
+        files: &'l [String],
+    },
+    /// `migrate IN OUT`: to take an archive over to the present version.
+    Migrate {
+        input: &'l str,
+        out: &'l str,
+    },
+    /// `apply IN OUT OPS`: to take the records of an operations file.
+    Apply {
+        input: &'l str,
+        out: &'l str,
+        ops: &'l str,
+    },
+    /// `find ARCHIVE UUID`: to tell what the archive has of a build.
+    Find {
+        archive: &'l str,
+        uuid: Uuid,
+    },
+    /// `list ARCHIVE`: to tell all that the archive has.
+    List {
+        archive: &'l str,
+    },
+    /// `name ARCHIVE NAME`: to tell where symbols of a name stand. The name is the word itself.
+    Name {
+        archive: &'l str,
+        name: &'l str,
+    },
+    /// `symbolicate ARCHIVE UUID ARCH [--load HEX] ADDRESS...`: to answer each address, in the order
+    /// of the words. With `load` the addresses are those of an image that was loaded there.
+    Symbolicate {
+        archive: &'l str,
+        uuid: Uuid,
+        arch: ArchKey,
+        load: Option<u64>,
+        addresses: &'l [u64],
+    },
+    /// `frames FRAMES ARCHIVE`: to answer each frame of a crash, in the order of the lines of FRAMES.
+    Frames {
+        frames: &'l str,
+        archive: &'l str,
+    },
+    /// `summary ARCHIVE OUT`: to write the summary of an archive.
+    Summary {
+        archive: &'l str,
+        out: &'l str,
+    },
+    /// `delta ARCHIVE SUMMARY OUT`: to write what an archive has that a summary does not name.
+    Delta {
+        archive: &'l str,
+        summary: &'l str,
+        out: &'l str,
+    },
+    /// `rehearse SCRIPT`: to carry out the events of a script, and tell what comes of them.
+    Rehearse {
+        script: &'l str,
+    },
+}
+
+impl<'l> Plan<'l> {
+    ghost use Rattle.std.specs.Prelude.{◌≡◌};
+    ghost use Rattle.command_line.specs.InnerLine.{line_view};
+    ghost use Rattle.plan_commands.specs.Plans.{plan_view};
+
+    /// What a line asks for. Each line of the table asks for something.
+    pub fn of(line: &'l Line) -> Plan<'l>
+        ensures { plan_view result ≡ line_view line.now }
+    {
+        let values = line.values.as_slice();
+        match line.name.as_str() {
+            "new" => new(values),
+            "admit" => admit(values),
+            "retire" => retire(values),
+            "merge" => merge(values),
+            "migrate" => migrate(values),
+            "apply" => apply(values),
+            "find" => find(values),
+            "list" => list(values),
+            "name" => name(values),
+            "symbolicate" => symbolicate(values),
+            "frames" => frames(values),
+            "summary" => summary(values),
+            "delta" => delta(values),
+            "rehearse" => rehearse(values),
+            _ => unreachable!(),
+        }
+    }
+}
+
+fn new<'l>(values: &'l [Values]) -> Plan<'l>
+    requires { are_values_of new_command.arguments (map values_view values.now) ≡ true }
+    ensures { plan_view result ≡ line_with new_command (map values_view values.now) }
+{
+    let [Texts(One(out))] = values else {
+        unreachable!();
+    };
+    Plan::New { out }
+}
+
+fn admit<'l>(values: &'l [Values]) -> Plan<'l>
+    requires { are_values_of admit_command.arguments (map values_view values.now) ≡ true }
+    ensures { plan_view result ≡ line_with admit_command (map values_view values.now) }
+{
+    let [Texts(One(input)), Texts(One(out)), Texts(Several(files))] = values else {
+        unreachable!();
+    };
+    Plan::Admit { input, out, files }
+}
+
+fn retire<'l>(values: &'l [Values]) -> Plan<'l>
+    requires { are_values_of retire_command.arguments (map values_view values.now) ≡ true }
+    ensures { plan_view result ≡ line_with retire_command (map values_view values.now) }
+{
+    let [
+        Texts(One(input)),
+        Texts(One(out)),
+        Uuids(One(uuid)),
+        Archs(One(arch)),
+        Digests(One(digest)),
+    ] = values
+    else {
+        unreachable!();
+    };
+    Plan::Retire {
+        input,
+        out,
+        uuid: *uuid,
+        arch: *arch,
+        digest: *digest,
+    }
+}
+
+fn merge<'l>(values: &'l [Values]) -> Plan<'l>
+    requires { are_values_of merge_command.arguments (map values_view values.now) ≡ true }
+    ensures { plan_view result ≡ line_with merge_command (map values_view values.now) }
+{
+    let [Texts(One(input)), Texts(One(out)), Texts(Several(files))] = values else {
+        unreachable!();
+    };
+    Plan::Merge { input, out, files }
+}
+
+fn migrate<'l>(values: &'l [Values]) -> Plan<'l>
+    requires { are_values_of migrate_command.arguments (map values_view values.now) ≡ true }
+    ensures { plan_view result ≡ line_with migrate_command (map values_view values.now) }
+{
+    let [Texts(One(input)), Texts(One(out))] = values else {
+        unreachable!();
+    };
+    Plan::Migrate { input, out }
+}
+
+fn apply<'l>(values: &'l [Values]) -> Plan<'l>
+    requires { are_values_of apply_command.arguments (map values_view values.now) ≡ true }
+    ensures { plan_view result ≡ line_with apply_command (map values_view values.now) }
+{
+    let [Texts(One(input)), Texts(One(out)), Texts(One(ops))] = values else {
+        unreachable!();
+    };
+    Plan::Apply { input, out, ops }
+}
+
+fn find<'l>(values: &'l [Values]) -> Plan<'l>
+    requires { are_values_of find_command.arguments (map values_view values.now) ≡ true }
+    ensures { plan_view result ≡ line_with find_command (map values_view values.now) }
+{
+    let [Texts(One(archive)), Uuids(One(uuid))] = values else {
+        unreachable!();
+    };
+    Plan::Find {
+        archive,
+        uuid: *uuid,
+    }
+}
+
+fn list<'l>(values: &'l [Values]) -> Plan<'l>
+    requires { are_values_of list_command.arguments (map values_view values.now) ≡ true }
+    ensures { plan_view result ≡ line_with list_command (map values_view values.now) }
+{
+    let [Texts(One(archive))] = values else {
+        unreachable!();
+    };
+    Plan::List { archive }
+}
+
+fn name<'l>(values: &'l [Values]) -> Plan<'l>
+    requires { are_values_of name_command.arguments (map values_view values.now) ≡ true }
+    ensures { plan_view result ≡ line_with name_command (map values_view values.now) }
+{
+    let [Texts(One(archive)), Texts(One(name))] = values else {
+        unreachable!();
+    };
+    Plan::Name { archive, name }
+}
+
+fn symbolicate<'l>(values: &'l [Values]) -> Plan<'l>
+    requires { are_values_of symbolicate_command.arguments (map values_view values.now) ≡ true }
+    ensures { plan_view result ≡ line_with symbolicate_command (map values_view values.now) }
+{
+    let [
+        Texts(One(archive)),
+        Uuids(One(uuid)),
+        Archs(One(arch)),
+        Numbers(Perhaps(load)),
+        Numbers(Several(addresses)),
+    ] = values
+    else {
+        unreachable!();
+    };
+    Plan::Symbolicate {
+        archive,
+        uuid: *uuid,
+        arch: *arch,
+        load: *load,
+        addresses,
+    }
+}
+
+fn frames<'l>(values: &'l [Values]) -> Plan<'l>
+    requires { are_values_of frames_command.arguments (map values_view values.now) ≡ true }
+    ensures { plan_view result ≡ line_with frames_command (map values_view values.now) }
+{
+    let [Texts(One(frames)), Texts(One(archive))] = values else {
+        unreachable!();
+    };
+    Plan::Frames { frames, archive }
+}
+
+fn summary<'l>(values: &'l [Values]) -> Plan<'l>
+    requires { are_values_of summary_command.arguments (map values_view values.now) ≡ true }
+    ensures { plan_view result ≡ line_with summary_command (map values_view values.now) }
+{
+    let [Texts(One(archive)), Texts(One(out))] = values else {
+        unreachable!();
+    };
+    Plan::Summary { archive, out }
+}
+
+fn delta<'l>(values: &'l [Values]) -> Plan<'l>
+    requires { are_values_of delta_command.arguments (map values_view values.now) ≡ true }
+    ensures { plan_view result ≡ line_with delta_command (map values_view values.now) }
+{
+    let [Texts(One(archive)), Texts(One(summary)), Texts(One(out))] = values else {
+        unreachable!();
+    };
+    Plan::Delta {
+        archive,
+        summary,
+        out,
+    }
+}
+
+fn rehearse<'l>(values: &'l [Values]) -> Plan<'l>
+    requires { are_values_of rehearse_command.arguments (map values_view values.now) ≡ true }
+    ensures { plan_view result ≡ line_with rehearse_command (map values_view values.now) }
+{
+    let [Texts(One(script))] = values else {
+        unreachable!();
+    };
+    Plan::Rehearse { script }
+}
+
+/// An input of a command, if it could be opened.
+type Input<S> = Result<S, CannotOpen>;
+
+/// The key that a line names.
+fn key(uuid: &Uuid, arch: &ArchKey) -> SliceKey
+    ensures { result ≡ key_of uuid.now arch.now }
+{
+    SliceKey {
+        uuid: *uuid,
+        arch: *arch,
+    }
+}
+
+/// Carries out a plan over its inputs, which stand in the order of the words. An archive of the type `L` is asked for
+/// addresses, and one of `A` for all else.
+pub fn execute<A: Archive + Drop, L: Archive + Drop, S: Source, T: Target, P: Sink>(
+    heap: Heap,
+    plan: &Plan,
+    inputs: &mut [Input<S>],
+    out: &mut Output<T::Draft, T>,
+    report: &mut P,
+) -> Result<Status, CommandFault>
+    requires { length inputs.old ≡ length (inputs_of (plan_view plan.now)) }
+    ensures { Executes plan.now (readers S.left S.failures inputs.old inputs.new)
+        (outs T.Draft.held T.Draft.failures T.placed T.failures out.old out.new)
+        (writer P.held P.failures report.old report.new) result }
+{
+    if let Plan::New { .. } = plan {
+        return run_new::<A, _, _>(heap, out, report);
+    }
+    let Some((first, others)) = inputs.split_first_mut() else {
+        unreachable!();
+    };
+    match plan {
+        Plan::New { .. } => unreachable!(),
+        Plan::Admit { .. } => run_admit::<A, _, _, _, _>(heap, first, others, out, report),
+        Plan::Retire {
+            uuid,
+            arch,
+            digest,
+            ..
+        } => run_retire(heap, first, key(uuid, arch), *digest, out, report),
+        Plan::Merge { .. } => run_merge::<A, _, _, _, _>(heap, first, others, out, report),
+        Plan::Migrate { .. } => run_migrate(heap, first, out, report),
+        Plan::Apply { .. } => match others {
+            [ops] => run_apply::<A, _, _, _, _>(heap, first, ops, out, report),
+            _ => unreachable!(),
+        },
+        Plan::Find { uuid, .. } => run_find::<A, _, _>(heap, first, uuid, report),
+        Plan::List { .. } => run_list(heap, first, report),
+        Plan::Name { name, .. } => run_name(heap, first, name.as_bytes(), report),
+        Plan::Symbolicate {
+            uuid,
+            arch,
+            load,
+            addresses,
+            ..
+        } => { run_symbolicate::<L, _, _>(heap, first, &key(uuid, arch), *load, addresses, report) }
+        Plan::Frames { .. } => match others {
+            [archive] => run_frames::<L, _, _>(heap, first, archive, report),
+            _ => unreachable!(),
+        },
+        Plan::Summary { .. } => run_summary(heap, first, out, report),
+        Plan::Delta { .. } => match others {
+            [summary] => run_delta::<A, _, _, _, _>(heap, first, summary, out, report),
+            _ => unreachable!(),
+        },
+        Plan::Rehearse { .. } => run_rehearse::<A, _, _>(heap, first, report),
+    }
+}
