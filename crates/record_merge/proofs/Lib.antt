@@ -12,3 +12,4 @@ pub mod Tells
 pub mod Told
 pub mod TextPieces
 pub mod Lost
+pub mod Rises
