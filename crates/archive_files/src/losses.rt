@@ -32,7 +32,7 @@ pub fn test_losses<F: Files>(
     match lost_operations(&heap, &mut new, &mut old) {
         Ok(0) => Ok(()),
         Ok(lost) => Err(OutFault::NotReplaced(Obstacle::Loses(lost))),
-        Err(fault) => Err(unread(fault, new.reason())),
+        Err(fault) => Err(unread(fault, new.reason(), old.reason())),
     }
 }
 
@@ -75,15 +75,22 @@ fn refused(error: io::Error) -> OutFault {
     }
 }
 
-/// The fault where one of the two archives was not read to its end. The draft was written by this command: where it cannot
-/// be read, its device is why.
-fn unread(fault: MergeFault, reason: Option<io::Error>) -> OutFault {
+/// The fault where one of the two archives was not read to its end, with what the system said of each. The draft was
+/// written by this command: where it cannot be read, its device is why.
+fn unread(
+    fault: MergeFault,
+    of_draft: Option<io::Error>,
+    of_target: Option<io::Error>,
+) -> OutFault {
     match fault.cause {
         MergeCause::Left(fault) | MergeCause::Right(fault)
             if fault.kind == RecordFaultKind::OutOfMemory => OutFault::OutOfMemory,
+        MergeCause::Right(fault) if fault.kind == RecordFaultKind::Device => {
+            OutFault::NotReplaced(Obstacle::Refused(of_target))
+        }
         MergeCause::Right(_) => OutFault::NotReplaced(Obstacle::Damaged),
         MergeCause::Left(_) | MergeCause::Write => {
-            OutFault::NotReplaced(Obstacle::Refused(reason))
+            OutFault::NotReplaced(Obstacle::Refused(of_draft))
         }
     }
 }

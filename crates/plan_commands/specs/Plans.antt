@@ -11,6 +11,8 @@ use Rattle.archive_core.specs.declared.keys.SliceKey.{SliceKey}
 use Rattle.archive_records.specs.Text.{written}
 use Rattle.command_ends.specs.declared.faults.CommandFault.{CommandFault}
 use Rattle.command_ends.specs.declared.faults.Status.{Status}
+use Rattle.archive_files.specs.declared.replaceable.Replaces.{Replaces}
+use Rattle.archive_files.specs.declared.replaceable.Replaces.TheVariants.{OwnFiles, ArchivesBelow}
 use Rattle.archive_updates.specs.Admit.{admit}
 use Rattle.archive_updates.specs.Apply.{apply}
 use Rattle.archive_updates.specs.Delta.{delta}
@@ -60,6 +62,12 @@ plan_view (plan.Delta archive summary out) =
     line_with delta_command (text archive.now ∷ text summary.now ∷ text out.now ∷ [])
 plan_view (plan.Rehearse script) =
     line_with rehearse_command (text script.now ∷ [])
+
+-- which files the OUT of a plan replaces: a message each of symarch's own, an archive those below it
+abbrev pub replaces_of : Plan → Replaces
+replaces_of (plan.Summary archive out) = OwnFiles
+replaces_of (plan.Delta archive summary out) = OwnFiles
+replaces_of _ = ArchivesBelow
 
 -- the key that a line names
 abbrev pub key_of : List ℕ → ArchKey → SliceKey

@@ -78,13 +78,13 @@ kept_above new old below r has = elim (cases_Bool (is_admission r)) [
 pub rises : (new old : Operations) → (count_by (changes new) (listing old) ≡ 0) ↔ IsBelow old new
 rises new old = (
   λ none.
-    let kept : (r : List ℕ) → contains old r ≡ true → (contains new r || is_covered new r) ≡ true =
-        λ r has. (not_lost new r).0 (none_is (changes new) (listing old) r none ((members_listed old r).1 has)) in
-    record {
-      retirements = λ r other has. first_of (contains new r) (is_admission r) (contains new (covering r)) other (kept r has);
-      live = λ r is has live. or_is (contains new r) (is_covered new r) (contains new (covering r))
-          (second (is_admission r) (contains new (covering r))) (kept r has);
-    },
+      let kept : (r : List ℕ) → contains old r ≡ true → (contains new r || is_covered new r) ≡ true =
+      λ r has. (not_lost new r).0 (none_is (changes new) (listing old) r none ((members_listed old r).1 has)) in
+      record {
+        retirements = λ r other has. first_of (contains new r) (is_admission r) (contains new (covering r)) other (kept r has);
+        live = λ r is has live. or_is (contains new r) (is_covered new r) (contains new (covering r))
+            (second (is_admission r) (contains new (covering r))) (kept r has);
+      },
   λ below. is_none (changes new) (listing old)
       (λ r listed. (not_lost new r).1 (kept_above new old below r ((members_listed old r).0 listed))),
 )
