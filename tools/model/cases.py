@@ -859,15 +859,23 @@ def inputs_of(p):
     return [p[k] for k in keys if k in p] + p.get("file", [])
 
 
-def is_replaced(cmd, there):
-    """whether a command replaces a file with these bytes"""
-    if cmd == "new" and there[:8] in F.magics():
-        return len(there) <= 17
-    return not there or there[:8] in F.magics() + [F.OPS, F.SUM]
+def obstacle(cmd, there, new):
+    """why a file with these bytes does not give way to the new ones, if it does not; None of the new ones where a
+    command is stopped before it has all of them"""
+    if there and there[:8] not in F.magics() + [F.OPS, F.SUM]:
+        return "neither empty nor one of symarch's files"
+    if new is None or cmd in ("summary", "delta") or there[:8] not in F.magics():
+        return None
+    records, fault = F.good_front(there)
+    if fault:
+        return "an archive that is damaged"
+    content = archive_of(new)
+    lost = sum(not (content.holds(r) or r[0] == 2 and F.covering(r) in content.rets) for r in records)
+    return "has %d record%s that the new archive neither has nor retires" % (lost, "s"[lost == 1:]) if lost else None
 
 
-def out_fault(folder, p):
-    """what stops OUT at its first byte, if something does"""
+def out_fault(folder, p, new):
+    """what stops OUT, if something does: at its first byte, or where the new bytes are whole"""
     if p["out"] == "/dev/full":
         return "failed after 0 bytes"
     o = p["out"][1:]
@@ -876,7 +884,7 @@ def out_fault(folder, p):
         return "cannot create" if "/" in name or o in folder.names else None
     if i in [folder.resolve(it[1:])[1] for it in inputs_of(p)]:
         return "cannot create"
-    return None if is_replaced(p["cmd"], folder.files[i]) else "cannot replace"
+    return "cannot replace" if obstacle(p["cmd"], folder.files[i], new) else None
 
 
 def run_program(folder, words, most):
@@ -890,9 +898,11 @@ def run_program(folder, words, most):
         return None if b is None else Source(b)
     limits = Limits(report=most)
     left = run_plan(p, open_source, limits)
-    fault = out_fault(folder, p) if left.out else None
+    new = None if left.is_draft else left.out
+    fault = out_fault(folder, p, new) if left.out else None
     if fault:
-        return ["  symarch: output: " + fault] + second_line(p, "output: " + fault, folder) + ["  status 2"]
+        why = obstacle(p["cmd"], folder.bytes(p["out"][1:]), new) if fault == "cannot replace" else None
+        return ["  symarch: output: " + fault] + second_line(p, "output: " + fault, folder, why) + ["  status 2"]
     if not left.is_draft:
         folder.put(p["out"][1:], left.out)
     # OUT is a file of the system: its length and digest are not told

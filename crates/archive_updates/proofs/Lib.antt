@@ -3,3 +3,9 @@ pub mod Rows
 pub mod Joins
 pub mod Streamed
 pub mod Counts
+pub mod Beginnings
+pub mod AtHand
+pub mod Migrated
+pub mod Copied
+pub mod Tellings
+pub mod Retired

@@ -7,19 +7,17 @@ ghost use Rattle.command_ends.specs.Inputs.{EachUnfailed, IsArchive, IsArchiveRe
 ghost use Rattle.command_ends.specs.Inputs.{HoldsArchive};
 ghost use Rattle.command_ends.specs.Inputs.{IsRefusal, IsRefusedArchive, Unfailed, reader, readers};
 ghost use Rattle.archive_updates.specs.Merge.{HasJoined, file_place, merge};
-ghost use Rattle.archive_updates.specs.MergeStreams.{IsMergeFaultTold, merge_as_it_comes, merge_of_one};
+ghost use Rattle.archive_updates.specs.MergeStreams.{merge_as_it_comes, merge_of_one};
 ghost use Rattle.command_ends.specs.Outputs.{draft_of, out_of, outs, writer};
 
+use crate::joining::command_fault_of;
 use archive_core::{Archive, take_all};
-use archive_records::{MergeCause, MergeFault};
 use byte_device::{CannotOpen, Sink, Source};
 use command_ends::{
-    CommandFault, Output, Place, Status, Target, opened, publish, publish_report, put_in_place,
-    read_input, refusal,
+    CommandFault, Output, Place, Status, Target, opened, publish, publish_draft, read_input,
 };
 use memory::Heap;
 use record_merge::merge_streams;
-use report_text::with_sizes;
 
 /// Joins the archive with this number among the words.
 fn join_file<A: Archive + Drop, S: Source>(
@@ -79,17 +77,6 @@ fn merge_values<A: Archive + Drop, R: Source, S: Source, T: Target, P: Sink>(
     publish(&archive, String::new(heap), out, report)
 }
 
-/// What is told where this stopped a merge, IN being archive 0 and the file archive 1.
-fn command_fault_of(fault: MergeFault) -> CommandFault
-    ensures { IsMergeFaultTold fault result }
-{
-    match fault.cause {
-        MergeCause::Left(why) => refusal(Place::Archive(0), why),
-        MergeCause::Right(why) => refusal(Place::Archive(1), why),
-        MergeCause::Write => CommandFault::Output(fault.written),
-    }
-}
-
 /// Merges two archives into OUT as they come, and writes the sizes to the report.
 fn merge_opened<R: Source, S: Source, T: Target, P: Sink>(
     heap: Heap,
@@ -103,13 +90,10 @@ fn merge_opened<R: Source, S: Source, T: Target, P: Sink>(
         (reader S.left S.failures (Ok right.old) (Ok right.new)) (draft_of known)) (out_of known)
         (writer P.held P.failures report.old report.new) result }
 {
-    let sizes = match merge_streams(&heap, left, right, &mut out.draft) {
-        Ok(sizes) => sizes,
-        Err(fault) => return Err(command_fault_of(fault)),
-    };
-    let text = with_sizes(String::new(heap), sizes)?;
-    put_in_place(out, sizes.bytes)?;
-    publish_report(Status::Done, &text, report)
+    match merge_streams(&heap, left, right, &mut out.draft) {
+        Ok(sizes) => publish_draft(String::new(heap), sizes, out, report),
+        Err(fault) => Err(command_fault_of(fault)),
+    }
 }
 
 /// Merges IN and the one file, if both were opened.

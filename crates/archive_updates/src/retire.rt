@@ -1,40 +1,60 @@
 //! `retire IN OUT UUID ARCH DIGEST`.
-ghost use Rattle.std.specs.Prelude.{◌≡◌, OnOk, IfOk};
-ghost use Rattle.archive_core.specs.Content.{with_record, changes};
-ghost use Rattle.archive_core.specs.Record.{retirement_record};
-ghost use Rattle.command_ends.specs.Ends.{Ends};
-ghost use Rattle.command_ends.specs.Inputs.{reader};
+ghost use Rattle.std.specs.Prelude.{◌≡◌, IfOk, IfErr};
+ghost use Rattle.archive_core.specs.Record.{IsOperation};
+ghost use Rattle.byte_device.specs.Devices.{stream};
+ghost use Rattle.command_ends.specs.Ends.{EndsAsItComes, HasTaken, StopsAmidst};
+ghost use Rattle.command_ends.specs.Inputs.{IsKnown, reader};
 ghost use Rattle.command_ends.specs.Outputs.{out_of, outs, writer};
+ghost use Rattle.archive_updates.specs.InnerTelling.{IsRetired};
 ghost use Rattle.archive_updates.specs.Retire.{retire};
 
-use archive_core::{Archive, Digest, Operation, SliceKey};
+use crate::telling::tell_input;
+use archive_core::{Digest, Operation, SliceKey};
+use archive_records::Sizes;
 use byte_device::{CannotOpen, Sink, Source};
-use command_ends::{CommandFault, Output, Status, Target, publish, read_input};
-use memory::{Heap, NoMemory};
+use command_ends::{CommandFault, Output, Status, Target, publish_draft};
+use memory::Heap;
+use record_merge::LentText;
 use report_text::retire_line;
 
-/// Takes a retirement, and tells whether that changed the archive.
-fn take_retirement<A: Archive>(
-    archive: &mut A,
+/// The retirement of the slices under the key that have the digest.
+fn retirement(key: SliceKey, digest: Digest) -> Operation
+    ensures is { result ≡ Operation.Retire key digest }
+    ensures operation { IsOperation result }
+{
+    Operation::Retire(key, digest)
+}
+
+/// Merges IN's archive with the retirement into the draft, and tells whether that changed it.
+fn retire_input<R: Source, W: Sink>(
+    heap: &Heap,
+    input: &mut Result<R, CannotOpen>,
     key: SliceKey,
     digest: Digest,
-) -> Result<bool, NoMemory>
-    ensures content { OnOk result
-        (A.content archive.new ≡ with_record (A.content archive.old) (retirement_record key digest.0)) }
-    ensures changed { IfOk result
-        (λ changed. changed ≡ changes (A.content archive.old) (retirement_record key digest.0)) }
+    draft: &mut W,
+) -> Result<(Sizes, bool), CommandFault>
+    ensures retired { IfOk result (λ both. IsRetired (reader R.left R.failures input.old input.new) key digest
+        (stream W.held W.failures draft.old draft.new) both.0 both.1) }
+    ensures stopped { IfErr result (λ fault. StopsAmidst
+        (retire (reader R.left R.failures input.old input.new) key digest)
+        (IsKnown (reader R.left R.failures input.old input.new))
+        (writer W.held W.failures draft.old draft.new) fault) }
+    ensures taken { IfErr result (HasTaken (writer W.held W.failures draft.old draft.new)) }
 {
-    let changed = archive.take(Operation::Retire(key, digest))?;
-    Ok(changed)
+    let retirements = [retirement(key, digest)];
+    let mut text = LentText::new(&retirements);
+    let (sizes, told) = tell_input(heap, input, &mut text, draft)?;
+    Ok((sizes, told[0]))
 }
 
 /// Writes IN's archive to OUT with the retirement of the slices under the key that have the digest, and to the report
-/// whether it is new, and the sizes.
+/// whether it is new, and the sizes. IN is merged as it comes with the retirement, in the memory of one record and of 57
+/// bytes for each retirement.
 ///
 /// # Errors
 ///
 /// `Input` where the archive is refused; `Output` and `Report` where that writer failed; `OutOfMemory`.
-pub fn run_retire<A: Archive + Drop, R: Source, T: Target, P: Sink>(
+pub fn run_retire<R: Source, T: Target, P: Sink>(
     heap: Heap,
     input: &mut Result<R, CannotOpen>,
     key: SliceKey,
@@ -42,12 +62,12 @@ pub fn run_retire<A: Archive + Drop, R: Source, T: Target, P: Sink>(
     out: &mut Output<T::Draft, T>,
     report: &mut P,
 ) -> Result<Status, CommandFault>
-    ensures { Ends (retire (reader R.left R.failures input.old input.new) key digest)
+    ensures { EndsAsItComes (retire (reader R.left R.failures input.old input.new) key digest)
+        (IsKnown (reader R.left R.failures input.old input.new))
         (out_of (outs T.Draft.held T.Draft.failures T.placed T.failures out.old out.new))
         (writer P.held P.failures report.old report.new) result }
 {
-    let mut archive: A = read_input(heap.clone()?, 0, input)?;
-    let changed = take_retirement(&mut archive, key, digest)?;
+    let (sizes, changed) = retire_input(&heap, input, key, digest, &mut out.draft)?;
     let lines = retire_line(heap, changed, key, digest)?;
-    publish(&archive, lines, out, report)
+    publish_draft(lines, sizes, out, report)
 }

@@ -1,6 +1,8 @@
 -- How a command ends.
 use Rattle.std.specs.Prelude.{◌≡◌, ℕ, List, [], length, Result, Ok, Err, ◌⊎◌}
 use Rattle.std.specs.Io.KnownBytes.{Appends}
+use Rattle.byte_device.specs.Devices.{FailedIn}
+use Rattle.byte_device.specs.Writes.{WritesFirst}
 use Rattle.archive_core.specs.Content.{Operations}
 use Rattle.archive_records.specs.Text.{written}
 use Rattle.command_ends.specs.declared.faults.CommandFault.{CommandFault}
@@ -95,6 +97,42 @@ reads_first command draft = record {
   Stops = StopsFirst command draft;
   Unfailed = command.Unfailed;
 }
+
+-- Of the text that accepted inputs make, if all their bytes are known, the draft has exactly the first n bytes, and fewer
+-- than all.
+abbrev pub HasFirst : Command → Type 0 → Writer → ℕ → Type 0
+HasFirst command Known draft n =
+    Known → (text told : List ℕ) → command.Makes text told → WritesFirst draft.old draft.new text n
+
+-- What stops a command that writes all the while, the bytes of whose inputs are known under this condition: an input that
+-- is refused; the draft, which failed; or want of memory, where no reader failed. Whichever it is, the draft has no more
+-- than a beginning of what accepted inputs make.
+abbrev pub StopsAmidst : Command → Type 0 → Writer → CommandFault → Type 0
+StopsAmidst command Known draft (Input place why) =
+    command.Refuses place why × (draft.failures_new ≡ draft.failures_old) × ((n : ℕ) × HasFirst command Known draft n)
+StopsAmidst command Known draft (Output n) =
+    command.Unfailed × FailedIn draft.failures_old draft.failures_new × HasFirst command Known draft n
+StopsAmidst command Known draft (Report n) = ⊥
+StopsAmidst command Known draft OutOfMemory =
+    command.Unfailed × (draft.failures_new ≡ draft.failures_old) × ((n : ℕ) × HasFirst command Known draft n)
+
+-- What the draft took where a command was stopped with this fault: some bytes, as many as are told where it failed.
+abbrev pub HasTaken : Writer → CommandFault → Type 0
+HasTaken draft fault =
+    (bytes : List ℕ) × Appends draft.old draft.new bytes × ((n : ℕ) → fault ≡ Output n → n ≡ length bytes)
+
+-- such a command, as one of those
+abbrev pub writes_amidst : Command → Type 0 → Writer → Streamed
+writes_amidst command Known draft = record {
+  Makes = command.Makes;
+  Stops = StopsAmidst command Known draft;
+  Unfailed = command.Unfailed;
+}
+
+-- How such a command ends.
+abbrev pub EndsAsItComes : Command → Type 0 → Out → Writer → Result Status CommandFault → Type 0
+EndsAsItComes command Known out report result =
+    EndsStreamed (writes_amidst command Known out.draft) out report result
 
 -- A command that only reports, with its input: the status and the text that an accepted input makes, whether it is
 -- refused, and why, and that its reader does not fail.

@@ -221,6 +221,12 @@ IsRefusedInOrder input Untouched IsRefusedBehind at why =
     (IsRefusedArchive 0 input at why × Untouched)
     ⊎ (IsArchive input × Unfailed input × IsRefusedBehind at why)
 
+-- The same of a command that reads what is behind its first input before that one, and tests that one to its end before it
+-- tells of a refusal behind it.
+abbrev pub IsRefusedInTurn : {S : Type 0} → Reader S → (Place → Why → Type 0) → Place → Why → Type 0
+IsRefusedInTurn input IsRefusedBehind at why =
+    IsRefusedArchive 0 input at why ⊎ (IsArchive input × Unfailed input × IsRefusedBehind at why)
+
 -- The fault is that of an input, of which this holds, or want of memory, where this does.
 abbrev pub IsRefusal : (Place → Why → Type 0) → Type 0 → CommandFault → Type 0
 IsRefusal Refused Unfailed (Input place why) = Refused place why
@@ -231,6 +237,14 @@ IsRefusal Refused Unfailed OutOfMemory = Unfailed
 -- The input was opened, and these are its bytes.
 abbrev pub IsGiven : {S : Type 0} → Reader S → List ℕ → Type 0
 IsGiven input bytes = MatchResult input.old (λ source. input.left source ≡ Some bytes) (λ _. ⊥)
+
+-- The input was opened, and its bytes are known.
+abbrev pub IsKnown : {S : Type 0} → Reader S → Type 0
+IsKnown input = (bytes : List ℕ) × IsGiven input bytes
+
+-- So it is with each of these inputs.
+abbrev pub EachKnown : {S : Type 0} → List (Reader S) → Type 0
+EachKnown inputs = AllByRecursion IsKnown inputs
 
 -- The input was opened, and its bytes are an archive's text that gives this content.
 abbrev pub IsGivenArchive : {S : Type 0} → Reader S → Operations → Type 0

@@ -21,9 +21,11 @@ mod statuses;
 pub use failures::Failure;
 pub use faults::{CommandFault, Place, Status, Why};
 pub use outputs::{Output, Target, put_in_place};
-pub use publishing::{publish, publish_bytes, publish_delta, publish_report, publish_summary};
+pub use publishing::{
+    publish, publish_bytes, publish_delta, publish_draft, publish_report, publish_summary,
+};
 pub use sources::{
     answer_input, opened, read_crash, read_entries, read_events, read_file, read_input,
-    read_input_part, read_operations, read_rows, read_summary_input, refusal,
+    read_input_part, read_operations, read_rows, read_summary_input, refusal, test_input,
 };
 pub use statuses::status_of;

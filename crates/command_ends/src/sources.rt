@@ -12,7 +12,7 @@ ghost use Rattle.crash_frames.specs.Frames.{frames_of};
 ghost use Rattle.rehearsal.specs.Script.{acts, script_of};
 ghost use Rattle.command_ends.specs.declared.faults.CommandFault.TheVariants.{Input};
 ghost use Rattle.command_ends.specs.declared.faults.Why.TheVariants.{CannotOpen as NotOpened, Record};
-ghost use Rattle.command_ends.specs.Inputs.{Gives, Holds, HoldsArchive, HoldsContent, HoldsPart, IsRefusal};
+ghost use Rattle.command_ends.specs.Inputs.{Gives, Holds, HoldsArchive, HoldsContent, HoldsPart, IsArchive, IsRefusal};
 ghost use Rattle.command_ends.specs.Inputs.{IsRefusedArchive, IsRefusedFile, IsRefusedFrames, IsRefusedOps};
 ghost use Rattle.command_ends.specs.Inputs.{IsRefusedScript, IsRefusedSummary, IsUnread, Unfailed, reader};
 ghost use Rattle.command_ends.specs.InnerSources.{LendsSource};
@@ -21,6 +21,7 @@ use crate::faults::{CommandFault, Place, Why};
 use archive_core::{Archive, FindRow, Operation};
 use archive_reading::{
     Questions, Selects, answer_by_key, list_rows, read_archive, read_ops, read_part, summarize,
+    test_archive,
 };
 use archive_records::{RecordFault, RecordFaultKind, Summary, read_summary};
 use archive_words::line_at;
@@ -70,6 +71,26 @@ pub fn read_input<A: Archive + Drop, R: Source>(
     let source = opened(input, at)?;
     match read_archive(heap, source) {
         Ok(archive) => Ok(archive),
+        Err(fault) => Err(refusal(at, fault)),
+    }
+}
+
+/// Reads the archive of this number among those of the words to its end, and keeps nothing of it.
+pub fn test_input<R: Source>(
+    heap: Heap,
+    index: u64,
+    input: &mut Result<R, CannotOpen>,
+) -> Result<(), CommandFault>
+    ensures archive { OnOk result (IsArchive (reader R.left R.failures input.old input.new)) }
+    ensures unfailed { OnOk result (Unfailed (reader R.left R.failures input.old input.new)) }
+    ensures refused { IfErr result
+        (IsRefusal (IsRefusedArchive index (reader R.left R.failures input.old input.new))
+        (Unfailed (reader R.left R.failures input.old input.new))) }
+{
+    let at = Place::Archive(index);
+    let source = opened(input, at)?;
+    match test_archive(heap, source) {
+        Ok(()) => Ok(()),
         Err(fault) => Err(refusal(at, fault)),
     }
 }

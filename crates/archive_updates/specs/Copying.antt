@@ -1,0 +1,88 @@
+-- A copy of those records of an archive that a summary does not name: the words of inner functions. No contract of a public
+-- one has them.
+use Rattle.std.specs.Prelude.{◌≡◌, ℕ, ◌≤◌, List, [], ◌++◌, length, take, Option, Some, Result, Ok, Err}
+use Rattle.std.specs.List.{concat}
+use Rattle.std.specs.FinSet as set
+use Rattle.std.specs.Io.KnownBytes.{Appends, Consumes}
+use Rattle.archive_core.specs.Content.{Operations, IsContent}
+use Rattle.archive_core.specs.Summary.{Entries, delta}
+use Rattle.archive_records.specs.declared.fault.MergeCause.{MergeCause}
+use Rattle.archive_records.specs.declared.fault.MergeCause.TheVariants.{Left, Right, Write}
+use Rattle.archive_records.specs.declared.fault.MergeFault.{MergeFault}
+use Rattle.archive_records.specs.declared.format.Format.{Format}
+use Rattle.archive_records.specs.declared.kind.TextKind.TheVariants.{Archive as Archive_text}
+use Rattle.archive_records.specs.declared.writing.Sizes.{Sizes}
+use Rattle.archive_records.specs.Kind.{magic, magic_of}
+use Rattle.archive_records.specs.Reader.{HasStopped, Stopped}
+use Rattle.archive_records.specs.Reading.{Blames, IsReadWhole}
+use Rattle.archive_records.specs.Text.{missing, written, taken_of, InOrder, AreApart, IsArchiveOf}
+use Rattle.archive_records.specs.Writing.{IsWrittenWhole}
+use Rattle.byte_device.specs.Devices.{FailedIn, Stream}
+use Rattle.byte_device.specs.Writes.{WritesFirst}
+use Rattle.record_merge.specs.Merging.{GainsCount, IsRefusedAlone, IsUnfailed}
+
+-- ---- as it goes
+
+-- what is written of these records: the magic, and those that the summary does not name
+abbrev pub copy_of : Entries → List (List ℕ) → List ℕ
+copy_of s records = magic ++ concat (missing s records)
+
+-- That was written, and these are its sizes.
+pub record IsCopied (s : Entries) (w0 w1 : Option (List ℕ)) (records : List (List ℕ)) (sizes : Sizes) : Type 0 where
+  pub gained : Appends w0 w1 (copy_of s records)
+  pub bytes_are : sizes.bytes ≡ length (copy_of s records)
+  pub records_are : sizes.records ≡ length (missing s records)
+
+-- The archive was read up to these records and these bytes behind them, and the first n bytes of what is written of them
+-- were written.
+pub record IsCopiedUpTo (file : Format) (s : Entries) (a b w0 w1 : Option (List ℕ)) (n : ℕ) : Type 0 where
+  pub records : List (List ℕ)
+  pub rest : List ℕ
+  pub taken : Consumes a b (magic_of file ++ (concat records ++ rest))
+  pub ordered : InOrder file [] records
+  pub apart : AreApart file records
+  pub within : n ≤ length (copy_of s (taken_of file records))
+  pub gained : Appends w0 w1 (take n (copy_of s (taken_of file records)))
+
+-- what stopped the copy behind the magic
+abbrev pub StopsRecords : Format → Option (List ℕ) → Option (List ℕ) → MergeCause → Type 0
+StopsRecords file a b (Left fault) = (records : List (List ℕ)) × Stopped file a b records fault
+StopsRecords file a b (Right fault) = ⊥
+StopsRecords file a b Write = Unit {0}
+
+-- what the cause says of the reader and of the writer
+abbrev pub BlamesOne : {R : Type 0} → (R → Option (List ℕ)) → (R → ℕ) → R → R → ℕ → ℕ → MergeCause → Type 0
+BlamesOne left failures old new w_old w_new (Left fault) = Blames left failures old new fault.kind × (w_new ≡ w_old)
+BlamesOne left failures old new w_old w_new (Right fault) = ⊥
+BlamesOne left failures old new w_old w_new Write = (failures new ≡ failures old) × FailedIn w_old w_new
+
+-- the same of a result; on success neither failed
+abbrev pub BlamesDevices : {R T : Type 0} → (R → Option (List ℕ)) → (R → ℕ) → R → R → ℕ → ℕ → Result T MergeFault
+    → Type 0
+BlamesDevices left failures old new w_old w_new (Ok _) = (failures new ≡ failures old) × (w_new ≡ w_old)
+BlamesDevices left failures old new w_old w_new (Err e) = BlamesOne left failures old new w_old w_new e.cause
+
+-- ---- what came of it
+
+-- The input is an archive's text, and that of the operations that the summary does not name was written.
+pub record CopiesUnnamed {R W : Type 0} (input : Stream R) (draft : Stream W) (s : Entries) (sizes : Sizes)
+    : Type 0 where
+  pub content : Operations
+  pub read : IsReadWhole Archive_text content input.bytes input.failures input.old input.new
+  pub written_is : IsWrittenWhole draft.bytes draft.failures draft.old draft.new (set.len (delta content s))
+      (written (delta content s)) sizes
+
+-- why the copy was stopped: reading the input, and it alone, is refused so; or the writer failed, and the reader did not
+abbrev pub StopsCopyBy : {R W : Type 0} → Stream R → Stream W → MergeCause → Type 0
+StopsCopyBy input draft (Left fault) = IsRefusedAlone input fault × IsUnfailed draft
+StopsCopyBy input draft (Right fault) = ⊥
+StopsCopyBy input draft Write = IsUnfailed input × FailedIn (draft.failures draft.old) (draft.failures draft.new)
+
+-- It was stopped. Of what is written of an archive's text, if the input is one, exactly the first bytes were written, and
+-- fewer than all.
+pub record StopsCopy {R W : Type 0} (input : Stream R) (draft : Stream W) (s : Entries) (e : MergeFault) : Type 0 where
+  pub by : StopsCopyBy input draft e.cause
+  pub first : (o : Operations) (text : List ℕ) → IsContent o → IsArchiveOf o text
+      → input.bytes input.old ≡ Some text
+      → WritesFirst (draft.bytes draft.old) (draft.bytes draft.new) (written (delta o s)) e.written
+  pub count : GainsCount draft e.written
