@@ -7,3 +7,4 @@ pub mod Beginnings
 pub mod AtHand
 pub mod Migrated
 pub mod Copied
+pub mod Unnamed
