@@ -26,10 +26,10 @@ use Rattle.archive_records.proofs.Formats.{format_magic, in_order_old, no_operat
 use Rattle.archive_records.proofs.Inputs.{archive_whole}
 use Rattle.archive_records.proofs.KeptRecords.{behind, kept_more}
 use Rattle.archive_records.proofs.Puts.{delta_count, delta_parts}
-use Rattle.archive_records.proofs.Versions.{formed, one_content}
+use Rattle.archive_records.proofs.Versions.{Formed, formed, formed_content, formed_text, one_content}
 use Rattle.archive_reading.proofs.Made.{content_of, content_read, content_whole, taken_listing}
 use Rattle.record_merge.specs.Merging.{GainsCount}
-use Rattle.record_merge.proofs.Fronts.{archive_text, before, front_of, taken_rest, text_whole}
+use Rattle.record_merge.proofs.Fronts.{before, front_of, taken_rest, text_whole}
 use Rattle.archive_updates.specs.Copying.{BlamesDevices, CopiesUnnamed, HasDraft, IsCause, IsCopiedToEnd, IsCopiedUpTo, IsCopiedWhole, StopsCopy, StopsCopyBy, copy_of}
 use Rattle.archive_updates.proofs.Beginnings.{good_formed}
 use Rattle.archive_updates.proofs.Copied.{copy_more}
@@ -109,8 +109,9 @@ module _ (s : Entries) (text : List ℕ) (o : Operations) (content : IsContent o
   first_to_end : (file : Format) → kind_of file ≡ Archive_text → IsCopiedToEnd file s (Some text) b w0 w1 n → First
   first_to_end file kind u =
       let all = text_whole file text b u.records u.taken u.at_end in
-      let other = archive_text file kind text u.records u.ordered u.apart all in
-      let same : o ≡ set_of (taken_of file u.records) = one_content text o other.0 content other.1 is other.2 in
+      let made = set_of (taken_of file u.records) in
+      let form : Formed made text = record { format = file; archive = kind; records = u.records; ordered = u.ordered; apart = u.apart; whole = all; content = refl } in
+      let same : o ≡ made = one_content text o made content (formed_content made text form) is (formed_text made text form) in
       subst (λ (t : List ℕ). WritesFirst w0 w1 t n) (sym (ap (λ (p : Operations). written (delta p s)) same ∙ delta_text s file kind u.records u.ordered)) u.first
 
   first_none : n ≡ 0 → Appends w0 w1 [] → First
