@@ -220,6 +220,10 @@ abbrev pub IsRefusedInTurn : {S : Type 0} → Reader S → (Place → Why → Ty
 IsRefusedInTurn input IsRefusedBehind at why =
     IsRefusedArchive 0 input at why ⊎ (IsArchive input × Unfailed input × IsRefusedBehind at why)
 
+-- An input behind the first one was refused, and the first one, which was being tested, did not fail.
+abbrev pub IsWantedInTurn : {S : Type 0} → Reader S → (Place → Why → Type 0) → Type 0
+IsWantedInTurn input IsRefusedBehind = Unfailed input × ((at : Place) × (why : Why) × IsRefusedBehind at why)
+
 -- The fault is that of an input, of which this holds, or want of memory, where this does.
 abbrev pub IsRefusal : (Place → Why → Type 0) → Type 0 → CommandFault → Type 0
 IsRefusal Refused Unfailed (Input place why) = Refused place why

@@ -14,7 +14,8 @@ ghost use Rattle.command_ends.specs.declared.faults.CommandFault.TheVariants.{In
 ghost use Rattle.command_ends.specs.declared.faults.Why.TheVariants.{CannotOpen as NotOpened, Record};
 ghost use Rattle.command_ends.specs.Inputs.{Gives, Holds, HoldsArchive, HoldsContent, HoldsPart, IsArchive, IsRefusal};
 ghost use Rattle.command_ends.specs.Inputs.{IsRefusedArchive, IsRefusedFile, IsRefusedFrames, IsRefusedOps};
-ghost use Rattle.command_ends.specs.Inputs.{IsRefusedScript, IsRefusedSummary, IsUnread, Unfailed, reader};
+ghost use Rattle.command_ends.specs.Inputs.{IsRefusedInTurn, IsRefusedScript, IsRefusedSummary, IsUnread, Unfailed};
+ghost use Rattle.command_ends.specs.Inputs.{reader};
 ghost use Rattle.command_ends.specs.InnerSources.{LendsSource};
 
 use crate::faults::{CommandFault, Place, Why};
@@ -91,6 +92,23 @@ pub fn test_input<R: Source>(
     match test_archive(heap, source) {
         Ok(()) => Ok(()),
         Err(fault) => Err(refusal(at, fault)),
+    }
+}
+
+/// What is told where an input behind the archive is refused so: that, after the archive was tested to its end, or the
+/// archive's own fault, if it has one.
+pub fn refused_behind<R: Source>(
+    heap: Heap,
+    input: &mut Result<R, CannotOpen>,
+    at: Place,
+    why: Why,
+) -> CommandFault
+    ensures { IsRefusal (IsRefusedInTurn (reader R.left R.failures input.old input.new)
+        (λ place reason. (place ≡ at) × (reason ≡ why))) (Unfailed (reader R.left R.failures input.old input.new)) result }
+{
+    match test_input(heap, 0, input) {
+        Ok(()) => CommandFault::Input(at, why),
+        Err(fault) => fault,
     }
 }
 
