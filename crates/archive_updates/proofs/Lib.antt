@@ -8,3 +8,4 @@ pub mod AtHand
 pub mod Migrated
 pub mod Copied
 pub mod Unnamed
+pub mod Deltas

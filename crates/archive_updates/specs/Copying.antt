@@ -20,6 +20,8 @@ use Rattle.archive_records.specs.Writing.{IsWrittenWhole}
 use Rattle.byte_device.specs.Devices.{FailedIn, Stream}
 use Rattle.byte_device.specs.Writes.{WritesFirst}
 use Rattle.record_merge.specs.Merging.{GainsCount, IsRefusedAlone, IsUnfailed}
+use Rattle.command_ends.specs.Ends.{Command, MakesArchive}
+use Rattle.command_ends.specs.Inputs.{Reader, Unfailed, IsRefusedArchive, HoldsArchive}
 
 -- ---- as it goes
 
@@ -126,3 +128,32 @@ pub record StopsCopy {R W : Type 0} (input : Stream R) (draft : Stream W) (s : E
       → input.bytes input.old ≡ Some text
       → WritesFirst (draft.bytes draft.old) (draft.bytes draft.new) (written (delta o s)) e.written
   pub count : GainsCount draft e.written
+
+-- ---- as a command
+
+-- ARCHIVE is an archive's text, and this is the content of its operations that the entries do not name; there are no lines
+-- but the sizes.
+pub record MakesUnnamed {R : Type 0} (archive : Reader R) (s : Entries) (content : Operations) (lines : List ℕ)
+    : Type 0 where
+  pub before : Operations
+  pub is_content : IsContent before
+  pub archive_is : HoldsArchive archive before
+  pub content_is : content ≡ delta before s
+  pub lines_are : lines ≡ []
+
+-- a command that makes that of an archive
+abbrev pub copying : {R : Type 0} → Reader R → Entries → Command
+copying archive s = record {
+  Makes = MakesArchive (MakesUnnamed archive s);
+  Refuses = IsRefusedArchive 0 archive;
+  Unfailed = Unfailed archive;
+}
+
+-- ARCHIVE is an archive's text, and that of its operations that the entries do not name was written.
+pub record IsUnnamed {R W : Type 0} (archive : Reader R) (s : Entries) (draft : Stream W) (sizes : Sizes) : Type 0 where
+  pub before : Operations
+  pub is_content : IsContent before
+  pub archive_is : HoldsArchive archive before
+  pub unfailed : Unfailed archive
+  pub written_is : IsWrittenWhole draft.bytes draft.failures draft.old draft.new (set.len (delta before s))
+      (written (delta before s)) sizes
