@@ -18,7 +18,7 @@ use Rattle.command_ends.specs.declared.faults.Place.{Place}
 use Rattle.command_ends.specs.declared.faults.Status.{Status}
 use Rattle.command_ends.specs.declared.faults.Why.{Why}
 use Rattle.command_ends.specs.Ends.{EndsAsItComes, EndsStreamed, HasFirst, HasTaken, MakesArchive, StopsAmidst}
-use Rattle.command_ends.specs.Inputs.{Holds, IsKnown, IsRefusal, IsRefusedArchive, IsRefusedInTurn, IsRefusedSummary, IsWantedInTurn, Reader, Unfailed, reader}
+use Rattle.command_ends.specs.Inputs.{Holds, IsKnown, IsRefusal, IsRefusedArchive, IsRefusedInTurn, IsRefusedSummary, IsWantedInTurn, Reader, TellsInTurn, Unfailed, failures_of, reader}
 use Rattle.command_ends.specs.Outputs.{IsKept, Out, Outs, PlacesNothing, Publishes, Takes, Writer, out_of, report_of, writer}
 use Rattle.command_ends.proofs.Amidst.{ends_in_turn, gives_known, nothing_first, published_amidst, refused_in_turn, stopped_amidst}
 use Rattle.archive_updates.specs.Copying.{CopiesUnnamed, IsUnnamed, MakesUnnamed, StopsCopy, StopsCopyBy, copying}
@@ -149,7 +149,7 @@ module _ {R S : Type 0} (archive : Reader R) (left : S → Option (List ℕ)) (f
   refuses = refused_in_turn (MakesDelta archive summary) (IsRefusedInTurn archive (IsRefusedSummary summary)) (Unfailed archive × Unfailed summary) (IsWantedInTurn archive (IsRefusedSummary summary)) (IsKnown archive × IsKnown summary) out report
 
   -- or refused
-  pub unnamed_refused : (at : Place) (why : Why) → IsRefusedSummary summary at why → (fault : CommandFault) → IsRefusal (IsRefusedInTurn archive (λ place reason. (place ≡ at) × (reason ≡ why))) (Unfailed archive) fault → IsKept out → Takes report [] → EndsSo (Err fault)
+  unnamed_refused : (at : Place) (why : Why) → IsRefusedSummary summary at why → (fault : CommandFault) → IsRefusal (IsRefusedInTurn archive (λ place reason. (place ≡ at) × (reason ≡ why))) (Unfailed archive) fault → IsKept out → Takes report [] → EndsSo (Err fault)
   unnamed_refused at why refused (Input place reason) r = refuses (Input place reason) (elim r [
     | inl first ↦ inl first
     | inr behind ↦ inr (behind.0, behind.1, subst (λ (p : Place). IsRefusedSummary summary p reason) (sym behind.2.0) (subst (λ (y : Why). IsRefusedSummary summary at y) (sym behind.2.1) refused))
@@ -162,9 +162,9 @@ module _ {R S : Type 0} (archive : Reader R) (left : S → Option (List ℕ)) (f
   pub wanting : Unfailed archive → Unfailed summary → IsKept out → Takes report [] → EndsSo (Err OutOfMemory)
   wanting unfailed summary_unfailed = refuses OutOfMemory (inl (unfailed, summary_unfailed))
 
-  -- so, whichever it is but a refusal
-  pub wanting_so : (fault : CommandFault) → IsRefusal (IsRefusedSummary summary) (Unfailed summary) fault → ((at : Place) (why : Why) → fault ≡ Input at why → ⊥) → Unfailed archive → IsKept out → Takes report [] → EndsSo (Err fault)
-  wanting_so (Input at why) r other unfailed = absurd (other at why refl)
-  wanting_so (Output n) r other unfailed = absurd r
-  wanting_so (Report n) r other unfailed = absurd r
-  wanting_so OutOfMemory r other unfailed = wanting unfailed r
+  -- so, whichever it is
+  pub unnamed_behind : (fault told : CommandFault) → IsRefusal (IsRefusedSummary summary) (Unfailed summary) fault → TellsInTurn archive fault told → IsKept out → Takes report [] → EndsSo (Err told)
+  unnamed_behind (Input at why) told r t = unnamed_refused at why r told t
+  unnamed_behind (Output n) told r t = absurd r
+  unnamed_behind (Report n) told r t = absurd r
+  unnamed_behind OutOfMemory told r t = rw t.0 (wanting (ap (failures_of archive.failures) t.1) r)

@@ -99,7 +99,6 @@ pub fn run_delta<R: Source, S: Source, T: Target, P: Sink>(
     let kept = heap.clone()?;
     match read_summary_input(kept, summary) {
         Ok(named) => write_unnamed(heap, archive, &named, out, report),
-        Err(CommandFault::Input(at, why)) => Err(refused_behind(heap, archive, at, why)),
-        Err(fault) => Err(fault),
+        Err(fault) => Err(refused_behind(heap, archive, fault)),
     }
 }

@@ -11,7 +11,7 @@ use Rattle.command_ends.specs.declared.faults.Place.{Place}
 use Rattle.command_ends.specs.declared.faults.Status.{Status}
 use Rattle.command_ends.specs.declared.faults.Why.{Why}
 use Rattle.command_ends.specs.Ends.{Carries, Command, EndsAsItComes, EndsStreamed, HasFirst, HasTaken, IsStopped, MakesArchive, StopsAmidst, StopsInTurn, writes_amidst, writes_in_turn}
-use Rattle.command_ends.specs.Inputs.{HoldsArchive, IsGivenArchive, IsKnown, IsRefusal, IsRefusedArchive, IsRefusedInTurn, Reader, Unfailed, reader}
+use Rattle.command_ends.specs.Inputs.{HoldsArchive, IsGivenArchive, IsKnown, IsRefusal, reader}
 use Rattle.command_ends.specs.Outputs.{IsKept, Out, PlacesNothing, Publishes, Takes, Writer}
 
 module _ (Makes : List ℕ → List ℕ → Type 0) (Refuses : Place → Why → Type 0) (NoneFailed Known : Type 0) (out : Out) (report : Writer) where
@@ -51,13 +51,6 @@ pub gives_known : {S : Type 0} (left : S → Option (List ℕ)) (failures : S �
     → IsKnown (reader left failures old new) → HoldsArchive (reader left failures old new) o → IsGivenArchive (reader left failures old new) o
 gives_known left failures (Ok source) new o known holds = (known.0, rw known.1 at holds, known.1)
 gives_known left failures (Err e) new o known holds = absurd holds
-
--- an archive that is refused is the first that is
-pub first_in_turn : {S : Type 0} (input : Reader S) (IsRefusedBehind : Place → Why → Type 0) (fault : CommandFault) → IsRefusal (IsRefusedArchive 0 input) (Unfailed input) fault → IsRefusal (IsRefusedInTurn input IsRefusedBehind) (Unfailed input) fault
-first_in_turn input IsRefusedBehind (Input at why) r = inl r
-first_in_turn input IsRefusedBehind (Output n) r = absurd r
-first_in_turn input IsRefusedBehind (Report n) r = absurd r
-first_in_turn input IsRefusedBehind OutOfMemory r = r
 
 -- ---- nothing was written
 

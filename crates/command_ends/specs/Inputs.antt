@@ -231,6 +231,15 @@ IsRefusal Refused Unfailed (Output _) = ⊥
 IsRefusal Refused Unfailed (Report _) = ⊥
 IsRefusal Refused Unfailed OutOfMemory = Unfailed
 
+-- What is told where this was told of an input behind the first one: a refusal in turn, after the first input was tested; or,
+-- if memory was wanted, that, and the first input is as it was.
+abbrev pub TellsInTurn : {S : Type 0} → Reader S → CommandFault → CommandFault → Type 0
+TellsInTurn input (Input at why) told =
+    IsRefusal (IsRefusedInTurn input (λ place reason. (place ≡ at) × (reason ≡ why))) (Unfailed input) told
+TellsInTurn input (Output n) told = (told ≡ Output n) × IsUntouched input
+TellsInTurn input (Report n) told = (told ≡ Report n) × IsUntouched input
+TellsInTurn input OutOfMemory told = (told ≡ OutOfMemory) × IsUntouched input
+
 -- The input was opened, and these are its bytes.
 abbrev pub IsGiven : {S : Type 0} → Reader S → List ℕ → Type 0
 IsGiven input bytes = MatchResult input.old (λ source. input.left source ≡ Some bytes) (λ _. ⊥)

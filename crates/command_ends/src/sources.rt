@@ -14,7 +14,7 @@ ghost use Rattle.command_ends.specs.declared.faults.CommandFault.TheVariants.{In
 ghost use Rattle.command_ends.specs.declared.faults.Why.TheVariants.{CannotOpen as NotOpened, Record};
 ghost use Rattle.command_ends.specs.Inputs.{Gives, Holds, HoldsArchive, HoldsContent, HoldsPart, IsArchive, IsRefusal};
 ghost use Rattle.command_ends.specs.Inputs.{IsRefusedArchive, IsRefusedFile, IsRefusedFrames, IsRefusedOps};
-ghost use Rattle.command_ends.specs.Inputs.{IsRefusedInTurn, IsRefusedScript, IsRefusedSummary, IsUnread, Unfailed};
+ghost use Rattle.command_ends.specs.Inputs.{IsRefusedScript, IsRefusedSummary, IsUnread, TellsInTurn, Unfailed};
 ghost use Rattle.command_ends.specs.Inputs.{reader};
 ghost use Rattle.command_ends.specs.InnerSources.{LendsSource};
 
@@ -95,20 +95,21 @@ pub fn test_input<R: Source>(
     }
 }
 
-/// What is told where an input behind the archive is refused so: that, after the archive was tested to its end, or the
-/// archive's own fault, if it has one.
+/// What is told where this was told of an input behind the archive: if that one is refused, its refusal, after the
+/// archive was tested to its end, or the archive's own fault, if it has one.
 pub fn refused_behind<R: Source>(
     heap: Heap,
     input: &mut Result<R, CannotOpen>,
-    at: Place,
-    why: Why,
+    fault: CommandFault,
 ) -> CommandFault
-    ensures { IsRefusal (IsRefusedInTurn (reader R.left R.failures input.old input.new)
-        (λ place reason. (place ≡ at) × (reason ≡ why))) (Unfailed (reader R.left R.failures input.old input.new)) result }
+    ensures { TellsInTurn (reader R.left R.failures input.old input.new) fault result }
 {
-    match test_input(heap, 0, input) {
-        Ok(()) => CommandFault::Input(at, why),
-        Err(fault) => fault,
+    match fault {
+        CommandFault::Input(at, why) => match test_input(heap, 0, input) {
+            Ok(()) => CommandFault::Input(at, why),
+            Err(first) => first,
+        },
+        other => other,
     }
 }
 
