@@ -16,7 +16,7 @@ use Rattle.command_ends.specs.declared.faults.Status.{Status}
 use Rattle.command_ends.specs.declared.faults.Why.{Why}
 use Rattle.archive_updates.specs.Admit.{admit}
 use Rattle.archive_updates.specs.Apply.{apply}
-use Rattle.archive_updates.specs.Delta.{delta}
+use Rattle.archive_updates.specs.Delta.{delta_as_it_comes}
 use Rattle.command_ends.specs.Ends.{Command, Ends, EndsStreamed, Query, Streamed, writes_amidst}
 use Rattle.archive_queries.specs.Find.{find}
 use Rattle.archive_queries.specs.Frames.{frames}
@@ -151,7 +151,8 @@ executed (line.symbolicate _ uuid arch load addresses) (archive ∷ _) out repor
     queried (symbolicate archive (key_of uuid arch) load addresses) out report r e
 executed (line.frames _ _) (crash ∷ archive ∷ _) out report r e = queried (frames crash archive) out report r e
 executed (line.summary _ _) (archive ∷ _) out report r e = ended (summary archive) out report r e
-executed (line.delta _ _ _) (archive ∷ named ∷ _) out report r e = ended (delta archive named) out report r e
+executed (line.delta _ _ _) (archive ∷ named ∷ _) out report r e =
+    streamed (delta_as_it_comes archive named (out_of out).draft) out report r e
 executed (line.rehearse _) (script ∷ _) out report r e = queried (rehearse script) out report r e
 executed _ _ out report r e = absurd e
 

@@ -10,7 +10,7 @@ use Rattle.command_ends.specs.declared.faults.CommandFault.{CommandFault}
 use Rattle.command_ends.specs.declared.faults.Status.{Status}
 use Rattle.archive_updates.specs.Admit.{admit}
 use Rattle.archive_updates.specs.Apply.{apply}
-use Rattle.archive_updates.specs.Delta.{delta}
+use Rattle.archive_updates.specs.Delta.{delta_as_it_comes}
 use Rattle.command_ends.specs.Ends.{Ends, EndsAsItComes, EndsReport, EndsStreamed, Query}
 use Rattle.archive_queries.specs.Find.{find}
 use Rattle.archive_queries.specs.Frames.{frames}
@@ -54,6 +54,6 @@ Executes (line.frames _ _) (crash ∷ archive ∷ _) out report result =
     EndsQuery (frames crash archive) out report result
 Executes (line.summary _ _) (archive ∷ _) out report result = Ends (summary archive) (out_of out) report result
 Executes (line.delta _ _ _) (archive ∷ named ∷ _) out report result =
-    Ends (delta archive named) (out_of out) report result
+    EndsStreamed (delta_as_it_comes archive named (out_of out).draft) (out_of out) report result
 Executes (line.rehearse _) (script ∷ _) out report result = EndsQuery (rehearse script) out report result
 Executes _ _ _ _ _ = ⊥

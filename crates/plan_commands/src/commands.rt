@@ -52,7 +52,7 @@ fn apply<A: Archive + Drop, S: Source, T: Target, P: Sink>(
 }
 
 /// `delta`, whose second input is SUMMARY.
-fn delta<A: Archive + Drop, S: Source, T: Target, P: Sink>(
+fn delta<S: Source, T: Target, P: Sink>(
     heap: Heap,
     first: &mut Input<S>,
     others: &mut [Input<S>],
@@ -66,7 +66,7 @@ fn delta<A: Archive + Drop, S: Source, T: Target, P: Sink>(
         (writer P.held P.failures report.old report.new) result }
 {
     match others {
-        [summary] => run_delta::<A, _, _, _, _>(heap, first, summary, out, report),
+        [summary] => run_delta(heap, first, summary, out, report),
         _ => unreachable!(),
     }
 }
@@ -118,7 +118,7 @@ pub fn execute<A: Archive + Drop, L: Archive + Drop, S: Source, T: Target, P: Si
             _ => unreachable!(),
         },
         Plan::Summary { .. } => run_summary(heap, first, out, report),
-        Plan::Delta { .. } => delta::<A, _, _, _>(heap, first, others, out, report),
+        Plan::Delta { .. } => delta(heap, first, others, out, report),
         Plan::Rehearse { .. } => run_rehearse::<A, _, _>(heap, first, report),
     }
 }
