@@ -35,13 +35,13 @@ pub lent_from : {S : Type 0} (old : Result S CannotOpen) (lent : S) → MatchRes
 lent_from {S = S} (Ok source) lent is = ap (λ (s : S). Ok s) (sym is)
 lent_from (Err e) lent is = absurd is
 
-left_not_write : (why : RecordFault) → Left why ≡ Write → ⊥
+pub left_not_write : (why : RecordFault) → Left why ≡ Write → ⊥
 left_not_write why h = cc
 
 right_not_write : (why : RecordFault) → Right why ≡ Write → ⊥
 right_not_write why h = cc
 
-memory_not_device : (kind : RecordFaultKind) → kind ≡ RecordOutOfMemory → kind ≡ Device → ⊥
+pub memory_not_device : (kind : RecordFaultKind) → kind ≡ RecordOutOfMemory → kind ≡ Device → ⊥
 memory_not_device kind m d = cc
 
 -- a device that has never failed did not fail

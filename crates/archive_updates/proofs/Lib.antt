@@ -9,3 +9,5 @@ pub mod Migrated
 pub mod Copied
 pub mod Tellings
 pub mod Retired
+pub mod Unnamed
+pub mod Deltas

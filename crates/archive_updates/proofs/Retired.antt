@@ -13,7 +13,7 @@ use Rattle.archive_core.specs.Record.{IsOperation, IsRecord, record_bytes, retir
 use Rattle.archive_core.proofs.Taken.{taken_are_joined}
 use Rattle.archive_records.specs.declared.format.Format.TheVariants.{Archive, OldArchive}
 use Rattle.archive_records.specs.declared.writing.Sizes.{Sizes}
-use Rattle.archive_records.specs.Text.{InOrder, old_written, text_of, written}
+use Rattle.archive_records.specs.Text.{AreOperations, InOrder, old_written, text_of, written}
 use Rattle.archive_records.specs.Writing.{IsWrittenWhole}
 use Rattle.archive_records.proofs.Ascending.{below-less}
 use Rattle.archive_records.proofs.Contents.{are_records, sorted-InOrder}
@@ -27,7 +27,7 @@ use Rattle.command_ends.specs.Ends.{EndsAsItComes, HasTaken, MakesArchive, Stops
 use Rattle.command_ends.specs.Inputs.{IsKnown, IsRefusedArchive, Reader, Unfailed}
 use Rattle.command_ends.specs.Outputs.{Out, PlacesNothing, Publishes, Takes, Writer}
 use Rattle.command_ends.proofs.Amidst.{published_amidst, stopped_amidst, stops_alike}
-use Rattle.archive_updates.specs.InnerTelling.{AreAtHand, IsJoinedTelling, IsRetired}
+use Rattle.archive_updates.specs.InnerTelling.{IsJoinedTelling, IsRetired}
 use Rattle.archive_updates.specs.Joining.{MakesJoin, joining}
 use Rattle.archive_updates.specs.Retire.{MakesRetired, retire}
 use Rattle.archive_updates.proofs.AtHand.{sizes_are}
@@ -46,14 +46,12 @@ module _ (key : SliceKey) (digest : Digest) where
     pub listed_alone : listing alone ≡ record_of ∷ []
     listed_alone = listing_ascending nat_list_cmp_total bytes_same (record_of ∷ []) (sorted-InOrder [] (record_of ∷ []) in_order).1
 
+    pub are_alone : AreOperations alone
+    are_alone = are_records (record_of ∷ []) in_order
+
     -- its text
-    pub at_hand : {S : Type 0} (side : Stream S) (operation : Operation) → operation ≡ Retire key digest → side.bytes side.old ≡ Some (text_of OldArchive (map record_bytes (operation ∷ []))) → side.failures side.old ≡ 0 → side.failures side.new ≡ 0 → AreAtHand side alone
-    at_hand side operation same bytes before after = record {
-      are = are_records (record_of ∷ []) in_order;
-      bytes = bytes ∙ ap (λ (o : Operation). Some (text_of OldArchive (record_bytes o ∷ []))) same ∙ ap (λ (t : List ℕ). Some t) (sym (old_written-records (record_of ∷ []) in_order));
-      unfailed_before = before;
-      unfailed = after;
-    }
+    pub text_alone : (operation : Operation) → operation ≡ Retire key digest → text_of OldArchive (map record_bytes (operation ∷ [])) ≡ old_written alone
+    text_alone operation same = ap (λ (o : Operation). text_of OldArchive (record_bytes o ∷ [])) same ∙ sym (old_written-records (record_of ∷ []) in_order)
 
   -- the content with it
   with_alone : (o : Operations) → IsMade o → with_record o record_of ≡ joined o (content_of alone)
@@ -93,15 +91,16 @@ module _ (key : SliceKey) (digest : Digest) where
     retire_stopped out report fault s = stopped_amidst (MakesArchive (MakesRetired input key digest)) (IsRefusedArchive 0 input) (Unfailed input) (IsKnown input) out report fault s
 
     -- and what it makes is published
-    pub retire_published : {W : Type 0} (draft : Stream W) (sizes : Sizes) (changed : Bool) (i : IsRetired input key digest draft sizes changed) (lines : List ℕ) → lines ≡ retire_line changed key digest → (out : Out) (report : Writer) (result : Result Status CommandFault)
-        → Publishes out report (written (with_record i.before record_of)) (lines ++ archive_line sizes) result → EndsAsItComes (retire input key digest) (IsKnown input) out report result
-    retire_published draft sizes changed i lines is out report result =
+    pub retire_published : {W : Type 0} (draft : Stream W) (sizes : Sizes) (changed : Bool) (i : IsRetired input key digest draft sizes changed) (out : Out) (report : Writer) (result : Result Status CommandFault)
+        → Publishes out report (written (with_record i.before record_of)) (retire_line changed key digest ++ archive_line sizes) result → EndsAsItComes (retire input key digest) (IsKnown input) out report result
+    retire_published draft sizes changed i out report result =
         let o : Operations = with_record i.before record_of in
+        let lines : List ℕ = retire_line changed key digest in
         published_amidst (MakesArchive (MakesRetired input key digest)) (IsRefusedArchive 0 input) (Unfailed input) (IsKnown input) out report result (written o) (lines ++ archive_line sizes) i.unfailed
         (record {
           content = o;
           lines = lines;
-          makes = record { before = i.before; is_content = i.is_content; archive = i.archive; content_is = refl; lines_are = is ∙ ap (λ (b : Bool). retire_line b key digest) i.changed_is };
+          makes = record { before = i.before; is_content = i.is_content; archive = i.archive; content_is = refl; lines_are = ap (λ (b : Bool). retire_line b key digest) i.changed_is };
           text_is = refl;
           told_is = ap (λ (s : Sizes). lines ++ archive_line s) (sizes_are sizes o i.written_is.records_are i.written_is.bytes_are);
         })

@@ -1,10 +1,11 @@
 //! `retire IN OUT UUID ARCH DIGEST`.
-ghost use Rattle.std.specs.Prelude.{◌≡◌, IfOk, IfErr};
+ghost use Rattle.std.specs.Prelude.{◌≡◌, ◌++◌, ℕ, List, length, IfOk, IfErr};
 ghost use Rattle.archive_core.specs.Record.{IsOperation};
 ghost use Rattle.byte_device.specs.Devices.{stream};
 ghost use Rattle.command_ends.specs.Ends.{EndsAsItComes, HasTaken, StopsAmidst};
 ghost use Rattle.command_ends.specs.Inputs.{IsKnown, reader};
-ghost use Rattle.command_ends.specs.Outputs.{out_of, outs, writer};
+ghost use Rattle.report_text.specs.Report.{archive_line, retire_line};
+ghost use Rattle.command_ends.specs.Outputs.{Publishes, Takes, out_of, outs, writer};
 ghost use Rattle.archive_updates.specs.InnerTelling.{IsRetired};
 ghost use Rattle.archive_updates.specs.Retire.{retire};
 
@@ -29,22 +30,44 @@ fn retirement(key: SliceKey, digest: Digest) -> Operation
 fn retire_input<R: Source, W: Sink>(
     heap: &Heap,
     input: &mut Result<R, CannotOpen>,
-    key: SliceKey,
-    digest: Digest,
+    key: &SliceKey,
+    digest: &Digest,
     draft: &mut W,
 ) -> Result<(Sizes, bool), CommandFault>
-    ensures retired { IfOk result (λ both. IsRetired (reader R.left R.failures input.old input.new) key digest
+    ensures retired { IfOk result (λ both. IsRetired (reader R.left R.failures input.old input.new) key.now digest.now
         (stream W.held W.failures draft.old draft.new) both.0 both.1) }
     ensures stopped { IfErr result (λ fault. StopsAmidst
-        (retire (reader R.left R.failures input.old input.new) key digest)
+        (retire (reader R.left R.failures input.old input.new) key.now digest.now)
         (IsKnown (reader R.left R.failures input.old input.new))
         (writer W.held W.failures draft.old draft.new) fault) }
     ensures taken { IfErr result (HasTaken (writer W.held W.failures draft.old draft.new)) }
 {
-    let retirements = [retirement(key, digest)];
+    let retirements = [retirement(*key, *digest)];
     let mut text = LentText::new(&retirements);
     let (sizes, told) = tell_input(heap, input, &mut text, draft)?;
     Ok((sizes, told[0]))
+}
+
+/// Puts OUT in place, whose draft has taken a whole text, and writes the line of the retirement and the sizes to the
+/// report. What is said is of all that the draft took since it was `start`.
+fn publish_retired<T: Target, P: Sink>(
+    heap: Heap,
+    merged: (Sizes, bool),
+    key: SliceKey,
+    digest: Digest,
+    out: &mut Output<T::Draft, T>,
+    report: &mut P,
+) -> Result<Status, CommandFault>
+    ensures { (start : T.Draft) (text : List ℕ)
+        → Takes (writer T.Draft.held T.Draft.failures start out.old.draft) text
+        → merged.0.bytes ≡ length text
+        → Publishes (out_of (outs T.Draft.held T.Draft.failures T.placed T.failures
+        (record { draft = start; target = out.old.target }) out.new))
+        (writer P.held P.failures report.old report.new) text
+        (retire_line merged.1 key digest ++ archive_line merged.0) result }
+{
+    let lines = retire_line(heap, merged.1, key, digest)?;
+    publish_draft(lines, merged.0, out, report)
 }
 
 /// Writes IN's archive to OUT with the retirement of the slices under the key that have the digest, and to the report
@@ -67,7 +90,6 @@ pub fn run_retire<R: Source, T: Target, P: Sink>(
         (out_of (outs T.Draft.held T.Draft.failures T.placed T.failures out.old out.new))
         (writer P.held P.failures report.old report.new) result }
 {
-    let (sizes, changed) = retire_input(&heap, input, key, digest, &mut out.draft)?;
-    let lines = retire_line(heap, changed, key, digest)?;
-    publish_draft(lines, sizes, out, report)
+    let merged = retire_input(&heap, input, &key, &digest, &mut out.draft)?;
+    publish_retired(heap, merged, key, digest, out, report)
 }

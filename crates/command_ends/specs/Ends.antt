@@ -134,6 +134,23 @@ abbrev pub EndsAsItComes : Command → Type 0 → Out → Writer → Result Stat
 EndsAsItComes command Known out report result =
     EndsStreamed (writes_amidst command Known out.draft) out report result
 
+-- What stops a command that reads what is behind its first input before that one: the same; or memory was wanted to test the
+-- first input, where this holds, and nothing was written.
+abbrev pub StopsInTurn : Command → Type 0 → Type 0 → Writer → CommandFault → Type 0
+StopsInTurn command Wants Known draft (Input place why) = StopsAmidst command Known draft (Input place why)
+StopsInTurn command Wants Known draft (Output n) = StopsAmidst command Known draft (Output n)
+StopsInTurn command Wants Known draft (Report n) = ⊥
+StopsInTurn command Wants Known draft OutOfMemory =
+    StopsAmidst command Known draft OutOfMemory ⊎ (Wants × Takes draft [])
+
+-- such a command, as one of those
+abbrev pub writes_in_turn : Command → Type 0 → Type 0 → Writer → Streamed
+writes_in_turn command Wants Known draft = record {
+  Makes = command.Makes;
+  Stops = StopsInTurn command Wants Known draft;
+  Unfailed = command.Unfailed;
+}
+
 -- A command that only reports, with its input: the status and the text that an accepted input makes, whether it is
 -- refused, and why, and that its reader does not fail.
 pub record Query : Type 1 where

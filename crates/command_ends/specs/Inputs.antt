@@ -227,12 +227,25 @@ abbrev pub IsRefusedInTurn : {S : Type 0} → Reader S → (Place → Why → Ty
 IsRefusedInTurn input IsRefusedBehind at why =
     IsRefusedArchive 0 input at why ⊎ (IsArchive input × Unfailed input × IsRefusedBehind at why)
 
+-- An input behind the first one was refused, and the first one, which was being tested, did not fail.
+abbrev pub IsWantedInTurn : {S : Type 0} → Reader S → (Place → Why → Type 0) → Type 0
+IsWantedInTurn input IsRefusedBehind = Unfailed input × ((at : Place) × (why : Why) × IsRefusedBehind at why)
+
 -- The fault is that of an input, of which this holds, or want of memory, where this does.
 abbrev pub IsRefusal : (Place → Why → Type 0) → Type 0 → CommandFault → Type 0
 IsRefusal Refused Unfailed (Input place why) = Refused place why
 IsRefusal Refused Unfailed (Output _) = ⊥
 IsRefusal Refused Unfailed (Report _) = ⊥
 IsRefusal Refused Unfailed OutOfMemory = Unfailed
+
+-- What is told where this was told of an input behind the first one: a refusal in turn, after the first input was tested; or,
+-- if memory was wanted, that, and the first input is as it was.
+abbrev pub TellsInTurn : {S : Type 0} → Reader S → CommandFault → CommandFault → Type 0
+TellsInTurn input (Input at why) told =
+    IsRefusal (IsRefusedInTurn input (λ place reason. (place ≡ at) × (reason ≡ why))) (Unfailed input) told
+TellsInTurn input (Output n) told = (told ≡ Output n) × IsUntouched input
+TellsInTurn input (Report n) told = (told ≡ Report n) × IsUntouched input
+TellsInTurn input OutOfMemory told = (told ≡ OutOfMemory) × IsUntouched input
 
 -- The input was opened, and these are its bytes.
 abbrev pub IsGiven : {S : Type 0} → Reader S → List ℕ → Type 0

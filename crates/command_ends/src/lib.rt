@@ -26,6 +26,7 @@ pub use publishing::{
 };
 pub use sources::{
     answer_input, opened, read_crash, read_entries, read_events, read_file, read_input,
-    read_input_part, read_operations, read_rows, read_summary_input, refusal, test_input,
+    read_input_part, read_operations, read_rows, read_summary_input, refusal, refused_behind,
+    test_input,
 };
 pub use statuses::status_of;

@@ -14,7 +14,8 @@ ghost use Rattle.command_ends.specs.declared.faults.CommandFault.TheVariants.{In
 ghost use Rattle.command_ends.specs.declared.faults.Why.TheVariants.{CannotOpen as NotOpened, Record};
 ghost use Rattle.command_ends.specs.Inputs.{Gives, Holds, HoldsArchive, HoldsContent, HoldsPart, IsArchive, IsRefusal};
 ghost use Rattle.command_ends.specs.Inputs.{IsRefusedArchive, IsRefusedFile, IsRefusedFrames, IsRefusedOps};
-ghost use Rattle.command_ends.specs.Inputs.{IsRefusedScript, IsRefusedSummary, IsUnread, Unfailed, reader};
+ghost use Rattle.command_ends.specs.Inputs.{IsRefusedScript, IsRefusedSummary, IsUnread, TellsInTurn, Unfailed};
+ghost use Rattle.command_ends.specs.Inputs.{reader};
 ghost use Rattle.command_ends.specs.InnerSources.{LendsSource};
 
 use crate::faults::{CommandFault, Place, Why};
@@ -92,6 +93,24 @@ pub fn test_input<R: Source>(
     match test_archive(heap, source) {
         Ok(()) => Ok(()),
         Err(fault) => Err(refusal(at, fault)),
+    }
+}
+
+/// What is told where this was told of an input behind the archive: if that one is refused, its refusal, after the
+/// archive was tested to its end, or the archive's own fault, if it has one.
+pub fn refused_behind<R: Source>(
+    heap: Heap,
+    input: &mut Result<R, CannotOpen>,
+    fault: CommandFault,
+) -> CommandFault
+    ensures { TellsInTurn (reader R.left R.failures input.old input.new) fault result }
+{
+    match fault {
+        CommandFault::Input(at, why) => match test_input(heap, 0, input) {
+            Ok(()) => CommandFault::Input(at, why),
+            Err(first) => first,
+        },
+        other => other,
     }
 }
 

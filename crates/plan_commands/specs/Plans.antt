@@ -15,7 +15,7 @@ use Rattle.archive_files.specs.declared.replaceable.Replaces.{Replaces}
 use Rattle.archive_files.specs.declared.replaceable.Replaces.TheVariants.{OwnFiles, ArchivesBelow}
 use Rattle.archive_updates.specs.Admit.{admit}
 use Rattle.archive_updates.specs.Apply.{apply}
-use Rattle.archive_updates.specs.Delta.{delta}
+use Rattle.archive_updates.specs.Delta.{delta_as_it_comes}
 use Rattle.command_ends.specs.Ends.{Command, Ends, EndsReport, EndsStreamed, Query, Streamed, writes_amidst}
 use Rattle.archive_queries.specs.Find.{find}
 use Rattle.archive_queries.specs.Frames.{frames}
@@ -99,7 +99,8 @@ deed_of (plan.Symbolicate _ uuid arch load addresses) (archive ∷ _) out =
     answers (symbolicate archive (key_of uuid arch) load addresses.now)
 deed_of (plan.Frames _ _) (crash ∷ archive ∷ _) out = answers (frames crash archive)
 deed_of (plan.Summary _ _) (archive ∷ _) out = changes (summary archive)
-deed_of (plan.Delta _ _ _) (archive ∷ named ∷ _) out = changes (delta archive named)
+deed_of (plan.Delta _ _ _) (archive ∷ named ∷ _) out =
+    streams (delta_as_it_comes archive named (out_of out).draft)
 deed_of (plan.Rehearse _) (script ∷ _) out = answers (rehearse script)
 deed_of _ _ out = none
 

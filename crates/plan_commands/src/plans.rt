@@ -387,7 +387,7 @@ pub fn execute<A: Archive + Drop, L: Archive + Drop, S: Source, T: Target, P: Si
         },
         Plan::Summary { .. } => run_summary(heap, first, out, report),
         Plan::Delta { .. } => match others {
-            [summary] => run_delta::<A, _, _, _, _>(heap, first, summary, out, report),
+            [summary] => run_delta(heap, first, summary, out, report),
             _ => unreachable!(),
         },
         Plan::Rehearse { .. } => run_rehearse::<A, _, _>(heap, first, report),
