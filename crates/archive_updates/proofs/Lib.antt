@@ -9,3 +9,5 @@ pub mod Migrated
 pub mod Copied
 pub mod Unnamed
 pub mod Deltas
+pub mod Behind
+pub mod Merged
