@@ -1,5 +1,6 @@
 -- `merge` of several FILEs: their join, and IN merged with it.
-use Rattle.std.proofs.Common.{◌≡◌, ◌++◌, ◌||◌, ℕ, Bool, true, false, List, [], ◌∷◌, Option, Some, None, Result, Ok, Err, refl, ap, sym, ◌∙◌, inl, length}
+use Rattle.std.proofs.Common.{◌≡◌, ◌++◌, ◌||◌, ℕ, Bool, true, false, List, [], ◌∷◌, Option, Some, None, Result, Ok, Err, refl, ap, sym, subst, ◌∙◌, inl}
+use Rattle.std.specs.Prelude.{IfOk, OnOk}
 use Rattle.std.specs.Ordering.{nat_cmp}
 use Rattle.std.specs.Cmp.Lexicographic.{slice_cmp, nat_list_cmp_total}
 use Rattle.std.specs.List.{AllByRecursion, AllZip}
@@ -32,6 +33,12 @@ one_text a b same = ap text_of same
     text_of : Option (List ℕ) → List ℕ
     text_of (Some t) = t
     text_of None = []
+
+-- the text in memory is that of the join of the files
+pub text_of_join : {S G E : Type 0} (held : G → Option (List ℕ)) (r : Result G E) (files : List (Reader S)) (none p : Operations) → none ≡ set.empty → HasJoined files none p → IfOk r (λ text. held text ≡ Some (written p)) → OnOk r (IsContent p)
+    → IfOk r (λ text. (q : Operations) × IsContent q × (held text ≡ Some (written q)) × HasJoined files set.empty q)
+text_of_join held (Ok text) files none p is j there content = (p, content, there, subst (λ (o : Operations). HasJoined files o p) is j)
+text_of_join held (Err e) files none p is j there content = tt
 
 -- ---- one content after another
 
