@@ -1,9 +1,10 @@
 //! The commands that write OUT, over any archive, sources and sinks.
 //!
-//! `merge` of one FILE and `migrate` write OUT while they read; each other one reads all its inputs first.
+//! `merge`, `migrate` and `delta` write OUT as their first input comes; each other one reads all its inputs first.
 //!
 //! - `new`, `admit`, `retire`, `merge`, `migrate`, `apply`, `summary`, `delta`: a command each;
-//! - `joining`: IN, merged with an archive that is at hand.
+//! - `joining`: IN, merged with an archive that is at hand;
+//! - `copying`: what a summary does not name of an archive.
 #![tactic(auto)]
 
 mod admit;

@@ -83,21 +83,6 @@ EndsStreamed command out report (Err (Report n)) =
 EndsStreamed command out report (Err OutOfMemory) =
     IsStopped command out report OutOfMemory ⊎ (command.Unfailed × Carries command.Makes out report (Err OutOfMemory))
 
--- what stops a command that writes nothing before all its inputs are accepted
-abbrev pub StopsFirst : Command → Writer → CommandFault → Type 0
-StopsFirst command draft (Input place why) = command.Refuses place why × Takes draft []
-StopsFirst command draft (Output n) = ⊥
-StopsFirst command draft (Report n) = ⊥
-StopsFirst command draft OutOfMemory = command.Unfailed × Takes draft []
-
--- such a command, as one of those
-abbrev pub reads_first : Command → Writer → Streamed
-reads_first command draft = record {
-  Makes = command.Makes;
-  Stops = StopsFirst command draft;
-  Unfailed = command.Unfailed;
-}
-
 -- Of the text that accepted inputs make, if all their bytes are known, the draft has exactly the first n bytes, and fewer
 -- than all.
 abbrev pub HasFirst : Command → Type 0 → Writer → ℕ → Type 0
