@@ -151,18 +151,18 @@ module _ {R S : Type 0} (input : Reader R) (files : List (Reader S)) (out : Out)
         told_is = m.told_is;
       })
       (λ known text told m.
-          let same = same_contents files m.makes.contents j.contents m.makes.are_contents j.are_contents known.1 m.makes.files_are j.files_are in
-          record {
-            content = m.content;
-            lines = m.lines;
-            makes = record {
-              before = m.makes.before;
-              is_content = m.makes.is_content;
-              archive = m.makes.archive;
-              content_is = m.makes.content_is ∙ ap (merged m.makes.before) same ∙ merged_again m.makes.before j.contents m.makes.is_content.itself j.are_contents ∙ ap (joined m.makes.before) (sym j.content);
-              lines_are = m.makes.lines_are;
-            };
-            text_is = m.text_is;
-            told_is = m.told_is;
-          })
+      let same = same_contents files m.makes.contents j.contents m.makes.are_contents j.are_contents known.1 m.makes.files_are j.files_are in
+      record {
+        content = m.content;
+        lines = m.lines;
+        makes = record {
+          before = m.makes.before;
+          is_content = m.makes.is_content;
+          archive = m.makes.archive;
+          content_is = m.makes.content_is ∙ ap (merged m.makes.before) same ∙ merged_again m.makes.before j.contents m.makes.is_content.itself j.are_contents ∙ ap (joined m.makes.before) (sym j.content);
+          lines_are = m.makes.lines_are;
+        };
+        text_is = m.text_is;
+        told_is = m.told_is;
+      })
       (λ at why r. inl r) (λ u. (u, unfailed)) (λ known. known.0) result
