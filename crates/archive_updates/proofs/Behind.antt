@@ -1,5 +1,5 @@
 -- How a command ends that reads what is behind its first input before that one, where that is refused or memory is wanting.
-use Rattle.std.proofs.Common.{◌≡◌, ◌⊎◌, List, [], ℕ, Result, Ok, Err, ap, inl, inr, sym, subst}
+use Rattle.std.proofs.Common.{◌≡◌, ◌⊎◌, List, [], ℕ, Result, Err, ap, inl, inr, sym, subst}
 use Rattle.archive_core.specs.Content.{Operations}
 use Rattle.command_ends.specs.declared.faults.CommandFault.{CommandFault}
 use Rattle.command_ends.specs.declared.faults.CommandFault.TheVariants.{Input, Output, Report, OutOfMemory}

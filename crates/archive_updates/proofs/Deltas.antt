@@ -1,5 +1,5 @@
 -- What `delta` makes, by a copy of what a summary does not name.
-use Rattle.std.proofs.Common.{◌≡◌, ◌∙◌, ◌++◌, ◌⊎◌, ℕ, List, [], length, Option, Some, Result, Ok, Err, refl, ap, sym, subst, inl, inr}
+use Rattle.std.proofs.Common.{◌≡◌, ◌∙◌, ◌++◌, ℕ, List, [], Option, Result, Ok, Err, refl, ap, sym, subst, inl}
 use Rattle.archive_core.specs.Summary.{Entries, delta}
 use Rattle.archive_records.specs.Entry.{AreEntries}
 use Rattle.archive_records.specs.declared.fault.MergeCause.{MergeCause}
@@ -14,12 +14,10 @@ use Rattle.byte_device.specs.Writes.{WritesFirst}
 use Rattle.report_text.specs.Report.{archive_line}
 use Rattle.command_ends.specs.declared.faults.CommandFault.{CommandFault}
 use Rattle.command_ends.specs.declared.faults.CommandFault.TheVariants.{Input, Output, Report, OutOfMemory}
-use Rattle.command_ends.specs.declared.faults.Place.{Place}
 use Rattle.command_ends.specs.declared.faults.Status.{Status}
-use Rattle.command_ends.specs.declared.faults.Why.{Why}
 use Rattle.command_ends.specs.Ends.{EndsAsItComes, EndsStreamed, HasFirst, HasTaken, MakesArchive, StopsAmidst}
 use Rattle.command_ends.specs.Inputs.{Holds, IsKnown, IsRefusedArchive, IsRefusedInTurn, IsRefusedSummary, IsWantedInTurn, Reader, Unfailed, reader}
-use Rattle.command_ends.specs.Outputs.{IsKept, Out, Outs, PlacesNothing, Publishes, Takes, Writer, out_of, report_of, writer}
+use Rattle.command_ends.specs.Outputs.{IsKept, Out, PlacesNothing, Publishes, Takes, Writer, writer}
 use Rattle.command_ends.proofs.Amidst.{ends_in_turn, gives_known, nothing_first, published_amidst, stopped_amidst}
 use Rattle.archive_updates.specs.Copying.{CopiesUnnamed, IsUnnamed, MakesUnnamed, StopsCopy, StopsCopyBy, copying}
 use Rattle.archive_updates.specs.Delta.{MakesDelta, delta_as_it_comes}
