@@ -36,8 +36,8 @@ IsMergeFaultTold e (Output n) = e ≡ record { cause = Write; written = n }
 IsMergeFaultTold e (Report n) = ⊥
 IsMergeFaultTold e OutOfMemory = WantsMemory e.cause
 
--- The merge of both inputs was stopped, and this is told. The draft has what the merge leaves, as many bytes as its fault
--- says.
+-- The merge of both inputs was stopped, and this is told. The draft has what the merge leaves, as many bytes as its
+-- fault says.
 pub record StopsMerge {R S D : Type 0} (left : Stream R) (right : Stream S) (draft : Stream D) (fault : CommandFault)
     : Type 0 where
   pub stopped : MergeFault

@@ -1,7 +1,7 @@
 //! How a command reads its inputs, and how it ends.
 //!
-//! A command reads its inputs, each opened beforehand and refused in the order of the words, and writes OUT, as its first
-//! input comes or after all were read; OUT is put in place when it is whole, and after that the report is written.
+//! A command reads its inputs, each opened beforehand and refused in the order of the words, and writes OUT, as its
+//! first input comes or after all were read. OUT is put in place when it is whole, and after that comes the report.
 //!
 //! - `faults`: how a command ends, and why one is refused;
 //! - `failures`: the line that the program says where it fails;

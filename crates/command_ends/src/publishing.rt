@@ -2,7 +2,8 @@
 ghost use Rattle.std.specs.Prelude.{◌≡◌, ◌++◌, ℕ, List, [], length, string_bytes};
 ghost use Rattle.archive_records.specs.Text.{summary_text, written};
 ghost use Rattle.report_text.specs.Report.{archive_line};
-ghost use Rattle.command_ends.specs.Outputs.{Publishes, Reports, Takes, out_of, outs, report_of, summary_report_of, writer};
+ghost use Rattle.command_ends.specs.Outputs.{Publishes, Reports, Takes, out_of, outs, report_of, summary_report_of};
+ghost use Rattle.command_ends.specs.Outputs.{writer};
 
 use crate::faults::{CommandFault, Status};
 use crate::outputs::{Output, Target, put_in_place};
