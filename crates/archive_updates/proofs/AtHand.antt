@@ -1,5 +1,5 @@
 -- IN's archive, merged with one that is at hand: what came of it.
-use Rattle.std.proofs.Common.{◌≡◌, ℕ, List, [], length, MatchResult, Option, Some, Result, min, ◌+◌, Ok, Err, refl, ap, sym, ◌∙◌, subst, arith, ◌⊎◌, inl, inr}
+use Rattle.std.proofs.Common.{◌≡◌, ℕ, List, length, MatchResult, Option, Result, min, ◌+◌, Ok, Err, refl, ap, sym, ◌∙◌, subst, arith, ◌⊎◌, inl, inr}
 use Rattle.std.specs.FinSet as set
 use Rattle.archive_core.specs.Content.{Operations, IsContent, joined}
 use Rattle.archive_records.specs.declared.fault.MergeCause.{MergeCause}
@@ -17,13 +17,11 @@ use Rattle.byte_device.specs.Writes.{WritesFirst}
 use Rattle.record_merge.specs.Merging.{GainsCount, IsMerged, IsRefusedAlone, Merges, StopsBy}
 use Rattle.command_ends.specs.declared.faults.CommandFault.{CommandFault}
 use Rattle.command_ends.specs.declared.faults.CommandFault.TheVariants.{Input, Output, Report, OutOfMemory}
-use Rattle.command_ends.specs.declared.faults.Place.{Place}
-use Rattle.command_ends.specs.declared.faults.Why.{Why}
 use Rattle.command_ends.specs.Ends.{HasFirst, HasTaken, StopsAmidst}
 use Rattle.command_ends.specs.Inputs.{IsKnown, Reader, reader}
 use Rattle.command_ends.specs.Outputs.{Writer, sizes_of, writer}
 use Rattle.command_ends.proofs.Amidst.{gives_known}
-use Rattle.archive_updates.specs.Joining.{IsAtHand, IsJoined, MakesJoin, joining}
+use Rattle.archive_updates.specs.Joining.{IsAtHand, IsJoined, joining}
 use Rattle.archive_updates.specs.MergeStreams.{IsMergeFaultTold}
 use Rattle.archive_updates.proofs.Beginnings.{first_of_join}
 

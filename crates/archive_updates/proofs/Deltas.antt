@@ -1,5 +1,5 @@
 -- What `delta` makes, by a copy of what a summary does not name.
-use Rattle.std.proofs.Common.{◌≡◌, ◌∙◌, ◌++◌, ◌⊎◌, ℕ, List, [], length, Option, Some, Result, Ok, Err, refl, ap, sym, subst, inl, inr}
+use Rattle.std.proofs.Common.{◌≡◌, ◌∙◌, ◌++◌, ℕ, List, [], Option, Result, Ok, Err, refl, ap, sym, subst, inl}
 use Rattle.archive_core.specs.Summary.{Entries, delta}
 use Rattle.archive_records.specs.Entry.{AreEntries}
 use Rattle.archive_records.specs.declared.fault.MergeCause.{MergeCause}
@@ -14,13 +14,11 @@ use Rattle.byte_device.specs.Writes.{WritesFirst}
 use Rattle.report_text.specs.Report.{archive_line}
 use Rattle.command_ends.specs.declared.faults.CommandFault.{CommandFault}
 use Rattle.command_ends.specs.declared.faults.CommandFault.TheVariants.{Input, Output, Report, OutOfMemory}
-use Rattle.command_ends.specs.declared.faults.Place.{Place}
 use Rattle.command_ends.specs.declared.faults.Status.{Status}
-use Rattle.command_ends.specs.declared.faults.Why.{Why}
 use Rattle.command_ends.specs.Ends.{EndsAsItComes, EndsStreamed, HasFirst, HasTaken, MakesArchive, StopsAmidst}
-use Rattle.command_ends.specs.Inputs.{Holds, IsKnown, IsRefusal, IsRefusedArchive, IsRefusedInTurn, IsRefusedSummary, IsWantedInTurn, Reader, TellsInTurn, Unfailed, failures_of, reader}
-use Rattle.command_ends.specs.Outputs.{IsKept, Out, Outs, PlacesNothing, Publishes, Takes, Writer, out_of, report_of, writer}
-use Rattle.command_ends.proofs.Amidst.{ends_in_turn, gives_known, nothing_first, published_amidst, refused_in_turn, stopped_amidst}
+use Rattle.command_ends.specs.Inputs.{Holds, IsKnown, IsRefusedArchive, IsRefusedInTurn, IsRefusedSummary, IsWantedInTurn, Reader, Unfailed, reader}
+use Rattle.command_ends.specs.Outputs.{IsKept, Out, PlacesNothing, Publishes, Takes, Writer, writer}
+use Rattle.command_ends.proofs.Amidst.{ends_in_turn, gives_known, nothing_first, published_amidst, stopped_amidst}
 use Rattle.archive_updates.specs.Copying.{CopiesUnnamed, IsUnnamed, MakesUnnamed, StopsCopy, StopsCopyBy, copying}
 use Rattle.archive_updates.specs.Delta.{MakesDelta, delta_as_it_comes}
 use Rattle.archive_updates.specs.MergeStreams.{IsMergeFaultTold}
@@ -144,27 +142,3 @@ module _ {R S : Type 0} (archive : Reader R) (left : S → Option (List ℕ)) (f
         told_is = m.told_is;
       })
       (λ at why r. inl r) (λ u. (u, unfailed)) (λ known. known.0) result
-
-  refuses : (fault : CommandFault) → IsRefusal (IsRefusedInTurn archive (IsRefusedSummary summary)) ((Unfailed archive × Unfailed summary) ⊎ IsWantedInTurn archive (IsRefusedSummary summary)) fault → IsKept out → Takes report [] → EndsSo (Err fault)
-  refuses = refused_in_turn (MakesDelta archive summary) (IsRefusedInTurn archive (IsRefusedSummary summary)) (Unfailed archive × Unfailed summary) (IsWantedInTurn archive (IsRefusedSummary summary)) (IsKnown archive × IsKnown summary) out report
-
-  -- or refused
-  unnamed_refused : (at : Place) (why : Why) → IsRefusedSummary summary at why → (fault : CommandFault) → IsRefusal (IsRefusedInTurn archive (λ place reason. (place ≡ at) × (reason ≡ why))) (Unfailed archive) fault → IsKept out → Takes report [] → EndsSo (Err fault)
-  unnamed_refused at why refused (Input place reason) r = refuses (Input place reason) (elim r [
-    | inl first ↦ inl first
-    | inr behind ↦ inr (behind.0, behind.1, subst (λ (p : Place). IsRefusedSummary summary p reason) (sym behind.2.0) (subst (λ (y : Why). IsRefusedSummary summary at y) (sym behind.2.1) refused))
-  ])
-  unnamed_refused at why refused (Output n) r = absurd r
-  unnamed_refused at why refused (Report n) r = absurd r
-  unnamed_refused at why refused OutOfMemory r = refuses OutOfMemory (inr (r, (at, why, refused)))
-
-  -- or memory was wanted for it
-  pub wanting : Unfailed archive → Unfailed summary → IsKept out → Takes report [] → EndsSo (Err OutOfMemory)
-  wanting unfailed summary_unfailed = refuses OutOfMemory (inl (unfailed, summary_unfailed))
-
-  -- so, whichever it is
-  pub unnamed_behind : (fault told : CommandFault) → IsRefusal (IsRefusedSummary summary) (Unfailed summary) fault → TellsInTurn archive fault told → IsKept out → Takes report [] → EndsSo (Err told)
-  unnamed_behind (Input at why) told r t = unnamed_refused at why r told t
-  unnamed_behind (Output n) told r t = absurd r
-  unnamed_behind (Report n) told r t = absurd r
-  unnamed_behind OutOfMemory told r t = rw t.0 (wanting (ap (failures_of archive.failures) t.1) r)

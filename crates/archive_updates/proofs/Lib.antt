@@ -11,3 +11,5 @@ pub mod Tellings
 pub mod Retired
 pub mod Unnamed
 pub mod Deltas
+pub mod Behind
+pub mod Merged

@@ -1,5 +1,5 @@
 -- How `merge` ends, with one FILE and with others, from what its parts did.
-use Rattle.std.proofs.Common.{◌≡◌, ℕ, List, [], ◌∷◌, length, MatchResult, Option, Some, Result, Ok, Err, refl, ap, sym, ◌∙◌, subst, inl, inr}
+use Rattle.std.proofs.Common.{◌≡◌, ℕ, List, [], ◌∷◌, length, Option, Some, Result, Ok, Err, refl, ap, sym, ◌∙◌, subst, inl, inr}
 use Rattle.archive_core.specs.Content.{Operations, IsContent, joined}
 use Rattle.archive_records.specs.declared.fault.MergeCause.{MergeCause}
 use Rattle.archive_records.specs.declared.fault.MergeCause.TheVariants.{Left, Right, Write}
@@ -16,13 +16,12 @@ use Rattle.command_ends.specs.declared.faults.CommandFault.TheVariants.{Input, O
 use Rattle.command_ends.specs.declared.faults.Place.{Place}
 use Rattle.command_ends.specs.declared.faults.Status.{Status}
 use Rattle.command_ends.specs.declared.faults.Why.{Why}
-use Rattle.command_ends.specs.Ends.{Carries, Ends, EndsStreamed, IsStopped, MakesArchive, Streamed}
+use Rattle.command_ends.specs.Ends.{Carries, EndsStreamed, IsStopped, MakesArchive, Streamed}
 use Rattle.command_ends.specs.Inputs.{Reader, reader, Unfailed, EachUnfailed, IsDeviceFault, IsGivenArchive}
 use Rattle.archive_updates.proofs.AtHand.{counted, sizes_are}
-use Rattle.archive_updates.specs.Merge.{MakesMerged, merge}
+use Rattle.archive_updates.specs.Merge.{MakesMerged, merge_in_turn}
 use Rattle.archive_updates.specs.MergeStreams.{IsMergeFaultTold, IsSide, StopsMerge, StopsMergeOfOne, merge_as_it_comes, merge_of_one}
 use Rattle.command_ends.specs.Outputs.{Out, Outs, Writer, FailsAt, PlacesNothing, Publishes, Takes, draft_of, out_of, report_of}
-use Rattle.command_ends.proofs.Endings.{as_streamed}
 use Rattle.command_ends.proofs.Readers.{by_device}
 
 -- ---- one FILE, which was opened, as IN was
@@ -110,11 +109,11 @@ module _ {R S D T : Type 0} (left : R → Option (List ℕ)) (failures : R → �
 -- ---- more than one FILE, or none
 
 module _ {R S D T : Type 0} (input : Reader R) (out : Outs D T) (report : Writer) (result : Result Status CommandFault) where
-  pub of_many : (files : List (Reader S)) → (length files ≡ 1 → ⊥) → Ends (merge input files) (out_of out) report result
+  pub of_many : (files : List (Reader S)) → (length files ≡ 1 → ⊥) → EndsStreamed (merge_in_turn input files (out_of out).draft) (out_of out) report result
       → EndsStreamed (merge_as_it_comes input files out) (out_of out) report result
-  of_many [] many e = as_streamed (merge {S = S} input []) (out_of out) report result e
+  of_many [] many e = e
   of_many (_ ∷ []) many e = absurd (many refl)
-  of_many (file ∷ next ∷ more) many e = as_streamed (merge input (file ∷ next ∷ more)) (out_of out) report result e
+  of_many (file ∷ next ∷ more) many e = e
 
 -- ---- accepted inputs
 

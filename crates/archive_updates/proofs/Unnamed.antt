@@ -1,10 +1,10 @@
 -- A copy of those records of an archive that a summary does not name, by the texts.
-use Rattle.std.proofs.Common.{◌≡◌, ℕ, ◌+◌, ◌≤◌, ◌<◌, List, [], ◌∷◌, ◌++◌, length, take, MatchResult, Option, Some, Result, Ok, Err, refl, sym, ap, ◌∙◌, subst, arith, inl, inr, append_assoc, length-append, length-take-le}
-use Rattle.std.proofs.lemmas.List.{append-nil, take-append-le}
+use Rattle.std.proofs.Common.{◌≡◌, ℕ, ◌≤◌, ◌<◌, List, [], ◌∷◌, ◌++◌, length, take, MatchResult, Option, Some, Result, Ok, Err, refl, sym, ap, ◌∙◌, subst, arith, inl, inr, append_assoc, length-append, length-take-le}
+use Rattle.std.proofs.lemmas.List.{take-append-le}
 use Rattle.std.specs.Prelude.{IfOk, IfErr, OnOk}
 use Rattle.std.specs.List.{concat}
 use Rattle.std.specs.FinSet as set
-use Rattle.std.specs.Io.KnownBytes.{Appends, Consumes, IsAtEnd}
+use Rattle.std.specs.Io.KnownBytes.{Appends, IsAtEnd}
 use Rattle.archive_core.specs.Content.{Operations, IsContent}
 use Rattle.archive_core.specs.Summary.{Entries, delta}
 use Rattle.archive_records.specs.declared.fault.MergeCause.{MergeCause}
@@ -14,13 +14,12 @@ use Rattle.archive_records.specs.declared.format.Format.{Format}
 use Rattle.archive_records.specs.declared.format.Format.TheVariants.{Archive, OldArchive, Operations as Operations_file, Summary as Summary_file}
 use Rattle.archive_records.specs.declared.kind.TextKind.TheVariants.{Archive as Archive_text}
 use Rattle.archive_records.specs.declared.writing.Sizes.{Sizes}
-use Rattle.archive_records.specs.Kind.{archive_format, kind_of, magic, magic_of}
+use Rattle.archive_records.specs.Kind.{kind_of, magic, magic_of}
 use Rattle.archive_records.specs.Reader.{IsGathered, set_of}
-use Rattle.archive_records.specs.Text.{end_record, ending, missing, written, taken_of, text_of, kept, InOrder, AreApart, IsArchiveOf}
+use Rattle.archive_records.specs.Text.{end_record, ending, missing, written, taken_of, InOrder, IsArchiveOf}
 use Rattle.archive_records.specs.Writing.{IsWrittenWhole}
 use Rattle.byte_device.specs.Devices.{stream}
 use Rattle.byte_device.specs.Writes.{WritesFirst}
-use Rattle.archive_records.proofs.Ascending.{InOrder-behind}
 use Rattle.archive_records.proofs.Ends.{length-end_record}
 use Rattle.archive_records.proofs.Formats.{format_magic, in_order_old, no_operations_text, no_summary_text}
 use Rattle.archive_records.proofs.Inputs.{archive_whole}
@@ -28,7 +27,6 @@ use Rattle.archive_records.proofs.KeptRecords.{behind, kept_more}
 use Rattle.archive_records.proofs.Puts.{delta_count, delta_parts}
 use Rattle.archive_records.proofs.Versions.{Formed, formed, formed_content, formed_text, one_content}
 use Rattle.archive_reading.proofs.Made.{content_of, content_read, content_whole, taken_listing}
-use Rattle.record_merge.specs.Merging.{GainsCount}
 use Rattle.record_merge.proofs.Fronts.{before, front_of, taken_rest, text_whole}
 use Rattle.archive_updates.specs.Copying.{BlamesDevices, CopiesUnnamed, HasDraft, IsCause, IsCopiedToEnd, IsCopiedUpTo, IsCopiedWhole, StopsCopy, StopsCopyBy, copy_of}
 use Rattle.archive_updates.proofs.Beginnings.{good_formed}

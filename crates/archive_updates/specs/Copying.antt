@@ -1,5 +1,5 @@
--- A copy of those records of an archive that a summary does not name: the words of inner functions. No contract of a public
--- one has them.
+-- A copy of those records of an archive that a summary does not name: the words of inner functions. No contract of a
+-- public one has them.
 use Rattle.std.specs.Prelude.{◌≡◌, ℕ, ◌+◌, ◌≤◌, List, [], ◌++◌, length, take, Option, Some, Result, Ok, Err, ◌⊎◌}
 use Rattle.std.specs.List.{concat}
 use Rattle.std.specs.FinSet as set
@@ -35,8 +35,8 @@ pub record IsCopied (s : Entries) (w0 w1 : Option (List ℕ)) (records : List (L
   pub bytes_are : sizes.bytes ≡ length (copy_of s records)
   pub records_are : sizes.records ≡ length (missing s records)
 
--- The archive was read up to these records and these bytes behind them, and the first n bytes of what is written of them
--- were written.
+-- The archive was read up to these records and these bytes behind them, and the first n bytes of what is written of
+-- them were written.
 pub record IsCopiedUpTo (file : Format) (s : Entries) (a b w0 w1 : Option (List ℕ)) (n : ℕ) : Type 0 where
   pub records : List (List ℕ)
   pub rest : List ℕ
@@ -65,7 +65,8 @@ BlamesDevices left failures old new w_old w_new (Ok _) = (failures new ≡ failu
 BlamesDevices left failures old new w_old w_new (Err e) = BlamesOne left failures old new w_old w_new e.cause
 
 -- The whole text of an archive that is made of these records was written; these are its sizes.
-pub record IsCopiedWhole (s : Entries) (w0 w1 : Option (List ℕ)) (records : List (List ℕ)) (sizes : Sizes) : Type 0 where
+pub record IsCopiedWhole (s : Entries) (w0 w1 : Option (List ℕ)) (records : List (List ℕ)) (sizes : Sizes)
+    : Type 0 where
   pub written_is : Appends w0 w1 (copy_of s records ++ end_record (length (missing s records)))
   pub bytes_are : sizes.bytes ≡ length (copy_of s records ++ end_record (length (missing s records)))
   pub records_are : sizes.records ≡ length (missing s records)
@@ -77,7 +78,8 @@ pub record IsCopiedToEnd (file : Format) (s : Entries) (a b w0 w1 : Option (List
   pub at_end : IsAtEnd b
   pub ordered : InOrder file [] records
   pub apart : AreApart file records
-  pub first : WritesFirst w0 w1 (copy_of s (taken_of file records) ++ end_record (length (missing s (taken_of file records)))) n
+  pub first : WritesFirst w0 w1
+      (copy_of s (taken_of file records) ++ end_record (length (missing s (taken_of file records)))) n
 
 -- what was written where the copy was stopped: nothing, or the first bytes of what is written of what was read
 abbrev pub HasDraft : Entries → Option (List ℕ) → Option (List ℕ) → Option (List ℕ) → Option (List ℕ) → ℕ → Type 0
@@ -93,8 +95,8 @@ IsCause a b (Right fault) = ⊥
 IsCause a b Write = Unit {0}
 
 -- what stopped it in or behind the end record: more bytes, or the device; or the writer
-abbrev pub StopsEnd : Position → Option (List ℕ) → Option (List ℕ) → Option (List ℕ) → Option (List ℕ) → Sizes → MergeCause
-    → ℕ → Type 0
+abbrev pub StopsEnd : Position → Option (List ℕ) → Option (List ℕ) → Option (List ℕ) → Option (List ℕ) → Sizes
+    → MergeCause → ℕ → Type 0
 StopsEnd position a b w0 w1 sizes (Left fault) n =
     ((file : Format) (c : Option (List ℕ)) (records : List (List ℕ)) → end_length file ≡ Some 9
     → HasReadAll file c a records position → Stopped file c b records fault)
@@ -114,15 +116,17 @@ pub record CopiesUnnamed {R W : Type 0} (input : Stream R) (draft : Stream W) (s
   pub written_is : IsWrittenWhole draft.bytes draft.failures draft.old draft.new (set.len (delta content s))
       (written (delta content s)) sizes
 
--- why the copy was stopped: reading the input, and it alone, is refused so; or the writer failed, and the reader did not
+-- why the copy was stopped: reading the input, and it alone, is refused so; or the writer failed, and the reader did
+-- not
 abbrev pub StopsCopyBy : {R W : Type 0} → Stream R → Stream W → MergeCause → Type 0
 StopsCopyBy input draft (Left fault) = IsRefusedAlone input fault × IsUnfailed draft
 StopsCopyBy input draft (Right fault) = ⊥
 StopsCopyBy input draft Write = IsUnfailed input × FailedIn (draft.failures draft.old) (draft.failures draft.new)
 
--- It was stopped. Of what is written of an archive's text, if the input is one, exactly the first bytes were written, and
--- fewer than all.
-pub record StopsCopy {R W : Type 0} (input : Stream R) (draft : Stream W) (s : Entries) (e : MergeFault) : Type 0 where
+-- It was stopped. Of what is written of an archive's text, if the input is one, exactly the first bytes were written,
+-- and fewer than all.
+pub record StopsCopy {R W : Type 0} (input : Stream R) (draft : Stream W) (s : Entries) (e : MergeFault)
+    : Type 0 where
   pub by : StopsCopyBy input draft e.cause
   pub first : (o : Operations) (text : List ℕ) → IsContent o → IsArchiveOf o text
       → input.bytes input.old ≡ Some text
@@ -131,8 +135,8 @@ pub record StopsCopy {R W : Type 0} (input : Stream R) (draft : Stream W) (s : E
 
 -- ---- as a command
 
--- ARCHIVE is an archive's text, and this is the content of its operations that the entries do not name; there are no lines
--- but the sizes.
+-- ARCHIVE is an archive's text, and this is the content of its operations that the entries do not name; there are no
+-- lines but the sizes.
 pub record MakesUnnamed {R : Type 0} (archive : Reader R) (s : Entries) (content : Operations) (lines : List ℕ)
     : Type 0 where
   pub before : Operations

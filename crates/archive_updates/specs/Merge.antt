@@ -5,9 +5,10 @@ use Rattle.std.specs.FinSet as set
 use Rattle.archive_core.specs.Content.{Operations, IsContent, joined}
 use Rattle.command_ends.specs.declared.faults.Place.{Place}
 use Rattle.command_ends.specs.declared.faults.Place.TheVariants.{Archive}
-use Rattle.command_ends.specs.Ends.{Command, MakesArchive}
-use Rattle.command_ends.specs.Inputs.{Reader, Unfailed, EachUnfailed, EachUntouched, IsArchive, HoldsArchive}
-use Rattle.command_ends.specs.Inputs.{IsArchiveRefused, IsFirstRefused, IsRefusedInOrder}
+use Rattle.command_ends.specs.Ends.{Command, MakesArchive, Streamed, writes_in_turn}
+use Rattle.command_ends.specs.Inputs.{Reader, Unfailed, EachUnfailed, IsArchive, HoldsArchive, IsKnown, EachKnown}
+use Rattle.command_ends.specs.Inputs.{IsArchiveRefused, IsFirstRefused, IsRefusedInTurn, IsWantedInTurn}
+use Rattle.command_ends.specs.Outputs.{Writer}
 
 -- a content with others, one joined after another
 abbrev pub merged : Operations → List Operations → Operations
@@ -44,6 +45,13 @@ pub record MakesMerged {R S : Type 0} (input : Reader R) (files : List (Reader S
 abbrev pub merge : {R S : Type 0} → Reader R → List (Reader S) → Command
 merge input files = record {
   Makes = MakesArchive (MakesMerged input files);
-  Refuses = IsRefusedInOrder input (EachUntouched files) (IsFirstRefused file_place IsArchive IsArchiveRefused files);
+  Refuses = IsRefusedInTurn input (IsFirstRefused file_place IsArchive IsArchiveRefused files);
   Unfailed = Unfailed input × EachUnfailed files;
 }
+
+-- the same as IN comes, the files before it
+abbrev pub merge_in_turn : {R S : Type 0} → Reader R → List (Reader S) → Writer → Streamed
+merge_in_turn input files draft =
+    writes_in_turn (merge input files)
+    (IsWantedInTurn input (IsFirstRefused file_place IsArchive IsArchiveRefused files))
+    (IsKnown input × EachKnown files) draft

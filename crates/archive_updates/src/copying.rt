@@ -190,14 +190,14 @@ fn copy_taken<R: Source, W: Sink>(
     end_copy(&reader, r, w, sizes)
 }
 
-/// Writes the archive of those operations of the one that is read whose entries the summary does not have, in the memory
-/// of one record and of 57 bytes for each retirement, and says how large it is. Each slice is checked and hashed once,
-/// and none is copied.
+/// Writes the archive of those operations of the one that is read whose entries the summary does not have, in the
+/// memory of one record and of 57 bytes for each retirement, and says how large it is. Each slice is checked and hashed
+/// once, and none is copied.
 ///
 /// # Errors
 ///
-/// `Left` with the fault that `read_archive` of `archive_reading` gives; `Write` where the writer failed. The writer has
-/// a beginning of an archive then.
+/// `Left` with the fault that `read_archive` of `archive_reading` gives; `Write` where the writer failed. The writer
+/// has a beginning of an archive then.
 pub fn copy_unnamed<R: Source, W: Sink>(
     heap: Heap,
     summary: &Summary,

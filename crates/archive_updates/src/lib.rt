@@ -1,10 +1,11 @@
 //! The commands that write OUT, over any archive, sources and sinks.
 //!
-//! `merge` of one FILE, `migrate` and `retire` write OUT while they read; each other one reads all its inputs first.
+//! `merge`, `migrate`, `retire` and `delta` write OUT as their first input comes; each other one reads all its inputs first.
 //!
 //! - `new`, `admit`, `retire`, `merge`, `migrate`, `apply`, `summary`, `delta`: a command each;
 //! - `joining`: IN, merged with an archive that is at hand;
-//! - `telling`: IN, merged with operations that are at hand, and which of these were new.
+//! - `telling`: IN, merged with operations that are at hand, and which of these were new;
+//! - `copying`: what a summary does not name of an archive.
 #![tactic(auto)]
 
 mod admit;

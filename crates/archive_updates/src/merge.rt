@@ -1,20 +1,24 @@
 //! `merge IN OUT FILE...`.
-ghost use Rattle.std.specs.Prelude.{◌≡◌, ◌+◌, Ok, OnOk, IfErr};
+ghost use Rattle.std.specs.Prelude.{◌≡◌, ◌+◌, Ok, Some, OnOk, IfOk, IfErr};
+ghost use Rattle.std.specs.FinSet as set;
 ghost use Rattle.archive_core.specs.Content.{Operations, IsContent, joined};
 ghost use Rattle.archive_records.specs.Text.{written};
-ghost use Rattle.command_ends.specs.Ends.{Ends, EndsStreamed};
+ghost use Rattle.command_ends.specs.Ends.{EndsAsItComes, EndsStreamed};
+ghost use Rattle.command_ends.specs.declared.faults.CommandFault.TheVariants.{OutOfMemory};
 ghost use Rattle.command_ends.specs.Inputs.{EachUnfailed, IsArchive, IsArchiveRefused, IsFirstRefused};
-ghost use Rattle.command_ends.specs.Inputs.{HoldsArchive};
+ghost use Rattle.command_ends.specs.Inputs.{HoldsArchive, IsKnown};
 ghost use Rattle.command_ends.specs.Inputs.{IsRefusal, IsRefusedArchive, Unfailed, reader, readers};
-ghost use Rattle.archive_updates.specs.Merge.{HasJoined, file_place, merge};
+ghost use Rattle.archive_updates.specs.Joining.{joins};
+ghost use Rattle.archive_updates.specs.Merge.{HasJoined, file_place, merge_in_turn};
 ghost use Rattle.archive_updates.specs.MergeStreams.{merge_as_it_comes, merge_of_one};
 ghost use Rattle.command_ends.specs.Outputs.{draft_of, out_of, outs, writer};
 
-use crate::joining::command_fault_of;
+use crate::joining::{command_fault_of, join_input};
 use archive_core::{Archive, take_all};
-use byte_device::{CannotOpen, Sink, Source};
+use archive_records::write_archive;
+use byte_device::{Bytes, CannotOpen, Grown, Sink, Source};
 use command_ends::{
-    CommandFault, Output, Place, Status, Target, opened, publish, publish_draft, read_input,
+    CommandFault, Output, Place, Status, Target, opened, publish_draft, read_input, refused_behind,
 };
 use memory::Heap;
 use record_merge::merge_streams;
@@ -58,23 +62,74 @@ fn join_files<A: Archive + Drop, S: Source>(
     Ok(())
 }
 
-/// Writes the join of IN's archive with that of each file to OUT, and its sizes to the report. Each is read to its end
-/// before anything is written.
-fn merge_values<A: Archive + Drop, R: Source, S: Source, T: Target, P: Sink>(
+/// The text of the archive, in memory.
+fn text_in_memory<A: Archive>(heap: &Heap, archive: &A) -> Result<Grown, CommandFault>
+    ensures text { IfOk result (λ text. ⟦<Grown as Sink>⟧.held text ≡ Some (written (A.content archive.now))) }
+    ensures content { OnOk result (IsContent (A.content archive.now)) }
+    ensures wanting { IfErr result (λ fault. fault ≡ OutOfMemory) }
+{
+    let mut text = Grown::new(heap.clone()?);
+    match write_archive(archive, &mut text) {
+        Ok(_) => Ok(text),
+        Err(_) => Err(CommandFault::OutOfMemory),
+    }
+}
+
+/// The text of the join of the files' archives.
+fn joined_text<A: Archive + Drop, S: Source>(
+    heap: &Heap,
+    files: &mut [Result<S, CannotOpen>],
+) -> Result<Grown, CommandFault>
+    ensures joined { IfOk result (λ text. (p : Operations) × IsContent p
+        × (⟦<Grown as Sink>⟧.held text ≡ Some (written p))
+        × HasJoined (readers S.left S.failures files.old files.new) set.empty p) }
+    ensures unfailed { OnOk result (EachUnfailed (readers S.left S.failures files.old files.new)) }
+    ensures refused { IfErr result (IsRefusal
+        (IsFirstRefused file_place IsArchive IsArchiveRefused (readers S.left S.failures files.old files.new))
+        (EachUnfailed (readers S.left S.failures files.old files.new))) }
+{
+    let mut joined = A::empty(heap.clone()?);
+    join_files(heap, &mut joined, files)?;
+    text_in_memory(heap, &joined)
+}
+
+/// Writes the join of IN's archive with the one of this text to OUT as IN comes, and its sizes to the report.
+fn merge_text<R: Source, T: Target, P: Sink>(
+    heap: Heap,
+    input: &mut Result<R, CannotOpen>,
+    text: &[u8],
+    out: &mut Output<T::Draft, T>,
+    report: &mut P,
+) -> Result<Status, CommandFault>
+    ensures { (p : Operations) → IsContent p → text.now ≡ written p
+        → EndsAsItComes (joins (reader R.left R.failures input.old input.new) p)
+        (IsKnown (reader R.left R.failures input.old input.new))
+        (out_of (outs T.Draft.held T.Draft.failures T.placed T.failures out.old out.new))
+        (writer P.held P.failures report.old report.new) result }
+{
+    let mut other = Bytes::new(text);
+    let sizes = join_input(&heap, input, &mut other, &mut out.draft)?;
+    publish_draft(String::new(heap), sizes, out, report)
+}
+
+/// Writes the join of IN's archive with that of each file to OUT, and its sizes to the report. The files are read and
+/// joined first, and then IN goes to OUT as it comes.
+fn merge_in_turn<A: Archive + Drop, R: Source, S: Source, T: Target, P: Sink>(
     heap: Heap,
     input: &mut Result<R, CannotOpen>,
     files: &mut [Result<S, CannotOpen>],
     out: &mut Output<T::Draft, T>,
     report: &mut P,
 ) -> Result<Status, CommandFault>
-    ensures { Ends
-        (merge (reader R.left R.failures input.old input.new) (readers S.left S.failures files.old files.new))
-        (out_of (outs T.Draft.held T.Draft.failures T.placed T.failures out.old out.new))
+    ensures { let known = out_of (outs T.Draft.held T.Draft.failures T.placed T.failures out.old out.new) in
+        EndsStreamed (merge_in_turn (reader R.left R.failures input.old input.new)
+        (readers S.left S.failures files.old files.new) known.draft) known
         (writer P.held P.failures report.old report.new) result }
 {
-    let mut archive: A = read_input(heap.clone()?, 0, input)?;
-    join_files(&heap, &mut archive, files)?;
-    publish(&archive, String::new(heap), out, report)
+    match joined_text::<A, S>(&heap, files) {
+        Ok(text) => merge_text(heap, input, text.as_slice(), out, report),
+        Err(fault) => Err(refused_behind(heap, input, fault)),
+    }
 }
 
 /// Merges two archives into OUT as they come, and writes the sizes to the report.
@@ -115,8 +170,9 @@ fn merge_one<R: Source, S: Source, T: Target, P: Sink>(
 }
 
 /// Writes the join of IN's archive with that of each file to OUT, and its sizes to the report. With one file the two
-/// are merged as they come, in the memory of their retirements and of one record of each; with more the inputs are read
-/// in the order of the words, IN first, each to its end, before anything is written.
+/// are merged as they come, in the memory of their retirements and of one record of each. With more the files are read
+/// first, in the order of the words, each to its end, and joined in memory, and IN is merged with the join as it comes;
+/// where a file is refused, IN is tested to its end before that is told.
 ///
 /// # Errors
 ///
@@ -138,6 +194,6 @@ pub fn run_merge<A: Archive + Drop, R: Source, S: Source, T: Target, P: Sink>(
     if files.len() == 1 {
         merge_one(heap, input, &mut files[0], out, report)
     } else {
-        merge_values::<A, R, S, T, P>(heap, input, files, out, report)
+        merge_in_turn::<A, R, S, T, P>(heap, input, files, out, report)
     }
 }

@@ -221,8 +221,8 @@ IsRefusedInOrder input Untouched IsRefusedBehind at why =
     (IsRefusedArchive 0 input at why × Untouched)
     ⊎ (IsArchive input × Unfailed input × IsRefusedBehind at why)
 
--- The same of a command that reads what is behind its first input before that one, and tests that one to its end before it
--- tells of a refusal behind it.
+-- The same of a command that reads what is behind its first input before that one, and tests that one to its end before
+-- it tells of a refusal behind it.
 abbrev pub IsRefusedInTurn : {S : Type 0} → Reader S → (Place → Why → Type 0) → Place → Why → Type 0
 IsRefusedInTurn input IsRefusedBehind at why =
     IsRefusedArchive 0 input at why ⊎ (IsArchive input × Unfailed input × IsRefusedBehind at why)
@@ -238,8 +238,8 @@ IsRefusal Refused Unfailed (Output _) = ⊥
 IsRefusal Refused Unfailed (Report _) = ⊥
 IsRefusal Refused Unfailed OutOfMemory = Unfailed
 
--- What is told where this was told of an input behind the first one: a refusal in turn, after the first input was tested; or,
--- if memory was wanted, that, and the first input is as it was.
+-- What is told where this was told of an input behind the first one: a refusal in turn, after the first input was
+-- tested; or, if memory was wanted, that, and the first input is as it was.
 abbrev pub TellsInTurn : {S : Type 0} → Reader S → CommandFault → CommandFault → Type 0
 TellsInTurn input (Input at why) told =
     IsRefusal (IsRefusedInTurn input (λ place reason. (place ≡ at) × (reason ≡ why))) (Unfailed input) told

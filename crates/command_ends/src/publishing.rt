@@ -1,14 +1,14 @@
 //! The end of each command: OUT, which is put in place, and then the report.
 ghost use Rattle.std.specs.Prelude.{◌≡◌, ◌++◌, ℕ, List, [], length, string_bytes};
-ghost use Rattle.archive_core.specs.Summary.{delta};
 ghost use Rattle.archive_records.specs.Text.{summary_text, written};
 ghost use Rattle.report_text.specs.Report.{archive_line};
-ghost use Rattle.command_ends.specs.Outputs.{Publishes, Reports, Takes, out_of, outs, report_of, summary_report_of, writer};
+ghost use Rattle.command_ends.specs.Outputs.{Publishes, Reports, Takes, out_of, outs, report_of, summary_report_of};
+ghost use Rattle.command_ends.specs.Outputs.{writer};
 
 use crate::faults::{CommandFault, Status};
 use crate::outputs::{Output, Target, put_in_place};
 use archive_core::Archive;
-use archive_records::{Sizes, Summary, write_archive, write_delta, write_summary};
+use archive_records::{Sizes, Summary, write_archive, write_summary};
 use byte_device::{Sink, push_all};
 use memory::Heap;
 use report_text::{summary_line, with_sizes};
@@ -47,26 +47,6 @@ pub fn publish<A: Archive, T: Target, P: Sink>(
 {
     match write_archive(archive, &mut out.draft) {
         Ok(sizes) => publish_draft(lines, sizes, out, report),
-        Err(fault) => Err(CommandFault::Output(fault.written)),
-    }
-}
-
-/// Writes the operations that the summary does not name to OUT, as an archive, puts it in place, and then writes its
-/// sizes to the report.
-pub fn publish_delta<A: Archive, T: Target, P: Sink>(
-    heap: Heap,
-    archive: &A,
-    summary: &Summary,
-    out: &mut Output<T::Draft, T>,
-    report: &mut P,
-) -> Result<Status, CommandFault>
-    ensures { Publishes (out_of (outs T.Draft.held T.Draft.failures T.placed T.failures out.old out.new))
-        (writer P.held P.failures report.old report.new)
-        (written (delta (A.content archive.now) summary.now)) (report_of (delta (A.content archive.now) summary.now) [])
-        result }
-{
-    match write_delta(archive, summary, &mut out.draft) {
-        Ok(sizes) => publish_draft(String::new(heap), sizes, out, report),
         Err(fault) => Err(CommandFault::Output(fault.written)),
     }
 }

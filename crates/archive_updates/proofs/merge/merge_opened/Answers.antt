@@ -1,4 +1,4 @@
-use Rattle.std.proofs.Common.{◌∙◌, ◌++◌, ap, refl}
+use Rattle.std.proofs.Common.{◌++◌, ap, refl}
 use Rattle.byte_device.proofs.Known.{Appends-none}
 use Rattle.report_text.specs.Report.{archive_line}
 use Rattle.command_ends.specs.Outputs.{outs, writer}
