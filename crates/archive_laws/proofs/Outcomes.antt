@@ -18,7 +18,8 @@ use Rattle.archive_updates.specs.Apply.{apply}
 use Rattle.archive_updates.specs.Delta.{delta}
 use Rattle.command_ends.specs.Ends.{MakeOne, MakesArchive}
 use Rattle.command_ends.specs.Inputs.{Reader, reader, Gives, Holds, HoldsArchive, IsGiven, IsGivenArchive}
-use Rattle.archive_updates.specs.Merge.{merge, merged}
+use Rattle.command_ends.specs.Archives.{merged}
+use Rattle.archive_updates.specs.Merge.{merge}
 use Rattle.archive_updates.specs.Migrate.{migrate}
 use Rattle.command_ends.specs.Outputs.{report_of, summary_report_of}
 use Rattle.archive_updates.specs.Retire.{retire}

@@ -2,11 +2,12 @@
 ghost use Rattle.std.specs.Prelude.{◌≡◌, ◌+◌, Ok, OnOk, IfErr};
 ghost use Rattle.archive_core.specs.Content.{Operations, IsContent, joined};
 ghost use Rattle.archive_records.specs.Text.{written};
+ghost use Rattle.command_ends.specs.Archives.{file_place};
 ghost use Rattle.command_ends.specs.Ends.{Ends, EndsStreamed};
 ghost use Rattle.command_ends.specs.Inputs.{EachUnfailed, IsArchive, IsArchiveRefused, IsFirstRefused};
 ghost use Rattle.command_ends.specs.Inputs.{HoldsArchive};
 ghost use Rattle.command_ends.specs.Inputs.{IsRefusal, IsRefusedArchive, Unfailed, reader, readers};
-ghost use Rattle.archive_updates.specs.Merge.{HasJoined, file_place, merge};
+ghost use Rattle.archive_updates.specs.Merge.{HasJoined, merge};
 ghost use Rattle.archive_updates.specs.MergeStreams.{IsMergeFaultTold, merge_as_it_comes, merge_of_one};
 ghost use Rattle.command_ends.specs.Outputs.{draft_of, out_of, outs, writer};
 
