@@ -57,7 +57,7 @@ texts_given (f ∷ files) (t ∷ texts) (h ∷ held) given holds =
     let rest = texts_given files texts held given.1 holds.1 in
     λ i. sym one i ∷ rest i
 
-contents_given : {S : Type 0} (files : List (Reader S)) (contents held : List Operations) → AllByRecursion IsContent contents → AllByRecursion IsContent held
+pub contents_given : {S : Type 0} (files : List (Reader S)) (contents held : List Operations) → AllByRecursion IsContent contents → AllByRecursion IsContent held
     → AllZip IsGivenArchive files contents → AllZip HoldsArchive files held → held ≡ contents
 contents_given [] [] [] are is given holds = refl
 contents_given [] [] (h ∷ held) are is given holds = absurd holds

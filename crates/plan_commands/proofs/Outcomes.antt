@@ -143,12 +143,13 @@ executed (line.merge _ _ _) (input ∷ files) out report r e =
     streamed (merge_as_it_comes input files out) out report r e
 executed (line.migrate _ _) (input ∷ _) out report r e = ended (migrate input) out report r e
 executed (line.apply _ _ _) (input ∷ ops ∷ _) out report r e = ended (apply input ops) out report r e
-executed (line.find _ uuid) (archive ∷ _) out report r e = queried (find archive uuid) out report r e
+executed (line.find _ uuid) (archive ∷ others) out report r e = queried (find archive others uuid) out report r e
 executed (line.list _) (archive ∷ _) out report r e = queried (list archive) out report r e
 executed (line.name _ sought) (archive ∷ _) out report r e = queried (name archive sought) out report r e
-executed (line.symbolicate _ uuid arch load addresses) (archive ∷ _) out report r e =
-    queried (symbolicate archive (key_of uuid arch) load addresses) out report r e
-executed (line.frames _ _) (crash ∷ archive ∷ _) out report r e = queried (frames crash archive) out report r e
+executed (line.symbolicate _ uuid arch load addresses) (archive ∷ others) out report r e =
+    queried (symbolicate archive others (key_of uuid arch) load addresses) out report r e
+executed (line.frames _ _) (crash ∷ archive ∷ others) out report r e =
+    queried (frames crash archive others) out report r e
 executed (line.summary _ _) (archive ∷ _) out report r e = ended (summary archive) out report r e
 executed (line.delta _ _ _) (archive ∷ named ∷ _) out report r e = ended (delta archive named) out report r e
 executed (line.rehearse _) (script ∷ _) out report r e = queried (rehearse script) out report r e

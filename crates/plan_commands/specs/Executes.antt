@@ -44,13 +44,14 @@ Executes (line.merge _ _ _) (input ∷ files) out report result =
     EndsStreamed (merge_as_it_comes input files out) (out_of out) report result
 Executes (line.migrate _ _) (input ∷ _) out report result = Ends (migrate input) (out_of out) report result
 Executes (line.apply _ _ _) (input ∷ ops ∷ _) out report result = Ends (apply input ops) (out_of out) report result
-Executes (line.find _ uuid) (archive ∷ _) out report result = EndsQuery (find archive uuid) out report result
+Executes (line.find _ uuid) (archive ∷ others) out report result =
+    EndsQuery (find archive others uuid) out report result
 Executes (line.list _) (archive ∷ _) out report result = EndsQuery (list archive) out report result
 Executes (line.name _ sought) (archive ∷ _) out report result = EndsQuery (name archive sought) out report result
-Executes (line.symbolicate _ uuid arch load addresses) (archive ∷ _) out report result =
-    EndsQuery (symbolicate archive (key_of uuid arch) load addresses) out report result
-Executes (line.frames _ _) (crash ∷ archive ∷ _) out report result =
-    EndsQuery (frames crash archive) out report result
+Executes (line.symbolicate _ uuid arch load addresses) (archive ∷ others) out report result =
+    EndsQuery (symbolicate archive others (key_of uuid arch) load addresses) out report result
+Executes (line.frames _ _) (crash ∷ archive ∷ others) out report result =
+    EndsQuery (frames crash archive others) out report result
 Executes (line.summary _ _) (archive ∷ _) out report result = Ends (summary archive) (out_of out) report result
 Executes (line.delta _ _ _) (archive ∷ named ∷ _) out report result =
     Ends (delta archive named) (out_of out) report result
