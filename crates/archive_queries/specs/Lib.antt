@@ -3,4 +3,5 @@ pub mod List
 pub mod Name
 pub mod Symbolicate
 pub mod Frames
+pub mod InnerTogether
 pub mod InnerFrames

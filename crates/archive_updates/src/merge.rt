@@ -3,13 +3,14 @@ ghost use Rattle.std.specs.Prelude.{◌≡◌, ◌+◌, Ok, Some, OnOk, IfOk, If
 ghost use Rattle.std.specs.FinSet as set;
 ghost use Rattle.archive_core.specs.Content.{Operations, IsContent, joined};
 ghost use Rattle.archive_records.specs.Text.{written};
+ghost use Rattle.command_ends.specs.Archives.{file_place};
 ghost use Rattle.command_ends.specs.Ends.{EndsAsItComes, EndsStreamed};
 ghost use Rattle.command_ends.specs.declared.faults.CommandFault.TheVariants.{OutOfMemory};
 ghost use Rattle.command_ends.specs.Inputs.{EachUnfailed, IsArchive, IsArchiveRefused, IsFirstRefused};
 ghost use Rattle.command_ends.specs.Inputs.{HoldsArchive, IsKnown};
 ghost use Rattle.command_ends.specs.Inputs.{IsRefusal, IsRefusedArchive, Unfailed, reader, readers};
 ghost use Rattle.archive_updates.specs.Joining.{joins};
-ghost use Rattle.archive_updates.specs.Merge.{HasJoined, file_place, merge_in_turn};
+ghost use Rattle.archive_updates.specs.Merge.{HasJoined, merge_in_turn};
 ghost use Rattle.archive_updates.specs.MergeStreams.{merge_as_it_comes, merge_of_one};
 ghost use Rattle.command_ends.specs.Outputs.{draft_of, out_of, outs, writer};
 

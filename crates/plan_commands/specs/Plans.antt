@@ -92,12 +92,12 @@ deed_of (plan.Merge _ _ _) (input ∷ files) out = streams (merge_as_it_comes in
 deed_of (plan.Migrate _ _) (input ∷ _) out =
     streams (writes_amidst (migrate input) (IsKnown input) (out_of out).draft)
 deed_of (plan.Apply _ _ _) (input ∷ ops ∷ _) out = changes (apply input ops)
-deed_of (plan.Find _ uuid) (archive ∷ _) out = answers (find archive uuid)
+deed_of (plan.Find _ uuid) (archive ∷ others) out = answers (find archive others uuid)
 deed_of (plan.List _) (archive ∷ _) out = answers (list archive)
 deed_of (plan.Name _ sought) (archive ∷ _) out = answers (name archive sought.now)
-deed_of (plan.Symbolicate _ uuid arch load addresses) (archive ∷ _) out =
-    answers (symbolicate archive (key_of uuid arch) load addresses.now)
-deed_of (plan.Frames _ _) (crash ∷ archive ∷ _) out = answers (frames crash archive)
+deed_of (plan.Symbolicate _ uuid arch load addresses) (archive ∷ others) out =
+    answers (symbolicate archive others (key_of uuid arch) load addresses.now)
+deed_of (plan.Frames _ _) (crash ∷ archive ∷ others) out = answers (frames crash archive others)
 deed_of (plan.Summary _ _) (archive ∷ _) out = changes (summary archive)
 deed_of (plan.Delta _ _ _) (archive ∷ named ∷ _) out =
     streams (delta_as_it_comes archive named (out_of out).draft)

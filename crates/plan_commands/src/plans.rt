@@ -371,7 +371,7 @@ pub fn execute<A: Archive + Drop, L: Archive + Drop, S: Source, T: Target, P: Si
             [ops] => run_apply::<A, _, _, _, _>(heap, first, ops, out, report),
             _ => unreachable!(),
         },
-        Plan::Find { uuid, .. } => run_find::<A, _, _>(heap, first, uuid, report),
+        Plan::Find { uuid, .. } => run_find::<A, _, _>(heap, first, others, uuid, report),
         Plan::List { .. } => run_list(heap, first, report),
         Plan::Name { name, .. } => run_name(heap, first, name.as_bytes(), report),
         Plan::Symbolicate {
@@ -380,10 +380,15 @@ pub fn execute<A: Archive + Drop, L: Archive + Drop, S: Source, T: Target, P: Si
             load,
             addresses,
             ..
-        } => { run_symbolicate::<L, _, _>(heap, first, &key(uuid, arch), *load, addresses, report) }
-        Plan::Frames { .. } => match others {
-            [archive] => run_frames::<L, _, _>(heap, first, archive, report),
-            _ => unreachable!(),
+        } => {
+            let key = key(uuid, arch);
+            run_symbolicate::<L, _, _>(heap, first, others, &key, *load, addresses, report)
+        }
+        Plan::Frames { .. } => match others.split_first_mut() {
+            Some((archive, others)) => {
+                run_frames::<L, _, _>(heap, first, archive, others, report)
+            }
+            None => unreachable!(),
         },
         Plan::Summary { .. } => run_summary(heap, first, out, report),
         Plan::Delta { .. } => match others {
