@@ -8,8 +8,8 @@ use Rattle.archive_records.specs.Text.{IsArchiveOf, written}
 use Rattle.byte_device.specs.declared.disks.CannotOpen.{CannotOpen}
 use Rattle.command_ends.specs.declared.faults.Place.{Place}
 use Rattle.command_ends.specs.declared.faults.Why.{Why}
-use Rattle.command_ends.specs.Archives.{AreRefused, AreUnfailed, HoldTogether, merged}
-use Rattle.command_ends.specs.Inputs.{Reader, reader, HoldsArchive, HoldsContent, IsDeviceFault, IsGiven, IsGivenArchive, IsRefusedArchive, Unfailed}
+use Rattle.command_ends.specs.Archives.{AreRefused, HoldTogether, merged}
+use Rattle.command_ends.specs.Inputs.{Reader, reader, HoldsArchive, HoldsContent, IsDeviceFault, IsGiven, IsGivenArchive, IsRefusedArchive}
 use Rattle.archive_updates.specs.Merge.{merge}
 use Rattle.archive_laws.specs.Joins.{IsGivenJoin}
 use Rattle.archive_laws.proofs.Archives.{merge_refused}
@@ -91,7 +91,7 @@ alone_held {S = S} archive IsTrue = (to, back)
     first : (held : HoldTogether {S = S} archive [] IsTrue) → held.contents ≡ []
     first held = by held.contents held.others_are
       where
-        by : (contents : List Operations) → AllZip {X = Reader S} HoldsArchive [] contents → contents ≡ []
+        by : (contents : List Operations) → AllZip (λ (file : Reader S) (o : Operations). HoldsArchive file o) [] contents → contents ≡ []
         by [] are = refl
         by (_ ∷ _) are = absurd are
 
@@ -123,6 +123,3 @@ alone_refused {S = S} archive place why = (to, λ refused. inl (refused, tt))
     to : AreRefused {S = S} archive [] place why → IsRefusedArchive 0 archive place why
     to (inl refused) = refused.0
     to (inr refused) = absurd (nowhere refused.2.number refused.2.input refused.2.input_is)
-
-pub alone_unfailed : {R S : Type 0} (archive : Reader R) → AreUnfailed {S = S} archive [] ↔ Unfailed archive
-alone_unfailed archive = (λ unfailed. unfailed.0, λ unfailed. (unfailed, tt))
