@@ -145,7 +145,7 @@ executed (line.migrate _ _) (input ∷ _) out report r e = ended (migrate input)
 executed (line.apply _ _ _) (input ∷ ops ∷ _) out report r e = ended (apply input ops) out report r e
 executed (line.find _ uuid) (archive ∷ others) out report r e = queried (find archive others uuid) out report r e
 executed (line.list _) (archive ∷ _) out report r e = queried (list archive) out report r e
-executed (line.name _ sought) (archive ∷ _) out report r e = queried (name archive sought) out report r e
+executed (line.name _ sought) (archive ∷ others) out report r e = queried (name archive others sought) out report r e
 executed (line.symbolicate _ uuid arch load addresses) (archive ∷ others) out report r e =
     queried (symbolicate archive others (key_of uuid arch) load addresses) out report r e
 executed (line.frames _ _) (crash ∷ archive ∷ others) out report r e =

@@ -47,7 +47,8 @@ Executes (line.apply _ _ _) (input ∷ ops ∷ _) out report result = Ends (appl
 Executes (line.find _ uuid) (archive ∷ others) out report result =
     EndsQuery (find archive others uuid) out report result
 Executes (line.list _) (archive ∷ _) out report result = EndsQuery (list archive) out report result
-Executes (line.name _ sought) (archive ∷ _) out report result = EndsQuery (name archive sought) out report result
+Executes (line.name _ sought) (archive ∷ others) out report result =
+    EndsQuery (name archive others sought) out report result
 Executes (line.symbolicate _ uuid arch load addresses) (archive ∷ others) out report result =
     EndsQuery (symbolicate archive others (key_of uuid arch) load addresses) out report result
 Executes (line.frames _ _) (crash ∷ archive ∷ others) out report result =
