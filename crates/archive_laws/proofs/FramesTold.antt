@@ -69,8 +69,7 @@ each_alone input others o (frame ∷ frames) (row ∷ rows) given all =
       answered = (all.0.1, tt);
       status_is = refl;
       text_is = refl;
-    } in
-    (
+    } in (
       holds_join input others o given (λ p. TellsAddresses p frame.key frame.load (frame.address ∷ []) (answers_status (row ∷ [])) (answers_text (row ∷ []))) tells,
       each_alone input others o frames rows given all.1,
     )

@@ -26,6 +26,6 @@ returns g c =
     let told = subst (TellsAddresses (g.A.Join.content c.in_ok-kept.kept) key c.args.load c.args.addresses.now c.in_ok-status.status) (sym c.deref.ensures) c.in_ok-status.ensures in
     reported _ _ _ _ c.publish_report.result _ _ c.in_ok-kept.ensures.unfailed
     (together_tells _ _ _ _ (λ o alike.
-        told_alike (g.A.Join.content c.in_ok-kept.kept) o key c.args.load c.args.addresses.now c.in_ok-status.status c.deref.result.now
-        (alike (key_bytes key) (omega (arith, c.bytes_of-front.ensures.long)) (λ r h. ap (λ front. is_under front r) c.bytes_of-front.ensures.bytes ∙ h)) told) c.in_ok-kept.ensures.kept)
+    told_alike (g.A.Join.content c.in_ok-kept.kept) o key c.args.load c.args.addresses.now c.in_ok-status.status c.deref.result.now
+    (alike (key_bytes key) (omega (arith, c.bytes_of-front.ensures.long)) (λ r h. ap (λ front. is_under front r) c.bytes_of-front.ensures.bytes ∙ h)) told) c.in_ok-kept.ensures.kept)
     c.publish_report.ensures

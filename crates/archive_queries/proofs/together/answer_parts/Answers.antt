@@ -11,5 +11,5 @@ returns-clause-answered g c =
     together_tells _ _ _ _ (λ o alike. (
       all.left,
       all.answered c.args.questions o (λ key there long asked answer is.
-      answer_alike kept o key asked answer (alike (key_bytes key) (omega (arith, long)) (c.requires.picked key there long)) is) (c.requires.start o),
+          answer_alike kept o key asked answer (alike (key_bytes key) (omega (arith, long)) (c.requires.picked key there long)) is) (c.requires.start o),
     )) c.in_ok-kept.ensures.kept
