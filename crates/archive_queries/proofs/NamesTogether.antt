@@ -36,8 +36,8 @@ module _ {R : Type 0} (name : List ℕ) where
     contents = [];
     are_contents = tt;
     archives_are = tt;
-    rows = λ row. (λ there. inl there, λ told. elim told [ | inl there ↦ there | inr one ↦ absurd (no_content one.0 one.1) ]);
-    retired = λ r. (λ there. inl there, λ told. elim told [ | inl there ↦ there | inr one ↦ absurd (no_content one.0 one.1) ]);
+    rows = λ row. (λ there. inl there, λ told. elim told [ inl there ↦ there | inr one ↦ absurd (no_content one.0 one.1) ]);
+    retired = λ r. (λ there. inl there, λ told. elim told [ inl there ↦ there | inr one ↦ absurd (no_content one.0 one.1) ]);
   }
 
   module _ (archives seen : List (Reader R)) (archive : Reader R) (old mid new : NamesFound) (o : Operations) (seen_is : seen ≡ archives ++ archive ∷ []) (before : HaveAdded archives name old mid)
