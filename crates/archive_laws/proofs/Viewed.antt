@@ -22,7 +22,7 @@ use Rattle.report_text.specs.Report.{line}
 use Rattle.byte_device.specs.declared.disks.CannotOpen.{CannotOpen}
 use Rattle.command_ends.specs.declared.faults.Status.{Status}
 use Rattle.command_ends.specs.declared.faults.Status.TheVariants.{Done, Partial}
-use Rattle.command_ends.specs.Inputs.{Reader, reader, HoldsArchive, IsGivenArchive}
+use Rattle.command_ends.specs.Inputs.{reader, HoldsArchive, IsGivenArchive}
 use Rattle.archive_queries.specs.Symbolicate.{asked_of, is_symbol, Answered, IsAnswered, answers_status, answers_text, TellsAddresses}
 
 abbrev seen_found : FoundRecord → List ℕ

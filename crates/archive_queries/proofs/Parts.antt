@@ -23,7 +23,6 @@ use Rattle.command_ends.proofs.Readers.{all_more}
 use Rattle.command_ends.specs.Archives.{AreRefused, AreUnfailed, HoldTogether, file_place, merged}
 use Rattle.command_ends.specs.declared.faults.CommandFault.{CommandFault}
 use Rattle.command_ends.specs.declared.faults.CommandFault.TheVariants.{Input, Output, Report, OutOfMemory}
-use Rattle.command_ends.specs.declared.faults.Place.{Place}
 use Rattle.command_ends.specs.declared.faults.Status.{Status}
 use Rattle.command_ends.specs.Ends.{EndsReport}
 use Rattle.command_ends.specs.Outputs.{Takes, Writer}

@@ -1,5 +1,5 @@
 -- Archives of a list, one more of which was read.
-use Rattle.std.proofs.Common.{ℕ, List, [], ◌∷◌, ◌++◌}
+use Rattle.std.proofs.Common.{List, [], ◌∷◌, ◌++◌}
 use Rattle.std.specs.List.{AllByRecursion, AllZip}
 use Rattle.archive_core.specs.Content.{Operations, IsContent}
 use Rattle.command_ends.specs.Inputs.{Reader, IsArchive, HoldsArchive}

@@ -1,7 +1,6 @@
 use Rattle.std.proofs.Common.{ap, refl, ◌∙◌, arith}
 use Rattle.std.proofs.lemmas.Result.{err_from_is_err_and}
 use Rattle.byte_device.proofs.Known.{Appends-none}
-use Rattle.archive_core.specs.Find.{IsFinds}
 use Rattle.archive_core.specs.Part.{is_under}
 use Rattle.archive_core.proofs.Picked.{finds_alike}
 use Rattle.report_text.specs.Finds.{find_lines}

@@ -4,7 +4,7 @@ use Rattle.std.proofs.lemmas.Result.{err_from_is_err_and}
 use Rattle.command_ends.proofs.Readers.{none_failed}
 use Rattle.command_ends.specs.Archives.{merged}
 use Rattle.archive_queries.specs.declared.asked_frames.AskedFrame.{AskedFrame}
-use Rattle.archive_queries.specs.InnerFrames.{AreLines, is_asked}
+use Rattle.archive_queries.specs.InnerFrames.{AreLines}
 use Rattle.archive_queries.proofs.Framed.{asked_picked, frames_told, key_of_asked, none_told, pieces, told_to_the_end}
 use Rattle.archive_queries.proofs.Parts.{together_tells}
 use Rattle.archive_queries.proofs.frames.tell_frames.Goals as goal

@@ -1,4 +1,4 @@
-use Rattle.std.proofs.Common.{Contains, ◌∙◌, ap, subst, sym, drop, List}
+use Rattle.std.proofs.Common.{Contains, ◌∙◌, subst, sym, List}
 use Rattle.archive_core.specs.declared.keys.SliceKey.{SliceKey}
 use Rattle.archive_reading.proofs.Questioned.{answers_first}
 use Rattle.archive_queries.proofs.Parts.{behind_there, first_there}

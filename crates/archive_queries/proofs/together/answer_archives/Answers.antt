@@ -1,4 +1,3 @@
-use Rattle.std.proofs.Common.{List, [], ◌∷◌, ◌≡◌, ℕ, length, arith, refl}
 use Rattle.archive_queries.proofs.Parts.{alone_told, no_others}
 use Rattle.archive_queries.proofs.together.answer_archives.Goals as goal
 
