@@ -9,7 +9,7 @@ use Rattle.std.proofs.lemmas.Bool.{false≢true}
 use Rattle.std.proofs.lemmas.List.Elements.{Contains-append_cases, Contains-append_left, Contains-append_right}
 use Rattle.archive_core.specs.Content.{Operations, IsContent, content_of, covering, is_admission, is_covered, joined}
 use Rattle.archive_core.specs.Names.{IsNameRow, IsNames, NameRecord, name_cmp, owned_name_view}
-use Rattle.archive_core.specs.Record.{Retires, IsRecord, admission_record, retirement_record}
+use Rattle.archive_core.specs.Record.{admission_record, retirement_record}
 use Rattle.archive_core.proofs.Made.{contains_made, from_made, joined_made}
 use Rattle.archive_core.proofs.Members.{in_cons, in_front, in_rest}
 use Rattle.archive_core.proofs.Records.{length-retirement_record}

@@ -1,5 +1,5 @@
 //! `name ARCHIVE NAME`, over one archive or several.
-ghost use Rattle.std.specs.Prelude.{◌≡◌, [], map, OnOk, IfOk, IfErr};
+ghost use Rattle.std.specs.Prelude.{◌≡◌, map, OnOk, IfOk, IfErr};
 ghost use Rattle.archive_core.specs.Names.{IsNames};
 ghost use Rattle.archive_core.specs.Names.{owned_name_view};
 ghost use Rattle.archive_reading.specs.Names.{AddsNames};

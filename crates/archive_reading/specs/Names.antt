@@ -1,5 +1,5 @@
 -- What is told of a name as archives are read one after another.
-use Rattle.std.specs.Prelude.{◌≡◌, ◌↔◌, ◌⊎◌, ℕ, List, Bool, true, false, map, Contains}
+use Rattle.std.specs.Prelude.{◌≡◌, ◌↔◌, ◌⊎◌, ℕ, List, true, false, map, Contains}
 use Rattle.std.specs.FinSet as set
 use Rattle.archive_core.specs.Content.{Operations, is_admission}
 use Rattle.archive_core.specs.Names.{IsNameRow, NameRecord, owned_name_view}

@@ -1,7 +1,7 @@
 use Rattle.std.proofs.Common.{refl}
 use Rattle.archive_reading.specs.Names.{AddsNames}
 use Rattle.archive_reading.proofs.Gatherings.{names_added, start_retired, start_rows}
-use Rattle.archive_reading.proofs.Made.{content_of, content_read, is_content, makes_of}
+use Rattle.archive_reading.proofs.Made.{content_of, content_read, is_content}
 use Rattle.archive_reading.proofs.names.gather_taken.Goals as goal
 
 pub read_records-requires : goal.read_records-requires

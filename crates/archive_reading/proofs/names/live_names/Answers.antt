@@ -1,7 +1,6 @@
-use Rattle.std.proofs.Common.{not, rules, sym, subst}
+use Rattle.std.proofs.Common.{not, rules}
 use Rattle.std.specs.FinSet.{contains}
 use Rattle.std.proofs.lemmas.Fn.{filter_same}
-use Rattle.archive_core.specs.Content.{Operations}
 use Rattle.archive_core.specs.Record.{retirement_record}
 use Rattle.archive_reading.proofs.Gatherings.{live_kept}
 use Rattle.archive_reading.proofs.names.live_names.Goals as goal
