@@ -5,3 +5,4 @@ pub mod Symbolicate
 pub mod Frames
 pub mod InnerTogether
 pub mod InnerFrames
+pub mod InnerNames

@@ -94,7 +94,7 @@ deed_of (plan.Migrate _ _) (input ∷ _) out =
 deed_of (plan.Apply _ _ _) (input ∷ ops ∷ _) out = changes (apply input ops)
 deed_of (plan.Find _ uuid) (archive ∷ others) out = answers (find archive others uuid)
 deed_of (plan.List _) (archive ∷ _) out = answers (list archive)
-deed_of (plan.Name _ sought) (archive ∷ _) out = answers (name archive sought.now)
+deed_of (plan.Name _ sought) (archive ∷ others) out = answers (name archive others sought.now)
 deed_of (plan.Symbolicate _ uuid arch load addresses) (archive ∷ others) out =
     answers (symbolicate archive others (key_of uuid arch) load addresses.now)
 deed_of (plan.Frames _ _) (crash ∷ archive ∷ others) out = answers (frames crash archive others)

@@ -373,7 +373,7 @@ pub fn execute<A: Archive + Drop, L: Archive + Drop, S: Source, T: Target, P: Si
         },
         Plan::Find { uuid, .. } => run_find::<A, _, _>(heap, first, others, uuid, report),
         Plan::List { .. } => run_list(heap, first, report),
-        Plan::Name { name, .. } => run_name(heap, first, name.as_bytes(), report),
+        Plan::Name { name, .. } => run_name(heap, first, others, name.as_bytes(), report),
         Plan::Symbolicate {
             uuid,
             arch,
