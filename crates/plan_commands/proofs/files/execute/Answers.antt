@@ -1,14 +1,37 @@
-use Rattle.std.proofs.Common.{◌≡◌, ◌∙◌, ℕ, List, [], ◌++◌, Some, None, refl, true, false, ap, inl, inr, option_map, string_bytes, subst, sym, append-nil}
+use Rattle.std.proofs.Common.{◌≡◌, ◌∙◌, ℕ, List, [], ◌++◌, Some, None, Err, refl, true, false, ap, inl, inr, option_map, string_bytes, subst, sym, append-nil}
 use mathlib.Core.Logic.{∥∥₁_map}
+use Rattle.std.proofs.lemmas.Result.{err_from_is_err_and}
 use Rattle.std.specs.Io.KnownBytes.{Appends}
 use Rattle.std.proofs.KnownBytes.{Appends-nil}
 use Rattle.archive_files.specs.FileCalls.{FileCall, bytes_in}
 use Rattle.archive_files.specs.OutFiles.{draft_account, has_calls, is_settled, placed_account, placing_calls, stage_of}
 use Rattle.archive_files.specs.Placing.{IsPlaced, IsRemoved, account, place}
 use Rattle.plan_commands.specs.Files.{command_fault_of}
-use Rattle.plan_commands.proofs.Places.{carried_from, draft_took, first_from, nothing_taken, nothing_there, placed_there, settled_of, settled_without_calls}
+use Rattle.plan_commands.proofs.Places.{carried_from, draft_took, first_from, none_opened, nothing_taken, nothing_there, placed_there, settled_of, settled_without_calls}
 use Rattle.plan_commands.proofs.Outcomes.{carried_outcome}
+use Rattle.plan_commands.proofs.Saying.{none_called}
 use Rattle.plan_commands.proofs.files.execute.Goals as goal
+
+pub returns-in_err-heap : goal.returns-in_err-heap
+returns-in_err-heap g c =
+    let wanting = err_from_is_err_and c.from_residual.result c.from_residual.ensures.1 in inl (record {
+      wanting = wanting.1 ∙ ap (λ fault. Err fault) wanting.2;
+      opened = none_opened _ _;
+      uncalled = none_called _ _ c.requires.6 c.requires.5;
+      report_same = refl;
+      report_unfailed = refl;
+    })
+
+pub returns-in_err-begin : goal.returns-in_err-begin
+returns-in_err-begin g c =
+    let wanting =
+    err_from_is_err_and c.from_residual-in_err-begin.result c.from_residual-in_err-begin.ensures.1 in inl (record {
+      wanting = wanting.1 ∙ ap (λ fault. Err fault) wanting.2;
+      opened = (0, ap (λ o. Some o) (c.begin.ensures.opened ∙ sym (append-nil _)));
+      uncalled = none_called _ _ c.begin.ensures.placed c.begin.ensures.calls;
+      report_same = refl;
+      report_unfailed = refl;
+    })
 
 pub returns : goal.returns
 returns g c =
