@@ -9,7 +9,7 @@ use Rattle.archive_core.specs.Content.{Operations, is_admission, covering, is_co
 use Rattle.archive_core.proofs.Members.{in_cons, in_front, in_rest}
 use Rattle.archive_records.proofs.Contents.{members_listed}
 use Rattle.archive_records.proofs.Apart.{both_true}
-use Rattle.record_merge.proofs.Covered.{or_left, or_right, or_cases}
+use Rattle.record_merge.proofs.Covered.{or_left, or_right}
 
 -- ---- a count is zero just where no member is counted
 

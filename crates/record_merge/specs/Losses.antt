@@ -1,5 +1,5 @@
 -- What is lost where one archive takes the place of another.
-use Rattle.std.specs.Prelude.{◌≡◌, ℕ, count_by, IfSome, Bool}
+use Rattle.std.specs.Prelude.{◌≡◌, ℕ, count_by, IfSome}
 use Rattle.join_core.specs.Listing.{listing}
 use Rattle.byte_device.specs.Devices.{Stream}
 use Rattle.archive_core.specs.Content.{Operations, changes, content_of}
