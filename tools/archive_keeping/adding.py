@@ -1,0 +1,146 @@
+r"""Puts the Mach-O images and dSYMs of files and folders into ARCHIVE, and makes ARCHIVE if it does not exist.
+
+What goes in is found by its first bytes, whatever a file is called: each 64-bit slice that has a UUID, in dSYM
+bundles, .xcarchive, .app, frameworks, dylibs and all else that a PATH has at any depth. The slices of a universal
+file go in one by one, so a part that stays out keeps no other part out.
+
+These are passed over: object files and images without a UUID, static libraries, 32-bit and big-endian images, all
+other files, links to folders, links that lead nowhere. The last line on standard error counts them; --verbose names
+each. A PATH that is a link is followed, and so is a link to a file. A file that has several names is read once.
+
+A file that cannot be read, that changes while it is read, or that symarch refuses is reported by its path, and the
+others go in. There may be any number of files; few are open at a time. The largest slice has to fit in memory twice.
+
+For each slice a line is printed after ARCHIVE is in place, in the order in which they were found:
+
+  added UUID ARCH DIGEST PATH
+  known UUID ARCH DIGEST PATH      ARCHIVE had it, or it was found before
+  retired UUID ARCH DIGEST PATH    it is withdrawn in ARCHIVE, so it stays out
+
+DIGEST is the SHA-256 that `symarch find` prints. PATH is printed as UTF-8; the backslash, each byte that is no UTF-8
+and each byte of a character that does not print, as a newline, stand as \x and two hex digits.
+
+The lines are kept in ARCHIVE.log too, with the date. If no slice is new, ARCHIVE is not touched, and what it has is
+not read again.
+
+Status:
+  0    each slice that was found is in ARCHIVE, or is retired there
+  1    no slice was found
+  2    some file was refused or not read, or some line not printed; each other slice is in ARCHIVE, or is retired there
+  3    the words have another form
+  4    ARCHIVE could not be read or written, or memory ran out: ARCHIVE is as it was
+  126  there is no program"""
+import collections
+import functools
+import os
+
+from .archive import NO_UUID, Archive
+from .contents import Content
+from .program import Program
+from .screen import Refused, Screen
+from .slices import Finder, compared
+
+USAGE = "symarch-keep add [--verbose] [--dry-run] ARCHIVE PATH..."
+ABOUT = "put images and dSYMs into it"
+
+
+def define(parser):
+    parser.add_argument("--verbose", action="store_true", help="name what is passed over")
+    parser.add_argument("--dry-run", action="store_true", help="print what would come of it, and write nothing")
+    parser.add_argument("archive", metavar="ARCHIVE")
+    parser.add_argument("paths", metavar="PATH", nargs="+", help="one that begins with - comes after the word --")
+
+
+def read_all(slices, screen):
+    """The slices that can be read, whose digests are known then."""
+    files = len({one.path for one in slices})
+    screen.begin(f"reading: {{}} of {files} files", sum(one.length for one in slices))
+    done, paths, kept = 0, set(), []
+    for one in slices:
+        paths.add(one.path)
+        try:
+            for chunk in one.chunks():
+                done += len(chunk)
+                screen.progress(len(paths), done)
+            kept.append(one)
+        except Refused as refused:
+            screen.refuse(one.path, refused)
+    return kept
+
+
+def mark(slices, content):
+    """Says of each slice whether it is retired, known or added."""
+    held = set(content.held)
+    for one in slices:
+        one.word = "retired" if one.entry() in content.retired else "known" if one.entry() in held else "added"
+        held.add(one.entry())
+
+
+def put(archive, program, slices, screen, is_dry_run):
+    """Puts slices into the archive, and returns those that are in it or retired there."""
+    content = archive.content(program, screen)
+    while True:
+        mark(slices, content)
+        refused = put_new(archive, program, content, slices, screen, is_dry_run)
+        if not refused:
+            return slices
+        # What is wrong with the bytes of a slice is wrong with the same bytes in other files.
+        reasons = {each.one.entry() if each.is_of_bytes else each.one: each for each in refused}
+        kept = []
+        for one in slices:
+            reason = reasons.get(one) or reasons.get(one.entry())
+            if reason:
+                screen.refuse(one.path, f"Slice({one.part or 0}, {reason})" if reason.is_of_bytes else reason)
+            else:
+                kept.append(one)
+        slices = kept
+
+
+def put_new(archive, program, content, slices, screen, is_dry_run):
+    """Puts those that are new into the archive, or returns why some of them are refused."""
+    new = []
+    try:
+        new = sorted((one for one in slices if one.word == "added"), key=functools.cmp_to_key(compared))
+        if is_dry_run:
+            return refusals(program, new)
+        lines = [one.line() for one in slices]
+        if not new and os.path.exists(archive.path):
+            archive.note(lines, screen)
+            return []
+        content = content.joined(Content((), {one.entry(): one.length for one in new}))
+        with archive.room() as room:
+            archive.join(room, program, content, lines, screen, new)
+        return []
+    except Refused as first:
+        return [first, *refusals(program, [one for one in new if one is not first.one])]
+
+
+def refusals(program, slices):
+    """Why the program refuses some of the slices, which are in the order of their records. It reads each once."""
+    found = []
+    while slices:
+        try:
+            program.run(["find", "/dev/stdin", NO_UUID], slices)
+            break
+        except Refused as refused:
+            found.append(refused)
+            slices = slices[slices.index(refused.one) + 1 :]
+    return found
+
+
+def carry_out(words):
+    screen = Screen(words.verbose)
+    program = Program()
+    archive = Archive(os.fsencode(words.archive), is_made=True, writes=not words.dry_run)
+    finder = Finder(screen)
+    finder.find([os.fsencode(path) for path in words.paths])
+    slices = read_all(finder.slices, screen)
+    archive.take_lock(screen)
+    slices = put(archive, program, slices, screen, words.dry_run)
+    screen.show([one.line() for one in slices])
+    count = collections.Counter(one.word for one in slices)
+    kinds = ", ".join(f"{kind} {number}" for kind, number in sorted(screen.passed_over.items()))
+    told = ", ".join(f"{count[word]} {word}" for word in ("added", "known", "retired")) + f", {screen.refused} refused"
+    told += f", passed over {sum(screen.passed_over.values())}{f' ({kinds})' if kinds else ''}"
+    screen.line(f"{told}; nothing was written" if words.dry_run else told)
+    return screen.status(0 if slices else 1)

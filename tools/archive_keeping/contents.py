@@ -1,0 +1,213 @@
+"""Contents of archives: the retirements and the slices of one, by key and digest. docs/FILES.md has the bytes of
+archives and summaries."""
+import hashlib
+import os
+import re
+import struct
+import uuid
+
+MAGICS = (b"MSYMARC2", b"MSYMARC1")
+SUMMARY = b"MSYMSUM1"
+RETIREMENT, ADMISSION, END = b"\1", b"\2", b"\3"
+MAGIC, KEY, DIGEST, LENGTH = 8, 24, 32, 8
+ENTRY = KEY + DIGEST
+TOO_LARGE = 1 << 32
+CHUNK = 1 << 20
+
+NAMES = {(0x01000007, 3): "x86_64", (0x01000007, 8): "x86_64h", (0x0100000C, 0): "arm64", (0x0100000C, 2): "arm64e"}
+NUMBERS = {name: numbers for numbers, name in NAMES.items()}
+NUMBERED = re.compile("cpu:([0-9a-fA-F]{8})/([0-9a-fA-F]{8})")
+# The first line of a file that is kept beside an archive, and how the last one begins.
+FIRST, LAST = "symarch-keep 1\n", "sha256 "
+
+
+class Malformed(Exception):
+    """Why bytes are no archive, no summary, or no file that is kept beside an archive."""
+
+
+class Content:
+    """A set of retirements, by key and digest, and the slices that none of them withdraws, with their lengths."""
+
+    def __init__(self, retired=(), held=()):
+        self.retired, self.held = set(retired), dict(held)
+
+    def __eq__(self, other):
+        return (self.retired, self.held) == (other.retired, other.held)
+
+    def __len__(self):
+        return len(self.retired) + len(self.held)
+
+    def joined(self, other):
+        retired = self.retired | other.retired
+        held = {**self.held, **other.held}
+        return Content(retired, {entry: length for entry, length in held.items() if entry not in retired})
+
+    def beyond(self, other):
+        """What `other` has neither as it is here nor withdrawn."""
+        is_new = lambda entry: entry not in other.held and entry not in other.retired
+        held = {entry: length for entry, length in self.held.items() if is_new(entry)}
+        return Content(self.retired - other.retired, held)
+
+    def heads(self):
+        """The records in their order, without the bytes of slices."""
+        admissions = (head_of(entry[:KEY], length) for entry, length in self.held.items())
+        return sorted(RETIREMENT + entry for entry in self.retired) + sorted(admissions)
+
+    def size(self):
+        """How long its archive is."""
+        return MAGIC + sum(map(record_size, self.heads())) + len(END) + LENGTH
+
+    def entries(self):
+        return sorted([RETIREMENT + entry for entry in self.retired] + [ADMISSION + entry for entry in self.held])
+
+    def summary(self):
+        return summary_of(self.entries())
+
+
+def head_of(key, length):
+    return ADMISSION + key + length.to_bytes(LENGTH, "big")
+
+
+def record_size(head):
+    """How long a record is, by its head."""
+    return len(head) + (int.from_bytes(head[-LENGTH:], "big") if head[:1] == ADMISSION else 0)
+
+
+def summary_of(entries):
+    return SUMMARY + b"".join(entries) + END + len(entries).to_bytes(LENGTH, "big")
+
+
+def entries_in(summary):
+    """The entries of a summary."""
+    size = len(RETIREMENT) + ENTRY
+    body = summary[MAGIC : -LENGTH - len(END)]
+    entries = [body[at : at + size] for at in range(0, len(body), size)]
+    if summary != summary_of(entries) or any(one[:1] not in (RETIREMENT, ADMISSION) for one in entries):
+        raise Malformed("is no summary")
+    return entries
+
+
+def content_of(entries):
+    """The content whose summary has these entries, where the lengths of slices are not known."""
+    retired = [entry[1:] for entry in entries if entry[:1] == RETIREMENT]
+    return Content(retired, {entry[1:]: 0 for entry in entries if entry[:1] == ADMISSION})
+
+
+# ---- archives
+
+
+def exactly(file, size):
+    data = file.read(size)
+    if len(data) < size:
+        raise Malformed("ends early")
+    return data
+
+
+def records_in(file):
+    """The head of each record of an archive, and where its slice begins; the file stands there. The bytes of slices are
+    not looked at."""
+    file.seek(0)
+    if exactly(file, MAGIC) not in MAGICS:
+        raise Malformed("is no archive")
+    size, count, at = os.fstat(file.fileno()).st_size, 0, MAGIC
+    while (tag := exactly(file, 1)) in (RETIREMENT, ADMISSION):
+        head = tag + exactly(file, ENTRY if tag == RETIREMENT else KEY + LENGTH)
+        yield head, at + len(head)
+        at, count = at + record_size(head), count + 1
+        if at > size:
+            raise Malformed("ends early")
+        file.seek(at)
+    if tag != END or int.from_bytes(exactly(file, LENGTH), "big") != count or file.read(1):
+        raise Malformed("has no right end")
+
+
+def heads_in(file):
+    """The heads of an archive's records; None where it is none, or where retirements beside their slices have to be
+    read together, as in version 1."""
+    try:
+        heads = [head for head, _ in records_in(file)]
+    except Malformed:
+        return None
+    file.seek(0)
+    return heads if file.read(MAGIC) == MAGICS[0] else None
+
+
+def chunks_in(file):
+    """What is left of a file."""
+    return iter(lambda: file.read(CHUNK), b"")
+
+
+def digest_in(file, at, length, moved=lambda size: None):
+    """The SHA-256 of so many bytes of a file, or of what there is of them."""
+    digest = hashlib.sha256()
+    file.seek(at)
+    while length > 0 and (chunk := file.read(min(length, CHUNK))):
+        digest.update(chunk)
+        length -= len(chunk)
+        moved(len(chunk))
+    return digest.digest()
+
+
+def content_in(file, moved=lambda size: None):
+    """The content of an archive, which is read to its end."""
+    content = Content()
+    for head, at in records_in(file):
+        if head[:1] == RETIREMENT:
+            content.retired.add(head[1:])
+        else:
+            length = record_size(head) - len(head)
+            content.held[head[1 : 1 + KEY] + digest_in(file, at, length, moved)] = length
+    return Content().joined(content)
+
+
+# ---- words
+
+
+def arch_of(numbers):
+    return NAMES.get(numbers) or "cpu:{:08x}/{:08x}".format(*numbers)
+
+
+def words_of(entry):
+    """UUID, ARCH and DIGEST of a slice."""
+    arch = arch_of(struct.unpack(">II", entry[16:KEY]))
+    return f"{uuid.UUID(bytes=entry[:16])} {arch} {entry[KEY:].hex()}"
+
+
+def entry_of(name, arch, digest):
+    """The key and the digest that three words mean; ValueError where one has another form."""
+    numbered = NUMBERED.fullmatch(arch)
+    if arch not in NUMBERS and not numbered:
+        raise ValueError("ARCH")
+    numbers = [int(digits, 16) for digits in numbered.groups()] if numbered else NUMBERS[arch]
+    if len(digest) != 2 * DIGEST:
+        raise ValueError("DIGEST")
+    return uuid.UUID(name).bytes + struct.pack(">II", *numbers) + bytes.fromhex(digest)
+
+
+# ---- files that are kept beside an archive
+
+
+def kept_text(content, notes=()):
+    """The text of a file that has a content, and lines of other words before it."""
+    lines = [f"{note}\n" for note in notes]
+    lines += [f"retired {words_of(entry)}\n" for entry in sorted(content.retired)]
+    lines += [f"slice {words_of(entry)} {length}\n" for entry, length in sorted(content.held.items())]
+    text = FIRST + "".join(lines)
+    return f"{text}{LAST}{hashlib.sha256(text.encode()).hexdigest()}\n".encode()
+
+
+def kept_in(data):
+    """The content that such a file has, and its other lines."""
+    text, last, digest = data.decode(errors="replace").rpartition(LAST)
+    if not last or not text.startswith(FIRST) or digest != f"{hashlib.sha256(text.encode()).hexdigest()}\n":
+        raise Malformed("is damaged")
+    content, notes = Content(), []
+    for line in text[len(FIRST) :].splitlines():
+        word, *more = line.split(" ")
+        if word == "retired":
+            content.retired.add(entry_of(*more))
+        elif word == "slice":
+            content.held[entry_of(*more[:3])] = int(more[3])
+        else:
+            notes.append(line)
+    return content, notes

@@ -1,0 +1,62 @@
+"""A folder in which a case calls symarch-keep."""
+import os
+import pathlib
+import subprocess
+
+from .cases import same, symarch
+
+keep = os.environ.get("KEEP") or str(pathlib.Path(__file__).resolve().parent.parent / "symarch-keep")
+# What stays beside an archive.
+BESIDE = ("lock", "log", "sum", "asked")
+
+
+class Room:
+    """A folder of one case."""
+
+    def __init__(self, path):
+        self.path = path
+        self.archive = path / "site.sym"
+
+    def file(self, name, content):
+        path = os.path.join(os.fsencode(self.path), os.fsencode(name))
+        os.makedirs(os.path.dirname(path), exist_ok=True)
+        with open(path, "wb") as file:
+            file.write(content)
+        return path
+
+    def program(self, script, name="program"):
+        """A program in the place of symarch, which is "$symarch" in it."""
+        path = self.path / name
+        path.write_text(f"#!/bin/sh\nsymarch={symarch}\n{script}\n")
+        path.chmod(0o755)
+        return {"SYMARCH": str(path)}
+
+    def start(self, *words, environment=(), before=(), **more):
+        environment = {**os.environ, "SYMARCH": symarch, **dict(environment)}
+        words = [*before, keep, *words]
+        more = {"stdin": subprocess.DEVNULL, "stdout": subprocess.PIPE, "stderr": subprocess.PIPE, **more}
+        return subprocess.Popen(words, cwd=self.path, env=environment, **more)
+
+    def call(self, *words, status=0, **more):
+        """Carries out a word, and returns the lines of standard output and of standard error."""
+        with self.start(*words, **more) as process:
+            try:
+                said = [text.decode().split("\n") for text in process.communicate(timeout=120)]
+            except subprocess.TimeoutExpired:
+                process.kill()
+                raise
+        same("status", (process.returncode, said[1] if process.returncode != status else 0), (status, 0))
+        same("end of a line", [text[-1] for text in said], ["", ""])
+        return [text[:-1] for text in said]
+
+    def add(self, *paths, words=(), **more):
+        """Adds paths, and returns the lines of standard output and of standard error, of which the last has counts."""
+        return self.call("add", *words, self.archive, *paths, **more)
+
+    def has(self, wanted):
+        same("archive", self.archive.read_bytes(), wanted)
+
+    def left(self):
+        """What has a name that begins with that of the archive, but for what stays beside it."""
+        names = (name for name in os.listdir(self.path) if name.startswith("site.sym."))
+        return sorted(name for name in names if name not in [f"site.sym.{ending}" for ending in BESIDE])
