@@ -231,23 +231,21 @@ class Archive:
 
     def append(self, text):
         """Adds lines to the log."""
-        with self.room() as room:
-            try:
-                file = open(self.beside(LOG), "ab", buffering=0)
-            except PermissionError:
-                # Another user made it: it is replaced, as the archive is.
-                shutil.copyfile(self.beside(LOG), os.path.join(room, b"log"))
-                file = open(os.path.join(room, b"log"), "ab", buffering=0)
-            with file:
-                write(file.fileno(), text)
-                os.fsync(file.fileno())
-            if os.fsencode(file.name) != self.beside(LOG):
-                os.replace(file.name, self.beside(LOG))
+        try:
+            append_synced(self.beside(LOG), text)
+        except PermissionError:
+            # Another user made it: it is replaced, as the archive is.
+            with self.room() as room:
+                copy = os.path.join(room, b"log")
+                shutil.copyfile(self.beside(LOG), copy)
+                append_synced(copy, text)
+                os.replace(copy, self.beside(LOG))
 
     def note(self, lines, screen):
         """Adds lines to the log where no archive is written."""
         try:
-            self.append(dated(lines))
+            if lines:
+                self.append(dated(lines))
         except OSError as error:
             screen.fail(f"{shown(self.beside(LOG))}: {error.strerror}")
 
@@ -301,6 +299,12 @@ def write_synced(path, chunks):
     with open(path, "wb", buffering=0) as file:
         for chunk in chunks:
             write(file.fileno(), chunk)
+        os.fsync(file.fileno())
+
+
+def append_synced(path, text):
+    with open(path, "ab", buffering=0) as file:
+        write(file.fileno(), text)
         os.fsync(file.fileno())
 
 

@@ -69,10 +69,14 @@ class Findings:
         else:
             self.bad.setdefault(head, []).append(at)
 
-    def lines(self, word="changed"):
-        lines = [f"{word} {words_of(entry)}" for entry in sorted(self.changed)]
-        lines += [f"{word} retired {words_of(entry)}" for entry in sorted(self.changed_retirements)]
-        return lines + ([] if self.has_ends else [f"{word} ends"])
+    def lines(self):
+        return lines_of("changed", self.changed, self.changed_retirements, self.has_ends)
+
+
+def lines_of(word, slices, retirements=(), has_ends=True):
+    lines = [f"{word} {words_of(entry)}" for entry in sorted(slices)]
+    lines += [f"{word} retired {words_of(entry)}" for entry in sorted(retirements)]
+    return lines + ([] if has_ends else [f"{word} ends"])
 
 
 def is_damaged(archive, program, known):

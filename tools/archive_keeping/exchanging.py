@@ -265,8 +265,7 @@ def carry_out(words):
             except (OSError, Failed) as fault:
                 screen.fail(f"{shown(folder.path)}: {getattr(fault, 'strerror', None) or fault.args[0]}")
     told = [line for line in exchange.lines if line.startswith(("asked ", "answered "))]
-    if told:
-        archive.note(told, screen)
+    archive.note(told, screen)
     screen.show(exchange.lines)
     counts = {word: sum(line.startswith(f"{word} ") for line in exchange.lines) for word in ("added", "retired")}
     counts["answered"] = len(told) - any(line.startswith("asked ") for line in told)

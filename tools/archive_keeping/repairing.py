@@ -18,7 +18,7 @@ import functools
 import os
 
 from .archive import SUM, Archive, size_of
-from .checking import Findings, is_damaged
+from .checking import Findings, is_damaged, lines_of
 from .contents import KEY, RETIREMENT, Malformed
 from .contents import digest_in, head_of, record_size, records_in
 from .program import Program, give
@@ -103,13 +103,10 @@ def repair(archive, program, known, other, screen):
     if lacking and size_of(archive.path) < known.size():
         raise Failed(f"{shown(archive.path)} ends early, and {shown(other)} does not have all that it lacks", 4)
     slices = mended(archive, findings, other, found)
-    still = Findings(known)
-    still.changed, still.has_ends = lacking, True
-    findings.changed = findings.changed - lacking
-    lines = findings.lines("repaired")
+    lines = lines_of("repaired", findings.changed - lacking, findings.changed_retirements, findings.has_ends)
     if lines:
         put(archive, program, findings, slices, lines, not lacking, screen)
-    return lines + still.lines()
+    return lines + lines_of("changed", lacking)
 
 
 def carry_out(words):
