@@ -1,7 +1,8 @@
 //! How a case ended at a place of a sweep, beside the whole case.
 
 use case_parts::{End, Left};
-use command_ends::{CommandFault, Failure};
+use command_ends::{CommandFault, Failure, Why};
+use crash_frames::FrameFlaw;
 use std::fmt;
 
 /// How a case at a place of a sweep ended, with the numbers left out that are the place's own.
@@ -39,7 +40,7 @@ enum Kept {
 impl Outcome {
     /// The outcome of a case at a place.
     pub fn at(place: usize, left: &Left, whole: &Left) -> Outcome {
-        let end = PlaceEnd::at(place, left.end, whole.end);
+        let end = PlaceEnd::at(place, without_flaw(left.end), without_flaw(whole.end));
         let mut out = Kept::of(&left.out, &whole.out);
         let mut report = Kept::of(&left.report, &whole.report);
         if end == PlaceEnd::OutFailedThere {
@@ -50,6 +51,26 @@ impl Outcome {
         }
         Outcome { end, out, report }
     }
+}
+
+// The same end, without what the first line of a fault does not tell: what is wrong with the line of an input.
+fn without_flaw(end: End) -> End {
+    let End::Command(Err(Failure::Command(CommandFault::Input(place, why)))) = end else {
+        return end;
+    };
+    let why = match why {
+        Why::BadFrame { line, .. } => Why::BadFrame {
+            line,
+            flaw: FrameFlaw::FieldCount,
+        },
+        Why::Script { fault, line, .. } => Why::Script {
+            fault,
+            line,
+            flaw: None,
+        },
+        other => other,
+    };
+    End::Command(Err(Failure::Command(CommandFault::Input(place, why))))
 }
 
 impl PlaceEnd {
