@@ -22,7 +22,8 @@ use Rattle.command_ends.specs.Inputs.{EachKnown, EachUnfailed, HoldsArchive, IsA
 use Rattle.command_ends.specs.Outputs.{Out, PlacesNothing, Publishes, Takes, Writer}
 use Rattle.command_ends.proofs.Amidst.{ends_in_turn, published_amidst, stopped_amidst, stops_alike}
 use Rattle.archive_updates.specs.Joining.{IsJoined, MakesJoin, MakesJoined, joining, joins}
-use Rattle.archive_updates.specs.Merge.{HasJoined, MakesMerged, file_place, merge_in_turn, merged}
+use Rattle.archive_updates.specs.Merge.{HasJoined, MakesMerged, merge_in_turn}
+use Rattle.command_ends.specs.Archives.{file_place, merged}
 use Rattle.archive_updates.proofs.AtHand.{sizes_are}
 use Rattle.archive_updates.proofs.Migrated.{join_with_nothing}
 

@@ -2,7 +2,8 @@ use Rattle.std.proofs.Common.{◌∙◌, refl, sym}
 use Rattle.byte_device.proofs.Known.{Appends-none}
 use Rattle.command_ends.specs.Inputs.{EachKnown, EachUnfailed, IsArchive, IsArchiveRefused, IsFirstRefused, IsKnown, reader, readers}
 use Rattle.command_ends.specs.Outputs.{out_of, outs, writer}
-use Rattle.archive_updates.specs.Merge.{MakesMerged, file_place}
+use Rattle.archive_updates.specs.Merge.{MakesMerged}
+use Rattle.command_ends.specs.Archives.{file_place}
 use Rattle.archive_updates.proofs.Behind.{told_behind}
 use Rattle.archive_updates.proofs.Merged.{merged_in_turn, one_text}
 use Rattle.archive_updates.proofs.merge.merge_in_turn.Goals as goal
