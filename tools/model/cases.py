@@ -4,8 +4,8 @@ import re
 import formats as F
 from hints import second_line
 from formats import (Content, Fault, MergeFault, Refused, Reader, Source, addr, admission, answering, answer_lines,
-                     arch_word, address_word, covering, digest_word, find_lines, find_rows, key_of, key_text,
-                     merge_streams, name_lines, parts_of_file, read_archive, read_frames, read_ops, read_script,
+                     arch_word, address_word, copy_unnamed, covering, digest_word, find_lines, find_rows, key_of,
+                     key_text, merge_streams, name_lines, parts_of_file, read_archive, read_frames, read_ops, read_script,
                      read_summary, retirement, run_world, sha, slice_of, summary_text, uuid_word)
 
 INF = 1 << 62
@@ -295,11 +295,39 @@ class Run:
                 lines.append("file %d slice %d %s %s %s" % (f, s, word, key_text(r[1:25]), sha(b).hex()))
         return self.finish(c, lines)
 
+    def merge(self, path, right, lines_of=lambda content: []):
+        """the archive of a path, merged with the text of another one as it comes; the lines are those of its content"""
+        src = self.open(path)
+        if src is None:
+            raise CmdFault("archive 0", "cannot open")
+        try:
+            n = merge_streams(src, Source(right), lambda b: self.out.push(b, "output"))
+        except MergeFault as f:
+            raise CmdFault("archive 0", f.text)
+        return self.end(n, lines_of(read_archive(Source(src.data))))
+
+    def end(self, n, lines):
+        """the end of a command whose draft has taken a whole text of so many records"""
+        self.out.place()
+        self.tell(lines + ["archive: %d records, %d bytes" % (n, len(self.out.data))])
+        return 0
+
+    def behind(self, path, read):
+        """what is read of inputs before the archive of a path, whose own fault is told where one of them is refused"""
+        try:
+            return read()
+        except CmdFault:
+            self.archive(path, "archive 0")
+            raise
+
     def cmd_retire(self, p):
-        c = self.archive(p["in"], "archive 0")
         key = p["uuid"] + p["arch"]
-        word = "retired" if c.take(retirement(key, p["digest"])) else "known"
-        return self.finish(c, ["%s %s %s" % (word, key_text(key), p["digest"].hex())])
+        r = retirement(key, p["digest"])
+
+        def lines_of(content):
+            word = "known" if content.holds(r) else "retired"
+            return ["%s %s %s" % (word, key_text(key), p["digest"].hex())]
+        return self.merge(p["in"], Content([r]).text(), lines_of)
 
     def cmd_merge(self, p):
         if len(p["file"]) == 1:
@@ -326,13 +354,15 @@ class Run:
             self.out.place()
             self.tell(["archive: %d records, %d bytes" % (n, written[0])])
             return 0
-        c = self.archive(p["in"], "archive 0")
-        for i, path in enumerate(p["file"], 1):
-            c.join(self.archive(path, "archive %d" % i))
-        return self.finish(c, [])
+        def files():
+            c = Content()
+            for i, path in enumerate(p["file"], 1):
+                c.join(self.archive(path, "archive %d" % i))
+            return c
+        return self.merge(p["in"], self.behind(p["in"], files).text())
 
     def cmd_migrate(self, p):
-        return self.finish(self.archive(p["in"], "archive 0"), [])
+        return self.merge(p["in"], Content().text())
 
     def cmd_apply(self, p):
         c = self.archive(p["in"], "archive 0")
@@ -393,9 +423,15 @@ class Run:
         return 0
 
     def cmd_delta(self, p):
-        c = self.archive(p["archive"], "archive 0")
-        e = self.other(p["summary"], "summary", read_summary)
-        return self.finish(c.delta(e), [])
+        e = self.behind(p["archive"], lambda: self.other(p["summary"], "summary", read_summary))
+        src = self.open(p["archive"])
+        if src is None:
+            raise CmdFault("archive 0", "cannot open")
+        try:
+            n = copy_unnamed(src, e, lambda b: self.out.push(b, "output"))
+        except Fault as f:
+            raise CmdFault("archive 0", f.text)
+        return self.end(n, [])
 
     def cmd_rehearse(self, p):
         s = read_script(self.whole(p["script"], "script"))
