@@ -57,7 +57,7 @@ module _ {R S : Type 0} (archive : Reader R) (others : List (Reader S)) (o : Ope
   pub join_refused : (place : Place) (why : Why) → AreRefused archive others place why → IsDeviceFault why
   join_refused place why refused =
       merge_refused archive others given.content given.contents place why given.is_content given.are_contents given.archive_is given.others_are
-      (elim refused [ | inl first ↦ inl first.0 | inr behind ↦ inr behind ])
+      (elim refused [ inl first ↦ inl first.0 | inr behind ↦ inr behind ])
 
   -- the file that `merge` of them writes is the text of their join
   pub merge_given : {T : Type 0} (file : Reader T) (made told : List ℕ) → (merge archive others).Makes made told → IsGiven file made → IsGivenJoin {S = S} file [] o

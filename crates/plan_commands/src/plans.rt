@@ -364,7 +364,13 @@ pub fn execute<A: Archive + Drop, L: Archive + Drop, S: Source, T: Target, P: Si
             arch,
             digest,
             ..
-        } => run_retire(heap, first, key(uuid, arch), *digest, out, report),
+        } => {
+            let key = SliceKey {
+                uuid: *uuid,
+                arch: *arch,
+            };
+            run_retire(heap, first, key, *digest, out, report)
+        }
         Plan::Merge { .. } => run_merge::<A, _, _, _, _>(heap, first, others, out, report),
         Plan::Migrate { .. } => run_migrate(heap, first, out, report),
         Plan::Apply { .. } => match others {
