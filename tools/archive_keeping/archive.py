@@ -73,12 +73,12 @@ class Archive:
 
     @contextlib.contextmanager
     def room(self):
-        """A folder beside the archive. Only who has the lock makes one."""
-        room = tempfile.mkdtemp(prefix=self.name + ROOM, dir=self.folder)
+        """A folder beside the archive. Only who has the lock makes one. A signal may end this as it is made."""
         try:
-            yield room
+            yield tempfile.mkdtemp(prefix=self.name + ROOM, dir=self.folder)
         finally:
-            shutil.rmtree(room, ignore_errors=True)
+            for name in self.rooms():
+                shutil.rmtree(os.path.join(self.folder, name), ignore_errors=True)
 
     # ---- what it has
 
