@@ -4,9 +4,9 @@ import re
 import formats as F
 from hints import second_line
 from formats import (Content, Fault, MergeFault, Refused, Reader, Source, addr, admission, answering, answer_lines,
-                     arch_word, address_word, covering, digest_word, find_lines, find_rows, key_of, key_text,
-                     merge_streams, name_lines, parts_of_file, read_archive, read_frames, read_ops, read_script,
-                     read_summary, retirement, run_world, sha, slice_of, summary_text, uuid_word)
+                     arch_word, address_word, copy_unnamed, covering, digest_word, find_lines, find_rows, key_of,
+                     key_text, merge_streams, name_lines, parts_of_file, read_archive, read_frames, read_ops,
+                     read_script, read_summary, retirement, run_world, sha, slice_of, summary_text, uuid_word)
 
 INF = 1 << 62
 
@@ -295,11 +295,39 @@ class Run:
                 lines.append("file %d slice %d %s %s %s" % (f, s, word, key_text(r[1:25]), sha(b).hex()))
         return self.finish(c, lines)
 
+    def merge(self, path, right, lines_of=lambda content: []):
+        """the archive of a path, merged with the text of another one as it comes; the lines are those of its content"""
+        src = self.open(path)
+        if src is None:
+            raise CmdFault("archive 0", "cannot open")
+        try:
+            n = merge_streams(src, Source(right), lambda b: self.out.push(b, "output"))
+        except MergeFault as f:
+            raise CmdFault("archive 0", f.text)
+        return self.end(n, lines_of(read_archive(Source(src.data))))
+
+    def end(self, n, lines):
+        """the end of a command whose draft has taken a whole text of so many records"""
+        self.out.place()
+        self.tell(lines + ["archive: %d records, %d bytes" % (n, len(self.out.data))])
+        return 0
+
+    def behind(self, path, read):
+        """what is read of inputs before the archive of a path, whose own fault is told where one of them is refused"""
+        try:
+            return read()
+        except CmdFault:
+            self.archive(path, "archive 0")
+            raise
+
     def cmd_retire(self, p):
-        c = self.archive(p["in"], "archive 0")
         key = p["uuid"] + p["arch"]
-        word = "retired" if c.take(retirement(key, p["digest"])) else "known"
-        return self.finish(c, ["%s %s %s" % (word, key_text(key), p["digest"].hex())])
+        r = retirement(key, p["digest"])
+
+        def lines_of(content):
+            word = "known" if content.holds(r) else "retired"
+            return ["%s %s %s" % (word, key_text(key), p["digest"].hex())]
+        return self.merge(p["in"], Content([r]).text(), lines_of)
 
     def cmd_merge(self, p):
         if len(p["file"]) == 1:
@@ -326,13 +354,15 @@ class Run:
             self.out.place()
             self.tell(["archive: %d records, %d bytes" % (n, written[0])])
             return 0
-        c = self.archive(p["in"], "archive 0")
-        for i, path in enumerate(p["file"], 1):
-            c.join(self.archive(path, "archive %d" % i))
-        return self.finish(c, [])
+        def files():
+            c = Content()
+            for i, path in enumerate(p["file"], 1):
+                c.join(self.archive(path, "archive %d" % i))
+            return c
+        return self.merge(p["in"], self.behind(p["in"], files).text())
 
     def cmd_migrate(self, p):
-        return self.finish(self.archive(p["in"], "archive 0"), [])
+        return self.merge(p["in"], Content().text())
 
     def cmd_apply(self, p):
         c = self.archive(p["in"], "archive 0")
@@ -393,9 +423,15 @@ class Run:
         return 0
 
     def cmd_delta(self, p):
-        c = self.archive(p["archive"], "archive 0")
-        e = self.other(p["summary"], "summary", read_summary)
-        return self.finish(c.delta(e), [])
+        e = self.behind(p["archive"], lambda: self.other(p["summary"], "summary", read_summary))
+        src = self.open(p["archive"])
+        if src is None:
+            raise CmdFault("archive 0", "cannot open")
+        try:
+            n = copy_unnamed(src, e, lambda b: self.out.push(b, "output"))
+        except Fault as f:
+            raise CmdFault("archive 0", f.text)
+        return self.end(n, [])
 
     def cmd_rehearse(self, p):
         s = read_script(self.whole(p["script"], "script"))
@@ -859,15 +895,23 @@ def inputs_of(p):
     return [p[k] for k in keys if k in p] + p.get("file", [])
 
 
-def is_replaced(cmd, there):
-    """whether a command replaces a file with these bytes"""
-    if cmd == "new" and there[:8] in F.magics():
-        return len(there) <= 17
-    return not there or there[:8] in F.magics() + [F.OPS, F.SUM]
+def obstacle(cmd, there, new):
+    """why a file with these bytes does not give way to the new ones, if it does not; None of the new ones where a
+    command is stopped before it has all of them"""
+    if there and there[:8] not in F.magics() + [F.OPS, F.SUM]:
+        return "neither empty nor one of symarch's files"
+    if new is None or cmd in ("summary", "delta") or there[:8] not in F.magics():
+        return None
+    records, fault = F.good_front(there)
+    if fault:
+        return "an archive that is damaged"
+    content = archive_of(new)
+    lost = sum(not (content.holds(r) or r[0] == 2 and F.covering(r) in content.rets) for r in records)
+    return "has %d record%s that the new archive neither has nor retires" % (lost, "s"[lost == 1:]) if lost else None
 
 
-def out_fault(folder, p):
-    """what stops OUT at its first byte, if something does"""
+def out_fault(folder, p, new):
+    """what stops OUT, if something does: at its first byte, or where the new bytes are whole"""
     if p["out"] == "/dev/full":
         return "failed after 0 bytes"
     o = p["out"][1:]
@@ -876,7 +920,7 @@ def out_fault(folder, p):
         return "cannot create" if "/" in name or o in folder.names else None
     if i in [folder.resolve(it[1:])[1] for it in inputs_of(p)]:
         return "cannot create"
-    return None if is_replaced(p["cmd"], folder.files[i]) else "cannot replace"
+    return "cannot replace" if obstacle(p["cmd"], folder.files[i], new) else None
 
 
 def run_program(folder, words, most):
@@ -890,9 +934,11 @@ def run_program(folder, words, most):
         return None if b is None else Source(b)
     limits = Limits(report=most)
     left = run_plan(p, open_source, limits)
-    fault = out_fault(folder, p) if left.out else None
+    new = None if left.is_draft else left.out
+    fault = out_fault(folder, p, new) if left.out else None
     if fault:
-        return ["  symarch: output: " + fault] + second_line(p, "output: " + fault, folder) + ["  status 2"]
+        why = obstacle(p["cmd"], folder.bytes(p["out"][1:]), new) if fault == "cannot replace" else None
+        return ["  symarch: output: " + fault] + second_line(p, "output: " + fault, folder, why) + ["  status 2"]
     if not left.is_draft:
         folder.put(p["out"][1:], left.out)
     # OUT is a file of the system: its length and digest are not told

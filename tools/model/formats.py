@@ -483,6 +483,22 @@ def merge_streams(left, right, write):
     return count
 
 
+def copy_unnamed(src, entries, write):
+    """the records that entries do not name, written as they are read; how many there are"""
+    reader = Reader(src, "archive")
+    reader.magic()
+    write(magic())
+    count, rec = 0, reader.next()
+    while rec is not None:
+        is_covered = V == 2 and rec[0] == 2 and covering(rec) in reader.rets
+        if not is_covered and entry(rec) not in entries:
+            write(rec)
+            count += 1
+        rec = reader.next()
+    write(b"\x03" + struct.pack(">Q", count))
+    return count
+
+
 def good_front(data):
     """the records of the longest good front, and the fault behind it or None; no records without the magic"""
     r = Reader(Source(data), "archive")

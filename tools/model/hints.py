@@ -95,11 +95,10 @@ def word_at(plan, place):
     return plan[kind]
 
 
-def what_is_wrong(plan, place, text, folder, word):
+def what_is_wrong(place, text, folder, word, obstacle):
     """what stands behind the path"""
     if text == "cannot replace":
-        return ", there, and neither empty nor " + (
-            "an archive without records" if plan["cmd"] == "new" else "one of symarch's files")
+        return ", there, and " + obstacle
     if text.startswith("failed after"):
         return NO_SPACE
     is_there = word.startswith("@") and folder.bytes(word[1:]) is not None
@@ -114,11 +113,11 @@ def what_is_wrong(plan, place, text, folder, word):
     return ", " + look if of_kind and look else ""
 
 
-def second_line(plan, fault, folder):
-    """the line behind `symarch: FAULT`, if there is one, with @ for the folder"""
+def second_line(plan, fault, folder, obstacle=None):
+    """the line behind `symarch: FAULT`, if there is one, with @ for the folder; why what is at OUT is not replaced"""
     place, colon, text = fault.partition(": ")
     if not colon or place == "report":
         return []
     word = word_at(plan, place)
     path = "@/" + word[1:] if word.startswith("@") else word
-    return ["    %s is %s%s" % (place, path, what_is_wrong(plan, place, text, folder, word))]
+    return ["    %s is %s%s" % (place, path, what_is_wrong(place, text, folder, word, obstacle))]

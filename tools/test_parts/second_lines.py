@@ -6,11 +6,8 @@ import re
 OF_AN_INPUT = ", the file of an input"
 MACHO = ", a Mach-O file, which `admit` takes"
 # What is at OUT that a command does not replace.
-NO_OTHER = dict.fromkeys(
-    ("admit", "retire", "merge", "migrate", "apply", "summary", "delta"),
-    ", there, and neither empty nor one of symarch's files",
-)
-NO_OTHER["new"] = ", there, and neither empty nor an archive without records"
+FOREIGN = ", there, and neither empty nor one of symarch's files"
+DAMAGED = ", there, and an archive that is damaged"
 # Which word an input is that is not the first one, and OUT that is not the second one. FILEs begin behind OUT.
 PLACES = {"frames": {"archive": 2}, "delta": {"summary": 2}, "apply": {"ops": 3}}
 OUT_PLACES = {"new": 1, "delta": 3}
@@ -19,6 +16,12 @@ OUT_PLACES = {"new": 1, "delta": 3}
 def said_by(number):
     """What the system says, by the number of its error."""
     return f": {os.strerror(number)} (os error {number})"
+
+
+def losing(number):
+    """What is known of an archive at OUT with so many records that the new one neither has nor retires."""
+    records = "record" if number == 1 else "records"
+    return f", there, and has {number} {records} that the new archive neither has nor retires"
 
 
 def path_in(words, line):

@@ -7,7 +7,8 @@ ghost use Rattle.archive_files.specs.FileCalls.{Removes, Syncs, SyncsFolder, pla
 ghost use Rattle.archive_files.specs.Placing.{IsBeside, draft_name, folder_of};
 
 use crate::file_calls::FileCalls;
-use crate::replaceable::{Access, OutFault};
+use crate::losses::test_losses;
+use crate::replaceable::{Access, Obstacle, OutFault, Replaces};
 use memory::NoMemory;
 use std::alloc::Global;
 use std::fs::{self, OpenFile, OpenOptions, Permissions};
@@ -121,10 +122,12 @@ pub fn remove_draft<F: Files, T>(files: &F, draft: &Draft<T>, calls: &mut FileCa
 
 /// Puts a draft in the place of what it is to replace, or removes it. Its bytes are on the disk before it is renamed.
 pub fn put_draft<F: Files>(
+    alloc: Global,
     files: &F,
     draft: &Draft<F::File>,
+    replaces: Replaces,
     calls: &mut FileCalls,
-) -> io::Result<()>
+) -> Result<(), OutFault>
     ensures placed { OnOk result (calls.new.entries ≡ calls.old.entries
         ++ placing (string_bytes draft.now.path) (string_bytes draft.now.target)
         (folder_of (string_bytes draft.now.target))) }
@@ -132,16 +135,33 @@ pub fn put_draft<F: Files>(
         ((calls.new.entries ≡ calls.old.entries ++ Removes (string_bytes draft.now.path) ∷ [])
         ⊎ (calls.new.entries ≡ calls.old.entries ++ Syncs ∷ Removes (string_bytes draft.now.path) ∷ [])) }
 {
+    if let Err(fault) = test_place(alloc, files, draft, replaces) {
+        remove_draft(files, draft, calls);
+        return Err(fault);
+    }
     if let Err(error) = draft.file.sync_all() {
         remove_draft(files, draft, calls);
-        return Err(error);
+        return Err(OutFault::NotReplaced(Obstacle::Refused(Some(error))));
     }
     calls.syncs();
     if let Err(error) = fs::rename(files, &draft.path, &draft.target) {
         remove_draft(files, draft, calls);
-        return Err(error);
+        return Err(OutFault::NotReplaced(Obstacle::Refused(Some(error))));
     }
     calls.renames(&draft.path, &draft.target);
     sync_folder(files, folder_of(&draft.target), calls);
     Ok(())
+}
+
+/// Whether a draft may be put in the place of what is there.
+fn test_place<F: Files>(
+    alloc: Global,
+    files: &F,
+    draft: &Draft<F::File>,
+    replaces: Replaces,
+) -> Result<(), OutFault> {
+    match replaces {
+        Replaces::OwnFiles => Ok(()),
+        Replaces::ArchivesBelow => test_losses(alloc, files, &draft.path, &draft.target),
+    }
 }

@@ -11,7 +11,7 @@ ghost use Rattle.archive_files.specs.Placing.{HandsOn, IsRemoved, took_nothing};
 use crate::drafts::{Draft, create_draft, put_draft, remove_draft};
 use crate::file_calls::FileCalls;
 use crate::placed::Placed;
-use crate::replaceable::{OutFault, Replaces, Way, way_to};
+use crate::replaceable::{Obstacle, OutFault, Replaces, Way, way_to};
 use byte_device::{Failed, Sink};
 use std::alloc::Global;
 use std::io::{self, Write};
@@ -65,7 +65,6 @@ fn begun<F: Files>(
     files: &F,
     process: u32,
     path: &str,
-    replaces: Replaces,
     calls: &mut FileCalls,
 ) -> Result<OutState<F::File>, OutFault>
     ensures calls { calls.old.entries ≡ [] → IfOk result
@@ -74,7 +73,7 @@ fn begun<F: Files>(
     ensures begun { IfOk result (λ state. has_calls (stage_of state) ≡ true) }
     ensures refused { OnErr result (calls.new.entries ≡ calls.old.entries) }
 {
-    match way_to(alloc, files, path, replaces)? {
+    match way_to(alloc, files, path)? {
         Way::Through => {
             let file = match fs::create(files, path) {
                 Ok(file) => file,
@@ -97,7 +96,6 @@ fn first_state<F: Files>(
     files: &F,
     process: u32,
     path: &Option<String>,
-    replaces: Replaces,
     calls: &mut FileCalls,
 ) -> OutState<F::File>
     ensures calls { calls.old.entries ≡ []
@@ -108,7 +106,7 @@ fn first_state<F: Files>(
     let Some(path) = path else {
         return OutState::Refused(OutFault::NotCreated(None));
     };
-    match begun(alloc, files, process, path, replaces, calls) {
+    match begun(alloc, files, process, path, calls) {
         Ok(state) => state,
         Err(fault) => OutState::Refused(fault),
     }
@@ -120,7 +118,6 @@ fn begin<F: Files>(
     files: &F,
     process: u32,
     path: &Option<String>,
-    replaces: Replaces,
     state: &mut OutState<F::File>,
     calls: &mut FileCalls,
 )
@@ -133,7 +130,7 @@ fn begin<F: Files>(
     ensures settled { is_settled (stage_of state.new) ≡ is_settled (stage_of state.old) }
 {
     if let OutState::Untouched = state {
-        *state = first_state(alloc, files, process, path, replaces, calls);
+        *state = first_state(alloc, files, process, path, calls);
     }
 }
 
@@ -155,7 +152,13 @@ fn write<T: Write>(state: &mut OutState<T>, bytes: &[u8]) -> Result<usize, Optio
 }
 
 /// Puts what was written in place, and tells whether that was done. A draft that could not be put there is removed.
-fn finish<F: Files>(files: &F, state: &mut OutState<F::File>, calls: &mut FileCalls) -> bool
+fn finish<F: Files>(
+    alloc: Global,
+    files: &F,
+    replaces: Replaces,
+    state: &mut OutState<F::File>,
+    calls: &mut FileCalls,
+) -> bool
     ensures placed { result ≡ true → (path : Option (List ℕ)) → IsSoFar path (stage_of state.old) calls.old.entries
         → HandsOn path calls.new.entries }
     ensures settled { result ≡ true → stage_of state.new ≡ Settled }
@@ -170,10 +173,10 @@ fn finish<F: Files>(files: &F, state: &mut OutState<F::File>, calls: &mut FileCa
 {
     match mem::replace(state, OutState::Settled) {
         OutState::Through(_) => true,
-        OutState::Drafted(draft) => match put_draft(files, &draft, calls) {
+        OutState::Drafted(draft) => match put_draft(alloc, files, &draft, replaces, calls) {
             Ok(()) => true,
-            Err(error) => {
-                *state = OutState::Refused(OutFault::NotReplaced(Some(error)));
+            Err(fault) => {
+                *state = OutState::Refused(fault);
                 false
             }
         },
@@ -253,9 +256,18 @@ impl<'a, F: Files> OutFile<'a, F> {
     /// What the system said where it failed, if it did.
     pub fn reason(&self) -> Option<io::Error> {
         match self.state {
-            OutState::Refused(OutFault::NotCreated(reason) | OutFault::NotReplaced(reason)) =>
-                reason,
+            OutState::Refused(
+                OutFault::NotCreated(reason) | OutFault::NotReplaced(Obstacle::Refused(reason)),
+            ) => reason,
             _ => self.reason,
+        }
+    }
+
+    /// Why what is at its path was not replaced, if it was not.
+    pub fn obstacle(&self) -> Option<Obstacle> {
+        match self.state {
+            OutState::Refused(OutFault::NotReplaced(obstacle)) => Some(obstacle),
+            _ => None,
         }
     }
 
@@ -273,7 +285,13 @@ impl<'a, F: Files> OutFile<'a, F> {
             × (is_settled (stage_of self.new.state) ≡ is_settled (stage_of self.old.state)) }
         ensures failures { self.new.failures ≡ self.old.failures }
     {
-        if !finish(self.files, &mut self.state, &mut self.calls) {
+        if !finish(
+            self.alloc,
+            self.files,
+            self.replaces,
+            &mut self.state,
+            &mut self.calls,
+        ) {
             return None;
         }
         let calls = mem::replace(&mut self.calls, FileCalls::new());
@@ -332,7 +350,6 @@ impl<'a, F: Files> Sink for OutFile<'a, F> {
             self.files,
             self.process,
             &self.path,
-            self.replaces,
             &mut self.state,
             &mut self.calls,
         );

@@ -8,16 +8,22 @@ use std::io::{self, ErrorKind, Read};
 use std::os::unix::fs::MetadataExt;
 use std::rt::Files;
 
-/// How long an archive without records is: its magic, and an end record of a byte and a count.
-const EMPTY_ARCHIVE_LEN: u64 = 17;
+/// The formats of symarch's own files.
+const OWN: [Format; 4] = [
+    Format::Archive,
+    Format::OldArchive,
+    Format::Operations,
+    Format::Summary,
+];
 
-/// Why OUT takes no bytes, or was not put in place, with what the system said, if it was the system that refused.
+/// Why OUT takes no bytes, or was not put in place.
 #[derive(Clone, Copy, Debug)]
 pub enum OutFault {
-    /// It could not be created, or what is there may not be written.
+    /// It could not be created, or what is there may not be written, with what the system said, if it was the system
+    /// that refused.
     NotCreated(Option<io::Error>),
-    /// What is there is none of symarch's files, or could not be replaced.
-    NotReplaced(Option<io::Error>),
+    /// What is there is not replaced.
+    NotReplaced(Obstacle),
     /// There was no memory for its names.
     OutOfMemory,
 }
@@ -28,13 +34,26 @@ impl From<NoMemory> for OutFault {
     }
 }
 
+/// Why what is at OUT's path is not replaced.
+#[derive(Clone, Copy, Debug)]
+pub enum Obstacle {
+    /// It is none of symarch's files.
+    Foreign,
+    /// It is an archive with so many records that the new one neither has nor covers.
+    Loses(u64),
+    /// It begins as an archive does, and cannot be read to its end.
+    Damaged,
+    /// It was not read or not renamed, with what the system said, if it said something.
+    Refused(Option<io::Error>),
+}
+
 /// Which of symarch's own files a command replaces.
 #[derive(Clone, Copy, Debug, PartialEq, Eq)]
 pub enum Replaces {
-    /// Each of them.
+    /// Each of them: what it writes is a message to another site.
     OwnFiles,
-    /// No archive that has records.
-    NoRecords,
+    /// Each but an archive that has a record which the new one neither has nor covers.
+    ArchivesBelow,
 }
 
 /// Who may do what with a file.
@@ -68,17 +87,12 @@ pub enum Way {
 ///
 /// What is no regular file is written to, and so is what begins with `/dev/` or `/proc/`, where a regular file may be a
 /// descriptor that others hold. A symbolic link is followed; one that leads to nothing is refused.
-pub fn way_to<F: Files>(
-    alloc: Global,
-    files: &F,
-    path: &str,
-    replaces: Replaces,
-) -> Result<Way, OutFault> {
+pub fn way_to<F: Files>(alloc: Global, files: &F, path: &str) -> Result<Way, OutFault> {
     if path.starts_with("/dev/") || path.starts_with("/proc/") {
         return Ok(Way::Through);
     }
     match fs::metadata(files, path) {
-        Ok(metadata) if metadata.is_file() => replaced(alloc, files, path, &metadata, replaces),
+        Ok(metadata) if metadata.is_file() => replaced(alloc, files, path, &metadata),
         Ok(_) => Ok(Way::Through),
         Err(error) if error.kind() == ErrorKind::NotFound => absent(alloc, files, path, error),
         Err(error) => Err(OutFault::NotCreated(Some(error))),
@@ -105,14 +119,13 @@ fn replaced<F: Files>(
     files: &F,
     path: &str,
     metadata: &Metadata,
-    replaces: Replaces,
 ) -> Result<Way, OutFault> {
     let mut file = match OpenOptions::new().read(true).write(true).open(files, path) {
         Ok(file) => file,
         Err(error) => return Err(OutFault::NotCreated(Some(error))),
     };
-    if metadata.len() > 0 && !is_replaced(&mut file, metadata.len(), replaces) {
-        return Err(OutFault::NotReplaced(None));
+    if metadata.len() > 0 && !is_own(&mut file) {
+        return Err(OutFault::NotReplaced(Obstacle::Foreign));
     }
     let target = target_of(alloc, files, path)?;
     Ok(Way::Beside(target, Some(Access::of(metadata))))
@@ -131,25 +144,16 @@ fn target_of<F: Files>(alloc: Global, files: &F, path: &str) -> Result<String, O
     }
 }
 
-/// Whether a file of this length is one of symarch's own that is replaced, told by what it begins with.
-fn is_replaced<R: Read>(file: &mut R, len: u64, replaces: Replaces) -> bool {
-    let Ok(magic) = magic_in(file) else {
-        return false;
-    };
-    let is_archive = [Format::Archive, Format::OldArchive]
-        .iter()
-        .any(|format| format.magic() == magic);
-    let is_other = [Format::Operations, Format::Summary]
-        .iter()
-        .any(|format| format.magic() == magic);
-    match replaces {
-        Replaces::OwnFiles => is_archive || is_other,
-        Replaces::NoRecords => is_other || is_archive && len <= EMPTY_ARCHIVE_LEN,
+/// Whether a file is one of symarch's own, told by what it begins with.
+fn is_own<R: Read>(file: &mut R) -> bool {
+    match magic_in(file) {
+        Ok(magic) => OWN.iter().any(|format| format.magic() == magic),
+        Err(_) => false,
     }
 }
 
 /// The first bytes of a file, as many as a magic has.
-fn magic_in<R: Read>(file: &mut R) -> io::Result<[u8; MAGIC_LEN as usize]> {
+pub fn magic_in<R: Read>(file: &mut R) -> io::Result<[u8; MAGIC_LEN as usize]> {
     let mut magic = [0; MAGIC_LEN as usize];
     file.read_exact(&mut magic)?;
     Ok(magic)

@@ -81,6 +81,6 @@ pub delta_refused : {R S : Type 0} (input : Reader R) (named : Reader S) (o : Op
     → (delta input named).Refuses place why → IsDeviceFault why
 delta_refused input named o entries place why content are given named_given refused =
     elim refused [
-      | inl p ↦ archive input o why content given p.0.1
+      | inl p ↦ archive input o why content given p.1
       | inr p ↦ text SummaryFile named.left named.failures named.old named.new entries (summary_text entries) why are refl named_given p.2.1
     ]

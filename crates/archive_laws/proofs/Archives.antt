@@ -24,7 +24,7 @@ pub merge_refused : {R S : Type 0} (input : Reader R) (files : List (Reader S)) 
     → (merge input files).Refuses place why → IsDeviceFault why
 merge_refused input files o contents place why content are given files_given refused =
     elim refused [
-      | inl p ↦ archive input o why content given p.0.1
+      | inl p ↦ archive input o why content given p.1
       | inr p ↦
           let first = p.2 in
           let found = content_at files contents first.number first.input files_given are first.input_is in

@@ -3,11 +3,10 @@ use Rattle.std.proofs.Common.{◌≡◌, ◌↔◌, ℕ, Bool, true, false, ◌&
 use Rattle.std.specs.Prelude.{IfSome}
 use Rattle.std.specs.List.{AllByRecursion, AllZip, flat_map, list_all}
 use Rattle.std.proofs.lemmas.List.{append-nil}
-use Rattle.archive_core.specs.Content.{Operations, IsContent}
+use Rattle.archive_core.specs.Content.{Operations}
 use Rattle.archive_core.specs.Lookup.{AnswerRecord, IsAnswer, answer_view}
 use Rattle.archive_core.specs.declared.keys.SliceKey.{SliceKey}
 use Rattle.archive_core.specs.declared.lookup.Where.{Where}
-use Rattle.archive_records.specs.Text.{IsArchiveOf}
 use Rattle.archive_words.specs.Lines.{line_at}
 use Rattle.crash_frames.specs.Flaws.{frame_flaw}
 use Rattle.crash_frames.specs.Frames.{frames_of}
@@ -20,10 +19,12 @@ use Rattle.command_ends.specs.declared.faults.Status.TheVariants.{Done, Partial}
 use Rattle.command_ends.specs.declared.faults.Why.{Why}
 use Rattle.command_ends.specs.declared.faults.Why.TheVariants.{Device as CannotRead, Record, Take, Script as Faulty, BadFrame, CannotOpen as NotOpened}
 use Rattle.archive_queries.specs.Frames.{IsFrameAnswered, TellsFrames, MakesFramed, RefusesFrames, Told, IsToldAlone, SymbolicatesEach, is_done}
-use Rattle.command_ends.specs.Inputs.{Reader, reader, Gives, IsDeviceFault, IsFramesRefused, IsGiven, IsGivenArchive, HoldsArchive}
+use Rattle.command_ends.specs.Inputs.{Reader, reader, Gives, HoldsContent, IsDeviceFault, IsFramesRefused, IsGiven}
 use Rattle.archive_queries.specs.Symbolicate.{Answered, IsAnswered, TellsAddresses, asked_of, is_symbol, answers_status, answers_text}
-use Rattle.archive_laws.proofs.Accepted.{archive}
-use Rattle.archive_laws.proofs.Viewed.{OneContent, alike_told, given_content, known, made_of, seen}
+use Rattle.archive_updates.specs.Merge.{merge}
+use Rattle.archive_laws.specs.Joins.{IsGivenJoin}
+use Rattle.archive_laws.proofs.Joins.{alone_held, as_merged, holds_join, join_refused, told_of_join}
+use Rattle.archive_laws.proofs.Viewed.{alike_told, known, seen}
 
 -- ---- what an input gives
 
@@ -57,20 +58,22 @@ one_text : (rows : List Answered) → answers_text rows ≡ flat_map (λ (one : 
 one_text [] = refl
 one_text (row ∷ rows) = λ i. sym (append-nil (answer_lines row.address row.answer)) i ++ one_text rows i
 
-each_alone : {S : Type 0} (input : Reader S) (o : Operations) (frames : List Frame) (rows : List Answered) → IsContent o → HoldsArchive input o
-    → AllZip (IsFrameAnswered o) frames rows → AllZip (IsToldAlone input) frames (map alone_told rows)
-each_alone input o [] [] content holds all = tt
-each_alone input o [] (row ∷ rows) content holds all = absurd all
-each_alone input o (frame ∷ frames) [] content holds all = absurd all
-each_alone input o (frame ∷ frames) (row ∷ rows) content holds all =
+each_alone : {S T : Type 0} (input : Reader S) (others : List (Reader T)) (o : Operations) (frames : List Frame) (rows : List Answered) → IsGivenJoin input others o
+    → AllZip (IsFrameAnswered o) frames rows → AllZip (IsToldAlone input others) frames (map alone_told rows)
+each_alone input others o [] [] given all = tt
+each_alone input others o [] (row ∷ rows) given all = absurd all
+each_alone input others o (frame ∷ frames) [] given all = absurd all
+each_alone input others o (frame ∷ frames) (row ∷ rows) given all =
     let tells : TellsAddresses o frame.key frame.load (frame.address ∷ []) (answers_status (row ∷ [])) (answers_text (row ∷ [])) = record {
       rows = row ∷ [];
       addresses_are = ap (λ (a : ℕ). a ∷ []) all.0.0;
       answered = (all.0.1, tt);
       status_is = refl;
       text_is = refl;
-    } in
-    (record { content = o; is_content = content; archive_is = holds; tells = tells }, each_alone input o frames rows content holds all.1)
+    } in (
+      holds_join input others o given (λ p. TellsAddresses p frame.key frame.load (frame.address ∷ []) (answers_status (row ∷ [])) (answers_text (row ∷ []))) tells,
+      each_alone input others o frames rows given all.1,
+    )
 
 -- the one row of an answer alone
 one_row : (o : Operations) (frame : Frame) (told : Told) (rows : List Answered) → map (λ (row : Answered). row.address) rows ≡ frame.address ∷ []
@@ -82,61 +85,69 @@ one_row o frame told (row ∷ []) are all status text =
     (row, (address, all.0), λ i. record { status = status i; text = text i })
 one_row o frame told (row ∷ next ∷ rows) are all status text = absurd cc
 
-each_row : OneContent → {S : Type 0} (input : Reader S) (o : Operations) (frames : List Frame) (told : List Told) → IsContent o → IsGivenArchive input o
-    → AllZip (IsToldAlone input) frames told → (rows : List Answered) × AllZip (IsFrameAnswered o) frames rows × (told ≡ map alone_told rows)
-each_row one input o [] [] content is all = ([], tt, refl)
-each_row one input o [] (t ∷ told) content is all = absurd all
-each_row one input o (frame ∷ frames) [] content is all = absurd all
-each_row one input o (frame ∷ frames) (t ∷ told) content is all =
-    let tells = made_of one input o frame.key frame.load (frame.address ∷ []) t.status t.text content is all.0 in
+each_row : {S T : Type 0} (input : Reader S) (others : List (Reader T)) (o : Operations) (frames : List Frame) (told : List Told) → IsGivenJoin input others o
+    → AllZip (IsToldAlone input others) frames told → (rows : List Answered) × AllZip (IsFrameAnswered o) frames rows × (told ≡ map alone_told rows)
+each_row input others o [] [] given all = ([], tt, refl)
+each_row input others o [] (t ∷ told) given all = absurd all
+each_row input others o (frame ∷ frames) [] given all = absurd all
+each_row input others o (frame ∷ frames) (t ∷ told) given all =
+    let tells = told_of_join input others o given (λ p. TellsAddresses p frame.key frame.load (frame.address ∷ []) t.status t.text) all.0 in
     let first = one_row o frame t tells.rows tells.addresses_are tells.answered tells.status_is tells.text_is in
-    let rest = each_row one input o frames told content is all.1 in
+    let rest = each_row input others o frames told given all.1 in
     (first.0 ∷ rest.0, (first.1, rest.1), λ i. first.2 i ∷ rest.2 i)
 
--- ---- frames of an archive that has this content
+-- ---- frames of archives that have this content together
 
-pub command_fault_of : OneContent → {R S : Type 0} (input : Reader R) (input_archive : Reader S) (bytes : List ℕ) (said : List Frame) (o : Operations) (status : Status) (text : List ℕ)
-    → IsContent o → IsGiven input bytes → frames_of bytes ≡ Ok said → IsGivenArchive input_archive o → MakesFramed input input_archive status text → TellsFrames o said status text
-command_fault_of one input other bytes said o status text content is says given_archive makes =
+pub command_fault_of : {R S T : Type 0} (input : Reader R) (first : Reader S) (others : List (Reader T)) (bytes : List ℕ) (said : List Frame) (o : Operations) (status : Status) (text : List ℕ)
+    → IsGiven input bytes → frames_of bytes ≡ Ok said → IsGivenJoin first others o → MakesFramed input first others status text → TellsFrames o said status text
+command_fault_of input first others bytes said o status text is says given_join makes =
     let frames = same_frames (frames_of bytes) makes.said said (given input.left input.failures input.old input.new bytes (λ b. frames_of b ≡ Ok makes.said) is makes.frames_are) says in
-    let same = given_content one other.left other.failures other.old other.new o makes.content content makes.is_content given_archive makes.archive_is in
-    subst (λ (p : Operations). TellsFrames p said status text) (sym same) (subst (λ (fs : List Frame). TellsFrames makes.content fs status text) frames makes.tells)
+    subst (λ (fs : List Frame). TellsFrames o fs status text) frames (told_of_join first others o given_join (λ p. TellsFrames p makes.said status text) makes.tells)
 
-pub each_is : OneContent → {R S : Type 0} (input : Reader R) (other : Reader S) (bytes : List ℕ) (said : List Frame) (o : Operations) (status : Status) (text : List ℕ)
-    → IsContent o → IsGiven input bytes → frames_of bytes ≡ Ok said → IsGivenArchive other o → MakesFramed input other status text ↔ SymbolicatesEach other said status text
-each_is one input other bytes said o status text content is says given_archive = (to, back)
+pub each_is : {R S T : Type 0} (input : Reader R) (first : Reader S) (others : List (Reader T)) (bytes : List ℕ) (said : List Frame) (o : Operations) (status : Status) (text : List ℕ)
+    → IsGiven input bytes → frames_of bytes ≡ Ok said → IsGivenJoin first others o → MakesFramed input first others status text ↔ SymbolicatesEach first others said status text
+each_is input first others bytes said o status text is says given_join = (to, back)
   where
-    holds : HoldsArchive other o
-    holds = gives other.left other.failures other.old other.new given_archive.0 (IsArchiveOf o) given_archive.2 given_archive.1
-
-    to : MakesFramed input other status text → SymbolicatesEach other said status text
+    to : MakesFramed input first others status text → SymbolicatesEach first others said status text
     to makes =
-        let tells = command_fault_of one input other bytes said o status text content is says given_archive makes in
+        let tells = command_fault_of input first others bytes said o status text is says given_join makes in
         record {
           told = map alone_told tells.rows;
-          alone = each_alone other o said tells.rows content holds tells.answered;
+          alone = each_alone first others o said tells.rows given_join tells.answered;
           status_is = tells.status_is ∙ ap (λ (all : Bool). if all then Done else Partial) (all_done tells.rows);
           text_is = tells.text_is ∙ one_text tells.rows;
         }
 
-    back : SymbolicatesEach other said status text → MakesFramed input other status text
+    back : SymbolicatesEach first others said status text → MakesFramed input first others status text
     back each =
-        let rows = each_row one other o said each.told content given_archive each.alone in
+        let rows = each_row first others o said each.told given_join each.alone in
         let symbols = ap (list_all (λ (one : Told). is_done one.status)) rows.2 ∙ sym (all_done rows.0) in
         let lines = ap (flat_map (λ (one : Told). one.text)) rows.2 ∙ sym (one_text rows.0) in
         record {
           said = said;
-          content = o;
           frames_are = gives input.left input.failures input.old input.new bytes (λ b. frames_of b ≡ Ok said) is says;
-          is_content = content;
-          archive_is = holds;
-          tells = record {
+          tells = holds_join first others o given_join (λ p. TellsFrames p said status text) (record {
             rows = rows.0;
             answered = rows.1;
             status_is = each.status_is ∙ ap (λ (all : Bool). if all then Done else Partial) symbols;
             text_is = each.text_is ∙ lines;
-          };
+          });
         }
+
+-- what they tell is what the file tells that `merge` of them writes
+pub as_one : {Q R S T : Type 0} (input : Reader Q) (first : Reader R) (others : List (Reader S)) (file : Reader T) (o : Operations) (made told : List ℕ) (status : Status) (text : List ℕ)
+    → IsGivenJoin first others o → (merge first others).Makes made told → IsGiven file made → MakesFramed input first others status text ↔ MakesFramed {T = S} input file [] status text
+as_one input first others file o made told status text given_join makes is = (
+  λ m. record { said = m.said; frames_are = m.frames_are; tells = (as_merged first others file o made told (λ p. TellsFrames p m.said status text) given_join makes is).0 m.tells },
+  λ m. record { said = m.said; frames_are = m.frames_are; tells = (as_merged first others file o made told (λ p. TellsFrames p m.said status text) given_join makes is).1 m.tells },
+)
+
+pub as_alone : {Q R S : Type 0} (input : Reader Q) (first : Reader R) (status : Status) (text : List ℕ)
+    → MakesFramed {T = S} input first [] status text ↔ ((said : List Frame) × Gives input (λ bytes. frames_of bytes ≡ Ok said) × HoldsContent first (λ o. TellsFrames o said status text))
+as_alone input first status text = (
+  λ m. (m.said, m.frames_are, (alone_held first (λ o. TellsFrames o m.said status text)).0 m.tells),
+  λ m. record { said = m.0; frames_are = m.1; tells = (alone_held first (λ o. TellsFrames o m.0 status text)).1 m.2 },
+)
 
 -- ---- one report
 
@@ -160,14 +171,14 @@ module _ (one : (o : Operations) (key : SliceKey) (place : Where) (answer other 
       let told = alike_told a.rows b.rows (all_seen o frames a.rows b.rows a.answered b.answered) in
       (a.status_is ∙ told.0 ∙ sym b.status_is, a.text_is ∙ told.1 ∙ sym b.text_is)
 
-  pub one_made : OneContent → {Q R S T : Type 0} (input : Reader Q) (first : Reader R) (also : Reader S) (other : Reader T) (bytes : List ℕ) (o : Operations) (status other_status : Status) (text other_text : List ℕ)
-      → IsContent o → IsGiven input bytes → IsGiven also bytes → IsGivenArchive first o → IsGivenArchive other o
-      → MakesFramed input first status text → MakesFramed also other other_status other_text → (status ≡ other_status) × (text ≡ other_text)
-  one_made alike input first also other bytes o status other_status text other_text content is also_is first_given other_given makes other_makes =
+  pub one_made : {Q R S T U V : Type 0} (input : Reader Q) (first : Reader R) (others : List (Reader S)) (also : Reader T) (other : Reader U) (more : List (Reader V)) (bytes : List ℕ) (o : Operations)
+      (status other_status : Status) (text other_text : List ℕ) → IsGiven input bytes → IsGiven also bytes → IsGivenJoin first others o → IsGivenJoin other more o
+      → MakesFramed input first others status text → MakesFramed also other more other_status other_text → (status ≡ other_status) × (text ≡ other_text)
+  one_made input first others also other more bytes o status other_status text other_text is also_is first_given other_given makes other_makes =
       let says = given input.left input.failures input.old input.new bytes (λ b. frames_of b ≡ Ok makes.said) is makes.frames_are in
       one_told o makes.said status other_status text other_text
-      (command_fault_of alike input first bytes makes.said o status text content is says first_given makes)
-      (command_fault_of alike also other bytes makes.said o other_status other_text content also_is says other_given other_makes)
+      (command_fault_of input first others bytes makes.said o status text is says first_given makes)
+      (command_fault_of also other more bytes makes.said o other_status other_text also_is says other_given other_makes)
 
 -- ---- inputs that are accepted
 
@@ -186,10 +197,10 @@ frames_alone left failures old new bytes said (BadFrame line flaw) is says refus
     absurd (no_fault (frames_of bytes) said line says (given left failures old new bytes
     (λ b. (frames_of b ≡ Err line) × (flaw ≡ frame_flaw (line_at b line))) is refused.1).0)
 
-pub not_refused : {R S : Type 0} (input : Reader R) (other : Reader S) (bytes : List ℕ) (said : List Frame) (o : Operations) (place : Place) (why : Why)
-    → IsContent o → IsGiven input bytes → frames_of bytes ≡ Ok said → IsGivenArchive other o → RefusesFrames input other place why → IsDeviceFault why
-not_refused input other bytes said o place why content is says given_archive refused =
+pub not_refused : {R S T : Type 0} (input : Reader R) (first : Reader S) (others : List (Reader T)) (bytes : List ℕ) (said : List Frame) (o : Operations) (place : Place) (why : Why)
+    → IsGiven input bytes → frames_of bytes ≡ Ok said → IsGivenJoin first others o → RefusesFrames input first others place why → IsDeviceFault why
+not_refused input first others bytes said o place why is says given_join refused =
     elim refused [
       | inl p ↦ frames_alone input.left input.failures input.old input.new bytes said why is says p.0.1
-      | inr p ↦ archive other o why content given_archive p.2.1
+      | inr p ↦ join_refused first others o given_join place why p.2
     ]

@@ -11,6 +11,7 @@ pub mod OperationLists
 pub mod Viewed
 pub mod Migrated
 pub mod Outcomes
+pub mod Joins
 pub mod NameTold
 pub mod ListTold
 pub mod FindTold

@@ -5,7 +5,8 @@ use Rattle.archive_core.specs.Content.{Operations, IsContent, content_of, joined
 use Rattle.archive_records.specs.Text.{AreOperations, written, old_written}
 use Rattle.archive_records.proofs.Versions.{one_content}
 use Rattle.command_ends.specs.Inputs.{Reader, IsGiven, IsGivenArchive, HoldsArchive}
-use Rattle.archive_updates.specs.Merge.{MakesMerged, merged}
+use Rattle.command_ends.specs.Archives.{merged}
+use Rattle.archive_updates.specs.Merge.{MakesMerged}
 use Rattle.archive_laws.proofs.Viewed.{given_content}
 
 -- an input with what version 1 wrote of operations gives the content that they make

@@ -18,7 +18,8 @@ use Rattle.archive_updates.specs.Apply.{apply}
 use Rattle.archive_updates.specs.Delta.{delta}
 use Rattle.command_ends.specs.Ends.{MakeOne, MakesArchive}
 use Rattle.command_ends.specs.Inputs.{Reader, reader, Gives, Holds, HoldsArchive, IsGiven, IsGivenArchive}
-use Rattle.archive_updates.specs.Merge.{merge, merged}
+use Rattle.command_ends.specs.Archives.{merged}
+use Rattle.archive_updates.specs.Merge.{merge}
 use Rattle.archive_updates.specs.Migrate.{migrate}
 use Rattle.command_ends.specs.Outputs.{report_of, summary_report_of}
 use Rattle.archive_updates.specs.Retire.{retire}
@@ -56,7 +57,7 @@ texts_given (f ∷ files) (t ∷ texts) (h ∷ held) given holds =
     let rest = texts_given files texts held given.1 holds.1 in
     λ i. sym one i ∷ rest i
 
-contents_given : {S : Type 0} (files : List (Reader S)) (contents held : List Operations) → AllByRecursion IsContent contents → AllByRecursion IsContent held
+pub contents_given : {S : Type 0} (files : List (Reader S)) (contents held : List Operations) → AllByRecursion IsContent contents → AllByRecursion IsContent held
     → AllZip IsGivenArchive files contents → AllZip HoldsArchive files held → held ≡ contents
 contents_given [] [] [] are is given holds = refl
 contents_given [] [] (h ∷ held) are is given holds = absurd holds

@@ -26,17 +26,10 @@ use Rattle.archive_records.proofs.Formats.{old_in_order, ending_of, format_magic
 use Rattle.archive_records.proofs.Versions.{old_written_text, formed}
 use Rattle.archive_records.proofs.Exact.{no_magic_fault, fault_longest}
 use Rattle.archive_laws.proofs.Complete.{same_or_not, content_or_fault}
+use Rattle.archive_updates.proofs.Beginnings.{good_formed}
 use Rattle.record_merge.proofs.Fronts.{archive_text, formed_of, text_magic, both_taken, front_magic, whole_front}
 
 -- ---- good records
-
--- those of the text of records are these
-good_formed : (f : Format) → kind_of f ≡ Archive_text → (t : List ℕ) (xs : List (List ℕ)) → InOrder f [] xs → AreApart f xs → t ≡ text_of f xs → AreGoodRecords t xs
-good_formed f k t xs a p e =
-    let end : List ℕ = ending f (length xs) in
-    let is : is_end end ≡ true = ap is_end (ending_of f k (length xs)) ∙ end-is_end (length xs) in
-    let front : IsGoodFront f t xs = record { ordered = a; apart = p; rest = end; whole = e } in
-    inl (subst (λ (g : Format). IsLongestFront g t xs) (sym (format_magic f k t (concat xs ++ end) e)) (is_longest f t xs front (λ g. end-stops f (last_of [] xs) end is g.next)))
 
 -- those of the text of a content are its records
 pub good_text : (o : Operations) → IsContent o → AreGoodRecords (written o) (listing o)
@@ -109,17 +102,3 @@ of_both_is o p = ap (λ (x : Operations). joined x (set.from_list (listing p))) 
 -- and it is that of the contents that they make
 pub of_both_made : (o p : Operations) → of_both (listing o) (listing p) ≡ joined (content_of o) (content_of p)
 of_both_made o p = of_both_is o p ∙ sym (joined_made o p)
-
-abbrev ForBoth : Option (List ℕ) → Option (List ℕ) → (List (List ℕ) → List (List ℕ) → Type 0) → Type 0
-ForBoth a b P = IfSome a (λ t. IfSome b (λ u. (xs ys : List (List ℕ)) → AreGoodRecords t xs → AreGoodRecords u ys → P xs ys))
-
-pub first_of_join : (a b w0 w1 : Option (List ℕ)) (n : ℕ) (o p : Operations) (t u : List ℕ) → IsContent o → IsContent p → IsArchiveOf o t → IsArchiveOf p u → a ≡ Some t → b ≡ Some u → ForBoth a b (λ xs ys. WritesFirst w0 w1 (written (of_both xs ys)) n) → WritesFirst w0 w1 (written (joined o p)) n
-first_of_join a b w0 w1 n o p t u c d i j e f h =
-    let left = subst (λ (x : Option (List ℕ)). ForBoth x b (λ xs ys. WritesFirst w0 w1 (written (of_both xs ys)) n)) e h in
-    let both = subst (λ (x : Option (List ℕ)). ForBoth (Some t) x (λ xs ys. WritesFirst w0 w1 (written (of_both xs ys)) n)) f left in
-    let l = formed o t c i in
-    let r = formed p u d j in
-    let join : of_both l.records r.records ≡ joined o p =
-    both_taken l.format r.format l.archive r.archive l.records r.records l.ordered l.apart r.ordered r.apart ∙ ap (λ (x : Operations). joined x (set.from_list (taken_of r.format r.records))) (sym l.content) ∙ ap (joined o) (sym r.content) in
-    subst (λ (q : Operations). WritesFirst w0 w1 (written q) n) join
-    (both l.records r.records (good_formed l.format l.archive t l.records l.ordered l.apart l.whole) (good_formed r.format r.archive u r.records r.ordered r.apart r.whole))

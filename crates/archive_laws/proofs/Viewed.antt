@@ -22,8 +22,8 @@ use Rattle.report_text.specs.Report.{line}
 use Rattle.byte_device.specs.declared.disks.CannotOpen.{CannotOpen}
 use Rattle.command_ends.specs.declared.faults.Status.{Status}
 use Rattle.command_ends.specs.declared.faults.Status.TheVariants.{Done, Partial}
-use Rattle.command_ends.specs.Inputs.{Reader, reader, HoldsArchive, IsGivenArchive}
-use Rattle.archive_queries.specs.Symbolicate.{asked_of, is_symbol, Answered, IsAnswered, answers_status, answers_text, TellsAddresses, MakesAnswered}
+use Rattle.command_ends.specs.Inputs.{reader, HoldsArchive, IsGivenArchive}
+use Rattle.archive_queries.specs.Symbolicate.{asked_of, is_symbol, Answered, IsAnswered, answers_status, answers_text, TellsAddresses}
 
 abbrev seen_found : FoundRecord → List ℕ
 seen_found found =
@@ -135,21 +135,3 @@ pub given_content : OneContent → {R : Type 0} (left : R → Option (List ℕ))
     → IsGivenArchive (reader left failures old new) o → HoldsArchive (reader left failures old new) p → o ≡ p
 given_content one left failures (Ok source) new o p c d given holds = one given.0 o p c d given.1 (known (left source) given.0 (IsArchiveOf p) given.2 holds)
 given_content one left failures (Err _) new o p c d given holds = absurd given.2
-
--- a record of an archive that has this content tells what the content tells
-pub made_of : (one : OneContent)
-    {R : Type 0} (archive : Reader R) (o : Operations) (key : SliceKey) (load : Option ℕ) (addresses : List ℕ) (status : Status) (text : List ℕ)
-    → IsContent o → IsGivenArchive archive o → MakesAnswered archive key load addresses status text → TellsAddresses o key load addresses status text
-made_of one archive o key load addresses status text content given makes =
-    let same = given_content one archive.left archive.failures archive.old archive.new o makes.content content makes.is_content given makes.archive_is in
-    subst (λ (p : Operations). TellsAddresses p key load addresses status text) (sym same) makes.tells
-
-pub one_made : (one : OneContent)
-    (told : (content : Operations) (key : SliceKey) (load : Option ℕ) (addresses : List ℕ) (status other_status : Status) (text other_text : List ℕ)
-    → TellsAddresses content key load addresses status text → TellsAddresses content key load addresses other_status other_text → (status ≡ other_status) × (text ≡ other_text))
-    {R S : Type 0} (archive : Reader R) (other : Reader S) (o : Operations) (key : SliceKey) (load : Option ℕ) (addresses : List ℕ)
-    (status other_status : Status) (text other_text : List ℕ)
-    → IsContent o → IsGivenArchive archive o → IsGivenArchive other o
-    → MakesAnswered archive key load addresses status text → MakesAnswered other key load addresses other_status other_text → (status ≡ other_status) × (text ≡ other_text)
-one_made one told archive other o key load addresses status other_status text other_text content given other_given makes other_makes =
-    told o key load addresses status other_status text other_text (made_of one archive o key load addresses status text content given makes) (made_of one other o key load addresses other_status other_text content other_given other_makes)

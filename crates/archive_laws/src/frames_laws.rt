@@ -1,59 +1,74 @@
 //! What the definitions of `frames` say in the words of its user. Each law is the contract of a function that does
 //! nothing but call laws of the crates below.
-ghost use Rattle.std.specs.Prelude.{◌≡◌, ◌↔◌, ℕ, List, Ok};
-ghost use Rattle.archive_core.specs.Content.{Operations, IsContent};
+ghost use Rattle.std.specs.Prelude.{◌≡◌, ◌↔◌, ℕ, List, [], Ok};
+ghost use Rattle.archive_core.specs.Content.{Operations};
 ghost use Rattle.crash_frames.specs.Frames.{frames_of};
 ghost use Rattle.crash_frames.specs.declared.frame.Frame.{Frame};
 ghost use Rattle.command_ends.specs.declared.faults.Place.{Place};
 ghost use Rattle.command_ends.specs.declared.faults.Status.{Status};
 ghost use Rattle.command_ends.specs.declared.faults.Why.{Why};
-ghost use Rattle.archive_queries.specs.Frames.{MakesFramed, SymbolicatesEach, frames};
-ghost use Rattle.command_ends.specs.Inputs.{IsDeviceFault, IsGiven, IsGivenArchive, Reader};
+ghost use Rattle.archive_queries.specs.Frames.{MakesFramed, SymbolicatesEach, TellsFrames, frames};
+ghost use Rattle.archive_updates.specs.Merge.{merge};
+ghost use Rattle.command_ends.specs.Inputs.{Gives, HoldsContent, IsDeviceFault, IsGiven, Reader};
+ghost use Rattle.archive_laws.specs.Joins.{IsGivenJoin};
 
 use crate::content_laws::one_answer;
-use crate::text_laws::one_content;
 use byte_device::Source;
 
 /// The lines of a frame are those of `symbolicate` for it: `frames` ends so and writes this text if and only if these
-/// are the status and the text of `symbolicate` over the same archive, asked once for each frame of FRAMES.
-pub fn each_is_symbolicated<R: Source, S: Source>()
-    ensures { (input : Reader R) (archive : Reader S) (bytes : List ℕ) (said : List Frame) (o : Operations)
-        (status : Status) (text : List ℕ)
-        → IsContent o
+/// are the status and the text of `symbolicate` over the same archives, asked once for each frame of FRAMES.
+pub fn each_is_symbolicated<R: Source, S: Source, T: Source>()
+    ensures { (input : Reader R) (archive : Reader S) (others : List (Reader T)) (bytes : List ℕ) (said : List Frame)
+        (o : Operations) (status : Status) (text : List ℕ)
         → IsGiven input bytes
         → frames_of bytes ≡ Ok said
-        → IsGivenArchive archive o
-        → (MakesFramed input archive status text ↔ SymbolicatesEach archive said status text) }
-{
-    one_content();
-}
+        → IsGivenJoin archive others o
+        → (MakesFramed input archive others status text ↔ SymbolicatesEach archive others said status text) }
+{}
 
-/// Where FRAMES says frames and ARCHIVE is the text of a content, neither is refused but for its device.
-pub fn accepted_inputs_are_not_refused<R: Source, S: Source>()
-    ensures { (input : Reader R) (archive : Reader S) (bytes : List ℕ) (said : List Frame) (o : Operations)
-        (place : Place) (why : Why)
-        → IsContent o
+/// Where FRAMES says frames and the archives are the texts of contents, none is refused but for its device.
+pub fn accepted_inputs_are_not_refused<R: Source, S: Source, T: Source>()
+    ensures { (input : Reader R) (archive : Reader S) (others : List (Reader T)) (bytes : List ℕ) (said : List Frame)
+        (o : Operations) (place : Place) (why : Why)
         → IsGiven input bytes
         → frames_of bytes ≡ Ok said
-        → IsGivenArchive archive o
-        → (frames input archive).Refuses place why
+        → IsGivenJoin archive others o
+        → (frames input archive others).Refuses place why
         → IsDeviceFault why }
 {}
 
-/// Two calls whose FRAMES hold the same bytes, and whose archives hold the text of one content, give the same status
-/// and the same report.
-pub fn one_report<Q: Source, R: Source, S: Source, T: Source>()
-    ensures { (input : Reader Q) (archive : Reader R) (also : Reader S) (other : Reader T) (bytes : List ℕ)
-        (o : Operations) (status other_status : Status) (text other_text : List ℕ)
-        → IsContent o
+/// Two calls whose FRAMES hold the same bytes, and whose archives hold one content together, give the same status and
+/// the same report, however many archives there are.
+pub fn one_report<Q: Source, R: Source, S: Source, T: Source, U: Source, V: Source>()
+    ensures { (input : Reader Q) (archive : Reader R) (others : List (Reader S)) (also : Reader T) (other : Reader U)
+        (more : List (Reader V)) (bytes : List ℕ) (o : Operations) (status other_status : Status)
+        (text other_text : List ℕ)
         → IsGiven input bytes
         → IsGiven also bytes
-        → IsGivenArchive archive o
-        → IsGivenArchive other o
-        → MakesFramed input archive status text
-        → MakesFramed also other other_status other_text
+        → IsGivenJoin archive others o
+        → IsGivenJoin other more o
+        → MakesFramed input archive others status text
+        → MakesFramed also other more other_status other_text
         → (status ≡ other_status) × (text ≡ other_text) }
 {
     one_answer();
-    one_content();
 }
+
+/// What is told of several archives is what is told of the one archive that `merge` of them writes, with the same
+/// status.
+pub fn asked_together<Q: Source, R: Source, S: Source, T: Source>()
+    ensures { (input : Reader Q) (archive : Reader R) (others : List (Reader S)) (file : Reader T) (o : Operations)
+        (made told : List ℕ) (status : Status) (text : List ℕ)
+        → IsGivenJoin archive others o
+        → (merge archive others).Makes made told
+        → IsGiven file made
+        → MakesFramed input archive others status text ↔ MakesFramed {T = S} input file [] status text }
+{}
+
+/// What is told of one archive is what its content tells.
+pub fn one_archive<Q: Source, R: Source, S: Source>()
+    ensures { (input : Reader Q) (archive : Reader R) (status : Status) (text : List ℕ)
+        → MakesFramed {T = S} input archive [] status text
+        ↔ ((said : List Frame) × Gives input (λ bytes. frames_of bytes ≡ Ok said)
+        × HoldsContent archive (λ o. TellsFrames o said status text)) }
+{}

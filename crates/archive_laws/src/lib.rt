@@ -9,6 +9,7 @@
 //! - [`admit_laws`], [`retire_laws`], [`merge_laws`], [`migrate_laws`], [`apply_laws`], [`find_laws`], [`list_laws`],
 //!   [`name_laws`], [`symbolicate_laws`], [`frames_laws`], [`exchange_laws`], [`rehearse_laws`]: what the definitions
 //!   of the commands say in the words of their user;
+//! - [`joins_laws`]: of several archives, asked as their join;
 //! - [`outcome_laws`]: what a command makes of accepted inputs is one OUT and one report;
 //! - [`out_laws`]: what a crash leaves at OUT's path.
 #![tactic(auto)]
@@ -20,6 +21,7 @@ pub mod exchange_laws;
 pub mod find_laws;
 pub mod frames_laws;
 pub mod headline;
+pub mod joins_laws;
 pub mod list_laws;
 pub mod merge_laws;
 pub mod migrate_laws;

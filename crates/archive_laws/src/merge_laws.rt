@@ -12,7 +12,8 @@ ghost use Rattle.command_ends.specs.Ends.{Ends, EndsStreamed};
 ghost use Rattle.command_ends.specs.Inputs.{IsDeviceFault, Reader, IsGivenArchive};
 ghost use Rattle.archive_updates.specs.MergeStreams.{merge_of_one};
 ghost use Rattle.command_ends.specs.Outputs.{Outs, Writer, draft_of, out_of};
-ghost use Rattle.archive_updates.specs.Merge.{merge, merged, operations_of};
+ghost use Rattle.command_ends.specs.Archives.{merged};
+ghost use Rattle.archive_updates.specs.Merge.{merge, operations_of};
 
 use crate::content_laws::contents_join;
 use byte_device::{Sink, Source};

@@ -1,14 +1,17 @@
 //! What the definitions of `symbolicate` say in the words of its user. Each law is the contract of a function that does
 //! nothing but call laws of the crates below.
-ghost use Rattle.std.specs.Prelude.{◌≡◌, ℕ, List, Option};
-ghost use Rattle.archive_core.specs.Content.{Operations, IsContent};
+ghost use Rattle.std.specs.Prelude.{◌≡◌, ◌↔◌, ℕ, List, [], Option};
+ghost use Rattle.archive_core.specs.Content.{Operations};
 ghost use Rattle.archive_core.specs.declared.keys.SliceKey.{SliceKey};
+ghost use Rattle.command_ends.specs.declared.faults.Place.{Place};
 ghost use Rattle.command_ends.specs.declared.faults.Status.{Status};
-ghost use Rattle.command_ends.specs.Inputs.{Reader, RefusesDevicesAlone, IsGivenArchive};
+ghost use Rattle.command_ends.specs.declared.faults.Why.{Why};
+ghost use Rattle.command_ends.specs.Inputs.{HoldsContent, IsDeviceFault, IsGiven, Reader};
 ghost use Rattle.archive_queries.specs.Symbolicate.{MakesAnswered, TellsAddresses, symbolicate};
+ghost use Rattle.archive_updates.specs.Merge.{merge};
+ghost use Rattle.archive_laws.specs.Joins.{IsGivenJoin};
 
 use crate::content_laws::one_answer;
-use crate::text_laws::one_content;
 use byte_device::Source;
 
 /// A content tells one status and one text of addresses, whatever archive keeps it.
@@ -22,23 +25,46 @@ pub fn one_telling()
     one_answer();
 }
 
-/// Where ARCHIVE is the text of a content, it is not refused but for its device.
-pub fn accepted_archive_is_not_refused<R: Source>()
-    ensures { (key : SliceKey) (load : Option ℕ) (addresses : List ℕ)
-        → RefusesDevicesAlone {R = R} (λ archive. (symbolicate archive key load addresses).Refuses) }
+/// Where the archives are the texts of contents, none is refused but for its device.
+pub fn accepted_archives_are_not_refused<R: Source, S: Source>()
+    ensures { (archive : Reader R) (others : List (Reader S)) (o : Operations) (key : SliceKey) (load : Option ℕ)
+        (addresses : List ℕ) (place : Place) (why : Why)
+        → IsGivenJoin archive others o
+        → (symbolicate archive others key load addresses).Refuses place why
+        → IsDeviceFault why }
 {}
 
-/// Two files that hold the text of one content give the same status and the same report.
-pub fn one_report<R: Source, S: Source>()
-    ensures { (archive : Reader R) (other : Reader S) (o : Operations) (key : SliceKey) (load : Option ℕ)
-        (addresses : List ℕ) (status other_status : Status) (text other_text : List ℕ)
-        → IsContent o
-        → IsGivenArchive archive o
-        → IsGivenArchive other o
-        → MakesAnswered archive key load addresses status text
-        → MakesAnswered other key load addresses other_status other_text
+/// Two calls whose archives hold one content together give the same status and the same report, however many there are.
+pub fn one_report<R: Source, S: Source, T: Source, U: Source>()
+    ensures { (archive : Reader R) (others : List (Reader S)) (also : Reader T) (more : List (Reader U))
+        (o : Operations) (key : SliceKey) (load : Option ℕ) (addresses : List ℕ) (status other_status : Status)
+        (text other_text : List ℕ)
+        → IsGivenJoin archive others o
+        → IsGivenJoin also more o
+        → MakesAnswered archive others key load addresses status text
+        → MakesAnswered also more key load addresses other_status other_text
         → (status ≡ other_status) × (text ≡ other_text) }
 {
-    one_content();
     one_telling();
 }
+
+/// What is told of several archives is what is told of the one archive that `merge` of them writes, with the same
+/// status.
+pub fn asked_together<R: Source, S: Source, T: Source>()
+    ensures { (archive : Reader R) (others : List (Reader S)) (file : Reader T) (o : Operations)
+        (made told : List ℕ) (key : SliceKey) (load : Option ℕ) (addresses : List ℕ) (status : Status)
+        (text : List ℕ)
+        → IsGivenJoin archive others o
+        → (merge archive others).Makes made told
+        → IsGiven file made
+        → MakesAnswered archive others key load addresses status text
+        ↔ MakesAnswered {S = S} file [] key load addresses status text }
+{}
+
+/// What is told of one archive is what its content tells.
+pub fn one_archive<R: Source, S: Source>()
+    ensures { (archive : Reader R) (key : SliceKey) (load : Option ℕ) (addresses : List ℕ) (status : Status)
+        (text : List ℕ)
+        → MakesAnswered {S = S} archive [] key load addresses status text
+        ↔ HoldsContent archive (λ o. TellsAddresses o key load addresses status text) }
+{}

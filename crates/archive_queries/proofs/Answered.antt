@@ -1,10 +1,10 @@
 -- What is told of addresses, one after another.
-use Rattle.std.proofs.Common.{◌≡◌, ℕ, ◌+◌, ◌<◌, Bool, true, false, ◌&&◌, if◌then◌else◌, List, [], ◌∷◌, ◌++◌, length, take, slice_index_or, Option, refl, sym, ap, ◌∙◌, add-one, subst}
+use Rattle.std.proofs.Common.{◌≡◌, ℕ, ◌+◌, ◌<◌, Bool, true, false, ◌&&◌, if◌then◌else◌, List, [], ◌∷◌, ◌++◌, length, take, slice_index_or, Option, refl, sym, ap, ◌∙◌, add-one}
 use Rattle.std.proofs.lemmas.List.{map-append, flat_map_more}
 use Rattle.std.proofs.lemmas.List.Folds.{list_all-append}
 use Rattle.std.proofs.Math.Seq.{take-suc}
 use Rattle.std.specs.List.{AllByRecursion, list_all}
-use Rattle.archive_core.specs.Content.{Operations, IsContent}
+use Rattle.archive_core.specs.Content.{Operations}
 use Rattle.archive_core.specs.Lookup.{IsAnswer, answer_view}
 use Rattle.archive_core.specs.Key.{key_bytes}
 use Rattle.archive_core.specs.Part.{AreAlikeUnder}
@@ -14,8 +14,7 @@ use Rattle.archive_core.specs.declared.lookup.Answer.{Answer}
 use Rattle.report_text.specs.Answers.{answer_lines}
 use Rattle.command_ends.specs.declared.faults.Status.{Status}
 use Rattle.command_ends.specs.declared.faults.Status.TheVariants.{Done, Partial}
-use Rattle.command_ends.specs.Inputs.{Reader, HoldsArchive}
-use Rattle.archive_queries.specs.Symbolicate.{asked_of, is_symbol, Answered, IsAnswered, answers_status, TellsAddresses, MakesAnswered}
+use Rattle.archive_queries.specs.Symbolicate.{asked_of, is_symbol, Answered, IsAnswered, answers_status, TellsAddresses}
 
 all_more : {X : Type 0} (P : X → Type 0) (xs : List X) (x : X) → AllByRecursion P xs → P x → AllByRecursion P (xs ++ x ∷ [])
 all_more P [] x all one = (one, tt)
@@ -54,15 +53,6 @@ more_told content key load before addresses status next text lines address answe
 
 pub take_more : (xs : List ℕ) (i : ℕ) → i < length xs → take (i + 1) xs ≡ take i xs ++ slice_index_or xs i 0 ∷ []
 take_more xs i lt = ap (λ (n : ℕ). take n xs) (add-one i) ∙ take-suc xs i 0 lt
-
-pub makes_answered : {R : Type 0} (archive : Reader R) (key : SliceKey) (load : Option ℕ) (addresses : List ℕ) (o : Operations) (status : Status) (text lines : List ℕ)
-    → IsContent o → HoldsArchive archive o → TellsAddresses o key load addresses status lines → text ≡ lines → MakesAnswered archive key load addresses status text
-makes_answered archive key load addresses o status text lines content holds tells same = record {
-  content = o;
-  is_content = content;
-  archive_is = holds;
-  tells = subst (TellsAddresses o key load addresses status) (sym same) tells;
-}
 
 -- contents that are alike under the key tell the same
 answered_alike : (o p : Operations) (key : SliceKey) (load : Option ℕ) (rows : List Answered) → AreAlikeUnder (key_bytes key) o p → AllByRecursion (IsAnswered o key load) rows → AllByRecursion (IsAnswered p key load) rows

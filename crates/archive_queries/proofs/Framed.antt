@@ -1,24 +1,29 @@
 -- What is told of frames that are asked in the order of their keys.
-use Rattle.std.proofs.Common.{◌≡◌, ℕ, suc, false, ◌+◌, ◌-◌, ◌<◌, ◌≤◌, Bool, ◌&&◌, if◌then◌else◌, List, [], ◌∷◌, ◌++◌, length, map, take, drop, set, get_or, Some, Result, Err, refl, sym, ap, ◌∙◌, subst, arith, inl, inr, ◌⊎◌, length-append}
+use Rattle.std.proofs.Common.{◌≡◌, ℕ, suc, false, ◌+◌, ◌-◌, ◌<◌, ◌≤◌, Bool, ◌&&◌, if◌then◌else◌, List, [], ◌∷◌, ◌++◌, length, map, take, drop, set, get_or, Some, Result, Ok, Err, is_ok, true, refl, sym, ap, ◌∙◌, subst, arith, inl, inr, ◌⊎◌, length-append}
 use Rattle.std.specs.Prelude.{slice_get, slice_range}
-use Rattle.std.specs.List.{AllByRecursion, AllZip, Contains, flat_map, list_all}
-use Rattle.std.specs.List.Sorted.{IsPermutation, IsSortedBy}
-use Rattle.std.specs.Ordering.{nat_cmp, is_lt, ordering_then}
+use Rattle.std.specs.List.{AllByRecursion, AllZip, Contains, HoldsAt, flat_map, list_all, list_any}
+use Rattle.std.specs.Str.{bytes_eq}
+use Rattle.std.specs.List.Sorted.{IsBinarySearchResult, IsPartitionPoint, IsPermutation, IsSearchInRange, IsSortedBy, IsSortedByKey}
+use Rattle.std.specs.Ordering.{nat_cmp, is_lt, ordering_reverse, ordering_then}
 use Rattle.std.specs.declared.cmp.Ordering.{Ordering}
 use Rattle.std.specs.declared.cmp.Ordering.TheVariants.{Less, Equal, Greater}
-use Rattle.std.specs.Cmp.{IsTotalOrder}
+use Rattle.std.specs.Cmp.{IsTotalOrder, tied_itself}
 use Rattle.std.specs.Cmp.Lexicographic.{slice_cmp, nat_list_cmp_total}
 use Rattle.std.proofs.lemmas.Cmp.{nat_cmp_total, on_total, then_total}
-use Rattle.std.proofs.lemmas.Bool.{cases_lt}
+use Rattle.std.proofs.lemmas.Bool.{cases_lt, false≢true}
+use Rattle.std.proofs.lemmas.List.Folds.{Any-from_list_any, list_any-from_Any, list_any_at}
+use Rattle.std.proofs.lemmas.Slice.Eq.{bytes_eq-Decides}
 use Rattle.std.proofs.lemmas.List.{get_or-map, get_or_append_left, get_or_default, get_or_push, get_or-set_same, get_or-set_other, length-map, length-set, take_all, drop_at, take-append-le, drop-append-le, length-drop}
-use Rattle.std.proofs.lemmas.List.Sorted.{Contains-permutation, IsPermutation-sym}
+use Rattle.std.proofs.lemmas.List.Sorted.{Contains-permutation, IsPermutation-sym, searchable_from_sorted}
 use Rattle.std.proofs.lemmas.Option.{get_or_from_slice_get, slice_get-get_or, slice_get_within}
 use Rattle.archive_core.specs.Content.{Operations}
 use Rattle.archive_core.specs.Key.{key_bytes}
 use Rattle.archive_core.specs.Lookup.{IsAnswer, answer_view}
 use Rattle.archive_core.specs.declared.keys.SliceKey.{SliceKey}
 use Rattle.archive_core.specs.declared.lookup.Answer.{Answer}
-use Rattle.archive_core.proofs.Members.{in_cons, in_front, in_rest}
+use Rattle.archive_core.specs.Part.{is_under}
+use Rattle.archive_core.proofs.Made.{bytes_same}
+use Rattle.archive_core.proofs.Members.{in_cons, in_front, in_map, in_rest}
 use Rattle.archive_reading.specs.Keys.{AreInOrder, first_key}
 use Rattle.crash_frames.specs.declared.frame.Frame.{Frame}
 use Rattle.report_text.specs.Answers.{answer_lines}
@@ -30,8 +35,9 @@ use Rattle.command_ends.specs.declared.faults.Status.{Status}
 use Rattle.command_ends.specs.declared.faults.Status.TheVariants.{Done, Partial}
 use Rattle.command_ends.specs.Ends.{EndsReport}
 use Rattle.archive_queries.specs.Frames.{IsFrameAnswered, TellsFrames, RefusesFrames}
-use Rattle.archive_queries.specs.InnerFrames.{AreLines, AreNumbered, AreTold, IsFrameTold, asked_cmp}
-use Rattle.command_ends.specs.Inputs.{Reader, IsRefusal, IsRefusedFrames, IsUntouched, Unfailed, failures_of}
+use Rattle.archive_queries.specs.InnerFrames.{AreLines, AreNumbered, AreTold, IsFrameTold, asked_cmp, is_asked}
+use Rattle.command_ends.specs.Archives.{AreRefused, AreUnfailed}
+use Rattle.command_ends.specs.Inputs.{EachUnfailed, EachUntouched, IsFrames, Reader, IsRefusal, IsRefusedFrames, IsUntouched, Unfailed, failures_of}
 use Rattle.command_ends.specs.Outputs.{Writer, Takes}
 use Rattle.archive_queries.specs.Symbolicate.{Answered, asked_of, is_symbol, answers_text}
 
@@ -103,6 +109,58 @@ keys_in_order (first ∷ asked) sorted = λ j d _ below.
     let next : get_or (map key_of_asked all) (j + 1) d ≡ (get_or all (j + 1) first).frame.key = get_or-map key_of_asked all (j + 1) first d within in
     let one : get_or (map key_of_asked all) j d ≡ (get_or all j first).frame.key = get_or-map key_of_asked all j first d (omega (arith, within)) in
     (λ i. is_lt (slice_cmp nat_cmp (key_bytes (next i)) (key_bytes (one i)))) ∙ no_less_first _ _ (sorted j first (omega arith) within)
+
+pub by_keys : (asked : List AskedFrame) → IsSortedBy (λ (a b : AskedFrame). is_lt (asked_cmp a b)) asked → IsSortedByKey (λ (one : AskedFrame). key_bytes one.frame.key) (slice_cmp nat_cmp) asked
+by_keys asked sorted = λ j d below within. no_less_first _ _ (sorted j d below within)
+
+-- ---- whether a record is under one of their keys
+
+module _ (front : List ℕ) where
+  abbrev pub place_of : AskedFrame → Ordering
+  place_of one = slice_cmp nat_cmp (key_bytes one.frame.key) front
+
+  abbrev has : AskedFrame → Bool
+  has one = bytes_eq (key_bytes one.frame.key) front
+
+  tied : (one : AskedFrame) → has one ≡ true → place_of one ≡ Equal
+  tied one is = ap (λ (bytes : List ℕ). slice_cmp nat_cmp bytes front) ((bytes_eq-Decides (key_bytes one.frame.key) front).0 is) ∙ tied_itself nat_list_cmp_total front
+
+  not_less : (one : AskedFrame) → has one ≡ true → place_of one ≡ Less → ⊥
+  not_less one is less = false≢true (ap is_lt (sym (tied one is)) ∙ ap is_lt less)
+
+  not_greater : (one : AskedFrame) → has one ≡ true → place_of one ≡ Greater → ⊥
+  not_greater one is greater = false≢true (ap is_lt (ap ordering_reverse (sym (tied one is))) ∙ ap is_lt (ap ordering_reverse greater))
+
+  found_at : (asked : List AskedFrame) (i : ℕ) → i < length asked → HoldsAt (λ (one : AskedFrame). place_of one ≡ Equal) asked i → list_any has asked ≡ true
+  found_at [] i lt at = absurd (omega (arith, lt))
+  found_at (one ∷ asked) i lt at = list_any_at has (one ∷ asked) i one lt ((bytes_eq-Decides _ front).1 (bytes_same _ front (at one)))
+
+  found_nowhere : (asked : List AskedFrame) (i : ℕ) → IsPartitionPoint (λ (one : AskedFrame). place_of one ≡ Less) (λ (one : AskedFrame). place_of one ≡ Greater) asked i → list_any has asked ≡ false
+  found_nowhere asked i parts = by (list_any has asked) refl
+    where
+      by : (b : Bool) → list_any has asked ≡ b → b ≡ false
+      by false is = refl
+      by true is =
+          let any = Any-from_list_any has asked is in
+          absurd (elim (cases_lt any.0 i) [
+            | inl below ↦ not_less any.1 any.4 (subst (λ (one : AskedFrame). place_of one ≡ Less) any.3 (parts.0 any.0 any.1 (omega arith) below))
+            | inr above ↦ not_greater any.1 any.4 (subst (λ (one : AskedFrame). place_of one ≡ Greater) any.3 (parts.1 any.0 any.1 above any.2))
+          ])
+
+  -- what a binary search by the keys finds
+  pub found_asked : (asked : List AskedFrame) (r : Result ℕ ℕ) → IsSortedByKey (λ (one : AskedFrame). key_bytes one.frame.key) (slice_cmp nat_cmp) asked → IsSearchInRange r (length asked)
+      → IsBinarySearchResult place_of asked r → is_ok r ≡ list_any has asked
+  found_asked asked (Ok i) sorted lt at = sym (found_at asked i lt at)
+  found_asked asked (Err i) sorted le parted = sym (found_nowhere asked i (parted (searchable_from_sorted nat_list_cmp_total (λ (one : AskedFrame). key_bytes one.frame.key) asked front sorted)))
+
+-- each record under a key of theirs is
+pub asked_picked : (asked : List AskedFrame) (key : SliceKey) → Contains (map key_of_asked asked) key → length (key_bytes key) ≡ 24 → (r : List ℕ) → is_under (key_bytes key) r ≡ true → is_asked asked r ≡ true
+unfolding is_under
+asked_picked asked key there long r under =
+    let one = in_map key_of_asked asked key there in
+    let same : bytes_eq (key_bytes one.0.frame.key) (take 24 (drop 1 r)) ≡ true =
+    ap (λ (k : SliceKey). bytes_eq (key_bytes k) (take 24 (drop 1 r))) (sym one.2) ∙ ap (λ (n : ℕ). bytes_eq (key_bytes key) (take n (drop 1 r))) (sym long) ∙ under in
+    list_any-from_Any (has (take 24 (drop 1 r))) asked (one.1.0, one.0, one.1.1, one.1.2, same)
 
 -- ---- one question after another
 
@@ -281,12 +339,18 @@ frames_told content text frames told status lines are status_is lines_are =
     }
 
 -- one of the inputs is refused, or memory is wanting for it
-module _ {R S : Type 0} (Makes : Status → List ℕ → Type 0) (frames : Reader R) (archive : Reader S) (report : Writer) where
+module _ {R S T : Type 0} (Makes : Status → List ℕ → Type 0) (frames : Reader R) (archive : Reader S) (others : List (Reader T)) (report : Writer) where
   abbrev EndsInOrder : Result Status CommandFault → Type 0
-  EndsInOrder result = EndsReport (record { Makes = Makes; Refuses = RefusesFrames frames archive; Unfailed = Unfailed frames × Unfailed archive }) report result
+  EndsInOrder result = EndsReport (record { Makes = Makes; Refuses = RefusesFrames frames archive others; Unfailed = Unfailed frames × AreUnfailed archive others }) report result
 
-  pub frames_refused : (fault : CommandFault) → IsRefusal (IsRefusedFrames frames) (Unfailed frames) fault → IsUntouched archive → Takes report [] → EndsInOrder (Err fault)
-  frames_refused (Input place why) r untouched t = (inl (r, untouched), t)
-  frames_refused (Output _) r untouched t = absurd r
-  frames_refused (Report _) r untouched t = absurd r
-  frames_refused OutOfMemory r untouched t = ((r, ap (failures_of archive.failures) untouched), t)
+  pub frames_refused : (fault : CommandFault) → IsRefusal (IsRefusedFrames frames) (Unfailed frames) fault → IsUntouched archive → EachUntouched others → EachUnfailed others → Takes report [] → EndsInOrder (Err fault)
+  frames_refused (Input place why) r untouched each unfailed t = (inl (r, untouched, each), t)
+  frames_refused (Output _) r untouched each unfailed t = absurd r
+  frames_refused (Report _) r untouched each unfailed t = absurd r
+  frames_refused OutOfMemory r untouched each unfailed t = ((r, (ap (failures_of archive.failures) untouched, unfailed)), t)
+
+  pub archives_refused : (fault : CommandFault) → IsFrames frames → Unfailed frames → IsRefusal (AreRefused archive others) (AreUnfailed archive others) fault → Takes report [] → EndsInOrder (Err fault)
+  archives_refused (Input place why) said unfailed r t = (inr (said, unfailed, r), t)
+  archives_refused (Output _) said unfailed r t = absurd r
+  archives_refused (Report _) said unfailed r t = absurd r
+  archives_refused OutOfMemory said unfailed r t = ((unfailed, r), t)

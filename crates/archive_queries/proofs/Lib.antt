@@ -1,2 +1,4 @@
+pub mod Parts
+pub mod NamesTogether
 pub mod Answered
 pub mod Framed

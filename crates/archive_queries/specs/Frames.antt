@@ -1,16 +1,16 @@
 -- What `frames` tells of the frames of a crash.
 use Rattle.std.specs.Prelude.{◌≡◌, ℕ, List, [], ◌∷◌, Bool, true, false, Ok, ◌⊎◌, if◌then◌else◌}
 use Rattle.std.specs.List.{AllZip, flat_map, list_all}
-use Rattle.archive_core.specs.Content.{Operations, IsContent}
+use Rattle.archive_core.specs.Content.{Operations}
 use Rattle.crash_frames.specs.Frames.{frames_of}
 use Rattle.crash_frames.specs.declared.frame.Frame.{Frame}
 use Rattle.command_ends.specs.declared.faults.Place.{Place}
 use Rattle.command_ends.specs.declared.faults.Status.{Status}
 use Rattle.command_ends.specs.declared.faults.Status.TheVariants.{Done, Partial}
 use Rattle.command_ends.specs.declared.faults.Why.{Why}
+use Rattle.command_ends.specs.Archives.{AreRefused, AreUnfailed, HoldTogether}
 use Rattle.command_ends.specs.Ends.{Query}
-use Rattle.command_ends.specs.Inputs.{Reader, Gives, Unfailed, IsUntouched, IsFrames, IsRefusedArchive}
-use Rattle.command_ends.specs.Inputs.{IsRefusedFrames, HoldsArchive}
+use Rattle.command_ends.specs.Inputs.{Reader, Gives, Unfailed, IsUntouched, EachUntouched, IsFrames, IsRefusedFrames}
 use Rattle.archive_queries.specs.Symbolicate.{Answered, IsAnswered, answers_status, answers_text}
 use Rattle.archive_queries.specs.Symbolicate.{MakesAnswered}
 
@@ -25,29 +25,27 @@ pub record TellsFrames (content : Operations) (frames : List Frame) (status : St
   pub status_is : status ≡ answers_status rows
   pub text_is : text ≡ answers_text rows
 
--- FRAMES says these frames and ARCHIVE is the text of a content; this is the status of its answers to the frames, and
--- these are their lines.
-pub record MakesFramed {R S : Type 0} (frames : Reader R) (archive : Reader S) (status : Status)
-    (text : List ℕ) : Type 0 where
+-- FRAMES says these frames, ARCHIVE and the others are the texts of contents, and the join of these tells this of the
+-- frames.
+pub record MakesFramed {R S T : Type 0} (frames : Reader R) (archive : Reader S) (others : List (Reader T))
+    (status : Status) (text : List ℕ) : Type 0 where
   pub said : List Frame
-  pub content : Operations
   pub frames_are : Gives frames (λ bytes. frames_of bytes ≡ Ok said)
-  pub is_content : IsContent content
-  pub archive_is : HoldsArchive archive content
-  pub tells : TellsFrames content said status text
+  pub tells : HoldTogether archive others (λ o. TellsFrames o said status text)
 
--- FRAMES is refused, and ARCHIVE is untouched; or FRAMES says frames, its reader does not fail, and ARCHIVE is refused
-abbrev pub RefusesFrames : {R S : Type 0} → Reader R → Reader S → Place → Why → Type 0
-RefusesFrames frames archive at why =
-    (IsRefusedFrames frames at why × IsUntouched archive)
-    ⊎ (IsFrames frames × Unfailed frames × IsRefusedArchive 0 archive at why)
+-- FRAMES is refused, and no archive is touched; or FRAMES says frames, its reader does not fail, and an archive is
+-- refused
+abbrev pub RefusesFrames : {R S T : Type 0} → Reader R → Reader S → List (Reader T) → Place → Why → Type 0
+RefusesFrames frames archive others at why =
+    (IsRefusedFrames frames at why × IsUntouched archive × EachUntouched others)
+    ⊎ (IsFrames frames × Unfailed frames × AreRefused archive others at why)
 
 -- `frames`, over these inputs
-abbrev pub frames : {R S : Type 0} → Reader R → Reader S → Query
-frames input archive = record {
-  Makes = MakesFramed input archive;
-  Refuses = RefusesFrames input archive;
-  Unfailed = Unfailed input × Unfailed archive;
+abbrev pub frames : {R S T : Type 0} → Reader R → Reader S → List (Reader T) → Query
+frames input archive others = record {
+  Makes = MakesFramed input archive others;
+  Refuses = RefusesFrames input archive others;
+  Unfailed = Unfailed input × AreUnfailed archive others;
 }
 
 -- how `symbolicate` ends, and its lines
@@ -55,21 +53,21 @@ pub record Told : Type 0 where
   pub status : Status
   pub text : List ℕ
 
--- `symbolicate` tells this over the archive, asked for the frame's address alone
-abbrev pub IsToldAlone : {S : Type 0} → Reader S → Frame → Told → Type 0
-IsToldAlone archive frame told =
-    MakesAnswered archive frame.key frame.load (frame.address ∷ []) told.status told.text
+-- `symbolicate` tells this over the archives, asked for the frame's address alone
+abbrev pub IsToldAlone : {S T : Type 0} → Reader S → List (Reader T) → Frame → Told → Type 0
+IsToldAlone archive others frame told =
+    MakesAnswered archive others frame.key frame.load (frame.address ∷ []) told.status told.text
 
 -- everything asked for was found
 abbrev pub is_done : Status → Bool
 is_done Done = true
 is_done Partial = false
 
--- What `symbolicate` tells over the archive of the frames, asked once for each and in their order: done if it is each
+-- What `symbolicate` tells over the archives of the frames, asked once for each and in their order: done if it is each
 -- time, and one text behind the other.
-pub record SymbolicatesEach {S : Type 0} (archive : Reader S) (frames : List Frame) (status : Status)
-    (text : List ℕ) : Type 0 where
+pub record SymbolicatesEach {S T : Type 0} (archive : Reader S) (others : List (Reader T)) (frames : List Frame)
+    (status : Status) (text : List ℕ) : Type 0 where
   pub told : List Told
-  pub alone : AllZip (IsToldAlone archive) frames told
+  pub alone : AllZip (IsToldAlone archive others) frames told
   pub status_is : status ≡ if list_all (λ one. is_done one.status) told then Done else Partial
   pub text_is : text ≡ flat_map (λ one. one.text) told

@@ -1,5 +1,8 @@
 -- Frames that are asked in the order of their keys: the words of inner functions. No contract of a public one has them.
-use Rattle.std.specs.Prelude.{◌≡◌, ◌↔◌, ◌⊎◌, ℕ, ◌<◌, ◌≤◌, List, Some, Contains, get_or, length, slice_get, slice_range}
+use Rattle.std.specs.Prelude.{◌≡◌, ◌↔◌, ◌⊎◌, ℕ, ◌<◌, ◌≤◌, Bool, List, Some, Contains, drop, get_or, length, slice_get}
+use Rattle.std.specs.Prelude.{slice_range, take}
+use Rattle.std.specs.List.{list_any}
+use Rattle.std.specs.Str.{bytes_eq}
 use Rattle.std.specs.Ordering.{nat_cmp, ordering_then}
 use Rattle.std.specs.Cmp.Lexicographic.{slice_cmp}
 use Rattle.std.specs.declared.cmp.Ordering.{Ordering}
@@ -27,6 +30,10 @@ abbrev pub asked_cmp : AskedFrame → AskedFrame → Ordering
 asked_cmp a b =
     ordering_then (slice_cmp nat_cmp (key_bytes a.frame.key) (key_bytes b.frame.key))
     (nat_cmp a.frame.address b.frame.address)
+
+-- the bytes behind the tag of a record begin with the key of one of the frames
+abbrev pub is_asked : List AskedFrame → List ℕ → Bool
+is_asked asked r = list_any (λ one. bytes_eq (key_bytes one.frame.key) (take 24 (drop 1 r))) asked
 
 -- What was told of a frame is what the content tells of it.
 pub record IsFrameTold (content : Operations) (text : List ℕ) (frame : Frame) (told : ToldFrame) : Type 0 where

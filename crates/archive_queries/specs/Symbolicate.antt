@@ -1,7 +1,7 @@
--- What `symbolicate` tells of an archive.
+-- What `symbolicate` tells of archives.
 use Rattle.std.specs.Prelude.{◌≡◌, ℕ, List, Bool, true, false, Option, Some, None, map, if◌then◌else◌}
 use Rattle.std.specs.List.{AllByRecursion, flat_map, list_all}
-use Rattle.archive_core.specs.Content.{Operations, IsContent}
+use Rattle.archive_core.specs.Content.{Operations}
 use Rattle.archive_core.specs.Lookup.{IsAnswer, answer_view}
 use Rattle.archive_core.specs.declared.keys.SliceKey.{SliceKey}
 use Rattle.archive_core.specs.declared.lookup.Answer.{Answer}
@@ -11,8 +11,9 @@ use Rattle.archive_core.specs.declared.lookup.Where.TheVariants.{File, Loaded}
 use Rattle.report_text.specs.Answers.{answer_lines}
 use Rattle.command_ends.specs.declared.faults.Status.{Status}
 use Rattle.command_ends.specs.declared.faults.Status.TheVariants.{Done, Partial}
+use Rattle.command_ends.specs.Archives.{AreRefused, AreUnfailed, HoldTogether}
 use Rattle.command_ends.specs.Ends.{Query}
-use Rattle.command_ends.specs.Inputs.{Reader, Unfailed, IsRefusedArchive, HoldsArchive}
+use Rattle.command_ends.specs.Inputs.{Reader}
 
 -- the place that an address of the words means: one of the image where it was loaded, if the words say where, and else
 -- one of its file
@@ -53,18 +54,16 @@ pub record TellsAddresses (content : Operations) (key : SliceKey) (load : Option
   pub status_is : status ≡ answers_status rows
   pub text_is : text ≡ answers_text rows
 
--- ARCHIVE is the text of a content; this is the status of its answers to the addresses, and these are their lines.
-pub record MakesAnswered {R : Type 0} (archive : Reader R) (key : SliceKey) (load : Option ℕ) (addresses : List ℕ)
-    (status : Status) (text : List ℕ) : Type 0 where
-  pub content : Operations
-  pub is_content : IsContent content
-  pub archive_is : HoldsArchive archive content
-  pub tells : TellsAddresses content key load addresses status text
+-- ARCHIVE and the others are the texts of contents, and the join of these tells this of the addresses.
+abbrev pub MakesAnswered : {R S : Type 0} → Reader R → List (Reader S) → SliceKey → Option ℕ → List ℕ → Status
+    → List ℕ → Type 0
+MakesAnswered archive others key load addresses status text =
+    HoldTogether archive others (λ o. TellsAddresses o key load addresses status text)
 
--- `symbolicate`, over this archive
-abbrev pub symbolicate : {R : Type 0} → Reader R → SliceKey → Option ℕ → List ℕ → Query
-symbolicate archive key load addresses = record {
-  Makes = MakesAnswered archive key load addresses;
-  Refuses = IsRefusedArchive 0 archive;
-  Unfailed = Unfailed archive;
+-- `symbolicate`, over these archives
+abbrev pub symbolicate : {R S : Type 0} → Reader R → List (Reader S) → SliceKey → Option ℕ → List ℕ → Query
+symbolicate archive others key load addresses = record {
+  Makes = MakesAnswered archive others key load addresses;
+  Refuses = AreRefused archive others;
+  Unfailed = AreUnfailed archive others;
 }

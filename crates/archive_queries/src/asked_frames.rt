@@ -2,6 +2,10 @@
 ghost use Rattle.std.specs.Prelude.{◌≡◌, ◌≤◌, All, IfOk, if◌then◌else◌, flat_map, length, map, set, slice_range};
 ghost use Rattle.std.specs.Prelude.{string_bytes};
 ghost use Rattle.std.specs.List.{list_all};
+ghost use Rattle.std.specs.List.Sorted.{IsSortedByKey};
+ghost use Rattle.std.specs.Ordering.{nat_cmp};
+ghost use Rattle.std.specs.Cmp.Lexicographic.{slice_cmp};
+ghost use Rattle.archive_core.specs.Key.{key_bytes};
 ghost use Rattle.archive_reading.specs.Keys.{AreInOrder};
 ghost use Rattle.command_ends.specs.declared.faults.Status.TheVariants.{Done, Partial};
 ghost use Rattle.archive_queries.specs.InnerFrames.{AreLines, AreNumbered, asked_cmp};
@@ -9,7 +13,8 @@ ghost use Rattle.archive_queries.specs.Symbolicate.{is_symbol};
 
 use crate::symbolicate::asked_of;
 use archive_core::{Answer, Archive, SliceKey, compare_keys};
-use archive_reading::Questions;
+use archive_reading::{Questions, Selects};
+use archive_records::key_front;
 use command_ends::Status;
 use crash_frames::Frame;
 use memory::{Heap, NoMemory};
@@ -31,6 +36,26 @@ impl AskedFrame {
         compare_keys(&self.frame.key, &other.frame.key).then(
             self.frame.address.cmp(&other.frame.address),
         )
+    }
+}
+
+/// The keys of frames, which stand in their order.
+#[derive(Drop)]
+pub(crate) struct AskedKeys<'f> {
+    pub(crate) asked: &'f [AskedFrame],
+    ghost in_order: { IsSortedByKey (λ one. key_bytes one.frame.key) (slice_cmp nat_cmp) asked.now },
+}
+
+impl<'f> Selects for AskedKeys<'f> {
+    ghost use Rattle.archive_queries.specs.InnerFrames.{is_asked};
+
+    ghost picked = { λ keys bytes. is_asked keys.asked.now bytes };
+
+    fn picks(&self, bytes: &[u8]) -> bool {
+        let front = &bytes[1..25];
+        self.asked
+            .binary_search_by(|one| key_front(&one.frame.key)[..].cmp(front))
+            .is_ok()
     }
 }
 
@@ -72,6 +97,8 @@ pub(crate) fn in_key_order(heap: Heap, frames: &[Frame]) -> Result<Vec<AskedFram
     ensures lines { IfOk result (λ asked. AreLines frames.now asked.items) }
     ensures long { IfOk result (λ asked. length asked.items ≡ length frames.now) }
     ensures order { IfOk result (λ asked. AreInOrder (map (λ one. one.frame.key) asked.items)) }
+    ensures sorted { IfOk result (λ asked.
+        IsSortedByKey (λ one. key_bytes one.frame.key) (slice_cmp nat_cmp) asked.items) }
 {
     let mut asked = numbered(heap, frames)?;
     asked.sort_unstable_by(|a, b| a.compare(b));

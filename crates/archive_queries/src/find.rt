@@ -1,14 +1,15 @@
-//! `find ARCHIVE UUID`.
-ghost use Rattle.std.specs.Prelude.{◌≡◌};
+//! `find ARCHIVE UUID`, over one archive or several.
+ghost use Rattle.std.specs.Prelude.{◌≡◌, length};
 ghost use Rattle.command_ends.specs.Ends.{EndsReport};
 ghost use Rattle.archive_queries.specs.Find.{find, find_status};
-ghost use Rattle.command_ends.specs.Inputs.{reader};
+ghost use Rattle.command_ends.specs.Inputs.{reader, readers};
 ghost use Rattle.command_ends.specs.Outputs.{writer};
 
+use crate::together::read_parts;
 use archive_core::{Archive, FindRow};
 use archive_reading::Under;
 use byte_device::{CannotOpen, Sink, Source};
-use command_ends::{CommandFault, Status, publish_report, read_input_part};
+use command_ends::{CommandFault, Status, publish_report};
 use memory::Heap;
 use report_text::find_lines;
 use uuid::Uuid;
@@ -24,23 +25,36 @@ pub fn status_of(rows: &[FindRow]) -> Status
     }
 }
 
-/// Writes a row for each retirement and each live slice of the UUID to the report, and behind the rows of an
-/// architecture how many slices answer for it, where these are several.
+/// The bytes of a UUID.
+fn bytes_of(uuid: Uuid) -> [u8; 16]
+    ensures bytes { result ≡ uuid }
+    ensures long { length uuid ≡ 16 }
+{
+    *uuid.as_bytes()
+}
+
+/// Writes a row for each retirement and each live slice of the UUID in the join of the archives to the report, and
+/// behind the rows of an architecture how many slices answer for it, where these are several. The archives are read one
+/// after another, each to its end.
 ///
 /// # Errors
 ///
-/// `Input` where the archive is refused; `Report` where the report failed; `OutOfMemory`.
+/// `Input` for the first archive that is refused; `Report` where the report failed; `OutOfMemory`.
 pub fn run_find<A: Archive + Drop, R: Source, P: Sink>(
     heap: Heap,
     archive: &mut Result<R, CannotOpen>,
+    others: &mut [Result<R, CannotOpen>],
     uuid: &Uuid,
     report: &mut P,
 ) -> Result<Status, CommandFault>
-    ensures { EndsReport (find (reader R.left R.failures archive.old archive.new) uuid.now)
+    ensures { EndsReport
+        (find (reader R.left R.failures archive.old archive.new)
+        (readers R.left R.failures others.old others.new) uuid.now)
         (writer P.held P.failures report.old report.new) result }
 {
-    let archive: A = read_input_part(heap.clone()?, 0, &Under(uuid.as_bytes()), archive)?;
-    let rows = archive.find(uuid)?;
+    let front = bytes_of(*uuid);
+    let kept: A = read_parts(heap.clone()?, &Under(&front), archive, others)?;
+    let rows = kept.find(uuid)?;
     let text = find_lines(heap, &rows)?;
     publish_report(status_of(&rows), &text, report)
 }

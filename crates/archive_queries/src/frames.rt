@@ -1,18 +1,55 @@
-//! `frames FRAMES ARCHIVE`.
+//! `frames FRAMES ARCHIVE...`.
+ghost use Rattle.std.specs.Prelude.{IfErr, IfOk, OnOk};
+ghost use Rattle.command_ends.specs.Archives.{AreRefused, AreUnfailed, HoldTogether};
 ghost use Rattle.command_ends.specs.Ends.{EndsReport};
-ghost use Rattle.archive_queries.specs.Frames.{frames};
-ghost use Rattle.command_ends.specs.Inputs.{reader};
+ghost use Rattle.archive_queries.specs.Frames.{TellsFrames, frames};
+ghost use Rattle.command_ends.specs.Inputs.{IsRefusal, reader, readers};
 ghost use Rattle.command_ends.specs.Outputs.{writer};
 
-use crate::asked_frames::{FrameQuestions, in_key_order};
+use crate::asked_frames::{AskedKeys, FrameQuestions, in_key_order};
+use crate::together::answer_archives;
 use archive_core::Archive;
 use byte_device::{CannotOpen, Sink, Source};
-use command_ends::{CommandFault, Status, answer_input, publish_bytes, read_crash};
+use command_ends::{CommandFault, Status, publish_bytes, read_crash};
+use crash_frames::Frame;
 use memory::Heap;
 
+/// Reads the archives, and gives the lines of the answers of their join to the frames, in the order of these, with how a
+/// command ends that prints them.
+fn tell_frames<A: Archive + Drop, R: Source>(
+    heap: &Heap,
+    frames: &[Frame],
+    archive: &mut Result<R, CannotOpen>,
+    others: &mut [Result<R, CannotOpen>],
+) -> Result<(Status, Vec<u8, Heap>), CommandFault>
+    ensures told { IfOk result (λ told. HoldTogether (reader R.left R.failures archive.old archive.new)
+        (readers R.left R.failures others.old others.new) (λ o. TellsFrames o frames.now told.0 told.1.items)) }
+    ensures unfailed { OnOk result (AreUnfailed (reader R.left R.failures archive.old archive.new)
+        (readers R.left R.failures others.old others.new)) }
+    ensures refused { IfErr result (IsRefusal
+        (AreRefused (reader R.left R.failures archive.old archive.new)
+        (readers R.left R.failures others.old others.new))
+        (AreUnfailed (reader R.left R.failures archive.old archive.new)
+        (readers R.left R.failures others.old others.new))) }
+{
+    let asked = in_key_order(heap.clone()?, frames)?;
+    let questions = FrameQuestions::of(heap.clone()?, &asked)?;
+    let keys = AskedKeys { asked: &asked };
+    let told = answer_archives::<A, FrameQuestions<'_>, AskedKeys<'_>, R>(
+        heap.clone()?,
+        questions,
+        &keys,
+        archive,
+        others,
+    )?;
+    let lines = told.in_line_order(heap.clone()?)?;
+    Ok(lines)
+}
+
 /// Writes for each frame of FRAMES what `symbolicate` writes for its address to the report, in the order of the lines.
-/// FRAMES is read to its end first, and then ARCHIVE in one pass, of which the slices under one key are held at a time.
-/// Where FRAMES has no frame ARCHIVE is read and tested all the same.
+/// FRAMES is read to its end first, and then the archives one after another, each in one pass. Of one archive the slices
+/// under one key are held at a time; of several all slices under the keys of the frames. Where FRAMES has no frame the
+/// archives are read and tested all the same.
 ///
 /// The status is `Done` where each answer is one symbol, and else `Partial`.
 ///
@@ -23,16 +60,15 @@ pub fn run_frames<A: Archive + Drop, R: Source, P: Sink>(
     heap: Heap,
     crash: &mut Result<R, CannotOpen>,
     archive: &mut Result<R, CannotOpen>,
+    others: &mut [Result<R, CannotOpen>],
     report: &mut P,
 ) -> Result<Status, CommandFault>
     ensures { EndsReport
-        (frames (reader R.left R.failures crash.old crash.new) (reader R.left R.failures archive.old archive.new))
+        (frames (reader R.left R.failures crash.old crash.new) (reader R.left R.failures archive.old archive.new)
+        (readers R.left R.failures others.old others.new))
         (writer P.held P.failures report.old report.new) result }
 {
     let frames = read_crash(heap.clone()?, crash)?;
-    let asked = in_key_order(heap.clone()?, &frames)?;
-    let questions = FrameQuestions::of(heap.clone()?, &asked)?;
-    let told = answer_input::<A, FrameQuestions<'_>, R>(heap.clone()?, questions, archive)?;
-    let (status, lines) = told.in_line_order(heap)?;
+    let (status, lines) = tell_frames::<A, R>(&heap, &frames, archive, others)?;
     publish_bytes(status, &lines, report)
 }

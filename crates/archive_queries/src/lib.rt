@@ -1,5 +1,6 @@
-//! The commands that ask an archive and print an answer, over any sources and sinks.
+//! The commands that ask an archive, or several as their join, and print an answer, over any sources and sinks.
 //!
+//! - `together`: archives of which parts are kept, and joined;
 //! - `asked_frames`: frames, as questions in the order of their keys;
 //! - `find`, `list`, `name`, `symbolicate`, `frames`: a command each.
 #![tactic(auto)]
@@ -10,6 +11,7 @@ mod frames;
 mod list;
 mod name;
 mod symbolicate;
+mod together;
 
 pub use find::run_find;
 pub use frames::run_frames;

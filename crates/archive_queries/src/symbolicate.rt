@@ -1,16 +1,16 @@
-//! `symbolicate ARCHIVE UUID ARCH [--load HEX] ADDRESS...`.
+//! `symbolicate ARCHIVE UUID ARCH [--load HEX] ADDRESS...`, over one archive or several.
 ghost use Rattle.std.specs.Prelude.{◌≡◌, if◌then◌else◌, IfOk, string_bytes};
 ghost use Rattle.command_ends.specs.declared.faults.Status.TheVariants.{Partial};
 ghost use Rattle.command_ends.specs.Ends.{EndsReport};
-ghost use Rattle.command_ends.specs.Inputs.{reader};
+ghost use Rattle.command_ends.specs.Inputs.{reader, readers};
 ghost use Rattle.command_ends.specs.Outputs.{writer};
 ghost use Rattle.archive_queries.specs.Symbolicate.{TellsAddresses, is_symbol, asked_of, symbolicate};
 
+use crate::together::{bytes_of, read_parts};
 use archive_core::{Answer, Archive, SliceKey, Where};
 use archive_reading::Under;
-use archive_records::key_front;
 use byte_device::{CannotOpen, Sink, Source};
-use command_ends::{CommandFault, Status, publish_report, read_input_part};
+use command_ends::{CommandFault, Status, publish_report};
 use memory::{Heap, NoMemory};
 use report_text::push_answer;
 
@@ -55,27 +55,31 @@ fn answer_each<A: Archive>(
     Ok((status, text))
 }
 
-/// Writes an answer for each address to the report, in their order. They are addresses of the image where it was
-/// loaded, if `load` says where that was, and else of its file.
+/// Writes what the join of the archives answers for each address to the report, in their order. They are addresses of
+/// the image where it was loaded, if `load` says where that was, and else of its file. The archives are read one after
+/// another, each to its end.
 ///
 /// The status is `Done` where each answer is one symbol, and else `Partial`.
 ///
 /// # Errors
 ///
-/// `Input` where the archive is refused; `Report` where the report failed; `OutOfMemory`.
+/// `Input` for the first archive that is refused; `Report` where the report failed; `OutOfMemory`.
 pub fn run_symbolicate<A: Archive + Drop, R: Source, P: Sink>(
     heap: Heap,
     archive: &mut Result<R, CannotOpen>,
+    others: &mut [Result<R, CannotOpen>],
     key: &SliceKey,
     load: Option<u64>,
     addresses: &[u64],
     report: &mut P,
 ) -> Result<Status, CommandFault>
-    ensures { EndsReport (symbolicate (reader R.left R.failures archive.old archive.new) key.now load addresses.now)
+    ensures { EndsReport
+        (symbolicate (reader R.left R.failures archive.old archive.new)
+        (readers R.left R.failures others.old others.new) key.now load addresses.now)
         (writer P.held P.failures report.old report.new) result }
 {
-    let front = key_front(key);
-    let archive: A = read_input_part(heap.clone()?, 0, &Under(&front), archive)?;
-    let (status, text) = answer_each(heap, &archive, key, load, addresses)?;
+    let front = bytes_of(key);
+    let kept: A = read_parts(heap.clone()?, &Under(&front), archive, others)?;
+    let (status, text) = answer_each(heap, &kept, key, load, addresses)?;
     publish_report(status, &text, report)
 }

@@ -5,3 +5,4 @@ pub mod Sought
 pub mod Stable
 pub mod RowsTold
 pub mod Made
+pub mod Gatherings

@@ -26,7 +26,7 @@ use Rattle.archive_records.proofs.Inputs.{archive_whole, IsReadTo-content}
 use Rattle.archive_records.proofs.Versions.{kept_set, kept_records}
 
 -- the records that are taken are those of their content
-taken_listing : (f : Format) → kind_of f ≡ Archive_text → (xs : List (List ℕ)) → InOrder f [] xs → listing (set_of (taken_of f xs)) ≡ taken_of f xs
+pub taken_listing : (f : Format) → kind_of f ≡ Archive_text → (xs : List (List ℕ)) → InOrder f [] xs → listing (set_of (taken_of f xs)) ≡ taken_of f xs
 taken_listing Archive is xs a = listing_ascending nat_list_cmp_total bytes_same xs (sorted-InOrder [] xs a).1
 taken_listing OldArchive is xs a = ap listing (kept_set xs (in_order_old [] xs a)) ∙ kept_records xs (in_order_old [] xs a)
 taken_listing Operations_file is xs a = absurd (no_operations_text is)

@@ -1,5 +1,5 @@
 -- What is told of a name as records are read: the words of inner functions. No contract of a public one has them.
-use Rattle.std.specs.Prelude.{ℕ, List, [], drop, Option, if◌then◌else◌}
+use Rattle.std.specs.Prelude.{ℕ, List, [], drop, filter, not, Option, if◌then◌else◌}
 use Rattle.std.specs.List.{flat_map}
 use Rattle.archive_core.specs.Content.{Operations, is_admission}
 use Rattle.archive_core.specs.Names.{IsNames, NameRecord, names_in}
@@ -13,6 +13,10 @@ names_of name r = if is_admission r then names_in name (drop 33 r) else []
 -- the rows of a name in records, one after another
 unfoldable pub names_among : List ℕ → List (List ℕ) → List NameRecord
 names_among name records = flat_map (names_of name) records
+
+-- the retirements among records, in their order
+unfoldable pub retirements_among : List (List ℕ) → List (List ℕ)
+retirements_among records = filter (λ r. not (is_admission r)) records
 
 -- The text of an archive was read, and these are the rows of the name in its content.
 pub record AreNamesReadTo (a b : Option (List ℕ)) (name : List ℕ) (rows : List NameRecord) : Type 0 where

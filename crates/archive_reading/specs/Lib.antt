@@ -1,4 +1,5 @@
 pub mod Keys
+pub mod Names
 pub mod InnerNames
 pub mod InnerRows
 pub mod InnerKeys

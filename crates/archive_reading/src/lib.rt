@@ -2,10 +2,12 @@
 //!
 //! - `reading`, `part`: [`read_archive`], [`read_front`] and [`read_part`], of which a part is kept;
 //! - `keyed`: [`answer_by_key`], questions under keys, in the memory of the slices under one of them;
-//! - `names`: [`read_names`], where symbols of a name stand, of which no slice is kept;
+//! - `names`: [`read_names`], where symbols of a name stand, and [`gather_names`], the same of several archives, of which
+//!   no slice is kept;
 //! - `operations`: [`read_ops`];
 //! - `rows`, `summarizing`: [`list_rows`] and [`summarize`], what an archive tells record by record, of which no slice
-//!   is kept.
+//!   is kept, and [`entry_of`] one;
+//! - `testing`: [`test_archive`], of which nothing is kept.
 #![tactic(auto)]
 
 mod keyed;
@@ -15,11 +17,13 @@ mod part;
 mod reading;
 mod rows;
 mod summarizing;
+mod testing;
 
 pub use keyed::{Questions, answer_by_key};
-pub use names::read_names;
+pub use names::{NamesFound, gather_names, live_names, read_names};
 pub use operations::read_ops;
 pub use part::{Selects, Under, read_part};
 pub use reading::{read_archive, read_front};
 pub use rows::list_rows;
-pub use summarizing::summarize;
+pub use summarizing::{entry_of, summarize};
+pub use testing::test_archive;

@@ -1,6 +1,12 @@
 //! Where symbols of a name stand, told record by record.
 
-ghost use Rattle.std.specs.Prelude.{◌≡◌, ◌↔◌, ◌++◌, map, Contains, IfOk, IfErr, OnOk, length, nat_lt};
+ghost use Rattle.std.specs.Prelude.{◌≡◌, ◌↔◌, ◌++◌, map, Contains, IfOk, IfErr, OnOk, false, length, nat_lt};
+ghost use Rattle.std.specs.FinSet as set;
+ghost use Rattle.std.specs.List.{AllByRecursion};
+ghost use Rattle.archive_core.specs.Record.{retirement_record};
+ghost use Rattle.archive_records.specs.Entry.{IsEntry, entry_bytes};
+ghost use Rattle.archive_reading.specs.InnerRows.{HasReadContent};
+ghost use Rattle.archive_reading.specs.Names.{AddsNames};
 ghost use Rattle.std.specs.Io.KnownBytes.{IsAtEnd};
 ghost use Rattle.std.specs.List.Sorted.{IsStrictlySortedBy};
 ghost use Rattle.macho_symbols.specs.Found.{named};
@@ -8,11 +14,14 @@ ghost use Rattle.archive_core.specs.Names.{IsNames, NameRecord, name_cmp, names_
 ghost use Rattle.archive_records.specs.declared.kind.TextKind.TheVariants.{Archive};
 ghost use Rattle.archive_reading.specs.InnerNames.{AreNamesReadTo, names_of};
 ghost use Rattle.archive_core.specs.Names.{owned_name_view};
-ghost use Rattle.archive_records.specs.Reader.{FaultBlamesReader, HasStopped, IsFound};
+ghost use Rattle.archive_records.specs.Reader.{FaultBlamesReader, HasStopped, IsFound, set_of};
 ghost use Rattle.archive_records.specs.Reading.{ReadsInPart};
 
+use crate::summarizing::entry_of;
 use archive_core::{CheckedSlice, OwnedNameRow, SliceFacts};
-use archive_records::{ADMISSION_HEAD_LEN, FromRecords, RecordFault, TextKind, read_records};
+use archive_records::{
+    ADMISSION_HEAD_LEN, Entry, FromRecords, RecordFault, Summary, TextKind, read_records,
+};
 use byte_device::Source;
 use memory::{Heap, NoMemory};
 
@@ -152,4 +161,108 @@ pub fn read_names<R: Source>(
         R.left R.failures r.old r.new result }
 {
     tell_taken(heap, sought, r)
+}
+
+/// What is told of a name in archives so far, of which none is kept.
+#[derive(Drop)]
+pub struct NamesFound {
+    /// Rows of the name, in any order and with any repeats.
+    pub rows: Vec<OwnedNameRow, Heap>,
+    /// The entries of what the archives retire.
+    pub retired: Vec<Entry, Heap>,
+}
+
+/// What is told of a name, as the records come that tell it.
+#[derive(Drop)]
+struct Gathering<'n> {
+    found: NamesFound,
+    name: &'n [u8],
+}
+
+impl<'n> FromRecords for Gathering<'n> {
+    ghost use Rattle.std.specs.Prelude.{◌≡◌, ◌++◌, map};
+    ghost use Rattle.archive_core.specs.Names.{owned_name_view};
+    ghost use Rattle.archive_records.specs.Entry.{entry_bytes};
+    ghost use Rattle.archive_reading.specs.InnerNames.{names_among, retirements_among};
+    ghost use Rattle.archive_records.specs.declared.kind.TextKind.TheVariants.{Archive};
+
+    ghost file = { Archive };
+
+    ghost makes = { λ start records now. (now.name.now ≡ start.name.now)
+        × (map owned_name_view now.found.rows.items
+        ≡ map owned_name_view start.found.rows.items ++ names_among start.name.now records)
+        × (map entry_bytes now.found.retired.items
+        ≡ map entry_bytes start.found.retired.items ++ retirements_among records) };
+
+    fn kind() -> TextKind
+        ensures { result ≡ Archive }
+    {
+        TextKind::Archive
+    }
+
+    fn take(
+        &mut self,
+        heap: &Heap,
+        bytes: &[u8],
+        found: Option<SliceFacts>,
+    ) -> Result<(), NoMemory> {
+        if found.is_none() {
+            self.found.retired.push(entry_of(bytes, found))?;
+            return Ok(());
+        }
+        push_names(&mut self.found.rows, heap, bytes, found, self.name)
+    }
+}
+
+/// Reads a whole input as the text of an archive, and adds what it tells of a name. What is said is of the bytes that
+/// were taken.
+fn gather_taken<R: Source>(
+    heap: Heap,
+    found: NamesFound,
+    name: &[u8],
+    r: &mut R,
+) -> Result<NamesFound, RecordFault>
+    ensures read { IfOk result (λ now.
+        HasReadContent (R.left r.old) (R.left r.new) (λ o. AddsNames o name.now found now)) }
+    ensures at_end { OnOk result (IsAtEnd (R.left r.new)) }
+    ensures stopped { IfErr result (λ fault. HasStopped Archive (R.left r.old) (R.left r.new) fault) }
+    ensures reader { FaultBlamesReader R.left R.failures r.old r.new result }
+{
+    let gathered = read_records(heap, Gathering { found, name }, r)?;
+    Ok(gathered.found)
+}
+
+/// Reads an archive, and adds what its join with others needs of it to tell a name: its rows of the name, and what it
+/// retires. The whole input is read and tested as by [`crate::read_archive`], in the memory of the rows, of one record
+/// and twice of 57 bytes for each retirement. A slice is hashed only where it has the name. The name has no NUL at its
+/// end.
+///
+/// # Errors
+///
+/// Those of [`crate::read_archive`], in the same order and with the same offsets.
+pub fn gather_names<R: Source>(
+    heap: Heap,
+    found: NamesFound,
+    sought: &[u8],
+    r: &mut R,
+) -> Result<NamesFound, RecordFault>
+    ensures { ReadsInPart Archive (λ now o. AddsNames o sought.now found now) R.left R.failures r.old r.new result }
+{
+    gather_taken(heap, found, sought, r)
+}
+
+/// The rows whose slices are not retired, in the order of [`read_names`], each once.
+pub fn live_names(found: NamesFound) -> Vec<OwnedNameRow, Heap>
+    requires { AllByRecursion IsEntry (map entry_bytes found.retired.items) }
+    ensures ascending { IsStrictlySortedBy name_cmp (map owned_name_view result.items) }
+    ensures live { (row : NameRecord) → Contains (map owned_name_view result.items) row
+        ↔ (Contains (map owned_name_view found.rows.items) row
+        × (set.contains (set_of (map entry_bytes found.retired.items)) (retirement_record row.key row.digest)
+        ≡ false)) }
+{
+    let retired = Summary::of_entries(found.retired);
+    let mut rows = found.rows;
+    rows.retain(|row| !retired.has(&Entry::Retirement(row.key, row.digest)));
+    put_names_in_order(&mut rows);
+    rows
 }

@@ -18,7 +18,7 @@ use byte_device::Source;
 use memory::{Heap, NoMemory};
 
 /// The entry of a record, by what was found out of its slice, which is hashed.
-fn entry_of(bytes: &[u8], found: Option<SliceFacts>) -> Entry
+pub fn entry_of(bytes: &[u8], found: Option<SliceFacts>) -> Entry
     requires { IsFound bytes.now found }
     ensures { entry_bytes result ≡ entry bytes.now }
 {

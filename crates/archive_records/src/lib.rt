@@ -42,7 +42,10 @@ mod writing;
 pub use entry::Entry;
 pub use fault::{MergeCause, MergeFault, RecordFault, RecordFaultKind};
 pub use format::Format;
-pub use head::{ADMISSION_HEAD_LEN, MAGIC_LEN, digest_in, key_front, key_in, slice_digest_in};
+pub use head::{
+    ADMISSION_HEAD_LEN, MAGIC_LEN, admission_head, digest_in, end_bytes, key_front, key_in,
+    retirement_bytes, slice_digest_in,
+};
 pub use kind::TextKind;
 pub use next::NextRecord;
 pub use reader::{MOST, RecordReader};

@@ -4,17 +4,11 @@ use Rattle.std.specs.List.{AllByRecursion, AllZip}
 use Rattle.std.proofs.lemmas.List.Sums.{fold-append}
 use Rattle.archive_core.specs.Content.{Operations, IsContent, joined}
 use Rattle.command_ends.specs.Inputs.{Reader, IsArchive, HoldsArchive}
+use Rattle.command_ends.proofs.Archives.{each_archive, hold_more}
 use Rattle.archive_updates.specs.Merge.{HasJoined, MakesMerged}
 use Rattle.command_ends.proofs.Readers.{all_more}
 
 module _ {S : Type 0} where
-  hold_more : (files : List (Reader S)) (contents : List Operations) (file : Reader S) (other : Operations)
-      → AllZip HoldsArchive files contents → HoldsArchive file other → AllZip HoldsArchive (files ++ file ∷ []) (contents ++ other ∷ [])
-  hold_more [] [] file other each holds = (holds, tt)
-  hold_more [] (_ ∷ _) file other each holds = absurd each
-  hold_more (_ ∷ _) [] file other each holds = absurd each
-  hold_more (f ∷ files) (o ∷ contents) file other each holds = (each.0, hold_more files contents file other each.1 holds)
-
   pub joined_none : (o : Operations) → HasJoined {S = S} [] o o
   joined_none o = record { contents = []; are_contents = tt; files_are = tt; content = refl }
 
@@ -27,11 +21,6 @@ module _ {S : Type 0} where
         files_are = subst (λ (fs : List (Reader S)). AllZip HoldsArchive fs (before.contents ++ other ∷ [])) (sym seen_is) (hold_more files before.contents file other before.files_are holds);
         content = new_is ∙ ap (λ (p : Operations). joined p other) before.content ∙ sym (fold-append joined o before.contents (other ∷ []));
       }
-
-  each_archive : (files : List (Reader S)) (contents : List Operations) → AllZip HoldsArchive files contents → AllByRecursion IsContent contents → AllByRecursion IsArchive files
-  each_archive [] contents hold are = tt
-  each_archive (_ ∷ _) [] hold are = absurd hold
-  each_archive (_ ∷ files) (o ∷ contents) hold are = ((o, are.0, hold.0), each_archive files contents hold.1 are.1)
 
   -- what was joined is an archive
   pub joined_archives : (files : List (Reader S)) (o mid : Operations) → HasJoined files o mid → AllByRecursion IsArchive files

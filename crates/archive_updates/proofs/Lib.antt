@@ -3,3 +3,13 @@ pub mod Rows
 pub mod Joins
 pub mod Streamed
 pub mod Counts
+pub mod Beginnings
+pub mod AtHand
+pub mod Migrated
+pub mod Copied
+pub mod Tellings
+pub mod Retired
+pub mod Unnamed
+pub mod Deltas
+pub mod Behind
+pub mod Merged

@@ -1,5 +1,5 @@
 -- How `merge` ends, with one FILE and with others, from what its parts did.
-use Rattle.std.proofs.Common.{◌≡◌, ℕ, List, [], ◌∷◌, length, MatchResult, Option, Some, Result, Ok, Err, refl, ap, sym, ◌∙◌, subst, inl, inr}
+use Rattle.std.proofs.Common.{◌≡◌, ℕ, List, [], ◌∷◌, length, Option, Some, Result, Ok, Err, refl, ap, sym, ◌∙◌, subst, inl, inr}
 use Rattle.archive_core.specs.Content.{Operations, IsContent, joined}
 use Rattle.archive_records.specs.declared.fault.MergeCause.{MergeCause}
 use Rattle.archive_records.specs.declared.fault.MergeCause.TheVariants.{Left, Right, Write}
@@ -7,8 +7,7 @@ use Rattle.archive_records.specs.declared.fault.MergeFault.{MergeFault}
 use Rattle.archive_records.specs.declared.writing.Sizes.{Sizes}
 use Rattle.archive_records.specs.Text.{written, IsArchiveOf}
 use Rattle.archive_records.specs.Reading.{IsOfMachine}
-use Rattle.std.specs.Io.KnownBytes.{Appends}
-use Rattle.byte_device.specs.Devices.{FailedIn, Stream, stream}
+use Rattle.byte_device.specs.Devices.{Stream, stream}
 use Rattle.record_merge.specs.Merging.{GainsCount, IsMerged, Merges, StopsBy}
 use Rattle.report_text.specs.Report.{archive_line}
 use Rattle.byte_device.specs.declared.disks.CannotOpen.{CannotOpen}
@@ -16,36 +15,14 @@ use Rattle.command_ends.specs.declared.faults.CommandFault.{CommandFault}
 use Rattle.command_ends.specs.declared.faults.CommandFault.TheVariants.{Input, Output, Report, OutOfMemory}
 use Rattle.command_ends.specs.declared.faults.Place.{Place}
 use Rattle.command_ends.specs.declared.faults.Status.{Status}
-use Rattle.command_ends.specs.declared.faults.Status.TheVariants.{Done}
 use Rattle.command_ends.specs.declared.faults.Why.{Why}
-use Rattle.command_ends.specs.Ends.{Carries, Ends, EndsStreamed, IsStopped, MakesArchive, Streamed}
+use Rattle.command_ends.specs.Ends.{Carries, EndsStreamed, IsStopped, MakesArchive, Streamed}
 use Rattle.command_ends.specs.Inputs.{Reader, reader, Unfailed, EachUnfailed, IsDeviceFault, IsGivenArchive}
-use Rattle.archive_updates.specs.Merge.{MakesMerged, merge}
+use Rattle.archive_updates.proofs.AtHand.{counted, sizes_are}
+use Rattle.archive_updates.specs.Merge.{MakesMerged, merge_in_turn}
 use Rattle.archive_updates.specs.MergeStreams.{IsMergeFaultTold, IsSide, StopsMerge, StopsMergeOfOne, merge_as_it_comes, merge_of_one}
-use Rattle.command_ends.specs.Outputs.{Out, Outs, Writer, FailsAt, FailsBehind, FailsToPlace, Places, PlacesNothing, Publishes, Reports, Takes, draft_of, out_of, report_of, sizes_of}
-use Rattle.command_ends.proofs.Endings.{as_streamed}
+use Rattle.command_ends.specs.Outputs.{Out, Outs, Writer, FailsAt, PlacesNothing, Publishes, Takes, draft_of, out_of, report_of}
 use Rattle.command_ends.proofs.Readers.{by_device}
-
--- what is told of OUT is how much was written when the merge was stopped
-counted : (e : MergeFault) (fault : CommandFault) (k n : ℕ) → k ≡ e.written → IsMergeFaultTold e fault → fault ≡ Output n → n ≡ k
-counted e (Input at why) k n is told h = cc
-counted e (Output m) k n is told h = sym (is ∙ ap (λ (f : MergeFault). f.written) told ∙ ap count_of h)
-  where
-    count_of : CommandFault → ℕ
-    count_of (Output x) = x
-    count_of (Input at why) = 0
-    count_of (Report x) = 0
-    count_of OutOfMemory = 0
-counted e (Report m) k n is told h = absurd told
-counted e OutOfMemory k n is told h = cc
-
-sizes_are : (sizes : Sizes) (o : Operations) → sizes.records ≡ (sizes_of o).records → sizes.bytes ≡ (sizes_of o).bytes → sizes ≡ sizes_of o
-sizes_are sizes o r b = λ i. record { records = r i; bytes = b i }
-
--- what an input lends is what was opened
-pub lent_from : {S : Type 0} (old : Result S CannotOpen) (lent : S) → MatchResult old (λ source. lent ≡ source) (λ _. ⊥) → old ≡ Ok lent
-lent_from {S = S} (Ok source) lent is = ap (λ (s : S). Ok s) (sym is)
-lent_from (Err e) lent is = absurd is
 
 -- ---- one FILE, which was opened, as IN was
 
@@ -112,63 +89,31 @@ module _ {R S D T : Type 0} (left : R → Option (List ℕ)) (failures : R → �
       told_is = refl;
     }
 
-    carries : (result : Result Status CommandFault) → Publishes (out_of out) report text told result
-        → Carries (MakesArchive (MakesMerged input (file ∷ []))) (out_of out) report result
-    carries result p = record { text = text; told = told; makes = makes; published = p }
-
     told_is : archive_line sizes ≡ told
     told_is = ap archive_line (sizes_are sizes (joined m.o m.p) m.written_is.records_are m.written_is.bytes_are)
 
-    -- its text is in place, and its sizes are told
-    pub reported : (said : List ℕ) (result : Result Status CommandFault) → said ≡ archive_line sizes
-        → out.placed out.new.target ≡ out.held draft → out.held out.new.draft ≡ Some [] → out.draft_failures out.new.draft ≡ out.draft_failures draft
-        → out.failures out.new.target ≡ out.failures out.old.target → Reports report Done said result → EndsSo result
-    reported said result is placed emptied draft_unfailed target_unfailed reports = by_result result reports
+    -- and is published
+    pub merged : (said : List ℕ) (result : Result Status CommandFault) → said ≡ archive_line sizes → Publishes (out_of out) report text said result → EndsSo result
+    merged said result is p = by_result result (subst (λ (t : List ℕ). Publishes (out_of out) report text t result) (is ∙ told_is) p)
       where
-        there : Places (out_of out) text
-        there = record {
-          placed = subst (λ (held : Option (List ℕ)). Appends (out.held out.old.draft) held text) (sym placed) m.written_is.written;
-          emptied = emptied;
-          draft_unfailed = draft_unfailed ∙ m.written_is.unfailed;
-          unfailed = target_unfailed;
-        }
+        carries : (r : Result Status CommandFault) → Publishes (out_of out) report text told r → Carries (MakesArchive (MakesMerged input (file ∷ []))) (out_of out) report r
+        carries r q = record { text = text; told = told; makes = makes; published = q }
 
-        by_result : (r : Result Status CommandFault) → Reports report Done said r → EndsSo r
-        by_result (Ok status) p = (unfailed, carries (Ok status) (p.0, there, subst (Takes report) (is ∙ told_is) p.1))
-        by_result (Err (Input at why)) p = absurd p
-        by_result (Err (Output n)) p = absurd p
-        by_result (Err (Report n)) p = (unfailed, carries (Err (Report n)) (there, subst (λ (t : List ℕ). FailsBehind report t n) (is ∙ told_is) p))
-        by_result (Err OutOfMemory) p = absurd p
-
-    -- its text could not be put in place
-    pub not_placed : (fault : CommandFault) → fault ≡ Output sizes.bytes → out.held out.new.draft ≡ out.held draft
-        → out.draft_failures out.new.draft ≡ out.draft_failures draft → out.placed out.new.target ≡ out.placed out.old.target
-        → FailedIn (out.failures out.old.target) (out.failures out.new.target) → Takes report [] → EndsSo (Err fault)
-    not_placed fault is held draft_unfailed kept failed unreported = rw is (inr (unfailed, carries (Err (Output sizes.bytes)) (inr (m.written_is.bytes_are, fails), unreported)))
-      where
-        fails : FailsToPlace (out_of out) text
-        fails = record {
-          took = (subst (λ (h : Option (List ℕ)). Appends (out.held out.old.draft) h text) (sym held) m.written_is.written, draft_unfailed ∙ m.written_is.unfailed);
-          kept = kept;
-          failed = failed;
-        }
-
-    -- memory was wanting for its report
-    pub wanting : out.held out.new.draft ≡ out.held draft → out.draft_failures out.new.draft ≡ out.draft_failures draft
-        → PlacesNothing (out_of out) → Takes report [] → EndsSo (Err OutOfMemory)
-    wanting held draft_unfailed nothing_placed unreported = inr (unfailed, carries (Err OutOfMemory) (inr took, nothing_placed, unreported))
-      where
-        took : Takes (out_of out).draft text
-        took = (subst (λ (h : Option (List ℕ)). Appends (out.held out.old.draft) h text) (sym held) m.written_is.written, draft_unfailed ∙ m.written_is.unfailed)
+        by_result : (r : Result Status CommandFault) → Publishes (out_of out) report text told r → EndsSo r
+        by_result (Ok status) q = (unfailed, carries (Ok status) q)
+        by_result (Err (Input at why)) q = absurd q
+        by_result (Err (Output n)) q = inr (unfailed, carries (Err (Output n)) q)
+        by_result (Err (Report n)) q = (unfailed, carries (Err (Report n)) q)
+        by_result (Err OutOfMemory) q = inr (unfailed, carries (Err OutOfMemory) q)
 
 -- ---- more than one FILE, or none
 
 module _ {R S D T : Type 0} (input : Reader R) (out : Outs D T) (report : Writer) (result : Result Status CommandFault) where
-  pub of_many : (files : List (Reader S)) → (length files ≡ 1 → ⊥) → Ends (merge input files) (out_of out) report result
+  pub of_many : (files : List (Reader S)) → (length files ≡ 1 → ⊥) → EndsStreamed (merge_in_turn input files (out_of out).draft) (out_of out) report result
       → EndsStreamed (merge_as_it_comes input files out) (out_of out) report result
-  of_many [] many e = as_streamed (merge {S = S} input []) (out_of out) report result e
+  of_many [] many e = e
   of_many (_ ∷ []) many e = absurd (many refl)
-  of_many (file ∷ next ∷ more) many e = as_streamed (merge input (file ∷ next ∷ more)) (out_of out) report result e
+  of_many (file ∷ next ∷ more) many e = e
 
 -- ---- accepted inputs
 

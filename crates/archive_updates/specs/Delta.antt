@@ -5,9 +5,10 @@ use Rattle.archive_core.specs.Summary as exchange
 use Rattle.archive_core.specs.Summary.{Entries}
 use Rattle.archive_records.specs.Entry.{AreEntries}
 use Rattle.archive_records.specs.Text.{summary_text}
-use Rattle.command_ends.specs.Ends.{Command, MakesArchive}
-use Rattle.command_ends.specs.Inputs.{Reader, Holds, Unfailed, IsUntouched, IsRefusedSummary, IsRefusedInOrder}
-use Rattle.command_ends.specs.Inputs.{HoldsArchive}
+use Rattle.command_ends.specs.Ends.{Command, MakesArchive, Streamed, writes_in_turn}
+use Rattle.command_ends.specs.Inputs.{Reader, Holds, Unfailed, IsRefusedSummary, IsRefusedInTurn, IsWantedInTurn}
+use Rattle.command_ends.specs.Inputs.{HoldsArchive, IsKnown}
+use Rattle.command_ends.specs.Outputs.{Writer}
 
 -- ARCHIVE is the text of a content and SUMMARY that of entries; this is the content of the operations that they do not
 -- name, and there are no lines but the sizes.
@@ -26,6 +27,12 @@ pub record MakesDelta {R S : Type 0} (archive : Reader R) (summary : Reader S) (
 abbrev pub delta : {R S : Type 0} → Reader R → Reader S → Command
 delta archive summary = record {
   Makes = MakesArchive (MakesDelta archive summary);
-  Refuses = IsRefusedInOrder archive (IsUntouched summary) (IsRefusedSummary summary);
+  Refuses = IsRefusedInTurn archive (IsRefusedSummary summary);
   Unfailed = Unfailed archive × Unfailed summary;
 }
+
+-- the same as it comes, SUMMARY before ARCHIVE
+abbrev pub delta_as_it_comes : {R S : Type 0} → Reader R → Reader S → Writer → Streamed
+delta_as_it_comes archive summary draft =
+    writes_in_turn (delta archive summary) (IsWantedInTurn archive (IsRefusedSummary summary))
+    (IsKnown archive × IsKnown summary) draft

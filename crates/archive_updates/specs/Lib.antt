@@ -6,3 +6,6 @@ pub mod MergeStreams
 pub mod Apply
 pub mod Summary
 pub mod Delta
+pub mod Joining
+pub mod Copying
+pub mod InnerTelling

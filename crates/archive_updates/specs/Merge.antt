@@ -1,25 +1,17 @@
 -- What `merge` makes of archives.
-use Rattle.std.specs.Prelude.{◌≡◌, ℕ, ◌+◌, List, [], fold}
+use Rattle.std.specs.Prelude.{◌≡◌, ℕ, List, [], fold}
 use Rattle.std.specs.List.{AllByRecursion, AllZip}
 use Rattle.std.specs.FinSet as set
 use Rattle.archive_core.specs.Content.{Operations, IsContent, joined}
-use Rattle.command_ends.specs.declared.faults.Place.{Place}
-use Rattle.command_ends.specs.declared.faults.Place.TheVariants.{Archive}
-use Rattle.command_ends.specs.Ends.{Command, MakesArchive}
-use Rattle.command_ends.specs.Inputs.{Reader, Unfailed, EachUnfailed, EachUntouched, IsArchive, HoldsArchive}
-use Rattle.command_ends.specs.Inputs.{IsArchiveRefused, IsFirstRefused, IsRefusedInOrder}
-
--- a content with others, one joined after another
-abbrev pub merged : Operations → List Operations → Operations
-merged o contents = fold joined o contents
+use Rattle.command_ends.specs.Archives.{file_place, merged}
+use Rattle.command_ends.specs.Ends.{Command, MakesArchive, Streamed, writes_in_turn}
+use Rattle.command_ends.specs.Inputs.{Reader, Unfailed, EachUnfailed, IsArchive, HoldsArchive, IsKnown, EachKnown}
+use Rattle.command_ends.specs.Inputs.{IsArchiveRefused, IsFirstRefused, IsRefusedInTurn, IsWantedInTurn}
+use Rattle.command_ends.specs.Outputs.{Writer}
 
 -- the operations of all these contents
 abbrev pub operations_of : List Operations → Operations
 operations_of contents = fold set.union set.empty contents
-
--- the place of a file among the archives of the words, of which IN is the first
-abbrev pub file_place : ℕ → Place
-file_place number = Archive (number + 1)
 
 -- The files are the texts of contents, and these are joined to the content now.
 pub record HasJoined {S : Type 0} (files : List (Reader S)) (old new : Operations) : Type 0 where
@@ -44,6 +36,13 @@ pub record MakesMerged {R S : Type 0} (input : Reader R) (files : List (Reader S
 abbrev pub merge : {R S : Type 0} → Reader R → List (Reader S) → Command
 merge input files = record {
   Makes = MakesArchive (MakesMerged input files);
-  Refuses = IsRefusedInOrder input (EachUntouched files) (IsFirstRefused file_place IsArchive IsArchiveRefused files);
+  Refuses = IsRefusedInTurn input (IsFirstRefused file_place IsArchive IsArchiveRefused files);
   Unfailed = Unfailed input × EachUnfailed files;
 }
+
+-- the same as IN comes, the files before it
+abbrev pub merge_in_turn : {R S : Type 0} → Reader R → List (Reader S) → Writer → Streamed
+merge_in_turn input files draft =
+    writes_in_turn (merge input files)
+    (IsWantedInTurn input (IsFirstRefused file_place IsArchive IsArchiveRefused files))
+    (IsKnown input × EachKnown files) draft

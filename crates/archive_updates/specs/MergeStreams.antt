@@ -1,5 +1,5 @@
 -- `merge` of one FILE: the two archives are merged as they come.
-use Rattle.std.specs.Prelude.{◌≡◌, ◌≢◌, ℕ, List, [], ◌∷◌, Ok, Err, MatchResult}
+use Rattle.std.specs.Prelude.{◌≡◌, ◌≢◌, List, [], ◌∷◌, Ok, Err, MatchResult}
 use Rattle.archive_records.specs.declared.fault.MergeCause.{MergeCause}
 use Rattle.archive_records.specs.declared.fault.MergeCause.TheVariants.{Left, Right, Write}
 use Rattle.archive_records.specs.declared.fault.MergeFault.{MergeFault}
@@ -12,10 +12,10 @@ use Rattle.command_ends.specs.declared.faults.Place.{Place}
 use Rattle.command_ends.specs.declared.faults.Place.TheVariants.{Archive}
 use Rattle.command_ends.specs.declared.faults.Why.{Why}
 use Rattle.command_ends.specs.declared.faults.Why.TheVariants.{Record, CannotOpen as NotOpened}
-use Rattle.command_ends.specs.Ends.{MakesArchive, Streamed, reads_first}
+use Rattle.command_ends.specs.Ends.{MakesArchive, Streamed}
 use Rattle.command_ends.specs.Inputs.{EachUnfailed, IsUntouched, Reader, Unfailed}
 use Rattle.command_ends.specs.Outputs.{Outs, draft_of, out_of}
-use Rattle.archive_updates.specs.Merge.{MakesMerged, merge}
+use Rattle.archive_updates.specs.Merge.{MakesMerged, merge_in_turn}
 
 -- the side that stopped the merge is told, IN as archive 0 and the FILE as archive 1, and its fault
 abbrev pub IsSide : MergeCause → Place → Why → Type 0
@@ -36,8 +36,8 @@ IsMergeFaultTold e (Output n) = e ≡ record { cause = Write; written = n }
 IsMergeFaultTold e (Report n) = ⊥
 IsMergeFaultTold e OutOfMemory = WantsMemory e.cause
 
--- The merge of both inputs was stopped, and this is told. The draft has what the merge leaves, as many bytes as its fault
--- says.
+-- The merge of both inputs was stopped, and this is told. The draft has what the merge leaves, as many bytes as its
+-- fault says.
 pub record StopsMerge {R S D : Type 0} (left : Stream R) (right : Stream S) (draft : Stream D) (fault : CommandFault)
     : Type 0 where
   pub stopped : MergeFault
@@ -73,8 +73,8 @@ merge_of_one input file draft = record {
   Unfailed = Unfailed input × EachUnfailed (file ∷ []);
 }
 
--- `merge`: with one FILE as the two come, and else as a command that reads its inputs first
+-- `merge`: with one FILE as the two come, and else as IN comes, the FILEs before it
 abbrev pub merge_as_it_comes : {R S D T : Type 0} → Reader R → List (Reader S) → Outs D T → Streamed
-merge_as_it_comes {S = S} input [] out = reads_first (merge {S = S} input []) (out_of out).draft
+merge_as_it_comes {S = S} input [] out = merge_in_turn {S = S} input [] (out_of out).draft
 merge_as_it_comes input (file ∷ []) out = merge_of_one input file (draft_of out)
-merge_as_it_comes input (file ∷ next ∷ more) out = reads_first (merge input (file ∷ next ∷ more)) (out_of out).draft
+merge_as_it_comes input (file ∷ next ∷ more) out = merge_in_turn input (file ∷ next ∷ more) (out_of out).draft

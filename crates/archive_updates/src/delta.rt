@@ -1,35 +1,104 @@
 //! `delta ARCHIVE SUMMARY OUT`.
-ghost use Rattle.archive_updates.specs.Delta.{delta};
-ghost use Rattle.command_ends.specs.Ends.{Ends};
-ghost use Rattle.command_ends.specs.Inputs.{reader};
+ghost use Rattle.std.specs.Prelude.{Ok, IfOk, IfErr};
+ghost use Rattle.byte_device.specs.Devices.{stream};
+ghost use Rattle.archive_updates.specs.Copying.{IsUnnamed, copying};
+ghost use Rattle.archive_updates.specs.Delta.{delta_as_it_comes};
+ghost use Rattle.command_ends.specs.Ends.{EndsAsItComes, EndsStreamed, HasTaken, StopsAmidst};
+ghost use Rattle.command_ends.specs.Inputs.{IsKnown, reader};
 ghost use Rattle.command_ends.specs.Outputs.{out_of, outs, writer};
 
-use archive_core::Archive;
+use crate::copying::copy_unnamed;
+use crate::joining::command_fault_of;
+use archive_records::{Sizes, Summary};
 use byte_device::{CannotOpen, Sink, Source};
 use command_ends::{
-    CommandFault, Output, Status, Target, publish_delta, read_input, read_summary_input,
+    CommandFault, Output, Place, Status, Target, opened, publish_draft, read_summary_input,
+    refused_behind,
 };
 use memory::Heap;
 
+/// Copies what the summary does not name of an archive that was opened into the draft.
+fn copy_opened<R: Source, W: Sink>(
+    heap: Heap,
+    archive: &mut R,
+    named: &Summary,
+    draft: &mut W,
+) -> Result<Sizes, CommandFault>
+    ensures copied { IfOk result (IsUnnamed (reader R.left R.failures (Ok archive.old) (Ok archive.new)) named.now
+        (stream W.held W.failures draft.old draft.new)) }
+    ensures stopped { IfErr result
+        (StopsAmidst (copying (reader R.left R.failures (Ok archive.old) (Ok archive.new)) named.now)
+        (IsKnown (reader R.left R.failures (Ok archive.old) (Ok archive.new)))
+        (writer W.held W.failures draft.old draft.new)) }
+    ensures taken { IfErr result (HasTaken (writer W.held W.failures draft.old draft.new)) }
+{
+    match copy_unnamed(heap, named, archive, draft) {
+        Ok(sizes) => Ok(sizes),
+        Err(fault) => Err(command_fault_of(fault)),
+    }
+}
+
+/// Copies what the summary does not name of ARCHIVE into the draft.
+fn copy_input<R: Source, W: Sink>(
+    heap: Heap,
+    archive: &mut Result<R, CannotOpen>,
+    named: &Summary,
+    draft: &mut W,
+) -> Result<Sizes, CommandFault>
+    ensures copied { IfOk result (IsUnnamed (reader R.left R.failures archive.old archive.new) named.now
+        (stream W.held W.failures draft.old draft.new)) }
+    ensures stopped { IfErr result
+        (StopsAmidst (copying (reader R.left R.failures archive.old archive.new) named.now)
+        (IsKnown (reader R.left R.failures archive.old archive.new))
+        (writer W.held W.failures draft.old draft.new)) }
+    ensures taken { IfErr result (HasTaken (writer W.held W.failures draft.old draft.new)) }
+{
+    let source = opened(archive, Place::Archive(0))?;
+    copy_opened(heap, source, named, draft)
+}
+
+/// Writes the archive of what the summary does not name of ARCHIVE to OUT, and its sizes to the report.
+fn write_unnamed<R: Source, T: Target, P: Sink>(
+    heap: Heap,
+    archive: &mut Result<R, CannotOpen>,
+    named: &Summary,
+    out: &mut Output<T::Draft, T>,
+    report: &mut P,
+) -> Result<Status, CommandFault>
+    ensures { EndsAsItComes (copying (reader R.left R.failures archive.old archive.new) named.now)
+        (IsKnown (reader R.left R.failures archive.old archive.new))
+        (out_of (outs T.Draft.held T.Draft.failures T.placed T.failures out.old out.new))
+        (writer P.held P.failures report.old report.new) result }
+{
+    let kept = heap.clone()?;
+    let sizes = copy_input(kept, archive, named, &mut out.draft)?;
+    publish_draft(String::new(heap), sizes, out, report)
+}
+
 /// Writes the archive of those operations of ARCHIVE whose entries are not in SUMMARY to OUT, and its sizes to the
-/// report. ARCHIVE is read first, then SUMMARY, each to its end, before anything is written.
+/// report. SUMMARY is read first, to its end, and then ARCHIVE, whose records go to OUT as they come, in the memory of
+/// the summary, of one record and of 57 bytes for each retirement. Where SUMMARY is refused, ARCHIVE is tested to its
+/// end before that is told.
 ///
 /// # Errors
 ///
-/// `Input` for the first input that is refused; `Output` and `Report` where that writer failed; `OutOfMemory`.
-pub fn run_delta<A: Archive + Drop, R: Source, S: Source, T: Target, P: Sink>(
+/// `Input` for the first input that is refused, in the order of the words; `Output` and `Report` where that writer
+/// failed; `OutOfMemory`.
+pub fn run_delta<R: Source, S: Source, T: Target, P: Sink>(
     heap: Heap,
     archive: &mut Result<R, CannotOpen>,
     summary: &mut Result<S, CannotOpen>,
     out: &mut Output<T::Draft, T>,
     report: &mut P,
 ) -> Result<Status, CommandFault>
-    ensures { Ends
-        (delta (reader R.left R.failures archive.old archive.new) (reader S.left S.failures summary.old summary.new))
-        (out_of (outs T.Draft.held T.Draft.failures T.placed T.failures out.old out.new))
+    ensures { let known = out_of (outs T.Draft.held T.Draft.failures T.placed T.failures out.old out.new) in
+        EndsStreamed (delta_as_it_comes (reader R.left R.failures archive.old archive.new)
+        (reader S.left S.failures summary.old summary.new) known.draft) known
         (writer P.held P.failures report.old report.new) result }
 {
-    let archive: A = read_input(heap.clone()?, 0, archive)?;
-    let summary = read_summary_input(heap.clone()?, summary)?;
-    publish_delta(heap, &archive, &summary, out, report)
+    let kept = heap.clone()?;
+    match read_summary_input(kept, summary) {
+        Ok(named) => write_unnamed(heap, archive, &named, out, report),
+        Err(fault) => Err(refused_behind(heap, archive, fault)),
+    }
 }

@@ -1,18 +1,24 @@
 //! The commands that write OUT, over any archive, sources and sinks.
 //!
-//! `merge` of one FILE alone writes OUT while it reads; each other one reads all its inputs first.
+//! `merge`, `migrate`, `retire` and `delta` write OUT as their first input comes; each other one reads all its inputs first.
 //!
-//! - `new`, `admit`, `retire`, `merge`, `migrate`, `apply`, `summary`, `delta`: a command each.
+//! - `new`, `admit`, `retire`, `merge`, `migrate`, `apply`, `summary`, `delta`: a command each;
+//! - `joining`: IN, merged with an archive that is at hand;
+//! - `telling`: IN, merged with operations that are at hand, and which of these were new;
+//! - `copying`: what a summary does not name of an archive.
 #![tactic(auto)]
 
 mod admit;
 mod apply;
+mod copying;
 mod delta;
+mod joining;
 mod merge;
 mod migrate;
 mod new;
 mod retire;
 mod summary;
+mod telling;
 
 pub use admit::run_admit;
 pub use apply::run_apply;

@@ -1,25 +1,28 @@
 //! `merge IN OUT FILE...`.
-ghost use Rattle.std.specs.Prelude.{◌≡◌, ◌+◌, Ok, OnOk, IfErr};
+ghost use Rattle.std.specs.Prelude.{◌≡◌, ◌+◌, Ok, Some, OnOk, IfOk, IfErr};
+ghost use Rattle.std.specs.FinSet as set;
 ghost use Rattle.archive_core.specs.Content.{Operations, IsContent, joined};
 ghost use Rattle.archive_records.specs.Text.{written};
-ghost use Rattle.command_ends.specs.Ends.{Ends, EndsStreamed};
+ghost use Rattle.command_ends.specs.Archives.{file_place};
+ghost use Rattle.command_ends.specs.Ends.{EndsAsItComes, EndsStreamed};
+ghost use Rattle.command_ends.specs.declared.faults.CommandFault.TheVariants.{OutOfMemory};
 ghost use Rattle.command_ends.specs.Inputs.{EachUnfailed, IsArchive, IsArchiveRefused, IsFirstRefused};
-ghost use Rattle.command_ends.specs.Inputs.{HoldsArchive};
+ghost use Rattle.command_ends.specs.Inputs.{HoldsArchive, IsKnown};
 ghost use Rattle.command_ends.specs.Inputs.{IsRefusal, IsRefusedArchive, Unfailed, reader, readers};
-ghost use Rattle.archive_updates.specs.Merge.{HasJoined, file_place, merge};
-ghost use Rattle.archive_updates.specs.MergeStreams.{IsMergeFaultTold, merge_as_it_comes, merge_of_one};
+ghost use Rattle.archive_updates.specs.Joining.{joins};
+ghost use Rattle.archive_updates.specs.Merge.{HasJoined, merge_in_turn};
+ghost use Rattle.archive_updates.specs.MergeStreams.{merge_as_it_comes, merge_of_one};
 ghost use Rattle.command_ends.specs.Outputs.{draft_of, out_of, outs, writer};
 
+use crate::joining::{command_fault_of, join_input};
 use archive_core::{Archive, take_all};
-use archive_records::{MergeCause, MergeFault};
-use byte_device::{CannotOpen, Sink, Source};
+use archive_records::write_archive;
+use byte_device::{Bytes, CannotOpen, Grown, Sink, Source};
 use command_ends::{
-    CommandFault, Output, Place, Status, Target, opened, publish, publish_report, put_in_place,
-    read_input, refusal,
+    CommandFault, Output, Place, Status, Target, opened, publish_draft, read_input, refused_behind,
 };
 use memory::Heap;
 use record_merge::merge_streams;
-use report_text::with_sizes;
 
 /// Joins the archive with this number among the words.
 fn join_file<A: Archive + Drop, S: Source>(
@@ -60,33 +63,73 @@ fn join_files<A: Archive + Drop, S: Source>(
     Ok(())
 }
 
-/// Writes the join of IN's archive with that of each file to OUT, and its sizes to the report. Each is read to its end
-/// before anything is written.
-fn merge_values<A: Archive + Drop, R: Source, S: Source, T: Target, P: Sink>(
+/// The text of the archive, in memory.
+fn text_in_memory<A: Archive>(heap: &Heap, archive: &A) -> Result<Grown, CommandFault>
+    ensures text { IfOk result (λ text. ⟦<Grown as Sink>⟧.held text ≡ Some (written (A.content archive.now))) }
+    ensures content { OnOk result (IsContent (A.content archive.now)) }
+    ensures wanting { IfErr result (λ fault. fault ≡ OutOfMemory) }
+{
+    let mut text = Grown::new(heap.clone()?);
+    match write_archive(archive, &mut text) {
+        Ok(_) => Ok(text),
+        Err(_) => Err(CommandFault::OutOfMemory),
+    }
+}
+
+/// The text of the join of the files' archives.
+fn joined_text<A: Archive + Drop, S: Source>(
+    heap: &Heap,
+    files: &mut [Result<S, CannotOpen>],
+) -> Result<Grown, CommandFault>
+    ensures joined { IfOk result (λ text. (p : Operations) × IsContent p
+        × (⟦<Grown as Sink>⟧.held text ≡ Some (written p))
+        × HasJoined (readers S.left S.failures files.old files.new) set.empty p) }
+    ensures unfailed { OnOk result (EachUnfailed (readers S.left S.failures files.old files.new)) }
+    ensures refused { IfErr result (IsRefusal
+        (IsFirstRefused file_place IsArchive IsArchiveRefused (readers S.left S.failures files.old files.new))
+        (EachUnfailed (readers S.left S.failures files.old files.new))) }
+{
+    let mut joined = A::empty(heap.clone()?);
+    join_files(heap, &mut joined, files)?;
+    text_in_memory(heap, &joined)
+}
+
+/// Writes the join of IN's archive with the one of this text to OUT as IN comes, and its sizes to the report.
+fn merge_text<R: Source, T: Target, P: Sink>(
+    heap: Heap,
+    input: &mut Result<R, CannotOpen>,
+    text: &[u8],
+    out: &mut Output<T::Draft, T>,
+    report: &mut P,
+) -> Result<Status, CommandFault>
+    ensures { (p : Operations) → IsContent p → text.now ≡ written p
+        → EndsAsItComes (joins (reader R.left R.failures input.old input.new) p)
+        (IsKnown (reader R.left R.failures input.old input.new))
+        (out_of (outs T.Draft.held T.Draft.failures T.placed T.failures out.old out.new))
+        (writer P.held P.failures report.old report.new) result }
+{
+    let mut other = Bytes::new(text);
+    let sizes = join_input(&heap, input, &mut other, &mut out.draft)?;
+    publish_draft(String::new(heap), sizes, out, report)
+}
+
+/// Writes the join of IN's archive with that of each file to OUT, and its sizes to the report. The files are read and
+/// joined first, and then IN goes to OUT as it comes.
+fn merge_in_turn<A: Archive + Drop, R: Source, S: Source, T: Target, P: Sink>(
     heap: Heap,
     input: &mut Result<R, CannotOpen>,
     files: &mut [Result<S, CannotOpen>],
     out: &mut Output<T::Draft, T>,
     report: &mut P,
 ) -> Result<Status, CommandFault>
-    ensures { Ends
-        (merge (reader R.left R.failures input.old input.new) (readers S.left S.failures files.old files.new))
-        (out_of (outs T.Draft.held T.Draft.failures T.placed T.failures out.old out.new))
+    ensures { let known = out_of (outs T.Draft.held T.Draft.failures T.placed T.failures out.old out.new) in
+        EndsStreamed (merge_in_turn (reader R.left R.failures input.old input.new)
+        (readers S.left S.failures files.old files.new) known.draft) known
         (writer P.held P.failures report.old report.new) result }
 {
-    let mut archive: A = read_input(heap.clone()?, 0, input)?;
-    join_files(&heap, &mut archive, files)?;
-    publish(&archive, String::new(heap), out, report)
-}
-
-/// What is told where this stopped a merge, IN being archive 0 and the file archive 1.
-fn command_fault_of(fault: MergeFault) -> CommandFault
-    ensures { IsMergeFaultTold fault result }
-{
-    match fault.cause {
-        MergeCause::Left(why) => refusal(Place::Archive(0), why),
-        MergeCause::Right(why) => refusal(Place::Archive(1), why),
-        MergeCause::Write => CommandFault::Output(fault.written),
+    match joined_text::<A, S>(&heap, files) {
+        Ok(text) => merge_text(heap, input, text.as_slice(), out, report),
+        Err(fault) => Err(refused_behind(heap, input, fault)),
     }
 }
 
@@ -103,13 +146,10 @@ fn merge_opened<R: Source, S: Source, T: Target, P: Sink>(
         (reader S.left S.failures (Ok right.old) (Ok right.new)) (draft_of known)) (out_of known)
         (writer P.held P.failures report.old report.new) result }
 {
-    let sizes = match merge_streams(&heap, left, right, &mut out.draft) {
-        Ok(sizes) => sizes,
-        Err(fault) => return Err(command_fault_of(fault)),
-    };
-    let text = with_sizes(String::new(heap), sizes)?;
-    put_in_place(out, sizes.bytes)?;
-    publish_report(Status::Done, &text, report)
+    match merge_streams(&heap, left, right, &mut out.draft) {
+        Ok(sizes) => publish_draft(String::new(heap), sizes, out, report),
+        Err(fault) => Err(command_fault_of(fault)),
+    }
 }
 
 /// Merges IN and the one file, if both were opened.
@@ -131,8 +171,9 @@ fn merge_one<R: Source, S: Source, T: Target, P: Sink>(
 }
 
 /// Writes the join of IN's archive with that of each file to OUT, and its sizes to the report. With one file the two
-/// are merged as they come, in the memory of their retirements and of one record of each; with more the inputs are read
-/// in the order of the words, IN first, each to its end, before anything is written.
+/// are merged as they come, in the memory of their retirements and of one record of each. With more the files are read
+/// first, in the order of the words, each to its end, and joined in memory, and IN is merged with the join as it comes;
+/// where a file is refused, IN is tested to its end before that is told.
 ///
 /// # Errors
 ///
@@ -154,6 +195,6 @@ pub fn run_merge<A: Archive + Drop, R: Source, S: Source, T: Target, P: Sink>(
     if files.len() == 1 {
         merge_one(heap, input, &mut files[0], out, report)
     } else {
-        merge_values::<A, R, S, T, P>(heap, input, files, out, report)
+        merge_in_turn::<A, R, S, T, P>(heap, input, files, out, report)
     }
 }

@@ -1,40 +1,83 @@
 //! `retire IN OUT UUID ARCH DIGEST`.
-ghost use Rattle.std.specs.Prelude.{◌≡◌, OnOk, IfOk};
-ghost use Rattle.archive_core.specs.Content.{with_record, changes};
-ghost use Rattle.archive_core.specs.Record.{retirement_record};
-ghost use Rattle.command_ends.specs.Ends.{Ends};
-ghost use Rattle.command_ends.specs.Inputs.{reader};
-ghost use Rattle.command_ends.specs.Outputs.{out_of, outs, writer};
+ghost use Rattle.std.specs.Prelude.{◌≡◌, ◌++◌, ℕ, List, length, IfOk, IfErr};
+ghost use Rattle.archive_core.specs.Record.{IsOperation};
+ghost use Rattle.byte_device.specs.Devices.{stream};
+ghost use Rattle.command_ends.specs.Ends.{EndsAsItComes, HasTaken, StopsAmidst};
+ghost use Rattle.command_ends.specs.Inputs.{IsKnown, reader};
+ghost use Rattle.report_text.specs.Report.{archive_line, retire_line};
+ghost use Rattle.command_ends.specs.Outputs.{Publishes, Takes, out_of, outs, writer};
+ghost use Rattle.archive_updates.specs.InnerTelling.{IsRetired};
 ghost use Rattle.archive_updates.specs.Retire.{retire};
 
-use archive_core::{Archive, Digest, Operation, SliceKey};
+use crate::telling::tell_input;
+use archive_core::{Digest, Operation, SliceKey};
+use archive_records::Sizes;
 use byte_device::{CannotOpen, Sink, Source};
-use command_ends::{CommandFault, Output, Status, Target, publish, read_input};
-use memory::{Heap, NoMemory};
+use command_ends::{CommandFault, Output, Status, Target, publish_draft};
+use memory::Heap;
+use record_merge::LentText;
 use report_text::retire_line;
 
-/// Takes a retirement, and tells whether that changed the archive.
-fn take_retirement<A: Archive>(
-    archive: &mut A,
+/// The retirement of the slices under the key that have the digest.
+fn retirement(key: SliceKey, digest: Digest) -> Operation
+    ensures is { result ≡ Operation.Retire key digest }
+    ensures operation { IsOperation result }
+{
+    Operation::Retire(key, digest)
+}
+
+/// Merges IN's archive with the retirement into the draft, and tells whether that changed it.
+fn retire_input<R: Source, W: Sink>(
+    heap: &Heap,
+    input: &mut Result<R, CannotOpen>,
+    key: &SliceKey,
+    digest: &Digest,
+    draft: &mut W,
+) -> Result<(Sizes, bool), CommandFault>
+    ensures retired { IfOk result (λ both. IsRetired (reader R.left R.failures input.old input.new) key.now digest.now
+        (stream W.held W.failures draft.old draft.new) both.0 both.1) }
+    ensures stopped { IfErr result (λ fault. StopsAmidst
+        (retire (reader R.left R.failures input.old input.new) key.now digest.now)
+        (IsKnown (reader R.left R.failures input.old input.new))
+        (writer W.held W.failures draft.old draft.new) fault) }
+    ensures taken { IfErr result (HasTaken (writer W.held W.failures draft.old draft.new)) }
+{
+    let retirements = [retirement(*key, *digest)];
+    let mut text = LentText::new(&retirements);
+    let (sizes, told) = tell_input(heap, input, &mut text, draft)?;
+    Ok((sizes, told[0]))
+}
+
+/// Puts OUT in place, whose draft has taken a whole text, and writes the line of the retirement and the sizes to the
+/// report. What is said is of all that the draft took since it was `start`.
+fn publish_retired<T: Target, P: Sink>(
+    heap: Heap,
+    merged: (Sizes, bool),
     key: SliceKey,
     digest: Digest,
-) -> Result<bool, NoMemory>
-    ensures content { OnOk result
-        (A.content archive.new ≡ with_record (A.content archive.old) (retirement_record key digest.0)) }
-    ensures changed { IfOk result
-        (λ changed. changed ≡ changes (A.content archive.old) (retirement_record key digest.0)) }
+    out: &mut Output<T::Draft, T>,
+    report: &mut P,
+) -> Result<Status, CommandFault>
+    ensures { (start : T.Draft) (text : List ℕ)
+        → Takes (writer T.Draft.held T.Draft.failures start out.old.draft) text
+        → merged.0.bytes ≡ length text
+        → Publishes (out_of (outs T.Draft.held T.Draft.failures T.placed T.failures
+        (record { draft = start; target = out.old.target }) out.new))
+        (writer P.held P.failures report.old report.new) text
+        (retire_line merged.1 key digest ++ archive_line merged.0) result }
 {
-    let changed = archive.take(Operation::Retire(key, digest))?;
-    Ok(changed)
+    let lines = retire_line(heap, merged.1, key, digest)?;
+    publish_draft(lines, merged.0, out, report)
 }
 
 /// Writes IN's archive to OUT with the retirement of the slices under the key that have the digest, and to the report
-/// whether it is new, and the sizes.
+/// whether it is new, and the sizes. IN is merged as it comes with the retirement, in the memory of one record and of 57
+/// bytes for each retirement.
 ///
 /// # Errors
 ///
 /// `Input` where the archive is refused; `Output` and `Report` where that writer failed; `OutOfMemory`.
-pub fn run_retire<A: Archive + Drop, R: Source, T: Target, P: Sink>(
+pub fn run_retire<R: Source, T: Target, P: Sink>(
     heap: Heap,
     input: &mut Result<R, CannotOpen>,
     key: SliceKey,
@@ -42,12 +85,11 @@ pub fn run_retire<A: Archive + Drop, R: Source, T: Target, P: Sink>(
     out: &mut Output<T::Draft, T>,
     report: &mut P,
 ) -> Result<Status, CommandFault>
-    ensures { Ends (retire (reader R.left R.failures input.old input.new) key digest)
+    ensures { EndsAsItComes (retire (reader R.left R.failures input.old input.new) key digest)
+        (IsKnown (reader R.left R.failures input.old input.new))
         (out_of (outs T.Draft.held T.Draft.failures T.placed T.failures out.old out.new))
         (writer P.held P.failures report.old report.new) result }
 {
-    let mut archive: A = read_input(heap.clone()?, 0, input)?;
-    let changed = take_retirement(&mut archive, key, digest)?;
-    let lines = retire_line(heap, changed, key, digest)?;
-    publish(&archive, lines, out, report)
+    let merged = retire_input(&heap, input, &key, &digest, &mut out.draft)?;
+    publish_retired(heap, merged, key, digest, out, report)
 }

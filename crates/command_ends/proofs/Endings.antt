@@ -1,5 +1,5 @@
 -- How a command ends, from what its parts did.
-use Rattle.std.proofs.Common.{◌≡◌, ℕ, refl, List, [], Result, Ok, Err, inl, inr}
+use Rattle.std.proofs.Common.{ℕ, refl, List, [], Result, Ok, Err, inl, inr}
 use Rattle.archive_core.specs.Content.{Operations, IsContent}
 use Rattle.archive_records.specs.Text.{written}
 use Rattle.command_ends.specs.declared.faults.CommandFault.{CommandFault}
@@ -7,7 +7,7 @@ use Rattle.command_ends.specs.declared.faults.CommandFault.TheVariants.{Input, O
 use Rattle.command_ends.specs.declared.faults.Place.{Place}
 use Rattle.command_ends.specs.declared.faults.Status.{Status}
 use Rattle.command_ends.specs.declared.faults.Why.{Why}
-use Rattle.command_ends.specs.Ends.{Command, Ends, EndsReport, EndsStreamed, MakesArchive, reads_first}
+use Rattle.command_ends.specs.Ends.{Ends, EndsReport, MakesArchive}
 use Rattle.command_ends.specs.Inputs.{Reader, Unfailed, IsRefusal, IsRefusedArchive, IsRefusedInOrder, HoldsArchive}
 use Rattle.command_ends.specs.Outputs.{Out, Writer, IsKept, Takes, Publishes, Reports, report_of}
 
@@ -65,37 +65,3 @@ module _ {R : Type 0} (Makes : List ℕ → List ℕ → Type 0) (input : Reader
   behind_refused (Output _) content is holds unfailed r o p = absurd r
   behind_refused (Report _) content is holds unfailed r o p = absurd r
   behind_refused OutOfMemory content is holds unfailed r o p = ((unfailed, r), inl (o, p))
-
--- ---- a command that writes nothing before its inputs are accepted, as one that writes while it reads
-
-no_count_input : (at : Place) (why : Why) (k n : ℕ) → Input at why ≡ Output n → n ≡ k
-no_count_input at why k n h = cc
-
-no_count_memory : (k n : ℕ) → OutOfMemory ≡ Output n → n ≡ k
-no_count_memory k n h = cc
-
-module _ (command : Command) (out : Out) (report : Writer) where
-  pub as_streamed : (result : Result Status CommandFault) → Ends command out report result
-      → EndsStreamed (reads_first command out.draft) out report result
-  as_streamed (Ok status) e = e
-  as_streamed (Err (Input at why)) e = record {
-    stops = (e.0, e.1.0);
-    bytes = [];
-    took = e.1.0.0;
-    count = no_count_input at why 0;
-    nothing_placed = e.1.1;
-    unreported = e.2;
-  }
-  as_streamed (Err (Output n)) e = inr e
-  as_streamed (Err (Report n)) e = e
-  as_streamed (Err OutOfMemory) e = elim e.1 [
-    | inl kept ↦ inl (record {
-      stops = (e.0, kept.0.0);
-      bytes = [];
-      took = kept.0.0.0;
-      count = no_count_memory 0;
-      nothing_placed = kept.0.1;
-      unreported = kept.1;
-    })
-    | inr carried ↦ inr (e.0, carried)
-  ]

@@ -1,6 +1,8 @@
 -- How a command ends.
 use Rattle.std.specs.Prelude.{◌≡◌, ℕ, List, [], length, Result, Ok, Err, ◌⊎◌}
 use Rattle.std.specs.Io.KnownBytes.{Appends}
+use Rattle.byte_device.specs.Devices.{FailedIn}
+use Rattle.byte_device.specs.Writes.{WritesFirst}
 use Rattle.archive_core.specs.Content.{Operations}
 use Rattle.archive_records.specs.Text.{written}
 use Rattle.command_ends.specs.declared.faults.CommandFault.{CommandFault}
@@ -38,9 +40,9 @@ pub record Carries (Makes : List ℕ → List ℕ → Type 0) (out : Out) (repor
   pub makes : Makes text told
   pub published : Publishes out report text told result
 
--- How a command ends. An input is refused, and OUT is kept; or the inputs are accepted, and what they make is published:
--- put in OUT's place and told, or up to where a writer failed. Where OUT failed or memory is wanting nothing is in
--- place. Where no input is refused, no reader fails.
+-- How a command ends. An input is refused, and OUT is kept; or the inputs are accepted, and what they make is
+-- published: put in OUT's place and told, or up to where a writer failed. Where OUT failed or memory is wanting nothing
+-- is in place. Where no input is refused, no reader fails.
 abbrev pub Ends : Command → Out → Writer → Result Status CommandFault → Type 0
 Ends command out report (Ok status) = command.Unfailed × Carries command.Makes out report (Ok status)
 Ends command out report (Err (Input place why)) = command.Refuses place why × IsKept out × Takes report []
@@ -51,16 +53,16 @@ Ends command out report (Err OutOfMemory) =
 
 -- ---- commands that write while they read
 
--- A command that writes OUT's draft while it still reads its inputs: the text of OUT and that of the report that accepted
--- inputs make, what is true of its inputs and of the draft where this fault stopped it before its text was whole, and
--- that no reader fails.
+-- A command that writes OUT's draft while it still reads its inputs: the text of OUT and that of the report that
+-- accepted inputs make, what is true of its inputs and of the draft where this fault stopped it before its text was
+-- whole, and that no reader fails.
 pub record Streamed : Type 1 where
   pub Makes : List ℕ → List ℕ → Type 0
   pub Stops : CommandFault → Type 0
   pub Unfailed : Type 0
 
--- It was stopped with this fault. OUT's draft has some bytes, as many as are told where it failed; nothing is in place, and
--- nothing was reported.
+-- It was stopped with this fault. OUT's draft has some bytes, as many as are told where it failed; nothing is in place,
+-- and nothing was reported.
 pub record IsStopped (command : Streamed) (out : Out) (report : Writer) (fault : CommandFault) : Type 0 where
   pub stops : command.Stops fault
   pub bytes : List ℕ
@@ -81,18 +83,56 @@ EndsStreamed command out report (Err (Report n)) =
 EndsStreamed command out report (Err OutOfMemory) =
     IsStopped command out report OutOfMemory ⊎ (command.Unfailed × Carries command.Makes out report (Err OutOfMemory))
 
--- what stops a command that writes nothing before all its inputs are accepted
-abbrev pub StopsFirst : Command → Writer → CommandFault → Type 0
-StopsFirst command draft (Input place why) = command.Refuses place why × Takes draft []
-StopsFirst command draft (Output n) = ⊥
-StopsFirst command draft (Report n) = ⊥
-StopsFirst command draft OutOfMemory = command.Unfailed × Takes draft []
+-- Of the text that accepted inputs make, if all their bytes are known, the draft has exactly the first n bytes, and
+-- fewer than all.
+abbrev pub HasFirst : Command → Type 0 → Writer → ℕ → Type 0
+HasFirst command Known draft n =
+    Known → (text told : List ℕ) → command.Makes text told → WritesFirst draft.old draft.new text n
+
+-- What stops a command that writes all the while, the bytes of whose inputs are known under this condition: an input
+-- that is refused; the draft, which failed; or want of memory, where no reader failed. Whichever it is, the draft has
+-- no more than a beginning of what accepted inputs make.
+abbrev pub StopsAmidst : Command → Type 0 → Writer → CommandFault → Type 0
+StopsAmidst command Known draft (Input place why) =
+    command.Refuses place why × (draft.failures_new ≡ draft.failures_old) × ((n : ℕ) × HasFirst command Known draft n)
+StopsAmidst command Known draft (Output n) =
+    command.Unfailed × FailedIn draft.failures_old draft.failures_new × HasFirst command Known draft n
+StopsAmidst command Known draft (Report n) = ⊥
+StopsAmidst command Known draft OutOfMemory =
+    command.Unfailed × (draft.failures_new ≡ draft.failures_old) × ((n : ℕ) × HasFirst command Known draft n)
+
+-- What the draft took where a command was stopped with this fault: some bytes, as many as are told where it failed.
+abbrev pub HasTaken : Writer → CommandFault → Type 0
+HasTaken draft fault =
+    (bytes : List ℕ) × Appends draft.old draft.new bytes × ((n : ℕ) → fault ≡ Output n → n ≡ length bytes)
 
 -- such a command, as one of those
-abbrev pub reads_first : Command → Writer → Streamed
-reads_first command draft = record {
+abbrev pub writes_amidst : Command → Type 0 → Writer → Streamed
+writes_amidst command Known draft = record {
   Makes = command.Makes;
-  Stops = StopsFirst command draft;
+  Stops = StopsAmidst command Known draft;
+  Unfailed = command.Unfailed;
+}
+
+-- How such a command ends.
+abbrev pub EndsAsItComes : Command → Type 0 → Out → Writer → Result Status CommandFault → Type 0
+EndsAsItComes command Known out report result =
+    EndsStreamed (writes_amidst command Known out.draft) out report result
+
+-- What stops a command that reads what is behind its first input before that one: the same; or memory was wanted to
+-- test the first input, where this holds, and nothing was written.
+abbrev pub StopsInTurn : Command → Type 0 → Type 0 → Writer → CommandFault → Type 0
+StopsInTurn command Wants Known draft (Input place why) = StopsAmidst command Known draft (Input place why)
+StopsInTurn command Wants Known draft (Output n) = StopsAmidst command Known draft (Output n)
+StopsInTurn command Wants Known draft (Report n) = ⊥
+StopsInTurn command Wants Known draft OutOfMemory =
+    StopsAmidst command Known draft OutOfMemory ⊎ (Wants × Takes draft [])
+
+-- such a command, as one of those
+abbrev pub writes_in_turn : Command → Type 0 → Type 0 → Writer → Streamed
+writes_in_turn command Wants Known draft = record {
+  Makes = command.Makes;
+  Stops = StopsInTurn command Wants Known draft;
   Unfailed = command.Unfailed;
 }
 

@@ -221,6 +221,16 @@ IsRefusedInOrder input Untouched IsRefusedBehind at why =
     (IsRefusedArchive 0 input at why × Untouched)
     ⊎ (IsArchive input × Unfailed input × IsRefusedBehind at why)
 
+-- The same of a command that reads what is behind its first input before that one, and tests that one to its end before
+-- it tells of a refusal behind it.
+abbrev pub IsRefusedInTurn : {S : Type 0} → Reader S → (Place → Why → Type 0) → Place → Why → Type 0
+IsRefusedInTurn input IsRefusedBehind at why =
+    IsRefusedArchive 0 input at why ⊎ (IsArchive input × Unfailed input × IsRefusedBehind at why)
+
+-- An input behind the first one was refused, and the first one, which was being tested, did not fail.
+abbrev pub IsWantedInTurn : {S : Type 0} → Reader S → (Place → Why → Type 0) → Type 0
+IsWantedInTurn input IsRefusedBehind = Unfailed input × ((at : Place) × (why : Why) × IsRefusedBehind at why)
+
 -- The fault is that of an input, of which this holds, or want of memory, where this does.
 abbrev pub IsRefusal : (Place → Why → Type 0) → Type 0 → CommandFault → Type 0
 IsRefusal Refused Unfailed (Input place why) = Refused place why
@@ -228,9 +238,26 @@ IsRefusal Refused Unfailed (Output _) = ⊥
 IsRefusal Refused Unfailed (Report _) = ⊥
 IsRefusal Refused Unfailed OutOfMemory = Unfailed
 
+-- What is told where this was told of an input behind the first one: a refusal in turn, after the first input was
+-- tested; or, if memory was wanted, that, and the first input is as it was.
+abbrev pub TellsInTurn : {S : Type 0} → Reader S → CommandFault → CommandFault → Type 0
+TellsInTurn input (Input at why) told =
+    IsRefusal (IsRefusedInTurn input (λ place reason. (place ≡ at) × (reason ≡ why))) (Unfailed input) told
+TellsInTurn input (Output n) told = (told ≡ Output n) × IsUntouched input
+TellsInTurn input (Report n) told = (told ≡ Report n) × IsUntouched input
+TellsInTurn input OutOfMemory told = (told ≡ OutOfMemory) × IsUntouched input
+
 -- The input was opened, and these are its bytes.
 abbrev pub IsGiven : {S : Type 0} → Reader S → List ℕ → Type 0
 IsGiven input bytes = MatchResult input.old (λ source. input.left source ≡ Some bytes) (λ _. ⊥)
+
+-- The input was opened, and its bytes are known.
+abbrev pub IsKnown : {S : Type 0} → Reader S → Type 0
+IsKnown input = (bytes : List ℕ) × IsGiven input bytes
+
+-- So it is with each of these inputs.
+abbrev pub EachKnown : {S : Type 0} → List (Reader S) → Type 0
+EachKnown inputs = AllByRecursion IsKnown inputs
 
 -- The input was opened, and its bytes are an archive's text that gives this content.
 abbrev pub IsGivenArchive : {S : Type 0} → Reader S → Operations → Type 0

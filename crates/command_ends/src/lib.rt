@@ -1,7 +1,7 @@
 //! How a command reads its inputs, and how it ends.
 //!
-//! A command reads its inputs in the order of its words, each opened beforehand and refused at its turn, and only then
-//! writes OUT, which is put in place when it is whole, and after that its report.
+//! A command reads its inputs, each opened beforehand and refused in the order of the words, and writes OUT, as its
+//! first input comes or after all were read. OUT is put in place when it is whole, and after that comes the report.
 //!
 //! - `faults`: how a command ends, and why one is refused;
 //! - `failures`: the line that the program says where it fails;
@@ -21,9 +21,10 @@ mod statuses;
 pub use failures::Failure;
 pub use faults::{CommandFault, Place, Status, Why};
 pub use outputs::{Output, Target, put_in_place};
-pub use publishing::{publish, publish_bytes, publish_delta, publish_report, publish_summary};
+pub use publishing::{publish, publish_bytes, publish_draft, publish_report, publish_summary};
 pub use sources::{
     answer_input, opened, read_crash, read_entries, read_events, read_file, read_input,
-    read_input_part, read_operations, read_rows, read_summary_input, refusal,
+    read_input_part, read_operations, read_rows, read_summary_input, refusal, refused_behind,
+    test_input,
 };
 pub use statuses::status_of;

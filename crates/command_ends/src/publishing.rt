@@ -1,16 +1,37 @@
 //! The end of each command: OUT, which is put in place, and then the report.
-ghost use Rattle.std.specs.Prelude.{[], string_bytes};
-ghost use Rattle.archive_core.specs.Summary.{delta};
+ghost use Rattle.std.specs.Prelude.{◌≡◌, ◌++◌, ℕ, List, [], length, string_bytes};
 ghost use Rattle.archive_records.specs.Text.{summary_text, written};
-ghost use Rattle.command_ends.specs.Outputs.{Publishes, Reports, out_of, outs, report_of, summary_report_of, writer};
+ghost use Rattle.report_text.specs.Report.{archive_line};
+ghost use Rattle.command_ends.specs.Outputs.{Publishes, Reports, Takes, out_of, outs, report_of, summary_report_of};
+ghost use Rattle.command_ends.specs.Outputs.{writer};
 
 use crate::faults::{CommandFault, Status};
 use crate::outputs::{Output, Target, put_in_place};
 use archive_core::Archive;
-use archive_records::{Summary, write_archive, write_delta, write_summary};
+use archive_records::{Sizes, Summary, write_archive, write_summary};
 use byte_device::{Sink, push_all};
 use memory::Heap;
 use report_text::{summary_line, with_sizes};
+
+/// Puts OUT in place, whose draft has taken a whole text with these sizes, and then writes the lines and the sizes to
+/// the report, which is made whole before that. What is said is of all that the draft took since it was `start`.
+pub fn publish_draft<T: Target, P: Sink>(
+    lines: String<Heap>,
+    sizes: Sizes,
+    out: &mut Output<T::Draft, T>,
+    report: &mut P,
+) -> Result<Status, CommandFault>
+    ensures { (start : T.Draft) (text : List ℕ)
+        → Takes (writer T.Draft.held T.Draft.failures start out.old.draft) text
+        → sizes.bytes ≡ length text
+        → Publishes (out_of (outs T.Draft.held T.Draft.failures T.placed T.failures
+        (record { draft = start; target = out.old.target }) out.new))
+        (writer P.held P.failures report.old report.new) text (string_bytes lines ++ archive_line sizes) result }
+{
+    let text = with_sizes(lines, sizes)?;
+    put_in_place(out, sizes.bytes)?;
+    publish_report(Status::Done, &text, report)
+}
 
 /// Writes the archive to OUT, puts it in place, and then writes the lines and the sizes to the report, which is made
 /// whole before that.
@@ -24,36 +45,10 @@ pub fn publish<A: Archive, T: Target, P: Sink>(
         (writer P.held P.failures report.old report.new)
         (written (A.content archive.now)) (report_of (A.content archive.now) (string_bytes lines)) result }
 {
-    let sizes = match write_archive(archive, &mut out.draft) {
-        Ok(sizes) => sizes,
-        Err(fault) => return Err(CommandFault::Output(fault.written)),
-    };
-    let text = with_sizes(lines, sizes)?;
-    put_in_place(out, sizes.bytes)?;
-    publish_report(Status::Done, &text, report)
-}
-
-/// Writes the operations that the summary does not name to OUT, as an archive, puts it in place, and then writes its
-/// sizes to the report.
-pub fn publish_delta<A: Archive, T: Target, P: Sink>(
-    heap: Heap,
-    archive: &A,
-    summary: &Summary,
-    out: &mut Output<T::Draft, T>,
-    report: &mut P,
-) -> Result<Status, CommandFault>
-    ensures { Publishes (out_of (outs T.Draft.held T.Draft.failures T.placed T.failures out.old out.new))
-        (writer P.held P.failures report.old report.new)
-        (written (delta (A.content archive.now) summary.now)) (report_of (delta (A.content archive.now) summary.now) [])
-        result }
-{
-    let sizes = match write_delta(archive, summary, &mut out.draft) {
-        Ok(sizes) => sizes,
-        Err(fault) => return Err(CommandFault::Output(fault.written)),
-    };
-    let text = with_sizes(String::new(heap), sizes)?;
-    put_in_place(out, sizes.bytes)?;
-    publish_report(Status::Done, &text, report)
+    match write_archive(archive, &mut out.draft) {
+        Ok(sizes) => publish_draft(lines, sizes, out, report),
+        Err(fault) => Err(CommandFault::Output(fault.written)),
+    }
 }
 
 /// Writes the summary to OUT, puts it in place, and then writes its sizes to the report.

@@ -12,15 +12,17 @@ ghost use Rattle.crash_frames.specs.Frames.{frames_of};
 ghost use Rattle.rehearsal.specs.Script.{acts, script_of};
 ghost use Rattle.command_ends.specs.declared.faults.CommandFault.TheVariants.{Input};
 ghost use Rattle.command_ends.specs.declared.faults.Why.TheVariants.{CannotOpen as NotOpened, Record};
-ghost use Rattle.command_ends.specs.Inputs.{Gives, Holds, HoldsArchive, HoldsContent, HoldsPart, IsRefusal};
+ghost use Rattle.command_ends.specs.Inputs.{Gives, Holds, HoldsArchive, HoldsContent, HoldsPart, IsArchive, IsRefusal};
 ghost use Rattle.command_ends.specs.Inputs.{IsRefusedArchive, IsRefusedFile, IsRefusedFrames, IsRefusedOps};
-ghost use Rattle.command_ends.specs.Inputs.{IsRefusedScript, IsRefusedSummary, IsUnread, Unfailed, reader};
+ghost use Rattle.command_ends.specs.Inputs.{IsRefusedScript, IsRefusedSummary, IsUnread, TellsInTurn, Unfailed};
+ghost use Rattle.command_ends.specs.Inputs.{reader};
 ghost use Rattle.command_ends.specs.InnerSources.{LendsSource};
 
 use crate::faults::{CommandFault, Place, Why};
 use archive_core::{Archive, FindRow, Operation};
 use archive_reading::{
     Questions, Selects, answer_by_key, list_rows, read_archive, read_ops, read_part, summarize,
+    test_archive,
 };
 use archive_records::{RecordFault, RecordFaultKind, Summary, read_summary};
 use archive_words::line_at;
@@ -71,6 +73,44 @@ pub fn read_input<A: Archive + Drop, R: Source>(
     match read_archive(heap, source) {
         Ok(archive) => Ok(archive),
         Err(fault) => Err(refusal(at, fault)),
+    }
+}
+
+/// Reads the archive of this number among those of the words to its end, and keeps nothing of it.
+pub fn test_input<R: Source>(
+    heap: Heap,
+    index: u64,
+    input: &mut Result<R, CannotOpen>,
+) -> Result<(), CommandFault>
+    ensures archive { OnOk result (IsArchive (reader R.left R.failures input.old input.new)) }
+    ensures unfailed { OnOk result (Unfailed (reader R.left R.failures input.old input.new)) }
+    ensures refused { IfErr result
+        (IsRefusal (IsRefusedArchive index (reader R.left R.failures input.old input.new))
+        (Unfailed (reader R.left R.failures input.old input.new))) }
+{
+    let at = Place::Archive(index);
+    let source = opened(input, at)?;
+    match test_archive(heap, source) {
+        Ok(()) => Ok(()),
+        Err(fault) => Err(refusal(at, fault)),
+    }
+}
+
+/// What is told where this was told of an input behind the archive: if that one is refused, its refusal, after the
+/// archive was tested to its end, or the archive's own fault, if it has one.
+pub fn refused_behind<R: Source>(
+    heap: Heap,
+    input: &mut Result<R, CannotOpen>,
+    fault: CommandFault,
+) -> CommandFault
+    ensures { TellsInTurn (reader R.left R.failures input.old input.new) fault result }
+{
+    match fault {
+        CommandFault::Input(at, why) => match test_input(heap, 0, input) {
+            Ok(()) => CommandFault::Input(at, why),
+            Err(first) => first,
+        },
+        other => other,
     }
 }
 

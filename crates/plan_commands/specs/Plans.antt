@@ -11,13 +11,15 @@ use Rattle.archive_core.specs.declared.keys.SliceKey.{SliceKey}
 use Rattle.archive_records.specs.Text.{written}
 use Rattle.command_ends.specs.declared.faults.CommandFault.{CommandFault}
 use Rattle.command_ends.specs.declared.faults.Status.{Status}
+use Rattle.archive_files.specs.declared.replaceable.Replaces.{Replaces}
+use Rattle.archive_files.specs.declared.replaceable.Replaces.TheVariants.{OwnFiles, ArchivesBelow}
 use Rattle.archive_updates.specs.Admit.{admit}
 use Rattle.archive_updates.specs.Apply.{apply}
-use Rattle.archive_updates.specs.Delta.{delta}
-use Rattle.command_ends.specs.Ends.{Command, Ends, EndsReport, EndsStreamed, Query, Streamed}
+use Rattle.archive_updates.specs.Delta.{delta_as_it_comes}
+use Rattle.command_ends.specs.Ends.{Command, Ends, EndsReport, EndsStreamed, Query, Streamed, writes_amidst}
 use Rattle.archive_queries.specs.Find.{find}
 use Rattle.archive_queries.specs.Frames.{frames}
-use Rattle.command_ends.specs.Inputs.{Reader}
+use Rattle.command_ends.specs.Inputs.{IsKnown, Reader}
 use Rattle.archive_queries.specs.List.{list}
 use Rattle.archive_updates.specs.MergeStreams.{merge_as_it_comes}
 use Rattle.archive_updates.specs.Migrate.{migrate}
@@ -61,6 +63,12 @@ plan_view (plan.Delta archive summary out) =
 plan_view (plan.Rehearse script) =
     line_with rehearse_command (text script.now ∷ [])
 
+-- which files the OUT of a plan replaces: a message each of symarch's own, an archive those below it
+abbrev pub replaces_of : Plan → Replaces
+replaces_of (plan.Summary archive out) = OwnFiles
+replaces_of (plan.Delta archive summary out) = OwnFiles
+replaces_of _ = ArchivesBelow
+
 -- the key that a line names
 abbrev pub key_of : List ℕ → ArchKey → SliceKey
 key_of uuid arch = record { uuid = uuid; arch = arch }
@@ -78,18 +86,21 @@ pub data Deed : Type 1 where
 abbrev pub deed_of : {S D T : Type 0} → Plan → List (Reader S) → Outs D T → Deed
 deed_of (plan.New _) _ out = empties
 deed_of (plan.Admit _ _ _) (input ∷ files) out = changes (admit input files)
-deed_of (plan.Retire _ _ uuid arch digest) (input ∷ _) out = changes (retire input (key_of uuid arch) digest)
+deed_of (plan.Retire _ _ uuid arch digest) (input ∷ _) out =
+    streams (writes_amidst (retire input (key_of uuid arch) digest) (IsKnown input) (out_of out).draft)
 deed_of (plan.Merge _ _ _) (input ∷ files) out = streams (merge_as_it_comes input files out)
-deed_of (plan.Migrate _ _) (input ∷ _) out = changes (migrate input)
+deed_of (plan.Migrate _ _) (input ∷ _) out =
+    streams (writes_amidst (migrate input) (IsKnown input) (out_of out).draft)
 deed_of (plan.Apply _ _ _) (input ∷ ops ∷ _) out = changes (apply input ops)
-deed_of (plan.Find _ uuid) (archive ∷ _) out = answers (find archive uuid)
+deed_of (plan.Find _ uuid) (archive ∷ others) out = answers (find archive others uuid)
 deed_of (plan.List _) (archive ∷ _) out = answers (list archive)
-deed_of (plan.Name _ sought) (archive ∷ _) out = answers (name archive sought.now)
-deed_of (plan.Symbolicate _ uuid arch load addresses) (archive ∷ _) out =
-    answers (symbolicate archive (key_of uuid arch) load addresses.now)
-deed_of (plan.Frames _ _) (crash ∷ archive ∷ _) out = answers (frames crash archive)
+deed_of (plan.Name _ sought) (archive ∷ others) out = answers (name archive others sought.now)
+deed_of (plan.Symbolicate _ uuid arch load addresses) (archive ∷ others) out =
+    answers (symbolicate archive others (key_of uuid arch) load addresses.now)
+deed_of (plan.Frames _ _) (crash ∷ archive ∷ others) out = answers (frames crash archive others)
 deed_of (plan.Summary _ _) (archive ∷ _) out = changes (summary archive)
-deed_of (plan.Delta _ _ _) (archive ∷ named ∷ _) out = changes (delta archive named)
+deed_of (plan.Delta _ _ _) (archive ∷ named ∷ _) out =
+    streams (delta_as_it_comes archive named (out_of out).draft)
 deed_of (plan.Rehearse _) (script ∷ _) out = answers (rehearse script)
 deed_of _ _ out = none
 

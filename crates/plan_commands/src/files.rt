@@ -12,7 +12,7 @@ ghost use Rattle.plan_commands.specs.Files.{IsCarriedOut, IsUnbegun, calls_of, c
 use crate::execute_on;
 use crate::hints::Seen;
 use crate::plans::Plan;
-use archive_files::{OpenedFile, OutFault, OutFile, OutPath, Replaces, SystemDisk, SystemFiles};
+use archive_files::{OpenedFile, OutFault, OutFile, OutPath, SystemDisk, SystemFiles};
 use byte_device::{CannotCreate, Disk, Sink, Source};
 use command_ends::{CommandFault, Failure, Status, Target};
 use command_line::Line;
@@ -21,7 +21,7 @@ use sorted_archive::{IndexedArchive, PlainArchive};
 use std::io::BufReader;
 use std::rt::Files;
 
-/// Takes the path of OUT, if the line has one. `new` replaces no archive that has records.
+/// Takes the path of OUT, if the line has one.
 fn begin<F: Files>(files: &mut SystemFiles<'_, F>, line: &Line) -> Result<(), NoMemory>
     requires { AreFresh files.old }
     ensures opened { files.new.disk.opened.entries ≡ files.old.disk.opened.entries }
@@ -36,11 +36,7 @@ fn begin<F: Files>(files: &mut SystemFiles<'_, F>, line: &Line) -> Result<(), No
         return Ok(());
     };
     let inputs = line.inputs(files.disk.alloc())?;
-    let replaces = match Plan::of(line) {
-        Plan::New { .. } => Replaces::NoRecords,
-        _ => Replaces::OwnFiles,
-    };
-    files.begin(path, &inputs, replaces)
+    files.begin(path, &inputs, Plan::of(line).replaces())
 }
 
 /// Why OUT failed after it took so many bytes: it was not begun, or not put in place, or its device failed.

@@ -5,12 +5,11 @@
 ghost use Rattle.std.specs.Prelude.{◌≡◌, IfSome, None, Some, option_map, slice_get};
 ghost use Rattle.command_line.specs.InnerLine.{line_view};
 ghost use Rattle.command_line.specs.Lines.{inputs_of_kind, out_of};
-ghost use Rattle.plan_commands.specs.Hints.{IsOfNoFile, IsOfOut, faulty_line_of, file_of, path_at};
+ghost use Rattle.plan_commands.specs.Hints.{IsOfInput, IsOfNoFile, IsOfOut, faulty_line_of, file_of, path_at};
 
 use crate::flaws::FaultyLine;
 use crate::looks::Look;
-use crate::plans::Plan;
-use archive_files::{OpenedFile, OutFile};
+use archive_files::{Obstacle, OpenedFile, OutFile};
 use byte_device::CannotOpen;
 use command_ends::{CommandFault, Failure, Place, Status, Why};
 use command_line::{Kind, Line, is_input, is_input_of};
@@ -25,6 +24,8 @@ pub struct Seen {
     pub reason: Option<io::Error>,
     /// What the file looks like, if that is known.
     pub look: Option<Look>,
+    /// Why what is at OUT was not replaced, if it was not.
+    pub obstacle: Option<Obstacle>,
 }
 
 impl Seen {
@@ -32,18 +33,23 @@ impl Seen {
     pub const NOTHING: Seen = Seen {
         reason: None,
         look: None,
+        obstacle: None,
     };
 
     /// What was seen of an input.
-    fn of_input<R: Read + Drop>(input: &Result<OpenedFile<R>, CannotOpen>) -> Seen {
+    fn of_input<R: Read + Drop>(input: &Result<OpenedFile<R>, CannotOpen>) -> Seen
+        ensures { result.obstacle ≡ None }
+    {
         match input {
             Ok(file) => Seen {
                 reason: file.reason(),
                 look: Look::of(&file.front()),
+                obstacle: None,
             },
             Err(refused) => Seen {
                 reason: Some(refused.reason),
                 look: None,
+                obstacle: None,
             },
         }
     }
@@ -55,8 +61,10 @@ impl Seen {
         inputs: &[Result<OpenedFile<R>, CannotOpen>],
         out: &OutFile<'_, F>,
     ) -> Seen
-        ensures nothing { IsOfNoFile ended.now → (result.reason ≡ None) × (result.look ≡ None) }
+        ensures nothing { IsOfNoFile ended.now
+            → (result.reason ≡ None) × (result.look ≡ None) × (result.obstacle ≡ None) }
         ensures out { IsOfOut ended.now → result.look ≡ None }
+        ensures input { IsOfInput ended.now → result.obstacle ≡ None }
     {
         match ended {
             Err(CommandFault::Input(place, _)) => {
@@ -68,6 +76,7 @@ impl Seen {
             Err(CommandFault::Output(_)) => Seen {
                 reason: out.reason(),
                 look: None,
+                obstacle: out.obstacle(),
             },
             _ => Seen::NOTHING,
         }
@@ -127,12 +136,52 @@ impl Display for Subject {
     }
 }
 
+/// What is known of OUT where it was not created or not replaced.
+#[derive(Clone, Copy)]
+enum Note {
+    SameFile,
+    Foreign,
+    Damaged,
+    Loses(u64),
+}
+
+impl Note {
+    /// What is known where this is why OUT was not replaced; what the system said stands at the end of the line.
+    fn of(obstacle: Obstacle) -> Option<Note> {
+        match obstacle {
+            Obstacle::Foreign => Some(Note::Foreign),
+            Obstacle::Damaged => Some(Note::Damaged),
+            Obstacle::Loses(lost) => Some(Note::Loses(lost)),
+            Obstacle::Refused(_) => None,
+        }
+    }
+}
+
+impl Display for Note {
+    fn fmt<W: fmt::Write>(&self, f: &mut fmt::Formatter<W>) -> fmt::Result {
+        match self {
+            Note::SameFile => f.write_str("the file of an input"),
+            Note::Foreign => f.write_str("there, and neither empty nor one of symarch's files"),
+            Note::Damaged => f.write_str("there, and an archive that is damaged"),
+            Note::Loses(1) => {
+                f.write_str("there, and has 1 record that the new archive neither has nor retires")
+            }
+            Note::Loses(lost) => {
+                write!(
+                    f,
+                    "there, and has {lost} records that the new archive neither has nor retires"
+                )
+            }
+        }
+    }
+}
+
 /// A line that helps a person with a failure.
 #[derive(Clone, Copy)]
 pub struct Hint<'p> {
     subject: Subject,
     path: &'p str,
-    note: Option<&'static str>,
+    note: Option<Note>,
     faulty: Option<FaultyLine>,
     seen: Seen,
 }
@@ -160,32 +209,21 @@ pub fn help_with<'p>(line: &'p Line, failure: &Failure, seen: Seen) -> Option<Hi
                 note: None,
                 faulty: FaultyLine::of(*why),
                 seen: Seen {
-                    reason: seen.reason,
                     look: look_of(*why, seen.look),
+                    ..seen
                 },
             })
         }
         Failure::Command(CommandFault::Output(_)) => out_hint(line, None, seen),
         // Why the report failed is known to its owner.
         Failure::Command(CommandFault::Report(_) | CommandFault::OutOfMemory) => None,
-        Failure::CannotCreate(_) => out_hint(line, Some(SAME_FILE), seen),
-        Failure::CannotReplace => out_hint(line, Some(not_replaced(line)), seen),
-    }
-}
-
-/// Why OUT is not created where the system says nothing.
-const SAME_FILE: &str = "the file of an input";
-
-/// Why OUT is not replaced where the system says nothing.
-fn not_replaced(line: &Line) -> &'static str {
-    match Plan::of(line) {
-        Plan::New { .. } => "there, and neither empty nor an archive without records",
-        _ => "there, and neither empty nor one of symarch's files",
+        Failure::CannotCreate(_) => out_hint(line, Some(Note::SameFile), seen),
+        Failure::CannotReplace => out_hint(line, seen.obstacle.and_then(Note::of), seen),
     }
 }
 
 /// A line of OUT. What is noted of it is said where the system said nothing.
-fn out_hint<'p>(line: &'p Line, note: Option<&'static str>, seen: Seen) -> Option<Hint<'p>>
+fn out_hint<'p>(line: &'p Line, note: Option<Note>, seen: Seen) -> Option<Hint<'p>>
     ensures path { IfSome result (λ hint. Some hint.path.now ≡ out_of (line_view line.now)) }
     ensures faulty { IfSome result (λ hint. hint.faulty ≡ None) }
 {

@@ -9,9 +9,10 @@ ghost use Rattle.command_line.specs.Lines.{inputs_of, line_with};
 ghost use Rattle.command_line.specs.Table.{admit_command, apply_command, delta_command, find_command, frames_command};
 ghost use Rattle.command_line.specs.Table.{list_command, merge_command, migrate_command, name_command, new_command};
 ghost use Rattle.command_line.specs.Table.{rehearse_command, retire_command, summary_command, symbolicate_command};
-ghost use Rattle.plan_commands.specs.Plans.{Executes, key_of, plan_view};
+ghost use Rattle.plan_commands.specs.Plans.{Executes, key_of, plan_view, replaces_of};
 
 use archive_core::{ArchKey, Archive, Digest, SliceKey};
+use archive_files::Replaces;
 use archive_queries::{run_find, run_frames, run_list, run_name, run_symbolicate};
 use archive_updates::{
     run_admit, run_apply, run_delta, run_merge, run_migrate, run_new, run_retire, run_summary,
@@ -112,7 +113,7 @@ pub enum Plan<'l> {
 impl<'l> Plan<'l> {
     ghost use Rattle.std.specs.Prelude.{◌≡◌};
     ghost use Rattle.command_line.specs.InnerLine.{line_view};
-    ghost use Rattle.plan_commands.specs.Plans.{plan_view};
+    ghost use Rattle.plan_commands.specs.Plans.{plan_view, replaces_of};
 
     /// What a line asks for. Each line of the table asks for something.
     pub fn of(line: &'l Line) -> Plan<'l>
@@ -135,6 +136,16 @@ impl<'l> Plan<'l> {
             "delta" => delta(values),
             "rehearse" => rehearse(values),
             _ => unreachable!(),
+        }
+    }
+
+    /// Which files its OUT replaces: a message to another site each of symarch's own, an archive those below it.
+    pub fn replaces(&self) -> Replaces
+        ensures { result ≡ replaces_of self.now }
+    {
+        match self {
+            Plan::Summary { .. } | Plan::Delta { .. } => Replaces::OwnFiles,
+            _ => Replaces::ArchivesBelow,
         }
     }
 }
@@ -353,30 +364,41 @@ pub fn execute<A: Archive + Drop, L: Archive + Drop, S: Source, T: Target, P: Si
             arch,
             digest,
             ..
-        } => run_retire::<A, _, _, _>(heap, first, key(uuid, arch), *digest, out, report),
+        } => {
+            let key = SliceKey {
+                uuid: *uuid,
+                arch: *arch,
+            };
+            run_retire(heap, first, key, *digest, out, report)
+        }
         Plan::Merge { .. } => run_merge::<A, _, _, _, _>(heap, first, others, out, report),
-        Plan::Migrate { .. } => run_migrate::<A, _, _, _>(heap, first, out, report),
+        Plan::Migrate { .. } => run_migrate(heap, first, out, report),
         Plan::Apply { .. } => match others {
             [ops] => run_apply::<A, _, _, _, _>(heap, first, ops, out, report),
             _ => unreachable!(),
         },
-        Plan::Find { uuid, .. } => run_find::<A, _, _>(heap, first, uuid, report),
+        Plan::Find { uuid, .. } => run_find::<A, _, _>(heap, first, others, uuid, report),
         Plan::List { .. } => run_list(heap, first, report),
-        Plan::Name { name, .. } => run_name(heap, first, name.as_bytes(), report),
+        Plan::Name { name, .. } => run_name(heap, first, others, name.as_bytes(), report),
         Plan::Symbolicate {
             uuid,
             arch,
             load,
             addresses,
             ..
-        } => { run_symbolicate::<L, _, _>(heap, first, &key(uuid, arch), *load, addresses, report) }
-        Plan::Frames { .. } => match others {
-            [archive] => run_frames::<L, _, _>(heap, first, archive, report),
-            _ => unreachable!(),
+        } => {
+            let key = key(uuid, arch);
+            run_symbolicate::<L, _, _>(heap, first, others, &key, *load, addresses, report)
+        }
+        Plan::Frames { .. } => match others.split_first_mut() {
+            Some((archive, others)) => {
+                run_frames::<L, _, _>(heap, first, archive, others, report)
+            }
+            None => unreachable!(),
         },
         Plan::Summary { .. } => run_summary(heap, first, out, report),
         Plan::Delta { .. } => match others {
-            [summary] => run_delta::<A, _, _, _, _>(heap, first, summary, out, report),
+            [summary] => run_delta(heap, first, summary, out, report),
             _ => unreachable!(),
         },
         Plan::Rehearse { .. } => run_rehearse::<A, _, _>(heap, first, report),

@@ -20,7 +20,7 @@ use Rattle.archive_records.proofs.Formats.{no_operations_text, no_summary_text}
 
 -- ---- what the sides' retirements cover
 
-not_same : (q y : List ℕ) → (y ≡ q → ⊥) → same_as q y ≡ false
+pub not_same : (q y : List ℕ) → (y ≡ q → ⊥) → same_as q y ≡ false
 not_same q y other = is_false (same_as q y) (λ h. other (sym (same_bytes q y h)))
 
 -- the retirements of an archive's records, whatever its version
@@ -61,6 +61,14 @@ pub or_right : (a b : Bool) → b ≡ true → (a || b) ≡ true
 or_right true b e = refl
 or_right false b e = e
 
+-- what covers a record that is not above what the side holds is a retirement that it has read
+pub covered_by : (a b : Option (List ℕ)) (done : List (List ℕ)) (low : List ℕ) (s : MergeInput) (x : List ℕ) → Stands a b done low s → s.ahead ≢ Unread → (s.ahead ≡ Held → may_follow Archive x s.reader.last ≡ true)
+    → is_covered (set_of s.reader.retired) x ≡ is_covered (set_of done) x
+covered_by a b done low s x p read above = elim (cases_Bool (is_admission x)) [
+  | inl t ↦ ap (λ c. is_admission x && c) (retired_is a b done low s p (key_and_digest x) read (λ held e. false≢true (sym (below-self x) ∙ below-trans x (covering x) x (subst (λ (y : List ℕ). may_follow Archive x y ≡ true) e (above held)) (covering_below x t))))
+  | inr f ↦ ap (λ c. c && contains (set_of s.reader.retired) (covering x)) f ∙ sym (ap (λ c. c && contains (set_of done) (covering x)) f)
+]
+
 -- what covers the record that is next is a retirement of either side
 module _ (out mine others : List (List ℕ)) (x : List ℕ) (j : Joins out mine others) where
   pub by_both : is_covered (set_of (out ++ x ∷ [])) x ≡ (is_covered (set_of mine) x || is_covered (set_of others) x)
@@ -77,7 +85,4 @@ module _ (out mine others : List (List ℕ)) (x : List ℕ) (j : Joins out mine 
   -- the other side has read its own, since what it holds is above
   pub by_other : (a b : Option (List ℕ)) (low : List ℕ) (s : MergeInput) → Stands a b others low s → s.ahead ≢ Unread → (s.ahead ≡ Held → may_follow Archive x s.reader.last ≡ true)
       → is_covered (set_of (out ++ x ∷ [])) x ≡ (is_covered (set_of mine) x || is_covered (set_of s.reader.retired) x)
-  by_other a b low s p read above = by_both ∙ ap (λ c. is_covered (set_of mine) x || c) (sym (elim (cases_Bool (is_admission x)) [
-    | inl t ↦ ap (λ c. is_admission x && c) (retired_is a b others low s p (key_and_digest x) read (λ held e. false≢true (sym (below-self x) ∙ below-trans x (covering x) x (subst (λ (y : List ℕ). may_follow Archive x y ≡ true) e (above held)) (covering_below x t))))
-    | inr f ↦ ap (λ c. c && contains (set_of s.reader.retired) (covering x)) f ∙ sym (ap (λ c. c && contains (set_of others) (covering x)) f)
-  ]))
+  by_other a b low s p read above = by_both ∙ ap (λ c. is_covered (set_of mine) x || c) (sym (covered_by a b others low s x p read above))

@@ -8,3 +8,8 @@ pub mod Orders
 pub mod Unread
 pub mod Merges
 pub mod Gained
+pub mod Tells
+pub mod Told
+pub mod TextPieces
+pub mod Lost
+pub mod Rises

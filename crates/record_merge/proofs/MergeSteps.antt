@@ -1,5 +1,5 @@
 -- A turn of a merge: the record that is next is written.
-use Rattle.std.proofs.Common.{◌≡◌, ◌≢◌, ℕ, ◌+◌, ◌-◌, Bool, true, false, ◌||◌, List, [], ◌∷◌, ◌++◌, length, Option, Result, Ok, Err, refl, sym, ap, ◌∙◌, subst, arith, inl, inr, ◌⊎◌, append_assoc, length-append}
+use Rattle.std.proofs.Common.{◌≡◌, ◌≢◌, ℕ, ◌+◌, ◌-◌, Bool, true, false, ◌||◌, List, [], ◌∷◌, ◌++◌, length, Option, Result, Ok, Err, refl, sym, ap, ◌∙◌, subst, arith, inl, inr, append_assoc, length-append}
 use Rattle.std.specs.Prelude.{IfErr, OnOk, MatchResult}
 use Rattle.std.specs.declared.cmp.Ordering.{Ordering}
 use Rattle.std.specs.declared.cmp.Ordering.TheVariants.{Less, Equal, Greater}
@@ -36,14 +36,14 @@ use Rattle.record_merge.proofs.Unions.{Joins-left, Joins-right, Joins-both, Join
 
 -- ---- which is first
 
-first_less : (l r : Lookahead) (o : Ordering) → first_by l r o ≡ Less → (l ≡ Held) × (r ≡ Held → o ≡ Less)
+pub first_less : (l r : Lookahead) (o : Ordering) → first_by l r o ≡ Less → (l ≡ Held) × (r ≡ Held → o ≡ Less)
 first_less Held Held o e = (refl, λ _. e)
 first_less Held Ended o e = (refl, λ t. absurd cc)
 first_less Held Unread o e = (refl, λ t. absurd cc)
 first_less Ended r o e = absurd cc
 first_less Unread r o e = absurd cc
 
-first_equal : (l r : Lookahead) (o : Ordering) → first_by l r o ≡ Equal → (l ≡ Held) × (r ≡ Held) × (o ≡ Equal)
+pub first_equal : (l r : Lookahead) (o : Ordering) → first_by l r o ≡ Equal → (l ≡ Held) × (r ≡ Held) × (o ≡ Equal)
 first_equal Held Held o e = (refl, refl, e)
 first_equal Held Ended o e = absurd cc
 first_equal Held Unread o e = absurd cc
@@ -59,11 +59,11 @@ first_greater Unread r o read some e = absurd (read refl)
 
 -- ---- one side
 
-abbrev unread_of : MergeInput → MergeInput
+abbrev pub unread_of : MergeInput → MergeInput
 unread_of s = record { reader = s.reader; ahead = Unread }
 
 -- its record was written
-wrote_own : (a b : Option (List ℕ)) (done out : List (List ℕ)) (x : List ℕ) (s : MergeInput) → x ≡ s.reader.last → kind_of s.reader.file ≡ Archive_text → HasRead s.reader.file a b (done ++ s.reader.last ∷ []) s.reader → Stands a b (done ++ x ∷ []) (last_of [] (out ++ x ∷ [])) (unread_of s)
+pub wrote_own : (a b : Option (List ℕ)) (done out : List (List ℕ)) (x : List ℕ) (s : MergeInput) → x ≡ s.reader.last → kind_of s.reader.file ≡ Archive_text → HasRead s.reader.file a b (done ++ s.reader.last ∷ []) s.reader → Stands a b (done ++ x ∷ []) (last_of [] (out ++ x ∷ [])) (unread_of s)
 wrote_own a b done out x s e k h = record {
   archive = k;
   unread = λ _. (
@@ -75,7 +75,7 @@ wrote_own a b done out x s e k h = record {
 }
 
 -- the other side's was
-wrote_other : (a b : Option (List ℕ)) (done out : List (List ℕ)) (low x : List ℕ) (s : MergeInput) → s.ahead ≢ Unread → (s.ahead ≡ Held → may_follow Archive x s.reader.last ≡ true) → Stands a b done low s → Stands a b done (last_of [] (out ++ x ∷ [])) s
+pub wrote_other : (a b : Option (List ℕ)) (done out : List (List ℕ)) (low x : List ℕ) (s : MergeInput) → s.ahead ≢ Unread → (s.ahead ≡ Held → may_follow Archive x s.reader.last ≡ true) → Stands a b done low s → Stands a b done (last_of [] (out ++ x ∷ [])) s
 wrote_other a b done out low x s read above p = record {
   archive = p.archive;
   unread = λ t. absurd (read t);
@@ -93,16 +93,16 @@ held_dropped a b done low s p held = dropped_own s.reader.file p.archive s.reade
 
 -- ---- both sides, once the record x is behind the others
 
-record Next (a1 b1 a2 b2 : Option (List ℕ)) (l r : MergeInput) (out : List (List ℕ)) : Type 0 where
-  lefts : List (List ℕ)
-  rights : List (List ℕ)
-  left : Stands a1 b1 lefts (last_of [] out) l
-  right : Stands a2 b2 rights (last_of [] out) r
-  order : l.ahead ≡ Unread → r.ahead ≢ Unread → may_follow Archive (last_of [] rights) (last_of [] out) ≡ true
-  joins : Joins out lefts rights
+pub record Next (a1 b1 a2 b2 : Option (List ℕ)) (l r : MergeInput) (out : List (List ℕ)) : Type 0 where
+  pub lefts : List (List ℕ)
+  pub rights : List (List ℕ)
+  pub left : Stands a1 b1 lefts (last_of [] out) l
+  pub right : Stands a2 b2 rights (last_of [] out) r
+  pub order : l.ahead ≡ Unread → r.ahead ≢ Unread → may_follow Archive (last_of [] rights) (last_of [] out) ≡ true
+  pub joins : Joins out lefts rights
 
 module _ (a1 b1 a2 b2 w0 w1 w2 : Option (List ℕ)) (m : Merge) (p : Merging a1 b1 a2 b2 w0 w1 m) where
-  next_left : m.right.ahead ≢ Unread → first_of m.left m.right ≡ Less → Next a1 b1 a2 b2 (unread_of m.left) m.right (p.out ++ m.left.reader.last ∷ [])
+  unfoldable pub next_left : m.right.ahead ≢ Unread → first_of m.left m.right ≡ Less → Next a1 b1 a2 b2 (unread_of m.left) m.right (p.out ++ m.left.reader.last ∷ [])
   next_left read first =
       let x = m.left.reader.last in
       let f = first_less m.left.ahead m.right.ahead _ first in
@@ -116,7 +116,7 @@ module _ (a1 b1 a2 b2 w0 w1 w2 : Option (List ℕ)) (m : Merge) (p : Merging a1 
         joins = Joins-left p.out p.lefts p.rights x p.joins (held_record a1 b1 p.lefts (last_of [] p.out) m.left p.left f.0) h.1;
       }
 
-  next_right : m.left.ahead ≢ Unread → (m.left.ahead ≡ Ended → m.right.ahead ≡ Held) → first_of m.left m.right ≡ Greater → Next a1 b1 a2 b2 m.left (unread_of m.right) (p.out ++ m.right.reader.last ∷ [])
+  unfoldable pub next_right : m.left.ahead ≢ Unread → (m.left.ahead ≡ Ended → m.right.ahead ≡ Held) → first_of m.left m.right ≡ Greater → Next a1 b1 a2 b2 m.left (unread_of m.right) (p.out ++ m.right.reader.last ∷ [])
   next_right read some first =
       let x = m.right.reader.last in
       let f = first_greater m.left.ahead m.right.ahead _ read some first in
@@ -130,7 +130,7 @@ module _ (a1 b1 a2 b2 w0 w1 w2 : Option (List ℕ)) (m : Merge) (p : Merging a1 
         joins = Joins-right p.out p.lefts p.rights x p.joins (held_record a2 b2 p.rights (last_of [] p.out) m.right p.right f.0) h.1;
       }
 
-  next_both : first_of m.left m.right ≡ Equal → Next a1 b1 a2 b2 (unread_of m.left) (unread_of m.right) (p.out ++ m.left.reader.last ∷ [])
+  unfoldable pub next_both : first_of m.left m.right ≡ Equal → Next a1 b1 a2 b2 (unread_of m.left) (unread_of m.right) (p.out ++ m.left.reader.last ∷ [])
   next_both first =
       let x = m.left.reader.last in
       let f = first_equal m.left.ahead m.right.ahead _ first in
@@ -146,7 +146,7 @@ module _ (a1 b1 a2 b2 w0 w1 w2 : Option (List ℕ)) (m : Merge) (p : Merging a1 
       }
 
   -- whether a retirement of either side covers the record
-  less_covered : m.right.ahead ≢ Unread → first_of m.left m.right ≡ Less → (b : Bool) → TellsCovered m.left m.right b → is_covered (set_of (p.out ++ m.left.reader.last ∷ [])) m.left.reader.last ≡ b
+  pub less_covered : m.right.ahead ≢ Unread → first_of m.left m.right ≡ Less → (b : Bool) → TellsCovered m.left m.right b → is_covered (set_of (p.out ++ m.left.reader.last ∷ [])) m.left.reader.last ≡ b
   less_covered read first b tells =
       let x = m.left.reader.last in
       let f = first_less m.left.ahead m.right.ahead _ first in
@@ -155,7 +155,7 @@ module _ (a1 b1 a2 b2 w0 w1 w2 : Option (List ℕ)) (m : Merge) (p : Merging a1 
       ∙ ap (λ (c : Bool). c || is_covered (set_of m.right.reader.retired) x) (sym (held_dropped a1 b1 p.lefts (last_of [] p.out) m.left p.left f.0))
       ∙ sym (told (long_record x (held_record a1 b1 p.lefts (last_of [] p.out) m.left p.left f.0)))
 
-  greater_covered : m.left.ahead ≢ Unread → (m.left.ahead ≡ Ended → m.right.ahead ≡ Held) → first_of m.left m.right ≡ Greater → (b : Bool) → TellsCovered m.left m.right b → is_covered (set_of (p.out ++ m.right.reader.last ∷ [])) m.right.reader.last ≡ b
+  pub greater_covered : m.left.ahead ≢ Unread → (m.left.ahead ≡ Ended → m.right.ahead ≡ Held) → first_of m.left m.right ≡ Greater → (b : Bool) → TellsCovered m.left m.right b → is_covered (set_of (p.out ++ m.right.reader.last ∷ [])) m.right.reader.last ≡ b
   greater_covered read some first b tells =
       let x = m.right.reader.last in
       let f = first_greater m.left.ahead m.right.ahead _ read some first in
@@ -164,7 +164,7 @@ module _ (a1 b1 a2 b2 w0 w1 w2 : Option (List ℕ)) (m : Merge) (p : Merging a1 
       ∙ ap (λ (c : Bool). c || is_covered (set_of m.left.reader.retired) x) (sym (held_dropped a2 b2 p.rights (last_of [] p.out) m.right p.right f.0))
       ∙ sym (told (long_record x (held_record a2 b2 p.rights (last_of [] p.out) m.right p.right f.0)))
 
-  both_covered : first_of m.left m.right ≡ Equal → (b : Bool) → TellsCovered m.left m.right b → is_covered (set_of (p.out ++ m.left.reader.last ∷ [])) m.left.reader.last ≡ b
+  pub both_covered : first_of m.left m.right ≡ Equal → (b : Bool) → TellsCovered m.left m.right b → is_covered (set_of (p.out ++ m.left.reader.last ∷ [])) m.left.reader.last ≡ b
   both_covered first b tells =
       let x = m.left.reader.last in
       let f = first_equal m.left.ahead m.right.ahead _ first in
@@ -176,7 +176,7 @@ module _ (a1 b1 a2 b2 w0 w1 w2 : Option (List ℕ)) (m : Merge) (p : Merging a1 
       ∙ ap (λ (c : Bool). m.left.reader.dropped || c) (sym (held_dropped a2 b2 p.rights (last_of [] p.out) m.right p.right f.1))
       ∙ sym told
 
-  wrote : (x : List ℕ) (left right old new : MergeInput) (written : Sizes) → x ≡ old.reader.last → is_covered (set_of (p.out ++ x ∷ [])) x ≡ false → Next a1 b1 a2 b2 left right (p.out ++ x ∷ []) → IsRecordWritten w1 w2 m.written written old new → Merging a1 b1 a2 b2 w0 w2 (record { left = left; right = right; written = written })
+  unfoldable pub wrote : (x : List ℕ) (left right old new : MergeInput) (written : Sizes) → x ≡ old.reader.last → is_covered (set_of (p.out ++ x ∷ [])) x ≡ false → Next a1 b1 a2 b2 left right (p.out ++ x ∷ []) → IsRecordWritten w1 w2 m.written written old new → Merging a1 b1 a2 b2 w0 w2 (record { left = left; right = right; written = written })
   wrote x left right old new written e free n i =
       let gained : Appends w1 w2 x = subst (Appends w1 w2) (sym e) i.gained in
       let grown : kept (p.out ++ x ∷ []) ≡ kept p.out ++ x ∷ [] = kept_push p.out x n.joins.ordered free in
@@ -195,7 +195,7 @@ module _ (a1 b1 a2 b2 w0 w1 w2 : Option (List ℕ)) (m : Merge) (p : Merging a1 
       }
 
   -- the record is passed over
-  passed : (x : List ℕ) (left right : MergeInput) → is_covered (set_of (p.out ++ x ∷ [])) x ≡ true → Next a1 b1 a2 b2 left right (p.out ++ x ∷ []) → Merging a1 b1 a2 b2 w0 w1 (record { left = left; right = right; written = m.written })
+  unfoldable pub passed : (x : List ℕ) (left right : MergeInput) → is_covered (set_of (p.out ++ x ∷ [])) x ≡ true → Next a1 b1 a2 b2 left right (p.out ++ x ∷ []) → Merging a1 b1 a2 b2 w0 w1 (record { left = left; right = right; written = m.written })
   passed x left right covered n =
       let same : kept (p.out ++ x ∷ []) ≡ kept p.out = kept_pass p.out x n.joins.ordered covered in
       record {
@@ -211,13 +211,13 @@ module _ (a1 b1 a2 b2 w0 w1 w2 : Option (List ℕ)) (m : Merge) (p : Merging a1 
         gained = subst (λ (t : List (List ℕ)). Appends w0 w1 (magic ++ concat t)) (sym same) p.gained;
       }
 
-  pub pass_left : m.right.ahead ≢ Unread → first_of m.left m.right ≡ Less → TellsCovered m.left m.right true → Merging a1 b1 a2 b2 w0 w1 (record { left = unread_of m.left; right = m.right; written = m.written })
+  unfoldable pub pass_left : m.right.ahead ≢ Unread → first_of m.left m.right ≡ Less → TellsCovered m.left m.right true → Merging a1 b1 a2 b2 w0 w1 (record { left = unread_of m.left; right = m.right; written = m.written })
   pass_left read first tells = passed m.left.reader.last (unread_of m.left) m.right (less_covered read first true tells) (next_left read first)
 
-  pub pass_right : m.left.ahead ≢ Unread → (m.left.ahead ≡ Ended → m.right.ahead ≡ Held) → first_of m.left m.right ≡ Greater → TellsCovered m.left m.right true → Merging a1 b1 a2 b2 w0 w1 (record { left = m.left; right = unread_of m.right; written = m.written })
+  unfoldable pub pass_right : m.left.ahead ≢ Unread → (m.left.ahead ≡ Ended → m.right.ahead ≡ Held) → first_of m.left m.right ≡ Greater → TellsCovered m.left m.right true → Merging a1 b1 a2 b2 w0 w1 (record { left = m.left; right = unread_of m.right; written = m.written })
   pass_right read some first tells = passed m.right.reader.last m.left (unread_of m.right) (greater_covered read some first true tells) (next_right read some first)
 
-  pub pass_both : first_of m.left m.right ≡ Equal → TellsCovered m.left m.right true → Merging a1 b1 a2 b2 w0 w1 (record { left = unread_of m.left; right = unread_of m.right; written = m.written })
+  unfoldable pub pass_both : first_of m.left m.right ≡ Equal → TellsCovered m.left m.right true → Merging a1 b1 a2 b2 w0 w1 (record { left = unread_of m.left; right = unread_of m.right; written = m.written })
   pass_both first tells = passed m.left.reader.last (unread_of m.left) (unread_of m.right) (both_covered first true tells) (next_both first)
 
   write_stops : (x : List ℕ) (left right : MergeInput) (written k : ℕ) → is_covered (set_of (p.out ++ x ∷ [])) x ≡ false → Next a1 b1 a2 b2 left right (p.out ++ x ∷ []) → written ≡ m.written.bytes + k → WritesFirst w1 w2 x k → WriteStopped a1 b1 a2 b2 w0 w2 written

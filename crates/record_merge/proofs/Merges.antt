@@ -1,5 +1,5 @@
 -- From the bytes that a merge took to whole inputs.
-use Rattle.std.proofs.Common.{◌≡◌, ◌≢◌, ℕ, ◌^◌, ◌<◌, List, [], ◌∷◌, ◌++◌, length, Option, Some, None, Result, Ok, Err, refl, sym, ap, ◌∙◌, subst, arith, inl, inr, ◌⊎◌, length-append}
+use Rattle.std.proofs.Common.{◌≡◌, ◌≢◌, ℕ, ◌^◌, ◌<◌, lit<, List, [], ◌∷◌, ◌++◌, length, Option, Some, None, Result, Ok, Err, refl, sym, ap, ◌∙◌, subst, arith, inl, inr, ◌⊎◌, length-append}
 use Rattle.std.specs.declared.cmp.Ordering.TheVariants.{Greater}
 use Rattle.record_merge.specs.declared.side.Lookahead.TheVariants.{Held}
 use Rattle.record_merge.specs.declared.side.MergeInput.{MergeInput}
@@ -24,9 +24,11 @@ use Rattle.archive_records.specs.Text.{text_of, last_of, written, kept, taken_of
 use Rattle.archive_records.specs.Fault.{IsOfText}
 use Rattle.archive_records.specs.Reading.{Blames, IsOfMachine, IsReadWhole}
 use Rattle.archive_records.specs.Reader.{HasReadAll, HasStopped, Stopped, IsReadTo, Position}
-use Rattle.record_merge.specs.Merging.{IsArchiveText, AreGoodRecords, LeftStops, RightStops, of_both, IsWrittenBefore, GainsNoText, IsRefusedAlone, StopsBy, Merges}
-use Rattle.byte_device.specs.Devices.{Stream}
-use Rattle.record_merge.specs.MergeSteps.{StopsBeforeRecords, HasMagicRead, Stands, WriteStopped, IsFull, BothWanted, LeftRefused, RightRefused, memory_behind, first_of, Leaves, BlamesBy, BlamesDevices, ByCause}
+use Rattle.record_merge.specs.Merging.{IsArchiveText, AreGoodRecords, LeftStops, RightStops, of_both, IsWrittenBefore, GainsNoText, IsMerged, IsRefusedAlone, IsUnfailed, StopsBy, Merges}
+use Rattle.byte_device.specs.Devices.{Stream, stream}
+use Rattle.byte_device.proofs.Known.{Appends-none, Consumes-none}
+use Rattle.archive_records.proofs.FaultKinds.{memory_blames}
+use Rattle.record_merge.specs.MergeSteps.{StopsBeforeRecords, HasMagicRead, Stands, WriteStopped, IsFull, BothWanted, LeftRefused, RightRefused, memory_behind, first_of, Leaves, MergedAll, BlamesBy, BlamesDevices, ByCause, StopsMerge}
 use Rattle.archive_records.proofs.Puts.{length_written, concat-push}
 use Rattle.record_merge.proofs.MergeSteps.{first_greater, first_held}
 use Rattle.archive_records.proofs.Apart.{apart_front}
@@ -46,7 +48,7 @@ itself o = o
 read_to : (f : Format) → kind_of f ≡ Archive_text → (a b : Option (List ℕ)) (records : List (List ℕ)) (position : Position) → HasReadAll f a b records position → IsReadTo Archive_text a b (set.from_list (taken_of f records))
 read_to f k a b records position h = record { format = f; kind_is = k; records = records; few = h.few; taken = h.taken; ordered = h.ordered; apart = h.apart; content = refl }
 
-read_whole : {R : Type 0} (input : Stream R) (f : Format) → kind_of f ≡ Archive_text → (records : List (List ℕ)) (position : Position) → HasReadAll f (input.bytes input.old) (input.bytes input.new) records position → IsAtEnd (input.bytes input.new) → input.failures input.new ≡ input.failures input.old
+pub read_whole : {R : Type 0} (input : Stream R) (f : Format) → kind_of f ≡ Archive_text → (records : List (List ℕ)) (position : Position) → HasReadAll f (input.bytes input.old) (input.bytes input.new) records position → IsAtEnd (input.bytes input.new) → input.failures input.new ≡ input.failures input.old
     → IsReadWhole Archive_text (set.from_list (taken_of f records)) input.bytes input.failures input.old input.new
 read_whole input f k records position h end unfailed =
     archive_whole itself input.bytes input.failures input.old input.new (Ok (set.from_list (taken_of f records))) (read_to f k (input.bytes input.old) (input.bytes input.new) records position h) end tt unfailed
@@ -254,8 +256,8 @@ module _ {R S W : Type 0} (left : Stream R) (right : Stream S) (out : Stream W) 
     | inr e ↦ text_none (out.bytes out.old) (out.bytes out.new) s.out n s.joins.ordered e.2 s.gained
   ]
 
-  pub merges : (r : Result Sizes MergeFault) → Leaves (left.bytes left.old) (left.bytes left.new) (right.bytes right.old) (right.bytes right.new) (out.bytes out.old) (out.bytes out.new) r → BlamesDevices left right (out.failures out.old) (out.failures out.new) r → Merges left right out r
-  merges (Ok sizes) m unfailed =
+  unfoldable pub merged : (sizes : Sizes) → MergedAll (left.bytes left.old) (left.bytes left.new) (right.bytes right.old) (right.bytes right.new) (out.bytes out.old) (out.bytes out.new) sizes → IsUnfailed left × IsUnfailed right × IsUnfailed out → IsMerged left right out sizes
+  merged sizes m unfailed =
       let f : Format = m.left.reader.file in
       let g : Format = m.right.reader.file in
       let l = m.left_read.0 in
@@ -278,4 +280,24 @@ module _ {R S W : Type 0} (left : Stream R) (right : Stream S) (out : Stream W) 
           unfailed = unfailed.2;
         };
       }
+
+  pub merges : (r : Result Sizes MergeFault) → Leaves (left.bytes left.old) (left.bytes left.new) (right.bytes right.old) (right.bytes right.new) (out.bytes out.old) (out.bytes out.new) r → BlamesDevices left right (out.failures out.old) (out.failures out.new) r → Merges left right out r
+  merges (Ok sizes) m unfailed = merged sizes m unfailed
   merges (Err e) s blames = let stopped = stops_by e.cause e.written s blames in (stopped.0, stopped.1, gains_none e.cause e.written s)
+
+-- there was no memory before anything was read
+abbrev left_before : RecordFault → MergeFault
+left_before fault = record { cause = Left fault; written = 0 }
+
+pub no_memory : {R S W : Type 0} (left : R → Option (List ℕ)) (left_failures : R → ℕ) (right : S → Option (List ℕ)) (right_failures : S → ℕ) (held : W → Option (List ℕ)) (failures : W → ℕ) (r : R) (s : S) (w : W) (e : MergeFault) (fault : RecordFault) → e ≡ record { cause = Left fault; written = 0 } → fault ≡ memory_behind 0
+    → Merges (stream left left_failures r r) (stream right right_failures s s) (stream held failures w w) (Err e)
+no_memory left left_failures right right_failures held failures r s w e fault is memory =
+    let same : e ≡ record { cause = Left (memory_behind 0); written = 0 } = is ∙ ap left_before memory in
+    merges (stream left left_failures r r) (stream right right_failures s s) (stream held failures w w) (Err e)
+    (subst (StopsMerge (left r) (left r) (right s) (right s) (held w) (held w)) (sym same) (inl (
+      refl,
+      Appends-none (held w),
+      Consumes-none (right s),
+      record { bytes = []; taken = Consumes-none (left r); stops = λ _ _. inr (inr (refl, lit< tt)); start = refl },
+    )))
+    (subst (λ (f : MergeFault). BlamesBy (stream left left_failures r r) (stream right right_failures s s) (failures w) (failures w) f.cause) (sym same) (memory_blames left left_failures r r refl, refl, refl))

@@ -4,20 +4,21 @@ use Rattle.std.proofs.lemmas.List.{append-nil, take-append-le}
 use Rattle.std.specs.List.{concat}
 use Rattle.std.specs.Io.KnownBytes.{Appends, Consumes}
 use Rattle.byte_device.specs.Writes.{WritesFirst}
+use Rattle.byte_device.proofs.Gains.{stopped}
 use Rattle.archive_records.specs.declared.format.Format.{Format}
 use Rattle.archive_records.specs.declared.format.Format.TheVariants.{Archive, OldArchive, Operations as Operations_file, Summary as Summary_file}
 use Rattle.archive_records.specs.declared.kind.TextKind.TheVariants.{Archive as Archive_text}
 use Rattle.record_merge.specs.declared.merging.Merge.{Merge}
 use Rattle.record_merge.specs.declared.side.Lookahead.TheVariants.{Unread, Held, Ended}
 use Rattle.record_merge.specs.declared.side.MergeInput.{MergeInput}
-use Rattle.archive_records.specs.Kind.{magic, magic_of, kind_of, may_follow, IsItem, end_length}
+use Rattle.archive_records.specs.Kind.{magic, kind_of, may_follow, IsItem, end_length}
 use Rattle.archive_records.specs.Text.{end_record, text_of, last_of, kept}
 use Rattle.archive_records.specs.Reader.{HasRead, Passes, Position, Stopped, HasWhole, StoppedWith}
 use Rattle.archive_records.specs.declared.fault.RecordFault.{RecordFault}
 use Rattle.archive_records.proofs.Steps.{HasRead-grows}
 use Rattle.archive_records.proofs.Formats.{follows_of, no_operations_text, no_summary_text}
 use Rattle.archive_records.proofs.KeptRecords.{kept_none}
-use Rattle.record_merge.specs.MergeSteps.{Stands, Joins, Merging, StopsBeforeRecords, HasMagicRead, RightStopped, WriteStopped, LeftRefused, RightRefused, ByCause, BlamesBy, IsToldOfRight, memory_behind, HasStoppedMerge, StopsMerge as MergeStops}
+use Rattle.record_merge.specs.MergeSteps.{Stands, Joins, Merging, StopsBeforeRecords, HasMagicRead, RightStopped, WriteStopped, LeftRefused, RightRefused, ByCause, BlamesBy, BlamesLeft, BlamesRight, BlamesWriter, IsToldOfRight, memory_behind, HasStoppedMerge, StopsMerge as MergeStops}
 use Rattle.record_merge.proofs.MergeSteps.{held_record, before_last}
 use Rattle.archive_records.proofs.KeptRecords.{long_record}
 use Rattle.archive_records.proofs.FaultKinds.{memory_blames}
@@ -54,7 +55,7 @@ stands_held a b c done before side k h s held = record {
     held_ended : Held ≡ Ended → ⊥
     held_ended e = cc
 
-stands_start : (a b : Option (List ℕ)) (side : MergeInput) → kind_of side.reader.file ≡ Archive_text → HasRead side.reader.file a b [] side.reader → side.ahead ≡ Unread → Stands a b [] [] side
+pub stands_start : (a b : Option (List ℕ)) (side : MergeInput) → kind_of side.reader.file ≡ Archive_text → HasRead side.reader.file a b [] side.reader → side.ahead ≡ Unread → Stands a b [] [] side
 stands_start a b side k h s = record { archive = k; unread = λ _. (h, refl); held = λ t. absurd (unread_not_held (sym s ∙ t)); ended = λ t. absurd (unread_not_ended (sym s ∙ t)) }
   where
     unread_not_held : Unread ≡ Held → ⊥
@@ -63,11 +64,11 @@ stands_start a b side k h s = record { archive = k; unread = λ _. (h, refl); he
     unread_not_ended : Unread ≡ Ended → ⊥
     unread_not_ended e = cc
 
-joins_start : Joins [] [] []
+pub joins_start : Joins [] [] []
 joins_start = record { ordered = tt; from = λ z c. inl c; left = λ z c. c; right = λ z c. c }
 
 module _ (a1 b1 a2 b2 w0 w1 : Option (List ℕ)) (left right : MergeInput) (f : kind_of left.reader.file ≡ Archive_text) (g : kind_of right.reader.file ≡ Archive_text) (h : HasRead left.reader.file a1 b1 [] left.reader) (k : HasRead right.reader.file a2 b2 [] right.reader) (s : left.ahead ≡ Unread) (t : right.ahead ≡ Unread) (x : List ℕ) (x_is : x ≡ magic) where
-  pub merging_start : (written : ℕ) → written ≡ 0 + length x → Appends w0 w1 x → Merging a1 b1 a2 b2 w0 w1 (record { left = left; right = right; written = record { records = 0; bytes = written } })
+  unfoldable pub merging_start : (written : ℕ) → written ≡ 0 + length x → Appends w0 w1 x → Merging a1 b1 a2 b2 w0 w1 (record { left = left; right = right; written = record { records = 0; bytes = written } })
   merging_start written n p = record {
     lefts = [];
     rights = [];
@@ -135,19 +136,38 @@ no_end_record f k rest last n (inl w) same = false≢true (sym (item-no_end f re
 no_end_record f k rest last n (inr cut) same = whole_or_cut (framed f rest) 9 (ap (framed f) same ∙ framed_last f k n) cut.0
 
 -- where the left side is told of it no device failed
-pub told_devices : {R S : Type 0} (left : Stream R) (right : Stream S) (w : ℕ) (m : Merge) (fault : RecordFault) (e : MergeFault) → IsToldOfRight m fault e → IsUnfailed left → Blames right.bytes right.failures right.old right.new fault.kind → BlamesBy left right w w e.cause
-told_devices left right w m fault e (inl (memory, both, is)) unfailed blames =
-    subst (λ (t : MergeFault). BlamesBy left right w w t.cause) (sym is) (memory_blames left.bytes left.failures left.old left.new unfailed, blames.1 (λ device. device_memory (sym device ∙ memory)), refl)
+pub told_right : {S : Type 0} (right : Stream S) (m : Merge) (fault : RecordFault) (e : MergeFault) → IsToldOfRight m fault e → Blames right.bytes right.failures right.old right.new fault.kind → BlamesRight right e.cause
+told_right right m fault e (inl (memory, both, is)) blames = subst (λ (t : MergeFault). BlamesRight right t.cause) (sym is) (refl, blames.1 (λ device. device_memory (sym device ∙ memory)))
   where
     device_memory : Device ≡ OutOfMemory → ⊥
     device_memory t = cc
-told_devices left right w m fault e (inr (alone, is)) unfailed blames = subst (λ (t : MergeFault). BlamesBy left right w w t.cause) (sym is) (unfailed, blames, refl)
+told_right right m fault e (inr (alone, is)) blames = subst (λ (t : MergeFault). BlamesRight right t.cause) (sym is) blames
+
+-- want of memory blames no device
+module _ {R S : Type 0} (left : Stream R) (right : Stream S) where
+  no_device : {D : Type 0} (device : Stream D) (fault : RecordFault) → fault.kind ≡ OutOfMemory → IsUnfailed device → Blames device.bytes device.failures device.old device.new fault.kind
+  no_device device fault memory unfailed = subst (Blames device.bytes device.failures device.old device.new) (sym memory) (memory_blames device.bytes device.failures device.old device.new unfailed)
+
+  pub left_blamed : (w : ℕ) (cause : MergeCause) → BlamesLeft left cause → IsUnfailed right → BlamesBy left right w w cause
+  left_blamed w (Left fault) blames unfailed = (blames, unfailed, refl)
+  left_blamed w (Right fault) blames unfailed = absurd blames
+  left_blamed w Write blames unfailed = absurd blames
+
+  pub right_blamed : (w : ℕ) (cause : MergeCause) → IsUnfailed left → BlamesRight right cause → BlamesBy left right w w cause
+  right_blamed w (Left fault) unfailed blames = (no_device left fault blames.0 unfailed, blames.1, refl)
+  right_blamed w (Right fault) unfailed blames = (unfailed, blames, refl)
+  right_blamed w Write unfailed blames = absurd blames
+
+  pub writer_blamed : (w0 w1 : ℕ) (cause : MergeCause) → IsUnfailed left → IsUnfailed right → BlamesWriter w0 w1 cause → BlamesBy left right w0 w1 cause
+  writer_blamed w0 w1 (Left fault) a b blames = (no_device left fault blames.0 a, b, blames.1)
+  writer_blamed w0 w1 (Right fault) a b blames = (a, no_device right fault blames.0 b, blames.1)
+  writer_blamed w0 w1 Write a b blames = (a, b, blames)
 
 -- ---- both sides are read on
 
--- the sides were read on from where the merge stood
+-- the left side was read on from where the merge stood
 module _ (a1 a2 w0 w1 b1 b2 c1 : Option (List ℕ)) (m : Merge) (p : Merging a1 b1 a2 b2 w0 w1 m) where
-  -- the left one stopped
+  -- and stopped
   pub left_stops : (fault : RecordFault) (e : MergeFault) (last : List ℕ) → e ≡ record { cause = Left fault; written = m.written.bytes } → m.left.ahead ≡ Unread → ((done : List (List ℕ)) (low : List ℕ) → Stands a1 b1 done low m.left → StoppedWith m.left.reader.file a1 c1 done fault last × (last_of [] done ≡ low))
       → HasStoppedMerge a1 c1 a2 b2 w0 w1 e
   left_stops fault e last is unread stops =
@@ -168,60 +188,72 @@ module _ (a1 a2 w0 w1 b1 b2 c1 : Option (List ℕ)) (m : Merge) (p : Merging a1 
         gained = p.gained;
       }))
 
-  module _ (c2 : Option (List ℕ)) (left : MergeInput) (read : left.ahead ≢ Unread) (stands : (done : List (List ℕ)) (low : List ℕ) → Stands a1 b1 done low m.left → Stands a1 c1 done low left) where
-    -- the right one did
-    abbrev right_stopped : (fault : RecordFault) → Stopped m.right.reader.file a2 c2 p.rights fault → last_of [] p.rights ≡ last_of [] p.out → RightStopped a1 c1 a2 c2 w0 w1 fault m.written.bytes
-    right_stopped fault s last = record {
-      lefts = p.lefts;
-      rights = p.rights;
-      out = p.out;
-      other = left;
-      left = stands p.lefts (last_of [] p.out) p.left;
-      read = read;
-      format = m.right.reader.file;
-      archive = p.right.archive;
-      right = s;
-      last = last;
-      joins = p.joins;
-      written_is = p.bytes;
-      gained = p.gained;
-    }
+  unfoldable pub left_read : (left : MergeInput) → left.ahead ≢ Unread → ((done : List (List ℕ)) (low : List ℕ) → Stands a1 b1 done low m.left → Stands a1 c1 done low left) → Merging a1 c1 a2 b2 w0 w1 (record { left = left; right = m.right; written = m.written })
+  left_read left read stands = record {
+    lefts = p.lefts;
+    rights = p.rights;
+    out = p.out;
+    left = stands p.lefts (last_of [] p.out) p.left;
+    right = p.right;
+    order = λ t _. absurd (read t);
+    joins = p.joins;
+    records = p.records;
+    bytes = p.bytes;
+    gained = p.gained;
+  }
 
-    pub right_stops : (right : MergeInput) (fault : RecordFault) (e : MergeFault) → IsToldOfRight (record { left = left; right = right; written = m.written }) fault e → left.reader.count < 2 ^ 63
-        → ((done : List (List ℕ)) (low : List ℕ) → Stands a2 b2 done low m.right → StoppedWith m.right.reader.file a2 c2 done fault right.reader.last × (last_of [] done ≡ low)) → HasStoppedMerge a1 c1 a2 c2 w0 w1 e
-    right_stops right fault e (inl (memory, both, is)) few stops =
-        let s = stops p.rights (last_of [] p.out) p.right in
-        let stood : Stands a1 c1 p.lefts (last_of [] p.out) left = stands p.lefts (last_of [] p.out) p.left in
-        let item : IsItem Archive left.reader.last = held_record a1 c1 p.lefts (last_of [] p.out) left stood both.0 in
-        let same : s.0.0.rest ≡ left.reader.last = whole_is m.right.reader.file s.0.0.rest left.reader.last right.reader.last both.1 item (s.0.1 memory) in
-        subst (HasStoppedMerge a1 c1 a2 c2 w0 w1) (sym is)
-        (inr (inr (fault, right_stopped fault s.0.0 s.1, both.0, same, few, ap (λ (n : ℕ). memory_behind n) (before_last a1 c1 p.lefts (last_of [] p.out) left stood both.0))))
-    right_stops right fault e (inr (alone, is)) few stops =
-        let s = stops p.rights (last_of [] p.out) p.right in
-        let stood : Stands a1 c1 p.lefts (last_of [] p.out) left = stands p.lefts (last_of [] p.out) p.left in
-        let f : Format = m.right.reader.file in
-        subst (HasStoppedMerge a1 c1 a2 c2 w0 w1) (sym is) (inl (
-          right_stopped fault s.0.0 s.1,
-          λ memory. (
-            λ held same. other_record f p.right.archive s.0.0.rest left.reader.last right.reader.last (held_record a1 c1 p.lefts (last_of [] p.out) left stood held) (s.0.1 memory) same (λ last. alone memory (held, last)),
-            λ n same. no_end_record f p.right.archive s.0.0.rest right.reader.last n (s.0.1 memory) same,
-          ),
-        ))
+-- and so was the right side behind it
+module _ (a1 a2 w0 w1 b1 b2 c2 : Option (List ℕ)) (m : Merge) (p : Merging a1 b1 a2 b2 w0 w1 m) (read : m.left.ahead ≢ Unread) where
+  -- and stopped
+  abbrev pub right_stopped : (fault : RecordFault) → Stopped m.right.reader.file a2 c2 p.rights fault → last_of [] p.rights ≡ last_of [] p.out → RightStopped a1 b1 a2 c2 w0 w1 fault m.written.bytes
+  right_stopped fault s last = record {
+    lefts = p.lefts;
+    rights = p.rights;
+    out = p.out;
+    other = m.left;
+    left = p.left;
+    read = read;
+    format = m.right.reader.file;
+    archive = p.right.archive;
+    right = s;
+    last = last;
+    joins = p.joins;
+    written_is = p.bytes;
+    gained = p.gained;
+  }
 
-    -- none did
-    pub both_read : (right : MergeInput) → ((done : List (List ℕ)) (low : List ℕ) → Stands a2 b2 done low m.right → Stands a2 c2 done low right) → Merging a1 c1 a2 c2 w0 w1 (record { left = left; right = right; written = m.written })
-    both_read right stood = record {
-      lefts = p.lefts;
-      rights = p.rights;
-      out = p.out;
-      left = stands p.lefts (last_of [] p.out) p.left;
-      right = stood p.rights (last_of [] p.out) p.right;
-      order = λ t _. absurd (read t);
-      joins = p.joins;
-      records = p.records;
-      bytes = p.bytes;
-      gained = p.gained;
-    }
+  pub right_stops : (right : MergeInput) (fault : RecordFault) (e : MergeFault) → IsToldOfRight (record { left = m.left; right = right; written = m.written }) fault e → m.left.reader.count < 2 ^ 63
+      → ((done : List (List ℕ)) (low : List ℕ) → Stands a2 b2 done low m.right → StoppedWith m.right.reader.file a2 c2 done fault right.reader.last × (last_of [] done ≡ low)) → HasStoppedMerge a1 b1 a2 c2 w0 w1 e
+  right_stops right fault e (inl (memory, both, is)) few stops =
+      let s = stops p.rights (last_of [] p.out) p.right in
+      let item : IsItem Archive m.left.reader.last = held_record a1 b1 p.lefts (last_of [] p.out) m.left p.left both.0 in
+      let same : s.0.0.rest ≡ m.left.reader.last = whole_is m.right.reader.file s.0.0.rest m.left.reader.last right.reader.last both.1 item (s.0.1 memory) in
+      subst (HasStoppedMerge a1 b1 a2 c2 w0 w1) (sym is)
+      (inr (inr (fault, right_stopped fault s.0.0 s.1, both.0, same, few, ap (λ (n : ℕ). memory_behind n) (before_last a1 b1 p.lefts (last_of [] p.out) m.left p.left both.0))))
+  right_stops right fault e (inr (alone, is)) few stops =
+      let s = stops p.rights (last_of [] p.out) p.right in
+      let f : Format = m.right.reader.file in
+      subst (HasStoppedMerge a1 b1 a2 c2 w0 w1) (sym is) (inl (
+        right_stopped fault s.0.0 s.1,
+        λ memory. (
+          λ held same. other_record f p.right.archive s.0.0.rest m.left.reader.last right.reader.last (held_record a1 b1 p.lefts (last_of [] p.out) m.left p.left held) (s.0.1 memory) same (λ last. alone memory (held, last)),
+          λ n same. no_end_record f p.right.archive s.0.0.rest right.reader.last n (s.0.1 memory) same,
+        ),
+      ))
+
+  unfoldable pub right_read : (right : MergeInput) → ((done : List (List ℕ)) (low : List ℕ) → Stands a2 b2 done low m.right → Stands a2 c2 done low right) → Merging a1 b1 a2 c2 w0 w1 (record { left = m.left; right = right; written = m.written })
+  right_read right stands = record {
+    lefts = p.lefts;
+    rights = p.rights;
+    out = p.out;
+    left = p.left;
+    right = stands p.rights (last_of [] p.out) p.right;
+    order = λ t _. absurd (read t);
+    joins = p.joins;
+    records = p.records;
+    bytes = p.bytes;
+    gained = p.gained;
+  }
 
 -- ---- the magics
 
@@ -242,3 +274,26 @@ stops_later a1 b1 a2 b2 w0 w1 e h = by e.cause h
     by (Left fault) p = inr p
     by (Right fault) p = inr p
     by Write p = p
+
+-- ---- the end record
+
+-- the writer failed in it
+pub end_stops : (a1 b1 a2 b2 w0 w1 w2 : Option (List ℕ)) (m : Merge) → Merging a1 b1 a2 b2 w0 w1 m → m.left.ahead ≡ Ended → m.right.ahead ≡ Ended → (written k : ℕ) → written ≡ m.written.bytes + k → WritesFirst w1 w2 (end_record m.written.records) k → WriteStopped a1 b1 a2 b2 w0 w2 written
+end_stops a1 b1 a2 b2 w0 w1 w2 m p left_end right_end written k is q =
+    let records : List (List ℕ) = kept p.out in
+    let front : List ℕ = magic ++ concat records in
+    let end : List ℕ = end_record m.written.records in
+    let text : text_of Archive records ≡ front ++ (end ++ []) = ap (λ (n : ℕ). magic ++ (concat records ++ end_record n)) (sym p.records) ∙ sym (append_assoc magic (concat records) end) ∙ ap (λ (t : List ℕ). front ++ t) (sym (append-nil end)) in
+    let s = stopped w0 w1 w2 front end [] (text_of Archive records) m.written.bytes k (p.bytes ∙ sym (length-append magic (concat records))) text p.gained q in
+    record {
+      lefts = p.lefts;
+      rights = p.rights;
+      out = p.out;
+      left_side = m.left;
+      right_side = m.right;
+      left = p.left;
+      right = p.right;
+      joins = p.joins;
+      within = inr (left_end, right_end, omega (arith, is, s.within));
+      gained = rw is s.gained;
+    }

@@ -1,2 +1,6 @@
+pub mod Lent
 pub mod Merging
 pub mod MergeSteps
+pub mod Telling
+pub mod TellingSteps
+pub mod Losses

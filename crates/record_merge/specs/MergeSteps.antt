@@ -250,6 +250,24 @@ BlamesBy left right w0 w1 (Right fault) =
     IsUnfailed left × Blames right.bytes right.failures right.old right.new fault.kind × (w1 ≡ w0)
 BlamesBy left right w0 w1 Write = IsUnfailed left × IsUnfailed right × FailedIn w0 w1
 
+-- What a fault of a turn says of the writer by its count of failures: it failed, or memory was wanted, and it did not.
+abbrev pub BlamesWriter : ℕ → ℕ → MergeCause → Type 0
+BlamesWriter w0 w1 (Left fault) = (fault.kind ≡ OutOfMemory) × (w1 ≡ w0)
+BlamesWriter w0 w1 (Right fault) = (fault.kind ≡ OutOfMemory) × (w1 ≡ w0)
+BlamesWriter w0 w1 Write = FailedIn w0 w1
+
+-- What a fault of the left side, which is read on, says of its device.
+abbrev pub BlamesLeft : {R : Type 0} → Stream R → MergeCause → Type 0
+BlamesLeft left (Left fault) = Blames left.bytes left.failures left.old left.new fault.kind
+BlamesLeft left (Right fault) = ⊥
+BlamesLeft left Write = ⊥
+
+-- What a fault says of the right side's device, where that side is read on: want of memory may be told of the left one.
+abbrev pub BlamesRight : {S : Type 0} → Stream S → MergeCause → Type 0
+BlamesRight right (Left fault) = (fault.kind ≡ OutOfMemory) × IsUnfailed right
+BlamesRight right (Right fault) = Blames right.bytes right.failures right.old right.new fault.kind
+BlamesRight right Write = ⊥
+
 abbrev pub BlamesDevices : {R S T : Type 0} → Stream R → Stream S → ℕ → ℕ → Result T MergeFault → Type 0
 BlamesDevices left right w0 w1 result =
     MatchResult result (λ _. IsUnfailed left × IsUnfailed right × (w1 ≡ w0)) (λ e. BlamesBy left right w0 w1 e.cause)
@@ -338,3 +356,7 @@ cost_of m = weight m.left + weight m.right
 pub record IsRead (m : Merge) : Type 0 where
   pub left : m.left.ahead ≢ Unread
   pub right : m.right.ahead ≢ Unread
+
+-- Where the right side's record was next, that side is to be read on.
+abbrev pub HadTurn : Merge → Merge → Type 0
+HadTurn old new = first_of old.left old.right ≢ Less → new.right.ahead ≡ Unread

@@ -2,7 +2,7 @@
 //! that it came from are read on.
 
 ghost use Rattle.std.specs.Prelude.{◌≡◌, ◌+◌, ◌*◌, ◌^◌, ◌<◌, ◌≤◌, ℕ, List, Option, OnOk};
-ghost use Rattle.std.specs.Prelude.{IfErr, MatchResult, IsTrue, ◌↔◌, true, false};
+ghost use Rattle.std.specs.Prelude.{Bool, IfErr, MatchResult, IsTrue, ◌↔◌, ◌≢◌, true, false};
 ghost use Rattle.byte_device.specs.Devices.{FailedIn};
 ghost use Rattle.byte_device.specs.Writes.{WritesFirst};
 ghost use Rattle.record_merge.specs.Merging.{most_records};
@@ -10,6 +10,8 @@ ghost use Rattle.byte_device.specs.Devices.{stream};
 ghost use Rattle.record_merge.specs.MergeSteps.{BlamesDevices, Fits, HasStoppedMerge, IsRead, IsRefusedMore};
 ghost use Rattle.record_merge.specs.MergeSteps.{IsLastOfBoth, IsToldOfRight, IsRecordWritten};
 ghost use Rattle.record_merge.specs.MergeSteps.{Merging, TellsCovered, WriteStopped, cost_of, first_of};
+ghost use Rattle.record_merge.specs.MergeSteps.{BlamesLeft, BlamesRight, BlamesWriter, HadTurn};
+ghost use Rattle.record_merge.specs.TellingSteps.{Telling, TellsNext, told_with};
 
 use crate::side::{Lookahead, MergeInput};
 use archive_records::{MOST, MergeCause, MergeFault, RecordFault, RecordFaultKind, Sizes};
@@ -26,7 +28,7 @@ pub struct Merge {
 
 impl Merge {
     /// What is told where this stops the merge behind what was written.
-    fn stopped_by(&self, cause: MergeCause) -> MergeFault
+    pub fn stopped_by(&self, cause: MergeCause) -> MergeFault
         ensures { result ≡ record { cause = cause; written = self.now.written.bytes } }
     {
         MergeFault {
@@ -71,7 +73,7 @@ impl Merge {
     }
 
     /// Whether both texts were read to their ends.
-    fn is_done(&self) -> bool
+    pub fn is_done(&self) -> bool
         requires { IsRead self.now }
         ensures left { result ≡ true → self.now.left.ahead ≡ Lookahead.Ended }
         ensures right { result ≡ true → self.now.right.ahead ≡ Lookahead.Ended }
@@ -85,7 +87,7 @@ impl Merge {
 }
 
 /// Which side's record is the next to be written: the left one's, both sides', or the right one's.
-fn first(left: &MergeInput, right: &MergeInput) -> Ordering
+pub fn first(left: &MergeInput, right: &MergeInput) -> Ordering
     ensures { result ≡ first_of left.now right.now }
 {
     match (left.ahead, right.ahead) {
@@ -116,7 +118,11 @@ fn pass_over(m: &mut Merge)
     requires covered { TellsCovered m.old.left m.old.right true }
     ensures merging { (a1 b1 a2 b2 w0 w1 : Option (List ℕ)) → Merging a1 b1 a2 b2 w0 w1 m.old
         → Merging a1 b1 a2 b2 w0 w1 m.new }
+    ensures telling { (a1 b1 a2 b2 w0 w1 : Option (List ℕ)) (told : List Bool) (is_new : Option Bool)
+        → Telling a1 b1 a2 b2 w0 w1 m.old told → TellsNext m.old is_new
+        → Telling a1 b1 a2 b2 w0 w1 m.new (told_with told is_new) }
     ensures fits { Fits m.new }
+    ensures had { HadTurn m.old m.new }
     ensures less { cost_of m.new < cost_of m.old }
 {
     match first(&m.left, &m.right) {
@@ -161,7 +167,11 @@ fn write_first<W: Sink>(w: &mut W, m: &mut Merge) -> Result<(), WriteFault>
         → MatchResult result
         (λ _. Merging a1 b1 a2 b2 w0 (W.held w.new) m.new)
         (λ fault. WriteStopped a1 b1 a2 b2 w0 (W.held w.new) fault.written) }
+    ensures telling { (a1 b1 a2 b2 w0 : Option (List ℕ)) (told : List Bool) (is_new : Option Bool)
+        → Telling a1 b1 a2 b2 w0 (W.held w.old) m.old told → TellsNext m.old is_new
+        → OnOk result (Telling a1 b1 a2 b2 w0 (W.held w.new) m.new (told_with told is_new)) }
     ensures fits { OnOk result (Fits m.new) }
+    ensures had { OnOk result (HadTurn m.old m.new) }
     ensures less { OnOk result (cost_of m.new < cost_of m.old) }
     ensures unfailed { OnOk result (W.failures w.new ≡ W.failures w.old) }
     ensures failed { IfErr result (λ _. FailedIn (W.failures w.old) (W.failures w.new)) }
@@ -173,6 +183,85 @@ fn write_first<W: Sink>(w: &mut W, m: &mut Merge) -> Result<(), WriteFault>
             put_held(w, &mut m.written, &mut m.left)
         }
         Ordering::Greater => put_held(w, &mut m.written, &mut m.right),
+    }
+}
+
+/// Gives the record that is next its turn: it is written, unless the retirements of either side cover it, and the side
+/// or sides that it came from are left to be read on.
+pub fn take_turn<W: Sink>(w: &mut W, m: &mut Merge) -> Result<(), MergeFault>
+    requires fits { Fits m.old }
+    requires read { IsRead m.old }
+    requires some { m.old.left.ahead ≡ Lookahead.Ended → m.old.right.ahead ≡ Lookahead.Held }
+    ensures merging { (a1 b1 a2 b2 w0 : Option (List ℕ)) → Merging a1 b1 a2 b2 w0 (W.held w.old) m.old
+        → MatchResult result
+        (λ _. Merging a1 b1 a2 b2 w0 (W.held w.new) m.new)
+        (λ e. HasStoppedMerge a1 b1 a2 b2 w0 (W.held w.new) e) }
+    ensures telling { (a1 b1 a2 b2 w0 : Option (List ℕ)) (told : List Bool) (is_new : Option Bool)
+        → Telling a1 b1 a2 b2 w0 (W.held w.old) m.old told → TellsNext m.old is_new
+        → OnOk result (Telling a1 b1 a2 b2 w0 (W.held w.new) m.new (told_with told is_new)) }
+    ensures fits { OnOk result (Fits m.new) }
+    ensures had { OnOk result (HadTurn m.old m.new) }
+    ensures less { OnOk result (cost_of m.new < cost_of m.old) }
+    ensures unfailed { OnOk result (W.failures w.new ≡ W.failures w.old) }
+    ensures blames { IfErr result (λ e. BlamesWriter (W.failures w.old) (W.failures w.new) e.cause) }
+{
+    if is_covered(&m.left, &m.right) {
+        pass_over(m);
+        return Ok(());
+    }
+    m.test_number()?;
+    if let Err(fault) = write_first(w, m) {
+        return Err(MergeFault {
+            cause: MergeCause::Write,
+            written: fault.written,
+        });
+    }
+    Ok(())
+}
+
+/// Reads the left side on, where its last record had its turn.
+pub fn read_left<R: Source>(r1: &mut R, m: &mut Merge) -> Result<(), MergeFault>
+    requires { Fits m.old }
+    ensures merging { (a1 a2 b2 w0 w1 : Option (List ℕ)) → Merging a1 (R.left r1.old) a2 b2 w0 w1 m.old
+        → MatchResult result
+        (λ _. Merging a1 (R.left r1.new) a2 b2 w0 w1 m.new)
+        (λ e. HasStoppedMerge a1 (R.left r1.new) a2 b2 w0 w1 e) }
+    ensures telling { (a1 a2 b2 w0 w1 : Option (List ℕ)) (told : List Bool)
+        → Telling a1 (R.left r1.old) a2 b2 w0 w1 m.old told
+        → OnOk result (Telling a1 (R.left r1.new) a2 b2 w0 w1 m.new told) }
+    ensures fits { OnOk result (Fits m.new) }
+    ensures read { OnOk result (m.new.left.ahead ≢ Lookahead.Unread) }
+    ensures right { OnOk result (m.new.right ≡ m.old.right) }
+    ensures less { OnOk result (cost_of m.new ≤ cost_of m.old) }
+    ensures unfailed { OnOk result (R.failures r1.new ≡ R.failures r1.old) }
+    ensures blames { IfErr result (λ e. BlamesLeft (stream R.left R.failures r1.old r1.new) e.cause) }
+{
+    match m.left.read_on(r1) {
+        Ok(()) => Ok(()),
+        Err(fault) => Err(m.stopped_by(MergeCause::Left(fault))),
+    }
+}
+
+/// Reads the right side on, where its last record had its turn, once the left side was.
+pub fn read_right<S: Source>(r2: &mut S, m: &mut Merge) -> Result<(), MergeFault>
+    requires fits { Fits m.old }
+    requires read { m.old.left.ahead ≢ Lookahead.Unread }
+    ensures merging { (a1 b1 a2 w0 w1 : Option (List ℕ)) → Merging a1 b1 a2 (S.left r2.old) w0 w1 m.old
+        → MatchResult result
+        (λ _. Merging a1 b1 a2 (S.left r2.new) w0 w1 m.new)
+        (λ e. HasStoppedMerge a1 b1 a2 (S.left r2.new) w0 w1 e) }
+    ensures telling { (a1 b1 a2 w0 w1 : Option (List ℕ)) (told : List Bool)
+        → Telling a1 b1 a2 (S.left r2.old) w0 w1 m.old told
+        → OnOk result (Telling a1 b1 a2 (S.left r2.new) w0 w1 m.new told) }
+    ensures fits { OnOk result (Fits m.new) }
+    ensures read { OnOk result (IsRead m.new) }
+    ensures less { OnOk result (cost_of m.new ≤ cost_of m.old) }
+    ensures unfailed { OnOk result (S.failures r2.new ≡ S.failures r2.old) }
+    ensures blames { IfErr result (λ e. BlamesRight (stream S.left S.failures r2.old r2.new) e.cause) }
+{
+    match m.right.read_on(r2) {
+        Ok(()) => Ok(()),
+        Err(fault) => Err(m.right_refused(fault)),
     }
 }
 
@@ -189,16 +278,11 @@ fn read_on<R: Source, S: Source>(r1: &mut R, r2: &mut S, m: &mut Merge) -> Resul
     ensures devices { BlamesDevices (stream R.left R.failures r1.old r1.new) (stream S.left S.failures r2.old r2.new)
         0 0 result }
 {
-    if let Err(fault) = m.left.read_on(r1) {
-        return Err(m.stopped_by(MergeCause::Left(fault)));
-    }
-    if let Err(fault) = m.right.read_on(r2) {
-        return Err(m.right_refused(fault));
-    }
-    Ok(())
+    read_left(r1, m)?;
+    read_right(r2, m)
 }
 
-/// Writes the record that is next, unless the retirements of either side cover it, and reads on.
+/// Gives the record that is next its turn, and reads on.
 fn turn<R: Source, S: Source, W: Sink>(
     r1: &mut R,
     r2: &mut S,
@@ -219,17 +303,7 @@ fn turn<R: Source, S: Source, W: Sink>(
     ensures devices { BlamesDevices (stream R.left R.failures r1.old r1.new) (stream S.left S.failures r2.old r2.new)
         (W.failures w.old) (W.failures w.new) result }
 {
-    if is_covered(&m.left, &m.right) {
-        pass_over(m);
-        return read_on(r1, r2, m);
-    }
-    m.test_number()?;
-    if let Err(fault) = write_first(w, m) {
-        return Err(MergeFault {
-            cause: MergeCause::Write,
-            written: fault.written,
-        });
-    }
+    take_turn(w, m)?;
     read_on(r1, r2, m)
 }
 

@@ -1,28 +1,35 @@
-use Rattle.std.proofs.Common.{List, ℕ, ap, sym, subst, ◌∙◌}
-use Rattle.archive_core.specs.Content.{Operations}
-use Rattle.archive_core.specs.Find.{IsFinds}
-use Rattle.archive_core.specs.Part.{is_under, part}
-use Rattle.archive_core.proofs.Picked.{part_alike, finds_alike}
+use Rattle.std.proofs.Common.{ap, refl, ◌∙◌, arith}
+use Rattle.std.proofs.lemmas.Result.{err_from_is_err_and}
+use Rattle.byte_device.proofs.Known.{Appends-none}
+use Rattle.archive_core.specs.Part.{is_under}
+use Rattle.archive_core.proofs.Picked.{finds_alike}
 use Rattle.report_text.specs.Finds.{find_lines}
 use Rattle.archive_queries.specs.Find.{find_status}
 use Rattle.command_ends.proofs.Endings.{reported}
+use Rattle.command_ends.proofs.Readers.{none_failed}
+use Rattle.archive_queries.proofs.Parts.{together_refused, together_tells}
 use Rattle.archive_queries.proofs.find.run_find.Goals as goal
+
+pub returns-in_err-clone : goal.returns-in_err-clone
+returns-in_err-clone g c =
+    let p = err_from_is_err_and c.from_residual.result c.from_residual.ensures.1 in
+    rw (p.1, p.2) ((refl, none_failed g.R.Source.left g.R.Source.failures c.args.others.now), (Appends-none _, refl))
+
+pub returns-in_err-kept : goal.returns-in_err-kept
+returns-in_err-kept g c =
+    let p = err_from_is_err_and c.from_residual-in_err-kept.result c.from_residual-in_err-kept.ensures.1 in
+    rw (p.1, p.2) (together_refused _ _ _ _ c.in_err-kept.field-0.0 c.in_err-kept.ensures.refused (Appends-none _, refl))
 
 pub returns : goal.returns
 returns g c =
-    let kept = c.in_ok-archive.ensures.kept in
     let rows = c.in_ok-rows.rows.items in
     let uuid = c.args.uuid.now in
-    let picks = is_under c.as_bytes.result.now in
-    let found = subst (λ (o : Operations). IsFinds o uuid rows) kept.kept c.in_ok-rows.ensures in
-    reported _ _ _ _ c.publish_report.result _ _ c.in_ok-archive.ensures.unfailed
-    (record {
-      content = kept.whole;
+    reported _ _ _ _ c.publish_report.result _ _ c.in_ok-kept.ensures.unfailed
+    (together_tells _ _ _ _ (λ o alike. record {
       rows = rows;
-      is_content = kept.is_content;
-      archive_is = kept.text;
-      finds = finds_alike (part kept.whole picks) kept.whole uuid rows (part_alike kept.whole picks uuid (λ r h. ap (λ (front : List ℕ). is_under front r) c.as_bytes.ensures ∙ h)) found;
+      finds = finds_alike (g.A.Join.content c.in_ok-kept.kept) o uuid rows
+          (alike uuid (omega (arith, c.bytes_of-front.ensures.long)) (λ r h. ap (λ front. is_under front r) c.bytes_of-front.ensures.bytes ∙ h)) c.in_ok-rows.ensures;
       status_is = c.status_of.ensures ∙ ap find_status c.deref-2.ensures.value;
       text_is = c.deref-3.ensures ∙ c.in_ok-text.ensures ∙ ap find_lines c.deref.ensures.value;
-    })
+    }) c.in_ok-kept.ensures.kept)
     c.publish_report.ensures

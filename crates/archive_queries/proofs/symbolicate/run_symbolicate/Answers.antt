@@ -1,23 +1,31 @@
-use Rattle.std.proofs.Common.{List, ℕ, ◌≡◌, true, ap, sym, ◌∙◌, subst, string_bytes}
+use Rattle.std.proofs.Common.{ap, refl, sym, ◌∙◌, subst, arith}
+use Rattle.std.proofs.lemmas.Result.{err_from_is_err_and}
+use Rattle.byte_device.proofs.Known.{Appends-none}
 use Rattle.archive_core.specs.Key.{key_bytes}
-use Rattle.archive_core.specs.Content.{Operations}
-use Rattle.archive_core.specs.Part.{is_under, part}
-use Rattle.archive_core.proofs.Picked.{part_alike}
+use Rattle.archive_core.specs.Part.{is_under}
 use Rattle.archive_queries.specs.Symbolicate.{TellsAddresses}
-use Rattle.archive_queries.proofs.Answered.{makes_answered, told_alike}
+use Rattle.archive_queries.proofs.Answered.{told_alike}
 use Rattle.command_ends.proofs.Endings.{reported}
+use Rattle.command_ends.proofs.Readers.{none_failed}
+use Rattle.archive_queries.proofs.Parts.{together_refused, together_tells}
 use Rattle.archive_queries.proofs.symbolicate.run_symbolicate.Goals as goal
+
+pub returns-in_err-clone : goal.returns-in_err-clone
+returns-in_err-clone g c =
+    let p = err_from_is_err_and c.from_residual.result c.from_residual.ensures.1 in
+    rw (p.1, p.2) ((refl, none_failed g.R.Source.left g.R.Source.failures c.args.others.now), (Appends-none _, refl))
+
+pub returns-in_err-kept : goal.returns-in_err-kept
+returns-in_err-kept g c =
+    let p = err_from_is_err_and c.from_residual-in_err-kept.result c.from_residual-in_err-kept.ensures.1 in
+    rw (p.1, p.2) (together_refused _ _ _ _ c.in_err-kept.field-0.0 c.in_err-kept.ensures.refused (Appends-none _, refl))
 
 pub returns : goal.returns
 returns g c =
-    let kept = c.in_ok-archive.ensures.kept in
     let key = c.args.key.now in
-    let picks = is_under c.key_front-front.result in
-    let told =
-    subst (λ (content : Operations). TellsAddresses content key c.args.load c.args.addresses.now c.in_ok-status.status (string_bytes c.in_ok-status.text))
-    kept.kept c.in_ok-status.ensures in
-    let same = part_alike kept.whole picks (key_bytes key) (λ r h. ap (λ (front : List ℕ). is_under front r) c.key_front-front.ensures ∙ h) in
-    reported _ _ _ _ c.publish_report.result _ _ c.in_ok-archive.ensures.unfailed
-    (makes_answered _ key c.args.load c.args.addresses.now kept.whole c.in_ok-status.status c.deref.result.now (string_bytes c.in_ok-status.text)
-    kept.is_content kept.text (told_alike (part kept.whole picks) kept.whole key c.args.load c.args.addresses.now c.in_ok-status.status (string_bytes c.in_ok-status.text) same told) c.deref.ensures)
+    let told = subst (TellsAddresses (g.A.Join.content c.in_ok-kept.kept) key c.args.load c.args.addresses.now c.in_ok-status.status) (sym c.deref.ensures) c.in_ok-status.ensures in
+    reported _ _ _ _ c.publish_report.result _ _ c.in_ok-kept.ensures.unfailed
+    (together_tells _ _ _ _ (λ o alike.
+    told_alike (g.A.Join.content c.in_ok-kept.kept) o key c.args.load c.args.addresses.now c.in_ok-status.status c.deref.result.now
+    (alike (key_bytes key) (omega (arith, c.bytes_of-front.ensures.long)) (λ r h. ap (λ front. is_under front r) c.bytes_of-front.ensures.bytes ∙ h)) told) c.in_ok-kept.ensures.kept)
     c.publish_report.ensures

@@ -1,25 +1,32 @@
 use Rattle.std.proofs.Common.{refl}
 use Rattle.std.proofs.lemmas.Result.{err_from_is_err_and}
 use Rattle.byte_device.proofs.Known.{Appends-none}
-use Rattle.command_ends.proofs.Endings.{behind_refused, published}
+use Rattle.command_ends.specs.Inputs.{IsKnown, IsRefusedSummary, Unfailed, reader}
+use Rattle.command_ends.specs.Outputs.{out_of, outs, writer}
+use Rattle.archive_updates.specs.Delta.{MakesDelta}
+use Rattle.archive_updates.proofs.Behind.{told_behind, wanting}
+use Rattle.archive_updates.proofs.Deltas.{named}
 use Rattle.archive_updates.proofs.delta.run_delta.Goals as goal
 
-pub returns-in_err-summary : goal.returns-in_err-summary
-returns-in_err-summary g c =
-    let p = err_from_is_err_and c.from_residual-in_err-summary.result c.from_residual-in_err-summary.ensures.1 in
-    rw (p.1, p.2) (behind_refused _ _ _ _ _ _ _ c.in_err-summary.field-0.0 _ c.in_ok-archive.ensures.content c.in_ok-archive.ensures.text c.in_ok-archive.ensures.unfailed
-    c.in_err-summary.ensures.refused ((Appends-none _, refl), (refl, refl)) (Appends-none _, refl))
+pub returns-in_err-kept : goal.returns-in_err-kept
+returns-in_err-kept g c =
+    let p = err_from_is_err_and c.from_residual.result c.from_residual.ensures.1 in
+    let archive = reader g.R.Source.left g.R.Source.failures c.args.archive.now c.args.archive.now in
+    let summary = reader g.S.Source.left g.S.Source.failures c.args.summary.now c.args.summary.now in
+    rw (p.1, p.2) (wanting (MakesDelta archive summary) archive (IsRefusedSummary summary) (Unfailed summary) (IsKnown archive × IsKnown summary)
+    (out_of (outs g.T.Draft.Sink.held g.T.Draft.Sink.failures g.T.Target.placed g.T.Target.failures c.args.out.now c.args.out.now))
+    (writer g.P.Sink.held g.P.Sink.failures c.args.report.now c.args.report.now) refl refl ((Appends-none _, refl), (refl, refl)) (Appends-none _, refl))
 
-pub returns : goal.returns
-returns g c = published _ _ _ _ _ c.publish_delta.result _ _ (c.in_ok-archive.ensures.unfailed, c.in_ok-summary.ensures.unfailed)
-    (record {
-      before = g.A.Join.content c.in_ok-archive.archive;
-      entries = c.in_ok-summary.summary;
-      is_content = c.in_ok-archive.ensures.content;
-      are_entries = c.in_ok-summary.ensures.entries;
-      archive_is = c.in_ok-archive.ensures.text;
-      summary_is = c.in_ok-summary.ensures.text;
-      content_is = refl;
-      lines_are = refl;
-    })
-    c.publish_delta.ensures
+pub returns-in-Ok : goal.returns-in-Ok
+returns-in-Ok g c =
+    named (reader g.R.Source.left g.R.Source.failures c.args.archive.now c.write_unnamed.new.archive) g.S.Source.left g.S.Source.failures c.args.summary.now c.read_summary_input.new.summary
+    (out_of (outs g.T.Draft.Sink.held g.T.Draft.Sink.failures g.T.Target.placed g.T.Target.failures c.args.out.now c.write_unnamed.new.out))
+    (writer g.P.Sink.held g.P.Sink.failures c.args.report.now c.write_unnamed.new.report) c.in-Ok.named c.in-Ok.ensures.entries c.in-Ok.ensures.text c.in-Ok.ensures.unfailed c.write_unnamed.result c.write_unnamed.ensures
+
+pub returns-in-Err : goal.returns-in-Err
+returns-in-Err g c =
+    let archive = reader g.R.Source.left g.R.Source.failures c.args.archive.now c.refused_behind.new.input in
+    let summary = reader g.S.Source.left g.S.Source.failures c.args.summary.now c.read_summary_input.new.summary in
+    told_behind (MakesDelta archive summary) archive (IsRefusedSummary summary) (Unfailed summary) (IsKnown archive × IsKnown summary)
+    (out_of (outs g.T.Draft.Sink.held g.T.Draft.Sink.failures g.T.Target.placed g.T.Target.failures c.args.out.now c.args.out.now))
+    (writer g.P.Sink.held g.P.Sink.failures c.args.report.now c.args.report.now) c.in-Err.fault c.refused_behind.result c.in-Err.ensures.refused c.refused_behind.ensures ((Appends-none _, refl), (refl, refl)) (Appends-none _, refl)

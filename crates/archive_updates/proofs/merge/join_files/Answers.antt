@@ -1,7 +1,8 @@
 use Rattle.std.proofs.Common.{◌≡◌, ◌<◌, length, take, arith, refl, subst, ap, ◌∙◌}
 use Rattle.std.proofs.lemmas.Result.{err_from_is_err_and}
 use Rattle.command_ends.specs.Inputs.{IsArchive, IsArchiveRefused, reader, readers}
-use Rattle.archive_updates.specs.Merge.{HasJoined, file_place}
+use Rattle.archive_updates.specs.Merge.{HasJoined}
+use Rattle.command_ends.specs.Archives.{file_place}
 use Rattle.archive_updates.proofs.Joins.{joined_none, joined_more, joined_archives}
 use Rattle.command_ends.proofs.Readers.{all_read, none_failed, one_more, refused_at, rest_kept, same_at, unfailed_more}
 use Rattle.archive_updates.proofs.merge.join_files.Goals as goal

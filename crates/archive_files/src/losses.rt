@@ -1,0 +1,96 @@
+//! What would be lost of an archive where a draft takes its place. What files hold is in no contract.
+
+use crate::replaceable::{Obstacle, OutFault, magic_in};
+use archive_records::{MergeCause, MergeFault, RecordFaultKind, TextKind};
+use byte_device::Reading;
+use memory::Heap;
+use record_merge::lost_operations;
+use std::alloc::Global;
+use std::fs;
+use std::io::{self, BufReader, ErrorKind};
+use std::rt::Files;
+
+/// How many bytes of a file are read at a time.
+const PIECE: usize = 64 * 1024;
+
+/// Why a draft does not take the place of what is at its target: an archive there has records that the draft, which is an
+/// archive too, neither has nor covers.
+pub fn test_losses<F: Files>(
+    alloc: Global,
+    files: &F,
+    draft: &str,
+    target: &str,
+) -> Result<(), OutFault> {
+    match is_archive_at(files, target) {
+        Ok(true) => {}
+        Ok(false) => return Ok(()),
+        Err(error) => return Err(refused(error)),
+    }
+    let heap = Heap::new(alloc)?;
+    let mut new = reading_of(alloc, files, draft)?;
+    let mut old = reading_of(alloc, files, target)?;
+    match lost_operations(&heap, &mut new, &mut old) {
+        Ok(0) => Ok(()),
+        Ok(lost) => Err(OutFault::NotReplaced(Obstacle::Loses(lost))),
+        Err(fault) => Err(unread(fault, new.reason(), old.reason())),
+    }
+}
+
+/// Whether a file is there that begins as an archive does.
+fn is_archive_at<F: Files>(files: &F, path: &str) -> io::Result<bool> {
+    let mut file = match fs::open(files, path) {
+        Ok(file) => file,
+        Err(error) if error.kind() == ErrorKind::NotFound => return Ok(false),
+        Err(error) => return Err(error),
+    };
+    match magic_in(&mut file) {
+        Ok(magic) => Ok(TextKind::Archive.format_of(&magic).is_some()),
+        Err(error) if error.kind() == ErrorKind::UnexpectedEof => Ok(false),
+        Err(error) => Err(error),
+    }
+}
+
+/// A file, read from its beginning.
+fn reading_of<F: Files>(
+    alloc: Global,
+    files: &F,
+    path: &str,
+) -> Result<Reading<BufReader<F::File>>, OutFault> {
+    let file = match fs::open(files, path) {
+        Ok(file) => file,
+        Err(error) => return Err(refused(error)),
+    };
+    match BufReader::with_capacity(alloc, PIECE, file) {
+        Ok(reader) => Ok(Reading::new(reader)),
+        Err(error) => Err(refused(error)),
+    }
+}
+
+/// The fault where the system refused.
+fn refused(error: io::Error) -> OutFault {
+    if error.kind() == ErrorKind::OutOfMemory {
+        OutFault::OutOfMemory
+    } else {
+        OutFault::NotReplaced(Obstacle::Refused(Some(error)))
+    }
+}
+
+/// The fault where one of the two archives was not read to its end, with what the system said of each. The draft was
+/// written by this command: where it cannot be read, its device is why.
+fn unread(
+    fault: MergeFault,
+    of_draft: Option<io::Error>,
+    of_target: Option<io::Error>,
+) -> OutFault {
+    match fault.cause {
+        MergeCause::Left(fault) | MergeCause::Right(fault)
+            if fault.kind == RecordFaultKind::OutOfMemory => OutFault::OutOfMemory,
+        MergeCause::Right(fault) if fault.kind == RecordFaultKind::Device => {
+            OutFault::NotReplaced(Obstacle::Refused(of_target))
+        }
+        MergeCause::Right(_) => OutFault::NotReplaced(Obstacle::Damaged),
+        MergeCause::Left(_) | MergeCause::Write => {
+            OutFault::NotReplaced(Obstacle::Refused(of_draft))
+        }
+    }
+}

@@ -1,0 +1,5 @@
+use Rattle.archive_laws.proofs.FramesTold.{as_one}
+use Rattle.archive_laws.proofs.frames_laws.asked_together.Goals as goal
+
+pub returns : goal.returns
+returns g c = λ input archive others file o made told status text given makes is. as_one input archive others file o made told status text given makes is

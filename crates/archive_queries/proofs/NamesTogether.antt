@@ -1,0 +1,318 @@
+-- What is told of a name in the join of several contents.
+use Rattle.std.proofs.Common.{◌≡◌, ◌↔◌, ◌⊎◌, ℕ, Bool, true, false, not, ◌&&◌, ◌||◌, List, [], ◌∷◌, ◌++◌, map, Contains, fold, length, refl, sym, ap, ◌∙◌, subst, inl, inr, arith}
+use Rattle.std.specs.Prelude.{slice_index}
+use Rattle.std.specs.List.{AllByRecursion, AllZip}
+use Rattle.std.specs.List.Sorted.{IsStrictlySortedBy}
+use Rattle.std.specs.Cmp.Lexicographic.{nat_list_cmp_total}
+use Rattle.std.specs.FinSet.{contains, union, contains-union}
+use Rattle.std.proofs.lemmas.Bool.{false≢true}
+use Rattle.std.proofs.lemmas.List.Elements.{Contains-append_cases, Contains-append_left, Contains-append_right}
+use Rattle.archive_core.specs.Content.{Operations, IsContent, content_of, covering, is_admission, is_covered, joined}
+use Rattle.archive_core.specs.Names.{IsNameRow, IsNames, NameRecord, name_cmp, owned_name_view}
+use Rattle.archive_core.specs.Record.{admission_record, retirement_record}
+use Rattle.archive_core.proofs.Made.{contains_made, from_made, joined_made}
+use Rattle.archive_core.proofs.Members.{in_cons, in_front, in_rest}
+use Rattle.archive_core.proofs.Records.{length-retirement_record}
+use Rattle.archive_core.proofs.Words.{covered_slice, live_in_content}
+use Rattle.archive_records.specs.Entry.{IsEntry, entry_bytes}
+use Rattle.archive_records.specs.Reader.{set_of}
+use Rattle.archive_records.proofs.Apart.{both_true, from_set, in_set, is_false}
+use Rattle.archive_reading.specs.Names.{AddsNames}
+use Rattle.archive_reading.specs.declared.names.NamesFound.{NamesFound}
+use Rattle.command_ends.specs.Archives.{HoldTogether, merged}
+use Rattle.command_ends.specs.Inputs.{HoldsArchive, HoldsContent, IsArchive, Reader}
+use Rattle.command_ends.proofs.Archives.{each_archive, hold_more}
+use Rattle.command_ends.proofs.Readers.{all_more}
+use Rattle.archive_queries.specs.InnerNames.{HasNameRow, HasRetirement, HaveAdded}
+
+-- ---- the archives, one more at a time
+
+no_content : (o : Operations) → Contains [] o → ⊥
+no_content o there = omega (arith, there.1)
+
+module _ {R : Type 0} (name : List ℕ) where
+  pub added_none : (old : NamesFound) → HaveAdded {R = R} [] name old old
+  added_none old = record {
+    contents = [];
+    are_contents = tt;
+    archives_are = tt;
+    rows = λ row. (λ there. inl there, λ told. elim told [ inl there ↦ there | inr one ↦ absurd (no_content one.0 one.1) ]);
+    retired = λ r. (λ there. inl there, λ told. elim told [ inl there ↦ there | inr one ↦ absurd (no_content one.0 one.1) ]);
+  }
+
+  module _ (archives seen : List (Reader R)) (archive : Reader R) (old mid new : NamesFound) (o : Operations) (seen_is : seen ≡ archives ++ archive ∷ []) (before : HaveAdded archives name old mid)
+      (content : IsContent o) (holds : HoldsArchive archive o) (adds : AddsNames o name mid new) where
+    abbrev all : List Operations
+    all = before.contents ++ o ∷ []
+
+    earlier : (p : Operations) → Contains before.contents p → Contains all p
+    earlier p there = Contains-append_left before.contents (o ∷ []) p there
+
+    last : Contains all o
+    last = Contains-append_right before.contents (o ∷ []) o (in_front o [])
+
+    -- one of them is the last, or one before it
+    module _ (Has : Operations → Type 0) where
+      found : (p : Operations) → Contains all p → Has p → ((q : Operations) × Contains before.contents q × Has q) ⊎ Has o
+      found p there has = elim (Contains-append_cases before.contents (o ∷ []) p there) [
+        | inl early ↦ inl (p, early, has)
+        | inr late ↦ elim (in_cons o [] p late) [
+          | inl same ↦ inr (subst Has (sym same) has)
+          | inr none ↦ absurd (no_content p none)
+        ]
+      ]
+
+    rows_to : (row : NameRecord) → Contains (map owned_name_view new.rows.items) row → Contains (map owned_name_view old.rows.items) row ⊎ HasNameRow all name row
+    rows_to row there = elim ((adds.rows row).0 there) [
+      | inl middle ↦ elim ((before.rows row).0 middle) [
+        | inl first ↦ inl first
+        | inr one ↦ inr (one.0, earlier one.0 one.1, one.2)
+      ]
+      | inr told ↦ inr (o, last, told)
+    ]
+
+    rows_back : (row : NameRecord) → Contains (map owned_name_view old.rows.items) row ⊎ HasNameRow all name row → Contains (map owned_name_view new.rows.items) row
+    rows_back row (inl first) = (adds.rows row).1 (inl ((before.rows row).1 (inl first)))
+    rows_back row (inr one) = elim (found (λ p. IsNameRow p name row) one.0 one.1 one.2) [
+      | inl early ↦ (adds.rows row).1 (inl ((before.rows row).1 (inr early)))
+      | inr told ↦ (adds.rows row).1 (inr told)
+    ]
+
+    abbrev IsRetired : List ℕ → Operations → Type 0
+    IsRetired r p = (contains p r ≡ true) × (is_admission r ≡ false)
+
+    retired_to : (r : List ℕ) → Contains (map entry_bytes new.retired.items) r → Contains (map entry_bytes old.retired.items) r ⊎ HasRetirement all r
+    retired_to r there = elim ((adds.retired r).0 there) [
+      | inl middle ↦ elim ((before.retired r).0 middle) [
+        | inl first ↦ inl first
+        | inr one ↦ inr (one.0, earlier one.0 one.1, one.2, one.3)
+      ]
+      | inr told ↦ inr (o, last, told.0, told.1)
+    ]
+
+    retired_back : (r : List ℕ) → Contains (map entry_bytes old.retired.items) r ⊎ HasRetirement all r → Contains (map entry_bytes new.retired.items) r
+    retired_back r (inl first) = (adds.retired r).1 (inl ((before.retired r).1 (inl first)))
+    retired_back r (inr one) = elim (found (IsRetired r) one.0 one.1 (one.2, one.3)) [
+      | inl early ↦ (adds.retired r).1 (inl ((before.retired r).1 (inr (early.0, early.1, early.2.0, early.2.1))))
+      | inr told ↦ (adds.retired r).1 (inr told)
+    ]
+
+    pub added_more : HaveAdded seen name old new
+    added_more = record {
+      contents = all;
+      are_contents = all_more IsContent before.contents o before.are_contents content;
+      archives_are = subst (λ (rs : List (Reader R)). AllZip HoldsArchive rs all) (sym seen_is) (hold_more archives before.contents archive o before.archives_are holds);
+      rows = λ row. (rows_to row, rows_back row);
+      retired = λ r. (retired_to r, retired_back r);
+    }
+
+  -- what was added is of archives
+  pub added_archives : (archives : List (Reader R)) (old new : NamesFound) → HaveAdded archives name old new → AllByRecursion IsArchive archives
+  added_archives archives old new added = each_archive archives added.contents added.archives_are added.are_contents
+
+-- ---- the operations of several contents
+
+abbrev all_of : Operations → List Operations → Operations
+all_of o contents = fold union o contents
+
+merged_made : (a : Operations) (contents : List Operations) → AllByRecursion IsContent contents → merged (content_of a) contents ≡ content_of (all_of a contents)
+merged_made a [] are = refl
+merged_made a (p ∷ contents) are =
+    ap (λ (q : Operations). merged q contents) (ap (joined (content_of a)) (sym are.0.itself) ∙ joined_made a p) ∙ merged_made (union a p) contents are.1
+
+merged_all : (o : Operations) (contents : List Operations) → IsContent o → AllByRecursion IsContent contents → merged o contents ≡ content_of (all_of o contents)
+merged_all o contents content are = ap (λ (q : Operations). merged q contents) (sym content.itself) ∙ merged_made o contents are
+
+in_either : (o p : Operations) (r : List ℕ) → contains (union o p) r ≡ true → (contains o r ≡ true) ⊎ (contains p r ≡ true)
+in_either o p r there = by (contains o r) refl
+  where
+    by : (b : Bool) → contains o r ≡ b → (contains o r ≡ true) ⊎ (contains p r ≡ true)
+    by true is = inl is
+    by false is = inr (ap (λ (b : Bool). b || contains p r) (sym is) ∙ sym (contains-union nat_list_cmp_total o p r) ∙ there)
+
+to_left : (o p : Operations) (r : List ℕ) → contains o r ≡ true → contains (union o p) r ≡ true
+to_left o p r there = contains-union nat_list_cmp_total o p r ∙ ap (λ (b : Bool). b || contains p r) there
+
+to_right : (o p : Operations) (r : List ℕ) → contains p r ≡ true → contains (union o p) r ≡ true
+to_right o p r there = contains-union nat_list_cmp_total o p r ∙ ap (λ (b : Bool). contains o r || b) there ∙ or_true (contains o r)
+  where
+    or_true : (b : Bool) → (b || true) ≡ true
+    or_true true = refl
+    or_true false = refl
+
+grows : (o : Operations) (contents : List Operations) (r : List ℕ) → contains o r ≡ true → contains (all_of o contents) r ≡ true
+grows o [] r there = there
+grows o (p ∷ contents) r there = grows (union o p) contents r (to_left o p r there)
+
+member : (o : Operations) (contents : List Operations) (p : Operations) (r : List ℕ) → Contains contents p → contains p r ≡ true → contains (all_of o contents) r ≡ true
+member o [] p r is there = absurd (no_content p is)
+member o (q ∷ contents) p r is there = elim (in_cons q contents p is) [
+  | inl same ↦ grows (union o q) contents r (to_right o q r (ap (λ (s : Operations). contains s r) same ∙ there))
+  | inr later ↦ member (union o q) contents p r later there
+]
+
+abbrev IsAmong : Operations → List Operations → Operations → Type 0
+IsAmong o contents p = (o ≡ p) ⊎ Contains contents p
+
+in_all : (o : Operations) (contents : List Operations) (r : List ℕ) → contains (all_of o contents) r ≡ true → (p : Operations) × IsAmong o contents p × (contains p r ≡ true)
+in_all o [] r there = (o, inl refl, there)
+in_all o (q ∷ contents) r there =
+    let one = in_all (union o q) contents r there in
+    elim one.1 [
+      | inl both ↦ elim (in_either o q r (ap (λ (s : Operations). contains s r) both ∙ one.2)) [
+        | inl first ↦ (o, inl refl, first)
+        | inr second ↦ (q, inr (in_front q contents), second)
+      ]
+      | inr later ↦ (one.0, inr (in_rest q contents one.0 later), one.2)
+    ]
+
+all_at : (contents : List Operations) (p : Operations) → AllByRecursion IsContent contents → Contains contents p → IsContent p
+all_at [] p are there = absurd (no_content p there)
+all_at (q ∷ contents) p are there = elim (in_cons q contents p there) [
+  | inl same ↦ subst IsContent same are.0
+  | inr later ↦ all_at contents p are.1 later
+]
+
+-- ---- rows of the join
+
+module _ (o : Operations) (contents : List Operations) (content : IsContent o) (are : AllByRecursion IsContent contents) (name : List ℕ) (none first found : NamesFound)
+    (no_rows : none.rows.items ≡ []) (no_retired : none.retired.items ≡ []) (adds : AddsNames o name none first)
+    (rows_are : (row : NameRecord) → Contains (map owned_name_view found.rows.items) row ↔ (Contains (map owned_name_view first.rows.items) row ⊎ HasNameRow contents name row))
+    (retired_are : (r : List ℕ) → Contains (map entry_bytes found.retired.items) r ↔ (Contains (map entry_bytes first.retired.items) r ⊎ HasRetirement contents r)) where
+  abbrev whole : Operations
+  whole = all_of o contents
+
+  abbrev retired : List (List ℕ)
+  retired = map entry_bytes found.retired.items
+
+  is_content : (p : Operations) → IsAmong o contents p → IsContent p
+  is_content p (inl same) = subst IsContent same content
+  is_content p (inr later) = all_at contents p are later
+
+  within : (p : Operations) (r : List ℕ) → IsAmong o contents p → contains p r ≡ true → contains whole r ≡ true
+  within p r (inl same) there = grows o contents r (ap (λ (s : Operations). contains s r) same ∙ there)
+  within p r (inr later) there = member o contents p r later there
+
+  row_of : (row : NameRecord) → Contains (map owned_name_view found.rows.items) row → (p : Operations) × IsAmong o contents p × IsNameRow p name row
+  row_of row there = elim ((rows_are row).0 there) [
+    | inl early ↦ elim ((adds.rows row).0 early) [
+      | inl nothing ↦ absurd (empty (subst (λ (l : List _). Contains (map owned_name_view l) row) no_rows nothing))
+      | inr told ↦ (o, inl refl, told)
+    ]
+    | inr one ↦ (one.0, inr one.1, one.2)
+  ]
+    where
+      empty : Contains [] row → ⊥
+      empty c = omega (arith, c.1)
+
+  row_back : (row : NameRecord) (p : Operations) → IsAmong o contents p → IsNameRow p name row → Contains (map owned_name_view found.rows.items) row
+  row_back row p (inl same) told = (rows_are row).1 (inl ((adds.rows row).1 (inr (subst (λ (q : Operations). IsNameRow q name row) (sym same) told))))
+  row_back row p (inr later) told = (rows_are row).1 (inr (p, later, told))
+
+  retirement_of : (r : List ℕ) → Contains retired r → (p : Operations) × IsAmong o contents p × (contains p r ≡ true) × (is_admission r ≡ false)
+  retirement_of r there = elim ((retired_are r).0 there) [
+    | inl early ↦ elim ((adds.retired r).0 early) [
+      | inl nothing ↦ absurd (empty (subst (λ (l : List _). Contains (map entry_bytes l) r) no_retired nothing))
+      | inr told ↦ (o, inl refl, told.0, told.1)
+    ]
+    | inr one ↦ (one.0, inr one.1, one.2, one.3)
+  ]
+    where
+      empty : Contains [] r → ⊥
+      empty c = omega (arith, c.1)
+
+  retirement_back : (r : List ℕ) → is_admission r ≡ false → contains whole r ≡ true → Contains retired r
+  retirement_back r plain there =
+      let one = in_all o contents r there in
+      elim one.1 [
+        | inl same ↦ (retired_are r).1 (inl ((adds.retired r).1 (inr (ap (λ (s : Operations). contains s r) same ∙ one.2, plain))))
+        | inr later ↦ (retired_are r).1 (inr (one.0, later, one.2, plain))
+      ]
+
+  -- each is the entry of a retirement
+  entry_of : (r : List ℕ) → Contains retired r → IsEntry r
+  entry_of r there =
+      let one = retirement_of r there in
+      elim ((is_content one.0 one.1).records r one.2) [
+        | inl a ↦ absurd (false≢true (sym one.3 ∙ ap is_admission a.is))
+        | inr t ↦ record { tag = inl (ap (λ (b : List ℕ). slice_index b 0) t.is); long = ap length t.is ∙ length-retirement_record t.key t.digest t.is_key t.long }
+      ]
+
+  pub are_entries : AllByRecursion IsEntry retired
+  are_entries = along retired entry_of
+    where
+      along : (xs : List (List ℕ)) → ((r : List ℕ) → Contains xs r → IsEntry r) → AllByRecursion IsEntry xs
+      along [] each = tt
+      along (x ∷ xs) each = (each x (in_front x xs), along xs (λ r there. each r (in_rest x xs r there)))
+
+  retired_stays : (r : List ℕ) → is_admission r ≡ false → contains (content_of whole) r ≡ contains whole r
+  retired_stays r plain = contains_made whole r ∙ ap (λ (b : Bool). contains whole r && not (b && contains whole (covering r))) plain ∙ and_true (contains whole r)
+    where
+      and_true : (b : Bool) → (b && true) ≡ b
+      and_true true = refl
+      and_true false = refl
+
+  module _ (rows : List NameRecord) (live : (row : NameRecord) → Contains rows row ↔ (Contains (map owned_name_view found.rows.items) row × (contains (set_of retired) (retirement_record row.key row.digest) ≡ false))) where
+    to : (row : NameRecord) → Contains rows row → IsNameRow (content_of whole) name row
+    to row there =
+        let held = (live row).0 there in
+        let one = row_of row held.0 in
+        let told = one.2 in
+        let same = ap (λ (r : NameRecord). retirement_record r.key r.digest) told.row_is in
+        let free : contains whole (retirement_record row.key row.digest) ≡ false =
+        is_false (contains whole (retirement_record row.key row.digest)) (λ is. false≢true (sym held.1 ∙ in_set retired (retirement_record row.key row.digest) (retirement_back (retirement_record row.key row.digest) refl is))) in
+        let uncovered = covered_slice whole told.slice told.valid ∙ sym (ap (contains whole) same) ∙ free in
+        record {
+          slice = told.slice;
+          valid = told.valid;
+          live = record {
+            admitted = contains_made whole (admission_record told.slice) ∙ both_true (contains whole (admission_record told.slice)) (not (is_covered whole (admission_record told.slice)))
+                (within one.0 (admission_record told.slice) one.1 told.live.admitted) (ap not uncovered);
+            under = refl;
+            kept = retired_stays _ refl ∙ sym (ap (contains whole) same) ∙ free;
+          };
+          found = told.found;
+          candidate = told.candidate;
+          row_is = told.row_is;
+        }
+
+    back : (row : NameRecord) → IsNameRow (content_of whole) name row → Contains rows row
+    back row told =
+        let one = in_all o contents (admission_record told.slice) (from_made whole (admission_record told.slice) told.live.admitted) in
+        let there = row_back row one.0 one.1 (record {
+          slice = told.slice;
+          valid = told.valid;
+          live = live_in_content one.0 told.slice (is_content one.0 one.1) told.valid one.2;
+          found = told.found;
+          candidate = told.candidate;
+          row_is = told.row_is;
+        }) in
+        let same = ap (λ (r : NameRecord). retirement_record r.key r.digest) told.row_is in
+        let free : contains (set_of retired) (retirement_record row.key row.digest) ≡ false =
+        is_false (contains (set_of retired) (retirement_record row.key row.digest)) (λ is.
+        let held = retirement_of (retirement_record row.key row.digest) (from_set retired (retirement_record row.key row.digest) is) in
+        false≢true (sym told.live.kept ∙ sym (ap (contains (content_of whole)) same) ∙ retired_stays (retirement_record row.key row.digest) refl ∙ within held.0 (retirement_record row.key row.digest) held.1 held.2)) in
+        (live row).1 (there, free)
+
+    pub names_of_join : IsStrictlySortedBy name_cmp rows → IsNames (merged o contents) name rows
+    names_of_join ascending = subst (λ (p : Operations). IsNames p name rows) (sym (merged_all o contents content are)) (record { ascending = ascending; exactly = λ row. (to row, back row) })
+
+-- all were read
+pub names_together : {R : Type 0} (archive : Reader R) (others : List (Reader R)) (name : List ℕ) (none first found : NamesFound) (rows : List NameRecord) → none.rows.items ≡ [] → none.retired.items ≡ []
+    → HoldsContent archive (λ o. AddsNames o name none first) → HaveAdded others name first found → IsStrictlySortedBy name_cmp rows
+    → ((row : NameRecord) → Contains rows row ↔ (Contains (map owned_name_view found.rows.items) row × (contains (set_of (map entry_bytes found.retired.items)) (retirement_record row.key row.digest) ≡ false)))
+    → HoldTogether archive others (λ o. IsNames o name rows)
+names_together archive others name none first found rows no_rows no_retired held added ascending live = record {
+  content = held.content;
+  contents = added.contents;
+  is_content = held.is_content;
+  are_contents = added.are_contents;
+  archive_is = held.text;
+  others_are = added.archives_are;
+  is_true = names_of_join held.content added.contents held.is_content added.are_contents name none first found no_rows no_retired held.is_true added.rows added.retired rows live ascending;
+}
+
+pub entries_together : {R : Type 0} (archive : Reader R) (others : List (Reader R)) (name : List ℕ) (none first found : NamesFound) → none.rows.items ≡ [] → none.retired.items ≡ []
+    → HoldsContent archive (λ o. AddsNames o name none first) → HaveAdded others name first found → AllByRecursion IsEntry (map entry_bytes found.retired.items)
+entries_together archive others name none first found no_rows no_retired held added =
+    are_entries held.content added.contents held.is_content added.are_contents name none first found no_rows no_retired held.is_true added.rows added.retired

@@ -1,0 +1,205 @@
+-- What the join of parts has.
+use Rattle.std.proofs.Common.{◌≡◌, ℕ, ◌≤◌, Bool, true, false, not, ◌&&◌, ◌||◌, nat_eq, List, [], ◌∷◌, ◌++◌, length, map, take, drop, refl, sym, ap, ◌∙◌, subst, arith, inl, inr, Ok, Err, Result, Option, Some, None, Contains}
+use Rattle.std.specs.Prelude.{IfOk}
+use Rattle.std.specs.Str.{bytes_eq}
+use Rattle.std.specs.List.{AllByRecursion, AllZip}
+use Rattle.std.specs.Cmp.Lexicographic.{nat_list_cmp_total}
+use Rattle.std.specs.FinSet.{contains, union, contains-union}
+use Rattle.std.proofs.lemmas.Bool.{eqb-true}
+use Rattle.std.proofs.lemmas.List.{length-take, length-drop, take-append-le, take-take, map-append}
+use Rattle.std.proofs.lemmas.List.Sums.{fold-append}
+use Rattle.archive_core.specs.Content.{IsContent, Operations, covering, is_admission, is_covered, joined, key_and_digest}
+use Rattle.archive_core.specs.Part.{AreAlikeUnder, is_under, part}
+use Rattle.archive_core.specs.Record.{IsRecord}
+use Rattle.archive_core.proofs.Made.{contains_made, joined_content}
+use Rattle.archive_core.proofs.Picked.{part_alike}
+use Rattle.archive_core.proofs.Records.{length-admission_record, length-retirement_record}
+use Rattle.archive_core.specs.declared.keys.SliceKey.{SliceKey}
+use Rattle.archive_core.proofs.Members.{in_rest}
+use Rattle.archive_reading.specs.Keys.{first_key}
+use Rattle.byte_device.specs.declared.disks.CannotOpen.{CannotOpen}
+use Rattle.command_ends.proofs.Archives.{each_archive, hold_more}
+use Rattle.command_ends.proofs.Readers.{all_more}
+use Rattle.command_ends.specs.Archives.{AreRefused, AreUnfailed, HoldTogether, file_place, merged}
+use Rattle.command_ends.specs.declared.faults.CommandFault.{CommandFault}
+use Rattle.command_ends.specs.declared.faults.CommandFault.TheVariants.{Input, Output, Report, OutOfMemory}
+use Rattle.command_ends.specs.declared.faults.Status.{Status}
+use Rattle.command_ends.specs.Ends.{EndsReport}
+use Rattle.command_ends.specs.Outputs.{Takes, Writer}
+use Rattle.command_ends.specs.Inputs.{EachUnfailed, EachUntouched, HoldsArchive, HoldsContent, HoldsPart, IsArchive, IsArchiveRefused, IsFirstRefused, IsRefusal, IsRefusedArchive, Reader, Unfailed, readers}
+use Rattle.archive_queries.specs.InnerTogether.{AreAlikeWhere, HasJoinedParts}
+
+-- ---- records under a front of a key
+
+-- a record has at least 33 bytes
+pub record_long : (r : List ℕ) → IsRecord r → 33 ≤ length r
+record_long r (inl a) = omega (arith, ap length a.is, length-admission_record a.slice a.valid)
+record_long r (inr t) = omega (arith, ap length t.is, length-retirement_record t.key t.digest t.is_key t.long)
+
+-- a retirement that covers a record is under the same front
+covering_under : (front r : List ℕ) → length front ≤ 24 → 33 ≤ length r → is_under front (covering r) ≡ is_under front r
+unfolding is_under key_and_digest
+covering_under front r short long =
+    let key : length front ≤ length (take 24 (drop 1 r)) = omega (arith, length-take 24 (drop 1 r), length-drop 1 r) in
+    ap (bytes_eq front) (take-append-le (length front) (take 24 (drop 1 r)) _ key ∙ take-take (length front) 24 (drop 1 r) short)
+
+-- ---- the join of two that are alike there
+
+module _ (front : List ℕ) (short : length front ≤ 24) (o p few some : Operations) (content : IsContent o) (other : IsContent p) (same : AreAlikeUnder front few o) (also : AreAlikeUnder front some p) where
+  abbrev whole : Operations
+  whole = union o p
+
+  abbrev parts : Operations
+  parts = union few some
+
+  alike : (r : List ℕ) → is_under front r ≡ true → contains parts r ≡ contains whole r
+  alike r under =
+      contains-union nat_list_cmp_total few some r
+      ∙ (λ i. same r under i || also r under i)
+      ∙ sym (contains-union nat_list_cmp_total o p r)
+
+  long_of : (r : List ℕ) → contains whole r ≡ true → 33 ≤ length r
+  long_of r there = by (contains o r) refl
+    where
+      by : (b : Bool) → contains o r ≡ b → 33 ≤ length r
+      by true is = record_long r (content.records r is)
+      by false is = record_long r (other.records r (ap (λ (b : Bool). b || contains p r) (sym is) ∙ sym (contains-union nat_list_cmp_total o p r) ∙ there))
+
+  -- so what is covered there is, too
+  pub joined_alike : AreAlikeUnder front (joined few some) (joined o p)
+  joined_alike r under =
+      contains_made parts r
+      ∙ ap (λ (b : Bool). b && not (is_covered parts r)) (alike r under)
+      ∙ by (contains whole r) refl
+      ∙ sym (contains_made whole r)
+    where
+      by : (b : Bool) → contains whole r ≡ b → (contains whole r && not (is_covered parts r)) ≡ (contains whole r && not (is_covered whole r))
+      by true is = ap (λ (b : Bool). contains whole r && not (is_admission r && b)) (alike (covering r) (covering_under front r short (long_of r is) ∙ under))
+      by false is = ap (λ (b : Bool). b && not (is_covered parts r)) is ∙ ap (λ (b : Bool). b && not (is_covered whole r)) (sym is)
+
+pub joins_of_parts : (o p : Operations) (picks : List ℕ → Bool) (front : List ℕ) → IsContent o → IsContent p → length front ≤ 24 → ((r : List ℕ) → is_under front r ≡ true → picks r ≡ true)
+    → AreAlikeUnder front (joined (part o picks) (part p picks)) (joined o p)
+joins_of_parts o p picks front content other short picked =
+    joined_alike front short o p (part o picks) (part p picks) content other (part_alike o picks front picked) (part_alike p picks front picked)
+
+-- of more than two
+pub merged_alike : (front : List ℕ) (picks : List ℕ → Bool) → length front ≤ 24 → ((r : List ℕ) → is_under front r ≡ true → picks r ≡ true)
+    → (o few : Operations) (contents : List Operations) → IsContent o → AllByRecursion IsContent contents → AreAlikeUnder front few o
+    → AreAlikeUnder front (merged few (map (λ (p : Operations). part p picks) contents)) (merged o contents)
+merged_alike front picks short picked o few [] content each same = same
+merged_alike front picks short picked o few (p ∷ contents) content each same =
+    merged_alike front picks short picked (joined o p) (joined few (part p picks)) contents (joined_content o p content each.0) each.1
+    (joined_alike front short o p few (part p picks) content each.0 same (part_alike p picks front picked))
+
+-- ---- the archives, one more at a time
+
+module _ {R : Type 0} where
+  pub parts_none : (picks : List ℕ → Bool) (o : Operations) → HasJoinedParts {R = R} [] picks o o
+  parts_none picks o = record { contents = []; are_contents = tt; archives_are = tt; content = refl }
+
+  pub parts_more : (archives seen : List (Reader R)) (picks : List ℕ → Bool) (archive : Reader R) (o mid new other : Operations)
+      → seen ≡ archives ++ archive ∷ [] → HasJoinedParts archives picks o mid → IsContent other → HoldsArchive archive other → new ≡ joined mid (part other picks) → HasJoinedParts seen picks o new
+  parts_more archives seen picks archive o mid new other seen_is before content holds new_is =
+      let one : Operations → Operations = λ (p : Operations). part p picks in
+      record {
+        contents = before.contents ++ other ∷ [];
+        are_contents = all_more IsContent before.contents other before.are_contents content;
+        archives_are = subst (λ (rs : List (Reader R)). AllZip HoldsArchive rs (before.contents ++ other ∷ [])) (sym seen_is) (hold_more archives before.contents archive other before.archives_are holds);
+        content = new_is ∙ ap (λ (p : Operations). joined p (part other picks)) before.content ∙ sym (fold-append joined o (map one before.contents) (part other picks ∷ []))
+            ∙ ap (λ (ps : List Operations). merged o ps) (sym (map-append one before.contents (other ∷ [])));
+      }
+
+  -- what was joined is an archive
+  pub parts_archives : (archives : List (Reader R)) (picks : List ℕ → Bool) (o mid : Operations) → HasJoinedParts archives picks o mid → AllByRecursion IsArchive archives
+  parts_archives archives picks o mid joined = each_archive archives joined.contents joined.archives_are joined.are_contents
+
+  -- all were read
+  pub held_together : (archive : Reader R) (others : List (Reader R)) (picks : List ℕ → Bool) (first all : Operations) → HoldsPart archive picks first → HasJoinedParts others picks first all
+      → HoldTogether archive others (AreAlikeWhere picks all)
+  held_together archive others picks first all kept joined = record {
+    content = kept.whole;
+    contents = joined.contents;
+    is_content = kept.is_content;
+    are_contents = joined.are_contents;
+    archive_is = kept.text;
+    others_are = joined.archives_are;
+    is_true = λ front short picked.
+        subst (λ (o : Operations). AreAlikeUnder front o (merged kept.whole joined.contents)) (sym joined.content)
+        (merged_alike front picks short picked kept.whole first joined.contents kept.is_content joined.are_contents
+        (subst (λ (o : Operations). AreAlikeUnder front o kept.whole) (sym kept.kept) (part_alike kept.whole picks front picked)));
+  }
+
+-- ---- one of them is refused, or memory is wanting
+
+pub first_refused : {R S : Type 0} (archive : Reader R) (others : List (Reader S)) (fault : CommandFault) → IsRefusal (IsRefusedArchive 0 archive) (Unfailed archive) fault → EachUntouched others → EachUnfailed others
+    → IsRefusal (AreRefused archive others) (AreUnfailed archive others) fault
+first_refused archive others (Input at why) r untouched unfailed = inl (r, untouched)
+first_refused archive others (Output _) r untouched unfailed = r
+first_refused archive others (Report _) r untouched unfailed = r
+first_refused archive others OutOfMemory r untouched unfailed = (r, unfailed)
+
+pub other_refused : {R S : Type 0} (archive : Reader R) (others : List (Reader S)) (fault : CommandFault) → IsArchive archive → Unfailed archive
+    → IsRefusal (IsFirstRefused file_place IsArchive IsArchiveRefused others) (EachUnfailed others) fault → IsRefusal (AreRefused archive others) (AreUnfailed archive others) fault
+other_refused archive others (Input at why) is unfailed r = inr (is, unfailed, r)
+other_refused archive others (Output _) is unfailed r = r
+other_refused archive others (Report _) is unfailed r = r
+other_refused archive others OutOfMemory is unfailed r = (unfailed, r)
+
+-- a command that asks them ends so
+pub together_refused : {R S : Type 0} (Makes : Status → List ℕ → Type 0) (archive : Reader R) (others : List (Reader S)) (report : Writer) (fault : CommandFault)
+    → IsRefusal (AreRefused archive others) (AreUnfailed archive others) fault → Takes report []
+    → EndsReport (record { Makes = Makes; Refuses = AreRefused archive others; Unfailed = AreUnfailed archive others }) report (Err fault)
+together_refused Makes archive others report (Input at why) r t = (r, t)
+together_refused Makes archive others report (Output _) r t = r
+together_refused Makes archive others report (Report _) r t = absurd r
+together_refused Makes archive others report OutOfMemory r t = (r, t)
+
+-- what is true of each content that is alike is true of the join
+pub together_tells : {R S : Type 0} (archive : Reader R) (others : List (Reader S)) (IsAlike IsTrue : Operations → Type 0) → ((o : Operations) → IsAlike o → IsTrue o) → HoldTogether archive others IsAlike → HoldTogether archive others IsTrue
+together_tells archive others IsAlike IsTrue tells held = record {
+  content = held.content;
+  contents = held.contents;
+  is_content = held.is_content;
+  are_contents = held.are_contents;
+  archive_is = held.archive_is;
+  others_are = held.others_are;
+  is_true = tells (merged held.content held.contents) held.is_true;
+}
+
+-- with one archive what is true of its content is true of the join
+pub alone : {R : Type 0} (left : R → Option (List ℕ)) (failures : R → ℕ) (archive : Reader R) (others : List (Result R CannotOpen)) (IsTrue : Operations → Type 0) → others ≡ [] → HoldsContent archive IsTrue
+    → HoldTogether archive (readers left failures others others) IsTrue
+alone left failures archive others IsTrue none held = subst (λ (files : List (Result _ CannotOpen)). HoldTogether archive (readers left failures files files) IsTrue) (sym none) (record {
+  content = held.content;
+  contents = [];
+  is_content = held.is_content;
+  are_contents = tt;
+  archive_is = held.text;
+  others_are = tt;
+  is_true = held.is_true;
+})
+
+pub no_others : {X : Type 0} (xs : List X) (empty : Bool) → empty ≡ nat_eq (length xs) 0 → empty ≡ true → xs ≡ []
+no_others [] empty is holds = refl
+no_others (x ∷ xs) empty is holds = let none : length (x ∷ xs) ≡ 0 = eqb-true (length (x ∷ xs)) 0 (sym is ∙ holds) in absurd (omega (arith, none))
+
+pub alone_told : {R T : Type 0} (left : R → Option (List ℕ)) (failures : R → ℕ) (archive : Reader R) (others : List (Result R CannotOpen)) (IsTrue : T → Operations → Type 0) (result : Result T CommandFault) → others ≡ []
+    → IfOk result (λ told. HoldsContent archive (IsTrue told)) → IfOk result (λ told. HoldTogether archive (readers left failures others others) (IsTrue told))
+alone_told left failures archive others IsTrue (Ok told) none held = alone left failures archive others (IsTrue told) none held
+alone_told left failures archive others IsTrue (Err fault) none held = tt
+
+-- ---- questions
+
+pub first_there : (keys : List SliceKey) (key : SliceKey) → first_key keys ≡ Some key → Contains keys key
+first_there [] key is = absurd (nothing is)
+  where
+    nothing : None ≡ Some key → ⊥
+    nothing e = cc
+first_there (first ∷ keys) key is = (0, omega arith, inside is)
+  where
+    inside : Some first ≡ Some key → first ≡ key
+    inside e = cc
+
+pub behind_there : (keys : List SliceKey) (key : SliceKey) → Contains (drop 1 keys) key → Contains keys key
+behind_there [] key there = there
+behind_there (first ∷ keys) key there = in_rest first keys key there

@@ -1,0 +1,136 @@
+-- What is told of a name, archive after archive.
+use Rattle.std.proofs.Common.{◌≡◌, ◌↔◌, ◌⊎◌, ℕ, Bool, true, false, not, ◌==◌, if◌then◌else◌, List, [], ◌∷◌, ◌++◌, map, append_assoc, refl, sym, ap, ◌∙◌, subst, inl, inr}
+use Rattle.std.specs.List.{Contains, filter}
+use Rattle.std.specs.FinSet as set
+use Rattle.std.proofs.lemmas.Bool.{false≢true}
+use Rattle.std.proofs.lemmas.List.{append-nil}
+use Rattle.std.proofs.lemmas.List.Elements.{filter-append, Contains-append_cases, Contains-append_left, Contains-append_right}
+use Rattle.archive_core.specs.Content.{Operations, IsContent, is_admission}
+use Rattle.archive_core.specs.Names.{IsNameRow, NameRecord, owned_name_view}
+use Rattle.archive_core.specs.Record.{Admits, Retires, retirement_record}
+use Rattle.archive_core.specs.Summary.{entry}
+use Rattle.archive_core.specs.declared.names.OwnedNameRow.{OwnedNameRow}
+use Rattle.archive_core.proofs.Entries.{retirement_entry}
+use Rattle.archive_core.proofs.Members.{in_filter, in_map, to_filter, to_map}
+use Rattle.archive_records.specs.Entry.{entry_bytes}
+use Rattle.archive_records.proofs.Apart.{from_set, in_set}
+use Rattle.archive_records.proofs.Forms.{parts-of, tag-retirement}
+use Rattle.archive_reading.specs.InnerNames.{names_among, names_of, retirements_among}
+use Rattle.archive_reading.specs.Names.{AddsNames}
+use Rattle.archive_reading.specs.declared.names.NamesFound.{NamesFound}
+use Rattle.archive_reading.proofs.Sought.{names_more, names_retired, names_start, names_told}
+
+turned : (b : Bool) → not b ≡ true → b ≡ false
+turned false h = refl
+turned true h = absurd (false≢true h)
+
+-- ---- one record more
+
+admission_is : (r : List ℕ) → Admits r → is_admission r ≡ true
+admission_is r a = ap (λ (tag : ℕ). tag == 2) (parts-of r a).tag
+
+retirement_is : (r : List ℕ) → Retires r → is_admission r ≡ false
+retirement_is r t = ap (λ (tag : ℕ). tag == 2) (tag-retirement r t)
+
+kept_one : (r : List ℕ) → is_admission r ≡ false → filter (λ (x : List ℕ). not (is_admission x)) (r ∷ []) ≡ r ∷ []
+kept_one r is = ap (λ (b : Bool). if not b then r ∷ [] else []) is
+
+dropped_one : (r : List ℕ) → is_admission r ≡ true → filter (λ (x : List ℕ). not (is_admission x)) (r ∷ []) ≡ []
+dropped_one r is = ap (λ (b : Bool). if not b then r ∷ [] else []) is
+
+-- the record of a retirement is its own entry
+pub own_entry : (r : List ℕ) → Retires r → entry r ≡ r
+own_entry r t = ap entry t.is ∙ retirement_entry t.key t.digest ∙ sym t.is
+
+pub retired_more : (records : List (List ℕ)) (r e : List ℕ) (start before after : List (List ℕ)) → Retires r → e ≡ entry r → after ≡ before ++ e ∷ [] → before ≡ start ++ retirements_among records → after ≡ start ++ retirements_among (records ++ r ∷ [])
+unfolding retirements_among
+retired_more records r e start before after t is grown are =
+    let kept = filter-append (λ (x : List ℕ). not (is_admission x)) records (r ∷ []) ∙ ap (λ (rest : List (List ℕ)). retirements_among records ++ rest) (kept_one r (retirement_is r t)) in
+    grown ∙ (λ i. are i ++ (is ∙ own_entry r t) i ∷ []) ∙ append_assoc start (retirements_among records) (r ∷ []) ∙ ap (λ (rest : List (List ℕ)). start ++ rest) (sym kept)
+
+pub admitted_more : (records : List (List ℕ)) (r : List ℕ) (start before : List (List ℕ)) → Admits r → before ≡ start ++ retirements_among records → before ≡ start ++ retirements_among (records ++ r ∷ [])
+unfolding retirements_among
+admitted_more records r start before a are =
+    let kept = filter-append (λ (x : List ℕ). not (is_admission x)) records (r ∷ []) ∙ ap (λ (rest : List (List ℕ)). retirements_among records ++ rest) (dropped_one r (admission_is r a)) ∙ append-nil (retirements_among records) in
+    are ∙ ap (λ (rest : List (List ℕ)). start ++ rest) (sym kept)
+
+-- the rows behind those of the start
+pub rows_more : (name : List ℕ) (records : List (List ℕ)) (r : List ℕ) (start before after : List NameRecord) → after ≡ before ++ names_of name r → before ≡ start ++ names_among name records → after ≡ start ++ names_among name (records ++ r ∷ [])
+rows_more name records r start before after grown are =
+    grown ∙ ap (λ (rows : List NameRecord). rows ++ names_of name r) are ∙ append_assoc start (names_among name records) (names_of name r)
+    ∙ ap (λ (rest : List NameRecord). start ++ rest) (names_more name records r (names_among name records) (names_among name records ++ names_of name r) refl refl)
+
+pub rows_same : (name : List ℕ) (records : List (List ℕ)) (r : List ℕ) (start before : List NameRecord) → Retires r → before ≡ start ++ names_among name records → before ≡ start ++ names_among name (records ++ r ∷ [])
+rows_same name records r start before t are =
+    rows_more name records r start before before (sym (ap (λ (rest : List NameRecord). before ++ rest) (names_retired name r t) ∙ append-nil before)) are
+
+pub start_rows : (name : List ℕ) (start : List NameRecord) → start ≡ start ++ names_among name []
+start_rows name start = sym (ap (λ (rest : List NameRecord). start ++ rest) (sym (names_start name)) ∙ append-nil start)
+
+pub start_retired : (start : List (List ℕ)) → start ≡ start ++ retirements_among []
+unfolding retirements_among
+start_retired start = sym (append-nil start)
+
+-- ---- all records
+
+module _ (o : Operations) (name : List ℕ) (records : List (List ℕ)) (content : IsContent o) (is : o ≡ set.from_list records) (old new : NamesFound)
+    (rows_are : map owned_name_view new.rows.items ≡ map owned_name_view old.rows.items ++ names_among name records)
+    (retired_are : map entry_bytes new.retired.items ≡ map entry_bytes old.retired.items ++ retirements_among records) where
+  rows_to : (row : NameRecord) → Contains (map owned_name_view new.rows.items) row → Contains (map owned_name_view old.rows.items) row ⊎ IsNameRow o name row
+  rows_to row there = elim (Contains-append_cases (map owned_name_view old.rows.items) (names_among name records) row (subst (λ (l : List NameRecord). Contains l row) rows_are there)) [
+    | inl before ↦ inl before
+    | inr among ↦ inr ((names_told o name records content is row).0 among)
+  ]
+
+  rows_back : (row : NameRecord) → Contains (map owned_name_view old.rows.items) row ⊎ IsNameRow o name row → Contains (map owned_name_view new.rows.items) row
+  rows_back row (inl before) = subst (λ (l : List NameRecord). Contains l row) (sym rows_are) (Contains-append_left (map owned_name_view old.rows.items) (names_among name records) row before)
+  rows_back row (inr told) = subst (λ (l : List NameRecord). Contains l row) (sym rows_are) (Contains-append_right (map owned_name_view old.rows.items) (names_among name records) row ((names_told o name records content is row).1 told))
+
+  among_to : (r : List ℕ) → Contains (retirements_among records) r → (set.contains o r ≡ true) × (is_admission r ≡ false)
+  unfolding retirements_among
+  among_to r there =
+      let one = in_filter (λ (x : List ℕ). not (is_admission x)) records r there in
+      (ap (λ (s : Operations). set.contains s r) is ∙ in_set records r one.0, turned (is_admission r) one.1)
+
+  among_back : (r : List ℕ) → (set.contains o r ≡ true) × (is_admission r ≡ false) → Contains (retirements_among records) r
+  unfolding retirements_among
+  among_back r there =
+      to_filter (λ (x : List ℕ). not (is_admission x)) records r (from_set records r (ap (λ (s : Operations). set.contains s r) (sym is) ∙ there.0)) (ap not there.1)
+
+  retired_to : (r : List ℕ) → Contains (map entry_bytes new.retired.items) r → Contains (map entry_bytes old.retired.items) r ⊎ ((set.contains o r ≡ true) × (is_admission r ≡ false))
+  retired_to r there = elim (Contains-append_cases (map entry_bytes old.retired.items) (retirements_among records) r (subst (λ (l : List (List ℕ)). Contains l r) retired_are there)) [
+    | inl before ↦ inl before
+    | inr among ↦ inr (among_to r among)
+  ]
+
+  retired_back : (r : List ℕ) → Contains (map entry_bytes old.retired.items) r ⊎ ((set.contains o r ≡ true) × (is_admission r ≡ false)) → Contains (map entry_bytes new.retired.items) r
+  retired_back r (inl before) = subst (λ (l : List (List ℕ)). Contains l r) (sym retired_are) (Contains-append_left (map entry_bytes old.retired.items) (retirements_among records) r before)
+  retired_back r (inr there) = subst (λ (l : List (List ℕ)). Contains l r) (sym retired_are) (Contains-append_right (map entry_bytes old.retired.items) (retirements_among records) r (among_back r there))
+
+  pub names_added : AddsNames o name old new
+  names_added = record { rows = λ row. (rows_to row, rows_back row); retired = λ r. (retired_to r, retired_back r) }
+
+-- ---- the rows that are live
+
+module _ (retired : Operations) (old kept new : List OwnedNameRow) (filtered : kept ≡ filter (λ (row : OwnedNameRow). not (set.contains retired (retirement_record row.key row.digest.0))) old)
+    (same : (row : NameRecord) → Contains (map owned_name_view new) row ↔ Contains (map owned_name_view kept) row) where
+  abbrev is_live : OwnedNameRow → Bool
+  is_live row = not (set.contains retired (retirement_record row.key row.digest.0))
+
+  live_to : (row : NameRecord) → Contains (map owned_name_view new) row → Contains (map owned_name_view old) row × (set.contains retired (retirement_record row.key row.digest) ≡ false)
+  live_to row there =
+      let one = in_map owned_name_view kept row ((same row).0 there) in
+      let passed = in_filter is_live old one.0 (subst (λ (l : List OwnedNameRow). Contains l one.0) filtered one.1) in (
+        subst (Contains (map owned_name_view old)) (sym one.2) (to_map owned_name_view old one.0 passed.0),
+        ap (λ (r : NameRecord). set.contains retired (retirement_record r.key r.digest)) one.2 ∙ turned (set.contains retired (retirement_record one.0.key one.0.digest.0)) passed.1,
+      )
+
+  live_back : (row : NameRecord) → Contains (map owned_name_view old) row × (set.contains retired (retirement_record row.key row.digest) ≡ false) → Contains (map owned_name_view new) row
+  live_back row there =
+      let one = in_map owned_name_view old row there.0 in
+      let passes : is_live one.0 ≡ true = ap not (ap (λ (r : NameRecord). set.contains retired (retirement_record r.key r.digest)) (sym one.2) ∙ there.1) in
+      let passed = subst (λ (l : List OwnedNameRow). Contains l one.0) (sym filtered) (to_filter is_live old one.0 one.1 passes) in
+      (same row).1 (subst (Contains (map owned_name_view kept)) (sym one.2) (to_map owned_name_view kept one.0 passed))
+
+  pub live_kept : (row : NameRecord) → Contains (map owned_name_view new) row ↔ (Contains (map owned_name_view old) row × (set.contains retired (retirement_record row.key row.digest) ≡ false))
+  live_kept row = (live_to row, live_back row)

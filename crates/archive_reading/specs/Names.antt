@@ -1,0 +1,15 @@
+-- What is told of a name as archives are read one after another.
+use Rattle.std.specs.Prelude.{◌≡◌, ◌↔◌, ◌⊎◌, ℕ, List, true, false, map, Contains}
+use Rattle.std.specs.FinSet as set
+use Rattle.archive_core.specs.Content.{Operations, is_admission}
+use Rattle.archive_core.specs.Names.{IsNameRow, NameRecord, owned_name_view}
+use Rattle.archive_records.specs.Entry.{entry_bytes}
+use Rattle.archive_reading.specs.declared.names.NamesFound.{NamesFound}
+
+-- One content more was read: its rows of the name stand beside those before, in any order and with any repeats, and so
+-- do the entries of its retirements, which are their records.
+pub record AddsNames (o : Operations) (name : List ℕ) (old new : NamesFound) : Type 0 where
+  pub rows : (row : NameRecord) → Contains (map owned_name_view new.rows.items) row
+      ↔ (Contains (map owned_name_view old.rows.items) row ⊎ IsNameRow o name row)
+  pub retired : (r : List ℕ) → Contains (map entry_bytes new.retired.items) r
+      ↔ (Contains (map entry_bytes old.retired.items) r ⊎ ((set.contains o r ≡ true) × (is_admission r ≡ false)))

@@ -1,0 +1,132 @@
+-- IN's archive, merged with one that is at hand: what came of it.
+use Rattle.std.proofs.Common.{◌≡◌, ℕ, List, length, MatchResult, Option, Result, min, ◌+◌, Ok, Err, refl, ap, sym, ◌∙◌, subst, arith, ◌⊎◌, inl, inr}
+use Rattle.std.specs.FinSet as set
+use Rattle.archive_core.specs.Content.{Operations, IsContent, joined}
+use Rattle.archive_records.specs.declared.fault.MergeCause.{MergeCause}
+use Rattle.archive_records.specs.declared.fault.MergeCause.TheVariants.{Left, Right, Write}
+use Rattle.archive_records.specs.declared.fault.MergeFault.{MergeFault}
+use Rattle.archive_records.specs.declared.fault.RecordFault.{RecordFault}
+use Rattle.archive_records.specs.declared.fault.RecordFaultKind.{RecordFaultKind}
+use Rattle.archive_records.specs.declared.fault.RecordFaultKind.TheVariants.{Device, OutOfMemory as RecordOutOfMemory}
+use Rattle.archive_records.specs.declared.writing.Sizes.{Sizes}
+use Rattle.archive_records.specs.Text.{written, IsArchiveOf}
+use Rattle.archive_records.specs.Writing.{IsWrittenWhole}
+use Rattle.byte_device.specs.declared.disks.CannotOpen.{CannotOpen}
+use Rattle.byte_device.specs.Devices.{FailedIn, Stream, most_failures, stream}
+use Rattle.byte_device.specs.Writes.{WritesFirst}
+use Rattle.record_merge.specs.Merging.{GainsCount, IsMerged, IsRefusedAlone, Merges, StopsBy}
+use Rattle.command_ends.specs.declared.faults.CommandFault.{CommandFault}
+use Rattle.command_ends.specs.declared.faults.CommandFault.TheVariants.{Input, Output, Report, OutOfMemory}
+use Rattle.command_ends.specs.Ends.{HasFirst, HasTaken, StopsAmidst}
+use Rattle.command_ends.specs.Inputs.{IsKnown, Reader, reader}
+use Rattle.command_ends.specs.Outputs.{Writer, sizes_of, writer}
+use Rattle.command_ends.proofs.Amidst.{gives_known}
+use Rattle.archive_updates.specs.Joining.{IsAtHand, IsJoined, joining}
+use Rattle.archive_updates.specs.MergeStreams.{IsMergeFaultTold}
+use Rattle.archive_updates.proofs.Beginnings.{first_of_join}
+
+pub sizes_are : (sizes : Sizes) (o : Operations) → sizes.records ≡ (sizes_of o).records → sizes.bytes ≡ (sizes_of o).bytes → sizes ≡ sizes_of o
+sizes_are sizes o r b = λ i. record { records = r i; bytes = b i }
+
+-- what an input lends is what was opened
+pub lent_from : {S : Type 0} (old : Result S CannotOpen) (lent : S) → MatchResult old (λ source. lent ≡ source) (λ _. ⊥) → old ≡ Ok lent
+lent_from {S = S} (Ok source) lent is = ap (λ (s : S). Ok s) (sym is)
+lent_from (Err e) lent is = absurd is
+
+pub left_not_write : (why : RecordFault) → Left why ≡ Write → ⊥
+left_not_write why h = cc
+
+right_not_write : (why : RecordFault) → Right why ≡ Write → ⊥
+right_not_write why h = cc
+
+pub memory_not_device : (kind : RecordFaultKind) → kind ≡ RecordOutOfMemory → kind ≡ Device → ⊥
+memory_not_device kind m d = cc
+
+-- a device that has never failed did not fail
+never_failed : (old new : ℕ) → old ≡ 0 → new ≡ 0 → FailedIn old new → ⊥
+never_failed old new o n failed = absurd (no_one (subst (λ (m : ℕ). m ≡ 1) n (subst (λ (m : ℕ). new ≡ min (m + 1) most_failures) o failed)))
+  where
+    no_one : ◌≡◌ {A = ℕ} 0 1 → ⊥
+    no_one h = omega (arith, h)
+
+module _ {S : Type 0} (left2 : S → Option (List ℕ)) (failures2 : S → ℕ) (r r' : S) (p : Operations) (at : IsAtHand (stream left2 failures2 r r') p) where
+  abbrev other : Stream S
+  other = stream left2 failures2 r r'
+
+  -- so it is refused for want of memory alone
+  right_memory : (why : RecordFault) → IsRefusedAlone other why → why.kind ≡ RecordOutOfMemory
+  right_memory why refused =
+      let alone : (m : Operations) → IsContent m → IsArchiveOf m at.text → (why.kind ≡ Device) ⊎ (why.kind ≡ RecordOutOfMemory) = rw at.bytes at refused.1 in
+      elim (alone p at.is_content at.is_text) [
+        | inl device ↦ absurd (never_failed (failures2 r) (failures2 r') at.unfailed_before at.unfailed (refused.0.blames.0 device))
+        | inr memory ↦ memory
+      ]
+
+  -- ---- an archive that was opened
+
+  module _ {R W : Type 0} (left : R → Option (List ℕ)) (failures : R → ℕ) (l l' : R) (held : W → Option (List ℕ)) (draft_failures : W → ℕ) (w w' : W) where
+    abbrev input : Reader R
+    input = reader left failures (Ok l) (Ok l')
+
+    abbrev draft : Writer
+    draft = writer held draft_failures w w'
+
+    abbrev MergesSo : Result Sizes MergeFault → Type 0
+    MergesSo result = Merges (stream left failures l l') other (stream held draft_failures w w') result
+
+    -- it was merged
+    unfoldable pub joined_opened : (sizes : Sizes) → MergesSo (Ok sizes) → IsJoined input p (stream held draft_failures w w') sizes
+    joined_opened sizes merges =
+        let m : IsMerged (stream left failures l l') other (stream held draft_failures w w') sizes = merges in
+        let alone : (q : Operations) → IsContent q → IsArchiveOf q at.text → m.p ≡ q = rw at.bytes at m.right_is.alone in
+        let same : m.p ≡ p = alone p at.is_content at.is_text in
+        record {
+          content = m.o;
+          is_content = m.left_is.is;
+          archive = m.left_is.text;
+          unfailed = m.left_is.unfailed;
+          written_is = subst (λ (q : Operations). IsWrittenWhole held draft_failures w w' (set.len (joined m.o q)) (written (joined m.o q)) sizes) same m.written_is;
+        }
+
+    -- a first part of the join was written
+    first : (e : MergeFault) → MergesSo (Err e) → HasFirst (joining input p) (IsKnown input) draft e.written
+    first e merges known text told m =
+        let given = gives_known left failures (Ok l) (Ok l') m.content known m.archive in
+        subst (λ (t : List ℕ). WritesFirst (held w) (held w') t e.written) (sym m.text_is)
+        (first_of_join (left l) (left2 r) (held w) (held w') e.written m.content p given.0 at.text m.is_content at.is_content given.1 at.is_text given.2 at.bytes merges.1)
+
+    -- what stopped it stops the command
+    stops : (cause : MergeCause) (n : ℕ) (fault : CommandFault) → StopsBy (stream left failures l l') other (stream held draft_failures w w') cause n → HasFirst (joining input p) (IsKnown input) draft n
+        → IsMergeFaultTold (record { cause = cause; written = n }) fault → StopsAmidst (joining input p) (IsKnown input) draft fault
+    stops (Left why) n (Input place says) s f t = ((t.0, (l', refl, why, t.1, t.2, s.refused)), s.out_unfailed, (n, f))
+    stops (Left why) n (Output k) s f t = absurd (left_not_write why (ap (λ (e : MergeFault). e.cause) t))
+    stops (Left why) n (Report k) s f t = absurd t
+    stops (Left why) n OutOfMemory s f t = (s.refused.0.blames.1 (memory_not_device why.kind t), s.out_unfailed, (n, f))
+    stops (Right why) n (Input place says) s f t = absurd (t.2 (right_memory why s.refused))
+    stops (Right why) n (Output k) s f t = absurd (right_not_write why (ap (λ (e : MergeFault). e.cause) t))
+    stops (Right why) n (Report k) s f t = absurd t
+    stops (Right why) n OutOfMemory s f t = (s.left_unfailed, s.out_unfailed, (n, f))
+    stops Write n (Input place says) s f t = absurd t
+    stops Write n (Output k) s f t = (s.left_unfailed, s.failed, subst (HasFirst (joining input p) (IsKnown input) draft) (ap (λ (e : MergeFault). e.written) t) f)
+    stops Write n (Report k) s f t = absurd t
+    stops Write n OutOfMemory s f t = absurd t
+
+    pub stopped_opened : (e : MergeFault) (fault : CommandFault) → MergesSo (Err e) → IsMergeFaultTold e fault → StopsAmidst (joining input p) (IsKnown input) draft fault
+    stopped_opened e fault merges told = stops e.cause e.written fault merges.0 (first e merges) told
+
+-- what is told of OUT is how much was written when the merge was stopped
+pub counted : (e : MergeFault) (fault : CommandFault) (k n : ℕ) → k ≡ e.written → IsMergeFaultTold e fault → fault ≡ Output n → n ≡ k
+counted e (Input at why) k n is told h = cc
+counted e (Output m) k n is told h = sym (is ∙ ap (λ (f : MergeFault). f.written) told ∙ ap count_of h)
+  where
+    count_of : CommandFault → ℕ
+    count_of (Output x) = x
+    count_of (Input at why) = 0
+    count_of (Report x) = 0
+    count_of OutOfMemory = 0
+counted e (Report m) k n is told h = absurd told
+counted e OutOfMemory k n is told h = cc
+
+-- its draft took as much
+pub taken_of : {W : Type 0} (held : W → Option (List ℕ)) (failures : W → ℕ) (w w' : W) (e : MergeFault) (fault : CommandFault) → GainsCount (stream held failures w w') e.written → IsMergeFaultTold e fault → HasTaken (writer held failures w w') fault
+taken_of held failures w w' e fault g told = (g.0, g.1, λ n h. counted e fault (length g.0) n (sym g.2) told h)

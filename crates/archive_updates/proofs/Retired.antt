@@ -1,0 +1,106 @@
+-- What `retire` makes, by a merge with the retirement.
+use Rattle.std.proofs.Common.{◌≡◌, ℕ, Bool, List, [], ◌∷◌, ◌++◌, length, map, Option, Some, Result, Err, refl, sym, ap, ◌∙◌, subst, inl, inr}
+use Rattle.std.specs.Cmp.Lexicographic.{nat_list_cmp_total}
+use Rattle.std.specs.FinSet as set
+use Rattle.join_core.specs.Listing.{listing}
+use Rattle.join_core.proofs.Listing.{listing_ascending}
+use Rattle.archive_core.specs.declared.keys.Digest.{Digest}
+use Rattle.archive_core.specs.declared.keys.SliceKey.{SliceKey}
+use Rattle.archive_core.specs.declared.operations.Operation.{Operation}
+use Rattle.archive_core.specs.declared.operations.Operation.TheVariants.{Retire}
+use Rattle.archive_core.specs.Content.{Operations, IsMade, changes, content_of, joined, with_record}
+use Rattle.archive_core.specs.Record.{IsOperation, IsRecord, record_bytes, retirement_record}
+use Rattle.archive_core.proofs.Taken.{taken_are_joined}
+use Rattle.archive_records.specs.declared.format.Format.TheVariants.{Archive, OldArchive}
+use Rattle.archive_records.specs.declared.writing.Sizes.{Sizes}
+use Rattle.archive_records.specs.Text.{AreOperations, InOrder, old_written, text_of, written}
+use Rattle.archive_records.specs.Writing.{IsWrittenWhole}
+use Rattle.archive_records.proofs.Ascending.{below-less}
+use Rattle.archive_records.proofs.Contents.{are_records, sorted-InOrder}
+use Rattle.archive_records.proofs.Puts.{bytes_same}
+use Rattle.archive_records.proofs.Versions.{old_written-records}
+use Rattle.byte_device.specs.Devices.{Stream}
+use Rattle.report_text.specs.Report.{archive_line, retire_line}
+use Rattle.command_ends.specs.declared.faults.CommandFault.{CommandFault}
+use Rattle.command_ends.specs.declared.faults.Status.{Status}
+use Rattle.command_ends.specs.Ends.{EndsAsItComes, HasTaken, MakesArchive, StopsAmidst}
+use Rattle.command_ends.specs.Inputs.{IsKnown, IsRefusedArchive, Reader, Unfailed}
+use Rattle.command_ends.specs.Outputs.{Out, PlacesNothing, Publishes, Takes, Writer}
+use Rattle.command_ends.proofs.Amidst.{published_amidst, stopped_amidst, stops_alike}
+use Rattle.archive_updates.specs.InnerTelling.{IsJoinedTelling, IsRetired}
+use Rattle.archive_updates.specs.Joining.{MakesJoin, joining}
+use Rattle.archive_updates.specs.Retire.{MakesRetired, retire}
+use Rattle.archive_updates.proofs.AtHand.{sizes_are}
+
+module _ (key : SliceKey) (digest : Digest) where
+  abbrev pub record_of : List ℕ
+  record_of = retirement_record key digest.0
+
+  abbrev pub alone : Operations
+  alone = set.from_list (record_of ∷ [])
+
+  module _ (is : IsOperation (Retire key digest)) where
+    in_order : InOrder Archive [] (record_of ∷ [])
+    in_order = (inr (record { key = key; digest = digest.0; is_key = is.0; long = is.1; is = refl }), below-less [] record_of refl, tt)
+
+    pub listed_alone : listing alone ≡ record_of ∷ []
+    listed_alone = listing_ascending nat_list_cmp_total bytes_same (record_of ∷ []) (sorted-InOrder [] (record_of ∷ []) in_order).1
+
+    pub are_alone : AreOperations alone
+    are_alone = are_records (record_of ∷ []) in_order
+
+    -- its text
+    pub text_alone : (operation : Operation) → operation ≡ Retire key digest → text_of OldArchive (map record_bytes (operation ∷ [])) ≡ old_written alone
+    text_alone operation same = ap (λ (o : Operation). text_of OldArchive (record_bytes o ∷ [])) same ∙ sym (old_written-records (record_of ∷ []) in_order)
+
+  -- the content with it
+  with_alone : (o : Operations) → IsMade o → with_record o record_of ≡ joined o (content_of alone)
+  with_alone o made = taken_are_joined o (record_of ∷ []) made
+
+  module _ {R : Type 0} (input : Reader R) where
+    -- what it makes is the join with what the retirement makes
+    pub joins_alone : (text told : List ℕ) → MakesArchive (MakesRetired input key digest) text told → MakesJoin input (content_of alone) text told
+    joins_alone text told m = record {
+      content = m.makes.before;
+      is_content = m.makes.is_content;
+      archive = m.makes.archive;
+      text_is = m.text_is ∙ ap written (m.makes.content_is ∙ with_alone m.makes.before m.makes.is_content.itself);
+    }
+
+    pub retired : {W : Type 0} (draft : Stream W) (sizes : Sizes) (told : List Bool) (changed : Bool) → IsOperation (Retire key digest) → (j : IsJoinedTelling input alone draft sizes told) → ((x : Bool) → told ≡ x ∷ [] → changed ≡ x) → IsRetired input key digest draft sizes changed
+    retired draft sizes told changed is j first =
+        let o : Operations = j.joined.content in
+        let same : joined o (content_of alone) ≡ with_record o record_of = sym (with_alone o j.joined.is_content.itself) in
+        record {
+          before = o;
+          is_content = j.joined.is_content;
+          archive = j.joined.archive;
+          unfailed = j.joined.unfailed;
+          written_is = subst (λ (q : Operations). IsWrittenWhole draft.bytes draft.failures draft.old draft.new (set.len q) (written q) sizes) same j.joined.written_is;
+          changed_is = first (changes o record_of) (j.told_is ∙ ap (map (changes o)) (listed_alone is));
+        }
+
+    -- what stops the join stops it
+    pub retire_stops : (draft : Writer) (fault : CommandFault) → StopsAmidst (joining input (content_of alone)) (IsKnown input) draft fault → StopsAmidst (retire input key digest) (IsKnown input) draft fault
+    retire_stops draft fault s =
+        stops_alike (MakesJoin input (content_of alone)) (MakesArchive (MakesRetired input key digest)) (IsRefusedArchive 0 input) (IsRefusedArchive 0 input) (Unfailed input) (Unfailed input) (IsKnown input) (IsKnown input) draft
+        joins_alone (λ at why r. r) (λ u. u) (λ k. k) fault s
+
+    pub retire_stopped : (out : Out) (report : Writer) (fault : CommandFault) → StopsAmidst (retire input key digest) (IsKnown input) out.draft fault → HasTaken out.draft fault → PlacesNothing out → Takes report []
+        → EndsAsItComes (retire input key digest) (IsKnown input) out report (Err fault)
+    retire_stopped out report fault s = stopped_amidst (MakesArchive (MakesRetired input key digest)) (IsRefusedArchive 0 input) (Unfailed input) (IsKnown input) out report fault s
+
+    -- and what it makes is published
+    pub retire_published : {W : Type 0} (draft : Stream W) (sizes : Sizes) (changed : Bool) (i : IsRetired input key digest draft sizes changed) (out : Out) (report : Writer) (result : Result Status CommandFault)
+        → Publishes out report (written (with_record i.before record_of)) (retire_line changed key digest ++ archive_line sizes) result → EndsAsItComes (retire input key digest) (IsKnown input) out report result
+    retire_published draft sizes changed i out report result =
+        let o : Operations = with_record i.before record_of in
+        let lines : List ℕ = retire_line changed key digest in
+        published_amidst (MakesArchive (MakesRetired input key digest)) (IsRefusedArchive 0 input) (Unfailed input) (IsKnown input) out report result (written o) (lines ++ archive_line sizes) i.unfailed
+        (record {
+          content = o;
+          lines = lines;
+          makes = record { before = i.before; is_content = i.is_content; archive = i.archive; content_is = refl; lines_are = ap (λ (b : Bool). retire_line b key digest) i.changed_is };
+          text_is = refl;
+          told_is = ap (λ (s : Sizes). lines ++ archive_line s) (sizes_are sizes o i.written_is.records_are i.written_is.bytes_are);
+        })

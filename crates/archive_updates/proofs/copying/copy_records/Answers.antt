@@ -1,0 +1,104 @@
+use Rattle.std.proofs.Common.{◌∙◌, sym, ap, subst, arith, refl, [], ◌∷◌, ◌++◌}
+use Rattle.archive_records.specs.Kind.{kind_of}
+use Rattle.archive_records.specs.Reader.{IsFoundIn, DropsLast}
+use Rattle.archive_records.specs.Text.{taken_of}
+use Rattle.archive_records.proofs.Puts.{few_missing}
+use Rattle.archive_records.proofs.Taken.{taken_none, taken_push, taken_pass}
+use Rattle.archive_records.proofs.Steps.{HasRead-grows, HasReadAll-grows, Stopped-fails}
+use Rattle.archive_updates.proofs.Copied.{copied_in, copied_more, copied_to, copied_within}
+use Rattle.archive_updates.proofs.copying.copy_records.Goals as goal
+
+pub copying-init : goal.copying-init
+copying-init g c = record {
+  gathers = λ a w0 start copied. record { records = []; read = start; makes = rw (taken_none c.args.reader.now.file) copied };
+  file = refl;
+  unfailed = refl;
+  writer_unfailed = refl;
+  few = omega arith;
+  fits = omega (arith, c.requires.fits);
+}
+
+pub put_unnamed-requires-clause-found : goal.put_unnamed-requires-clause-found
+put_unnamed-requires-clause-found g c =
+    let step = rw c.in-Ok-Item.field-0-is at c.in-Ok-Item.ensures in
+    rw c.last.ensures (subst (λ k. IsFoundIn k c.advance.new.self.last c.in-Ok-Item.found) (ap kind_of c.copying.invariant.file ∙ c.requires.archive) step.2)
+
+pub returns-in-Ok-End-clause-copied : goal.returns-in-Ok-End-clause-copied
+returns-in-Ok-End-clause-copied g c = λ a w0 start copied.
+    let step = rw c.in-Ok-End.field-0-is at c.in-Ok-End.ensures in
+    let m = c.copying.invariant.gathers a w0 start copied in
+    record { records = m.records; read = HasReadAll-grows c.args.reader.now.file a _ _ m.records c.copying.reader c.advance.new.self m.read step.0; makes = m.makes }
+
+pub returns-in-Err-clause-stopped : goal.returns-in-Err-clause-stopped
+returns-in-Err-clause-stopped g c = λ a w0 start copied.
+    let m = c.copying.invariant.gathers a w0 start copied in
+    let file = c.args.reader.now.file in
+    let stop = Stopped-fails file a _ _ m.records c.copying.reader _ m.read c.in-Err.ensures.0 in
+    ((m.records, stop), copied_to file c.args.summary.now a _ w0 _ m.records _ c.copying.written stop m.makes)
+
+pub copying-smaller : goal.copying-smaller
+copying-smaller g c =
+    let step = rw c.in-Ok-Item.field-0-is at c.in-Ok-Item.ensures in
+    omega (arith, step.0.count_is, step.0.few)
+
+pub copying-preserved-then-dropped : goal.copying-preserved-then-dropped
+copying-preserved-then-dropped g c =
+    let step = rw c.in-Ok-Item.field-0-is at c.in-Ok-Item.ensures in
+    let file = c.args.reader.now.file in
+    record {
+      gathers = λ a w0 start copied.
+          let m = c.copying.invariant.gathers a w0 start copied in
+          let read = HasRead-grows file a _ _ m.records c.copying.reader c.advance.new.self m.read step.0 in
+          let drops = subst (λ b. DropsLast file b (m.records ++ c.advance.new.self.last ∷ [])) (sym c.dropped.ensures ∙ c.if-dropped.true) read.dropped_is in
+          record {
+            records = m.records ++ c.advance.new.self.last ∷ [];
+            read = read;
+            makes = rw (taken_pass m.records c.advance.new.self.last file read.ordered read.apart drops) m.makes;
+          };
+      file = step.0.file_is ∙ c.copying.invariant.file;
+      unfailed = step.1 ∙ c.copying.invariant.unfailed;
+      writer_unfailed = c.copying.invariant.writer_unfailed;
+      few = omega (arith, step.0.count_is, c.copying.invariant.few);
+      fits = c.copying.invariant.fits;
+    }
+
+pub copying-preserved : goal.copying-preserved
+copying-preserved g c =
+    let step = rw c.in-Ok-Item.field-0-is at c.in-Ok-Item.ensures in
+    let file = c.args.reader.now.file in
+    let s = c.args.summary.now in
+    let x = c.advance.new.self.last in
+    let put = rw c.last.ensures at c.in-Ok.ensures.ok in
+    let count = rw c.last.ensures at c.in-Ok.ensures.records in
+    let one = few_missing s x in
+    record {
+      gathers = λ a w0 start copied.
+          let m = c.copying.invariant.gathers a w0 start copied in
+          let read = HasRead-grows file a _ _ m.records c.copying.reader c.advance.new.self m.read step.0 in
+          let drops = subst (λ b. DropsLast file b (m.records ++ x ∷ [])) (sym c.dropped.ensures ∙ c.if-dropped.false) read.dropped_is in
+          let grown = taken_push m.records x file read.ordered drops in
+          record {
+            records = m.records ++ x ∷ [];
+            read = read;
+            makes = rw grown (copied_more s w0 _ _ (taken_of file m.records) x c.copying.written m.makes c.in-Ok.more put.0 count put.1);
+          };
+      file = step.0.file_is ∙ c.copying.invariant.file;
+      unfailed = step.1 ∙ c.copying.invariant.unfailed;
+      writer_unfailed = c.in-Ok.ensures.unfailed ∙ c.copying.invariant.writer_unfailed;
+      few = omega (arith, step.0.count_is, c.copying.invariant.few, count, one);
+      fits = c.in-Ok.ensures.fits c.copying.invariant.fits;
+    }
+
+pub returns-in-Err-put_unnamed-clause-stopped : goal.returns-in-Err-put_unnamed-clause-stopped
+returns-in-Err-put_unnamed-clause-stopped g c = λ a w0 start copied.
+    let step = rw c.in-Ok-Item.field-0-is at c.in-Ok-Item.ensures in
+    let file = c.args.reader.now.file in
+    let s = c.args.summary.now in
+    let x = c.advance.new.self.last in
+    let m = c.copying.invariant.gathers a w0 start copied in
+    let read = HasRead-grows file a _ _ m.records c.copying.reader c.advance.new.self m.read step.0 in
+    let drops = subst (λ b. DropsLast file b (m.records ++ x ∷ [])) (sym c.dropped.ensures ∙ c.if-dropped.false) read.dropped_is in
+    let grown = taken_push m.records x file read.ordered drops in
+    let e = rw c.last.ensures at c.in-Err-put_unnamed.ensures.err in
+    let in_x = copied_in s w0 _ _ (taken_of file m.records) x c.copying.written m.makes _ e.0 e.1 e.2 in
+    (tt, copied_within file s a _ w0 _ (m.records ++ x ∷ []) c.advance.new.self _ read (rw grown in_x))

@@ -1,0 +1,21 @@
+use Rattle.archive_core.specs.Content.{content_of}
+use Rattle.byte_device.specs.Devices.{stream}
+use Rattle.archive_updates.proofs.AtHand.{stopped_opened, taken_of}
+use Rattle.archive_updates.proofs.Tellings.{makes_at_hand, told_opened}
+use Rattle.archive_updates.proofs.telling.tell_opened.Goals as goal
+
+pub returns-in-Ok-clause-told : goal.returns-in-Ok-clause-told
+returns-in-Ok-clause-told g c = λ operations at.
+    told_opened g.S.Source.left g.S.Source.failures c.args.other.now c.merge_telling.new.right operations at
+    g.R.Source.left g.R.Source.failures c.args.left.now c.merge_telling.new.left
+    g.W.Sink.held g.W.Sink.failures c.args.draft.now c.merge_telling.new.w c.in-Ok.told.0 c.in-Ok.told.1.items c.in-Ok.ensures.tells
+
+pub returns-in-Err-clause-stopped : goal.returns-in-Err-clause-stopped
+returns-in-Err-clause-stopped g c = λ operations at.
+    stopped_opened g.S.Source.left g.S.Source.failures c.args.other.now c.merge_telling.new.right (content_of operations)
+    (makes_at_hand (stream g.S.Source.left g.S.Source.failures c.args.other.now c.merge_telling.new.right) operations at)
+    g.R.Source.left g.R.Source.failures c.args.left.now c.merge_telling.new.left
+    g.W.Sink.held g.W.Sink.failures c.args.draft.now c.merge_telling.new.w c.in-Err.fault c.command_fault_of.result c.in-Err.ensures.merges c.command_fault_of.ensures
+
+pub returns-in-Err-clause-taken : goal.returns-in-Err-clause-taken
+returns-in-Err-clause-taken g c = taken_of g.W.Sink.held g.W.Sink.failures c.args.draft.now c.merge_telling.new.w c.in-Err.fault c.command_fault_of.result c.in-Err.ensures.written c.command_fault_of.ensures

@@ -1,0 +1,20 @@
+-- What is lost where one archive takes the place of another.
+use Rattle.std.specs.Prelude.{◌≡◌, ℕ, count_by, IfSome}
+use Rattle.join_core.specs.Listing.{listing}
+use Rattle.byte_device.specs.Devices.{Stream}
+use Rattle.archive_core.specs.Content.{Operations, changes, content_of}
+use Rattle.archive_records.specs.declared.kind.TextKind.TheVariants.{Archive as Archive_text}
+use Rattle.archive_records.specs.Reading.{IsReadWhole}
+use Rattle.archive_records.specs.Text.{AreOperations}
+use Rattle.record_merge.specs.Telling.{HasOperations}
+
+-- Both inputs are texts of archives, and of the operations of the old one so many are lost in the new one, which neither
+-- has them nor covers them.
+pub record Loses {R S : Type 0} (new : Stream R) (old : Stream S) (lost : ℕ) : Type 0 where
+  pub content : Operations
+  pub operations : Operations
+  pub new_is : IsReadWhole Archive_text content new.bytes new.failures new.old new.new
+  pub old_is : IsReadWhole Archive_text (content_of operations) old.bytes old.failures old.old old.new
+  pub are : AreOperations operations
+  pub old_has : IfSome (old.bytes old.old) (HasOperations operations)
+  pub lost_is : lost ≡ count_by (changes content) (listing operations)

@@ -1,0 +1,38 @@
+//! What is lost where one archive takes the place of another.
+
+ghost use Rattle.std.specs.Prelude.{◌≡◌, IfOk, count_by};
+ghost use Rattle.byte_device.specs.Devices.{stream};
+ghost use Rattle.record_merge.specs.Losses.{Loses};
+
+use crate::telling::merge_telling;
+use archive_records::MergeFault;
+use byte_device::{Source, Writing};
+use memory::Heap;
+use std::io;
+
+/// How many are told as new.
+fn number_of_new(told: &[bool]) -> u64
+    ensures { result ≡ count_by (λ is_new. is_new) told.now }
+{
+    told.iter().filter(|is_new| **is_new).count() as u64
+}
+
+/// How many operations of the old archive the new one neither has nor covers by a retirement: those that are lost where
+/// it takes the place of the old one. Each may be of either version. The two are read side by side, as
+/// [`merge_streams`](crate::merge_streams) reads them, in the memory of one record of each, of 57 bytes for each retirement
+/// and of one for each record of the old one.
+///
+/// # Errors
+///
+/// Those of [`merge_telling`], the new archive being the left one.
+pub fn lost_operations<R: Source, S: Source>(
+    heap: &Heap,
+    new: &mut R,
+    old: &mut S,
+) -> Result<u64, MergeFault>
+    ensures lost { IfOk result (λ lost. Loses (stream R.left R.failures new.old new.new)
+        (stream S.left S.failures old.old old.new) lost) }
+{
+    let (_, told) = merge_telling(heap, new, old, &mut Writing::new(io::sink()))?;
+    Ok(number_of_new(&told))
+}

@@ -1,0 +1,197 @@
+//! A merge that tells which records of its right side were new when their turn came.
+
+ghost use Rattle.std.specs.Prelude.{◌≡◌, ◌≢◌, ◌<◌, ◌≤◌, ℕ, Bool, List, [], Option, OnOk, IfOk, IfErr, IsSome};
+ghost use Rattle.std.specs.Prelude.{IfSome, MatchResult, map};
+ghost use Rattle.std.specs.Result.{result_map_both};
+ghost use Rattle.std.specs.declared.cmp.Ordering.TheVariants.{Less};
+ghost use Rattle.join_core.specs.Listing.{listing};
+ghost use Rattle.byte_device.specs.Devices.{stream};
+ghost use Rattle.archive_core.specs.Content.{IsContent, Operations, changes};
+ghost use Rattle.archive_records.specs.Text.{IsArchiveOf};
+ghost use Rattle.archive_records.specs.declared.fault.MergeCause.TheVariants.{Right};
+ghost use Rattle.record_merge.specs.Merging.{GainsCount, Merges};
+ghost use Rattle.record_merge.specs.MergeSteps.{BlamesDevices, Fits, HasStoppedMerge, IsRead, Leaves, Merging};
+ghost use Rattle.record_merge.specs.MergeSteps.{cost_of, first_of, memory_behind};
+ghost use Rattle.record_merge.specs.Telling.{HasOperations, IsMergedTelling};
+ghost use Rattle.record_merge.specs.TellingSteps.{Telling, TellsNext, ToldAll, told_with};
+
+use crate::merging::{Merge, first, read_left, read_right, take_turn};
+use crate::side::Lookahead;
+use crate::streams::{before_the_magic, begin_both, finish};
+use archive_records::{MergeCause, MergeFault, RecordFault, Sizes};
+use byte_device::{Sink, Source};
+use memory::Heap;
+use std::cmp::Ordering;
+
+/// Whether the record that is next is a new one of the right side: none where it is the left side's alone. All of the
+/// left side that are not above it were read, and so were its retirements where it is an admission.
+fn is_next_new(m: &Merge) -> Option<bool>
+    ensures tells { TellsNext m.now result }
+    ensures right { IsSome result → first_of m.now.left m.now.right ≢ Less }
+{
+    match first(&m.left, &m.right) {
+        Ordering::Less => None,
+        Ordering::Equal => Some(false),
+        Ordering::Greater => Some(!m.left.reader.retires(m.right.reader.last())),
+    }
+}
+
+/// Tells of the record of the right side that had its turn, if there is one. Memory that is wanted for that is wanted
+/// before the next one is read.
+fn tell(m: &Merge, told: &mut Vec<bool, Heap>, is_new: Option<bool>) -> Result<(), MergeFault>
+    requires fits { Fits m.now }
+    requires read { m.now.left.ahead ≢ Lookahead.Unread }
+    requires unread { IsSome is_new → m.now.right.ahead ≡ Lookahead.Unread }
+    ensures told { OnOk result (told.new.items ≡ told_with told.old.items is_new) }
+    ensures stops { IfErr result (λ e. (a1 b1 a2 b2 w0 w1 : Option (List ℕ)) → Merging a1 b1 a2 b2 w0 w1 m.now
+        → HasStoppedMerge a1 b1 a2 b2 w0 w1 e) }
+    ensures cause { IfErr result (λ e. e.cause ≡ Right (memory_behind m.now.right.reader.offset)) }
+{
+    let Some(is_new) = is_new else {
+        return Ok(());
+    };
+    match told.push(is_new) {
+        Ok(()) => Ok(()),
+        Err(_) => {
+            let fault = RecordFault::out_of_memory(m.right.reader.offset());
+            Err(m.stopped_by(MergeCause::Right(fault)))
+        }
+    }
+}
+
+/// Reads on behind what had its turn, left first, and tells of the right side's record before that side is read on.
+fn tell_and_read_on<R: Source, S: Source>(
+    r1: &mut R,
+    r2: &mut S,
+    m: &mut Merge,
+    told: &mut Vec<bool, Heap>,
+    is_new: Option<bool>,
+) -> Result<(), MergeFault>
+    requires fits { Fits m.old }
+    requires unread { IsSome is_new → m.old.right.ahead ≡ Lookahead.Unread }
+    ensures telling { (a1 a2 w0 w1 : Option (List ℕ))
+        → Telling a1 (R.left r1.old) a2 (S.left r2.old) w0 w1 m.old (told_with told.old.items is_new)
+        → MatchResult result
+        (λ _. Telling a1 (R.left r1.new) a2 (S.left r2.new) w0 w1 m.new told.new.items)
+        (λ e. HasStoppedMerge a1 (R.left r1.new) a2 (S.left r2.new) w0 w1 e) }
+    ensures fits { OnOk result (Fits m.new) }
+    ensures read { OnOk result (IsRead m.new) }
+    ensures less { OnOk result (cost_of m.new ≤ cost_of m.old) }
+    ensures devices { BlamesDevices (stream R.left R.failures r1.old r1.new) (stream S.left S.failures r2.old r2.new)
+        0 0 result }
+{
+    read_left(r1, m)?;
+    tell(m, told, is_new)?;
+    read_right(r2, m)
+}
+
+/// Gives the record that is next its turn, tells of it where it is one of the right side, and reads on.
+fn turn<R: Source, S: Source, W: Sink>(
+    r1: &mut R,
+    r2: &mut S,
+    w: &mut W,
+    m: &mut Merge,
+    told: &mut Vec<bool, Heap>,
+) -> Result<(), MergeFault>
+    requires fits { Fits m.old }
+    requires read { IsRead m.old }
+    requires some { m.old.left.ahead ≡ Lookahead.Ended → m.old.right.ahead ≡ Lookahead.Held }
+    ensures telling { (a1 a2 w0 : Option (List ℕ))
+        → Telling a1 (R.left r1.old) a2 (S.left r2.old) w0 (W.held w.old) m.old told.old.items
+        → MatchResult result
+        (λ _. Telling a1 (R.left r1.new) a2 (S.left r2.new) w0 (W.held w.new) m.new told.new.items)
+        (λ e. HasStoppedMerge a1 (R.left r1.new) a2 (S.left r2.new) w0 (W.held w.new) e) }
+    ensures fits { OnOk result (Fits m.new) }
+    ensures read { OnOk result (IsRead m.new) }
+    ensures less { OnOk result (cost_of m.new < cost_of m.old) }
+    ensures devices { BlamesDevices (stream R.left R.failures r1.old r1.new) (stream S.left S.failures r2.old r2.new)
+        (W.failures w.old) (W.failures w.new) result }
+{
+    let is_new = is_next_new(m);
+    take_turn(w, m)?;
+    tell_and_read_on(r1, r2, m, told, is_new)
+}
+
+/// Writes all records behind the magic, but for those that are covered, and tells of those of the right side.
+fn tell_records<R: Source, S: Source, W: Sink>(
+    r1: &mut R,
+    r2: &mut S,
+    w: &mut W,
+    m: &mut Merge,
+    told: &mut Vec<bool, Heap>,
+) -> Result<(), MergeFault>
+    requires fits { Fits m.old }
+    ensures telling { (a1 a2 w0 : Option (List ℕ))
+        → Telling a1 (R.left r1.old) a2 (S.left r2.old) w0 (W.held w.old) m.old told.old.items
+        → MatchResult result
+        (λ _. Telling a1 (R.left r1.new) a2 (S.left r2.new) w0 (W.held w.new) m.new told.new.items)
+        (λ e. HasStoppedMerge a1 (R.left r1.new) a2 (S.left r2.new) w0 (W.held w.new) e) }
+    ensures fits { OnOk result (Fits m.new) }
+    ensures left_end { OnOk result (m.new.left.ahead ≡ Lookahead.Ended) }
+    ensures right_end { OnOk result (m.new.right.ahead ≡ Lookahead.Ended) }
+    ensures devices { BlamesDevices (stream R.left R.failures r1.old r1.new) (stream S.left S.failures r2.old r2.new)
+        (W.failures w.old) (W.failures w.new) result }
+{
+    tell_and_read_on(r1, r2, m, told, None)?;
+    'turns: while !m.is_done() {
+        turn(r1, r2, w, m, told)?;
+    }
+    Ok(())
+}
+
+/// Merges two inputs, and tells of the right one's records. What is said is of the bytes that were taken.
+fn tell_taken<R: Source, S: Source, W: Sink>(
+    heap: &Heap,
+    r1: &mut R,
+    r2: &mut S,
+    w: &mut W,
+    told: &mut Vec<bool, Heap>,
+) -> Result<Sizes, MergeFault>
+    requires { told.old.items ≡ [] }
+    ensures leaves { Leaves (R.left r1.old) (R.left r1.new) (S.left r2.old) (S.left r2.new)
+        (W.held w.old) (W.held w.new) result }
+    ensures told { IfOk result (λ sizes. ToldAll (R.left r1.old) (R.left r1.new) (S.left r2.old) (S.left r2.new)
+        (W.held w.old) (W.held w.new) sizes told.new.items) }
+    ensures devices { BlamesDevices (stream R.left R.failures r1.old r1.new) (stream S.left S.failures r2.old r2.new)
+        (W.failures w.old) (W.failures w.new) result }
+{
+    let mut m = begin_both(heap, r1, r2, w)?;
+    tell_records(r1, r2, w, &mut m, told)?;
+    finish(w, &m)
+}
+
+/// Merges two archives as [`merge_streams`](crate::merge_streams) does, and tells for each record of the right one, in
+/// their order, whether it was new when its turn came: the left one neither has it nor retired it. In a text of version 1
+/// the records that are covered there are told of, too.
+///
+/// # Errors
+///
+/// Those of `merge_streams`. Memory that is wanted for what is told of a record is wanted by the right side, before the
+/// next one is read; where there is none at all, by the left one, before anything is read.
+pub fn merge_telling<R: Source, S: Source, W: Sink>(
+    heap: &Heap,
+    left: &mut R,
+    right: &mut S,
+    w: &mut W,
+) -> Result<(Sizes, Vec<bool, Heap>), MergeFault>
+    ensures merges { Merges (stream R.left R.failures left.old left.new) (stream S.left S.failures right.old right.new)
+        (stream W.held W.failures w.old w.new)
+        (result_map_both (λ both. both.0) (λ e. e) result) }
+    ensures tells { IfOk result (λ both. IsMergedTelling (stream R.left R.failures left.old left.new)
+        (stream S.left S.failures right.old right.new) (stream W.held W.failures w.old w.new) both.0 both.1.items) }
+
+    // Where the texts are known, of their contents.
+    ensures told { IfOk result (λ both. IfSome (R.left left.old) (λ t. IfSome (S.left right.old) (λ u.
+        (o p : Operations) → IsContent o → IsArchiveOf o t → HasOperations p u
+        → both.1.items ≡ map (changes o) (listing p)))) }
+
+    // Whatever stops it, and whatever is known of the inputs.
+    ensures written { IfErr result (λ e. GainsCount (stream W.held W.failures w.old w.new) e.written) }
+{
+    let Ok(memory) = heap.clone() else {
+        return Err(before_the_magic(MergeCause::Left(RecordFault::out_of_memory(0))));
+    };
+    let mut told = Vec::new(memory);
+    let sizes = tell_taken(heap, left, right, w, &mut told)?;
+    Ok((sizes, told))
+}
