@@ -2,14 +2,15 @@
 
 ghost use Rattle.std.specs.Prelude.{◌≡◌, ◌⊎◌, IfErr, IfOk, None, Some, map, option_map};
 ghost use Rattle.std.specs.Prelude.{string_bytes};
-ghost use Rattle.clap.specs.Words.{all_of, first_of, found_of, rows_of};
+ghost use Rattle.clap.specs.Words.{first_of, found_of, rows_of};
 ghost use Rattle.command_line.specs.Arguments.{form_of};
-ghost use Rattle.command_line.specs.InnerTable.{argument_in, count_in};
-ghost use Rattle.command_line.specs.InnerValues.{amount_view, texts_view, values_view};
+ghost use Rattle.command_line.specs.TableView.{argument_in, count_in};
+ghost use Rattle.command_line.specs.ValuesView.{amount_view, texts_view, values_view};
 ghost use Rattle.command_line.specs.InnerWords.{words_view};
 ghost use Rattle.command_line.specs.LineFaults.{IsRefusalUnlessMemory, IsRefusedAs, IsToldAmong, IsToldOf, other_form};
 ghost use Rattle.command_line.specs.LineFaults.{without_value};
-ghost use Rattle.command_line.specs.Lines.{all_spelled, all_values, amount_spelled, values_at, values_spelled, words_by};
+ghost use Rattle.command_line.specs.Lines.{all_spelled, all_values, amount_spelled, any_of, if_some, values_at};
+ghost use Rattle.command_line.specs.Lines.{values_spelled, words_by};
 
 use crate::commands::{Argument, Count, Form, form_of, form_text};
 use crate::line_faults::{LineFault, refused};
@@ -33,12 +34,24 @@ fn value<'a>(matches: &ArgMatches<'a>, id: &str) -> Option<&'a str>
     matches.get_str(id)
 }
 
-/// The values of a name, in the order of the words, if any stands there.
-fn values<'m, 'a>(matches: &'m ArgMatches<'a>, id: &str) -> Option<&'m [&'a str]>
-    ensures { option_map (λ s. map (λ v. v.now) s.now) result
-        ≡ all_of id.now (rows_of (found_of matches.now)) }
+/// The values of a name, in the order of the words, of which there may be none.
+fn values<'m, 'a>(matches: &'m ArgMatches<'a>, id: &str) -> &'m [&'a str]
+    ensures { map (λ v. v.now) result.now ≡ any_of id.now (rows_of (found_of matches.now)) }
 {
-    matches.get_strs(id)
+    match matches.get_strs(id) {
+        Some(values) => values,
+        None => &[],
+    }
+}
+
+/// These words, if there are some.
+fn if_some<'m, 'a>(words: &'m [&'a str]) -> Option<Words<'m, 'a>>
+    ensures { option_map words_view result ≡ if_some (map (λ w. w.now) words.now) }
+{
+    match words {
+        [] => None,
+        _ => Some(Words::Several(words)),
+    }
 }
 
 /// The words of an argument, if as many stand at its name as it asks for.
@@ -48,8 +61,9 @@ fn words_at<'m, 'a>(argument: Argument, matches: &'m ArgMatches<'a>) -> Option<W
 {
     match argument.count {
         Count::Once => Some(Words::One(value(matches, argument.name)?)),
-        Count::Several => Some(Words::Several(values(matches, argument.name)?)),
+        Count::Several => if_some(values(matches, argument.name)),
         Count::Perhaps(_) => Some(Words::Perhaps(value(matches, argument.name))),
+        Count::Often(_) => Some(Words::Several(values(matches, argument.name))),
     }
 }
 
