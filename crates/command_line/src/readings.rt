@@ -2,14 +2,14 @@
 
 ghost use Rattle.std.specs.Prelude.{◌≡◌, ◌⊎◌, IfErr, IfOk, None, Some, map, option_map};
 ghost use Rattle.std.specs.Prelude.{string_bytes};
-ghost use Rattle.clap.specs.Words.{first_of, found_of, rows_of};
+ghost use Rattle.clap.specs.Words.{all_of, first_of, found_of, rows_of};
 ghost use Rattle.command_line.specs.Arguments.{form_of};
 ghost use Rattle.command_line.specs.TableView.{argument_in, count_in};
 ghost use Rattle.command_line.specs.ValuesView.{amount_view, texts_view, values_view};
 ghost use Rattle.command_line.specs.InnerWords.{words_view};
 ghost use Rattle.command_line.specs.LineFaults.{IsRefusalUnlessMemory, IsRefusedAs, IsToldAmong, IsToldOf, other_form};
 ghost use Rattle.command_line.specs.LineFaults.{without_value};
-ghost use Rattle.command_line.specs.Lines.{all_spelled, all_values, amount_spelled, any_of, if_some, values_at};
+ghost use Rattle.command_line.specs.Lines.{all_spelled, all_values, amount_spelled, if_some, values_at};
 ghost use Rattle.command_line.specs.Lines.{values_spelled, words_by};
 
 use crate::commands::{Argument, Count, Form, form_of, form_text};
@@ -25,6 +25,7 @@ enum Words<'m, 'a> {
     One(&'a str),
     Several(&'m [&'a str]),
     Perhaps(Option<&'a str>),
+    Often(Option<&'m [&'a str]>),
 }
 
 /// The value of a name, if it stands there.
@@ -34,14 +35,12 @@ fn value<'a>(matches: &ArgMatches<'a>, id: &str) -> Option<&'a str>
     matches.get_str(id)
 }
 
-/// The values of a name, in the order of the words, of which there may be none.
-fn values<'m, 'a>(matches: &'m ArgMatches<'a>, id: &str) -> &'m [&'a str]
-    ensures { map (λ v. v.now) result.now ≡ any_of id.now (rows_of (found_of matches.now)) }
+/// The values of a name, in the order of the words, if any stands there.
+fn values<'m, 'a>(matches: &'m ArgMatches<'a>, id: &str) -> Option<&'m [&'a str]>
+    ensures { option_map (λ s. map (λ v. v.now) s.now) result
+        ≡ all_of id.now (rows_of (found_of matches.now)) }
 {
-    match matches.get_strs(id) {
-        Some(values) => values,
-        None => &[],
-    }
+    matches.get_strs(id)
 }
 
 /// These words, if there are some.
@@ -61,9 +60,9 @@ fn words_at<'m, 'a>(argument: Argument, matches: &'m ArgMatches<'a>) -> Option<W
 {
     match argument.count {
         Count::Once => Some(Words::One(value(matches, argument.name)?)),
-        Count::Several => if_some(values(matches, argument.name)),
+        Count::Several => if_some(values(matches, argument.name)?),
         Count::Perhaps(_) => Some(Words::Perhaps(value(matches, argument.name))),
-        Count::Often(_) => Some(Words::Several(values(matches, argument.name))),
+        Count::Often(_) => Some(Words::Often(values(matches, argument.name))),
     }
 }
 
@@ -138,6 +137,8 @@ fn copied(alloc: Global, words: Words) -> Result<Amount<String>, AllocError>
         Words::Several(words) => Amount::Several(copies(alloc, words)?),
         Words::Perhaps(None) => Amount::Perhaps(None),
         Words::Perhaps(Some(word)) => Amount::Perhaps(Some(String::from_str(alloc, word)?)),
+        Words::Often(None) => Amount::Several(Vec::new(alloc)),
+        Words::Often(Some(words)) => Amount::Several(copies(alloc, words)?),
     })
 }
 
@@ -158,6 +159,8 @@ fn amount<T: Word + Drop>(
         Words::Several(words) => Amount::Several(each_spelled(alloc, argument, words)?),
         Words::Perhaps(None) => Amount::Perhaps(None),
         Words::Perhaps(Some(word)) => Amount::Perhaps(Some(spelled(alloc, argument, word)?)),
+        Words::Often(None) => Amount::Several(Vec::new(alloc)),
+        Words::Often(Some(words)) => Amount::Several(each_spelled(alloc, argument, words)?),
     })
 }
 
