@@ -232,7 +232,12 @@ fn find<'l>(values: &'l [Values]) -> Plan<'l>
     requires { are_values_of find_command.arguments (map values_view values.now) ≡ true }
     ensures { plan_view result ≡ line_with find_command (map values_view values.now) }
 {
-    let [Texts(One(archive)), Uuids(One(uuid)), Texts(Several(others))] = values else {
+    let [
+        Texts(One(archive)),
+        Uuids(One(uuid)),
+        Texts(Several(others)),
+    ] = values
+    else {
         unreachable!();
     };
     Plan::Find {
@@ -256,7 +261,12 @@ fn name<'l>(values: &'l [Values]) -> Plan<'l>
     requires { are_values_of name_command.arguments (map values_view values.now) ≡ true }
     ensures { plan_view result ≡ line_with name_command (map values_view values.now) }
 {
-    let [Texts(One(archive)), Texts(One(name)), Texts(Several(others))] = values else {
+    let [
+        Texts(One(archive)),
+        Texts(One(name)),
+        Texts(Several(others)),
+    ] = values
+    else {
         unreachable!();
     };
     Plan::Name {
