@@ -374,8 +374,8 @@ fn answer<A: Archive + Drop, L: Archive + Drop, S: Source, P: Sink>(
     others: &mut [Input<S>],
     report: &mut P,
 ) -> Result<Status, CommandFault>
-    requires { only_reports plan.now ≡ true }
-    requires { 1 + length others.old ≡ length (inputs_of (plan_view plan.now)) }
+    requires kind { only_reports plan.now ≡ true }
+    requires count { 1 + length others.old ≡ length (inputs_of (plan_view plan.now)) }
     ensures { Reports (answer_of plan.now
         (reader S.left S.failures first.old first.new ∷ readers S.left S.failures others.old others.new))
         (writer P.held P.failures report.old report.new) result }
