@@ -284,10 +284,16 @@ fn symbolicate<'l>(values: &'l [Values]) -> Plan<'l>
         Texts(One(archive)),
         Uuids(One(uuid)),
         Archs(One(arch)),
+        rest @ ..,
+    ] = values
+    else {
+        unreachable!();
+    };
+    let [
         Numbers(Perhaps(load)),
         Texts(Several(others)),
         Numbers(Several(addresses)),
-    ] = values
+    ] = rest
     else {
         unreachable!();
     };
@@ -394,9 +400,11 @@ fn answer<A: Archive + Drop, L: Archive + Drop, S: Source, P: Sink>(
             let key = key(uuid, arch);
             run_symbolicate::<L, _, _>(heap, first, others, &key, *load, addresses, report)
         }
-        Plan::Frames { .. } => match others {
-            [archive, others @ ..] => run_frames::<L, _, _>(heap, first, archive, others, report),
-            [] => unreachable!(),
+        Plan::Frames { .. } => match others.split_first_mut() {
+            Some((archive, others)) => {
+                run_frames::<L, _, _>(heap, first, archive, others, report)
+            }
+            None => unreachable!(),
         },
         Plan::Rehearse { .. } => run_rehearse::<A, _, _>(heap, first, report),
         _ => unreachable!(),
