@@ -4,4 +4,3 @@ pub mod Pathless
 pub mod Outcomes
 pub mod Saying
 pub mod Reasons
-pub mod Answered
