@@ -4,10 +4,23 @@ import pathlib
 import subprocess
 
 from .cases import same, symarch
+from .made_images import join_of
 
 keep = os.environ.get("KEEP") or str(pathlib.Path(__file__).resolve().parent.parent / "symarch-keep")
 # What stays beside an archive.
-BESIDE = ("lock", "log", "sum", "asked")
+BESIDE = ("lock", "log", "sum", "today", "today.sum", "asked")
+
+
+def today_of(archive):
+    """The file into which goes what comes in."""
+    return pathlib.Path(f"{os.fspath(archive)}.today")
+
+
+def bytes_of(archive):
+    """What an archive has, with what came in since its last fold."""
+    files = [path for path in (pathlib.Path(archive), today_of(archive)) if path.exists()]
+    texts = [path.read_bytes() for path in files]
+    return texts[0] if len(texts) == 1 else join_of(*texts)
 
 
 class Room:
@@ -54,7 +67,12 @@ class Room:
         return self.call("add", *words, self.archive, *paths, **more)
 
     def has(self, wanted):
-        same("archive", self.archive.read_bytes(), wanted)
+        same("archive", bytes_of(self.archive), wanted)
+
+    def folded(self, wanted):
+        """After a fold the archive alone has all."""
+        self.call("fold", self.archive)
+        same("archive after a fold", self.archive.read_bytes(), wanted)
 
     def left(self):
         """What has a name that begins with that of the archive, but for what stays beside it."""
