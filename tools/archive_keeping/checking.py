@@ -145,7 +145,7 @@ def carry_out(words):
     lines = look_through(archive, same, screen) + lines
     screen.show(lines)
     told = "all is there that was known" if others else "all is as it was"
-    if None in others.values():
+    if any(known is None for known in others.values()):
         told = "nothing was known of it, and is now"
     counts = f"{len(content.held)} slices, {len(content.retired)} retirements"
     screen.line(f"{shown(archive.path)}: {counts}: {f'{len(lines)} changed or lost' if lines else told}")

@@ -108,10 +108,10 @@ def two_words(line):
 
 
 class Archive:
-    """The archive, as the program reads it."""
+    """The archives, as the program reads them: as their join."""
 
-    def __init__(self, path):
-        self.path, self.names = path, Names()
+    def __init__(self, paths):
+        self.paths, self.names = paths, Names()
         self.program, self.named = program()
 
     def look_up(self, images):
@@ -130,7 +130,7 @@ class Archive:
             image.take({arch: one for arch, one in found.items() if one.is_there})
 
     def ask(self, answers):
-        words = [self.program, "frames", "/dev/stdin", self.path]
+        words = [self.program, "frames", "/dev/stdin", *self.paths]
         with tempfile.TemporaryFile() as errors:
             try:
                 run = subprocess.Popen(words, stdin=subprocess.PIPE, stdout=subprocess.PIPE, stderr=errors)

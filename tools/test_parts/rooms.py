@@ -1,10 +1,11 @@
 """A folder in which a case calls symarch-keep."""
 import os
 import pathlib
+import shutil
 import subprocess
 
 from .cases import same, symarch
-from .made_images import join_of
+from .made_images import image, join_of
 
 keep = os.environ.get("KEEP") or str(pathlib.Path(__file__).resolve().parent.parent / "symarch-keep")
 # What stays beside an archive.
@@ -37,6 +38,13 @@ class Room:
             file.write(content)
         return path
 
+    def make_many(self, count, folder="many", more=b"", first=0):
+        """Images in a folder."""
+        made = [image(first + number, more=more) for number in range(count)]
+        for number, one in enumerate(made):
+            self.file(f"{folder}/{number:04}", one)
+        return made
+
     def program(self, script, name="program"):
         """A program in the place of symarch, which is "$symarch" in it."""
         path = self.path / name
@@ -68,6 +76,16 @@ class Room:
 
     def has(self, wanted):
         same("archive", bytes_of(self.archive), wanted)
+
+    def begin_anew(self, text=None):
+        """Removes the archive with all beside it, and puts these bytes in its place, if any."""
+        for path in self.path.glob("site.sym*"):
+            if path.is_dir():
+                shutil.rmtree(path)
+            else:
+                path.unlink()
+        if text is not None:
+            self.archive.write_bytes(text)
 
     def folded(self, wanted):
         """After a fold the archive alone has all."""
