@@ -83,8 +83,8 @@ class Archive:
 
     @contextlib.contextmanager
     def room(self):
-        """A folder beside the archive. Only who has the lock makes one. A signal may end this as it is made, so the first
-        one removes all of them."""
+        """A folder beside the archive. Only who has the lock makes one. A signal may end this as it is made, so the
+        outermost one removes all of them."""
         self.rooms_made += 1
         try:
             yield tempfile.mkdtemp(prefix=self.name + ROOM, dir=self.folder)
@@ -138,9 +138,9 @@ class Archive:
     # ---- what comes in
 
     def put(self, room, program, news, lines, screen, slices=(), more=None):
-        """Joins news, which slices or an archive of the room have, to ARCHIVE.today. If that has grown, or there is no
-        ARCHIVE, they are joined to ARCHIVE, and so is all of ARCHIVE.today."""
-        if PARTS * self.today.size() < self.main.size():
+        """Joins news, which slices or an archive of the room have, to ARCHIVE.today; or to ARCHIVE, with all of
+        ARCHIVE.today."""
+        if not self.is_to_be_folded():
             self.join(room, program, self.today, news, lines, screen, slices, more)
             return
         if len(self.today.content):
@@ -148,6 +148,10 @@ class Archive:
             news, slices, more = self.today.content.joined(news), (), os.path.join(room, b"grown")
         self.join(room, program, self.main, news, lines, screen, slices, more)
         self.empty_today(room, screen)
+
+    def is_to_be_folded(self):
+        """Whether ARCHIVE.today has grown; or there is no ARCHIVE, or one of version 1, whose heads say little."""
+        return PARTS * self.today.size() >= self.main.size() or self.main.is_of_version_1()
 
     def fold(self, room, program, screen):
         """Joins ARCHIVE.today into ARCHIVE, and empties it."""
@@ -184,8 +188,12 @@ class Archive:
     def empty_today(self, room, screen):
         if self.today.exists() and not len(self.today.content):
             return
-        write_synced(os.path.join(room, b"new"), [EMPTY])
-        self.replace(room, self.today, Content(), [], screen)
+        try:
+            write_synced(os.path.join(room, b"new"), [EMPTY])
+            self.replace(room, self.today, Content(), [], screen)
+        except OSError as error:
+            told = f"{error.strerror}; the archive has all, and the next call goes on"
+            screen.fail(f"{shown(self.today.path)}: {told}")
 
     # ---- what takes the place of a file
 

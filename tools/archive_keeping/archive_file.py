@@ -28,12 +28,19 @@ class ArchiveFile:
     def size(self):
         return size_of(self.path)
 
-    def begins_as_archive(self):
+    def magic(self):
+        """Its first bytes; None where it is not there."""
         try:
             with open(self.path, "rb") as file:
-                return file.read(MAGIC) in MAGICS
+                return file.read(MAGIC)
         except FileNotFoundError:
-            return True
+            return None
+
+    def begins_as_archive(self):
+        return self.magic() in (None, *MAGICS)
+
+    def is_of_version_1(self):
+        return self.magic() == MAGICS[1]
 
     def heads(self):
         try:

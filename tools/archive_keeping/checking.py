@@ -19,7 +19,7 @@ Status:
   126  there is no program"""
 import os
 
-from .archive import Archive, held_against, lost_lines
+from .archive import Archive, lost_lines
 from .contents import ADMISSION, END, KEY, LENGTH, MAGIC, MAGICS, RETIREMENT, Content
 from .contents import digest_in, record_size, words_of
 from .program import Program
