@@ -3,9 +3,9 @@ or a bucket that `rclone` or `aws s3 sync` mirrors. NAME is the name of this sit
 letters, digits, `-` and `_`.
 
 One call joins what others answered, asks anew if something changed, answers what others ask, and removes what is done
-with. What comes in goes into ARCHIVE.today, as by `add`, and what is asked and answered is of both. Call it at each site, at any time and as often as you like, as by cron: when each site was called three times
-after the last change, and FOLDER copied between, all have the same, and after `symarch-keep fold` the same bytes. Two
-at once wait for each other.
+with. What comes in goes into ARCHIVE.today, as by `add`, and what is asked and answered is of both. Call it at each
+site, at any time and as often as you like, as by cron: when each site was called three times after the last change, and
+FOLDER copied between, all have the same, and after `symarch-keep fold` the same bytes. Two at once wait for each other.
 
 FOLDER has the questions and the answers of all sites. Their names say from whom to whom, and carry the SHA-256 of their
 bytes, so a file that is not copied to its end is told, and passed over. No file is ever rewritten.
