@@ -64,21 +64,21 @@ class Asked:
             if note.startswith("site "):
                 _, site, *words = note.split(" ")
                 self.sites[site] = dict(zip(words[::2], words[1::2]))
-        self.written = self.text()
+        self.written = content, self.notes()
 
-    def text(self):
+    def notes(self):
         notes = [f"asked {at} {digest}" for at, digest in self.questions[-MOST_ASKED:]]
         for site, dates in sorted(self.sites.items()):
             notes.append(" ".join(["site", site, *(word for one in sorted(dates.items()) for word in one)]))
-        return kept_text(self.content, notes)
+        return notes
 
     def note(self, site, word, date):
         self.sites.setdefault(site, {})[word] = time.strftime(DATE, date)
 
     def save(self, room):
-        if self.text() != self.written:
-            self.written = self.text()
-            self.archive.lay(room, self.archive.beside(ASKED), self.written)
+        if (self.content, self.notes()) != self.written:
+            self.written = self.content, self.notes()
+            self.archive.lay(room, self.archive.beside(ASKED), kept_text(*self.written))
 
 
 class Exchange:
