@@ -121,14 +121,17 @@ def text_line(b):
 ONE = {"new": "out", "find": "archive uuid", "list": "archive", "name": "archive name", "summary": "archive out",
        "delta": "archive summary out", "rehearse": "script", "retire": "in out uuid arch digest",
        "apply": "in out ops", "admit": "in out file*", "merge": "in out file*", "migrate": "in out",
-       "symbolicate": "archive uuid arch address*", "frames": "frames archive"}
+       "symbolicate": "archive uuid arch address*", "frames": "frames archives*"}
+
+# the commands that ask several archives by `--with`
+ASKING = ("find", "symbolicate", "name")
 
 
 def plan(words):
     if not words or words[0] not in ONE or (words[0] in ("migrate", "frames") and F.V == 1):
         raise Copy
     cmd, rest = words[0], words[1:]
-    pos, load, i, raw = [], None, 0, False
+    pos, load, more, i, raw = [], None, [], 0, False
     while i < len(rest):
         w = rest[i]
         if raw or not w.startswith("-") or w == "-":
@@ -140,11 +143,16 @@ def plan(words):
             load = rest[i]
         elif cmd == "symbolicate" and w.startswith("--load=") and load is None:
             load = w[7:]
+        elif cmd in ASKING and w == "--with" and i + 1 < len(rest):
+            i += 1
+            more.append(rest[i])
+        elif cmd in ASKING and w.startswith("--with="):
+            more.append(w[7:])
         else:
             raise Copy
         i += 1
     names = ONE[cmd].split()
-    p = {"cmd": cmd, "load": None}
+    p = {"cmd": cmd, "load": None, "with": more}
     for k, n in enumerate(names):
         if n.endswith("*"):
             p[n[:-1]] = pos[k:]
@@ -240,6 +248,13 @@ class Run:
             return read_archive(src)
         except Fault as f:
             raise CmdFault(place, f.text)
+
+    def join(self, first, others):
+        """the join of archives, in the order of the words"""
+        c = self.archive(first, "archive 0")
+        for i, path in enumerate(others, 1):
+            c.join(self.archive(path, "archive %d" % i))
+        return c
 
     def other(self, path, place, read):
         src = self.open(path)
@@ -371,7 +386,7 @@ class Run:
         return self.finish(c, ["applied: %d new, %d known" % (new, len(ops) - new)])
 
     def cmd_find(self, p):
-        lines = find_lines(find_rows(self.archive(p["archive"], "archive 0"), p["uuid"]), False)
+        lines = find_lines(find_rows(self.join(p["archive"], p["with"]), p["uuid"]), False)
         self.tell(lines)
         return 0 if lines else 1
 
@@ -381,12 +396,12 @@ class Run:
         return 0 if lines else 1
 
     def cmd_name(self, p):
-        lines = name_lines(self.archive(p["archive"], "archive 0"), p["name"].encode())
+        lines = name_lines(self.join(p["archive"], p["with"]), p["name"].encode())
         self.tell(lines)
         return 0 if lines else 1
 
     def cmd_symbolicate(self, p):
-        c = self.archive(p["archive"], "archive 0")
+        c = self.join(p["archive"], p["with"])
         key = p["uuid"] + p["arch"]
         ms = answering(c, key)
         lines, status = [], 0
@@ -402,7 +417,7 @@ class Run:
         frames = read_frames(self.whole(p["frames"], "frames"))
         if isinstance(frames, str):
             raise CmdFault("frames", frames)
-        c = self.archive(p["archive"], "archive 0")
+        c = self.join(p["archives"][0], p["archives"][1:])
         answers_of, lines, status = {}, [], 0
         for key, load, a in frames:
             if key not in answers_of:
@@ -892,7 +907,7 @@ class Folder:
 def inputs_of(p):
     """the paths of the inputs of a plan"""
     keys = ("in", "archive", "summary", "ops", "script", "frames")
-    return [p[k] for k in keys if k in p] + p.get("file", [])
+    return [p[k] for k in keys if k in p] + p.get("archives", []) + p["with"] + p.get("file", [])
 
 
 def obstacle(cmd, there, new):

@@ -82,6 +82,12 @@ def faulty_line(text, there):
     return ", whose line %s %s" % (number, flaw_of_line(fault, lines[int(number) - 1]))
 
 
+def archives_of(plan):
+    """the words of a plan that name archives, in their order"""
+    firsts = [plan[it] for it in ("in", "archive") if it in plan]
+    return firsts + plan.get("archives", []) + plan["with"] + plan.get("file", [])
+
+
 def word_at(plan, place):
     """the word of a plan that names the file of this place"""
     kind, _, number = place.partition(" ")
@@ -90,8 +96,7 @@ def word_at(plan, place):
     if kind == "file":
         return plan["file"][int(number)]
     if kind == "archive":
-        first = plan["in"] if "in" in plan else plan["archive"]
-        return ([first] + plan.get("file", []))[int(number)]
+        return archives_of(plan)[int(number)]
     return plan[kind]
 
 

@@ -18,7 +18,9 @@ LISTS = ("Commands", "Arguments", "Options", "positional arguments", "options", 
 # One of the words that the help of an argument lists.
 LISTED = re.compile(r"[a-z][a-z0-9_]+")
 # The arguments that are paths.
-PATHS = {"IN", "OUT", "FROM", "FILE", "OPS", "ARCHIVE", "SUMMARY", "FRAMES", "SCRIPT", "REPORT", "PATH", "FOLDER"}
+PATHS = {
+    *("IN", "OUT", "FROM", "FILE", "OPS", "ARCHIVE", "OTHER", "SUMMARY", "FRAMES", "SCRIPT", "REPORT", "PATH", "FOLDER"),
+}
 # Help is laid out for a screen that no line is too long for.
 WIDE = {**os.environ, "COLUMNS": "1000", "LC_ALL": "C.UTF-8"}
 

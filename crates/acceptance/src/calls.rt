@@ -41,11 +41,14 @@ impl<'t> Task<'t> {
         Task::Call(Call { verb, name, words })
     }
 
-    /// Whether OUT is written while the inputs are read, as by `merge` of one FILE.
+    /// Whether OUT is written while an input is read.
     pub fn writes_as_it_reads(self) -> bool {
         match self {
             Task::Run(line) => match Plan::of(line) {
-                Plan::Merge { files, .. } => files.len() == 1,
+                Plan::Retire { .. }
+                | Plan::Merge { .. }
+                | Plan::Migrate { .. }
+                | Plan::Delta { .. } => true,
                 _ => false,
             },
             Task::Call(_) => false,

@@ -336,7 +336,7 @@ impl<'t> Bench<'t> {
     // Carries out a command line.
     fn run(&mut self, words: &str, told: &mut String) -> Result<(), CaseFault> {
         match self.read(words) {
-            Ok(line) => self.carry(Task::Run(&line), line.out(), told),
+            Ok(line) => self.carry(Task::Run(&line), line.out_path(), told),
             Err(fault) => Ok(tell_line_fault(&fault, told)?),
         }
     }

@@ -1,7 +1,7 @@
 -- A line that `clap` accepts names a command, with a value at each name that has to have one.
 use Rattle.std.proofs.Common.{◌≡◌, ◌∙◌, ◌&&◌, ◌||◌, Bool, true, false, not, cond, refl, sym, ap, ap₂, subst}
 use Rattle.std.proofs.Common.{List, [], ◌∷◌, Option, Some, None, IsSome, is_some, option_map, true≢false, codes}
-use Rattle.std.specs.Prelude.{find, option_and_then, slice_get}
+use Rattle.std.specs.Prelude.{find, option_and_then, slice_get, unwrap_or}
 use Rattle.std.specs.List.{list_all, list_any}
 use Rattle.std.specs.Option.{option_map_or}
 use Rattle.std.specs.Str.{bytes_eq}
@@ -13,7 +13,8 @@ use Rattle.clap.specs.Simple.{argument_words, entered, is_simple, label_of, name
 use Rattle.clap.specs.Takes.{built_takes, entered_passes, is_given, is_valid, level_passes}
 use Rattle.clap.proofs.SimpleLemmas.{is_nil}
 use Rattle.clap.proofs.WalkLemmas.{both}
-use Rattle.command_line.specs.Arguments.{Argument, Count, Once, Perhaps, Several, Values, form_of, perhaps}
+use Rattle.command_line.specs.Arguments.{Argument, Count, Often, Once, Perhaps, Several, Values, form_of, perhaps}
+use Rattle.command_line.specs.Arguments.{several}
 use Rattle.command_line.specs.Commands.{symarch_command}
 use Rattle.command_line.specs.Lines.{all_values, are_accepted, asked_of, has_form, have_forms, line_at, line_in}
 use Rattle.command_line.specs.Lines.{line_with, named_command, values_at, values_spelled, words_by}
@@ -97,6 +98,7 @@ required_given id (a ∷ rules) rows asks given =
 -- it may be left out
 abbrev is_free : Count → Bool
 is_free (Perhaps option) = true
+is_free (Often option) = true
 is_free _ = false
 
 -- the command requires each argument that has to be there
@@ -123,11 +125,33 @@ values_some a rules rows stood asks has = go a.count asks has
     left_out forms.Digest = refl
     left_out forms.Number = refl
 
+    none_there : (form : Form) → is_some (values_spelled form (several [])) ≡ true
+    none_there forms.Plain = refl
+    none_there forms.Uuid = refl
+    none_there forms.Arch = refl
+    none_there forms.Digest = refl
+    none_there forms.Number = refl
+
     if_there : (form : Form) (o : Option Text)
         → (is_some (values_spelled form (perhaps o)) || not (is_some o)) ≡ true
         → is_some (values_spelled form (perhaps o)) ≡ true
     if_there form None has = left_out form
     if_there form (Some word) has = first_of_two (is_some (values_spelled form (perhaps (Some word)))) false has refl
+
+    -- a row without a value gives no word, as no row does
+    filled_row : (form : Form) (words : List Text)
+        → (is_some (values_spelled form (several words)) || not (is_some (slice_get words 0))) ≡ true
+        → is_some (values_spelled form (several words)) ≡ true
+    filled_row form [] has = none_there form
+    filled_row form (word ∷ words) has =
+        first_of_two (is_some (values_spelled form (several (word ∷ words)))) false has refl
+
+    each_there : (form : Form) (o : Option Row)
+        → (is_some (values_spelled form (several (unwrap_or (option_map (λ (r : Row). r.values) o) [])))
+        || not (is_some (option_and_then (λ (r : Row). slice_get r.values 0) o))) ≡ true
+        → is_some (values_spelled form (several (unwrap_or (option_map (λ (r : Row). r.values) o) []))) ≡ true
+    each_there form None has = none_there form
+    each_there form (Some r) has = filled_row form r.values has
 
     go : (count : Count) → (is_free count || requires a.name rules) ≡ true
         → (is_some (option_and_then (values_spelled (form_of a.role)) (words_by count a.name rows))
@@ -136,6 +160,7 @@ values_some a rules rows stood asks has = go a.count asks has
     go Once asks has = first_of_two _ _ has (stands asks)
     go Several asks has = first_of_two _ _ has (stands asks)
     go (Perhaps option) asks has = if_there (form_of a.role) (first_of a.name rows) has
+    go (Often option) asks has = each_there (form_of a.role) (find (λ x. bytes_eq x.id a.name) rows) has
 
 abbrev each_has_form : List Argument → List Row → Bool
 each_has_form arguments rows = list_all (λ a. has_form a rows) arguments

@@ -1,15 +1,16 @@
 -- A line that is read is one of the table.
-use Rattle.std.proofs.Common.{◌≡◌, ◌∙◌, ◌&&◌, true, false, refl, ap, ap₂, subst, sym}
+use Rattle.std.proofs.Common.{◌≡◌, ◌∙◌, ◌&&◌, true, false, refl, ap, ap₂, subst, sym, true≢false}
 use Rattle.std.proofs.Common.{List, [], ◌∷◌, Option, Some, None, option_map}
 use Rattle.std.specs.Prelude.{option_and_then}
 use Rattle.std.specs.Option.{option_map_or}
-use Rattle.clap.specs.Words.{Row, Text, all_of, first_of}
+use Rattle.clap.specs.Words.{Row, Text, first_of}
 use Rattle.uuid.specs.Text.{parsed}
 use Rattle.archive_words.specs.Words.{address_of, arch_of, digest_of}
-use Rattle.command_line.specs.Arguments.{Amount, Argument, Count, Once, Perhaps, Several, Values, are_values_of, archs}
-use Rattle.command_line.specs.Arguments.{digests, form_of, is_counted, is_formed, numbers, one, perhaps, several}
-use Rattle.command_line.specs.Arguments.{uuids}
-use Rattle.command_line.specs.Lines.{all_spelled, all_values, amount_spelled, values_at, values_spelled, words_by}
+use Rattle.command_line.specs.Arguments.{Amount, Argument, Count, Often, Once, Perhaps, Several, Values, are_values_of}
+use Rattle.command_line.specs.Arguments.{archs, digests, form_of, is_counted, is_formed, numbers, one, perhaps}
+use Rattle.command_line.specs.Arguments.{several, uuids}
+use Rattle.command_line.specs.Lines.{all_spelled, all_values, amount_spelled, any_of, if_some, values_at}
+use Rattle.command_line.specs.Lines.{values_spelled, words_by}
 use Rattle.command_line.specs.Table.{Signature, is_listed, signature_named}
 use Rattle.command_line.specs.declared.commands.Form.{Form}
 use Rattle.command_line.specs.declared.commands.Form.TheVariants as forms
@@ -37,18 +38,31 @@ one_counted : {X Y : Type 0} (count : Count) (x : X) (y : Y) → is_counted coun
 one_counted Once x y is = refl
 one_counted Several x y is = is
 one_counted (Perhaps option) x y is = is
+one_counted (Often option) x y is = is
 
-several_counted : {X Y : Type 0} (count : Count) (xs : List X) (ys : List Y) → is_counted count (several xs) ≡ true
-    → is_counted count (several ys) ≡ true
-several_counted Once xs ys is = is
-several_counted Several xs ys is = refl
-several_counted (Perhaps option) xs ys is = is
+-- some words spell some values
+some_spelled : {X : Type 0} (form : Text → Option X) (words : List Text) (xs : List X)
+    → all_spelled form words ≡ Some xs → is_counted Several (several words) ≡ true
+    → is_counted Several (several xs) ≡ true
+some_spelled form [] xs is some = absurd (true≢false (sym some))
+some_spelled form (word ∷ words) xs is some =
+    let by = chained (λ x. option_map (λ ys. x ∷ ys) (all_spelled form words)) (form word) xs is in
+    mapped (λ ys. by.0 ∷ ys) (all_spelled form words) xs (λ l. is_counted Several (several l) ≡ true) by.2 (λ _ _. refl)
+
+several_counted : {X : Type 0} (form : Text → Option X) (count : Count) (words : List Text) (xs : List X)
+    → all_spelled form words ≡ Some xs → is_counted count (several words) ≡ true
+    → is_counted count (several xs) ≡ true
+several_counted form Once words xs is counted = counted
+several_counted form Several words xs is counted = some_spelled form words xs is counted
+several_counted form (Perhaps option) words xs is counted = counted
+several_counted form (Often option) words xs is counted = refl
 
 perhaps_counted : {X Y : Type 0} (count : Count) (x : Option X) (y : Option Y)
     → is_counted count (perhaps x) ≡ true → is_counted count (perhaps y) ≡ true
 perhaps_counted Once x y is = is
 perhaps_counted Several x y is = is
 perhaps_counted (Perhaps option) x y is = refl
+perhaps_counted (Often option) x y is = is
 
 -- what words spell stands as often as they do
 spelled_counted : {X : Type 0} (form : Text → Option X) (count : Count) (words : Amount Text) (xs : Amount X)
@@ -58,21 +72,26 @@ spelled_counted form count (one word) xs is counted =
     (λ x _. one_counted count word x counted)
 spelled_counted form count (several words) xs is counted =
     mapped (λ ys. several ys) (all_spelled form words) xs (λ a. is_counted count a ≡ true) is
-    (λ ys _. several_counted count words ys counted)
+    (λ ys same. several_counted form count words ys same counted)
 spelled_counted form count (perhaps None) xs is counted =
     subst (λ a. is_counted count a ≡ true) (inside is) (perhaps_counted count None None counted)
 spelled_counted form count (perhaps (Some word)) xs is counted =
     mapped (λ x. perhaps (Some x)) (form word) xs (λ a. is_counted count a ≡ true) is
     (λ x _. perhaps_counted count (Some word) (Some x) counted)
 
+some_counted : (words : List Text) (all : Amount Text) → if_some words ≡ Some all → is_counted Several all ≡ true
+some_counted [] all is = absurd (not_none is)
+some_counted (word ∷ words) all is = subst (λ a. is_counted Several a ≡ true) (inside is) refl
+
 words_counted : (count : Count) (id : Text) (rows : List Row) (words : Amount Text)
     → words_by count id rows ≡ Some words → is_counted count words ≡ true
 words_counted Once id rows words is =
     mapped (λ word. one word) (first_of id rows) words (λ a. is_counted Once a ≡ true) is (λ _ _. refl)
-words_counted Several id rows words is =
-    mapped (λ ws. several ws) (all_of id rows) words (λ a. is_counted Several a ≡ true) is (λ _ _. refl)
+words_counted Several id rows words is = some_counted (any_of id rows) words is
 words_counted (Perhaps option) id rows words is =
     subst (λ a. is_counted (Perhaps option) a ≡ true) (inside is) refl
+words_counted (Often option) id rows words is =
+    subst (λ a. is_counted (Often option) a ≡ true) (inside is) refl
 
 -- ---- forms
 

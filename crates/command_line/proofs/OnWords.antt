@@ -1,5 +1,5 @@
 -- Lines that are written out.
-use Rattle.std.proofs.Common.{◌≡◌, refl, true, false, codes, Some, None, List, [], ◌∷◌}
+use Rattle.std.proofs.Common.{◌≡◌, refl, true, false, codes, Some, None, List, [], ◌∷◌, option_map}
 use Rattle.clap.specs.Words.{Text}
 use Rattle.hex.proofs.OnLiterals.{hex_on_literals}
 use Rattle.uuid.proofs.OnLiterals.{uuid_on_literals}
@@ -7,7 +7,8 @@ use Rattle.clap.specs.declared.error.kind.ErrorKind.TheVariants as kind
 use Rattle.clap.proofs.OnLiterals.{clap_on_literals}
 use Rattle.command_line.specs.Commands.{symarch_command}
 use Rattle.command_line.specs.Arguments.{archs, digests, numbers, one, perhaps, several, text, texts, uuids}
-use Rattle.command_line.specs.Lines.{are_accepted, error_kinds, is_in_order, line_of, line_with, named_command}
+use Rattle.command_line.specs.Lines.{are_accepted, error_kinds, inputs_of, is_in_order, line_of, line_with}
+use Rattle.command_line.specs.Lines.{named_command}
 use Rattle.command_line.specs.Table.{admit_command, find_command, frames_command, merge_command, migrate_command}
 use Rattle.command_line.specs.Table.{new_command, retire_command, symbolicate_command}
 use Rattle.archive_words.specs.Words.{address_of, arch_key, arch_of, digest_of}
@@ -128,9 +129,33 @@ unfolding named_command symarch_command clap_on_literals
 migrate_out_is_in = refl
 
 find_read : line_of (symarch (codes "find" ∷ codes "a" ∷ uuid_text ∷ []))
-    ≡ Some (line_with find_command (text (codes "a") ∷ uuids (one uuid_bytes) ∷ []))
+    ≡ Some (line_with find_command (text (codes "a") ∷ uuids (one uuid_bytes) ∷ texts (several []) ∷ []))
 unfolding named_command symarch_command clap_on_literals uuid_on_literals
 find_read = refl
+
+-- `--with` twice, before the other words and between them, the same one too; the order is that of the words
+find_with : line_of (symarch (codes "find" ∷ codes "--with" ∷ codes "c" ∷ codes "a" ∷ codes "--with=b" ∷ uuid_text
+    ∷ codes "--with" ∷ codes "c" ∷ []))
+    ≡ Some (line_with find_command (text (codes "a") ∷ uuids (one uuid_bytes)
+    ∷ texts (several (codes "c" ∷ codes "b" ∷ codes "c" ∷ [])) ∷ []))
+unfolding named_command symarch_command clap_on_literals uuid_on_literals
+find_with = refl
+
+find_with_inputs : option_map inputs_of (line_of (symarch (codes "find" ∷ codes "--with" ∷ codes "c" ∷ codes "a"
+    ∷ codes "--with" ∷ codes "b" ∷ uuid_text ∷ []))) ≡ Some (codes "a" ∷ codes "c" ∷ codes "b" ∷ [])
+unfolding named_command symarch_command clap_on_literals uuid_on_literals
+find_with_inputs = refl
+
+-- `--with` without its archive, and of a command that asks one archive alone
+with_missing_fault : error_kinds (symarch (codes "find" ∷ codes "a" ∷ uuid_text ∷ codes "--with" ∷ []))
+    ≡ kind.InvalidValue ∷ []
+unfolding error_kinds symarch_command clap_on_literals
+with_missing_fault = refl
+
+list_with_fault : error_kinds (symarch (codes "list" ∷ codes "a" ∷ codes "--with" ∷ codes "b" ∷ []))
+    ≡ kind.UnknownArgument ∷ []
+unfolding error_kinds symarch_command clap_on_literals
+list_with_fault = refl
 
 find_no_uuid : line_of (symarch (codes "find" ∷ codes "a" ∷ codes "x86_64" ∷ [])) ≡ None
 unfolding named_command symarch_command clap_on_literals uuid_on_literals
@@ -140,7 +165,7 @@ find_no_uuid = refl
 symbolicate_read : line_of (symarch (codes "symbolicate" ∷ codes "--load" ∷ codes "0x104000000" ∷ codes "a" ∷ uuid_text
     ∷ codes "x86_64" ∷ codes "104001040" ∷ codes "0x10" ∷ []))
     ≡ Some (line_with symbolicate_command (text (codes "a") ∷ uuids (one uuid_bytes)
-    ∷ archs (one (arch_key 0x0100_0007 3)) ∷ numbers (perhaps (Some 0x104000000))
+    ∷ archs (one (arch_key 0x0100_0007 3)) ∷ numbers (perhaps (Some 0x104000000)) ∷ texts (several [])
     ∷ numbers (several (0x104001040 ∷ 0x10 ∷ [])) ∷ []))
 unfolding named_command symarch_command clap_on_literals uuid_on_literals
 symbolicate_read = refl
@@ -148,13 +173,15 @@ symbolicate_read = refl
 load_between : line_of (symarch (codes "symbolicate" ∷ codes "a" ∷ uuid_text ∷ codes "x86_64h" ∷ codes "10"
     ∷ codes "--load=fF" ∷ codes "20" ∷ []))
     ≡ Some (line_with symbolicate_command (text (codes "a") ∷ uuids (one uuid_bytes)
-    ∷ archs (one (arch_key 0x0100_0007 8)) ∷ numbers (perhaps (Some 255)) ∷ numbers (several (0x10 ∷ 0x20 ∷ [])) ∷ []))
+    ∷ archs (one (arch_key 0x0100_0007 8)) ∷ numbers (perhaps (Some 255)) ∷ texts (several [])
+    ∷ numbers (several (0x10 ∷ 0x20 ∷ [])) ∷ []))
 unfolding named_command symarch_command clap_on_literals uuid_on_literals
 load_between = refl
 
 no_load : line_of (symarch (codes "symbolicate" ∷ codes "a" ∷ uuid_text ∷ codes "arm64" ∷ codes "10" ∷ []))
     ≡ Some (line_with symbolicate_command (text (codes "a") ∷ uuids (one uuid_bytes)
-    ∷ archs (one (arch_key 0x0100_000c 0)) ∷ numbers (perhaps None) ∷ numbers (several (0x10 ∷ [])) ∷ []))
+    ∷ archs (one (arch_key 0x0100_000c 0)) ∷ numbers (perhaps None) ∷ texts (several [])
+    ∷ numbers (several (0x10 ∷ [])) ∷ []))
 unfolding named_command symarch_command clap_on_literals uuid_on_literals
 no_load = refl
 
@@ -169,9 +196,15 @@ unfolding are_accepted symarch_command clap_on_literals
 frames_accepted = refl
 
 frames_read : line_of (symarch (codes "frames" ∷ codes "f" ∷ codes "a" ∷ []))
-    ≡ Some (line_with frames_command (text (codes "f") ∷ text (codes "a") ∷ []))
+    ≡ Some (line_with frames_command (text (codes "f") ∷ texts (several (codes "a" ∷ [])) ∷ []))
 unfolding named_command symarch_command clap_on_literals
 frames_read = refl
+
+-- and of several the order is that of the words
+frames_of_two : line_of (symarch (codes "frames" ∷ codes "f" ∷ codes "b" ∷ codes "a" ∷ []))
+    ≡ Some (line_with frames_command (text (codes "f") ∷ texts (several (codes "b" ∷ codes "a" ∷ [])) ∷ []))
+unfolding named_command symarch_command clap_on_literals
+frames_of_two = refl
 
 -- ---- forms of words
 

@@ -10,11 +10,13 @@ use Rattle.command_line.specs.declared.commands.Kind.TheVariants as kinds
 use Rattle.command_line.specs.declared.commands.Role.{Role}
 use Rattle.command_line.specs.declared.commands.Role.TheVariants as roles
 
--- how often an argument stands in a line: one word; the last words; or the word behind an option, at most once
+-- how often an argument stands in a line: one word; the last words; the word after an option, at most once; or a word
+-- after each option of a name, any number of times
 pub data Count : Type 0 where
   Once : Count
   Several : Count
   Perhaps : (option : Text) → Count
+  Often : (option : Text) → Count
 
 pub record Argument : Type 0 where
   pub name : Text
@@ -53,7 +55,7 @@ form_of (roles.Reads kind) = forms.Plain
 form_of roles.Writes = forms.Plain
 form_of (roles.Says form) = form
 
--- what stands at an argument: one, one or more, or one that may be left out
+-- what stands at an argument: one, several, which may be none after options, or one that may be left out
 pub data Amount (X : Type 0) : Type 0 where
   one : X → Amount X
   several : List X → Amount X
@@ -74,8 +76,9 @@ text word = texts (one word)
 -- as many as the argument asks for
 abbrev pub is_counted : {X : Type 0} → Count → Amount X → Bool
 is_counted Once (one x) = true
-is_counted Several (several xs) = true
+is_counted Several (several (x ∷ xs)) = true
 is_counted (Perhaps option) (perhaps x) = true
+is_counted (Often option) (several xs) = true
 is_counted _ _ = false
 
 -- of its form

@@ -2,15 +2,16 @@
 use Rattle.std.specs.Prelude.{List, [], ◌∷◌, codes, map, Some, true}
 use Rattle.clap.specs.Words.{App, Rule, Text, new_app, new_rule, with_rule, with_subcommand}
 use Rattle.clap.specs.declared.builder.action.ArgAction.TheVariants.{Append}
-use Rattle.command_line.specs.Arguments.{Argument, Count, Once, Perhaps, Several}
+use Rattle.command_line.specs.Arguments.{Argument, Count, Often, Once, Perhaps, Several}
 use Rattle.command_line.specs.Table.{Signature, commands}
 
--- an argument that has one value; the last, that has one value or more, each a word of its own; or an option `--name`
--- that has one value, and may be left out
+-- an argument that has one value; the last, that has one value or more, each a word of its own; an option `--name` that
+-- has one value, and may be left out; or one that may stand there again, each time with a value more
 abbrev pub rule_by : Count → Text → Rule
 rule_by Once id = record (new_rule id) { required = true }
 rule_by Several id = record (new_rule id) { required = true; action = Some Append }
 rule_by (Perhaps option) id = record (new_rule id) { long = Some option }
+rule_by (Often option) id = record (new_rule id) { long = Some option; action = Some Append }
 
 abbrev pub rule_for : Argument → Rule
 rule_for a = rule_by a.count a.name

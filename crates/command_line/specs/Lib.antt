@@ -1,11 +1,11 @@
 pub mod Arguments
 pub mod Table
 pub mod WellFormed
-pub mod InnerTable
+pub mod TableView
 pub mod Commands
 pub mod Lines
-pub mod InnerValues
-pub mod InnerLine
+pub mod ValuesView
+pub mod LineView
 pub mod InnerWords
 pub mod LineFaults
 pub mod Samples

@@ -3,7 +3,7 @@ use Rattle.std.specs.Prelude.{◌≡◌, ◌⊎◌, ⊤, List, [], ◌∷◌, �
 use Rattle.std.specs.Prelude.{string_bytes}
 use Rattle.clap.specs.Words.{Row, Text}
 use Rattle.command_line.specs.Arguments.{Argument, form_of}
-use Rattle.command_line.specs.InnerLine.{line_view}
+use Rattle.command_line.specs.LineView.{line_view}
 use Rattle.command_line.specs.Lines.{Line}
 use Rattle.command_line.specs.declared.commands.Form.{Form}
 use Rattle.command_line.specs.declared.commands.Form.TheVariants as forms

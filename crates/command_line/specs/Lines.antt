@@ -1,7 +1,7 @@
 -- What a command line asks for.
 use Rattle.std.specs.Prelude.{Bool, true, false, not, ◌&&◌, ◌||◌, List, [], ◌∷◌, ◌++◌, Contains}
 use Rattle.std.specs.Prelude.{Option, Some, None, IfSome, is_some, option_and_then, option_map, slice_get}
-use Rattle.std.specs.Prelude.{if◌then◌else◌}
+use Rattle.std.specs.Prelude.{if◌then◌else◌, unwrap_or}
 use Rattle.std.specs.List.{list_all, list_any}
 use Rattle.std.specs.Option.{option_map_or}
 use Rattle.std.specs.Str.{bytes_eq}
@@ -12,7 +12,7 @@ use Rattle.command_line.specs.declared.commands.Form.{Form}
 use Rattle.command_line.specs.declared.commands.Form.TheVariants as forms
 use Rattle.command_line.specs.declared.commands.Kind.{Kind}
 use Rattle.command_line.specs.declared.commands.Role.{Role}
-use Rattle.command_line.specs.Arguments.{Amount, Argument, Count, Once, Perhaps, Several, Values, archs, digests}
+use Rattle.command_line.specs.Arguments.{Amount, Argument, Count, Often, Once, Perhaps, Several, Values, archs, digests}
 use Rattle.command_line.specs.Arguments.{form_of, numbers, one, perhaps, reads, reads_kind, several, texts, uuids, writes}
 use Rattle.command_line.specs.Commands.{symarch_command}
 use Rattle.command_line.specs.Table.{Signature, arguments_named, signature_named}
@@ -84,11 +84,21 @@ overwrites_input line = option_map_or (λ out. is_path_among out (inputs_of line
 abbrev pub kept : Line → Option Line
 kept line = if overwrites_input line then None else Some line
 
+-- the words at a name, of which there may be none
+abbrev pub any_of : Text → List Row → List Text
+any_of id rows = unwrap_or (all_of id rows) []
+
+-- these words, if there are some
+abbrev pub if_some : List Text → Option (Amount Text)
+if_some [] = None
+if_some (word ∷ words) = Some (several (word ∷ words))
+
 -- the words of an argument, if as many stand at its name as it asks for
 abbrev pub words_by : Count → Text → List Row → Option (Amount Text)
 words_by Once id rows = option_map (λ word. one word) (first_of id rows)
-words_by Several id rows = option_map (λ words. several words) (all_of id rows)
+words_by Several id rows = if_some (any_of id rows)
 words_by (Perhaps option) id rows = Some (perhaps (first_of id rows))
+words_by (Often option) id rows = Some (several (any_of id rows))
 
 -- what each word spells, where each has the form
 abbrev pub all_spelled : {X : Type 0} → (Text → Option X) → List Text → Option (List X)

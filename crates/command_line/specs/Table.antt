@@ -6,7 +6,7 @@ use Rattle.clap.specs.Words.{Text}
 use Rattle.command_line.specs.declared.commands.Form.TheVariants as forms
 use Rattle.command_line.specs.declared.commands.Kind.TheVariants as kinds
 use Rattle.command_line.specs.declared.commands.Role.TheVariants as roles
-use Rattle.command_line.specs.Arguments.{Argument, Once, Perhaps, Several, Values, are_values_of, argument}
+use Rattle.command_line.specs.Arguments.{Argument, Often, Once, Perhaps, Several, Values, are_values_of, argument}
 
 pub record Signature : Type 0 where
   pub name : Text
@@ -20,6 +20,10 @@ input_path = argument (codes "IN") Once (roles.Reads kinds.Archive)
 
 abbrev pub archive_path : Argument
 archive_path = argument (codes "ARCHIVE") Once (roles.Reads kinds.Archive)
+
+-- further archives, asked together with it
+abbrev pub other_paths : Argument
+other_paths = argument (codes "OTHER") (Often (codes "with")) (roles.Reads kinds.Archive)
 
 abbrev pub out_path : Argument
 out_path = argument (codes "OUT") Once roles.Writes
@@ -53,22 +57,24 @@ apply_command = signature (codes "apply")
     (input_path ∷ out_path ∷ argument (codes "OPS") Once (roles.Reads kinds.Ops) ∷ [])
 
 abbrev pub find_command : Signature
-find_command = signature (codes "find") (archive_path ∷ uuid_word ∷ [])
+find_command = signature (codes "find") (archive_path ∷ uuid_word ∷ other_paths ∷ [])
 
 abbrev pub list_command : Signature
 list_command = signature (codes "list") (archive_path ∷ [])
 
 abbrev pub name_command : Signature
-name_command = signature (codes "name") (archive_path ∷ argument (codes "NAME") Once (roles.Says forms.Plain) ∷ [])
+name_command = signature (codes "name")
+    (archive_path ∷ argument (codes "NAME") Once (roles.Says forms.Plain) ∷ other_paths ∷ [])
 
 abbrev pub symbolicate_command : Signature
 symbolicate_command = signature (codes "symbolicate") (archive_path ∷ uuid_word ∷ arch_word
-    ∷ argument (codes "HEX") (Perhaps (codes "load")) (roles.Says forms.Number)
+    ∷ argument (codes "HEX") (Perhaps (codes "load")) (roles.Says forms.Number) ∷ other_paths
     ∷ argument (codes "ADDRESS") Several (roles.Says forms.Number) ∷ [])
 
 abbrev pub frames_command : Signature
 frames_command = signature (codes "frames")
-    (argument (codes "FRAMES") Once (roles.Reads kinds.Frames) ∷ archive_path ∷ [])
+    (argument (codes "FRAMES") Once (roles.Reads kinds.Frames)
+    ∷ argument (codes "ARCHIVE") Several (roles.Reads kinds.Archive) ∷ [])
 
 abbrev pub summary_command : Signature
 summary_command = signature (codes "summary") (archive_path ∷ out_path ∷ [])

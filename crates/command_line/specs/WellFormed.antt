@@ -4,7 +4,7 @@ use Rattle.std.specs.List.{list_all, list_any}
 use Rattle.std.specs.Str.{bytes_eq}
 use Rattle.clap.specs.Words.{Text}
 use Rattle.clap.specs.Walk.{is_empty}
-use Rattle.command_line.specs.Arguments.{Argument, Count, Perhaps, Several, writes}
+use Rattle.command_line.specs.Arguments.{Argument, Count, Often, Perhaps, Several, writes}
 use Rattle.command_line.specs.Table.{Signature}
 
 -- no text stands twice
@@ -15,6 +15,7 @@ are_apart (text ∷ texts) = not (list_any (λ other. bytes_eq other text) texts
 -- the names of options
 abbrev pub options_of : Count → List Text
 options_of (Perhaps option) = option ∷ []
+options_of (Often option) = option ∷ []
 options_of _ = []
 
 -- only the last argument takes several words

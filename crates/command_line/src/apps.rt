@@ -4,7 +4,7 @@ ghost use Rattle.std.specs.Prelude.{◌≡◌, IfOk, false, map};
 ghost use Rattle.clap.specs.Words.{app_of, rule_of};
 ghost use Rattle.clap.specs.declared.builder.command.Command.TheViews.{out-Command};
 ghost use Rattle.command_line.specs.Commands.{command_for, rule_for, symarch_command, with_commands, with_rules};
-ghost use Rattle.command_line.specs.InnerTable.{argument_in, signature_in};
+ghost use Rattle.command_line.specs.TableView.{argument_in, signature_in};
 
 use crate::commands::{Argument, Count, Signature, VERSION, table};
 use clap::{Arg, ArgAction, Command};
@@ -20,6 +20,7 @@ fn arg<'a>(alloc: Global, argument: Argument) -> Arg<'a>
         Count::Once => arg.required(true),
         Count::Several => arg.required(true).action(ArgAction::Append),
         Count::Perhaps(option) => arg.long(option),
+        Count::Often(option) => arg.long(option).action(ArgAction::Append),
     }
 }
 

@@ -3,7 +3,7 @@
 
 ghost use Rattle.std.specs.Prelude.{◌≡◌, map, option_map};
 ghost use Rattle.command_line.specs.Arguments.{form_of, reads, reads_kind, writes};
-ghost use Rattle.command_line.specs.InnerTable.{signature_in};
+ghost use Rattle.command_line.specs.TableView.{signature_in};
 ghost use Rattle.command_line.specs.LineFaults.{form_words};
 ghost use Rattle.command_line.specs.Table.{commands, signature_named};
 
@@ -50,8 +50,10 @@ pub enum Count {
     Once,
     /// The last words, of which one has to be there.
     Several,
-    /// The word behind the option of this name, that may be left out.
+    /// The word after the option of this name, that may be left out.
     Perhaps(&'static str),
+    /// A word after each option of this name, of which any number may stand there.
+    Often(&'static str),
 }
 
 /// An argument of a command.
@@ -77,6 +79,19 @@ const ARCHIVE: Argument = Argument {
     help: "The archive to read",
     count: Count::Once,
     role: Role::Reads(Kind::Archive),
+};
+
+const OTHER: Argument = Argument {
+    name: "OTHER",
+    help: "A further archive; all of them are asked as their join",
+    count: Count::Often("with"),
+    role: Role::Reads(Kind::Archive),
+};
+
+const TOGETHER: Argument = Argument {
+    help: "The archives to read, as their join",
+    count: Count::Several,
+    ..ARCHIVE
 };
 
 const IN: Argument = Argument {
@@ -239,7 +254,7 @@ const COMMANDS: &[Signature] = &[
         name: "find",
         about: "List what an archive has of a UUID",
         more: None,
-        arguments: &[ARCHIVE, SOUGHT_UUID],
+        arguments: &[ARCHIVE, SOUGHT_UUID, OTHER],
     },
     Signature {
         name: "list",
@@ -251,19 +266,19 @@ const COMMANDS: &[Signature] = &[
         name: "name",
         about: "Find a symbol by its exact name",
         more: None,
-        arguments: &[ARCHIVE, SYMBOL_NAME],
+        arguments: &[ARCHIVE, SYMBOL_NAME, OTHER],
     },
     Signature {
         name: "symbolicate",
         about: "Name the symbols at addresses",
         more: Some(ANSWERS),
-        arguments: &[ARCHIVE, IMAGE_UUID, ARCH, LOAD, ADDRESSES],
+        arguments: &[ARCHIVE, IMAGE_UUID, ARCH, LOAD, OTHER, ADDRESSES],
     },
     Signature {
         name: "frames",
         about: "Name the symbols of all frames of a crash",
         more: Some(ANSWERS),
-        arguments: &[FRAMES, ARCHIVE],
+        arguments: &[FRAMES, TOGETHER],
     },
     Signature {
         name: "summary",

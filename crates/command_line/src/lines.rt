@@ -1,7 +1,7 @@
 //! What a command line asks for.
 
 ghost use Rattle.std.specs.Prelude.{◌≡◌, ◌++◌, OnOk, map, string_bytes, true};
-ghost use Rattle.command_line.specs.InnerValues.{values_view};
+ghost use Rattle.command_line.specs.ValuesView.{values_view};
 ghost use Rattle.command_line.specs.Table.{is_listed};
 
 use crate::commands::{Argument, is_input, is_out, signature_named};
@@ -18,8 +18,8 @@ pub struct Line {
 
 impl Line {
     ghost use Rattle.std.specs.Prelude.{◌≡◌, IfOk, map, option_map, string_bytes};
-    ghost use Rattle.command_line.specs.InnerLine.{line_view};
-    ghost use Rattle.command_line.specs.InnerTable.{argument_in};
+    ghost use Rattle.command_line.specs.LineView.{line_view};
+    ghost use Rattle.command_line.specs.TableView.{argument_in};
     ghost use Rattle.command_line.specs.Lines.{inputs_of, out_of};
     ghost use Rattle.command_line.specs.Table.{arguments_named};
 
@@ -48,7 +48,7 @@ impl Line {
     }
 
     /// The path of OUT, if the command writes it.
-    pub fn out(&self) -> Option<&str>
+    pub fn out_path(&self) -> Option<&str>
         ensures { option_map (λ p. p.now) result ≡ out_of (line_view self.now) }
     {
         let arguments = self.arguments();

@@ -4,12 +4,13 @@ ghost use Rattle.std.specs.Prelude.{◌≡◌, ◌⊎◌, IfErr, IfOk, None, Som
 ghost use Rattle.std.specs.Prelude.{string_bytes};
 ghost use Rattle.clap.specs.Words.{all_of, first_of, found_of, rows_of};
 ghost use Rattle.command_line.specs.Arguments.{form_of};
-ghost use Rattle.command_line.specs.InnerTable.{argument_in, count_in};
-ghost use Rattle.command_line.specs.InnerValues.{amount_view, texts_view, values_view};
+ghost use Rattle.command_line.specs.TableView.{argument_in, count_in};
+ghost use Rattle.command_line.specs.ValuesView.{amount_view, texts_view, values_view};
 ghost use Rattle.command_line.specs.InnerWords.{words_view};
 ghost use Rattle.command_line.specs.LineFaults.{IsRefusalUnlessMemory, IsRefusedAs, IsToldAmong, IsToldOf, other_form};
 ghost use Rattle.command_line.specs.LineFaults.{without_value};
-ghost use Rattle.command_line.specs.Lines.{all_spelled, all_values, amount_spelled, values_at, values_spelled, words_by};
+ghost use Rattle.command_line.specs.Lines.{all_spelled, all_values, amount_spelled, if_some, values_at};
+ghost use Rattle.command_line.specs.Lines.{values_spelled, words_by};
 
 use crate::commands::{Argument, Count, Form, form_of, form_text};
 use crate::line_faults::{LineFault, refused};
@@ -24,6 +25,7 @@ enum Words<'m, 'a> {
     One(&'a str),
     Several(&'m [&'a str]),
     Perhaps(Option<&'a str>),
+    Often(Option<&'m [&'a str]>),
 }
 
 /// The value of a name, if it stands there.
@@ -41,6 +43,16 @@ fn values<'m, 'a>(matches: &'m ArgMatches<'a>, id: &str) -> Option<&'m [&'a str]
     matches.get_strs(id)
 }
 
+/// These words, if there are some.
+fn if_some<'m, 'a>(words: &'m [&'a str]) -> Option<Words<'m, 'a>>
+    ensures { option_map words_view result ≡ if_some (map (λ w. w.now) words.now) }
+{
+    match words {
+        [] => None,
+        _ => Some(Words::Several(words)),
+    }
+}
+
 /// The words of an argument, if as many stand at its name as it asks for.
 fn words_at<'m, 'a>(argument: Argument, matches: &'m ArgMatches<'a>) -> Option<Words<'m, 'a>>
     ensures { option_map words_view result
@@ -48,8 +60,9 @@ fn words_at<'m, 'a>(argument: Argument, matches: &'m ArgMatches<'a>) -> Option<W
 {
     match argument.count {
         Count::Once => Some(Words::One(value(matches, argument.name)?)),
-        Count::Several => Some(Words::Several(values(matches, argument.name)?)),
+        Count::Several => if_some(values(matches, argument.name)?),
         Count::Perhaps(_) => Some(Words::Perhaps(value(matches, argument.name))),
+        Count::Often(_) => Some(Words::Often(values(matches, argument.name))),
     }
 }
 
@@ -124,6 +137,8 @@ fn copied(alloc: Global, words: Words) -> Result<Amount<String>, AllocError>
         Words::Several(words) => Amount::Several(copies(alloc, words)?),
         Words::Perhaps(None) => Amount::Perhaps(None),
         Words::Perhaps(Some(word)) => Amount::Perhaps(Some(String::from_str(alloc, word)?)),
+        Words::Often(None) => Amount::Several(Vec::new(alloc)),
+        Words::Often(Some(words)) => Amount::Several(copies(alloc, words)?),
     })
 }
 
@@ -144,6 +159,8 @@ fn amount<T: Word + Drop>(
         Words::Several(words) => Amount::Several(each_spelled(alloc, argument, words)?),
         Words::Perhaps(None) => Amount::Perhaps(None),
         Words::Perhaps(Some(word)) => Amount::Perhaps(Some(spelled(alloc, argument, word)?)),
+        Words::Often(None) => Amount::Several(Vec::new(alloc)),
+        Words::Often(Some(words)) => Amount::Several(each_spelled(alloc, argument, words)?),
     })
 }
 

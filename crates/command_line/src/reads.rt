@@ -5,7 +5,7 @@ ghost use Rattle.std.specs.Prelude.{false, map, option_map, true};
 ghost use Rattle.clap.specs.Words.{IsAmong, found_of, rows_of, subcommand_rows_of};
 ghost use Rattle.command_line.specs.Lines.{KeepsInputs, are_accepted, error_kinds, is_in_order, is_path_among, line_in, line_of};
 ghost use Rattle.command_line.specs.Lines.{named_command, out_of, overwrites_input};
-ghost use Rattle.command_line.specs.InnerLine.{line_view};
+ghost use Rattle.command_line.specs.LineView.{line_view};
 ghost use Rattle.command_line.specs.LineFaults.{IsHelpUnlessMemory, IsRefusalUnlessMemory, IsRefusedAs, IsToldFor};
 ghost use Rattle.command_line.specs.LineFaults.{IsToldIn, Reads, out_is_input};
 
@@ -76,7 +76,7 @@ fn check_out(alloc: Global, line: &Line) -> Result<(), LineFault>
     ensures told { IfErr result (λ e. IsSomeAnd (out_of (line_view line.now))
         (λ out. IsRefusedAs (out_is_input out) e)) }
 {
-    let Some(out) = line.out() else {
+    let Some(out) = line.out_path() else {
         return Ok(());
     };
     if is_among(out, &line.inputs(alloc)?) {

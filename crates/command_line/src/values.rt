@@ -8,7 +8,7 @@ use uuid::Uuid;
 #[derive(Debug, Drop)]
 pub enum Amount<T> {
     One(T),
-    /// One or more, in the order of the words.
+    /// Any number, in the order of the words: one or more of the last words, and none or more after options.
     Several(Vec<T>),
     /// One that may be left out.
     Perhaps(Option<T>),
@@ -26,7 +26,7 @@ pub enum Values {
 
 impl Values {
     ghost use Rattle.std.specs.Prelude.{◌≡◌, map, string_bytes};
-    ghost use Rattle.command_line.specs.InnerValues.{values_view};
+    ghost use Rattle.command_line.specs.ValuesView.{values_view};
     ghost use Rattle.command_line.specs.Lines.{texts_of};
 
     /// The texts among them.

@@ -1,5 +1,5 @@
 -- What a line asks for, by name, and how its command ends.
-use Rattle.std.specs.Prelude.{◌≡◌, ℕ, List, [], ◌∷◌, Result, map, string_bytes}
+use Rattle.std.specs.Prelude.{◌≡◌, ℕ, Bool, true, false, List, [], ◌∷◌, Result, map, string_bytes}
 use Rattle.std.specs.FinSet as set
 use Rattle.command_line.specs.Arguments.{archs, digests, numbers, one, perhaps, several, text, texts, uuids}
 use Rattle.command_line.specs.Lines.{Line, line_with}
@@ -46,16 +46,17 @@ plan_view (plan.Migrate input out) =
     line_with migrate_command (text input.now ∷ text out.now ∷ [])
 plan_view (plan.Apply input out ops) =
     line_with apply_command (text input.now ∷ text out.now ∷ text ops.now ∷ [])
-plan_view (plan.Find archive uuid) =
-    line_with find_command (text archive.now ∷ uuids (one uuid) ∷ [])
+plan_view (plan.Find archive uuid others) =
+    line_with find_command (text archive.now ∷ uuids (one uuid) ∷ texts (several (map string_bytes others.now)) ∷ [])
 plan_view (plan.List archive) =
     line_with list_command (text archive.now ∷ [])
-plan_view (plan.Name archive name) =
-    line_with name_command (text archive.now ∷ text name.now ∷ [])
-plan_view (plan.Symbolicate archive uuid arch load addresses) =
-    line_with symbolicate_command (text archive.now ∷ uuids (one uuid) ∷ archs (one arch) ∷ numbers (perhaps load) ∷ numbers (several addresses.now) ∷ [])
-plan_view (plan.Frames frames archive) =
-    line_with frames_command (text frames.now ∷ text archive.now ∷ [])
+plan_view (plan.Name archive name others) =
+    line_with name_command (text archive.now ∷ text name.now ∷ texts (several (map string_bytes others.now)) ∷ [])
+plan_view (plan.Symbolicate archive uuid arch load others addresses) =
+    line_with symbolicate_command (text archive.now ∷ uuids (one uuid) ∷ archs (one arch) ∷ numbers (perhaps load)
+    ∷ texts (several (map string_bytes others.now)) ∷ numbers (several addresses.now) ∷ [])
+plan_view (plan.Frames frames archive others) =
+    line_with frames_command (text frames.now ∷ texts (several (archive.now ∷ map string_bytes others.now)) ∷ [])
 plan_view (plan.Summary archive out) =
     line_with summary_command (text archive.now ∷ text out.now ∷ [])
 plan_view (plan.Delta archive summary out) =
@@ -68,6 +69,16 @@ abbrev pub replaces_of : Plan → Replaces
 replaces_of (plan.Summary archive out) = OwnFiles
 replaces_of (plan.Delta archive summary out) = OwnFiles
 replaces_of _ = ArchivesBelow
+
+-- the plan writes no OUT: it only reports
+abbrev pub only_reports : Plan → Bool
+only_reports (plan.Find _ _ _) = true
+only_reports (plan.List _) = true
+only_reports (plan.Name _ _ _) = true
+only_reports (plan.Symbolicate _ _ _ _ _ _) = true
+only_reports (plan.Frames _ _ _) = true
+only_reports (plan.Rehearse _) = true
+only_reports _ = false
 
 -- the key that a line names
 abbrev pub key_of : List ℕ → ArchKey → SliceKey
@@ -82,7 +93,19 @@ pub data Deed : Type 1 where
   answers : Query → Deed
   none : Deed
 
--- over the inputs at the paths of its line, in their order
+-- of a plan that only reports, over the inputs at the paths of its line, in their order: an archive and the further ones
+-- are asked as their join
+abbrev pub answer_of : {S : Type 0} → Plan → List (Reader S) → Deed
+answer_of (plan.Find _ uuid _) (archive ∷ others) = answers (find archive others uuid)
+answer_of (plan.List _) (archive ∷ _) = answers (list archive)
+answer_of (plan.Name _ sought _) (archive ∷ others) = answers (name archive others sought.now)
+answer_of (plan.Symbolicate _ uuid arch load _ addresses) (archive ∷ others) =
+    answers (symbolicate archive others (key_of uuid arch) load addresses.now)
+answer_of (plan.Frames _ _ _) (crash ∷ archive ∷ others) = answers (frames crash archive others)
+answer_of (plan.Rehearse _) (script ∷ _) = answers (rehearse script)
+answer_of _ _ = none
+
+-- of any plan
 abbrev pub deed_of : {S D T : Type 0} → Plan → List (Reader S) → Outs D T → Deed
 deed_of (plan.New _) _ out = empties
 deed_of (plan.Admit _ _ _) (input ∷ files) out = changes (admit input files)
@@ -92,17 +115,15 @@ deed_of (plan.Merge _ _ _) (input ∷ files) out = streams (merge_as_it_comes in
 deed_of (plan.Migrate _ _) (input ∷ _) out =
     streams (writes_amidst (migrate input) (IsKnown input) (out_of out).draft)
 deed_of (plan.Apply _ _ _) (input ∷ ops ∷ _) out = changes (apply input ops)
-deed_of (plan.Find _ uuid) (archive ∷ others) out = answers (find archive others uuid)
-deed_of (plan.List _) (archive ∷ _) out = answers (list archive)
-deed_of (plan.Name _ sought) (archive ∷ others) out = answers (name archive others sought.now)
-deed_of (plan.Symbolicate _ uuid arch load addresses) (archive ∷ others) out =
-    answers (symbolicate archive others (key_of uuid arch) load addresses.now)
-deed_of (plan.Frames _ _) (crash ∷ archive ∷ others) out = answers (frames crash archive others)
 deed_of (plan.Summary _ _) (archive ∷ _) out = changes (summary archive)
 deed_of (plan.Delta _ _ _) (archive ∷ named ∷ _) out =
     streams (delta_as_it_comes archive named (out_of out).draft)
-deed_of (plan.Rehearse _) (script ∷ _) out = answers (rehearse script)
-deed_of _ _ out = none
+deed_of asked inputs out = answer_of asked inputs
+
+-- It reports so.
+abbrev pub Reports : Deed → Writer → Result Status CommandFault → Type 0
+Reports (answers query) report result = EndsReport query report result
+Reports _ report result = ⊥
 
 -- The query ends so, and OUT is as it was.
 abbrev pub EndsQuery : {D T : Type 0} → Query → Outs D T → Writer → Result Status CommandFault → Type 0

@@ -2,7 +2,7 @@
 
 ghost use Rattle.std.specs.Prelude.{◌≡◌, ◌⊎◌, [], OnErr, OnOk, map};
 ghost use Rattle.command_ends.specs.Outputs.{outs, writer};
-ghost use Rattle.command_line.specs.InnerLine.{line_view};
+ghost use Rattle.command_line.specs.LineView.{line_view};
 ghost use Rattle.plan_commands.specs.Disks.{AreFirstOpened, AreOpened, Carried, IsUnbegun};
 ghost use Rattle.byte_device.specs.Disks.{opened_with};
 

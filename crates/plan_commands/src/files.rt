@@ -6,7 +6,7 @@ ghost use Rattle.archive_files.specs.Fresh.{AreFresh};
 ghost use Rattle.archive_files.specs.OutFiles.{Untouched, stage_of};
 ghost use Rattle.archive_files.specs.Placing.{IsPath};
 ghost use Rattle.command_line.specs.Lines.{inputs_of, out_of};
-ghost use Rattle.command_line.specs.InnerLine.{line_view};
+ghost use Rattle.command_line.specs.LineView.{line_view};
 ghost use Rattle.plan_commands.specs.Files.{IsCarriedOut, IsUnbegun, calls_of, command_fault_of, out_failure};
 
 use crate::execute_on;
@@ -32,7 +32,7 @@ fn begin<F: Files>(files: &mut SystemFiles<'_, F>, line: &Line) -> Result<(), No
     ensures calls { files.new.out.draft.calls.entries ≡ [] }
     ensures placed { files.new.out.target.placed ≡ None }
 {
-    let Some(path) = line.out() else {
+    let Some(path) = line.out_path() else {
         return Ok(());
     };
     let inputs = line.inputs(files.disk.alloc())?;

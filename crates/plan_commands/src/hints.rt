@@ -3,7 +3,7 @@
 //! faulty line alone.
 
 ghost use Rattle.std.specs.Prelude.{◌≡◌, IfSome, None, Some, option_map, slice_get};
-ghost use Rattle.command_line.specs.InnerLine.{line_view};
+ghost use Rattle.command_line.specs.LineView.{line_view};
 ghost use Rattle.command_line.specs.Lines.{inputs_of_kind, out_of};
 ghost use Rattle.plan_commands.specs.Hints.{IsOfInput, IsOfNoFile, IsOfOut, faulty_line_of, file_of, path_at};
 
@@ -229,7 +229,7 @@ fn out_hint<'p>(line: &'p Line, note: Option<Note>, seen: Seen) -> Option<Hint<'
 {
     Some(Hint {
         subject: Subject::Output,
-        path: line.out()?,
+        path: line.out_path()?,
         note: if seen.reason.is_none() { note } else { None },
         faulty: None,
         seen,

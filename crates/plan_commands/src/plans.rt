@@ -1,15 +1,15 @@
 //! What a line asks for, by name, and the command that does it.
 
-ghost use Rattle.std.specs.Prelude.{◌≡◌, length, map, true};
-ghost use Rattle.command_ends.specs.Inputs.{readers};
+ghost use Rattle.std.specs.Prelude.{◌≡◌, ◌+◌, ◌∷◌, length, map, true};
+ghost use Rattle.command_ends.specs.Inputs.{reader, readers};
 ghost use Rattle.command_ends.specs.Outputs.{outs, writer};
 ghost use Rattle.command_line.specs.Arguments.{are_values_of};
-ghost use Rattle.command_line.specs.InnerValues.{values_view};
+ghost use Rattle.command_line.specs.ValuesView.{values_view};
 ghost use Rattle.command_line.specs.Lines.{inputs_of, line_with};
 ghost use Rattle.command_line.specs.Table.{admit_command, apply_command, delta_command, find_command, frames_command};
 ghost use Rattle.command_line.specs.Table.{list_command, merge_command, migrate_command, name_command, new_command};
 ghost use Rattle.command_line.specs.Table.{rehearse_command, retire_command, summary_command, symbolicate_command};
-ghost use Rattle.plan_commands.specs.Plans.{Executes, key_of, plan_view, replaces_of};
+ghost use Rattle.plan_commands.specs.Plans.{Executes, Reports, answer_of, key_of, only_reports, plan_view, replaces_of};
 
 use archive_core::{ArchKey, Archive, Digest, SliceKey};
 use archive_files::Replaces;
@@ -65,33 +65,38 @@ pub enum Plan<'l> {
         out: &'l str,
         ops: &'l str,
     },
-    /// `find ARCHIVE UUID`: to tell what the archive has of a build.
+    /// `find ARCHIVE UUID [--with OTHER]...`: to tell what the archives have of a build. The others stand in the order
+    /// of the words.
     Find {
         archive: &'l str,
         uuid: Uuid,
+        others: &'l [String],
     },
     /// `list ARCHIVE`: to tell all that the archive has.
     List {
         archive: &'l str,
     },
-    /// `name ARCHIVE NAME`: to tell where symbols of a name stand. The name is the word itself.
+    /// `name ARCHIVE NAME [--with OTHER]...`: to tell where symbols of a name stand. The name is the word itself.
     Name {
         archive: &'l str,
         name: &'l str,
+        others: &'l [String],
     },
-    /// `symbolicate ARCHIVE UUID ARCH [--load HEX] ADDRESS...`: to answer each address, in the order
+    /// `symbolicate ARCHIVE UUID ARCH [--load HEX] [--with OTHER]... ADDRESS...`: to answer each address, in the order
     /// of the words. With `load` the addresses are those of an image that was loaded there.
     Symbolicate {
         archive: &'l str,
         uuid: Uuid,
         arch: ArchKey,
         load: Option<u64>,
+        others: &'l [String],
         addresses: &'l [u64],
     },
-    /// `frames FRAMES ARCHIVE`: to answer each frame of a crash, in the order of the lines of FRAMES.
+    /// `frames FRAMES ARCHIVE...`: to answer each frame of a crash, in the order of the lines of FRAMES.
     Frames {
         frames: &'l str,
         archive: &'l str,
+        others: &'l [String],
     },
     /// `summary ARCHIVE OUT`: to write the summary of an archive.
     Summary {
@@ -112,7 +117,7 @@ pub enum Plan<'l> {
 
 impl<'l> Plan<'l> {
     ghost use Rattle.std.specs.Prelude.{◌≡◌};
-    ghost use Rattle.command_line.specs.InnerLine.{line_view};
+    ghost use Rattle.command_line.specs.LineView.{line_view};
     ghost use Rattle.plan_commands.specs.Plans.{plan_view, replaces_of};
 
     /// What a line asks for. Each line of the table asks for something.
@@ -227,12 +232,18 @@ fn find<'l>(values: &'l [Values]) -> Plan<'l>
     requires { are_values_of find_command.arguments (map values_view values.now) ≡ true }
     ensures { plan_view result ≡ line_with find_command (map values_view values.now) }
 {
-    let [Texts(One(archive)), Uuids(One(uuid))] = values else {
+    let [
+        Texts(One(archive)),
+        Uuids(One(uuid)),
+        Texts(Several(others)),
+    ] = values
+    else {
         unreachable!();
     };
     Plan::Find {
         archive,
         uuid: *uuid,
+        others,
     }
 }
 
@@ -250,10 +261,19 @@ fn name<'l>(values: &'l [Values]) -> Plan<'l>
     requires { are_values_of name_command.arguments (map values_view values.now) ≡ true }
     ensures { plan_view result ≡ line_with name_command (map values_view values.now) }
 {
-    let [Texts(One(archive)), Texts(One(name))] = values else {
+    let [
+        Texts(One(archive)),
+        Texts(One(name)),
+        Texts(Several(others)),
+    ] = values
+    else {
         unreachable!();
     };
-    Plan::Name { archive, name }
+    Plan::Name {
+        archive,
+        name,
+        others,
+    }
 }
 
 fn symbolicate<'l>(values: &'l [Values]) -> Plan<'l>
@@ -264,9 +284,16 @@ fn symbolicate<'l>(values: &'l [Values]) -> Plan<'l>
         Texts(One(archive)),
         Uuids(One(uuid)),
         Archs(One(arch)),
-        Numbers(Perhaps(load)),
-        Numbers(Several(addresses)),
+        rest @ ..,
     ] = values
+    else {
+        unreachable!();
+    };
+    let [
+        Numbers(Perhaps(load)),
+        Texts(Several(others)),
+        Numbers(Several(addresses)),
+    ] = rest
     else {
         unreachable!();
     };
@@ -275,6 +302,7 @@ fn symbolicate<'l>(values: &'l [Values]) -> Plan<'l>
         uuid: *uuid,
         arch: *arch,
         load: *load,
+        others,
         addresses,
     }
 }
@@ -283,10 +311,17 @@ fn frames<'l>(values: &'l [Values]) -> Plan<'l>
     requires { are_values_of frames_command.arguments (map values_view values.now) ≡ true }
     ensures { plan_view result ≡ line_with frames_command (map values_view values.now) }
 {
-    let [Texts(One(frames)), Texts(One(archive))] = values else {
+    let [Texts(One(frames)), Texts(Several(archives))] = values else {
         unreachable!();
     };
-    Plan::Frames { frames, archive }
+    let Some((archive, others)) = archives.split_first() else {
+        unreachable!();
+    };
+    Plan::Frames {
+        frames,
+        archive,
+        others,
+    }
 }
 
 fn summary<'l>(values: &'l [Values]) -> Plan<'l>
@@ -336,8 +371,47 @@ fn key(uuid: &Uuid, arch: &ArchKey) -> SliceKey
     }
 }
 
-/// Carries out a plan over its inputs, which stand in the order of the words. An archive of the type `L` is asked for
+/// Carries out a plan that only reports, over its first input and the others. An archive of the type `L` is asked for
 /// addresses, and one of `A` for all else.
+fn answer<A: Archive + Drop, L: Archive + Drop, S: Source, P: Sink>(
+    heap: Heap,
+    plan: &Plan,
+    first: &mut Input<S>,
+    others: &mut [Input<S>],
+    report: &mut P,
+) -> Result<Status, CommandFault>
+    requires kind { only_reports plan.now ≡ true }
+    requires count { 1 + length others.old ≡ length (inputs_of (plan_view plan.now)) }
+    ensures { Reports (answer_of plan.now
+        (reader S.left S.failures first.old first.new ∷ readers S.left S.failures others.old others.new))
+        (writer P.held P.failures report.old report.new) result }
+{
+    match plan {
+        Plan::Find { uuid, .. } => run_find::<A, _, _>(heap, first, others, uuid, report),
+        Plan::List { .. } => run_list(heap, first, report),
+        Plan::Name { name, .. } => run_name(heap, first, others, name.as_bytes(), report),
+        Plan::Symbolicate {
+            uuid,
+            arch,
+            load,
+            addresses,
+            ..
+        } => {
+            let key = key(uuid, arch);
+            run_symbolicate::<L, _, _>(heap, first, others, &key, *load, addresses, report)
+        }
+        Plan::Frames { .. } => match others.split_first_mut() {
+            Some((archive, others)) => {
+                run_frames::<L, _, _>(heap, first, archive, others, report)
+            }
+            None => unreachable!(),
+        },
+        Plan::Rehearse { .. } => run_rehearse::<A, _, _>(heap, first, report),
+        _ => unreachable!(),
+    }
+}
+
+/// Carries out a plan over its inputs, which stand in the order of the words.
 pub fn execute<A: Archive + Drop, L: Archive + Drop, S: Source, T: Target, P: Sink>(
     heap: Heap,
     plan: &Plan,
@@ -364,43 +438,23 @@ pub fn execute<A: Archive + Drop, L: Archive + Drop, S: Source, T: Target, P: Si
             arch,
             digest,
             ..
-        } => {
-            let key = SliceKey {
-                uuid: *uuid,
-                arch: *arch,
-            };
-            run_retire(heap, first, key, *digest, out, report)
-        }
+        } => run_retire(heap, first, key(uuid, arch), *digest, out, report),
         Plan::Merge { .. } => run_merge::<A, _, _, _, _>(heap, first, others, out, report),
         Plan::Migrate { .. } => run_migrate(heap, first, out, report),
         Plan::Apply { .. } => match others {
             [ops] => run_apply::<A, _, _, _, _>(heap, first, ops, out, report),
             _ => unreachable!(),
         },
-        Plan::Find { uuid, .. } => run_find::<A, _, _>(heap, first, others, uuid, report),
-        Plan::List { .. } => run_list(heap, first, report),
-        Plan::Name { name, .. } => run_name(heap, first, others, name.as_bytes(), report),
-        Plan::Symbolicate {
-            uuid,
-            arch,
-            load,
-            addresses,
-            ..
-        } => {
-            let key = key(uuid, arch);
-            run_symbolicate::<L, _, _>(heap, first, others, &key, *load, addresses, report)
-        }
-        Plan::Frames { .. } => match others.split_first_mut() {
-            Some((archive, others)) => {
-                run_frames::<L, _, _>(heap, first, archive, others, report)
-            }
-            None => unreachable!(),
-        },
         Plan::Summary { .. } => run_summary(heap, first, out, report),
         Plan::Delta { .. } => match others {
             [summary] => run_delta(heap, first, summary, out, report),
             _ => unreachable!(),
         },
-        Plan::Rehearse { .. } => run_rehearse::<A, _, _>(heap, first, report),
+        Plan::Find { .. }
+        | Plan::List { .. }
+        | Plan::Name { .. }
+        | Plan::Symbolicate { .. }
+        | Plan::Frames { .. }
+        | Plan::Rehearse { .. } => answer::<A, L, _, _>(heap, plan, first, others, report),
     }
 }

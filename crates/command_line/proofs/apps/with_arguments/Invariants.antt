@@ -2,7 +2,7 @@ use Rattle.std.proofs.Common.{◌≡◌, drop, false, map}
 use Rattle.clap.specs.Words.{app_of}
 use Rattle.clap.specs.declared.builder.command.Command.TheViews.{out-Command}
 use Rattle.command_line.specs.Commands.{rule_for, with_rules}
-use Rattle.command_line.specs.InnerTable.{argument_in}
+use Rattle.command_line.specs.TableView.{argument_in}
 use Rattle.command_line.proofs.apps.with_arguments.Given as goal
 
 -- what is left to add gives what all of them give

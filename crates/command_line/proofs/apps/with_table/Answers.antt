@@ -2,7 +2,7 @@ use Rattle.std.proofs.Common.{◌∙◌, ◌+◌, ◌||◌, ap, ap₂, arith, dr
 use Rattle.std.proofs.lemmas.List.{at_drop_more}
 use Rattle.clap.specs.Words.{app_of, with_subcommand}
 use Rattle.command_line.specs.Commands.{command_for, with_commands}
-use Rattle.command_line.specs.InnerTable.{signature_in}
+use Rattle.command_line.specs.TableView.{signature_in}
 use Rattle.command_line.proofs.apps.with_table.Goals as goal
 
 pub table-preserved : goal.table-preserved

@@ -2,7 +2,7 @@ use Rattle.std.proofs.Common.{◌≡◌, drop, false, map}
 use Rattle.clap.specs.Words.{app_of}
 use Rattle.clap.specs.declared.builder.command.Command.TheViews.{out-Command}
 use Rattle.command_line.specs.Commands.{command_for, with_commands}
-use Rattle.command_line.specs.InnerTable.{signature_in}
+use Rattle.command_line.specs.TableView.{signature_in}
 use Rattle.command_line.proofs.apps.with_table.Given as goal
 
 -- what is left to add gives what all of them give

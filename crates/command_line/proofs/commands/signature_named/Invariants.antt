@@ -1,6 +1,6 @@
 use Rattle.std.proofs.Common.{◌≡◌, drop, find, map}
 use Rattle.std.specs.Str.{bytes_eq}
-use Rattle.command_line.specs.InnerTable.{signature_in}
+use Rattle.command_line.specs.TableView.{signature_in}
 use Rattle.command_line.specs.Table.{signature_named}
 use Rattle.command_line.proofs.commands.signature_named.Given as goal
 

@@ -1,7 +1,7 @@
 use Rattle.std.proofs.Common.{◌≡◌, ◌++◌, drop, map, option_map}
 use Rattle.clap.specs.Words.{found_of, rows_of}
-use Rattle.command_line.specs.InnerTable.{argument_in}
-use Rattle.command_line.specs.InnerValues.{values_view}
+use Rattle.command_line.specs.TableView.{argument_in}
+use Rattle.command_line.specs.ValuesView.{values_view}
 use Rattle.command_line.specs.LineFaults.{IsToldAmong}
 use Rattle.command_line.specs.Lines.{all_values}
 use Rattle.command_line.specs.declared.line_faults.LineFault.{LineFault}

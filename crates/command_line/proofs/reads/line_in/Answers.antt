@@ -1,7 +1,7 @@
 use Rattle.std.proofs.Common.{◌≡◌, map, subst, sym, true}
 use Rattle.clap.specs.Words.{found_of, rows_of}
-use Rattle.command_line.specs.InnerTable.{signature_in}
-use Rattle.command_line.specs.InnerValues.{values_view}
+use Rattle.command_line.specs.TableView.{signature_in}
+use Rattle.command_line.specs.ValuesView.{values_view}
 use Rattle.command_line.specs.Table.{is_listed}
 use Rattle.command_line.proofs.Listed.{listed}
 use Rattle.command_line.proofs.reads.line_in.Goals as goal

@@ -3,7 +3,7 @@ use Rattle.std.proofs.Common.{inr, is_some, map, option_map, refl, subst, sym, t
 use Rattle.std.specs.Prelude.{option_and_then}
 use Rattle.clap.specs.Words.{Row, Text, found_of, rows_of}
 use Rattle.clap.proofs.WalkLemmas.{both}
-use Rattle.command_line.specs.InnerLine.{line_view}
+use Rattle.command_line.specs.LineView.{line_view}
 use Rattle.command_line.specs.Lines.{line_in, named_command}
 use Rattle.command_line.specs.declared.line_faults.LineFault.{LineFault}
 use Rattle.command_line.specs.declared.line_faults.LineFault.TheVariants.{OutOfMemory}

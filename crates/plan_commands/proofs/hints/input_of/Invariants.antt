@@ -1,9 +1,9 @@
 use Rattle.std.proofs.Common.{◌≡◌, map}
 use Rattle.std.specs.Prelude.{slice_get}
 use Rattle.command_line.specs.Arguments.{reads_kind}
-use Rattle.command_line.specs.InnerLine.{line_view}
-use Rattle.command_line.specs.InnerTable.{argument_in}
-use Rattle.command_line.specs.InnerValues.{values_view}
+use Rattle.command_line.specs.LineView.{line_view}
+use Rattle.command_line.specs.TableView.{argument_in}
+use Rattle.command_line.specs.ValuesView.{values_view}
 use Rattle.command_line.specs.Lines.{inputs_of_kind, texts_by}
 use Rattle.plan_commands.proofs.hints.input_of.Given as goal
 

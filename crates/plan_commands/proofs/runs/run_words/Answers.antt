@@ -1,5 +1,5 @@
 use Rattle.std.proofs.Common.{inl, inr, map, string_bytes, refl}
-use Rattle.command_line.specs.InnerLine.{line_view}
+use Rattle.command_line.specs.LineView.{line_view}
 use Rattle.command_line.proofs.Exactly.{accepted_if_faultless}
 use Rattle.plan_commands.proofs.Saying.{no_plan, none_called}
 use Rattle.plan_commands.proofs.runs.run_words.Goals as goal

@@ -1,7 +1,7 @@
 use Rattle.std.proofs.Common.{◌∙◌, ◌++◌, append-nil, ap, inl, inr, map, sym}
 use Rattle.command_line.specs.Arguments.{reads}
-use Rattle.command_line.specs.InnerTable.{argument_in}
-use Rattle.command_line.specs.InnerValues.{values_view}
+use Rattle.command_line.specs.TableView.{argument_in}
+use Rattle.command_line.specs.ValuesView.{values_view}
 use Rattle.command_line.proofs.Passed.{none_left}
 use Rattle.command_line.proofs.lines.Line.inputs.Goals as goal
 

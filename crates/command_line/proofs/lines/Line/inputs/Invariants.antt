@@ -1,8 +1,8 @@
 use Rattle.std.proofs.Common.{◌≡◌, ◌++◌, map}
 use Rattle.command_line.specs.Arguments.{reads}
-use Rattle.command_line.specs.InnerLine.{line_view}
-use Rattle.command_line.specs.InnerTable.{argument_in}
-use Rattle.command_line.specs.InnerValues.{values_view}
+use Rattle.command_line.specs.LineView.{line_view}
+use Rattle.command_line.specs.TableView.{argument_in}
+use Rattle.command_line.specs.ValuesView.{values_view}
 use Rattle.command_line.specs.Lines.{inputs_of, texts_by}
 use Rattle.command_line.proofs.lines.Line.inputs.Given as goal
 

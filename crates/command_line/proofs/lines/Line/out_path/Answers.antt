@@ -1,10 +1,10 @@
 use Rattle.std.proofs.Common.{◌∙◌, ap, inl, inr, sym}
 use Rattle.std.specs.Prelude.{slice_get}
 use Rattle.command_line.specs.Arguments.{writes}
-use Rattle.command_line.specs.InnerTable.{argument_in}
-use Rattle.command_line.specs.InnerValues.{values_view}
+use Rattle.command_line.specs.TableView.{argument_in}
+use Rattle.command_line.specs.ValuesView.{values_view}
 use Rattle.command_line.proofs.Passed.{none_left}
-use Rattle.command_line.proofs.lines.Line.out.Goals as goal
+use Rattle.command_line.proofs.lines.Line.out_path.Goals as goal
 
 pub returns : goal.returns
 returns c =

@@ -1,6 +1,6 @@
 -- A line of the program, as definitions see it.
 use Rattle.std.specs.Prelude.{map, string_bytes}
-use Rattle.command_line.specs.InnerValues.{values_view}
+use Rattle.command_line.specs.ValuesView.{values_view}
 use Rattle.command_line.specs.Lines.{Line}
 use Rattle.command_line.specs.declared.lines.Line.{Line as LineOfProgram}
 

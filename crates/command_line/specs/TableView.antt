@@ -1,6 +1,6 @@
 -- The table of the program, as definitions see it.
 use Rattle.std.specs.Prelude.{map}
-use Rattle.command_line.specs.Arguments.{Argument, Count, Once, Perhaps, Several}
+use Rattle.command_line.specs.Arguments.{Argument, Count, Often, Once, Perhaps, Several}
 use Rattle.command_line.specs.Table.{Signature}
 use Rattle.command_line.specs.declared.commands.Argument.{Argument as ArgumentOfProgram}
 use Rattle.command_line.specs.declared.commands.Count.{Count as CountOfProgram}
@@ -11,6 +11,7 @@ abbrev pub count_in : CountOfProgram → Count
 count_in counts.Once = Once
 count_in counts.Several = Several
 count_in (counts.Perhaps option) = Perhaps option.now
+count_in (counts.Often option) = Often option.now
 
 abbrev pub argument_in : ArgumentOfProgram → Argument
 argument_in a = record { name = a.name.now; count = count_in a.count; role = a.role }

@@ -1,11 +1,11 @@
 use Rattle.std.proofs.Common.{◌≡◌, map}
 use Rattle.std.specs.Prelude.{slice_get}
 use Rattle.command_line.specs.Arguments.{writes}
-use Rattle.command_line.specs.InnerLine.{line_view}
-use Rattle.command_line.specs.InnerTable.{argument_in}
-use Rattle.command_line.specs.InnerValues.{values_view}
+use Rattle.command_line.specs.LineView.{line_view}
+use Rattle.command_line.specs.TableView.{argument_in}
+use Rattle.command_line.specs.ValuesView.{values_view}
 use Rattle.command_line.specs.Lines.{out_of, texts_by}
-use Rattle.command_line.proofs.lines.Line.out.Given as goal
+use Rattle.command_line.proofs.lines.Line.out_path.Given as goal
 
 -- OUT is not passed
 abbrev pub invariant-arguments : goal.invariant-arguments
