@@ -4,8 +4,10 @@
 - contents          what an archive has, and the bytes of archives, summaries and the files beside an archive
 - slices            what files and folders have
 - program           the program symarch
-- archive           an archive in its folder, and how a new one takes its place
+- archive_file      an archive file, and what is known of it
+- archive           an archive in its folder, with what came in lately, and how a new one takes its place
 - adding            `add`
+- folding           `fold`
 - retiring          `retire`
 - stating           `status`
 - checking          `check`, and what changed

@@ -14,19 +14,21 @@ others go in. There may be any number of files; few are open at a time. The larg
 For each slice a line is printed after ARCHIVE is in place, in the order in which they were found:
 
   added UUID ARCH DIGEST PATH
-  known UUID ARCH DIGEST PATH      ARCHIVE had it, or it was found before
-  retired UUID ARCH DIGEST PATH    it is withdrawn in ARCHIVE, so it stays out
+  known UUID ARCH DIGEST PATH      ARCHIVE or ARCHIVE.today had it, or it was found before
+  retired UUID ARCH DIGEST PATH    it is withdrawn in one of them, so it stays out
 
 DIGEST is the SHA-256 that `symarch find` prints. PATH is printed as UTF-8; the backslash, each byte that is no UTF-8
 and each byte of a character that does not print, as a newline, stand as \x and two hex digits.
 
 The lines are kept in ARCHIVE.log too, with the date. If no slice is new, ARCHIVE is not touched, and what it has is
-not read again.
+not read again. What is new goes into ARCHIVE.today, so that ARCHIVE is not written anew, and is asked together with it;
+`symarch-keep fold` joins the two. An `add` does so by itself where it finds more than a tenth of ARCHIVE in
+ARCHIVE.today, or no ARCHIVE.
 
 Status:
-  0    each slice that was found is in ARCHIVE, or is retired there
+  0    each slice that was found is in ARCHIVE or ARCHIVE.today, or is retired there
   1    no slice was found
-  2    some file was refused or not read, or some line not printed; each other slice is in ARCHIVE, or is retired there
+  2    some file was refused or not read, or some line not printed; each other slice is there, or is retired there
   3    the words have another form
   4    ARCHIVE could not be read or written, or memory ran out: ARCHIVE is as it was
   126  there is no program"""
@@ -34,7 +36,8 @@ import collections
 import functools
 import os
 
-from .archive import NO_UUID, Archive
+from .archive import Archive
+from .archive_file import NO_UUID
 from .contents import Content
 from .program import Program
 from .screen import Refused, Screen
@@ -104,12 +107,12 @@ def put_new(archive, program, content, slices, screen, is_dry_run):
         if is_dry_run:
             return refusals(program, new)
         lines = [one.line() for one in slices]
-        if not new and os.path.exists(archive.path):
+        if not new and archive.main.exists():
             archive.note(lines, screen)
             return []
-        content = content.joined(Content((), {one.entry(): one.length for one in new}))
+        news = Content((), {one.entry(): one.length for one in new})
         with archive.room() as room:
-            archive.join(room, program, content, lines, screen, new)
+            archive.put(room, program, news, lines, screen, new)
         return []
     except Refused as first:
         return [first, *refusals(program, [one for one in new if one is not first.one])]

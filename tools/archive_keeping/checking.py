@@ -1,15 +1,15 @@
-"""Reads all of ARCHIVE, and holds it against ARCHIVE.sum, which has the SHA-256 of each slice as it came in. So it
-finds each byte that changed, also those that leave ARCHIVE an archive.
+"""Reads all of ARCHIVE and ARCHIVE.today, and holds each against its .sum, which has the SHA-256 of each slice as it
+came in. So it finds each byte that changed, also those that leave an archive an archive.
 
   changed UUID ARCH DIGEST            the slice that had this SHA-256 has not, or its head has other bytes
   changed retired UUID ARCH DIGEST    the retirement has other bytes
-  changed ends                        the first 8 or the last 9 bytes of ARCHIVE are others
+  changed ends                        the first 8 or the last 9 bytes of one of the two are others
   lost UUID ARCH DIGEST               the slice was there, and neither it nor its retirement is
   lost retired UUID ARCH DIGEST       the retirement was there, and is not
 
 Something is lost if ARCHIVE was replaced, as by an older one. `symarch-keep repair` mends what changed, and
 `symarch-keep exchange` brings back what is lost. What came in without symarch-keep is known from now on. While it
-reads, other words may write; it reads on in the file that was there.
+reads, other words may write; it reads on in the files that were there.
 
 Status:
   0    all is as it was, or nothing was known of it, as the last line says
@@ -19,9 +19,9 @@ Status:
   126  there is no program"""
 import os
 
-from .archive import SUM, Archive, held_against, lost_lines
-from .contents import ADMISSION, END, KEY, LENGTH, MAGIC, MAGICS, RETIREMENT
-from .contents import digest_in, kept_text, record_size, words_of
+from .archive import Archive, lost_lines
+from .contents import ADMISSION, END, KEY, LENGTH, MAGIC, MAGICS, RETIREMENT, Content
+from .contents import digest_in, record_size, words_of
 from .program import Program
 from .screen import Failed, Screen, shown
 
@@ -79,37 +79,56 @@ def lines_of(word, slices, retirements=(), has_ends=True):
     return lines + ([] if has_ends else [f"{word} ends"])
 
 
-def is_damaged(archive, program, known):
+def is_damaged(file, program, known):
     """Whether an archive with other heads than those that are known is damaged. Else somebody put it there."""
     try:
-        archive.look_through(program)
+        file.look_through(program)
     except Failed as failed:
         if not failed.args[0].startswith("symarch: archive 0: ") or "cannot open" in failed.args[0]:
             raise
         return True
     slices = lambda heads: [head for head in heads if head[:1] == ADMISSION]
-    heads, wanted = archive.heads() or [], known.heads()
+    heads, wanted = file.heads() or [], known.heads()
     return len(heads) == len(wanted) and slices(heads) == slices(wanted)
 
 
-def look_through(archive, known, screen):
-    """What an archive has of what is known of it. Other words may write meanwhile."""
-    findings = Findings(known)
-    with open(archive.path, "rb") as file:
-        archive.release_lock()
-        screen.begin("reading", os.fstat(file.fileno()).st_size)
-        findings.look_through(file, screen.moved)
-    return findings
+def told_apart(archive, program, screen):
+    """The files in which each byte can be held against what is known, and others with what is known of them."""
+    same, others = [], {}
+    for file in archive.files:
+        known, is_same = file.known(screen)
+        file.content = known or Content()
+        if not file.exists() and not len(file.content):
+            continue
+        if known is None:
+            file.look_through(program)
+        if is_same or known and file.exists() and is_damaged(file, program, known):
+            same.append(file)
+        else:
+            others[file] = known
+    return same, others
 
 
-def look_anew(archive, program, known, screen):
-    """The lines of an archive that somebody put there; what it has is known from now on unless something is lost."""
-    content, changed, lost = held_against(known, archive.read(program, screen))
-    lines = lost_lines(changed, lost)
-    if not lines:
-        with archive.room() as room:
-            archive.lay(room, SUM, kept_text(content))
-    return content, lines
+def look_through(archive, files, screen):
+    """The lines of what changed in files, by their contents. Other words may write meanwhile."""
+    opened, lines = [(open(file.path, "rb"), file.content) for file in files], []
+    archive.release_lock()
+    for file, content in opened:
+        findings = Findings(content)
+        with file:
+            screen.begin("reading", os.fstat(file.fileno()).st_size)
+            findings.look_through(file, screen.moved)
+        lines += findings.lines()
+    return lines
+
+
+def seen_anew(archive, others, program, screen):
+    """What changed in files that somebody put there, by what is known of them, and what both lack now."""
+    changed, lost = [], Content()
+    for file, known in others.items():
+        _, more_changed, more_lost = archive.came(file, known, False, program, screen)
+        changed, lost = changed + more_changed, lost.joined(more_lost)
+    return changed, lost.beyond(archive.main.content.joined(archive.today.content))
 
 
 def carry_out(words):
@@ -117,16 +136,17 @@ def carry_out(words):
     program = Program()
     archive = Archive(os.fsencode(words.archive), may_be_damaged=True)
     archive.take_lock(screen)
-    known, is_same = archive.known(screen)
-    if known is None:
-        archive.look_through(program)
-        content, lines, told = archive.content(program, screen), [], "nothing was known of it, and is now"
-    elif is_same or is_damaged(archive, program, known):
-        content, lines, told = known, look_through(archive, known, screen).lines(), "all is as it was"
-    else:
-        content, lines = look_anew(archive, program, known, screen)
-        told = "all is there that was known"
+    same, others = told_apart(archive, program, screen)
+    lines = lost_lines(*seen_anew(archive, others, program, screen))
+    if not lines:
+        # What came in by another way is known from now on.
+        archive.keep(others, screen)
+    content = archive.main.content.joined(archive.today.content)
+    lines = look_through(archive, same, screen) + lines
     screen.show(lines)
+    told = "all is there that was known" if others else "all is as it was"
+    if any(known is None for known in others.values()):
+        told = "nothing was known of it, and is now"
     counts = f"{len(content.held)} slices, {len(content.retired)} retirements"
     screen.line(f"{shown(archive.path)}: {counts}: {f'{len(lines)} changed or lost' if lines else told}")
     return screen.status(2 if lines else 0)

@@ -1,5 +1,6 @@
 """Contents of archives: the retirements and the slices of one, by key and digest. docs/FILES.md has the bytes of
 archives and summaries."""
+import functools
 import hashlib
 import os
 import re
@@ -11,6 +12,7 @@ SUMMARY = b"MSYMSUM1"
 RETIREMENT, ADMISSION, END = b"\1", b"\2", b"\3"
 MAGIC, KEY, DIGEST, LENGTH = 8, 24, 32, 8
 ENTRY = KEY + DIGEST
+EMPTY = MAGICS[0] + END + bytes(LENGTH)
 TOO_LARGE = 1 << 32
 CHUNK = 1 << 20
 
@@ -169,19 +171,35 @@ def arch_of(numbers):
 
 def words_of(entry):
     """UUID, ARCH and DIGEST of a slice."""
-    arch = arch_of(struct.unpack(">II", entry[16:KEY]))
-    return f"{uuid.UUID(bytes=entry[:16])} {arch} {entry[KEY:].hex()}"
+    name, digits = entry[:16].hex(), entry[KEY:].hex()
+    hyphenated = f"{name[:8]}-{name[8:12]}-{name[12:16]}-{name[16:20]}-{name[20:]}"
+    return f"{hyphenated} {arch_in(entry[16:KEY])} {digits}"
+
+
+@functools.lru_cache(maxsize=None)
+def arch_in(numbers):
+    return arch_of(struct.unpack(">II", numbers))
+
+
+@functools.lru_cache(maxsize=None)
+def numbers_of(arch):
+    """The bytes that an ARCH means; ValueError where it has another form."""
+    numbered = NUMBERED.fullmatch(arch)
+    if arch not in NUMBERS and not numbered:
+        raise ValueError("ARCH")
+    return struct.pack(">II", *([int(digits, 16) for digits in numbered.groups()] if numbered else NUMBERS[arch]))
 
 
 def entry_of(name, arch, digest):
     """The key and the digest that three words mean; ValueError where one has another form."""
-    numbered = NUMBERED.fullmatch(arch)
-    if arch not in NUMBERS and not numbered:
-        raise ValueError("ARCH")
-    numbers = [int(digits, 16) for digits in numbered.groups()] if numbered else NUMBERS[arch]
     if len(digest) != 2 * DIGEST:
         raise ValueError("DIGEST")
-    return uuid.UUID(name).bytes + struct.pack(">II", *numbers) + bytes.fromhex(digest)
+    return uuid.UUID(name).bytes + numbers_of(arch) + bytes.fromhex(digest)
+
+
+def entry_in(name, arch, digest):
+    """The same of the words that `words_of` writes."""
+    return bytes.fromhex(name.replace("-", "")) + numbers_of(arch) + bytes.fromhex(digest)
 
 
 # ---- files that are kept beside an archive
@@ -205,9 +223,9 @@ def kept_in(data):
     for line in text[len(FIRST) :].splitlines():
         word, *more = line.split(" ")
         if word == "retired":
-            content.retired.add(entry_of(*more))
+            content.retired.add(entry_in(*more))
         elif word == "slice":
-            content.held[entry_of(*more[:3])] = int(more[3])
+            content.held[entry_in(*more[:3])] = int(more[3])
         else:
             notes.append(line)
     return content, notes

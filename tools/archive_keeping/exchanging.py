@@ -2,15 +2,16 @@
 or a bucket that `rclone` or `aws s3 sync` mirrors. NAME is the name of this site, which no other one has: lower-case
 letters, digits, `-` and `_`.
 
-One call joins what others answered, asks anew if ARCHIVE changed, answers what others ask, and removes what is done
-with. Call it at each site, at any time and as often as you like, as by cron: when each site was called three times
-after the last change, and FOLDER copied between, all have the same bytes. Two at once wait for each other.
+One call joins what others answered, asks anew if something changed, answers what others ask, and removes what is done
+with. What comes in goes into ARCHIVE.today, as by `add`, and what is asked and answered is of both. Call it at each
+site, at any time and as often as you like, as by cron: when each site was called three times after the last change, and
+FOLDER copied between, all have the same, and after `symarch-keep fold` the same bytes. Two at once wait for each other.
 
 FOLDER has the questions and the answers of all sites. Their names say from whom to whom, and carry the SHA-256 of their
 bytes, so a file that is not copied to its end is told, and passed over. No file is ever rewritten.
 
-ARCHIVE.asked has what this site asked with. An answer is joined only if ARCHIVE still has all of it, or its retirement:
-so one that was restored from a backup asks anew, and is never short of what the lost one had. A slice of ARCHIVE that
+ARCHIVE.asked has what this site asked with. An answer is joined only if the site still has all of it, or its
+retirement: so one that was restored from a backup asks anew, and is never short of what the lost one had. A slice that
 changed is not sent. ARCHIVE is made if it does not exist; FOLDER is not, so a disk that is not mounted is told.
 
 The lines, which are kept in ARCHIVE.log with the date:
@@ -55,7 +56,7 @@ class Asked:
     the others; and the dates of what was done with each other site."""
 
     def __init__(self, archive):
-        content, notes = archive.kept(ASKED) or (Content(), [])
+        content, notes = archive.main.kept(ASKED) or (Content(), [])
         self.archive, self.content = archive, content
         self.questions = [tuple(note.split(" ")[1:]) for note in notes if note.startswith("asked ")]
         self.sites = {}
@@ -63,21 +64,21 @@ class Asked:
             if note.startswith("site "):
                 _, site, *words = note.split(" ")
                 self.sites[site] = dict(zip(words[::2], words[1::2]))
-        self.written = self.text()
+        self.written = content, self.notes()
 
-    def text(self):
+    def notes(self):
         notes = [f"asked {at} {digest}" for at, digest in self.questions[-MOST_ASKED:]]
         for site, dates in sorted(self.sites.items()):
             notes.append(" ".join(["site", site, *(word for one in sorted(dates.items()) for word in one)]))
-        return kept_text(self.content, notes)
+        return notes
 
     def note(self, site, word, date):
         self.sites.setdefault(site, {})[word] = time.strftime(DATE, date)
 
     def save(self, room):
-        if self.text() != self.written:
-            self.written = self.text()
-            self.archive.lay(room, ASKED, self.written)
+        if (self.content, self.notes()) != self.written:
+            self.written = self.content, self.notes()
+            self.archive.lay(room, self.archive.beside(ASKED), kept_text(*self.written))
 
 
 class Exchange:
@@ -107,7 +108,7 @@ class Exchange:
                 self.take(room, answer, origins)
             else:
                 self.pass_over(answer.name)
-        if not os.path.exists(self.archive.path):
+        if not self.archive.main.exists():
             self.make_total(room)
         if os.path.exists(os.path.join(room, b"total")):
             self.put(room, origins)
@@ -144,12 +145,14 @@ class Exchange:
         write_file(room, b"ours", self.content.summary())
         self.program.run(["delta", "total", "ours", "missing"], folder=room)
         with open(os.path.join(room, b"missing"), "rb") as file:
-            content = self.content.joined(content_in(file))
+            missing = content_in(file)
+        content = self.content.joined(missing)
         news = content.beyond(self.content)
         lines = [f"added {words_of(entry)} {origins[entry]}" for entry in sorted(news.held)]
         lines += [f"retired {words_of(entry)} {origins[entry]}" for entry in sorted(news.retired)]
-        if lines or not os.path.exists(self.archive.path):
-            self.archive.join(room, self.program, content, lines, self.screen, more="missing")
+        if lines or not self.archive.main.exists():
+            more = os.path.join(room, b"missing")
+            self.archive.put(room, self.program, missing, lines, self.screen, more=more)
             self.content = content
             self.lines += lines
 
@@ -216,16 +219,28 @@ class Exchange:
         self.lines.append(f"answered {question.site} {name}")
 
     def make_answer(self, room, theirs, lacking):
-        """Makes the archive of what is lacking. What the other site withdrew it does not lack."""
+        """Makes the archive of what is lacking, of those files that have some of it. What the other site withdrew it
+        does not lack."""
         gone = [ADMISSION + entry for entry in theirs.retired if entry not in theirs.held]
         write_file(room, b"theirs", summary_of(sorted(theirs.entries() + gone)))
-        with open(self.archive.path, "rb") as file:
-            words = ["delta", f"/dev/fd/{file.fileno()}", "theirs", "answer"]
-            names = {words[1]: shown(self.archive.path)}
-            self.program.run(words, folder=room, open_files=(file.fileno(),), names=names)
+        names = []
+        for name, file in (("answer", self.archive.main), ("more", self.archive.today)):
+            if len(file.content.beyond(theirs)):
+                self.make_delta(room, file, name)
+                names.append(name)
+        if len(names) == 2:
+            self.program.run(["merge", *names[:1], "both", *names[1:]], folder=room)
+            names = ["both"]
+        os.replace(os.path.join(room, os.fsencode(names[0])), os.path.join(room, b"answer"))
         with open(os.path.join(room, b"answer"), "rb") as file:
             if content_in(file) != lacking:
                 raise Failed(f"a slice of {shown(self.archive.path)} changed; `symarch-keep check` says which")
+
+    def make_delta(self, room, file, name):
+        with open(file.path, "rb") as opened:
+            words = ["delta", f"/dev/fd/{opened.fileno()}", "theirs", name]
+            names = {words[1]: shown(file.path)}
+            self.program.run(words, folder=room, open_files=(opened.fileno(),), names=names)
 
     # ---- what is done with
 

@@ -1,9 +1,9 @@
-"""Mends what changed in ARCHIVE, as `symarch-keep check` finds it: takes the good bytes of each changed slice out of
-the archive FROM, as another site has it. ARCHIVE is then what it was, byte for byte.
+"""Mends what changed in ARCHIVE and ARCHIVE.today, as `symarch-keep check` finds it: takes the good bytes of each
+changed slice out of the archive FROM, as another site has it. Both are then what they were, byte for byte.
 
 FROM may also be an archive that you made of the dSYM by `symarch-keep add`. Of retirements, of heads, and of the first
-and last bytes of ARCHIVE, ARCHIVE.sum has all, so FROM need not have them. FROM is only read, and what else it has is
-left there. A slice that it does not have stays as it is; another FROM may have it.
+and last bytes the .sum of each has all, so FROM need not have them. FROM is only read, and what else it has is left
+there. A slice that it does not have stays as it is; another FROM may have it.
 
 The lines, which are kept in ARCHIVE.log with the date, are those of `check` with `repaired` in the place of `changed`;
 what could not be mended is printed with `changed`.
@@ -12,13 +12,14 @@ Status:
   0    all is as it was
   2    something is still changed, or some line could not be printed or kept
   3    the words have another form
-  4    ARCHIVE or FROM could not be read, ARCHIVE not written, or there is no ARCHIVE.sum: ARCHIVE is as it was
+  4    something could not be read or written, or there is no ARCHIVE.sum: ARCHIVE and ARCHIVE.today are as they were
   126  there is no program"""
 import functools
 import os
 
-from .archive import SUM, Archive, size_of
-from .checking import Findings, is_damaged, lines_of
+from .archive import Archive
+from .archive_file import SUM, ArchiveFile, size_of
+from .checking import Findings, lines_of, seen_anew, told_apart
 from .contents import KEY, RETIREMENT, Malformed
 from .contents import digest_in, head_of, record_size, records_in
 from .program import Program, give
@@ -56,57 +57,71 @@ def slice_at(path, entry, at, length):
     return one
 
 
-def mended(archive, findings, other, found):
-    """The slices of the archive in their order, each where its bytes are good. One that is nowhere has the bytes that
+def mended(path, findings, other, found):
+    """The slices of an archive in their order, each where its bytes are good. One that is nowhere has the bytes that
     stand in its place."""
     slices, lacking = [], dict(findings.bad)
     for entry, length in findings.content.held.items():
         head = head_of(entry[:KEY], length)
         if entry in findings.good:
-            slices.append(slice_at(archive.path, entry, findings.good[entry], length))
+            slices.append(slice_at(path, entry, findings.good[entry], length))
         elif entry in found:
             slices.append(slice_at(other, entry, found[entry], length))
         else:
-            slices.append(slice_at(archive.path, entry[:KEY], lacking[head].pop(), length))
+            slices.append(slice_at(path, entry[:KEY], lacking[head].pop(), length))
     return sorted(slices, key=functools.cmp_to_key(compared))
 
 
-def put(archive, program, findings, slices, lines, is_whole, screen):
+def put(archive, file, program, findings, slices, lines, is_whole, screen):
     """Writes the archive of the slices in a room, and puts it in place. If all are good, the program has to find in it
     what is known of it."""
     content = findings.content
     retirements = sorted(RETIREMENT + entry for entry in content.retired)
     with archive.room() as room:
         screen.begin(f"writing: {{}} of {len(slices)} slices")
-        with open(os.path.join(room, b"new"), "wb", buffering=0) as file:
-            give(file.fileno(), slices, screen.progress, retirements)
-            os.fsync(file.fileno())
+        with open(os.path.join(room, b"new"), "wb", buffering=0) as new:
+            give(new.fileno(), slices, screen.progress, retirements)
+            os.fsync(new.fileno())
         if is_whole:
             program.run(["summary", "new", "sum"], folder=room, names={"new": "what was to be written"})
-            with open(os.path.join(room, b"sum"), "rb") as file:
-                if file.read() != content.summary():
+            with open(os.path.join(room, b"sum"), "rb") as summary:
+                if summary.read() != content.summary():
                     raise Failed(f"{program.path} finds something else in what was to be written", 4)
-        archive.replace(room, content, lines, screen)
+        archive.replace(room, file, content, lines, screen)
 
 
-def repair(archive, program, known, other, screen):
-    """Mends what can be, and returns the lines."""
-    findings = Findings(known)
-    with open(archive.path, "rb") as file:
-        screen.begin("reading", os.fstat(file.fileno()).st_size)
-        findings.look_through(file, screen.moved)
+def repair(archive, file, program, other, screen):
+    """Mends what can be of a file, and returns the lines."""
+    known, findings = file.content, Findings(file.content)
+    with open(file.path, "rb") as opened:
+        screen.begin("reading", os.fstat(opened.fileno()).st_size)
+        findings.look_through(opened, screen.moved)
     if not findings.lines():
         return []
     wanted = {entry: known.held[entry] for entry in findings.changed if entry not in findings.good}
     found = found_in(other, wanted, screen)
     lacking = wanted.keys() - found.keys()
-    if lacking and size_of(archive.path) < known.size():
-        raise Failed(f"{shown(archive.path)} ends early, and {shown(other)} does not have all that it lacks", 4)
-    slices = mended(archive, findings, other, found)
+    if lacking and file.size() < known.size():
+        raise Failed(f"{shown(file.path)} ends early, and {shown(other)} does not have all that it lacks", 4)
+    slices = mended(file.path, findings, other, found)
     lines = lines_of("repaired", findings.changed - lacking, findings.changed_retirements, findings.has_ends)
     if lines:
-        put(archive, program, findings, slices, lines, not lacking, screen)
+        put(archive, file, program, findings, slices, lines, not lacking, screen)
     return lines + lines_of("changed", lacking)
+
+
+def tried(archive, file, program, other, screen, is_first):
+    """The lines of a file that is mended. What keeps it from being mended ends the word only if none was before."""
+    try:
+        return repair(archive, file, program, other, screen)
+    except Refused as refused:
+        failed = Failed(f"{shown(refused.one.path)}: {refused}", 4)
+    except Failed as fault:
+        failed = fault
+    if is_first:
+        raise failed
+    screen.fail(failed.args[0])
+    return []
 
 
 def carry_out(words):
@@ -115,17 +130,16 @@ def carry_out(words):
     archive, other = Archive(os.fsencode(words.archive), may_be_damaged=True), os.fsencode(words.other)
     os.stat(other)
     archive.take_lock(screen)
-    known, is_same = archive.known(screen)
-    if known is None:
-        raise Failed(f"there is no {shown(archive.beside(SUM))}, so nothing says what changed", 4)
-    if not is_same and not is_damaged(archive, program, known):
-        known = archive.content(program, screen)
-        if known.heads() != archive.heads():
-            raise Failed(f"{shown(archive.path)} is of version 1, of which `symarch migrate` makes version 2", 4)
-    try:
-        lines = repair(archive, program, known, other, screen)
-    except Refused as refused:
-        raise Failed(f"{shown(refused.one.path)}: {refused}", 4) from None
+    same, others = told_apart(archive, program, screen)
+    if archive.main in others and others[archive.main] is None:
+        raise Failed(f"there is no {shown(archive.main.beside(SUM))}, so nothing says what changed", 4)
+    archive.tell_lost(*seen_anew(archive, others, program, screen), screen)
+    archive.keep(others, screen)
+    lines = []
+    for file in filter(ArchiveFile.exists, [*same, *others]):
+        if file in others and file.content.heads() != file.heads():
+            raise Failed(f"{shown(file.path)} is of version 1, of which `symarch migrate` makes version 2", 4)
+        lines += tried(archive, file, program, other, screen, is_first=not lines)
     screen.show(lines)
     still = sum(line.startswith("changed ") for line in lines)
     told = f"{len(lines) - still} repaired, {still} still changed" if lines else "all is as it was"

@@ -1,16 +1,17 @@
 """Withdraws a slice of ARCHIVE for good: the one of UUID and ARCH whose SHA-256 is DIGEST, as `symarch find` prints
 them.
 
-The bytes of the slice go out of ARCHIVE, and the retirement stays. It reaches each site by `exchange`, and the slice
-comes back at none. A slice that ARCHIVE does not have is refused, since a word may be wrong; --before-it-comes retires
-it all the same, so that it never comes in.
+From then on nothing that is asked of ARCHIVE and ARCHIVE.today finds the slice. The retirement goes into ARCHIVE.today;
+the next `symarch-keep fold` takes the bytes of the slice out of ARCHIVE. It reaches each site by `exchange`, and the
+slice comes back at none. A slice that neither has is refused, since a word may be wrong; --before-it-comes retires it
+all the same, so that it never comes in.
 
 The line that is printed, and kept in ARCHIVE.log with the date, is `retired UUID ARCH DIGEST`, or `known UUID ARCH
-DIGEST` if it was retired before; ARCHIVE is not touched then.
+DIGEST` if it was retired before; nothing is written then.
 
 Status:
-  0    the slice is retired in ARCHIVE
-  1    ARCHIVE does not have the slice, and nothing was done
+  0    the slice is retired
+  1    neither file has the slice, and nothing was done
   2    it is retired, and its line could not be printed or kept
   3    the words have another form
   4    ARCHIVE could not be read or written, or memory ran out: ARCHIVE is as it was
@@ -29,7 +30,7 @@ HIGH_BYTE = 20
 
 
 def define(parser):
-    parser.add_argument("--before-it-comes", action="store_true", help="retire a slice that ARCHIVE does not have")
+    parser.add_argument("--before-it-comes", action="store_true", help="retire a slice that is not there")
     for name in ("ARCHIVE", "UUID", "ARCH", "DIGEST"):
         parser.add_argument(name.lower(), metavar=name)
 
@@ -54,15 +55,14 @@ def carry_out(words):
         raise Failed(f"{shown(archive.path)} does not have this slice; --before-it-comes retires it all the same", 1)
     lines = [f"{'known' if entry in content.retired else 'retired'} {words_of(entry)}"]
     if entry not in content.retired:
-        retire(archive, program, content, entry, lines, screen)
+        retire(archive, program, entry, lines, screen)
     screen.show(lines)
     return screen.status()
 
 
-def retire(archive, program, content, entry, lines, screen):
-    """The retirement goes into an archive of its own, so that the large one need not fit in memory."""
+def retire(archive, program, entry, lines, screen):
+    """The retirement comes in by an archive of its own."""
     with archive.room() as room:
         program.run(["new", "none"], folder=room)
         program.run(["retire", "none", "one", *words_of(entry).split()], folder=room)
-        after = content.joined(Content([entry]))
-        archive.join(room, program, after, lines, screen, more="one")
+        archive.put(room, program, Content([entry]), lines, screen, more=os.path.join(room, b"one"))

@@ -13,7 +13,7 @@ import re
 import time
 from typing import NamedTuple
 
-from .archive import sync_folder, write_synced
+from .archive_file import sync_folder, write_synced
 from .contents import chunks_in
 
 SITE = "[a-z0-9][a-z0-9_-]{0,31}"

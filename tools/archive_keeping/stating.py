@@ -1,11 +1,13 @@
-"""Prints what ARCHIVE has, in numbers, and what is known of the sites with which it exchanges. It reads the heads of
-the slices, and not their bytes, so it takes little time; `symarch-keep check` reads all.
+"""Prints what ARCHIVE and ARCHIVE.today have together, in numbers, and what is known of the sites with which they
+exchange. It reads the heads of the slices, and few of their bytes, so it takes little time; `symarch-keep check` reads
+all.
 
   images N          slices that are no companions
   companions N      slices of dSYMs
   retirements N     slices that were withdrawn
   conflicts N       UUIDs and architectures for which several slices answer, so that `symarch` prints !N
   bytes N           of ARCHIVE
+  today N           bytes of ARCHIVE.today, which `symarch-keep fold` joins into ARCHIVE
   site NAME ...     when that site last asked, by its clock; when it was last answered, and its answer last joined
   left PATH         what a kill left, which the next word that writes removes
 
@@ -13,13 +15,15 @@ Status:
   0    it is printed
   2    some line could not be printed
   3    the words have another form
-  4    ARCHIVE could not be read
+  4    ARCHIVE or ARCHIVE.today could not be read
   126  there is no program"""
 import collections
 import os
+from typing import NamedTuple
 
-from .archive import ASKED, NEXT_LOG, NEXT_SUM, Archive
-from .contents import KEY, MAGIC, MAGICS, RETIREMENT, Malformed, digest_in, record_size, records_in
+from .archive import ASKED, NEXT_LOG, TODAY, Archive
+from .archive_file import NEXT_SUM
+from .contents import KEY, RETIREMENT, Malformed, digest_in, record_size, records_in
 from .program import Program
 from .screen import Failed, Screen, shown
 
@@ -36,45 +40,67 @@ def define(parser):
 def carry_out(words):
     screen = Screen()
     archive = Archive(os.fsencode(words.archive), writes=False)
-    try:
-        with open(archive.path, "rb") as file:
-            lines = numbers_of(file)
-    except Malformed as fault:
-        archive.look_through(Program())
-        raise Failed(f"{shown(archive.path)}: {fault}", 4) from None
+    records = [record for file in archive.files if file.exists() for record in read(file)]
+    lines = numbers_of(records)
+    lines += [f"bytes {archive.main.size()}"] + [f"today {archive.today.size()}"] * archive.today.exists()
     screen.show(lines + sites_of(archive) + left_of(archive))
     return screen.status()
 
 
-def numbers_of(file):
-    """The numbers, by the heads of the records. In version 1 slices may stand beside their retirements."""
-    retired, images, companions = set(), collections.Counter(), collections.Counter()
-    for head, at in records_in(file):
-        key = head[1 : 1 + KEY]
-        if head[:1] == RETIREMENT:
-            retired.add(head[1:])
-        elif not is_retired(file, head, at, retired):
-            file.seek(at + FILETYPE)
-            is_companion = file.read(len(MH_DSYM)) == MH_DSYM
-            (companions if is_companion else images)[key] += 1
+class Record(NamedTuple):
+    """A record: its head, whether its slice is a companion, and in which file its slice stands where."""
+
+    head: bytes
+    is_companion: bool
+    path: bytes
+    at: int
+
+    def key(self):
+        return self.head[1 : 1 + KEY]
+
+    def entry(self):
+        """The key and the digest of a slice, which is read."""
+        with open(self.path, "rb") as file:
+            return self.key() + digest_in(file, self.at, record_size(self.head) - len(self.head))
+
+
+def read(archive_file):
+    """The records of an archive file."""
+    records = []
+    try:
+        with open(archive_file.path, "rb") as file:
+            for head, at in records_in(file):
+                file.seek(at + FILETYPE)
+                is_companion = head[:1] != RETIREMENT and file.read(len(MH_DSYM)) == MH_DSYM
+                records.append(Record(head, is_companion, archive_file.path, at))
+    except Malformed as fault:
+        archive_file.look_through(Program())
+        raise Failed(f"{shown(archive_file.path)}: {fault}", 4) from None
+    return records
+
+
+def numbers_of(records):
+    """The numbers. Of slices that may be retired, or may be one, the bytes are read."""
+    retired = {one.head[1:] for one in records if one.head[:1] == RETIREMENT}
+    slices = [one for one in records if one.head[:1] != RETIREMENT]
+    retired_keys, heads = {entry[:KEY] for entry in retired}, collections.Counter(one.head for one in slices)
+    images, companions, seen = collections.Counter(), collections.Counter(), set(retired)
+    for one in slices:
+        if one.key() in retired_keys or heads[one.head] > 1:
+            entry = one.entry()
+            if entry in seen:
+                continue
+            seen.add(entry)
+        (companions if one.is_companion else images)[one.key()] += 1
     answering = {**images, **companions}
     conflicts = sum(count > 1 for count in answering.values())
     counts = {"images": sum(images.values()), "companions": sum(companions.values()), "retirements": len(retired)}
-    counts.update({"conflicts": conflicts, "bytes": os.fstat(file.fileno()).st_size})
-    return [f"{name} {count}" for name, count in counts.items()]
-
-
-def is_retired(file, head, at, retired):
-    """Whether a slice is withdrawn in the archive that has it."""
-    file.seek(0)
-    if file.read(MAGIC) == MAGICS[0]:
-        return False
-    return head[1 : 1 + KEY] + digest_in(file, at, record_size(head) - len(head)) in retired
+    return [f"{name} {count}" for name, count in {**counts, "conflicts": conflicts}.items()]
 
 
 def sites_of(archive):
     """What `exchange` noted of each site."""
-    kept = archive.kept(ASKED)
+    kept = archive.main.kept(ASKED)
     return [note for note in kept[1] if note.startswith("site ")] if kept else []
 
 
@@ -82,6 +108,6 @@ def left_of(archive):
     """What a kill left. What belongs to one that works now is not."""
     if archive.lock is None or not archive.is_free():
         return []
-    paths = [archive.beside(ending) for ending in (NEXT_SUM, NEXT_LOG)]
+    paths = [archive.beside(ending) for ending in (NEXT_SUM, TODAY + NEXT_SUM, NEXT_LOG)]
     paths += [os.path.join(archive.folder, name) for name in archive.rooms()]
     return [f"left {shown(path)}" for path in paths if os.path.exists(path)]

@@ -70,6 +70,24 @@ def archive(images, retired=(), magic=b"MSYMARC2"):
     return magic + b"".join(sorted(records)) + b"\x03" + struct.pack(">Q", len(records))
 
 
+def records_in(text):
+    """The records of an archive."""
+    at, records = 8, []
+    while text[at] != 3:
+        size = 57 if text[at] == 1 else 33 + int.from_bytes(text[at + 25 : at + 33], "big")
+        records.append(text[at : at + size])
+        at += size
+    return records
+
+
+def join_of(*texts):
+    """The archive that has what these have together, but for slices that one of them retires."""
+    records = {record for text in texts for record in records_in(text)}
+    is_retired = lambda it: it[0] == 2 and b"\x01" + it[1:25] + hashlib.sha256(it[33:]).digest() in records
+    kept = sorted(it for it in records if not is_retired(it))
+    return b"MSYMARC2" + b"".join(kept) + b"\x03" + struct.pack(">Q", len(kept))
+
+
 def operations(images):
     """The operations file that admits these images, in their order."""
     return b"MSYMOPS1" + b"".join(map(admission, images))

@@ -1,13 +1,27 @@
 """A folder in which a case calls symarch-keep."""
 import os
 import pathlib
+import shutil
 import subprocess
 
 from .cases import same, symarch
+from .made_images import image, join_of
 
 keep = os.environ.get("KEEP") or str(pathlib.Path(__file__).resolve().parent.parent / "symarch-keep")
 # What stays beside an archive.
-BESIDE = ("lock", "log", "sum", "asked")
+BESIDE = ("lock", "log", "sum", "today", "today.sum", "asked")
+
+
+def today_of(archive):
+    """The file into which goes what comes in."""
+    return pathlib.Path(f"{os.fspath(archive)}.today")
+
+
+def bytes_of(archive):
+    """What an archive has, with what came in since its last fold."""
+    files = [path for path in (pathlib.Path(archive), today_of(archive)) if path.exists()]
+    texts = [path.read_bytes() for path in files]
+    return texts[0] if len(texts) == 1 else join_of(*texts)
 
 
 class Room:
@@ -23,6 +37,13 @@ class Room:
         with open(path, "wb") as file:
             file.write(content)
         return path
+
+    def make_many(self, count, folder="many", more=b"", first=0):
+        """Images in a folder."""
+        made = [image(first + number, more=more) for number in range(count)]
+        for number, one in enumerate(made):
+            self.file(f"{folder}/{number:04}", one)
+        return made
 
     def program(self, script, name="program"):
         """A program in the place of symarch, which is "$symarch" in it."""
@@ -54,7 +75,22 @@ class Room:
         return self.call("add", *words, self.archive, *paths, **more)
 
     def has(self, wanted):
-        same("archive", self.archive.read_bytes(), wanted)
+        same("archive", bytes_of(self.archive), wanted)
+
+    def begin_anew(self, text=None):
+        """Removes the archive with all beside it, and puts these bytes in its place, if any."""
+        for path in self.path.glob("site.sym*"):
+            if path.is_dir():
+                shutil.rmtree(path)
+            else:
+                path.unlink()
+        if text is not None:
+            self.archive.write_bytes(text)
+
+    def folded(self, wanted):
+        """After a fold the archive alone has all."""
+        self.call("fold", self.archive)
+        same("archive after a fold", self.archive.read_bytes(), wanted)
 
     def left(self):
         """What has a name that begins with that of the archive, but for what stays beside it."""
