@@ -1,0 +1,9 @@
+pub mod Kept
+pub mod Texts
+pub mod Ascending
+pub mod Fronts
+pub mod Faults
+pub mod Placed
+pub mod Sums
+pub mod Named
+pub mod Summarised
