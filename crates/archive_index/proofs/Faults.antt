@@ -51,7 +51,7 @@ no_fault s fault text are e (inr f) =
     let n = length (listing s) in
     let parts = same_parts index_magic index_magic (concat xs ++ rest) (concat (listing s) ++ end_record n) refl (sym f.1.front.whole ∙ e ∙ text_of_listing s) in
     let same = one_front [] xs (listing s) (length xs) n (concat xs ++ rest) rest (end_record n) f.1.front.ordered (ascending_members s are) refl parts.1
-        (λ h. no_false fault.kind (sym f.1.fails ∙ h)) (λ h. end_no_false (sym (end_next (last_of [] (listing s)) n) ∙ h)) in
+    (λ h. no_false fault.kind (sym f.1.fails ∙ h)) (λ h. end_no_false (sym (end_next (last_of [] (listing s)) n) ∙ h)) in
     err_no_end fault.kind (sym f.1.fails ∙ (λ i. next (last_of [] (same.0 i)) (length (same.0 i)) (same.1 i)) ∙ end_next (last_of [] (listing s)) n)
 
 err_kind : (k l : IndexFaultKind) → failed k ≡ failed l → k ≡ l
@@ -74,7 +74,7 @@ one_fault text f g (inr a) (inl b) = absurd (no_magic_fault text (concat a.0 ++ 
 one_fault text f g (inr a) (inr b) =
     let parts = same_parts index_magic index_magic (concat a.0 ++ a.1.front.rest) (concat b.0 ++ b.1.front.rest) refl (sym a.1.front.whole ∙ b.1.front.whole) in
     let same = one_front [] a.0 b.0 (length a.0) (length b.0) (concat a.0 ++ a.1.front.rest) a.1.front.rest b.1.front.rest a.1.front.ordered b.1.front.ordered refl parts.1
-        (λ h. no_false f.kind (sym a.1.fails ∙ h)) (λ h. no_false g.kind (sym b.1.fails ∙ h)) in
+    (λ h. no_false f.kind (sym a.1.fails ∙ h)) (λ h. no_false g.kind (sym b.1.fails ∙ h)) in
     let kinds : f.kind ≡ g.kind = err_kind f.kind g.kind (sym a.1.fails ∙ (λ i. next (last_of [] (same.0 i)) (length (same.0 i)) (same.1 i)) ∙ b.1.fails) in
     same_fault f.kind g.kind f.offset g.offset kinds (a.1.offset_is ∙ (λ i. 8 + length (concat (same.0 i)) + end_passed (kinds i)) ∙ sym b.1.offset_is)
 
@@ -85,5 +85,5 @@ one_text s t a b e =
     let m = length (listing t) in
     let parts = same_parts index_magic index_magic (concat (listing s) ++ end_record n) (concat (listing t) ++ end_record m) refl (sym (text_of_listing s) ∙ e ∙ text_of_listing t) in
     let same = one_front [] (listing s) (listing t) n m (concat (listing s) ++ end_record n) (end_record n) (end_record m) (ascending_members s a) (ascending_members t b) refl parts.1
-        (λ h. end_no_false (sym (end_next (last_of [] (listing s)) n) ∙ h)) (λ h. end_no_false (sym (end_next (last_of [] (listing t)) m) ∙ h)) in
+    (λ h. end_no_false (sym (end_next (last_of [] (listing s)) n) ∙ h)) (λ h. end_no_false (sym (end_next (last_of [] (listing t)) m) ∙ h)) in
     content_is s ∙ ap set.from_list same.0 ∙ sym (content_is t)

@@ -7,3 +7,7 @@ pub mod Placed
 pub mod Sums
 pub mod Named
 pub mod Summarised
+pub mod Entries
+pub mod Steps
+pub mod Made
+pub mod Read

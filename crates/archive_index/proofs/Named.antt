@@ -97,7 +97,7 @@ module _ (text rest : List ℕ) where
   to_placed k front q [] at whole h = absurd (no_truth h)
   to_placed k front q (r ∷ rs) at whole h =
       elim (is_same q r) as (λ b. is_same q r ≡ b → (b || list_any (is_same q) rs) ≡ true
-          → (e : List ℕ) × (list_any (is_same e) (placed_entries k (r ∷ rs)) ≡ true) × (offset : ℕ) × (e ≡ placed_entry offset q) × (take (length q) (drop offset text) ≡ q) × (offset + length q ≤ length text)) [
+      → (e : List ℕ) × (list_any (is_same e) (placed_entries k (r ∷ rs)) ≡ true) × (offset : ℕ) × (e ≡ placed_entry offset q) × (take (length q) (drop offset text) ≡ q) × (offset + length q ≤ length text)) [
         | true ↦ λ one _.
             let p = placed_here k front r rs at whole in
             let is : r ≡ q = sym (same_is q r one) in

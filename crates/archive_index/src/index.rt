@@ -1,10 +1,10 @@
 //! The index of a content.
 
-ghost use Rattle.std.specs.Prelude.{◌≡◌, ◌≤◌, ◌*◌, ◌^◌, map};
+ghost use Rattle.std.specs.Prelude.{◌≡◌, map};
 ghost use Rattle.std.specs.FinSet as set;
-ghost use Rattle.std.specs.List.{AllByRecursion};
+ghost use Rattle.std.specs.List.{AllByRecursion, sum_by};
 ghost use Rattle.join_core.specs.Listing.{listing};
-ghost use Rattle.archive_index.specs.Entry.{IsPlacedEntry, placed_bytes};
+ghost use Rattle.archive_index.specs.Entry.{IsPlacedEntry, length_in, placed_bytes};
 ghost use Rattle.archive_index.specs.Index.{AreIndexEntries, AreIndexed, lengths_of};
 
 use crate::entry::PlacedEntry;
@@ -75,10 +75,18 @@ impl Index {
     pub fn total_length(&self) -> u128
         ensures { result ≡ lengths_of self.now }
     {
-        let mut total: u128 = 0;
-        'adding: for entry in &self.entries {
-            total += u128::from(entry.length);
-        }
-        total
+        sum_lengths(&self.entries)
     }
+}
+
+// The lengths of the records that entries name, together.
+fn sum_lengths(entries: &[PlacedEntry]) -> u128
+    requires { AllByRecursion IsPlacedEntry (map placed_bytes entries.now) }
+    ensures { result ≡ sum_by length_in (map placed_bytes entries.now) }
+{
+    let mut total: u128 = 0;
+    'adding: for entry in entries {
+        total += u128::from(entry.length);
+    }
+    total
 }

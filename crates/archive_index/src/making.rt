@@ -11,9 +11,7 @@ ghost use Rattle.archive_index.specs.Reading.{Indexes};
 use crate::entry::PlacedEntry;
 use crate::fault::IndexingFault;
 use crate::index::Index;
-use archive_records::{
-    Format, NextRecord, RecordFault, RecordFaultKind, RecordReader, TextKind,
-};
+use archive_records::{Format, NextRecord, RecordFault, RecordFaultKind, RecordReader, TextKind};
 use byte_device::{Bytes, Failed, Source};
 use memory::Heap;
 

@@ -18,7 +18,9 @@ use byte_device::{ReadFault, Source, read_to_end};
 use memory::Heap;
 
 const RETIREMENT: u8 = 1;
+
 const ADMISSION: u8 = 2;
+
 const END: u8 = 3;
 
 /// How many bytes a magic has.

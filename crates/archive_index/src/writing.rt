@@ -24,11 +24,7 @@ pub(crate) fn magic() -> [u8; 8]
 }
 
 /// Writes the entries in their order after the first `done` bytes of a text.
-fn put_entries<W: Sink>(
-    entries: &[PlacedEntry],
-    w: &mut W,
-    done: u128,
-) -> Result<u128, WriteFault>
+fn put_entries<W: Sink>(entries: &[PlacedEntry], w: &mut W, done: u128) -> Result<u128, WriteFault>
     requires { done ≤ 8 }
     ensures ok { IfOk result (λ n. (n ≡ done + length (concat (map placed_bytes entries.now)))
         × Appends (W.held w.old) (W.held w.new) (concat (map placed_bytes entries.now))) }
