@@ -1,6 +1,6 @@
 -- Entries as values and as bytes.
-use Rattle.std.proofs.Common.{◌≡◌, ℕ, ◌+◌, ◌-◌, ◌<◌, ◌≤◌, ◌^◌, zero, suc, Bool, true, false, cond, ◌&&◌, List, [], ◌∷◌, ◌++◌, length, map, take, drop, get_or, refl, sym, ap, ◌∙◌, subst, arith, length-append, length-drop, append_assoc}
-use Rattle.std.specs.Prelude.{All, slice_set}
+use Rattle.std.proofs.Common.{◌≡◌, ℕ, ◌+◌, ◌-◌, ◌<◌, ◌^◌, zero, suc, Bool, true, false, cond, List, [], ◌∷◌, ◌++◌, length, map, take, drop, get_or, refl, sym, ap, ◌∙◌, subst, arith, length-append, length-drop, append_assoc}
+use Rattle.std.specs.Prelude.{slice_set}
 use Rattle.std.specs.Int.{w64, to_be_bytes, from_be_bytes}
 use Rattle.std.specs.List.{AllByRecursion}
 use Rattle.std.proofs.Math.Seq.{take-append_seam, drop-append_seam, drop-append-add, drop-cons}
@@ -11,20 +11,18 @@ use Rattle.sha2.specs.Sha256.{sha256}
 use Rattle.macho_image.specs.Contents.{is_dsym_image}
 use Rattle.archive_core.specs.Key.{key_bytes}
 use Rattle.archive_core.specs.Valid.{key_of}
-use Rattle.archive_core.specs.Record.{record_bytes, IsOperation, admission_record}
-use Rattle.archive_core.specs.Content.{is_admission}
+use Rattle.archive_core.specs.Record.{record_bytes, IsOperation}
 use Rattle.archive_core.specs.Find.{row_of}
 use Rattle.archive_core.specs.Summary.{entry}
 use Rattle.archive_core.specs.declared.find.FindRow.{FindRow}
-use Rattle.archive_core.specs.declared.find.FindState.{FindState}
-use Rattle.archive_core.specs.declared.find.FindState.TheVariants.{Retired, Image, Dsym}
+use Rattle.archive_core.specs.declared.find.FindState.TheVariants.{Image, Dsym}
 use Rattle.archive_core.specs.declared.operations.Operation.{Operation}
 use Rattle.archive_core.specs.declared.operations.Operation.TheVariants.{Admit, Retire}
 use Rattle.archive_core.proofs.Entries.{admission_entry, retirement_entry, slice_of}
 use Rattle.archive_records.proofs.Heads.{laid_last}
 use Rattle.archive_reading.specs.InnerRows.{IsRowOf}
 use Rattle.archive_index.specs.declared.entry.PlacedEntry.{PlacedEntry}
-use Rattle.archive_index.specs.Entry.{kind_byte, placed_entry, placed_bytes, tag_byte, dsym_byte, length_in, offset_in, IsPlacedEntry}
+use Rattle.archive_index.specs.Entry.{kind_byte, placed_entry, placed_bytes, tag_byte, dsym_byte, length_in, offset_in}
 
 -- ---- laid in place
 

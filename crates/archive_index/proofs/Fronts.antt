@@ -1,13 +1,13 @@
 -- What stands in front of the rest of an index's text, and that a text begins with entries in one way.
-use Rattle.std.proofs.Common.{◌≡◌, ◌≢◌, ℕ, ◌+◌, ◌<◌, ◌≤◌, Bool, true, false, not, cond, ◌||◌, ◌&&◌, ◌==◌, eqb, List, [], ◌∷◌, ◌++◌, length, take, drop, get_or, refl, sym, ap, ◌∙◌, subst, inl, inr, arith, length-append, length-drop, append_assoc, nat_le}
-use Rattle.std.specs.Prelude.{Result, Ok, Err, nat_lt}
+use Rattle.std.proofs.Common.{◌≡◌, ◌≢◌, ℕ, ◌+◌, ◌<◌, true, false, cond, ◌||◌, ◌&&◌, eqb, List, [], ◌∷◌, ◌++◌, length, take, drop, get_or, refl, sym, ap, ◌∙◌, subst, arith, length-append, length-drop, append_assoc, nat_le}
+use Rattle.std.specs.Prelude.{Ok}
 use Rattle.std.specs.Int.{w64, from_be_bytes}
 use Rattle.std.specs.List.{concat}
 use Rattle.std.specs.Str.{bytes_eq}
 use Rattle.std.specs.Ordering.{nat_cmp, is_lt}
 use Rattle.std.specs.Cmp.Lexicographic.{slice_cmp}
 use Rattle.std.proofs.Math.ListN.{get_or-append}
-use Rattle.std.proofs.Math.Seq.{take-append_seam, drop-append_seam}
+use Rattle.std.proofs.Math.Seq.{take-append_seam}
 use Rattle.std.proofs.lemmas.List.{take-append-le, drop-append-le, take_all}
 use Rattle.std.proofs.lemmas.Slice.Eq.{bytes_eq-Decides}
 use Rattle.std.proofs.lemmas.Bool.{le-ltb}
@@ -19,7 +19,6 @@ use Rattle.archive_records.specs.Text.{end_record, last_of}
 use Rattle.archive_records.proofs.Ends.{length-end_record, end-is_end}
 use Rattle.archive_index.specs.Entry.{IsPlacedEntry, has_tag, has_kind, has_length}
 use Rattle.archive_index.specs.Text.{AreAscending, next, test_end, test_entry}
-use Rattle.archive_index.specs.declared.fault.IndexFaultKind.{IndexFaultKind}
 
 -- no end record has the tag of an entry
 tag_apart : (n : ℕ) → (eqb n 1 || eqb n 2) ≡ true → eqb n 3 ≡ false

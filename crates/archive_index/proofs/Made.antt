@@ -1,5 +1,5 @@
 -- An index that is made of the records of an archive that was read.
-use Rattle.std.proofs.Common.{◌≡◌, ℕ, ◌<◌, ◌≤◌, ◌^◌, List, [], ◌∷◌, ◌++◌, length, take, map, Option, Some, None, Result, Ok, Err, refl, sym, ap, ◌∙◌, subst, inl, inr, arith, length-take}
+use Rattle.std.proofs.Common.{◌≡◌, ℕ, ◌≤◌, List, [], ◌++◌, length, take, map, Option, Some, None, Ok, Err, refl, sym, ap, ◌∙◌, subst, inl, inr, arith, length-take}
 use Rattle.std.specs.Prelude.{IfSome}
 use Rattle.std.specs.List.{concat, AllByRecursion}
 use Rattle.std.specs.FinSet as set
@@ -8,8 +8,7 @@ use Rattle.std.specs.Cmp.Lexicographic.{nat_list_cmp_total}
 use Rattle.std.proofs.lemmas.List.{append-nil, take_all}
 use Rattle.join_core.specs.Listing.{listing}
 use Rattle.join_core.proofs.Listing.{listing_ascending}
-use Rattle.archive_core.specs.Content.{Operations, IsContent}
-use Rattle.archive_records.specs.declared.fault.RecordFault.{RecordFault}
+use Rattle.archive_core.specs.Content.{Operations}
 use Rattle.archive_records.specs.declared.fault.RecordFaultKind.TheVariants.{OutOfMemory, Truncated}
 use Rattle.archive_records.specs.declared.format.Format.{Format}
 use Rattle.archive_records.specs.declared.format.Format.TheVariants.{Archive}
@@ -17,7 +16,7 @@ use Rattle.archive_records.specs.declared.kind.TextKind.TheVariants.{Archive as 
 use Rattle.archive_records.specs.Kind.{kind_of, magic, magic_of, archive_format}
 use Rattle.archive_records.specs.Text.{written, text_of}
 use Rattle.archive_records.specs.Reading.{IsReadWhole}
-use Rattle.archive_records.specs.Reader.{Position, HasRead, HasStopped, IsReadTo, AreRetired, DropsLast, set_of}
+use Rattle.archive_records.specs.Reader.{Position, HasRead, HasStopped, IsReadTo, set_of}
 use Rattle.archive_records.proofs.Puts.{bytes_same}
 use Rattle.archive_records.proofs.Apart.{apart_none}
 use Rattle.archive_records.proofs.Contents.{sorted-InOrder, written-records}
@@ -26,7 +25,6 @@ use Rattle.archive_records.proofs.Inputs.{archive_whole}
 use Rattle.archive_records.proofs.Undecided.{cut_off}
 use Rattle.archive_records.specs.Fault.{next}
 use Rattle.archive_records.specs.Layout.{framed}
-use Rattle.archive_records.specs.declared.fault.RecordFaultKind.{RecordFaultKind}
 use Rattle.archive_index.specs.declared.entry.PlacedEntry.{PlacedEntry}
 use Rattle.archive_index.specs.declared.fault.IndexingFault.{IndexingFault}
 use Rattle.archive_index.specs.declared.fault.IndexingFault.TheVariants.{Archive as Archive_fault, OldArchive, TooLong}

@@ -1,6 +1,5 @@
 -- Records that the entries of a content's index name.
 use Rattle.std.proofs.Common.{◌≡◌, ℕ, ◌+◌, ◌<◌, ◌≤◌, ◌^◌, Bool, true, false, ◌||◌, ◌&&◌, List, [], ◌∷◌, ◌++◌, length, take, drop, refl, sym, ap, ◌∙◌, subst, inl, inr, arith, length-append, length-drop, append_assoc}
-use Rattle.std.specs.Prelude.{filter, Contains}
 use Rattle.std.specs.List.{AllZip, concat, list_any}
 use Rattle.std.specs.Ordering.{eq_by_cmp, is_eq}
 use Rattle.std.specs.Str.{bytes_eq}
@@ -17,7 +16,7 @@ use Rattle.join_core.proofs.Listing.{any_listing}
 use Rattle.join_core.proofs.Retain.{listing_retain}
 use Rattle.archive_core.specs.Key.{key_bytes}
 use Rattle.archive_core.specs.Valid.{IsValid, key_of}
-use Rattle.archive_core.specs.Record.{IsRecord, admission, admission_record, retirement_record}
+use Rattle.archive_core.specs.Record.{IsRecord, admission, admission_record}
 use Rattle.archive_core.specs.Content.{Operations, IsContent, is_admission, content_of}
 use Rattle.archive_core.specs.Part.{is_under, part}
 use Rattle.archive_core.specs.Summary.{Entries, entry}

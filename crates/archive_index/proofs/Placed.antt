@@ -1,17 +1,15 @@
 -- The entries of records that stand one after another.
-use Rattle.std.proofs.Common.{◌≡◌, ℕ, ◌+◌, ◌-◌, ◌<◌, ◌≤◌, ◌^◌, Bool, true, false, cond, ◌&&◌, ◌||◌, ◌==◌, eqb, List, [], ◌∷◌, ◌++◌, length, map, take, drop, get_or, refl, sym, ap, ◌∙◌, subst, inl, inr, ◌⊎◌, arith, length-append, append_assoc, nat_le}
+use Rattle.std.proofs.Common.{◌≡◌, ℕ, ◌+◌, ◌-◌, ◌<◌, ◌^◌, Bool, true, false, cond, ◌&&◌, ◌||◌, eqb, List, [], ◌∷◌, ◌++◌, length, map, take, drop, get_or, refl, sym, ap, ◌∙◌, inl, inr, arith, length-append, nat_le}
 use Rattle.std.specs.Int.{w64, to_be_bytes, from_be_bytes}
 use Rattle.std.specs.List.{concat, AllByRecursion}
-use Rattle.std.specs.FinSet as set
 use Rattle.std.proofs.Math.ListN.{get_or-append}
 use Rattle.std.proofs.Math.Seq.{take-append_seam, drop-append_seam, drop-append-add, get_or-append_right}
 use Rattle.std.proofs.lemmas.List.{map-append, take_all, drop-drop}
 use Rattle.std.proofs.lemmas.Bool.{le-leb}
 use Rattle.std.proofs.lemmas.Nat.{from_be_bytes-to_be_bytes_8}
-use Rattle.join_core.specs.Listing.{listing}
 use Rattle.macho_image.specs.Contents.{is_dsym_image}
-use Rattle.archive_core.specs.Record.{IsRecord, Admits, Retires, admission_record, retirement_record}
-use Rattle.archive_core.specs.Content.{Operations, IsContent, is_admission}
+use Rattle.archive_core.specs.Record.{IsRecord, Admits, Retires}
+use Rattle.archive_core.specs.Content.{is_admission}
 use Rattle.archive_core.specs.Summary.{entry}
 use Rattle.archive_core.proofs.Records.{length-admission_record, length-retirement_record}
 use Rattle.archive_core.proofs.Entries.{admission_entry, retirement_entry, length-entry}
@@ -20,8 +18,8 @@ use Rattle.archive_records.specs.Layout.{largest_slice}
 use Rattle.archive_records.specs.Text.{InOrder}
 use Rattle.archive_records.proofs.SliceFacts.{short_slice}
 use Rattle.archive_index.specs.declared.entry.PlacedEntry.{PlacedEntry}
-use Rattle.archive_index.specs.Entry.{kind_byte, placed_entry, placed_bytes, has_tag, has_kind, has_length, length_in, offset_in, IsPlacedEntry}
-use Rattle.archive_index.specs.Index.{index, placed_entries}
+use Rattle.archive_index.specs.Entry.{kind_byte, placed_entry, placed_bytes, length_in, offset_in, IsPlacedEntry}
+use Rattle.archive_index.specs.Index.{placed_entries}
 
 -- one record more
 pub placed_push : (k : ℕ) (rs : List (List ℕ)) (r : List ℕ) → placed_entries k (rs ++ r ∷ []) ≡ placed_entries k rs ++ placed_entry (k + length (concat rs)) r ∷ []

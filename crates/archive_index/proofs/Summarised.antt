@@ -13,7 +13,6 @@ use Rattle.archive_core.specs.Summary.{entry, summary}
 use Rattle.archive_core.proofs.Made.{bytes_same, or_left, or_right}
 use Rattle.archive_core.proofs.Summaries.{member_of_entry, entry_of_member}
 use Rattle.archive_records.proofs.Contents.{order}
-use Rattle.archive_index.specs.Entry.{placed_entry}
 use Rattle.archive_index.specs.Index.{index}
 use Rattle.archive_index.proofs.Placed.{entry_front}
 use Rattle.archive_index.proofs.Named.{entry_in, entry_for}

@@ -1,6 +1,6 @@
 -- The one text of entries, and the one fault of a text that is none.
 use Rattle.std.specs.Prelude.{◌≡◌, ◌≢◌, ℕ, ◌+◌, ◌<◌, Bool, true, false, not, List, [], ◌∷◌, ◌++◌, length, take}
-use Rattle.std.specs.Prelude.{◌⊎◌, ◌==◌, if◌then◌else◌, nat_lt, Result, Ok, Err}
+use Rattle.std.specs.Prelude.{◌⊎◌, if◌then◌else◌, nat_lt, Result, Ok, Err}
 use Rattle.std.specs.List.{concat}
 use Rattle.std.specs.Str.{bytes_eq}
 use Rattle.std.specs.Ordering.{nat_cmp, is_lt}

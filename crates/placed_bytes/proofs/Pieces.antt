@@ -1,6 +1,5 @@
 -- Bytes that are taken piece by piece.
-use Rattle.std.proofs.Common.{◌≡◌, ℕ, ◌+◌, ◌<◌, ◌≤◌, subst, List, ◌++◌, length, take, drop, Option, Some, None, sym, ap, ◌∙◌, length-append, length-take, append_assoc, arith}
-use Rattle.std.specs.Prelude.{IfSome}
+use Rattle.std.proofs.Common.{◌≡◌, ℕ, ◌+◌, ◌≤◌, subst, List, ◌++◌, length, take, drop, Option, Some, None, sym, ap, ◌∙◌, length-append, length-take, append_assoc, arith}
 use Rattle.std.proofs.lemmas.List.{length-take-le, drop-drop, take-take, take-append-le}
 use Rattle.std.proofs.Math.Seq.{take-add, take-append-add}
 use Rattle.placed_bytes.specs.Places.{Stands, TakenAt}

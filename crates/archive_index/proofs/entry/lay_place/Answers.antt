@@ -1,4 +1,4 @@
-use Rattle.std.proofs.Common.{ℕ, List, ◌∷◌, ◌++◌, ◌∙◌, ap, length, refl}
+use Rattle.std.proofs.Common.{◌∷◌, ◌++◌, ◌∙◌, ap, length}
 use Rattle.archive_index.proofs.Entries.{laid_place}
 use Rattle.archive_index.proofs.entry.lay_place.Goals as goal
 

@@ -1,4 +1,4 @@
-use Rattle.std.proofs.Common.{◌≡◌, ℕ, List, Option, length, take, subst, sym}
+use Rattle.std.proofs.Common.{◌≡◌, take, subst}
 use Rattle.std.specs.Io.KnownBytes.{Consumes}
 use Rattle.archive_records.specs.Kind.{magic}
 use Rattle.archive_index.proofs.Made.{begun, magic_is, wanted}

@@ -1,9 +1,8 @@
-use Rattle.std.proofs.Common.{◌≡◌, ◌≤◌, ◌^◌, ℕ, List, ◌∙◌, sym, ap, subst, arith, inr, refl, [], ◌∷◌, ◌++◌, length, length-append}
+use Rattle.std.proofs.Common.{◌≤◌, ◌^◌, ℕ, List, ◌∙◌, arith, inr, refl, [], ◌∷◌, ◌++◌, length, length-append}
 use Rattle.std.specs.List.{concat}
-use Rattle.archive_records.specs.Kind.{kind_of, magic}
-use Rattle.archive_records.specs.Reader.{IsFoundIn}
+use Rattle.archive_records.specs.Kind.{magic}
 use Rattle.archive_records.specs.declared.format.Format.TheVariants.{Archive}
-use Rattle.archive_records.proofs.Steps.{HasRead-grows, HasReadAll-grows, Stopped-fails, Stopped-unkept}
+use Rattle.archive_records.proofs.Steps.{HasRead-grows, Stopped-fails, Stopped-unkept}
 use Rattle.archive_index.proofs.Placed.{entries_more}
 use Rattle.archive_index.proofs.making.take_entries.Goals as goal
 

@@ -1,4 +1,4 @@
-use Rattle.std.proofs.Common.{ℕ, List, ◌++◌, ◌∙◌, ap, length, refl}
+use Rattle.std.proofs.Common.{◌++◌, ◌∙◌, refl}
 use Rattle.archive_records.proofs.Heads.{laid_last}
 use Rattle.archive_index.specs.Entry.{placed_bytes}
 use Rattle.archive_index.proofs.entry.PlacedEntry.bytes.Goals as goal
