@@ -47,6 +47,8 @@ pub record IsPlacedText (a b : Option (List ℕ)) (entries : List PlacedEntry) :
 -- what the first bytes of an archive say: which of the magics they are
 abbrev pub MagicTested : List ℕ → Result (Unit {0}) IndexingFault → Type 0
 MagicTested came (Ok _) = came ≡ magic
-MagicTested came (Err (Archive_fault fault)) = (fault.offset ≡ 0) × StopsInMagicOf Archive_text came fault.kind × (fault.kind ≡ Truncated → length came < 8) × (fault.kind ≢ Device)
+MagicTested came (Err (Archive_fault fault)) =
+    (fault.offset ≡ 0) × StopsInMagicOf Archive_text came fault.kind
+    × (fault.kind ≡ Truncated → length came < 8) × (fault.kind ≢ Device)
 MagicTested came (Err OldArchive) = came ≡ old_magic
 MagicTested came (Err TooLong) = ⊥

@@ -48,8 +48,8 @@ pub record IsIndexRead {R : Type 0} (left : R → Option (List ℕ)) (failures :
   pub at_end : IsAtEnd (left new)
   pub unfailed : failures new ≡ failures old
 
--- Why no index is read. The whole input is read before it is looked at: so a reader that fails, and want of memory while
--- it is read, come before each fault of the text.
+-- Why no index is read. The whole input is read before it is looked at: so a reader that fails, and want of memory
+-- while it is read, come before each fault of the text.
 pub record IsIndexRefused {R : Type 0} (left : R → Option (List ℕ)) (failures : R → ℕ) (old new : R)
     (fault : IndexFault) : Type 0 where
   pub faulty : IsOfIndex fault.kind → IfSome (left old) (λ text. IsIndexFault text fault)

@@ -13,7 +13,8 @@ use Rattle.archive_records.specs.Text.{end_record, last_of}
 use Rattle.archive_index.specs.Entry.{IsPlacedEntry, has_tag, has_kind, has_length}
 use Rattle.archive_index.specs.declared.fault.IndexFault.{IndexFault}
 use Rattle.archive_index.specs.declared.fault.IndexFaultKind.{IndexFaultKind}
-use Rattle.archive_index.specs.declared.fault.IndexFaultKind.TheVariants.{BadMagic, Truncated, BadTag, BadKind, BadLength}
+use Rattle.archive_index.specs.declared.fault.IndexFaultKind.TheVariants.{BadMagic, Truncated, BadTag, BadKind}
+use Rattle.archive_index.specs.declared.fault.IndexFaultKind.TheVariants.{BadLength}
 use Rattle.archive_index.specs.declared.fault.IndexFaultKind.TheVariants.{NotAscending, BadCount, Trailing}
 use Rattle.archive_index.specs.declared.fault.IndexFaultKind.TheVariants.{Device, OutOfMemory}
 

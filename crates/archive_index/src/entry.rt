@@ -9,7 +9,8 @@ ghost use Rattle.archive_core.specs.Find.{row_of};
 ghost use Rattle.archive_core.specs.declared.operations.Operation.TheVariants.{Admit};
 ghost use Rattle.archive_records.specs.Reader.{IsFound};
 ghost use Rattle.archive_reading.specs.InnerRows.{IsRowOf};
-ghost use Rattle.archive_index.specs.Entry.{IsPlacedEntry, dsym_byte, has_kind, has_tag, placed_bytes, placed_entry, tag_byte};
+ghost use Rattle.archive_index.specs.Entry.{IsPlacedEntry, dsym_byte, has_kind, has_tag};
+ghost use Rattle.archive_index.specs.Entry.{placed_bytes, placed_entry, tag_byte};
 
 use archive_core::{CheckedSlice, FindRow, FindState, SliceFacts};
 use archive_records::{ADMISSION_HEAD_LEN, Entry, digest_in, key_in};

@@ -31,8 +31,8 @@ pub enum IndexFaultKind {
 #[derive(Clone, Copy, Debug, PartialEq, Eq)]
 pub struct IndexFault {
     pub kind: IndexFaultKind,
-    /// How many bytes stand before the faulty entry, or for `Trailing` before the first byte after the end record. It is
-    /// 0 for the magic, and for `Device` and `OutOfMemory` before the whole input was read.
+    /// How many bytes stand before the faulty entry, or for `Trailing` before the first byte after the end record. It
+    /// is 0 for the magic, and for `Device` and `OutOfMemory` before the whole input was read.
     pub offset: u64,
 }
 

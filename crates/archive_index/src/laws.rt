@@ -20,9 +20,9 @@ pub fn right()
         → AreNamed front (index o) (written o) p → p ≡ part o (is_under front) }
 {}
 
-/// Over any bytes, what is named by the index of a content is what that content has there, unless a slice that was found
-/// has the SHA-256 of a different one of the content. So of an archive that has changed since, that of the indexed
-/// content is told, or nothing.
+/// Over any bytes, what is named by the index of a content is what that content has there, unless a slice that was
+/// found has the SHA-256 of a different one of the content. So of an archive that has changed since, that of the
+/// indexed content is told, or nothing.
 pub fn answers_are_of_the_index()
     ensures { (front text : List ℕ) (o p : Operations) → length front ≤ 24 → IsContent o
         → (named : AreNamed front (index o) text p) → TellsFound o named.records → p ≡ part o (is_under front) }

@@ -8,9 +8,7 @@
 //! - `index`: [`Index`], the entries of a content;
 //! - `fault`: why no index is made or read, and why no record is read by it;
 //! - `making`: [`index_archive`]; `writing`: [`write_index`]; `reading`: [`read_index`];
-//! - `places`: [`part_at`], a part of an archive's content, read at the places that an index names;
-//! - `rows`: [`list_index`], what a list of the archive tells, by its index alone;
-//! - `laws`: what an index tells of the content that it was made of.
+//! - [`laws`]: what an index tells of the content that it was made of.
 #![tactic(auto)]
 
 mod entry;

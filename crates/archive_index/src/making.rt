@@ -5,7 +5,8 @@ ghost use Rattle.std.specs.Io.KnownBytes.{Consumes, IsAtEnd};
 ghost use Rattle.byte_device.specs.Devices.{FailedIn};
 ghost use Rattle.archive_records.specs.declared.format.Format.TheVariants.{Archive};
 ghost use Rattle.archive_records.specs.Reader.{HasRead};
-ghost use Rattle.archive_index.specs.InnerMaking.{BlamesIndexing, HasStoppedIndexing, IsPlacedText, MagicTested, PlacesAll};
+ghost use Rattle.archive_index.specs.InnerMaking.{BlamesIndexing, HasStoppedIndexing};
+ghost use Rattle.archive_index.specs.InnerMaking.{IsPlacedText, MagicTested, PlacesAll};
 ghost use Rattle.archive_index.specs.Reading.{Indexes};
 
 use crate::entry::PlacedEntry;

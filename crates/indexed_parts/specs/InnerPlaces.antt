@@ -18,7 +18,8 @@ pub record IsTakenOf (text entry : List ℕ) (old new : Operations) : Type 0 whe
   pub taken : new ≡ with_record old record_bytes
 
 -- of the first n entries those under the front were taken
-pub record IsTakenTo (front : List ℕ) (entries : List (List ℕ)) (text : List ℕ) (n : ℕ) (held : Operations) : Type 0 where
+pub record IsTakenTo (front : List ℕ) (entries : List (List ℕ)) (text : List ℕ) (n : ℕ) (held : Operations)
+    : Type 0 where
   pub records : List (List ℕ)
   pub named : AllZip (IsNamedBy text) (filter (is_under front) (take n entries)) records
   pub held_is : held ≡ with_records set.empty records

@@ -146,8 +146,8 @@ fn part_named<A: Archive + Drop, P: Placed>(
     Ok(part)
 }
 
-/// Reads the records under a UUID or a key at the places that an index names: each admission is tested as a record of an
-/// archive is, and its slice hashed and compared with its entry. It takes the memory of the part, and of its largest
+/// Reads the records under a UUID or a key at the places that an index names: each admission is tested as a record of
+/// an archive is, and its slice hashed and compared with its entry. It takes the memory of the part, and of its largest
 /// record twice, which grows with the bytes that come.
 ///
 /// # Errors

@@ -54,8 +54,8 @@ fn admission_in(bytes: &[u8]) -> Option<SliceFacts>
     }
 }
 
-/// What a check finds out of the slice of an admission, if these bytes are the record that the entry is of. The slice is
-/// hashed.
+/// What a check finds out of the slice of an admission, if these bytes are the record that the entry is of. The slice
+/// is hashed.
 fn admission_of(entry: &PlacedEntry, bytes: &[u8]) -> Option<SliceFacts>
     ensures found { IfSome result (λ facts. IsFound bytes.now (Some facts)) }
     ensures named { IfSome result (λ _. placed_bytes entry.now ≡ placed_entry entry.now.offset bytes.now) }
@@ -81,7 +81,8 @@ fn bytes_at<P: Placed>(
     requires { HasSize (P.whole archive.old) size }
     ensures read { IfOk result (λ read. MatchOption read
         (EndsBefore (P.whole archive.old) (entry.now.offset + entry.now.length))
-        (λ bytes. (length bytes.items ≡ entry.now.length) × Stands (P.whole archive.old) entry.now.offset bytes.items)) }
+        (λ bytes. (length bytes.items ≡ entry.now.length)
+        × Stands (P.whole archive.old) entry.now.offset bytes.items)) }
     ensures keeps { P.whole archive.new ≡ P.whole archive.old }
     ensures unfailed { OnOk result (P.failures archive.new ≡ P.failures archive.old) }
     ensures device { result ≡ Err ReadFault.Device → FailedIn (P.failures archive.old) (P.failures archive.new) }

@@ -1,8 +1,8 @@
 -- Bytes that are taken from a place, of all the bytes there are, where these are known.
 use Rattle.std.specs.Prelude.{◌≡◌, ◌≤◌, ◌<◌, ℕ, List, length, take, drop, Option, Some, None, IfSome}
 
--- The first n bytes of the buffer are those from this place on; none came only at or past the end, or where there was no
--- room.
+-- The first n bytes of the buffer are those from this place on; none came only at or past the end, or where there was
+-- no room.
 pub record Takes (all : List ℕ) (at n : ℕ) (buf : List ℕ) : Type 0 where
   pub bytes : take n buf ≡ take n (drop at all)
   pub at_end : n ≡ 0 → 0 < length buf → length all ≤ at
