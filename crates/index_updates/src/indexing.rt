@@ -1,5 +1,5 @@
 //! ARCHIVE, read and indexed.
-ghost use Rattle.std.specs.Prelude.{◌≡◌, ⊥, IfOk, IfErr, OnOk};
+ghost use Rattle.std.specs.Prelude.{◌≡◌, IfOk, IfErr, OnOk};
 ghost use Rattle.command_ends.specs.Inputs.{IsRefusal, Unfailed, reader};
 ghost use Rattle.command_ends.specs.declared.faults.Place.TheVariants.{Archive};
 ghost use Rattle.index_updates.specs.Index.{HoldsIndexed, IsNotIndexed, WantsMemory, why_of};
