@@ -1,1 +1,1 @@
-pub mod Wanting
+pub mod Refused
