@@ -17,7 +17,7 @@ const OWN: [Format; 4] = [
 ];
 
 /// What an index begins with.
-const INDEX_MAGIC: [u8; MAGIC_LEN as usize] = *b"MSYMIDX1";
+const INDEX_MAGIC: &[u8] = b"MSYMIDX1";
 
 /// Why OUT takes no bytes, or was not put in place.
 #[derive(Clone, Copy, Debug)]
@@ -150,7 +150,9 @@ fn target_of<F: Files>(alloc: Global, files: &F, path: &str) -> Result<String, O
 /// Whether a file is one of symarch's own, told by what it begins with.
 fn is_own<R: Read>(file: &mut R) -> bool {
     match magic_in(file) {
-        Ok(magic) => magic == INDEX_MAGIC || OWN.iter().any(|format| format.magic() == magic),
+        Ok(magic) => {
+            magic.starts_with(INDEX_MAGIC) || OWN.iter().any(|format| format.magic() == magic)
+        }
         Err(_) => false,
     }
 }
