@@ -4,8 +4,8 @@ import re
 import formats as F
 from hints import second_line
 from formats import (Content, Fault, MergeFault, Refused, Reader, Source, addr, admission, answering, answer_lines,
-                     arch_word, address_word, copy_unnamed, covering, digest_word, find_lines, find_rows, key_of,
-                     key_text, merge_streams, name_lines, parts_of_file, read_archive, read_frames, read_ops,
+                     arch_word, address_word, copy_unnamed, covering, digest_word, find_lines, find_rows, index_text,
+                     key_of, key_text, merge_streams, name_lines, parts_of_file, read_archive, read_frames, read_ops,
                      read_script, read_summary, retirement, run_world, sha, slice_of, summary_text, uuid_word)
 
 INF = 1 << 62
@@ -118,7 +118,7 @@ def text_line(b):
 
 # ---------------------------------------------------------------- plans
 
-ONE = {"new": "out", "find": "archive uuid", "list": "archive", "name": "archive name", "summary": "archive out",
+ONE = {"new": "out", "find": "archive uuid", "list": "archive", "name": "archive name", "summary": "archive out", "index": "archive out",
        "delta": "archive summary out", "rehearse": "script", "retire": "in out uuid arch digest",
        "apply": "in out ops", "admit": "in out file*", "merge": "in out file*", "migrate": "in out",
        "symbolicate": "archive uuid arch address*", "frames": "frames archives*"}
@@ -435,6 +435,16 @@ class Run:
         text = summary_text(e)
         self.write(text)
         self.tell(["summary: %d entries, %d bytes" % (len(e), len(text))])
+        return 0
+
+    def cmd_index(self, p):
+        src = self.open(p["archive"])
+        if src and src.data[:src.end][:8] == b"MSYMARC1":
+            raise CmdFault("archive 0", "OldArchive")
+        c = self.archive(p["archive"], "archive 0")
+        text = index_text(c)
+        self.write(text)
+        self.tell(["index: %d entries, %d bytes" % (c.len(), len(text))])
         return 0
 
     def cmd_delta(self, p):
@@ -913,9 +923,9 @@ def inputs_of(p):
 def obstacle(cmd, there, new):
     """why a file with these bytes does not give way to the new ones, if it does not; None of the new ones where a
     command is stopped before it has all of them"""
-    if there and there[:8] not in F.magics() + [F.OPS, F.SUM]:
+    if there and there[:8] not in F.magics() + [F.OPS, F.SUM, F.IDX]:
         return "neither empty nor one of symarch's files"
-    if new is None or cmd in ("summary", "delta") or there[:8] not in F.magics():
+    if new is None or cmd in ("summary", "index", "delta") or there[:8] not in F.magics():
         return None
     records, fault = F.good_front(there)
     if fault:

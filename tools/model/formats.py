@@ -26,6 +26,7 @@ def magics():
 
 OPS = b"MSYMOPS1"
 SUM = b"MSYMSUM1"
+IDX = b"MSYMIDX1"
 
 
 @lru_cache(maxsize=400000)
@@ -314,6 +315,16 @@ class Content:
 
 def summary_text(entries):
     return SUM + b"".join(sorted(entries)) + b"\x03" + struct.pack(">Q", len(entries))
+
+
+def index_text(content):
+    """of each record its entry, whether it is a companion's, and where it stands in the text of version 2"""
+    entries, at = [], 8
+    for r in content.records():
+        companion = r[0] == 2 and slice_of(r[33:])[1].dsym
+        entries.append(entry(r) + bytes([companion]) + struct.pack(">QQ", at, len(r)))
+        at += len(r)
+    return IDX + b"".join(sorted(entries)) + b"\x03" + struct.pack(">Q", len(entries))
 
 
 # ---------------------------------------------------------------- readers

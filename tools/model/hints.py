@@ -16,6 +16,8 @@ def look_of(there):
         return "an operations file, which `apply` takes"
     if there[:8] == F.SUM:
         return "a summary, which `delta` takes"
+    if there[:8] == F.IDX:
+        return "an index, which `index` writes"
     if there[:4] in MACH_O:
         return "a Mach-O file, which `admit` takes"
     if there[:4] == UNIVERSAL[0] and int.from_bytes(there[4:8].ljust(4, b"\0"), "big") >= 43:
@@ -111,6 +113,8 @@ def what_is_wrong(place, text, folder, word, obstacle):
         return ", the file of an input" if is_there else NO_FILE
     if text == "cannot open":
         return NO_FILE
+    if text == "OldArchive":
+        return ", an archive of version 1, which `migrate` takes"
     if place in ("frames", "script"):
         return faulty_line(text, folder.bytes(word[1:]))
     look = look_of(folder.bytes(word[1:]))

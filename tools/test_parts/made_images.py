@@ -99,6 +99,16 @@ def summary(images):
     return b"MSYMSUM1" + b"".join(sorted(entries)) + b"\x03" + struct.pack(">Q", len(entries))
 
 
+def index(images):
+    """The index of the archive of these images, none of which is a companion."""
+    entries, place = [], 8
+    for record in sorted(map(admission, images)):
+        entry = b"\x02" + record[1:25] + hashlib.sha256(record[33:]).digest()
+        entries.append(entry + b"\0" + struct.pack(">QQ", place, len(record)))
+        place += len(record)
+    return b"MSYMIDX1" + b"".join(sorted(entries)) + b"\x03" + struct.pack(">Q", len(entries))
+
+
 def line(word, made, path):
     """The line of a slice, by its path as it has to be printed."""
     arch = WORDS[struct.unpack_from("<II", made, 4)]

@@ -16,6 +16,9 @@ const OWN: [Format; 4] = [
     Format::Summary,
 ];
 
+/// What an index begins with.
+const INDEX_MAGIC: &[u8] = b"MSYMIDX1";
+
 /// Why OUT takes no bytes, or was not put in place.
 #[derive(Clone, Copy, Debug)]
 pub enum OutFault {
@@ -50,7 +53,7 @@ pub enum Obstacle {
 /// Which of symarch's own files a command replaces.
 #[derive(Clone, Copy, Debug, PartialEq, Eq)]
 pub enum Replaces {
-    /// Each of them: what it writes is a message to another site.
+    /// Each of them: what it writes is a message to another site, or an index.
     OwnFiles,
     /// Each but an archive that has a record which the new one neither has nor covers.
     ArchivesBelow,
@@ -147,7 +150,9 @@ fn target_of<F: Files>(alloc: Global, files: &F, path: &str) -> Result<String, O
 /// Whether a file is one of symarch's own, told by what it begins with.
 fn is_own<R: Read>(file: &mut R) -> bool {
     match magic_in(file) {
-        Ok(magic) => OWN.iter().any(|format| format.magic() == magic),
+        Ok(magic) => {
+            magic.starts_with(INDEX_MAGIC) || OWN.iter().any(|format| format.magic() == magic)
+        }
         Err(_) => false,
     }
 }

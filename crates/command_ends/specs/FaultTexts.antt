@@ -8,6 +8,7 @@ use Rattle.command_ends.specs.declared.faults.Place.TheVariants.{Archive, File, 
 use Rattle.command_ends.specs.declared.faults.Place.TheVariants.{Frames}
 use Rattle.command_ends.specs.declared.faults.Why.{Why}
 use Rattle.command_ends.specs.declared.faults.Why.TheVariants.{CannotOpen, Device, Record, Take, Script, BadFrame}
+use Rattle.command_ends.specs.declared.faults.Why.TheVariants.{OldArchive, TooLong}
 use Rattle.command_ends.specs.declared.faults.CommandFault.{CommandFault}
 use Rattle.command_ends.specs.declared.faults.CommandFault.TheVariants.{Input, Output, Report, OutOfMemory}
 
@@ -28,6 +29,8 @@ why_text (Record fault) = record_fault_text fault
 why_text (Take fault) = take_fault_text fault
 why_text (Script fault line _) = script_fault_text fault ++ codes " at line " ++ decimal line
 why_text (BadFrame line _) = codes "BadFrame at line " ++ decimal line
+why_text OldArchive = codes "OldArchive"
+why_text TooLong = codes "TooLong"
 
 -- where a device failed: the number of bytes that it had taken
 abbrev pub failed_after : ℕ → List ℕ

@@ -30,7 +30,7 @@ use Rattle.command_ends.specs.declared.faults.Place.TheVariants.{Archive, File, 
 use Rattle.command_ends.specs.declared.faults.Place.TheVariants.{Frames}
 use Rattle.command_ends.specs.declared.faults.Why.{Why}
 use Rattle.command_ends.specs.declared.faults.Why.TheVariants.{Device as CannotRead, Record, Take, Script as Faulty}
-use Rattle.command_ends.specs.declared.faults.Why.TheVariants.{CannotOpen as NotOpened, BadFrame}
+use Rattle.command_ends.specs.declared.faults.Why.TheVariants.{CannotOpen as NotOpened, BadFrame, OldArchive, TooLong}
 
 -- An input in a call, before it and after it: a reader, or that none was opened. The functions tell what a reader has
 -- left, where that is known, and how often it has failed.
@@ -123,6 +123,8 @@ IsUnread input (Record _) = ⊥
 IsUnread input (Take _) = ⊥
 IsUnread input (Faulty _ _ _) = ⊥
 IsUnread input (BadFrame _ _) = ⊥
+IsUnread input OldArchive = ⊥
+IsUnread input TooLong = ⊥
 
 -- why a script is not carried out: its bytes are not read, or they are and this is wrong with their first faulty
 -- line, which has this flaw
@@ -134,6 +136,8 @@ IsScriptRefused input (Take _) = ⊥
 IsScriptRefused input (Faulty fault line flaw) = Unfailed input
     × Gives input (λ bytes. (script_of bytes ≡ Err (fault, line)) × (flaw ≡ script_flaw fault (line_at bytes line)))
 IsScriptRefused input (BadFrame _ _) = ⊥
+IsScriptRefused input OldArchive = ⊥
+IsScriptRefused input TooLong = ⊥
 
 -- why nothing is told of frames: their bytes are not read, or they are and this is their first faulty line, with its
 -- flaw
@@ -145,6 +149,8 @@ IsFramesRefused input (Take _) = ⊥
 IsFramesRefused input (Faulty _ _ _) = ⊥
 IsFramesRefused input (BadFrame line flaw) = Unfailed input
     × Gives input (λ bytes. (frames_of bytes ≡ Err line) × (flaw ≡ frame_flaw (line_at bytes line)))
+IsFramesRefused input OldArchive = ⊥
+IsFramesRefused input TooLong = ⊥
 
 -- The input is an archive's text.
 abbrev pub IsArchive : {S : Type 0} → Reader S → Type 0
@@ -271,6 +277,8 @@ IsDeviceFault (Record fault) = fault.kind ≡ Device
 IsDeviceFault (Take _) = ⊥
 IsDeviceFault (Faulty _ _ _) = ⊥
 IsDeviceFault (BadFrame _ _) = ⊥
+IsDeviceFault OldArchive = ⊥
+IsDeviceFault TooLong = ⊥
 
 -- An archive's text is refused for its device alone.
 abbrev pub RefusesDevicesAlone : {R : Type 0} → (Reader R → Place → Why → Type 0) → Type 0

@@ -57,6 +57,10 @@ pub enum Why {
         line: u64,
         flaw: FrameFlaw,
     },
+    /// It is an archive of version 1, of which no index is made.
+    OldArchive,
+    /// It is an archive with a record that stands after more bytes than an index counts.
+    TooLong,
 }
 
 /// Why a command is refused.
@@ -139,6 +143,8 @@ impl fmt::Display for Why {
                 write!(f, "{fault} at line {line}")
             }
             Why::BadFrame { line, .. } => write!(f, "BadFrame at line {line}"),
+            Why::OldArchive => f.write_str("OldArchive"),
+            Why::TooLong => f.write_str("TooLong"),
         }
     }
 }

@@ -309,4 +309,4 @@ each_asks =
     (and (asks _ refl refl refl) (and (asks _ refl refl refl) (and (asks _ refl refl refl)
     (and (asks _ refl refl refl) (and (asks _ refl refl refl) (and (asks _ refl refl refl)
     (and (asks _ refl refl refl) (and (asks _ refl refl refl) (and (asks _ refl refl refl)
-    (and (asks _ refl refl refl) (and (asks _ refl refl refl) tt)))))))))))))
+    (and (asks _ refl refl refl) (and (asks _ refl refl refl) (and (asks _ refl refl refl) tt))))))))))))))

@@ -5,7 +5,8 @@ use Rattle.archive_words.specs.Words.{arch_key}
 use Rattle.command_line.specs.Arguments.{archs, digests, numbers, one, perhaps, several, text, texts, uuids}
 use Rattle.command_line.specs.Lines.{Line, error_kinds, is_in_order, line_of, line_with}
 use Rattle.command_line.specs.Table.{admit_command, apply_command, delta_command, find_command, frames_command}
-use Rattle.command_line.specs.Table.{list_command, merge_command, migrate_command, name_command, new_command}
+use Rattle.command_line.specs.Table.{index_command, list_command, merge_command, migrate_command, name_command}
+use Rattle.command_line.specs.Table.{new_command}
 use Rattle.command_line.specs.Table.{rehearse_command, retire_command, summary_command, symbolicate_command}
 
 -- words behind the program's name, and a line
@@ -72,6 +73,8 @@ samples =
     (line_with frames_command (text (codes "f") ∷ texts (several (codes "a" ∷ codes "b" ∷ [])) ∷ []))
     ∷ sample (codes "summary" ∷ codes "a" ∷ codes "o" ∷ [])
     (line_with summary_command (text (codes "a") ∷ text (codes "o") ∷ []))
+    ∷ sample (codes "index" ∷ codes "a" ∷ codes "o" ∷ [])
+    (line_with index_command (text (codes "a") ∷ text (codes "o") ∷ []))
     ∷ sample (codes "delta" ∷ codes "a" ∷ codes "s" ∷ codes "o" ∷ [])
     (line_with delta_command (text (codes "a") ∷ text (codes "s") ∷ text (codes "o") ∷ []))
     ∷ sample (codes "rehearse" ∷ codes "s" ∷ []) (line_with rehearse_command (text (codes "s") ∷ [])) ∷ []

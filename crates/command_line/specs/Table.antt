@@ -79,6 +79,9 @@ frames_command = signature (codes "frames")
 abbrev pub summary_command : Signature
 summary_command = signature (codes "summary") (archive_path ∷ out_path ∷ [])
 
+abbrev pub index_command : Signature
+index_command = signature (codes "index") (archive_path ∷ out_path ∷ [])
+
 abbrev pub delta_command : Signature
 delta_command = signature (codes "delta")
     (archive_path ∷ argument (codes "SUMMARY") Once (roles.Reads kinds.Summary) ∷ out_path ∷ [])
@@ -90,7 +93,7 @@ abbrev pub commands : List Signature
 commands =
     new_command ∷ admit_command ∷ retire_command ∷ merge_command ∷ migrate_command ∷ apply_command
     ∷ find_command ∷ list_command ∷ name_command ∷ symbolicate_command ∷ frames_command
-    ∷ summary_command ∷ delta_command ∷ rehearse_command ∷ []
+    ∷ summary_command ∷ index_command ∷ delta_command ∷ rehearse_command ∷ []
 
 -- the command of this name, if there is one
 abbrev pub signature_named : Text → Option Signature

@@ -111,6 +111,11 @@ const SUMMARY_OUT: Argument = Argument {
     ..OUT
 };
 
+const INDEX_OUT: Argument = Argument {
+    help: "The index to write, which is replaced if it is there",
+    ..OUT
+};
+
 const IMAGES: Argument = Argument {
     name: "FILE",
     help: "The Mach-O files to take; of a dSYM bundle the one in Contents/Resources/DWARF",
@@ -285,6 +290,12 @@ const COMMANDS: &[Signature] = &[
         about: "Write what an archive has, without its slices",
         more: None,
         arguments: &[ARCHIVE, SUMMARY_OUT],
+    },
+    Signature {
+        name: "index",
+        about: "Write the index of an archive",
+        more: None,
+        arguments: &[ARCHIVE, INDEX_OUT],
     },
     Signature {
         name: "delta",

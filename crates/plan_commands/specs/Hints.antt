@@ -10,7 +10,7 @@ use Rattle.command_ends.specs.declared.faults.Place.TheVariants.{Archive, File, 
 use Rattle.command_ends.specs.declared.faults.Status.{Status}
 use Rattle.command_ends.specs.declared.faults.Why.{Why}
 use Rattle.command_ends.specs.declared.faults.Why.TheVariants.{CannotOpen, Device, Record, Take}
-use Rattle.command_ends.specs.declared.faults.Why.TheVariants.{Script as ScriptFaulty, BadFrame}
+use Rattle.command_ends.specs.declared.faults.Why.TheVariants.{Script as ScriptFaulty, BadFrame, OldArchive, TooLong}
 use Rattle.command_line.specs.Lines.{Line, inputs_of_kind, out_of}
 use Rattle.command_line.specs.declared.commands.Kind.TheVariants as kinds
 use Rattle.plan_commands.specs.declared.flaws.FaultyLine.{FaultyLine}
@@ -43,6 +43,8 @@ faulty_line (Take _) = None
 faulty_line (ScriptFaulty _ number found) =
     option_map (λ f. record { line = number; flaw = flaw.Script f }) found
 faulty_line (BadFrame number found) = Some (record { line = number; flaw = flaw.Frame found })
+faulty_line OldArchive = None
+faulty_line TooLong = None
 
 -- the same of a failure
 abbrev pub faulty_line_of : Failure → Option FaultyLine

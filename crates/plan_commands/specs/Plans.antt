@@ -4,7 +4,8 @@ use Rattle.std.specs.FinSet as set
 use Rattle.command_line.specs.Arguments.{archs, digests, numbers, one, perhaps, several, text, texts, uuids}
 use Rattle.command_line.specs.Lines.{Line, line_with}
 use Rattle.command_line.specs.Table.{admit_command, apply_command, delta_command, find_command, frames_command}
-use Rattle.command_line.specs.Table.{list_command, merge_command, migrate_command, name_command, new_command}
+use Rattle.command_line.specs.Table.{index_command, list_command, merge_command, migrate_command, name_command}
+use Rattle.command_line.specs.Table.{new_command}
 use Rattle.command_line.specs.Table.{rehearse_command, retire_command, summary_command, symbolicate_command}
 use Rattle.archive_core.specs.declared.keys.ArchKey.{ArchKey}
 use Rattle.archive_core.specs.declared.keys.SliceKey.{SliceKey}
@@ -29,6 +30,7 @@ use Rattle.rehearse.specs.Rehearse.{rehearse}
 use Rattle.archive_updates.specs.Retire.{retire}
 use Rattle.archive_updates.specs.Summary.{summary}
 use Rattle.archive_queries.specs.Symbolicate.{symbolicate}
+use Rattle.index_updates.specs.Index.{index}
 use Rattle.plan_commands.specs.declared.plans.Plan.{Plan}
 use Rattle.plan_commands.specs.declared.plans.Plan.TheVariants as plan
 
@@ -59,14 +61,17 @@ plan_view (plan.Frames frames archive others) =
     line_with frames_command (text frames.now ∷ texts (several (archive.now ∷ map string_bytes others.now)) ∷ [])
 plan_view (plan.Summary archive out) =
     line_with summary_command (text archive.now ∷ text out.now ∷ [])
+plan_view (plan.Index archive out) =
+    line_with index_command (text archive.now ∷ text out.now ∷ [])
 plan_view (plan.Delta archive summary out) =
     line_with delta_command (text archive.now ∷ text summary.now ∷ text out.now ∷ [])
 plan_view (plan.Rehearse script) =
     line_with rehearse_command (text script.now ∷ [])
 
--- which files the OUT of a plan replaces: a message each of symarch's own, an archive those below it
+-- which files the OUT of a plan replaces: a message or an index each of symarch's own, an archive those below it
 abbrev pub replaces_of : Plan → Replaces
 replaces_of (plan.Summary archive out) = OwnFiles
+replaces_of (plan.Index archive out) = OwnFiles
 replaces_of (plan.Delta archive summary out) = OwnFiles
 replaces_of _ = ArchivesBelow
 
@@ -116,6 +121,7 @@ deed_of (plan.Migrate _ _) (input ∷ _) out =
     streams (writes_amidst (migrate input) (IsKnown input) (out_of out).draft)
 deed_of (plan.Apply _ _ _) (input ∷ ops ∷ _) out = changes (apply input ops)
 deed_of (plan.Summary _ _) (archive ∷ _) out = changes (summary archive)
+deed_of (plan.Index _ _) (archive ∷ _) out = changes (index archive)
 deed_of (plan.Delta _ _ _) (archive ∷ named ∷ _) out =
     streams (delta_as_it_comes archive named (out_of out).draft)
 deed_of asked inputs out = answer_of asked inputs

@@ -136,13 +136,14 @@ impl Display for Subject {
     }
 }
 
-/// What is known of OUT where it was not created or not replaced.
+/// What is known of OUT where it was not created or not replaced, or of an input that is refused.
 #[derive(Clone, Copy)]
 enum Note {
     SameFile,
     Foreign,
     Damaged,
     Loses(u64),
+    OldVersion,
 }
 
 impl Note {
@@ -161,6 +162,7 @@ impl Display for Note {
     fn fmt<W: fmt::Write>(&self, f: &mut fmt::Formatter<W>) -> fmt::Result {
         match self {
             Note::SameFile => f.write_str("the file of an input"),
+            Note::OldVersion => f.write_str("an archive of version 1, which `migrate` takes"),
             Note::Foreign => f.write_str("there, and neither empty nor one of symarch's files"),
             Note::Damaged => f.write_str("there, and an archive that is damaged"),
             Note::Loses(1) => {
@@ -196,6 +198,14 @@ fn look_of(why: Why, look: Option<Look>) -> Option<Look> {
     }
 }
 
+/// What is noted of an input that is refused for this.
+fn note_of(why: Why) -> Option<Note> {
+    match why {
+        Why::OldArchive => Some(Note::OldVersion),
+        _ => None,
+    }
+}
+
 /// The line that helps with this failure of a line, if there is one.
 pub fn help_with<'p>(line: &'p Line, failure: &Failure, seen: Seen) -> Option<Hint<'p>>
     ensures path { IfSome result (λ hint. Some hint.path.now ≡ file_of (line_view line.now) failure.now) }
@@ -206,7 +216,7 @@ pub fn help_with<'p>(line: &'p Line, failure: &Failure, seen: Seen) -> Option<Hi
             Some(Hint {
                 subject: Subject::Input(*place),
                 path: input_at(line, *place)?.1,
-                note: None,
+                note: note_of(*why),
                 faulty: FaultyLine::of(*why),
                 seen: Seen {
                     look: look_of(*why, seen.look),

@@ -10,6 +10,7 @@ pub enum Look {
     Archive,
     Operations,
     Summary,
+    Index,
     MachO,
     Universal,
     JavaClass,
@@ -20,8 +21,9 @@ pub enum Look {
     Marked,
 }
 
-/// What files of others begin with: mach-o/loader.h and mach-o/fat.h, in either byte order, and common formats.
-const BEGINNINGS: [(&[u8], Look); 10] = [
+/// What other files begin with: indexes, mach-o/loader.h and mach-o/fat.h, in either byte order, and common formats.
+const BEGINNINGS: [(&[u8], Look); 11] = [
+    (b"MSYMIDX1", Look::Index),
     (b"\xcf\xfa\xed\xfe", Look::MachO),
     (b"\xce\xfa\xed\xfe", Look::MachO),
     (b"\xfe\xed\xfa\xcf", Look::MachO),
@@ -73,6 +75,7 @@ impl fmt::Display for Look {
             Look::Archive => "an archive, which `merge` takes",
             Look::Operations => "an operations file, which `apply` takes",
             Look::Summary => "a summary, which `delta` takes",
+            Look::Index => "an index, which `index` writes",
             Look::MachO => "a Mach-O file, which `admit` takes",
             Look::Universal => "a universal file, which `admit` takes",
             Look::JavaClass => "a Java class file, which no command takes",

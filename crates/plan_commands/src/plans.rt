@@ -7,7 +7,8 @@ ghost use Rattle.command_line.specs.Arguments.{are_values_of};
 ghost use Rattle.command_line.specs.ValuesView.{values_view};
 ghost use Rattle.command_line.specs.Lines.{inputs_of, line_with};
 ghost use Rattle.command_line.specs.Table.{admit_command, apply_command, delta_command, find_command, frames_command};
-ghost use Rattle.command_line.specs.Table.{list_command, merge_command, migrate_command, name_command, new_command};
+ghost use Rattle.command_line.specs.Table.{index_command, list_command, merge_command, migrate_command, name_command};
+ghost use Rattle.command_line.specs.Table.{new_command};
 ghost use Rattle.command_line.specs.Table.{rehearse_command, retire_command, summary_command, symbolicate_command};
 ghost use Rattle.plan_commands.specs.Plans.{Executes, Reports, answer_of, key_of, only_reports, plan_view, replaces_of};
 
@@ -22,6 +23,7 @@ use command_ends::{CommandFault, Output, Status, Target};
 use command_line::Amount::{One, Perhaps, Several};
 use command_line::Values::{Archs, Digests, Numbers, Texts, Uuids};
 use command_line::{Line, Values};
+use index_updates::run_index;
 use memory::Heap;
 use rehearse::run_rehearse;
 use uuid::Uuid;
@@ -103,6 +105,11 @@ pub enum Plan<'l> {
         archive: &'l str,
         out: &'l str,
     },
+    /// `index ARCHIVE OUT`: to write the index of an archive.
+    Index {
+        archive: &'l str,
+        out: &'l str,
+    },
     /// `delta ARCHIVE SUMMARY OUT`: to write what an archive has that a summary does not name.
     Delta {
         archive: &'l str,
@@ -138,18 +145,20 @@ impl<'l> Plan<'l> {
             "symbolicate" => symbolicate(values),
             "frames" => frames(values),
             "summary" => summary(values),
+            "index" => index(values),
             "delta" => delta(values),
             "rehearse" => rehearse(values),
             _ => unreachable!(),
         }
     }
 
-    /// Which files its OUT replaces: a message to another site each of symarch's own, an archive those below it.
+    /// Which files its OUT replaces: a message to another site or an index each of symarch's own, an archive those below
+    /// it.
     pub fn replaces(&self) -> Replaces
         ensures { result ≡ replaces_of self.now }
     {
         match self {
-            Plan::Summary { .. } | Plan::Delta { .. } => Replaces::OwnFiles,
+            Plan::Summary { .. } | Plan::Index { .. } | Plan::Delta { .. } => Replaces::OwnFiles,
             _ => Replaces::ArchivesBelow,
         }
     }
@@ -334,6 +343,16 @@ fn summary<'l>(values: &'l [Values]) -> Plan<'l>
     Plan::Summary { archive, out }
 }
 
+fn index<'l>(values: &'l [Values]) -> Plan<'l>
+    requires { are_values_of index_command.arguments (map values_view values.now) ≡ true }
+    ensures { plan_view result ≡ line_with index_command (map values_view values.now) }
+{
+    let [Texts(One(archive)), Texts(One(out))] = values else {
+        unreachable!();
+    };
+    Plan::Index { archive, out }
+}
+
 fn delta<'l>(values: &'l [Values]) -> Plan<'l>
     requires { are_values_of delta_command.arguments (map values_view values.now) ≡ true }
     ensures { plan_view result ≡ line_with delta_command (map values_view values.now) }
@@ -446,6 +465,7 @@ pub fn execute<A: Archive + Drop, L: Archive + Drop, S: Source, T: Target, P: Si
             _ => unreachable!(),
         },
         Plan::Summary { .. } => run_summary(heap, first, out, report),
+        Plan::Index { .. } => run_index(heap, first, out, report),
         Plan::Delta { .. } => match others {
             [summary] => run_delta(heap, first, summary, out, report),
             _ => unreachable!(),

@@ -1,0 +1,79 @@
+-- Entries that ascend, and the set of them.
+use Rattle.std.proofs.Common.{◌≡◌, ℕ, true, List, [], ◌∷◌, ◌++◌, length, refl, sym, ap, ◌∙◌, arith}
+use Rattle.std.specs.Ordering.{is_lt}
+use Rattle.std.specs.declared.cmp.Ordering.{Ordering}
+use Rattle.std.specs.declared.cmp.Ordering.TheVariants.{Less, Equal, Greater}
+use Rattle.std.specs.Cmp.Lexicographic.{nat_list_cmp_total}
+use Rattle.std.specs.List.{AllByRecursion, concat}
+use Rattle.std.specs.List.Sorted.{IsStrictlySortedBy}
+use Rattle.std.specs.FinSet as set
+use Rattle.join_core.specs.Listing.{listing}
+use Rattle.join_core.proofs.Listing.{any_listing, listed, listing_ascending}
+use Rattle.archive_core.specs.Summary.{Entries}
+use Rattle.archive_records.specs.Text.{end_record}
+use Rattle.archive_records.proofs.Puts.{bytes_same, length_written}
+use Rattle.archive_records.proofs.Contents.{order, along}
+use Rattle.archive_index.specs.Entry.{IsPlacedEntry}
+use Rattle.archive_index.specs.Index.{AreIndexEntries, AreIndexed}
+use Rattle.archive_index.specs.Text.{AreAscending, IsIndexWhole, index_magic, index_text}
+use Rattle.archive_index.proofs.Kept.{are_listed}
+
+less_is : (o : Ordering) → is_lt o ≡ true → o ≡ Less
+less_is Less e = refl
+less_is Equal e = absurd cc
+less_is Greater e = absurd cc
+
+all_below : (low x : List ℕ) (xs : List (List ℕ)) → order low x ≡ Less → AllByRecursion (λ y. order x y ≡ Less) xs → AllByRecursion (λ y. order low y ≡ Less) xs
+all_below low x [] e h = tt
+all_below low x (y ∷ ys) e h = (nat_list_cmp_total.trans low x y e h.0, all_below low x ys e h.1)
+
+-- entries that ascend are strictly sorted, and above what they are above
+pub sorted_entries : (low : List ℕ) (xs : List (List ℕ)) → AreAscending low xs → AllByRecursion (λ y. order low y ≡ Less) xs × IsStrictlySortedBy order xs
+unfolding IsStrictlySortedBy
+sorted_entries low [] a = (tt, tt)
+sorted_entries low (x ∷ xs) a =
+    let rest = sorted_entries x xs a.2 in
+    let lt = less_is (order low x) a.1 in
+    ((lt, all_below low x xs lt rest.0), rest)
+
+entries_are : (low : List ℕ) (xs : List (List ℕ)) → AreAscending low xs → AllByRecursion IsPlacedEntry xs
+entries_are low [] a = tt
+entries_are low (x ∷ xs) a = (a.0, entries_are x xs a.2)
+
+pub indexed_of : (xs : List (List ℕ)) → AreAscending [] xs → AreIndexed xs
+indexed_of xs a = record { ascending = (sorted_entries [] xs a).1; are = entries_are [] xs a }
+
+-- strictly sorted entries ascend
+ascending_sorted : (low : List ℕ) (xs : List (List ℕ)) → AllByRecursion IsPlacedEntry xs → AllByRecursion (λ y. order low y ≡ Less) xs → IsStrictlySortedBy order xs → AreAscending low xs
+unfolding IsStrictlySortedBy
+ascending_sorted low [] r b s = tt
+ascending_sorted low (x ∷ xs) r b s = (r.0, ap is_lt b.0, ascending_sorted x xs r.1 s.0 s.1)
+
+above_empty : (x : List ℕ) → IsPlacedEntry x → order [] x ≡ Less
+above_empty [] r = absurd (omega (arith, r.long))
+above_empty (b ∷ bs) r = refl
+
+all_above_empty : (xs : List (List ℕ)) → AllByRecursion IsPlacedEntry xs → AllByRecursion (λ y. order [] y ≡ Less) xs
+all_above_empty [] r = tt
+all_above_empty (x ∷ xs) r = (above_empty x r.0, all_above_empty xs r.1)
+
+-- the members of a set of entries ascend
+pub ascending_members : (s : Entries) → AreIndexEntries s → AreAscending [] (listing s)
+ascending_members s are =
+    let each : AllByRecursion IsPlacedEntry (listing s) = along IsPlacedEntry (listing s) (λ q e. are q (sym (any_listing nat_list_cmp_total s q) ∙ e)) in
+    ascending_sorted [] (listing s) each (all_above_empty (listing s) each) (listed nat_list_cmp_total bytes_same s).ascending
+
+-- entries that ascend are the members of their set, in their order
+pub listing_is : (xs : List (List ℕ)) → AreAscending [] xs → listing (set.from_list {R = order} xs) ≡ xs
+listing_is xs a = listing_ascending nat_list_cmp_total bytes_same xs (sorted_entries [] xs a).1
+
+pub entries_of : (xs : List (List ℕ)) → AreAscending [] xs → AreIndexEntries (set.from_list xs)
+entries_of xs a = are_listed xs (entries_are [] xs a)
+
+-- the text of a set is that of its members
+pub text_of_listing : (s : Entries) → index_text s ≡ index_magic ++ (concat (listing s) ++ end_record (length (listing s)))
+unfolding index_text
+text_of_listing s = ap (λ n. index_magic ++ (concat (listing s) ++ end_record n)) (sym (length_written s))
+
+pub whole_text : (text : List ℕ) (xs : List (List ℕ)) → IsIndexWhole text xs → text ≡ index_text (set.from_list xs)
+whole_text text xs w = w.whole ∙ ap (λ (ys : List (List ℕ)). index_magic ++ (concat ys ++ end_record (length ys))) (sym (listing_is xs w.ordered)) ∙ sym (text_of_listing (set.from_list xs))

@@ -1,0 +1,263 @@
+-- Records that the entries of a content's index name.
+use Rattle.std.proofs.Common.{◌≡◌, ℕ, ◌+◌, ◌<◌, ◌≤◌, ◌^◌, Bool, true, false, ◌||◌, ◌&&◌, List, [], ◌∷◌, ◌++◌, length, take, drop, refl, sym, ap, ◌∙◌, subst, inl, inr, arith, length-append, length-drop, append_assoc}
+use Rattle.std.specs.List.{AllZip, concat, list_any}
+use Rattle.std.specs.Ordering.{eq_by_cmp, is_eq}
+use Rattle.std.specs.Str.{bytes_eq}
+use Rattle.std.specs.Cmp.{Equal-is, tied_itself, both_ways}
+use Rattle.std.specs.Cmp.Lexicographic.{nat_list_cmp_total}
+use Rattle.std.specs.FinSet as set
+use Rattle.std.specs.FinSet.{contains-from_list, contains-retain, same_set}
+use Rattle.std.proofs.Math.Seq.{take-append_seam, drop-append_seam}
+use Rattle.std.proofs.lemmas.List.{take-append-le, drop-append-le, take-append-drop}
+use Rattle.std.specs.Int.{w64, to_be_bytes}
+use Rattle.sha2.specs.Sha256.{sha256}
+use Rattle.join_core.specs.Listing.{listing}
+use Rattle.join_core.proofs.Listing.{any_listing}
+use Rattle.join_core.proofs.Retain.{listing_retain}
+use Rattle.archive_core.specs.Key.{key_bytes}
+use Rattle.archive_core.specs.Valid.{IsValid, key_of}
+use Rattle.archive_core.specs.Record.{IsRecord, admission, admission_record}
+use Rattle.archive_core.specs.Content.{Operations, IsContent, is_admission, content_of}
+use Rattle.archive_core.specs.Part.{is_under, part}
+use Rattle.archive_core.specs.Summary.{Entries, entry}
+use Rattle.archive_core.proofs.Made.{bytes_same, or_left, or_right, and_left, and_right}
+use Rattle.archive_core.proofs.Entries.{entry_tells, retirement_of_entry, admission_entry, retirement_entry, length-entry}
+use Rattle.archive_core.proofs.Records.{length-key_of}
+use Rattle.archive_core.proofs.Picked.{contains_part, part_content}
+use Rattle.archive_records.specs.Kind.{magic}
+use Rattle.archive_records.specs.Text.{written, end_record}
+use Rattle.archive_records.proofs.Contents.{order, containing}
+use Rattle.archive_index.specs.Entry.{placed_entry, length_in, offset_in}
+use Rattle.archive_index.specs.Index.{index, placed_entries}
+use Rattle.archive_index.specs.Places.{IsNamedBy, AreNamed, entries_under, TellsFound}
+use Rattle.archive_index.proofs.Placed.{entry_front, length_is, offset_is}
+use Rattle.archive_index.proofs.Sums.{nonempty}
+
+abbrev is_same : List ℕ → List ℕ → Bool
+is_same = eq_by_cmp order
+
+same_is : (r s : List ℕ) → is_same r s ≡ true → r ≡ s
+same_is r s h = bytes_same r s ((Equal-is (order r s)).0 h)
+
+here : (x : List ℕ) (xs : List (List ℕ)) → list_any (is_same x) (x ∷ xs) ≡ true
+here x xs = or_left _ _ (ap is_eq (tied_itself nat_list_cmp_total x))
+
+no_truth : false ≡ true → ⊥
+no_truth e = cc
+
+-- ---- what an entry of an index is of
+
+-- a record of these, which stands at its place in the text, and its entry
+record IsPlacedIn (rs : List (List ℕ)) (text e : List ℕ) : Type 0 where
+  r : List ℕ
+  offset : ℕ
+  member : list_any (is_same r) rs ≡ true
+  entry_is : e ≡ placed_entry offset r
+  stands : take (length r) (drop offset text) ≡ r
+  within : offset + length r ≤ length text
+
+stands_there : (front r more text : List ℕ) → text ≡ front ++ (r ++ more) → take (length r) (drop (length front) text) ≡ r
+stands_there front r more text e =
+    ap (λ (t : List ℕ). take (length r) (drop (length front) t)) e
+    ∙ ap (take (length r)) (drop-append_seam front (r ++ more))
+    ∙ take-append_seam r more
+
+module _ (text rest : List ℕ) where
+  step_text : (front r : List ℕ) (rs : List (List ℕ)) → text ≡ front ++ (concat (r ∷ rs) ++ rest) → text ≡ front ++ (r ++ (concat rs ++ rest))
+  step_text front r rs e = e ∙ ap (λ (t : List ℕ). front ++ t) (append_assoc r (concat rs) rest)
+
+  next_text : (front r : List ℕ) (rs : List (List ℕ)) → text ≡ front ++ (concat (r ∷ rs) ++ rest) → text ≡ (front ++ r) ++ (concat rs ++ rest)
+  next_text front r rs e = step_text front r rs e ∙ sym (append_assoc front r (concat rs ++ rest))
+
+  abbrev placed_here : (k : ℕ) (front r : List ℕ) (rs : List (List ℕ)) → k ≡ length front → text ≡ front ++ (concat (r ∷ rs) ++ rest) → IsPlacedIn (r ∷ rs) text (placed_entry k r)
+  placed_here k front r rs at e = record {
+    r = r;
+    offset = k;
+    member = here r rs;
+    entry_is = refl;
+    stands = ap (λ (n : ℕ). take (length r) (drop n text)) at ∙ stands_there front r (concat rs ++ rest) text (step_text front r rs e);
+    within = omega (arith, at, ap length (step_text front r rs e), length-append front (r ++ (concat rs ++ rest)), length-append r (concat rs ++ rest));
+  }
+
+  placed_later : (r e : List ℕ) (rs : List (List ℕ)) → IsPlacedIn rs text e → IsPlacedIn (r ∷ rs) text e
+  placed_later r e rs p = record { r = p.r; offset = p.offset; member = or_right (is_same p.r r) _ p.member; entry_is = p.entry_is; stands = p.stands; within = p.within }
+
+  from_placed : (k : ℕ) (front e : List ℕ) (rs : List (List ℕ)) → k ≡ length front → text ≡ front ++ (concat rs ++ rest) → list_any (is_same e) (placed_entries k rs) ≡ true → IsPlacedIn rs text e
+  from_placed k front e [] at whole h = absurd (no_truth h)
+  from_placed k front e (r ∷ rs) at whole h =
+      elim (is_same e (placed_entry k r)) as (λ b. is_same e (placed_entry k r) ≡ b → (b || list_any (is_same e) (placed_entries (k + length r) rs)) ≡ true → IsPlacedIn (r ∷ rs) text e) [
+        | true ↦ λ one _. subst (IsPlacedIn (r ∷ rs) text) (sym (same_is e (placed_entry k r) one)) (placed_here k front r rs at whole)
+        | false ↦ λ _ more. placed_later r e rs (from_placed (k + length r) (front ++ r) e rs (omega (arith, at, length-append front r)) (next_text front r rs whole) more)
+      ] refl h
+
+  -- each of the records has an entry
+  to_placed : (k : ℕ) (front q : List ℕ) (rs : List (List ℕ)) → k ≡ length front → text ≡ front ++ (concat rs ++ rest) → list_any (is_same q) rs ≡ true
+      → (e : List ℕ) × (list_any (is_same e) (placed_entries k rs) ≡ true) × (offset : ℕ) × (e ≡ placed_entry offset q) × (take (length q) (drop offset text) ≡ q) × (offset + length q ≤ length text)
+  to_placed k front q [] at whole h = absurd (no_truth h)
+  to_placed k front q (r ∷ rs) at whole h =
+      elim (is_same q r) as (λ b. is_same q r ≡ b → (b || list_any (is_same q) rs) ≡ true
+      → (e : List ℕ) × (list_any (is_same e) (placed_entries k (r ∷ rs)) ≡ true) × (offset : ℕ) × (e ≡ placed_entry offset q) × (take (length q) (drop offset text) ≡ q) × (offset + length q ≤ length text)) [
+        | true ↦ λ one _.
+            let p = placed_here k front r rs at whole in
+            let is : r ≡ q = sym (same_is q r one) in
+            (placed_entry k r, here (placed_entry k r) (placed_entries (k + length r) rs), k, ap (placed_entry k) is, subst (λ (x : List ℕ). take (length x) (drop k text) ≡ x) is p.stands, subst (λ (x : List ℕ). k + length x ≤ length text) is p.within)
+        | false ↦ λ _ more.
+            let found = to_placed (k + length r) (front ++ r) q rs (omega (arith, at, length-append front r)) (next_text front r rs whole) more in
+            (found.0, or_right (is_same found.0 (placed_entry k r)) _ found.1, found.2, found.3, found.4, found.5)
+      ] refl h
+
+written_is : (o : Operations) → written o ≡ magic ++ (concat (listing o) ++ end_record (set.len o))
+unfolding written
+written_is o = refl
+
+-- an entry of the index of a content
+pub record IsEntryIn (o : Operations) (e : List ℕ) : Type 0 where
+  pub r : List ℕ
+  pub offset : ℕ
+  pub member : set.contains o r ≡ true
+  pub entry_is : e ≡ placed_entry offset r
+  pub stands : take (length r) (drop offset (written o)) ≡ r
+  pub within : offset + length r ≤ length (written o)
+
+pub entry_in : (o : Operations) (e : List ℕ) → set.contains (index o) e ≡ true → IsEntryIn o e
+unfolding index
+entry_in o e h =
+    let p = from_placed (written o) (end_record (set.len o)) 8 magic e (listing o) refl (written_is o) (sym (contains-from_list nat_list_cmp_total (placed_entries 8 (listing o)) e) ∙ h) in
+    record { r = p.r; offset = p.offset; member = sym (any_listing nat_list_cmp_total o p.r) ∙ p.member; entry_is = p.entry_is; stands = p.stands; within = p.within }
+
+-- the entry of a record of the content
+pub entry_for : (o : Operations) (r : List ℕ) → set.contains o r ≡ true
+    → (e : List ℕ) × (set.contains (index o) e ≡ true) × (offset : ℕ) × (e ≡ placed_entry offset r) × (take (length r) (drop offset (written o)) ≡ r) × (offset + length r ≤ length (written o))
+unfolding index
+entry_for o r h =
+    let p = to_placed (written o) (end_record (set.len o)) 8 magic r (listing o) refl (written_is o) (any_listing nat_list_cmp_total o r ∙ h) in
+    (p.0, contains-from_list nat_list_cmp_total (placed_entries 8 (listing o)) p.0 ∙ p.1, p.2, p.3, p.4, p.5)
+
+-- each names a record that is there
+pub named_there : (o : Operations) (e : List ℕ) → IsContent o → length (written o) < 2 ^ 64 → set.contains (index o) e ≡ true → (r : List ℕ) × IsNamedBy (written o) e r
+named_there o e content fits h =
+    let p = entry_in o e h in
+    (p.r, record { is = content.records p.r p.member; offset = p.offset; fits = omega (arith, p.within, nonempty p.r (content.records p.r p.member)); entry_is = p.entry_is; stands = λ _. p.stands })
+
+-- ---- the record that an entry names is its own
+
+-- with the text that the index is of
+pub right_record : (o : Operations) (e r : List ℕ) → IsContent o → length (written o) < 2 ^ 64 → (p : IsEntryIn o e) → IsNamedBy (written o) e r → r ≡ p.r
+right_record o e r content fits p n = elim n.is [
+  | inl a ↦
+      let isp = content.records p.r p.member in
+      let same : placed_entry n.offset r ≡ placed_entry p.offset p.r = sym n.entry_is ∙ p.entry_is in
+      let offsets : n.offset ≡ p.offset = sym (offset_is n.offset r n.is n.fits) ∙ ap offset_in same ∙ offset_is p.offset p.r isp (omega (arith, p.within, nonempty p.r isp)) in
+      let lengths : length r ≡ length p.r = sym (length_is n.offset r n.is) ∙ ap length_in same ∙ length_is p.offset p.r isp in
+      sym (n.stands (ap is_admission a.is)) ∙ (λ i. take (lengths i) (drop (offsets i) (written o))) ∙ p.stands
+  | inr b ↦
+      let isp = content.records p.r p.member in
+      let same : entry p.r ≡ entry r = sym (entry_front p.offset p.r isp) ∙ ap (take 57) (sym p.entry_is ∙ n.entry_is) ∙ entry_front n.offset r n.is in
+      b.is ∙ sym (retirement_of_entry b.key b.digest p.r isp (same ∙ ap entry b.is))
+]
+
+-- with any text, where digests tell
+pub own_record : (o : Operations) (text e r : List ℕ) → IsContent o → (p : IsEntryIn o e) → IsNamedBy text e r
+    → ((a b : List ℕ) → set.contains o (admission_record a) ≡ true → r ≡ admission_record b → sha256 a ≡ sha256 b → a ≡ b) → r ≡ p.r
+own_record o text e r content p n tells =
+    let isp = content.records p.r p.member in
+    let same : entry p.r ≡ entry r = sym (entry_front p.offset p.r isp) ∙ ap (take 57) (sym p.entry_is ∙ n.entry_is) ∙ entry_front n.offset r n.is in
+    sym (entry_tells p.r r isp n.is same (λ a b pa rb. tells a b (sym (ap (set.contains o) pa) ∙ p.member) rb))
+
+-- ---- what is named together
+
+zip_left : (P : List ℕ → List ℕ → Type 0) (xs ys : List (List ℕ)) (e : List ℕ) → AllZip P xs ys → list_any (is_same e) xs ≡ true → (y : List ℕ) × (list_any (is_same y) ys ≡ true) × P e y
+zip_left P [] [] e z h = absurd (no_truth h)
+zip_left P [] (y ∷ ys) e z h = absurd z
+zip_left P (x ∷ xs) [] e z h = absurd z
+zip_left P (x ∷ xs) (y ∷ ys) e z h =
+    elim (is_same e x) as (λ b. is_same e x ≡ b → (b || list_any (is_same e) xs) ≡ true → (q : List ℕ) × (list_any (is_same q) (y ∷ ys) ≡ true) × P e q) [
+      | true ↦ λ one _. (y, here y ys, subst (λ (t : List ℕ). P t y) (sym (same_is e x one)) z.0)
+      | false ↦ λ _ more. let found = zip_left P xs ys e z.1 more in (found.0, or_right (is_same found.0 y) _ found.1, found.2)
+    ] refl h
+
+zip_right : (P : List ℕ → List ℕ → Type 0) (xs ys : List (List ℕ)) (q : List ℕ) → AllZip P xs ys → list_any (is_same q) ys ≡ true → (x : List ℕ) × (list_any (is_same x) xs ≡ true) × P x q
+zip_right P [] [] q z h = absurd (no_truth h)
+zip_right P [] (y ∷ ys) q z h = absurd z
+zip_right P (x ∷ xs) [] q z h = absurd z
+zip_right P (x ∷ xs) (y ∷ ys) q z h =
+    elim (is_same q y) as (λ b. is_same q y ≡ b → (b || list_any (is_same q) ys) ≡ true → (e : List ℕ) × (list_any (is_same e) (x ∷ xs) ≡ true) × P e q) [
+      | true ↦ λ one _. (x, here x xs, subst (λ (t : List ℕ). P x t) (sym (same_is q y one)) z.0)
+      | false ↦ λ _ more. let found = zip_right P xs ys q z.1 more in (found.0, or_right (is_same found.0 x) _ found.1, found.2)
+    ] refl h
+
+-- an entry under a front
+any_under : (front : List ℕ) (s : Entries) (e : List ℕ) → list_any (is_same e) (entries_under front s) ≡ (set.contains s e && is_under front e)
+any_under front s e =
+    ap (list_any (is_same e)) (sym (listing_retain nat_list_cmp_total bytes_same (is_under front) s))
+    ∙ any_listing nat_list_cmp_total (set.retain s (is_under front)) e
+    ∙ contains-retain s (is_under front) e (λ x t. ap (is_under front) (sym (bytes_same e x t)))
+
+key_front : (n : ℕ) (slice : List ℕ) → n ≤ 24 → IsValid slice → take n (drop 1 (admission_record slice)) ≡ take n (key_bytes (key_of slice))
+unfolding admission
+key_front n slice short valid = take-append-le n (key_bytes (key_of slice)) (to_be_bytes w64 (length slice) ++ slice) (omega (arith, length-key_of slice valid))
+
+entry_key : (n : ℕ) (r : List ℕ) → n ≤ 24 → IsRecord r → take n (drop 1 (entry r)) ≡ take n (drop 1 r)
+entry_key n r short (inl a) =
+    ap (λ (x : List ℕ). take n (drop 1 x)) (ap entry a.is ∙ admission_entry a.slice a.valid)
+    ∙ take-append-le n (key_bytes (key_of a.slice)) (sha256 a.slice) (omega (arith, length-key_of a.slice a.valid))
+    ∙ sym (ap (λ (x : List ℕ). take n (drop 1 x)) a.is ∙ key_front n a.slice short a.valid)
+entry_key n r short (inr b) = ap (λ (x : List ℕ). take n (drop 1 x)) (ap entry b.is ∙ retirement_entry b.key b.digest ∙ sym b.is)
+
+front_same : (n offset : ℕ) (r : List ℕ) → n ≤ 24 → IsRecord r → take n (drop 1 (placed_entry offset r)) ≡ take n (drop 1 r)
+front_same n offset r short is =
+    let e = placed_entry offset r in
+    let long : length (entry r) ≡ 57 = length-entry r is in
+    let parts : e ≡ entry r ++ drop 57 e = sym (take-append-drop 57 e) ∙ ap (λ (t : List ℕ). t ++ drop 57 e) (entry_front offset r is) in
+    ap (λ (t : List ℕ). take n (drop 1 t)) parts
+    ∙ ap (take n) (drop-append-le 1 (entry r) (drop 57 e) (omega (arith, long)))
+    ∙ take-append-le n (drop 1 (entry r)) (drop 57 e) (omega (arith, long, length-drop 1 (entry r)))
+    ∙ entry_key n r short is
+
+-- an entry is under a front of a key as its record is
+under_same : (front : List ℕ) (offset : ℕ) (r : List ℕ) → length front ≤ 24 → IsRecord r → is_under front (placed_entry offset r) ≡ is_under front r
+unfolding is_under
+under_same front offset r short is = ap (bytes_eq front) (front_same (length front) offset r short is)
+
+module _ (front : List ℕ) (o : Operations) (text : List ℕ) (records : List (List ℕ)) (short : length front ≤ 24) (content : IsContent o)
+    (named : AllZip (IsNamedBy text) (entries_under front (index o)) records)
+    (own : (e r : List ℕ) → list_any (is_same r) records ≡ true → (p : IsEntryIn o e) → IsNamedBy text e r → r ≡ p.r) where
+  into_part : (q : List ℕ) → list_any (is_same q) records ≡ true → set.contains (part o (is_under front)) q ≡ true
+  into_part q h =
+      let found = zip_right (IsNamedBy text) (entries_under front (index o)) records q named h in
+      let e = found.0 in
+      let there : (set.contains (index o) e && is_under front e) ≡ true = sym (any_under front (index o) e) ∙ found.1 in
+      let p = entry_in o e (and_left _ _ there) in
+      let is : q ≡ p.r = own e q h p found.2 in
+      let under : is_under front q ≡ true = ap (is_under front) is ∙ sym (under_same front p.offset p.r short (content.records p.r p.member)) ∙ ap (is_under front) (sym p.entry_is) ∙ and_right _ _ there in
+      contains_part o (is_under front) q ∙ (λ i. (ap (set.contains o) is ∙ p.member) i && under i)
+
+  from_part : (q : List ℕ) → set.contains (part o (is_under front)) q ≡ true → list_any (is_same q) records ≡ true
+  from_part q h =
+      let both : (set.contains o q && is_under front q) ≡ true = sym (contains_part o (is_under front) q) ∙ h in
+      let member = and_left _ _ both in
+      let isq = content.records q member in
+      let found = entry_for o q member in
+      let e = found.0 in
+      let under : is_under front e ≡ true = ap (is_under front) found.3 ∙ under_same front found.2 q short isq ∙ and_right _ _ both in
+      let there : list_any (is_same e) (entries_under front (index o)) ≡ true = any_under front (index o) e ∙ (λ i. found.1 i && under i) in
+      let zipped = zip_left (IsNamedBy text) (entries_under front (index o)) records e named there in
+      let p : IsEntryIn o e = record { r = q; offset = found.2; member = member; entry_is = found.3; stands = found.4; within = found.5 } in
+      let is : zipped.0 ≡ q = own e zipped.0 zipped.1 p zipped.2 in
+      subst (λ (x : List ℕ). list_any (is_same x) records ≡ true) is zipped.1
+
+  pub records_are : set.from_list records ≡ part o (is_under front)
+  records_are = same_set nat_list_cmp_total bytes_same (set.from_list records) (part o (is_under front)) (λ q.
+      both_ways _ _ (λ h. into_part q (sym (contains-from_list nat_list_cmp_total records q) ∙ h)) (λ h. contains-from_list nat_list_cmp_total records q ∙ from_part q h))
+
+  pub content_is : content_of (set.from_list records) ≡ part o (is_under front)
+  content_is = ap content_of records_are ∙ (part_content o (is_under front) content).itself
+
+-- with the index of the archive whose text this is
+pub right : (front : List ℕ) (o p : Operations) → length front ≤ 24 → IsContent o → length (written o) < 2 ^ 64 → AreNamed front (index o) (written o) p → p ≡ part o (is_under front)
+right front o p short content fits n = n.made ∙ content_is front o (written o) n.records short content n.named (λ e r _ q named. right_record o e r content fits q named)
+
+-- over any text, where digests tell
+pub of_the_index : (front text : List ℕ) (o p : Operations) → length front ≤ 24 → IsContent o → (n : AreNamed front (index o) text p) → TellsFound o n.records → p ≡ part o (is_under front)
+of_the_index front text o p short content n tells = n.made ∙ content_is front o text n.records short content n.named (λ e r there q named.
+    own_record o text e r content q named (λ a b in_o rb same. tells a b in_o (containing n.records (admission_record b) (subst (λ (x : List ℕ). list_any (is_same x) n.records ≡ true) rb there)) same))

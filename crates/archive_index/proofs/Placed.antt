@@ -1,0 +1,133 @@
+-- The entries of records that stand one after another.
+use Rattle.std.proofs.Common.{◌≡◌, ℕ, ◌+◌, ◌-◌, ◌<◌, ◌^◌, Bool, true, false, cond, ◌&&◌, ◌||◌, eqb, List, [], ◌∷◌, ◌++◌, length, map, take, drop, get_or, refl, sym, ap, ◌∙◌, inl, inr, arith, length-append, nat_le}
+use Rattle.std.specs.Int.{w64, to_be_bytes, from_be_bytes}
+use Rattle.std.specs.List.{concat, AllByRecursion}
+use Rattle.std.proofs.Math.ListN.{get_or-append}
+use Rattle.std.proofs.Math.Seq.{take-append_seam, drop-append_seam, drop-append-add, get_or-append_right}
+use Rattle.std.proofs.lemmas.List.{map-append, take_all, drop-drop}
+use Rattle.std.proofs.lemmas.Bool.{le-leb}
+use Rattle.std.proofs.lemmas.Nat.{from_be_bytes-to_be_bytes_8}
+use Rattle.macho_image.specs.Contents.{is_dsym_image}
+use Rattle.archive_core.specs.Record.{IsRecord, Admits, Retires}
+use Rattle.archive_core.specs.Content.{is_admission}
+use Rattle.archive_core.specs.Summary.{entry}
+use Rattle.archive_core.proofs.Records.{length-admission_record, length-retirement_record}
+use Rattle.archive_core.proofs.Entries.{admission_entry, retirement_entry, length-entry}
+use Rattle.archive_records.specs.declared.format.Format.TheVariants.{Archive}
+use Rattle.archive_records.specs.Layout.{largest_slice}
+use Rattle.archive_records.specs.Text.{InOrder}
+use Rattle.archive_records.proofs.SliceFacts.{short_slice}
+use Rattle.archive_index.specs.declared.entry.PlacedEntry.{PlacedEntry}
+use Rattle.archive_index.specs.Entry.{kind_byte, placed_entry, placed_bytes, length_in, offset_in, IsPlacedEntry}
+use Rattle.archive_index.specs.Index.{placed_entries}
+
+-- one record more
+pub placed_push : (k : ℕ) (rs : List (List ℕ)) (r : List ℕ) → placed_entries k (rs ++ r ∷ []) ≡ placed_entries k rs ++ placed_entry (k + length (concat rs)) r ∷ []
+placed_push k [] r = ap (λ (n : ℕ). placed_entry n r ∷ []) (omega arith)
+placed_push k (x ∷ rs) r =
+    ap (λ (es : List (List ℕ)). placed_entry k x ∷ es) (placed_push (k + length x) rs r ∙ ap (λ (n : ℕ). placed_entries (k + length x) rs ++ placed_entry n r ∷ []) (omega (arith, length-append x (concat rs))))
+
+-- the entry of one record more
+pub entries_more : (before after : List PlacedEntry) (e : PlacedEntry) (records : List (List ℕ)) (r : List ℕ) (offset : ℕ) → after ≡ before ++ e ∷ [] → placed_bytes e ≡ placed_entry offset r → offset ≡ 8 + length (concat records) → map placed_bytes before ≡ placed_entries 8 records
+    → map placed_bytes after ≡ placed_entries 8 (records ++ r ∷ [])
+entries_more before after e records r offset grown of at are =
+    ap (map placed_bytes) grown ∙ map-append placed_bytes before (e ∷ []) ∙ (λ i. are i ++ (of ∙ ap (λ (n : ℕ). placed_entry n r) at) i ∷ []) ∙ sym (placed_push 8 records r)
+
+-- ---- the parts of an entry
+
+module _ (offset : ℕ) (r : List ℕ) (is : IsRecord r) where
+  tail_of : List ℕ
+  tail_of = kind_byte r ∷ (to_be_bytes w64 offset ++ to_be_bytes w64 (length r))
+
+  front_long : length (entry r) ≡ 57
+  front_long = length-entry r is
+
+  pub entry_front : take 57 (placed_entry offset r) ≡ entry r
+  unfolding placed_entry
+  entry_front = ap (λ (n : ℕ). take n (entry r ++ (kind_byte r ∷ (to_be_bytes w64 offset ++ to_be_bytes w64 (length r))))) (sym front_long) ∙ take-append_seam (entry r) (kind_byte r ∷ (to_be_bytes w64 offset ++ to_be_bytes w64 (length r)))
+
+  pub entry_long : length (placed_entry offset r) ≡ 74
+  unfolding placed_entry
+  entry_long = omega (arith, front_long, length-append (entry r) (kind_byte r ∷ (to_be_bytes w64 offset ++ to_be_bytes w64 (length r))), length-append (to_be_bytes w64 offset) (to_be_bytes w64 (length r)))
+
+  first_of : get_or (placed_entry offset r) 0 0 ≡ get_or (entry r) 0 0
+  unfolding placed_entry
+  first_of = get_or-append (entry r) (kind_byte r ∷ (to_be_bytes w64 offset ++ to_be_bytes w64 (length r))) 0 0 (omega (arith, front_long))
+
+  pub kind_of : get_or (placed_entry offset r) 57 0 ≡ kind_byte r
+  unfolding placed_entry
+  kind_of = get_or-append_right (entry r) (kind_byte r ∷ (to_be_bytes w64 offset ++ to_be_bytes w64 (length r))) 57 0 (omega (arith, front_long)) ∙ (let none : 57 - length (entry r) ≡ 0 = omega (arith, front_long) in ap (λ (n : ℕ). get_or (kind_byte r ∷ (to_be_bytes w64 offset ++ to_be_bytes w64 (length r))) n 0) none)
+
+  behind_of : drop 58 (placed_entry offset r) ≡ to_be_bytes w64 offset ++ to_be_bytes w64 (length r)
+  unfolding placed_entry
+  behind_of = ap (λ (n : ℕ). drop (n + 1) (entry r ++ (kind_byte r ∷ (to_be_bytes w64 offset ++ to_be_bytes w64 (length r))))) (sym front_long) ∙ drop-append-add (entry r) (kind_byte r ∷ (to_be_bytes w64 offset ++ to_be_bytes w64 (length r))) 1
+
+  pub offset_bytes : take 8 (drop 58 (placed_entry offset r)) ≡ to_be_bytes w64 offset
+  offset_bytes = ap (take 8) behind_of ∙ take-append_seam (to_be_bytes w64 offset) (to_be_bytes w64 (length r))
+
+  length_bytes : take 8 (drop 66 (placed_entry offset r)) ≡ to_be_bytes w64 (length r)
+  length_bytes =
+      ap (take 8) (sym (drop-drop 8 58 (placed_entry offset r)) ∙ ap (drop 8) behind_of ∙ drop-append_seam (to_be_bytes w64 offset) (to_be_bytes w64 (length r)))
+      ∙ take_all 8 (to_be_bytes w64 (length r)) (omega arith)
+
+  pub offset_is : offset < 2 ^ 64 → offset_in (placed_entry offset r) ≡ offset
+  offset_is fits = ap (from_be_bytes w64) offset_bytes ∙ from_be_bytes-to_be_bytes_8 offset fits
+
+pub record_short : (r : List ℕ) → IsRecord r → length r < 33 + 2 ^ 32
+record_short r (inl a) = omega (arith, ap length a.is, length-admission_record a.slice a.valid, short_slice a.slice a.valid)
+record_short r (inr b) = omega (arith, ap length b.is, length-retirement_record b.key b.digest b.is_key b.long)
+
+pub length_is : (offset : ℕ) (r : List ℕ) → IsRecord r → length_in (placed_entry offset r) ≡ length r
+length_is offset r is = ap (from_be_bytes w64) (length_bytes offset r is) ∙ from_be_bytes-to_be_bytes_8 (length r) (omega (arith, record_short r is))
+
+-- the tag of an entry is that of its record
+pub tag_is : (offset : ℕ) (r : List ℕ) → IsRecord r → get_or (placed_entry offset r) 0 0 ≡ get_or r 0 0
+tag_is offset r (inl a) = first_of offset r (inl a) ∙ ap (λ (x : List ℕ). get_or (entry x) 0 0) a.is ∙ ap (λ (x : List ℕ). get_or x 0 0) (admission_entry a.slice a.valid) ∙ sym (ap (λ (x : List ℕ). get_or x 0 0) a.is)
+tag_is offset r (inr b) = first_of offset r (inr b) ∙ ap (λ (x : List ℕ). get_or (entry x) 0 0) b.is ∙ ap (λ (x : List ℕ). get_or x 0 0) (retirement_entry b.key b.digest) ∙ sym (ap (λ (x : List ℕ). get_or x 0 0) b.is)
+
+-- ---- the entry of a record is one of an index
+
+both_true : (a b : Bool) → a ≡ true → b ≡ true → (a && b) ≡ true
+both_true true b p q = q
+both_true false b p q = absurd cc
+
+kind_admitted : (b : Bool) (k t : ℕ) → k ≡ cond b 1 0 → t ≡ 2 → (eqb k 0 || (eqb k 1 && eqb t 2)) ≡ true
+kind_admitted true k t p q = rw (p, q) refl
+kind_admitted false k t p q = rw p refl
+
+module _ (offset : ℕ) (r : List ℕ) where
+  admitted_entry : Admits r → IsPlacedEntry (placed_entry offset r)
+  admitted_entry a =
+      let is : IsRecord r = inl a in
+      let tag : get_or (placed_entry offset r) 0 0 ≡ 2 = tag_is offset r is ∙ ap (λ (x : List ℕ). get_or x 0 0) a.is in
+      let kind : get_or (placed_entry offset r) 57 0 ≡ cond (is_dsym_image (drop 33 r)) 1 0 = kind_of offset r is ∙ ap (λ (x : List ℕ). cond (is_admission x && is_dsym_image (drop 33 r)) 1 0) a.is in
+      record {
+        long = entry_long offset r is;
+        tag = ap (λ (n : ℕ). eqb n 1 || eqb n 2) tag;
+        kind = kind_admitted (is_dsym_image (drop 33 r)) (get_or (placed_entry offset r) 57 0) (get_or (placed_entry offset r) 0 0) kind tag;
+        length_is =
+            (λ i. cond (eqb (tag i) 2) (nat_le 33 (length_is offset r is i) && nat_le (length_is offset r is i) (33 + largest_slice)) (eqb (length_is offset r is i) 57))
+            ∙ both_true (nat_le 33 (length r)) (nat_le (length r) (33 + largest_slice)) (le-leb 33 (length r) (omega (arith, ap length a.is, length-admission_record a.slice a.valid))) (le-leb (length r) (33 + largest_slice) (omega (arith, record_short r is)));
+      }
+
+  retired_entry : Retires r → IsPlacedEntry (placed_entry offset r)
+  retired_entry b =
+      let is : IsRecord r = inr b in
+      let tag : get_or (placed_entry offset r) 0 0 ≡ 1 = tag_is offset r is ∙ ap (λ (x : List ℕ). get_or x 0 0) b.is in
+      let kind : get_or (placed_entry offset r) 57 0 ≡ 0 = kind_of offset r is ∙ ap (λ (x : List ℕ). cond (is_admission x && is_dsym_image (drop 33 r)) 1 0) b.is in
+      record {
+        long = entry_long offset r is;
+        tag = ap (λ (n : ℕ). eqb n 1 || eqb n 2) tag;
+        kind = (λ i. eqb (kind i) 0 || (eqb (get_or (placed_entry offset r) 57 0) 1 && eqb (get_or (placed_entry offset r) 0 0) 2));
+        length_is =
+            (λ i. cond (eqb (tag i) 2) (nat_le 33 (length_in (placed_entry offset r)) && nat_le (length_in (placed_entry offset r)) (33 + largest_slice)) (eqb (length_is offset r is i) 57))
+            ∙ ap (λ (n : ℕ). eqb n 57) (ap length b.is ∙ length-retirement_record b.key b.digest b.is_key b.long);
+      }
+
+pub is_placed : (offset : ℕ) (r : List ℕ) → IsRecord r → IsPlacedEntry (placed_entry offset r)
+is_placed offset r (inl a) = admitted_entry offset r a
+is_placed offset r (inr b) = retired_entry offset r b
+
+pub are_placed : (low : List ℕ) (k : ℕ) (rs : List (List ℕ)) → InOrder Archive low rs → AllByRecursion IsPlacedEntry (placed_entries k rs)
+are_placed low k [] a = tt
+are_placed low k (r ∷ rs) a = (is_placed k r a.0, are_placed r (k + length r) rs a.2)

@@ -1,0 +1,12 @@
+use Rattle.std.proofs.Common.{◌∙◌, ap, sym, map}
+use Rattle.std.specs.Cmp.Lexicographic.{nat_list_cmp_total}
+use Rattle.join_core.specs.Listing.{listing}
+use Rattle.join_core.proofs.Listing.{listing_ascending}
+use Rattle.archive_records.proofs.Puts.{bytes_same}
+use Rattle.archive_index.specs.Entry.{placed_bytes}
+use Rattle.archive_index.proofs.index.Index.entries.Goals as goal
+
+pub returns : goal.returns
+returns c =
+    ap (map placed_bytes) c.deref.ensures.value
+    ∙ sym (sym (ap listing c.self.view_is) ∙ listing_ascending nat_list_cmp_total bytes_same (map placed_bytes c.self.inside.entries.items) c.self.invariant.ascending)

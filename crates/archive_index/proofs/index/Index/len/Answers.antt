@@ -1,0 +1,19 @@
+use Rattle.std.proofs.Common.{◌≡◌, arith, map, length, subst}
+use Rattle.std.proofs.Math.ListN.{length-map}
+use Rattle.std.specs.Cmp.Lexicographic.{nat_list_cmp_total}
+use Rattle.join_core.proofs.Place.{len_listed}
+use Rattle.archive_records.proofs.Puts.{bytes_same}
+use Rattle.archive_index.specs.Entry.{placed_bytes}
+use Rattle.archive_index.specs.Index.{AreIndexEntries}
+use Rattle.archive_index.proofs.Kept.{are_listed}
+use Rattle.archive_index.proofs.index.Index.len.Goals as goal
+
+pub returns-clause-len : goal.returns-clause-len
+returns-clause-len c =
+    let items = c.self.inside.entries.items in
+    let listed = len_listed nat_list_cmp_total bytes_same (map placed_bytes items) c.self.invariant.ascending in
+    let as_long : length (map placed_bytes items) ≡ length items = length-map items placed_bytes in
+    rw (← c.self.view_is) (omega (arith, listed, as_long, c.self.inside.entries.ok.0))
+
+pub returns-clause-entries : goal.returns-clause-entries
+returns-clause-entries c = subst AreIndexEntries c.self.view_is (are_listed (map placed_bytes c.self.inside.entries.items) c.self.invariant.are)

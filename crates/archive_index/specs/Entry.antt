@@ -1,0 +1,66 @@
+-- Entries of an index: what a record is, and where it stands in its archive.
+use Rattle.std.specs.Prelude.{◌≡◌, ℕ, ◌+◌, List, ◌∷◌, ◌++◌, length, take, drop, slice_index, Bool, true, ◌&&◌, ◌||◌}
+use Rattle.std.specs.Prelude.{◌==◌, nat_le, if◌then◌else◌}
+use Rattle.std.specs.Int.{w64, to_be_bytes, from_be_bytes}
+use Rattle.macho_image.specs.Contents.{is_dsym_image}
+use Rattle.archive_core.specs.Key.{key_bytes}
+use Rattle.archive_core.specs.Content.{is_admission}
+use Rattle.archive_core.specs.Summary.{entry}
+use Rattle.archive_core.specs.declared.find.FindState.{FindState}
+use Rattle.archive_core.specs.declared.find.FindState.TheVariants.{Retired, Image, Dsym}
+use Rattle.archive_records.specs.Layout.{largest_slice}
+use Rattle.archive_index.specs.declared.entry.PlacedEntry.{PlacedEntry}
+
+-- whether a record is a companion's admission, as a byte
+abbrev pub kind_byte : List ℕ → ℕ
+kind_byte r = if is_admission r && is_dsym_image (drop 33 r) then 1 else 0
+
+-- the entry of a record that stands at this offset: the summary's, the kind, the offset and the length
+unfoldable pub placed_entry : ℕ → List ℕ → List ℕ
+placed_entry offset r = entry r ++ (kind_byte r ∷ (to_be_bytes w64 offset ++ to_be_bytes w64 (length r)))
+
+-- the tag of an entry: 1 of a retirement, 2 of an admission
+abbrev pub tag_byte : FindState → ℕ
+tag_byte Retired = 1
+tag_byte Image = 2
+tag_byte Dsym = 2
+
+-- the kind of an entry: 1 of a companion
+abbrev pub dsym_byte : FindState → ℕ
+dsym_byte Retired = 0
+dsym_byte Image = 0
+dsym_byte Dsym = 1
+
+-- the bytes of an entry
+unfoldable pub placed_bytes : PlacedEntry → List ℕ
+placed_bytes e =
+    (tag_byte e.row.state ∷ (key_bytes e.row.key ++ e.row.digest.0))
+    ++ (dsym_byte e.row.state ∷ (to_be_bytes w64 e.offset ++ to_be_bytes w64 e.length))
+
+-- the tag is that of a retirement or of an admission
+abbrev pub has_tag : List ℕ → Bool
+has_tag e = (slice_index e 0 == 1) || (slice_index e 0 == 2)
+
+-- the kind is 0, or of an admission 1
+abbrev pub has_kind : List ℕ → Bool
+has_kind e = (slice_index e 57 == 0) || ((slice_index e 57 == 1) && (slice_index e 0 == 2))
+
+-- where the record stands
+abbrev pub offset_in : List ℕ → ℕ
+offset_in e = from_be_bytes w64 (take 8 (drop 58 e))
+
+-- how long it is
+abbrev pub length_in : List ℕ → ℕ
+length_in e = from_be_bytes w64 (take 8 (drop 66 e))
+
+-- a length that such a record has: 57 of a retirement, and of an admission 33 and that of a slice
+abbrev pub has_length : List ℕ → Bool
+has_length e = if slice_index e 0 == 2 then nat_le 33 (length_in e) && nat_le (length_in e) (33 + largest_slice)
+    else length_in e == 57
+
+-- these bytes are an entry of an index
+pub record IsPlacedEntry (e : List ℕ) : Type 0 where
+  pub long : length e ≡ 74
+  pub tag : has_tag e ≡ true
+  pub kind : has_kind e ≡ true
+  pub length_is : has_length e ≡ true

@@ -1,0 +1,7 @@
+pub mod Entry
+pub mod Index
+pub mod Text
+pub mod Reading
+pub mod Places
+pub mod InnerMaking
+pub mod InnerReading

@@ -1,0 +1,47 @@
+//! What an index tells of the content that it was made of. Each law is a function with an empty body, and its contract
+//! the law.
+
+ghost use Rattle.std.specs.Prelude.{◌≡◌, ◌≤◌, ◌<◌, ◌^◌, ℕ, List, length, map, take};
+ghost use Rattle.std.specs.FinSet as set;
+ghost use Rattle.join_core.specs.Listing.{listing};
+ghost use Rattle.archive_core.specs.Content.{Operations, IsContent};
+ghost use Rattle.archive_core.specs.Part.{is_under, part};
+ghost use Rattle.archive_core.specs.Summary.{Entries, summary};
+ghost use Rattle.archive_records.specs.Text.{written};
+ghost use Rattle.archive_index.specs.Index.{AreIndexEntries, index};
+ghost use Rattle.archive_index.specs.Places.{AreNamed, HasIndexedLength, TellsFound};
+ghost use Rattle.archive_index.specs.Text.{IsIndexFault, index_text};
+ghost use Rattle.archive_index.specs.declared.fault.IndexFault.{IndexFault};
+
+/// With the index of the archive whose text this is, what is named under a UUID or a key is what the content has there.
+/// Nothing is supposed of SHA-256.
+pub fn right()
+    ensures { (front : List ℕ) (o p : Operations) → length front ≤ 24 → IsContent o → length (written o) < 2 ^ 64
+        → AreNamed front (index o) (written o) p → p ≡ part o (is_under front) }
+{}
+
+/// Over any bytes, what is named by the index of a content is what that content has there, unless a slice that was
+/// found has the SHA-256 of a different one of the content. So of an archive that has changed since, that of the
+/// indexed content is told, or nothing.
+pub fn answers_are_of_the_index()
+    ensures { (front text : List ℕ) (o p : Operations) → length front ≤ 24 → IsContent o
+        → (named : AreNamed front (index o) text p) → TellsFound o named.records → p ≡ part o (is_under front) }
+{}
+
+/// The archive that an index is of has the length that the index tells.
+pub fn right_length()
+    ensures { (o : Operations) → IsContent o → length (written o) < 2 ^ 64 → HasIndexedLength (index o) (written o) }
+{}
+
+/// The entries of a content's summary are those of its index, without their places.
+pub fn summary_of_the_index()
+    ensures { (o : Operations) → IsContent o → summary o ≡ set.from_list (map (take 57) (listing (index o))) }
+{}
+
+/// A text is that of entries or has a fault, never both and never two faults; and it is that of one set of entries.
+pub fn one_index_fault()
+    ensures one { (text : List ℕ) (f g : IndexFault) → IsIndexFault text f → IsIndexFault text g → f ≡ g }
+    ensures none { (s : Entries) (text : List ℕ) (f : IndexFault) → AreIndexEntries s → text ≡ index_text s
+        → IsIndexFault text f → ⊥ }
+    ensures alone { (s t : Entries) → AreIndexEntries s → AreIndexEntries t → index_text s ≡ index_text t → s ≡ t }
+{}
