@@ -1,19 +1,13 @@
 -- The record that an entry names, and when none is there.
-use Rattle.std.proofs.Common.{◌≡◌, ◌≢◌, ℕ, ◌+◌, ◌-◌, ◌<◌, ◌≤◌, ◌^◌, Bool, true, false, cond, eqb, List, [], ◌∷◌, ◌++◌, length, take, drop, get_or, Option, Some, None, refl, sym, ap, ◌∙◌, subst, inl, inr, arith, length-append, length-drop, length-take, nat_le, ◌&&◌, eq-eqb}
+use Rattle.std.proofs.Common.{◌≡◌, ◌≢◌, ℕ, ◌+◌, ◌-◌, ◌<◌, ◌^◌, Bool, true, false, cond, eqb, List, ◌∷◌, ◌++◌, length, take, drop, get_or, Option, Some, None, refl, sym, ap, ◌∙◌, subst, inl, inr, arith, length-drop, length-take, nat_le, ◌&&◌, eq-eqb}
 use Rattle.std.specs.Prelude.{IfSome, IfNone, IfOk, MatchOption, Result, Ok, Err}
 use Rattle.byte_device.specs.declared.reading.ReadFault.{ReadFault}
 use Rattle.archive_core.specs.declared.operations.Operation.{Operation}
 use Rattle.archive_records.proofs.Forms.{parts-of}
 use Rattle.std.specs.Int.{w64, to_be_bytes, from_be_bytes}
-use Rattle.std.proofs.Math.ListN.{get_or-append}
-use Rattle.std.proofs.Math.Seq.{take-append_seam, drop-append-add}
-use Rattle.std.proofs.lemmas.Nat.{from_be_bytes-to_be_bytes_8}
 use Rattle.archive_core.specs.Key.{IsKey, key_bytes}
-use Rattle.archive_core.specs.Record.{IsRecord, Admits, record_bytes, retirement_record}
+use Rattle.archive_core.specs.Record.{Admits, record_bytes, retirement_record}
 use Rattle.archive_core.specs.Content.{is_admission}
-use Rattle.archive_core.specs.Summary.{entry}
-use Rattle.archive_core.specs.declared.keys.SliceKey.{SliceKey}
-use Rattle.archive_core.specs.declared.keys.Digest.{Digest}
 use Rattle.archive_core.specs.declared.find.FindState.{FindState}
 use Rattle.archive_core.specs.declared.find.FindState.TheVariants.{Retired, Image, Dsym}
 use Rattle.std.proofs.lemmas.Bool.{eqb-true}

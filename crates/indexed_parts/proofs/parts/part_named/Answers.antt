@@ -1,4 +1,4 @@
-use Rattle.std.proofs.Common.{◌≡◌, ◌<◌, ◌^◌, sym, ap, subst, map, length, arith}
+use Rattle.std.proofs.Common.{◌<◌, ◌^◌, sym, subst, map, length, arith}
 use Rattle.std.proofs.Math.ListN.{length-map}
 use Rattle.std.specs.List.{AllByRecursion}
 use Rattle.join_core.specs.Listing.{listing}

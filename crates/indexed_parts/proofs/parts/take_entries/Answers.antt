@@ -1,12 +1,8 @@
-use Rattle.std.proofs.Common.{◌≡◌, ◌<◌, ◌∙◌, ℕ, List, [], Option, sym, ap, subst, true, false, arith, refl, length, map, get_or}
+use Rattle.std.proofs.Common.{◌∙◌, sym, arith, refl, map}
 use Rattle.std.proofs.Math.ListN.{length-map}
-use Rattle.std.specs.Prelude.{IfSome}
-use Rattle.archive_core.specs.Part.{is_under}
 use Rattle.archive_index.specs.Entry.{IsPlacedEntry, placed_bytes}
-use Rattle.archive_index.specs.Places.{IsNamedBy}
 use Rattle.archive_index.proofs.Entries.{each_of}
 use Rattle.archive_index.proofs.Texts.{bytes_at}
-use Rattle.indexed_parts.specs.InnerPlaces.{IsTakenOf, IsTakenTo}
 use Rattle.indexed_parts.proofs.Found.{taken_more, taken_past, taken_there, stale_at}
 use Rattle.indexed_parts.proofs.parts.take_entries.Goals as goal
 

@@ -1,7 +1,5 @@
-use Rattle.std.proofs.Common.{◌≡◌, ℕ, arith}
-use Rattle.std.proofs.lemmas.Bool.Decides.{nat_tests}
-use Rattle.archive_records.specs.Layout.{slice_length}
-use Rattle.archive_records.proofs.Forms.{long-admission, parts-of}
+use Rattle.std.proofs.Common.{arith}
+use Rattle.archive_records.proofs.Forms.{long-admission}
 use Rattle.indexed_parts.proofs.Named.{claims_long}
 use Rattle.indexed_parts.proofs.records.has_head.Goals as goal
 

@@ -1,4 +1,4 @@
-use Rattle.std.proofs.Common.{◌≡◌, ◌∙◌, sym, ap, ℕ, List, true, subst}
+use Rattle.std.proofs.Common.{◌∙◌, sym, ℕ, List, subst}
 use Rattle.std.specs.Str.{bytes_eq}
 use Rattle.std.proofs.lemmas.Slice.Eq.{bytes_eq-Decides}
 use Rattle.archive_core.specs.Valid.{IsCheckedOf}

@@ -1,8 +1,5 @@
-use Rattle.std.proofs.Common.{◌≡◌, ◌≢◌, ◌<◌, ◌^◌, ◌∙◌, ℕ, List, Option, sym, ap, subst, true, false, arith, refl, length}
-use Rattle.std.specs.Prelude.{IfSome}
+use Rattle.std.proofs.Common.{◌≡◌, ◌≢◌, ◌<◌, ◌^◌, ◌∙◌, sym, ap, subst, arith, length}
 use Rattle.archive_core.specs.declared.find.FindState.TheVariants.{Retired}
-use Rattle.archive_index.specs.Entry.{placed_bytes}
-use Rattle.archive_index.specs.Places.{IsNamedBy}
 use Rattle.placed_bytes.specs.Places.{Stands}
 use Rattle.indexed_parts.proofs.Named.{named_from, named_retirement, none_short, some_along}
 use Rattle.indexed_parts.proofs.records.operation_at.Goals as goal
