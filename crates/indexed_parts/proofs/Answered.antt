@@ -1,0 +1,116 @@
+-- Parts that were read at the places of an index.
+use Rattle.std.proofs.Common.{◌≡◌, ℕ, ◌<◌, ◌≤◌, ◌^◌, zero, suc, true, List, [], ◌∷◌, length, get_or, Option, Some, None, sym, ap, ◌∙◌, subst, arith}
+use Rattle.std.specs.Prelude.{IfSome, IfOk, IfErr, Result, Ok, Err, filter}
+use Rattle.std.specs.List.{AllZip, list_any}
+use Rattle.std.specs.Ordering.{eq_by_cmp, is_eq}
+use Rattle.std.specs.Cmp.{tied_itself}
+use Rattle.std.specs.Cmp.Lexicographic.{nat_list_cmp_total}
+use Rattle.std.specs.FinSet as set
+use Rattle.std.proofs.lemmas.List.{take_all}
+use Rattle.join_core.specs.Listing.{listing}
+use Rattle.join_core.proofs.Listing.{any_listing}
+use Rattle.archive_core.specs.Content.{Operations, IsContent}
+use Rattle.archive_core.specs.Part.{is_under, part}
+use Rattle.archive_core.specs.Summary.{Entries}
+use Rattle.archive_core.proofs.Made.{or_left, or_right}
+use Rattle.archive_records.specs.Text.{written}
+use Rattle.archive_records.proofs.Puts.{length_written}
+use Rattle.archive_records.proofs.Contents.{order}
+use Rattle.placed_bytes.specs.Places.{HasSize}
+use Rattle.archive_index.specs.Index.{index}
+use Rattle.archive_index.specs.Places.{AreNamed, HasIndexedLength, IsNamedBy, IsOfPlaceMachine, IsPlaceFault}
+use Rattle.archive_index.specs.declared.fault.PlaceFault.{PlaceFault}
+use Rattle.archive_index.specs.declared.fault.PlaceFault.TheVariants.{Stale, Device, OutOfMemory}
+use Rattle.archive_index.proofs.Named.{named_there, right}
+use Rattle.archive_index.proofs.Sums.{right_length}
+use Rattle.indexed_parts.specs.InnerPlaces.{IsLengthStale, IsPartRefused, IsStaleAmong, IsTakenTo}
+use Rattle.indexed_parts.proofs.Found.{made_together}
+
+-- all entries were gone through
+pub named_of : (whole now : Option (List ℕ)) (front : List ℕ) (s : Entries) (xs : List (List ℕ)) (n size : ℕ) (held : Operations) → size < 2 ^ 64 → now ≡ whole → HasSize whole size → IfSome whole (HasIndexedLength s) → xs ≡ listing s → n ≡ length xs
+    → IfSome now (λ text. IsTakenTo front xs text n held) → IfSome whole (λ text. HasIndexedLength s text × AreNamed front s text held × (length text < 2 ^ 64))
+named_of whole now front s xs n size held fits keeps sized long are all taken =
+    there whole sized long (subst (λ (w : Option (List ℕ)). IfSome w (λ text. IsTakenTo front xs text n held)) keeps taken)
+  where
+    there : (w : Option (List ℕ)) → HasSize w size → IfSome w (HasIndexedLength s) → IfSome w (λ text. IsTakenTo front xs text n held) → IfSome w (λ text. HasIndexedLength s text × AreNamed front s text held × (length text < 2 ^ 64))
+    there None a b t = tt
+    there (Some text) a b t = (
+      b,
+      record {
+        records = t.records;
+        named = subst (λ (ys : List (List ℕ)). AllZip (IsNamedBy text) (filter (is_under front) ys) t.records) (take_all n xs (omega (arith, all)) ∙ are) t.named;
+        made = made_together held t.records t.held_is;
+      },
+      omega (arith, a, fits),
+    )
+
+-- another length
+pub refused_length : (whole : Option (List ℕ)) (front : List ℕ) (s : Entries) (fault : PlaceFault) → IfSome whole (λ text. IsLengthStale s text fault) → IfSome whole (λ text. IsPartRefused front s text fault)
+refused_length None front s fault h = tt
+refused_length (Some text) front s (Stale None) h = h
+refused_length (Some text) front s (Stale (Some k)) h = absurd h
+refused_length (Some text) front s Device h = tt
+refused_length (Some text) front s OutOfMemory h = tt
+
+-- another record at a place
+pub refused_among : (whole now : Option (List ℕ)) (front : List ℕ) (s : Entries) (xs : List (List ℕ)) (size : ℕ) (fault : PlaceFault) → size < 2 ^ 64 → now ≡ whole → HasSize whole size → xs ≡ listing s
+    → IfSome now (λ text. IsStaleAmong front xs text fault) → IfSome whole (λ text. IsPartRefused front s text fault)
+refused_among whole now front s xs size fault fits keeps sized are h =
+    there whole fault sized (subst (λ (ys : List (List ℕ)). IfSome whole (λ text. IsStaleAmong front ys text fault)) are (subst (λ (w : Option (List ℕ)). IfSome w (λ text. IsStaleAmong front xs text fault)) keeps h))
+  where
+    there : (w : Option (List ℕ)) (f : PlaceFault) → HasSize w size → IfSome w (λ text. IsStaleAmong front (listing s) text f) → IfSome w (λ text. IsPartRefused front s text f)
+    there None f a t = tt
+    there (Some text) (Stale None) a t = absurd t
+    there (Some text) (Stale (Some k)) a t = ((omega (arith, t.0, length_written s), t.1, t.2), omega (arith, a, fits))
+    there (Some text) Device a t = tt
+    there (Some text) OutOfMemory a t = tt
+
+-- as a fault that is told
+pub told : (whole : Option (List ℕ)) (front : List ℕ) (s : Entries) (fault : PlaceFault) → IfSome whole (λ text. IsPartRefused front s text fault) → IfSome whole (λ text. IsPlaceFault front s text fault)
+told None front s fault h = tt
+told (Some text) front s (Stale e) h = h.0
+told (Some text) front s Device h = tt
+told (Some text) front s OutOfMemory h = tt
+
+-- ---- with the index of this very archive
+
+pub right_part : (whole : Option (List ℕ)) (front : List ℕ) (s : Entries) (p : Operations) → length front ≤ 24 → IfSome whole (λ text. HasIndexedLength s text × AreNamed front s text p × (length text < 2 ^ 64))
+    → (o : Operations) → IsContent o → s ≡ index o → whole ≡ Some (written o) → p ≡ part o (is_under front)
+right_part whole front s p short h o content is text =
+    let there = subst (λ (w : Option (List ℕ)). IfSome w (λ t. HasIndexedLength s t × AreNamed front s t p × (length t < 2 ^ 64))) text h in
+    right front o p short content there.2 (subst (λ (x : Entries). AreNamed front x (written o) p) is there.1)
+
+member_at : (xs : List (List ℕ)) (k : ℕ) → k < length xs → list_any (eq_by_cmp order (get_or xs k [])) xs ≡ true
+member_at [] k lt = absurd (omega arith)
+member_at (x ∷ xs) zero lt = or_left _ _ (ap is_eq (tied_itself nat_list_cmp_total x))
+member_at (x ∷ xs) (suc k) lt = or_right (eq_by_cmp order (get_or xs k []) x) _ (member_at xs k (omega arith))
+
+not_stale : (front : List ℕ) (o : Operations) (fault : PlaceFault) → IsContent o → IsPartRefused front (index o) (written o) fault → IsOfPlaceMachine fault
+not_stale front o (Stale None) content h = h.0 (right_length o content h.1)
+not_stale front o (Stale (Some k)) content h =
+    let s = index o in
+    let e = get_or (listing s) k [] in
+    let there : set.contains s e ≡ true = sym (any_listing nat_list_cmp_total s e) ∙ member_at (listing s) k (omega (arith, h.0.0, length_written s)) in
+    let named = named_there o e content h.1 there in
+    h.0.2 named.0 named.1
+not_stale front o Device content h = tt
+not_stale front o OutOfMemory content h = tt
+
+pub accepted_part : (whole : Option (List ℕ)) (front : List ℕ) (s : Entries) (fault : PlaceFault) → IfSome whole (λ text. IsPartRefused front s text fault) → (o : Operations) → IsContent o → s ≡ index o → whole ≡ Some (written o) → IsOfPlaceMachine fault
+accepted_part whole front s fault h o content is text =
+    let there = subst (λ (w : Option (List ℕ)). IfSome w (λ t. IsPartRefused front s t fault)) text h in
+    not_stale front o fault content (subst (λ (x : Entries). IsPartRefused front x (written o) fault) is there)
+
+module _ {V : Type 0} (content : V → Operations) (whole : Option (List ℕ)) (front : List ℕ) (s : Entries) where
+  pub right_any : (r : Result V PlaceFault) → length front ≤ 24 → IfOk r (λ v. IfSome whole (λ text. HasIndexedLength s text × AreNamed front s text (content v) × (length text < 2 ^ 64)))
+      → IfOk r (λ v. (o : Operations) → IsContent o → s ≡ index o → whole ≡ Some (written o) → content v ≡ part o (is_under front))
+  right_any (Ok v) short h = right_part whole front s (content v) short h
+  right_any (Err fault) short h = tt
+
+  pub accepted_any : (r : Result V PlaceFault) → IfErr r (λ fault. IfSome whole (λ text. IsPartRefused front s text fault)) → IfErr r (λ fault. (o : Operations) → IsContent o → s ≡ index o → whole ≡ Some (written o) → IsOfPlaceMachine fault)
+  accepted_any (Ok v) h = tt
+  accepted_any (Err fault) h = accepted_part whole front s fault h
+
+  pub told_any : (r : Result V PlaceFault) → IfErr r (λ fault. IfSome whole (λ text. IsPartRefused front s text fault)) → IfErr r (λ fault. IfSome whole (λ text. IsPlaceFault front s text fault))
+  told_any (Ok v) h = tt
+  told_any (Err fault) h = told whole front s fault h

@@ -1,0 +1,192 @@
+//! The records under a UUID or a key.
+
+ghost use Rattle.std.specs.Prelude.{◌≡◌, ◌≤◌, ◌<◌, ◌^◌, ℕ, List, Some, Err, true, false, length, map};
+ghost use Rattle.std.specs.Prelude.{IfOk, IfErr, IfSome, MatchResult, OnOk};
+ghost use Rattle.std.specs.FinSet as set;
+ghost use Rattle.std.specs.List.{AllByRecursion};
+ghost use Rattle.archive_core.specs.Content.{Operations, IsContent};
+ghost use Rattle.archive_core.specs.Part.{is_under, part};
+ghost use Rattle.archive_records.specs.Text.{written};
+ghost use Rattle.byte_device.specs.Devices.{FailedIn};
+ghost use Rattle.placed_bytes.specs.Places.{HasSize};
+ghost use Rattle.archive_index.specs.Entry.{IsPlacedEntry, placed_bytes};
+ghost use Rattle.archive_index.specs.Index.{index};
+ghost use Rattle.archive_index.specs.Places.{AreNamed, BlamesPlaced, HasIndexedLength, IsNamedBy};
+ghost use Rattle.archive_index.specs.Places.{IsOfPlaceMachine, IsPlaceFault};
+ghost use Rattle.indexed_parts.specs.InnerPlaces.{IsLengthStale, IsPartRefused, IsStaleAmong};
+ghost use Rattle.indexed_parts.specs.InnerPlaces.{IsTakenOf, IsTakenTo, place_fault};
+
+use crate::records::operation_at;
+use archive_core::Archive;
+use archive_index::{Index, PlaceFault, PlacedEntry};
+use byte_device::ReadFault;
+use memory::{Heap, NoMemory};
+use placed_bytes::Placed;
+
+/// How many bytes the magic and the end record of an archive have together.
+const FRAME_LEN: u64 = 17;
+
+/// Takes the record that an entry names into a part, and says whether there is one.
+fn take_entry<A: Archive, P: Placed>(
+    part: &mut A,
+    heap: &Heap,
+    archive: &mut P,
+    size: u64,
+    entry: &PlacedEntry,
+) -> Result<bool, ReadFault>
+    requires size { HasSize (P.whole archive.old) size }
+    requires entry { IsPlacedEntry (placed_bytes entry.now) }
+    ensures taken { IfOk result (λ named. IfSome (P.whole archive.old) (λ text. named ≡ true
+        → IsTakenOf text (placed_bytes entry.now) (A.content part.old) (A.content part.new))) }
+    ensures none { IfOk result (λ named. IfSome (P.whole archive.old) (λ text. named ≡ false
+        → (r : List ℕ) → IsNamedBy text (placed_bytes entry.now) r → ⊥)) }
+    ensures keeps { P.whole archive.new ≡ P.whole archive.old }
+    ensures unfailed { OnOk result (P.failures archive.new ≡ P.failures archive.old) }
+    ensures device { result ≡ Err ReadFault.Device → FailedIn (P.failures archive.old) (P.failures archive.new) }
+    ensures memory { result ≡ Err ReadFault.OutOfMemory → P.failures archive.new ≡ P.failures archive.old }
+{
+    let Some(operation) = operation_at(heap, archive, size, entry)? else {
+        return Ok(false);
+    };
+    match part.take(operation) {
+        Ok(_) => Ok(true),
+        Err(NoMemory) => Err(ReadFault::OutOfMemory),
+    }
+}
+
+/// Whether the key of an entry begins with these bytes.
+fn is_under(front: &[u8], entry: &PlacedEntry) -> bool
+    ensures { result ≡ is_under front.now (placed_bytes entry.now) }
+{
+    begins(&entry.bytes(), front)
+}
+
+/// Whether bytes behind a tag begin with these.
+fn begins(bytes: &[u8], front: &[u8]) -> bool
+    requires { 0 < length bytes.now }
+    ensures { result ≡ is_under front.now bytes.now }
+{
+    bytes[1..].starts_with(front)
+}
+
+/// Why bytes were not read, as a fault of a part.
+fn unread(fault: ReadFault) -> PlaceFault
+    ensures { result ≡ place_fault fault }
+{
+    match fault {
+        ReadFault::Device => PlaceFault::Device,
+        ReadFault::OutOfMemory => PlaceFault::OutOfMemory,
+    }
+}
+
+/// Takes the records that the entries under a front name into an empty part.
+fn take_entries<A: Archive, P: Placed>(
+    part: &mut A,
+    heap: &Heap,
+    front: &[u8],
+    entries: &[PlacedEntry],
+    archive: &mut P,
+    size: u64,
+) -> Result<(), PlaceFault>
+    requires size { HasSize (P.whole archive.old) size }
+    requires entries { AllByRecursion IsPlacedEntry (map placed_bytes entries.now) }
+    requires empty { A.content part.old ≡ set.empty }
+    ensures taken { OnOk result (IfSome (P.whole archive.old) (λ text.
+        IsTakenTo front.now (map placed_bytes entries.now) text (length entries.now) (A.content part.new))) }
+    ensures stale { IfErr result (λ fault. IfSome (P.whole archive.old) (λ text.
+        IsStaleAmong front.now (map placed_bytes entries.now) text fault)) }
+    ensures keeps { P.whole archive.new ≡ P.whole archive.old }
+    ensures unfailed { OnOk result (P.failures archive.new ≡ P.failures archive.old) }
+    ensures blames { IfErr result (λ fault. BlamesPlaced P.failures archive.old archive.new fault) }
+{
+    'taking: for (number, entry) in entries.iter().enumerate() {
+        if !is_under(front, entry) {
+            continue 'taking;
+        }
+        match take_entry(part, heap, archive, size, entry) {
+            Ok(true) => {}
+            Ok(false) => return Err(PlaceFault::Stale(Some(number as u64))),
+            Err(fault) => return Err(unread(fault)),
+        }
+    }
+    Ok(())
+}
+
+/// The size of an archive, which is the length that the index tells.
+fn size_of<P: Placed>(entries: &Index, archive: &mut P) -> Result<u64, PlaceFault>
+    ensures size { IfOk result (λ size. HasSize (P.whole archive.old) size) }
+    ensures right { OnOk result (IfSome (P.whole archive.old) (HasIndexedLength entries.now)) }
+    ensures stale { IfErr result (λ fault. IfSome (P.whole archive.old) (λ text.
+        IsLengthStale entries.now text fault)) }
+    ensures keeps { P.whole archive.new ≡ P.whole archive.old }
+    ensures unfailed { OnOk result (P.failures archive.new ≡ P.failures archive.old) }
+    ensures blames { IfErr result (λ fault. BlamesPlaced P.failures archive.old archive.new fault) }
+{
+    let Ok(size) = archive.size() else {
+        return Err(PlaceFault::Device);
+    };
+    if size >= FRAME_LEN && u128::from(size - FRAME_LEN) == entries.total_length() {
+        Ok(size)
+    } else {
+        Err(PlaceFault::Stale(None))
+    }
+}
+
+/// Reads what `part_at` reads. What is said is of a text that is known.
+fn part_named<A: Archive + Drop, P: Placed>(
+    heap: Heap,
+    front: &[u8],
+    entries: &Index,
+    archive: &mut P,
+) -> Result<A, PlaceFault>
+    ensures named { IfOk result (λ part. IfSome (P.whole archive.old) (λ text. HasIndexedLength entries.now text
+        × AreNamed front.now entries.now text (A.content part) × (length text < 2 ^ 64))) }
+    ensures refused { IfErr result (λ fault. IfSome (P.whole archive.old) (λ text.
+        IsPartRefused front.now entries.now text fault)) }
+    ensures keeps { P.whole archive.new ≡ P.whole archive.old }
+    ensures unfailed { OnOk result (P.failures archive.new ≡ P.failures archive.old) }
+    ensures blames { IfErr result (λ fault. BlamesPlaced P.failures archive.old archive.new fault) }
+{
+    let _count = entries.len();
+    let size = size_of(entries, archive)?;
+    let Ok(kept) = heap.clone() else {
+        return Err(PlaceFault::OutOfMemory);
+    };
+    let mut part = A::empty(kept);
+    take_entries(&mut part, &heap, front, entries.entries(), archive, size)?;
+    Ok(part)
+}
+
+/// Reads the records under a UUID or a key at the places that an index names: each admission is tested as a record of
+/// an archive is, and its slice hashed and compared with its entry. It takes the memory of the part, and of its largest
+/// record twice, which grows with the bytes that come.
+///
+/// # Errors
+///
+/// `Stale` where the archive has another length than the index tells, and else at the first entry at whose place stands
+/// no record that it names; `Device`; `OutOfMemory`.
+pub fn part_at<A: Archive + Drop, P: Placed>(
+    heap: Heap,
+    front: &[u8],
+    entries: &Index,
+    archive: &mut P,
+) -> Result<A, PlaceFault>
+    requires { length front.now ≤ 24 }
+
+    // Whatever bytes the archive has, what is told are records that stand at the places that the index names.
+    ensures named { IfOk result (λ part. IfSome (P.whole archive.old) (λ text. HasIndexedLength entries.now text
+        × AreNamed front.now entries.now text (A.content part))) }
+
+    // With the index of this very archive it is the part of its content, and no text is refused.
+    ensures right { IfOk result (λ made. (o : Operations) → IsContent o → entries.now ≡ index o
+        → P.whole archive.old ≡ Some (written o) → A.content made ≡ part o (is_under front.now)) }
+    ensures accepted { IfErr result (λ fault. (o : Operations) → IsContent o → entries.now ≡ index o
+        → P.whole archive.old ≡ Some (written o) → IsOfPlaceMachine fault) }
+    ensures refused { IfErr result (λ fault. IfSome (P.whole archive.old) (λ text.
+        IsPlaceFault front.now entries.now text fault)) }
+    ensures keeps { P.whole archive.new ≡ P.whole archive.old }
+    ensures blames { MatchResult result (λ _. P.failures archive.new ≡ P.failures archive.old)
+        (λ fault. BlamesPlaced P.failures archive.old archive.new fault) }
+{
+    part_named(heap, front, entries, archive)
+}

@@ -1,0 +1,222 @@
+//! The record at the place of an entry.
+
+ghost use Rattle.std.specs.Prelude.{◌≡◌, ◌≢◌, ◌+◌, ◌≤◌, ◌↔◌, ℕ, List, Err, true, false, length, take, drop, slice_index};
+ghost use Rattle.std.specs.Prelude.{IfErr, IfNone, IfOk, IfSome, IsTrue, MatchOption, OnOk};
+ghost use Rattle.std.specs.Int.{w64, from_be_bytes};
+ghost use Rattle.archive_core.specs.Key.{IsKey, key_bytes};
+ghost use Rattle.archive_core.specs.Record.{Admits, record_bytes, retirement_record};
+ghost use Rattle.archive_core.specs.declared.find.FindState.TheVariants.{Retired};
+ghost use Rattle.byte_device.specs.Devices.{FailedIn};
+ghost use Rattle.placed_bytes.specs.Places.{EndsBefore, HasSize, Stands};
+ghost use Rattle.archive_index.specs.Entry.{IsPlacedEntry, placed_bytes, placed_entry};
+ghost use Rattle.archive_index.specs.Places.{IsNamedBy};
+
+use archive_core::{CheckedSlice, Digest, FindState, Operation, Slice, SliceKey};
+use archive_index::PlacedEntry;
+use archive_records::{ADMISSION_HEAD_LEN, key_front};
+use byte_device::ReadFault;
+use byteorder::{BigEndian, ByteOrder};
+use memory::{Heap, NoMemory};
+use placed_bytes::{Placed, read_at};
+
+/// The tag of an admission.
+const ADMISSION: u8 = 2;
+
+/// The number in eight bytes at a place.
+fn number_at(bytes: &[u8], at: usize) -> u64
+    requires { at + 8 ≤ length bytes.now }
+    ensures { result ≡ from_be_bytes w64 (take 8 (drop at bytes.now)) }
+{
+    BigEndian::read_u64(&bytes[at..])
+}
+
+/// Whether the bytes begin with the tag of an admission and a key, and the length behind them is that of the rest.
+fn has_head(bytes: &[u8]) -> bool
+    ensures long { result ≡ true → 33 ≤ length bytes.now }
+    ensures yes { result ≡ true → (slice_index bytes.now 0 ≡ 2)
+        × (from_be_bytes w64 (take 8 (drop 25 bytes.now)) + 33 ≡ length bytes.now) }
+    ensures no { result ≡ false → Admits bytes.now → ⊥ }
+{
+    if bytes.len() < ADMISSION_HEAD_LEN {
+        return false;
+    }
+    if bytes[0] != ADMISSION {
+        return false;
+    }
+    number_at(bytes, 25) == (bytes.len() - ADMISSION_HEAD_LEN) as u64
+}
+
+/// Whether the bytes behind the tag begin with the key.
+fn has_key(bytes: &[u8], key: &SliceKey) -> bool
+    requires { 25 ≤ length bytes.now }
+    ensures { IsTrue result ↔ (take 24 (drop 1 bytes.now) ≡ key_bytes key.now) }
+{
+    let whole = key_front(key);
+    &bytes[1..25] == &whole[..]
+}
+
+/// The slice of an admission, if these bytes are the record of one.
+fn admission_in(bytes: &[u8]) -> Option<CheckedSlice<'_>>
+    ensures found { IfSome result (λ slice. slice ≡ drop 33 bytes.now) }
+    ensures admits { IfSome result (λ _. Admits bytes.now) }
+    ensures none { IfNone result (Admits bytes.now → ⊥) }
+{
+    if !has_head(bytes) {
+        return None;
+    }
+    match Slice::check(&bytes[ADMISSION_HEAD_LEN..]) {
+        Ok(slice) => {
+            if has_key(bytes, &slice.key()) {
+                Some(slice)
+            } else {
+                None
+            }
+        }
+        Err(_) => None,
+    }
+}
+
+/// Whether the record of an admission, of which this is the slice, is the one that the entry is of. The slice is hashed.
+fn is_of(entry: &PlacedEntry, bytes: &[u8], slice: &CheckedSlice<'_>) -> bool
+    requires admits { Admits bytes.now }
+    requires slice { slice.now ≡ drop 33 bytes.now }
+    ensures { IsTrue result ↔ (placed_bytes entry.now ≡ placed_entry entry.now.offset bytes.now) }
+{
+    let made = PlacedEntry::of_record(bytes, Some(slice.facts()), entry.offset);
+    made.bytes() == entry.bytes()
+}
+
+/// The operation of the admission that these bytes are, if they are the record that the entry is of. The slice is hashed,
+/// and copied.
+fn admission_of(
+    heap: Heap,
+    entry: &PlacedEntry,
+    bytes: &[u8],
+) -> Result<Option<Operation>, NoMemory>
+    ensures found { IfOk result (λ found. IfSome found (λ operation. record_bytes operation ≡ bytes.now)) }
+    ensures named { IfOk result (λ found. IfSome found (λ _. Admits bytes.now
+        × (placed_bytes entry.now ≡ placed_entry entry.now.offset bytes.now))) }
+    ensures none { IfOk result (λ found. IfNone found (Admits bytes.now
+        → placed_bytes entry.now ≡ placed_entry entry.now.offset bytes.now → ⊥)) }
+{
+    let Some(slice) = admission_in(bytes) else {
+        return Ok(None);
+    };
+    if is_of(entry, bytes, &slice) {
+        Ok(Some(Operation::Admit(slice.admit(heap)?)))
+    } else {
+        Ok(None)
+    }
+}
+
+/// The bytes at the place of an entry, in an archive of this size; none where there are fewer.
+fn bytes_at<P: Placed>(
+    heap: Heap,
+    archive: &mut P,
+    size: u64,
+    entry: &PlacedEntry,
+) -> Result<Option<Vec<u8, Heap>>, ReadFault>
+    requires { HasSize (P.whole archive.old) size }
+    ensures read { IfOk result (λ read. MatchOption read
+        (EndsBefore (P.whole archive.old) (entry.now.offset + entry.now.length))
+        (λ bytes. (length bytes.items ≡ entry.now.length)
+        × Stands (P.whole archive.old) entry.now.offset bytes.items)) }
+    ensures keeps { P.whole archive.new ≡ P.whole archive.old }
+    ensures unfailed { OnOk result (P.failures archive.new ≡ P.failures archive.old) }
+    ensures device { result ≡ Err ReadFault.Device → FailedIn (P.failures archive.old) (P.failures archive.new) }
+    ensures memory { result ≡ Err ReadFault.OutOfMemory → P.failures archive.new ≡ P.failures archive.old }
+{
+    if entry.length > size || entry.offset > size - entry.length {
+        return Ok(None);
+    }
+    read_at(heap, archive, entry.offset, entry.length)
+}
+
+/// Where the record of an entry stands.
+fn offset_of(entry: &PlacedEntry) -> u64
+    ensures { result ≡ entry.now.offset }
+{
+    entry.offset
+}
+
+/// How long the record of an entry is.
+fn length_of(entry: &PlacedEntry) -> u64
+    ensures { result ≡ entry.now.length }
+{
+    entry.length
+}
+
+/// Whether an entry is a retirement's.
+fn is_retirement(state: FindState) -> bool
+    ensures yes { result ≡ true → state ≡ Retired }
+    ensures no { result ≡ false → state ≢ Retired }
+{
+    match state {
+        FindState::Retired => true,
+        FindState::Image | FindState::Dsym => false,
+    }
+}
+
+/// The operation of a retirement.
+fn retirement(key: SliceKey, digest: Digest) -> Operation
+    ensures record { record_bytes result ≡ retirement_record key digest.0 }
+    ensures key { IsKey key }
+    ensures digest { length digest.0 ≡ 32 }
+{
+    Operation::Retire(key, digest)
+}
+
+/// The operation that an entry names: a retirement is the entry's own, and an admission stands at its place. None where
+/// no such stands there.
+pub(crate) fn operation_at<P: Placed>(
+    heap: &Heap,
+    archive: &mut P,
+    size: u64,
+    entry: &PlacedEntry,
+) -> Result<Option<Operation>, ReadFault>
+    requires size { HasSize (P.whole archive.old) size }
+    requires entry { IsPlacedEntry (placed_bytes entry.now) }
+    ensures named { IfOk result (λ found. IfSome (P.whole archive.old) (λ text. MatchOption found
+        ((r : List ℕ) → IsNamedBy text (placed_bytes entry.now) r → ⊥)
+        (λ operation. IsNamedBy text (placed_bytes entry.now) (record_bytes operation)))) }
+    ensures keeps { P.whole archive.new ≡ P.whole archive.old }
+    ensures unfailed { OnOk result (P.failures archive.new ≡ P.failures archive.old) }
+    ensures device { result ≡ Err ReadFault.Device → FailedIn (P.failures archive.old) (P.failures archive.new) }
+    ensures memory { result ≡ Err ReadFault.OutOfMemory → P.failures archive.new ≡ P.failures archive.old }
+{
+    let _offset = offset_of(entry);
+    let _length = length_of(entry);
+    if is_retirement(entry.row.state) {
+        return Ok(Some(retirement(entry.row.key, entry.row.digest)));
+    }
+    let Ok(place) = heap.clone() else {
+        return Err(ReadFault::OutOfMemory);
+    };
+    match bytes_at(place, archive, size, entry) {
+        Ok(Some(bytes)) => admission_from(heap, entry, &bytes),
+        Ok(None) => Ok(None),
+        Err(fault) => Err(fault),
+    }
+}
+
+/// The same as `admission_of`, with memory that it takes for itself.
+fn admission_from(
+    heap: &Heap,
+    entry: &PlacedEntry,
+    bytes: &[u8],
+) -> Result<Option<Operation>, ReadFault>
+    ensures found { IfOk result (λ found. IfSome found (λ operation. record_bytes operation ≡ bytes.now)) }
+    ensures named { IfOk result (λ found. IfSome found (λ _. Admits bytes.now
+        × (placed_bytes entry.now ≡ placed_entry entry.now.offset bytes.now))) }
+    ensures none { IfOk result (λ found. IfNone found (Admits bytes.now
+        → placed_bytes entry.now ≡ placed_entry entry.now.offset bytes.now → ⊥)) }
+    ensures memory { IfErr result (λ fault. fault ≡ ReadFault.OutOfMemory) }
+{
+    let Ok(kept) = heap.clone() else {
+        return Err(ReadFault::OutOfMemory);
+    };
+    match admission_of(kept, entry, bytes) {
+        Ok(found) => Ok(found),
+        Err(NoMemory) => Err(ReadFault::OutOfMemory),
+    }
+}
