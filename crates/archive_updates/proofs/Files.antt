@@ -24,7 +24,7 @@ admit_rows-append o place (x ∷ xs) ys =
     ∙ sym (append_assoc (file_rows place 0 (taken_rows o (parts x))) (admit_rows (admitted o (admissible x)) (place + 1) xs) (admit_rows (admitted o (images_of (x ∷ xs))) (place + length (x ∷ xs)) ys))
 
 -- the rows of one file, which stand alone
-one_row : (o : Operations) (place : ℕ) (text : List ℕ) → admit_rows o place (text ∷ []) ≡ file_rows place 0 (taken_rows o (parts text))
+pub one_row : (o : Operations) (place : ℕ) (text : List ℕ) → admit_rows o place (text ∷ []) ≡ file_rows place 0 (taken_rows o (parts text))
 unfolding admit_rows
 one_row o place text = append-nil (file_rows place 0 (taken_rows o (parts text)))
 

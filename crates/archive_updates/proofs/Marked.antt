@@ -2,7 +2,7 @@
 use Rattle.std.proofs.Common.{◌≡◌, ◌≢◌, ◌⊎◌, ◌<◌, ℕ, zero, suc, ◌+◌, Bool, true, false, List, [], ◌∷◌, length, map, get_or, set, Option, Some, slice_get, refl, sym, ap, ◌∙◌, subst, inl, inr, arith}
 use Rattle.std.specs.List.{AllZip}
 use Rattle.std.proofs.lemmas.Bool.{cases_eq, cases_lt}
-use Rattle.std.proofs.lemmas.List.{ext_get_or, get_or-set_other, get_or-set_same, get_or_default, length-set}
+use Rattle.std.proofs.lemmas.List.{ext_get_or, get_or-set_other, get_or-set_same, length-set}
 use Rattle.std.proofs.lemmas.Option.{get_or_from_slice_get, slice_get-get_or, slice_get_within}
 use Rattle.admission.specs.declared.taken.Taken.{Taken}
 use Rattle.admission.specs.declared.taken.Taken.TheVariants.{Added, Known, Skipped}
@@ -10,10 +10,10 @@ use Rattle.report_text.specs.declared.rows.AdmitRow.{AdmitRow}
 use Rattle.command_ends.proofs.Readers.{pairs_long}
 use Rattle.archive_updates.specs.InnerArriving.{ArePlaced, row_again, rows_again, taken_again, was_added}
 
-abbrev no_row : AdmitRow
+abbrev pub no_row : AdmitRow
 no_row = record { file = 0; slice = 0; taken = Skipped }
 
-abbrev row_at : List AdmitRow → ℕ → AdmitRow
+abbrev pub row_at : List AdmitRow → ℕ → AdmitRow
 row_at rows n = get_or rows n no_row
 
 -- ---- one row
@@ -55,10 +55,10 @@ module _ (f : List ℕ → Bool) (was : List AdmitRow) (records : List (List ℕ
     all = λ n lt. inl (ap (λ (rows : List AdmitRow). row_at rows n) is);
   }
 
-  pub marked_more : (places : List ℕ) (k p : ℕ) (now more : List AdmitRow) (row : AdmitRow) (new : Bool) → AreMarked f was records places k now → slice_get places k ≡ Some p → p < length was → new ≡ f (get_or records p [])
-      → row ≡ get_or now p row → more ≡ set now p (row_again new row) → AreMarked f was records places (k + 1) more
-  marked_more places k p now more row new before at within new_is row_is more_is = record {
-    long = ap length more_is ∙ length-set now p (row_again new row) ∙ before.long;
+  pub marked_more : (places : List ℕ) (k p : ℕ) (now more : List AdmitRow) (new : Bool) → AreMarked f was records places k now → slice_get places k ≡ Some p → p < length was → new ≡ f (get_or records p [])
+      → more ≡ set now p (row_again new (row_at now p)) → AreMarked f was records places (k + 1) more
+  marked_more places k p now more new before at within new_is more_is = record {
+    long = ap length more_is ∙ length-set now p (row_again new (row_at now p)) ∙ before.long;
     first = λ i n lt is inside. elim (cases_lt i k) [
       | inl low ↦ by_same n (before.first i n low is inside) inside
       | inr high ↦
@@ -79,11 +79,8 @@ module _ (f : List ℕ → Bool) (was : List AdmitRow) (records : List (List ℕ
       inside_now : p < length now
       inside_now = omega (arith, within, before.long)
 
-      was_row : row ≡ row_at now p
-      was_row = row_is ∙ get_or_default now p row no_row inside_now
-
       written : row_at more p ≡ row_again (f (get_or records p [])) (row_at now p)
-      written = ap (λ (rows : List AdmitRow). row_at rows p) more_is ∙ get_or-set_same now p (row_again new row) no_row inside_now ∙ (λ i. row_again (new_is i) (was_row i))
+      written = ap (λ (rows : List AdmitRow). row_at rows p) more_is ∙ get_or-set_same now p (row_again new (row_at now p)) no_row inside_now ∙ ap (λ (b : Bool). row_again b (row_at now p)) new_is
 
       here : row_at more p ≡ goal_at f was records p
       here = elim (before.all p within) [
@@ -92,7 +89,7 @@ module _ (f : List ℕ → Bool) (was : List AdmitRow) (records : List (List ℕ
       ]
 
       other : (n : ℕ) → n ≢ p → row_at more n ≡ row_at now n
-      other n apart = ap (λ (rows : List AdmitRow). row_at rows n) more_is ∙ get_or-set_other now p n (row_again new row) no_row apart
+      other n apart = ap (λ (rows : List AdmitRow). row_at rows n) more_is ∙ get_or-set_other now p n (row_again new (row_at now p)) no_row apart
 
       by_same : (n : ℕ) → row_at now n ≡ goal_at f was records n → n < length was → row_at more n ≡ goal_at f was records n
       by_same n is inside = elim (cases_eq n p) [

@@ -16,7 +16,7 @@ ghost use Rattle.command_ends.specs.Inputs.{IsRefusedFile, Unfailed, reader, rea
 ghost use Rattle.command_ends.specs.Outputs.{Publishes, Takes, out_of, outs, writer};
 ghost use Rattle.report_text.specs.Report.{admit_lines, archive_line};
 
-use crate::arriving::{Arrivals, tell_again};
+use crate::arriving::{Arrivals, told_again};
 use crate::slicing::slice_file;
 use crate::telling::tell_operations;
 use admission::TakeFault;
@@ -138,14 +138,10 @@ fn write_admitted<R: Source, T: Target, P: Sink>(
         (out_of (outs T.Draft.held T.Draft.failures T.placed T.failures out.old out.new))
         (writer P.held P.failures report.old report.new) result }
 {
-    let Arrivals {
-        came,
-        places,
-        mut rows,
-    } = arrivals;
+    let Arrivals { came, places, rows } = arrivals;
     let (sizes, told) = tell_operations(&heap, input, came.operations(), &mut out.draft)?;
-    tell_again(&mut rows, &places, &told);
-    publish_admitted(heap, sizes, &rows, out, report)
+    let again = told_again(rows, &places, &told);
+    publish_admitted(heap, sizes, &again, out, report)
 }
 
 /// Writes IN's archive to OUT with the slices of each file, and a row a slice and the sizes to the report. The files

@@ -1,5 +1,6 @@
 //! The slices of files as they come, each once, and the rows that tell them.
-ghost use Rattle.std.specs.Prelude.{◌≡◌, ◌++◌, ◌∷◌, ℕ, List, [], true, length, map, IfOk, OnOk};
+ghost use Rattle.std.specs.Prelude.{◌≡◌, ◌++◌, ◌∷◌, ℕ, ◌<◌, Bool, List, [], true, length, map, IfOk, OnOk};
+ghost use Rattle.std.specs.Prelude.{slice_index_or, slice_set};
 ghost use Rattle.std.specs.FinSet as set;
 ghost use Rattle.join_core.specs.Listing.{listing};
 ghost use Rattle.archive_core.specs.Record.{admission_record};
@@ -141,15 +142,38 @@ fn row_again(row: AdmitRow, new: bool) -> AdmitRow
     }
 }
 
+/// Tells the row at this place again.
+fn tell_row(rows: &mut [AdmitRow], place: usize, new: bool)
+    requires { place < length rows.old }
+    ensures { (none : AdmitRow)
+        → rows.new ≡ slice_set rows.old place (row_again new (slice_index_or rows.old place none)) }
+{
+    rows[place] = row_again(rows[place], new);
+}
+
 /// Tells the rows again of which slices came, by whether each of these is new.
-pub fn tell_again(rows: &mut [AdmitRow], places: &[u64], told: &[bool])
+fn tell_rows(rows: &mut [AdmitRow], places: &[u64], told: &[bool])
     requires { (came records : List (List ℕ)) × ArePlaced came places.now rows.old records
         × (length told.now ≡ length came) }
     ensures { (is_new : List ℕ → Bool) (came records : List (List ℕ)) → ArePlaced came places.now rows.old records
         → told.now ≡ map is_new came → rows.new ≡ rows_again is_new rows.old records }
 {
     'told: for (index, new) in told.iter().enumerate() {
-        let place = places[index] as usize;
-        rows[place] = row_again(rows[place], *new);
+        tell_row(rows, places[index] as usize, *new);
     }
+}
+
+/// The rows, told again by whether each of the slices that came is new.
+pub fn told_again(
+    mut rows: Vec<AdmitRow, Heap>,
+    places: &[u64],
+    told: &[bool],
+) -> Vec<AdmitRow, Heap>
+    requires { (came records : List (List ℕ)) × ArePlaced came places.now rows.items records
+        × (length told.now ≡ length came) }
+    ensures { (is_new : List ℕ → Bool) (came records : List (List ℕ)) → ArePlaced came places.now rows.items records
+        → told.now ≡ map is_new came → result.items ≡ rows_again is_new rows.items records }
+{
+    tell_rows(&mut rows, places, told);
+    rows
 }

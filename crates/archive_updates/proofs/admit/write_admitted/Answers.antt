@@ -16,7 +16,7 @@ use Rattle.command_ends.specs.Ends.{StopsAmidst}
 use Rattle.command_ends.specs.Inputs.{IsKnown, reader}
 use Rattle.command_ends.specs.Outputs.{out_of, outs, writer}
 use Rattle.report_text.specs.Report.{admit_lines}
-use Rattle.archive_updates.specs.InnerArriving.{lines_again}
+use Rattle.archive_updates.specs.InnerArriving.{ArePlaced, lines_again}
 use Rattle.archive_updates.specs.InnerTelling.{IsJoinedTelling}
 use Rattle.archive_updates.specs.Joining.{joining}
 use Rattle.archive_updates.proofs.Told.{told_published, told_stopped}
@@ -40,8 +40,21 @@ returns-in_err-sizes g c = λ records placed.
     (writer g.P.Sink.held g.P.Sink.failures c.args.report.now c.args.report.now) c.in_err-sizes.field-0.0
     (subst (λ (o : Operations). StopsAmidst (joining input (content_of o)) (IsKnown input) draft c.in_err-sizes.field-0.0) same c.in_err-sizes.ensures.stopped) c.in_err-sizes.ensures.taken (refl, refl) (Appends-none _, refl))
 
-pub tell_again-requires : goal.tell_again-requires
-tell_again-requires g c = ?
+pub told_again-requires : goal.told_again-requires
+told_again-requires g c =
+    let came = c.args.arrivals.came in
+    let rows = c.args.arrivals.rows.items in
+    let p = c.requires in
+    let told = c.in_ok-sizes.ensures.told in
+    let operations : Operations = set.from_list {R = slice_cmp nat_cmp} (map record_bytes c.operations.result.now) in
+    let long = ap length (c.deref-2.ensures.value ∙ told.told_is) ∙ length-map (listing operations) (changes told.joined.content) in
+    let same = same_set came (map record_bytes c.operations.result.now) c.operations.ensures.listed in
+    (
+      listing came,
+      p.0,
+      subst (λ (places : List ℕ). ArePlaced (listing came) places rows p.0) (sym c.deref.ensures.value) p.1,
+      long ∙ ap (λ (o : Operations). length (listing o)) same,
+    )
 
 pub returns : goal.returns
 returns g c = λ records placed.
@@ -50,7 +63,10 @@ returns g c = λ records placed.
     let input = reader g.R.Source.left g.R.Source.failures c.args.input.now c.tell_operations.new.input in
     let draft = stream g.T.Draft.Sink.held g.T.Draft.Sink.failures c.args.out.now.draft c.tell_operations.new.draft in
     let j = subst (λ (o : Operations). IsJoinedTelling input o draft c.in_ok-sizes.sizes c.in_ok-sizes.told.items) same c.in_ok-sizes.ensures.told in
-    told_published input came (lines_again c.args.arrivals.rows.items records) draft c.in_ok-sizes.sizes c.in_ok-sizes.told.items j _ ?
+    told_published input came (lines_again c.args.arrivals.rows.items records) draft c.in_ok-sizes.sizes c.in_ok-sizes.told.items j _
+    (ap admit_lines (c.deref-3.ensures.value ∙ c.told_again-again.ensures (changes j.joined.content) (listing came) records
+    (subst (λ (places : List ℕ). ArePlaced (listing came) places c.args.arrivals.rows.items records) (sym c.deref.ensures.value) placed)
+    (c.deref-2.ensures.value ∙ j.told_is)))
     (out_of (outs g.T.Draft.Sink.held g.T.Draft.Sink.failures g.T.Target.placed g.T.Target.failures c.args.out.now c.publish_admitted.new.out))
     (writer g.P.Sink.held g.P.Sink.failures c.args.report.now c.publish_admitted.new.report) c.publish_admitted.result
     (c.publish_admitted.ensures c.args.out.now.draft _ (j.joined.written_is.written, j.joined.written_is.unfailed) j.joined.written_is.bytes_are)
