@@ -28,8 +28,8 @@ pub record AreAtHand {S : Type 0} (side : Stream S) (operations : Operations) : 
 
 -- The input is an archive's text, and that of the join of its content with what these operations make was written; each
 -- of them was told as new where it changes that content.
-pub record IsJoinedTelling {R W : Type 0} (input : Reader R) (operations : Operations) (draft : Stream W) (sizes : Sizes)
-    (told : List Bool) : Type 0 where
+pub record IsJoinedTelling {R W : Type 0} (input : Reader R) (operations : Operations) (draft : Stream W)
+    (sizes : Sizes) (told : List Bool) : Type 0 where
   pub joined : IsJoined input (content_of operations) draft sizes
   pub told_is : told ≡ map (changes joined.content) (listing operations)
 

@@ -145,9 +145,9 @@ fn write_admitted<R: Source, T: Target, P: Sink>(
 }
 
 /// Writes IN's archive to OUT with the slices of each file, and a row a slice and the sizes to the report. The files
-/// are read first, in the order of the words, each to its end, and then IN is merged with their slices as it comes, in the
-/// memory of these, of one record and of 57 bytes for each retirement. Where a file is refused, IN is tested to its end
-/// before that is told.
+/// are read first, in the order of the words, each to its end, and then IN is merged with their slices as it comes, in
+/// the memory of these, of one record and of 57 bytes for each retirement. Where a file is refused, IN is tested to its
+/// end before that is told.
 ///
 /// # Errors
 ///

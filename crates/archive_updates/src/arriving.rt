@@ -54,7 +54,8 @@ impl Arrivals {
         let place = self.came.admit_at(slice)?;
         match place {
             Some(place) => {
-                self.places.insert(place, row)?;
+                let at = place.min(self.places.len());
+                self.places.insert(at, row)?;
                 Ok(Taken::Added(key, digest))
             }
             None => Ok(Taken::Known(key, digest)),

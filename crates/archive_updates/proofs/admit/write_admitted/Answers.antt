@@ -40,8 +40,8 @@ returns-in_err-sizes g c = λ records placed.
     (writer g.P.Sink.held g.P.Sink.failures c.args.report.now c.args.report.now) c.in_err-sizes.field-0.0
     (subst (λ (o : Operations). StopsAmidst (joining input (content_of o)) (IsKnown input) draft c.in_err-sizes.field-0.0) same c.in_err-sizes.ensures.stopped) c.in_err-sizes.ensures.taken (refl, refl) (Appends-none _, refl))
 
-pub told_again-requires : goal.told_again-requires
-told_again-requires g c =
+pub told_again-again-requires : goal.told_again-again-requires
+told_again-again-requires g c =
     let came = c.args.arrivals.came in
     let rows = c.args.arrivals.rows.items in
     let p = c.requires in

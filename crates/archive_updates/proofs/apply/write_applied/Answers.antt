@@ -23,8 +23,8 @@ returns-in_err-sizes g c =
     (writer g.P.Sink.held g.P.Sink.failures c.args.report.now c.args.report.now) c.in_err-sizes.field-0.0
     c.in_err-sizes.ensures.stopped c.in_err-sizes.ensures.taken (refl, refl) (Appends-none _, refl))
 
-pub overflow_sub-result : goal.overflow_sub-result
-overflow_sub-result g c =
+pub overflow_sub-number : goal.overflow_sub-number
+overflow_sub-number g c =
     let operations = c.args.operations.now in
     let j = c.in_ok-sizes.ensures.told in
     let o = j.joined.content in

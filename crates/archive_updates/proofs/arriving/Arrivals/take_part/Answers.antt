@@ -30,18 +30,18 @@ returns-in_ok-taken-in-Some-clause-placed c =
     (c.in_ok-taken-in-Some.ensures.placed records row refl placed)) c.push_row.ensures.rows)
 
 pub returns-in-None-clause-came : goal.returns-in-None-clause-came
-returns-in-None-clause-came c = rw c.in-None.is (always c.push_row.result c.push_row.ensures.came)
+returns-in-None-clause-came c = rw c.in-None.is (always c.push_row-in-None.result c.push_row-in-None.ensures.came)
 
 pub returns-in-None-clause-rows : goal.returns-in-None-clause-rows
 returns-in-None-clause-rows c =
     let old = c.args.self.now in
-    rw c.in-None.is (then_ok c.push_row.result (λ pushed. pushed ∙ ap (λ (rs : List AdmitRow). old.rows.items ++ rs) (sym (row_skipped old.came c.args.file c.args.number))) c.push_row.ensures.rows)
+    rw c.in-None.is (then_ok c.push_row-in-None.result (λ pushed. pushed ∙ ap (λ (rs : List AdmitRow). old.rows.items ++ rs) (sym (row_skipped old.came c.args.file c.args.number))) c.push_row-in-None.ensures.rows)
 
 pub returns-in-None-clause-placed : goal.returns-in-None-clause-placed
 returns-in-None-clause-placed c =
     let old = c.args.self.now in
     let row : AdmitRow = record { file = c.args.file; slice = c.args.number; taken = Skipped } in
-    rw c.in-None.is (then_ok c.push_row.result (λ pushed records placed.
-    placed_as (listing old.came) (listing c.push_row.new.self.came) old.places.items c.push_row.new.self.places.items (old.rows.items ++ row ∷ []) c.push_row.new.self.rows.items (records ++ [] ∷ [])
-    (ap (λ (o : Operations). listing o) c.push_row.ensures.came) c.push_row.ensures.places pushed
-    (placed_known (listing old.came) old.places.items old.rows.items records row [] placed refl)) c.push_row.ensures.rows)
+    rw c.in-None.is (then_ok c.push_row-in-None.result (λ pushed records placed.
+    placed_as (listing old.came) (listing c.push_row-in-None.new.self.came) old.places.items c.push_row-in-None.new.self.places.items (old.rows.items ++ row ∷ []) c.push_row-in-None.new.self.rows.items (records ++ [] ∷ [])
+    (ap (λ (o : Operations). listing o) c.push_row-in-None.ensures.came) c.push_row-in-None.ensures.places pushed
+    (placed_known (listing old.came) old.places.items old.rows.items records row [] placed refl)) c.push_row-in-None.ensures.rows)
