@@ -1,5 +1,5 @@
 use Rattle.std.proofs.Common.{◌≡◌, ◌++◌, ◌∙◌, ℕ, List, ap, arith, drop, length, subst, sym, take}
-use Rattle.std.proofs.lemmas.List.{take-append_seam}
+use Rattle.std.proofs.Math.Seq.{take-append_seam}
 use Rattle.report_text.specs.declared.rows.AdmitRow.{AdmitRow}
 use Rattle.archive_updates.specs.InnerArriving.{ArePlaced, rows_again}
 use Rattle.archive_updates.proofs.arriving.told_again.Goals as goal

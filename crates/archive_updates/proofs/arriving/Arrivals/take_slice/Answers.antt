@@ -13,7 +13,7 @@ use Rattle.archive_updates.proofs.arriving.Arrivals.take_slice.Goals as goal
 pub returns-in_ok-insert-in-Some-clause-taken : goal.returns-in_ok-insert-in-Some-clause-taken
 returns-in_ok-insert-in-Some-clause-taken c =
     let put : IsPutAt c.args.self.now.came c.admit_at.new.self (admission_record c.args.slice) (Some c.in-Some.place) = rw c.in-Some.is at c.in_ok-place.ensures.place in
-    taken_added c.args.self.now.came c.args.slice c.key-key.result c.digest-digest.result c.key-key.ensures c.digest-digest.ensures put.0
+    taken_added c.args.self.now.came c.args.slice c.key-key.result c.digest-digest.result c.key-key.ensures c.digest-digest.ensures.digest put.0
 
 pub returns-in_ok-insert-in-Some-clause-placed : goal.returns-in_ok-insert-in-Some-clause-placed
 returns-in_ok-insert-in-Some-clause-placed c records row is placed =
@@ -28,7 +28,7 @@ returns-in_ok-insert-in-Some-clause-placed c records row is placed =
 pub returns-in-None-clause-taken : goal.returns-in-None-clause-taken
 returns-in-None-clause-taken c =
     let put : IsPutAt c.args.self.now.came c.admit_at.new.self (admission_record c.args.slice) None = rw c.in-None.is at c.in_ok-place.ensures.place in
-    taken_known c.args.self.now.came c.args.slice c.key-key.result c.digest-digest.result c.key-key.ensures c.digest-digest.ensures put.0
+    taken_known c.args.self.now.came c.args.slice c.key-key.result c.digest-digest.result c.key-key.ensures c.digest-digest.ensures.digest put.0
 
 pub returns-in-None-clause-placed : goal.returns-in-None-clause-placed
 returns-in-None-clause-placed c records row is placed =
