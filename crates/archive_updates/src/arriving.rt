@@ -54,6 +54,7 @@ impl Arrivals {
         let place = self.came.admit_at(slice)?;
         match place {
             Some(place) => {
+                // There are as many places as slices, so that this is the place itself.
                 let at = place.min(self.places.len());
                 self.places.insert(at, row)?;
                 Ok(Taken::Added(key, digest))
