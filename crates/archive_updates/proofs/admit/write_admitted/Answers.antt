@@ -48,8 +48,7 @@ told_again-again-requires g c =
     let told = c.in_ok-sizes.ensures.told in
     let operations : Operations = set.from_list {R = slice_cmp nat_cmp} (map record_bytes c.operations.result.now) in
     let long = ap length (c.deref-2.ensures.value ∙ told.told_is) ∙ length-map (listing operations) (changes told.joined.content) in
-    let same = same_set came (map record_bytes c.operations.result.now) c.operations.ensures.listed in
-    (
+    let same = same_set came (map record_bytes c.operations.result.now) c.operations.ensures.listed in (
       listing came,
       p.0,
       subst (λ (places : List ℕ). ArePlaced (listing came) places rows p.0) (sym c.deref.ensures.value) p.1,
