@@ -1,4 +1,4 @@
-pub mod Opened
+pub mod Turned
 pub mod Places
 pub mod Pathless
 pub mod Outcomes
