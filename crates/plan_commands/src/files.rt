@@ -2,7 +2,7 @@
 
 ghost use Rattle.std.specs.Prelude.{◌≡◌, ◌⊎◌, ◌++◌, [], IfOk, None, OnOk, option_map, string_bytes};
 ghost use Rattle.command_ends.specs.Outputs.{writer};
-ghost use Rattle.archive_files.specs.AtTurns.{told, told_by};
+ghost use Rattle.archive_files.specs.AtTurns.{told as told_of, told_by};
 ghost use Rattle.archive_files.specs.Fresh.{AreFresh};
 ghost use Rattle.archive_files.specs.OutFiles.{Untouched, stage_of};
 ghost use Rattle.archive_files.specs.Placing.{IsPath};
@@ -46,7 +46,7 @@ fn inputs_for<'l, 'f, F: Files>(
     files: &mut SystemFiles<'f, F>,
     line: &'l Line,
 ) -> Result<Vec<SystemInput<'l, 'f, F>>, NoMemory>
-    ensures inputs { IfOk result (λ inputs. AreWaiting told (inputs_of (line_view line.now)) inputs.items) }
+    ensures inputs { IfOk result (λ inputs. AreWaiting told_of (inputs_of (line_view line.now)) inputs.items) }
     ensures asked { OnOk result
         (files.new.asked.entries ≡ files.old.asked.entries ++ inputs_of (line_view line.now)) }
     ensures first { AreFirstAsked files.old.asked.entries files.new.asked.entries (inputs_of (line_view line.now)) }
