@@ -70,12 +70,13 @@ impl Seen {
         ensures input { IsOfInput ended.now → result.obstacle ≡ None }
     {
         match ended {
-            Err(CommandFault::Input(place, _)) => {
-                match input_at(line, *place).and_then(|(number, _)| inputs.get(number)) {
+            Err(CommandFault::Input(place, _)) => match input_at(line, *place) {
+                Some((number, _)) => match inputs.get(number) {
                     Some(input) => Seen::of_input(input),
                     None => Seen::NOTHING,
-                }
-            }
+                },
+                None => Seen::NOTHING,
+            },
             Err(CommandFault::Output(_)) => Seen {
                 reason: out.reason(),
                 look: None,

@@ -9,7 +9,7 @@ use Rattle.archive_files.specs.Placing.{IsPlaced, IsRemoved, account, place}
 use Rattle.command_line.specs.InnerLine.{line_view}
 use Rattle.command_line.specs.Lines.{inputs_of}
 use Rattle.plan_commands.specs.Files.{command_fault_of}
-use Rattle.plan_commands.proofs.Places.{draft_took, first_from, none_asked, nothing_taken, nothing_there, placed_there, settled_of, settled_without_calls}
+use Rattle.plan_commands.proofs.OutPlaces.{draft_took, first_from, none_asked, nothing_taken, nothing_there, placed_there, settled_of, settled_without_calls}
 use Rattle.plan_commands.proofs.Outcomes.{carried_outcome}
 use Rattle.plan_commands.proofs.Saying.{none_called}
 use Rattle.plan_commands.proofs.files.execute.Goals as goal
