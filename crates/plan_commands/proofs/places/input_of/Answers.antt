@@ -4,11 +4,11 @@ use Rattle.command_line.specs.Arguments.{reads_kind}
 use Rattle.command_line.specs.TableView.{argument_in}
 use Rattle.command_line.specs.ValuesView.{values_view}
 use Rattle.command_line.proofs.Passed.{none_left}
-use Rattle.plan_commands.proofs.hints.input_of.Goals as goal
+use Rattle.plan_commands.proofs.places.input_of.Goals as goal
 
-pub returns : goal.returns
-returns c =
+pub returns-clause-path : goal.returns-clause-path
+returns-clause-path c =
     let none = none_left (reads_kind c.args.kind) argument_in values_view c.arguments.argument-iterator.a.rest.now
     c.arguments.argument-iterator.b.rest.now
     (elim c.in-None.ensures.steps [ inl first ↦ inl first.1.0 | inr second ↦ inr second.1.0 ]) in
-    ap (λ left. slice_get left c.arguments.left) (sym none) ∙ c.arguments.invariant
+    ap (λ left. slice_get left c.arguments.left) (sym none) ∙ c.arguments.invariant.0
