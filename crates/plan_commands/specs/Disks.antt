@@ -1,5 +1,5 @@
 -- A plan over inputs that are opened at their turn.
-use Rattle.std.specs.Prelude.{◌≡◌, ℕ, List, length, Option, Some, None, option_and_then, slice_get, Result, Ok, Err}
+use Rattle.std.specs.Prelude.{◌≡◌, List, length, Option, Some, None, option_and_then, slice_get, Result, Ok, Err}
 use Rattle.byte_device.specs.declared.disks.CannotOpen.{CannotOpen}
 use Rattle.archive_files.specs.Turns.{AreAtTurn, AreWaiting, Told, unopened_in}
 use Rattle.archive_files.specs.declared.at_turn.Unopened.{Unopened}
@@ -13,7 +13,7 @@ use Rattle.command_ends.specs.declared.faults.Why.{Why}
 use Rattle.command_ends.specs.declared.faults.Why.TheVariants.{CannotOpen as NotOpened}
 use Rattle.command_ends.specs.Inputs.{readers}
 use Rattle.command_ends.specs.Outputs.{Outs, Writer}
-use Rattle.plan_commands.specs.Hints.{path_at}
+use Rattle.plan_commands.specs.Numbers.{number_at}
 use Rattle.plan_commands.specs.Plans.{Executes, plan_view}
 use Rattle.plan_commands.specs.declared.plans.Plan.{Plan}
 
@@ -35,8 +35,7 @@ abbrev pub Tells : {S : Type 0} → Told S → Line → List (Result S CannotOpe
     → Result Status CommandFault → Type 0
 Tells told line inputs (Ok status) result = result ≡ Ok status
 Tells told line inputs (Err (Input place why)) result =
-    (number : ℕ) × (slice_get (inputs_of line) number ≡ path_at line place)
-    × (result ≡ Err (fault_at (unopened_of told (slice_get inputs number)) place why))
+    result ≡ Err (fault_at (unopened_of told (option_and_then (slice_get inputs) (number_at line place))) place why)
 Tells told line inputs (Err (Output n)) result = result ≡ Err (Output n)
 Tells told line inputs (Err (Report n)) result = result ≡ Err (Report n)
 Tells told line inputs (Err OutOfMemory) result = result ≡ Err OutOfMemory

@@ -1,11 +1,12 @@
 //! Which input of a line a place is, and what is told of one that was not opened at its turn.
 
-ghost use Rattle.std.specs.Prelude.{◌≡◌, ◌<◌, ◌^◌, ℕ, IfSome, Some, length, option_map, slice_get};
+ghost use Rattle.std.specs.Prelude.{◌≡◌, ◌<◌, ◌^◌, length, option_and_then, option_map, slice_get};
 ghost use Rattle.archive_files.specs.AtTurns.{told};
 ghost use Rattle.command_line.specs.LineView.{line_view};
 ghost use Rattle.command_line.specs.Lines.{inputs_of, inputs_of_kind};
 ghost use Rattle.plan_commands.specs.Disks.{Tells, fault_at, unopened_of};
 ghost use Rattle.plan_commands.specs.Hints.{path_at};
+ghost use Rattle.plan_commands.specs.Numbers.{number_at, numbers_of_kind};
 
 use archive_files::{AtTurn, Unopened};
 use byte_device::{CannotOpen, Disk};
@@ -17,7 +18,7 @@ fn input_of(line: &Line, kind: Kind, number: u64) -> Option<(usize, &str)>
     ensures path { option_map (λ at. at.1.now) result
         ≡ slice_get (inputs_of_kind kind (line_view line.now)) number }
     ensures number { length (inputs_of (line_view line.now)) < 2 ^ 64
-        → IfSome result (λ at. slice_get (inputs_of (line_view line.now)) at.0 ≡ Some at.1.now) }
+        → option_map (λ at. at.0) result ≡ slice_get (numbers_of_kind kind (line_view line.now)) number }
 {
     let arguments = line.arguments();
     let mut passed = 0_usize;
@@ -41,7 +42,7 @@ fn input_of(line: &Line, kind: Kind, number: u64) -> Option<(usize, &str)>
 pub fn input_at(line: &Line, place: Place) -> Option<(usize, &str)>
     ensures path { option_map (λ at. at.1.now) result ≡ path_at (line_view line.now) place }
     ensures number { length (inputs_of (line_view line.now)) < 2 ^ 64
-        → IfSome result (λ at. slice_get (inputs_of (line_view line.now)) at.0 ≡ Some at.1.now) }
+        → option_map (λ at. at.0) result ≡ number_at (line_view line.now) place }
 {
     match place {
         Place::Archive(number) => input_of(line, Kind::Archive, number),
@@ -60,8 +61,8 @@ fn unopened_at<D: Disk>(
     inputs: &[Result<AtTurn<'_, D>, CannotOpen>],
 ) -> Option<Unopened>
     requires { length inputs.now ≡ length (inputs_of (line_view line.now)) }
-    ensures { (number : ℕ) × (slice_get (inputs_of (line_view line.now)) number ≡ path_at (line_view line.now) place)
-        × (result ≡ unopened_of told (slice_get inputs.now number)) }
+    ensures { result
+        ≡ unopened_of told (option_and_then (slice_get inputs.now) (number_at (line_view line.now) place)) }
 {
     let (number, _) = input_at(line, place)?;
     match inputs.get(number)? {
