@@ -30,10 +30,10 @@ minus_zero k = grind (arith)
 minus_suc : (k l : ℕ) → k - l ≡ suc k - suc l
 minus_suc k l = grind (arith)
 
-under_none : (k : ℕ) → k < 0 → ⊥
+pub under_none : (k : ℕ) → k < 0 → ⊥
 under_none k under = omega (arith, under)
 
-under_next : (k l : ℕ) → suc k < suc l → k < l
+pub under_next : (k l : ℕ) → suc k < suc l → k < l
 under_next k l under = omega (arith, under)
 
 past_none : (l : ℕ) → suc l ≤ 0 → ⊥
@@ -42,14 +42,14 @@ past_none l past = omega (arith, past)
 past_next : (l k : ℕ) → suc l ≤ suc k → l ≤ k
 past_next l k past = omega (arith, past)
 
-from_found : (p : ℕ) (ts : List Text) (more : List ℕ) (k : ℕ) → k < length ts
+pub from_found : (p : ℕ) (ts : List Text) (more : List ℕ) (k : ℕ) → k < length ts
     → slice_get (numbers_from p ts ++ more) k ≡ Some (p + k)
 from_found p [] more k under = absurd (under_none k under)
 from_found p (u ∷ ts) more zero under = ap Some (plus_zero p)
 from_found p (u ∷ ts) more (suc k) under =
     from_found (suc p) ts more k (under_next k (length ts) under) ∙ ap Some (plus_suc p k)
 
-from_past : (p : ℕ) (ts : List Text) (more : List ℕ) (k : ℕ) → length ts ≤ k
+pub from_past : (p : ℕ) (ts : List Text) (more : List ℕ) (k : ℕ) → length ts ≤ k
     → slice_get (numbers_from p ts ++ more) k ≡ slice_get more (k - length ts)
 from_past p [] more k past = ap (slice_get more) (minus_zero k)
 from_past p (u ∷ ts) more zero past = absurd (past_none (length ts) past)
@@ -74,7 +74,7 @@ Left kind a v k left =
     ((reads_kind kind a.role ≡ true) × (length (texts_of v) ≤ k) × (left ≡ k - length (texts_of v)))
     ⊎ ((reads_kind kind a.role ≡ false) × (left ≡ k))
 
-text_past : (ts more : List Text) (k : ℕ) → length ts ≤ k → slice_get (ts ++ more) k ≡ slice_get more (k - length ts)
+pub text_past : (ts more : List Text) (k : ℕ) → length ts ≤ k → slice_get (ts ++ more) k ≡ slice_get more (k - length ts)
 text_past [] more k past = ap (slice_get more) (minus_zero k)
 text_past (u ∷ ts) more zero past = absurd (past_none (length ts) past)
 text_past (u ∷ ts) more (suc k) past =

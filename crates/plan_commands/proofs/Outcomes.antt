@@ -3,7 +3,7 @@ use Rattle.std.proofs.Common.{◌≡◌, ◌∙◌, ◌⊎◌, ℕ, List, [], �
 use Rattle.std.proofs.KnownBytes.{Appends-nil}
 use Rattle.std.specs.FinSet as set
 use Rattle.std.specs.Io.KnownBytes.{Appends}
-use Rattle.std.specs.Prelude.{slice_get}
+use Rattle.std.specs.Prelude.{option_and_then, slice_get}
 use Rattle.command_line.specs.Lines.{Line}
 use Rattle.archive_records.specs.Text.{written}
 use Rattle.byte_device.specs.declared.disks.CannotOpen.{CannotOpen}
@@ -22,6 +22,7 @@ use Rattle.archive_files.specs.declared.at_turn.Unopened.TheVariants as unopened
 use Rattle.command_ends.specs.declared.faults.Why.TheVariants.{CannotOpen as NotOpened}
 use Rattle.plan_commands.specs.Disks.{Carried, Tells, fault_at, unopened_of}
 use Rattle.plan_commands.specs.Plans.{Deed, EndsDeed, EndsQuery, answers, changes, deed_of, empties, none, streams}
+use Rattle.plan_commands.specs.Numbers.{number_at}
 use Rattle.plan_commands.specs.Files.{IsNotPut, IsOutcome, IsPut}
 
 -- if OUT failed, this is told of it
@@ -143,7 +144,8 @@ module _ {S D T : Type 0} (told : Told S) (line : Line) (behind : List (Result S
       → IsOutcome out result
   told_outcome (Ok status) result tells o = subst (IsOutcome out) (sym tells) o
   told_outcome (Err (Input place why)) result tells o =
-      subst (IsOutcome out) (sym tells.2) (by_fault (unopened_of told (slice_get behind tells.0)) place why o)
+      subst (IsOutcome out) (sym tells)
+      (by_fault (unopened_of told (option_and_then (slice_get behind) (number_at line place))) place why o)
   told_outcome (Err (Output n)) result tells o = subst (IsOutcome out) (sym tells) o
   told_outcome (Err (Report n)) result tells o = subst (IsOutcome out) (sym tells) o
   told_outcome (Err OutOfMemory) result tells o = subst (IsOutcome out) (sym tells) o

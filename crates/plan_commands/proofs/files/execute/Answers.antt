@@ -35,10 +35,10 @@ returns-in_err-begin g c =
       report_unfailed = refl;
     })
 
-pub returns-in_err-inputs_for : goal.returns-in_err-inputs_for
-returns-in_err-inputs_for g c =
+pub returns-in_err-inputs : goal.returns-in_err-inputs
+returns-in_err-inputs g c =
     let wanting =
-    err_from_is_err_and c.from_residual-in_err-inputs_for.result c.from_residual-in_err-inputs_for.ensures.1 in inl (record {
+    err_from_is_err_and c.from_residual-in_err-inputs.result c.from_residual-in_err-inputs.ensures.1 in inl (record {
       wanting = wanting.1 ∙ ap (λ fault. Err fault) wanting.2;
       asked = first_from _ _ _ _ c.begin.ensures.asked c.inputs_for.ensures.first;
       uncalled = none_called _ _
@@ -76,10 +76,10 @@ returns g c =
     let none_called : (took_none : bytes_in done.draft.calls.entries ≡ [])
     → done.draft.failures ≡ before.draft.failures → placed_account done.target.placed ≡ placed_account before.target.placed
     → placing_calls done.target.placed ++ last.calls.entries ≡ [] =
-    λ none unfailed kept.
+    λ none as_often kept.
     ap (λ calls. calls ++ last.calls.entries) (nothing_there done.target.placed (kept ∙ none_before))
     ∙ last.first (nothing_taken _ _ (c.discard.ensures.bytes ∙ none)
-    (c.discard.ensures.failures ∙ unfailed ∙ unfailed)) in
+    (c.discard.ensures.failures ∙ as_often ∙ unfailed)) in
     let carried = c.execute_on-ended.ensures in inr (record {
       path = path;
       begun = before;
@@ -89,9 +89,9 @@ returns g c =
       begun_is = begun;
       begun_unfailed = unfailed;
       nothing_placed = none_before;
-      asked = c.in_ok-inputs_for.ensures.asked
+      asked = c.in_ok-inputs.ensures.asked
           ∙ ap (λ asked. asked ++ inputs_of (line_view c.args.line.now)) c.begin.ensures.asked;
-      before = c.in_ok-inputs_for.value.items;
+      before = c.in_ok-inputs.value.items;
       behind = c.execute_on-ended.new.inputs;
       carried = carried;
       outcome = carried_outcome _ _ _ _ _ _ _ carried;
