@@ -5,3 +5,4 @@ pub mod Outcomes
 pub mod Saying
 pub mod Reasons
 pub mod Numbers
+pub mod Numbered

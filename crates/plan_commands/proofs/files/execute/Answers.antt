@@ -91,7 +91,7 @@ returns g c =
       nothing_placed = none_before;
       asked = c.in_ok-inputs.ensures.asked
           ∙ ap (λ asked. asked ++ inputs_of (line_view c.args.line.now)) c.begin.ensures.asked;
-      before = c.in_ok-inputs.value.items;
+      before = c.deref_mut.result.now;
       behind = c.execute_on-ended.new.inputs;
       carried = carried;
       outcome = carried_outcome _ _ _ _ _ _ _ carried;
