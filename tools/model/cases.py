@@ -294,21 +294,31 @@ class Run:
     def cmd_new(self, p):
         return self.finish(Content(), [])
 
+    def slices(self, paths):
+        """(file, slice, bytes) of each part of files, and None in place of the bytes of one that is skipped"""
+        parts = []
+        for f, path in enumerate(paths):
+            those = parts_of_file(self.whole(path, "file %d" % f))
+            if isinstance(those, str):
+                raise CmdFault("file %d" % f, those)
+            parts += [(f, s, b) for s, b in enumerate(those)]
+        return parts
+
     def cmd_admit(self, p):
-        c = self.archive(p["in"], "archive 0")
-        lines = []
-        for f, path in enumerate(p["file"]):
-            parts = parts_of_file(self.whole(path, "file %d" % f))
-            if isinstance(parts, str):
-                raise CmdFault("file %d" % f, parts)
-            for s, b in enumerate(parts):
+        parts = self.behind(p["in"], lambda: self.slices(p["file"]))
+
+        def lines_of(content):
+            lines = []
+            for f, s, b in parts:
                 if b is None:
                     lines.append("file %d slice %d skipped" % (f, s))
                     continue
                 r = admission(b)
-                word = "added" if c.take(r) else "known"
+                word = "added" if content.take(r) else "known"
                 lines.append("file %d slice %d %s %s %s" % (f, s, word, key_text(r[1:25]), sha(b).hex()))
-        return self.finish(c, lines)
+            return lines
+        came = Content([admission(b) for _, _, b in parts if b is not None])
+        return self.merge(p["in"], came.text(), lines_of)
 
     def merge(self, path, right, lines_of=lambda content: []):
         """the archive of a path, merged with the text of another one as it comes; the lines are those of its content"""
@@ -380,10 +390,12 @@ class Run:
         return self.merge(p["in"], Content().text())
 
     def cmd_apply(self, p):
-        c = self.archive(p["in"], "archive 0")
-        ops = self.other(p["ops"], "ops", read_ops)
-        new = sum([c.take(o) for o in ops])
-        return self.finish(c, ["applied: %d new, %d known" % (new, len(ops) - new)])
+        ops = self.behind(p["in"], lambda: self.other(p["ops"], "ops", read_ops))
+
+        def lines_of(content):
+            new = sum([content.take(o) for o in ops])
+            return ["applied: %d new, %d known" % (new, len(ops) - new)]
+        return self.merge(p["in"], Content(ops).text(), lines_of)
 
     def cmd_find(self, p):
         lines = find_lines(find_rows(self.join(p["archive"], p["with"]), p["uuid"]), False)

@@ -45,9 +45,11 @@ impl<'t> Task<'t> {
     pub fn writes_as_it_reads(self) -> bool {
         match self {
             Task::Run(line) => match Plan::of(line) {
-                Plan::Retire { .. }
+                Plan::Admit { .. }
+                | Plan::Retire { .. }
                 | Plan::Merge { .. }
                 | Plan::Migrate { .. }
+                | Plan::Apply { .. }
                 | Plan::Delta { .. } => true,
                 _ => false,
             },

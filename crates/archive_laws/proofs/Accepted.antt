@@ -59,7 +59,7 @@ module _ (memory_alone : (file : List ℕ) (fault : TakeFault) → IsAcceptedFil
       → (admit input files).Refuses place why → IsDeviceFault why
   admit_refused input files o texts place why content given files_given accepted refused =
       elim refused [
-        | inl p ↦ archive input o why content given p.0.1
+        | inl p ↦ archive input o why content given p.1
         | inr p ↦
             let first = p.2 in
             let found = at_place IsGiven IsAcceptedFile files texts first.number first.input files_given accepted first.input_is in
@@ -72,7 +72,7 @@ pub apply_refused : {R S : Type 0} (input : Reader R) (ops : Reader S) (o : Oper
     → (apply input ops).Refuses place why → IsDeviceFault why
 apply_refused input ops o bytes operations place why content given ops_given is refused =
     elim refused [
-      | inl p ↦ archive input o why content given p.0.1
+      | inl p ↦ archive input o why content given p.1
       | inr p ↦ text OperationsFile ops.left ops.failures ops.old ops.new operations bytes why is.are is ops_given p.2.1
     ]
 

@@ -3,15 +3,14 @@ use Rattle.std.proofs.Common.{◌≡◌, ℕ, ◌+◌, List, [], ◌∷◌, ◌+
 use Rattle.std.proofs.lemmas.List.{append-nil}
 use Rattle.std.proofs.lemmas.Grind.{flat_map-append}
 use Rattle.std.specs.List.{AllByRecursion, AllZip}
-use Rattle.archive_core.specs.Content.{Operations, IsContent}
+use Rattle.archive_core.specs.Content.{Operations}
 use Rattle.report_text.specs.declared.rows.AdmitRow.{AdmitRow}
 use Rattle.admission.proofs.Rows.{admitted-append}
 use Rattle.admission.specs.File.{admissible, parts, IsAcceptedFile}
 use Rattle.admission.specs.Take.{admitted, taken_rows}
-use Rattle.archive_updates.specs.Admit.{images_of, file_rows, admit_rows, HasTaken, MakesAdmitted}
-use Rattle.command_ends.specs.Inputs.{Reader, Holds, IsAccepted, HoldsArchive}
+use Rattle.archive_updates.specs.Admit.{images_of, file_rows, admit_rows, HasTaken}
+use Rattle.command_ends.specs.Inputs.{Reader, Holds, IsAccepted}
 use Rattle.command_ends.proofs.Readers.{all_more, pairs_more, pairs_long}
-use Rattle.report_text.specs.Report.{admit_lines}
 
 -- the rows of some files and of others behind them
 pub admit_rows-append : (o : Operations) (place : ℕ) (xs ys : List (List ℕ)) → admit_rows o place (xs ++ ys) ≡ admit_rows o place xs ++ admit_rows (admitted o (images_of xs)) (place + length xs) ys
@@ -25,16 +24,16 @@ admit_rows-append o place (x ∷ xs) ys =
     ∙ sym (append_assoc (file_rows place 0 (taken_rows o (parts x))) (admit_rows (admitted o (admissible x)) (place + 1) xs) (admit_rows (admitted o (images_of (x ∷ xs))) (place + length (x ∷ xs)) ys))
 
 -- the rows of one file, which stand alone
-one_row : (o : Operations) (place : ℕ) (text : List ℕ) → admit_rows o place (text ∷ []) ≡ file_rows place 0 (taken_rows o (parts text))
+pub one_row : (o : Operations) (place : ℕ) (text : List ℕ) → admit_rows o place (text ∷ []) ≡ file_rows place 0 (taken_rows o (parts text))
 unfolding admit_rows
 one_row o place text = append-nil (file_rows place 0 (taken_rows o (parts text)))
 
 module _ {S : Type 0} where
-  pub taken_none : (o : Operations) (rows : List AdmitRow) → rows ≡ [] → HasTaken {S = S} [] o o rows
+  unfoldable pub taken_none : (o : Operations) (rows : List AdmitRow) → rows ≡ [] → HasTaken {S = S} [] o o rows
   unfolding admit_rows
   taken_none o rows is = record { texts = []; files_are = tt; accepted = tt; content = refl; rows_are = is }
 
-  pub taken_more : (files seen : List (Reader S)) (place : ℕ) (file : Reader S) (o mid new : Operations) (rows more : List AdmitRow) (text : List ℕ)
+  unfoldable pub taken_more : (files seen : List (Reader S)) (place : ℕ) (file : Reader S) (o mid new : Operations) (rows more : List AdmitRow) (text : List ℕ)
       → length files ≡ place → seen ≡ files ++ file ∷ [] → HasTaken files o mid rows
       → IsAcceptedFile text → Holds file text → new ≡ admitted mid (admissible text) → more ≡ rows ++ file_rows place 0 (taken_rows mid (parts text))
       → HasTaken seen o new more
@@ -63,17 +62,3 @@ module _ {S : Type 0} where
   -- what was taken was accepted
   pub taken_accepted : (files : List (Reader S)) (o mid : Operations) (rows : List AdmitRow) → HasTaken files o mid rows → AllByRecursion IsAccepted files
   taken_accepted files o mid rows taken = each_accepted files taken.texts taken.files_are taken.accepted
-
-pub makes_admitted : {R S : Type 0} (input : Reader R) (files : List (Reader S)) (o new : Operations) (rows rows_now : List AdmitRow) (lines : List ℕ)
-    → IsContent o → HoldsArchive input o → HasTaken files o new rows → rows_now ≡ rows → lines ≡ admit_lines rows_now
-    → MakesAdmitted input files new lines
-makes_admitted input files o new rows rows_now lines content holds taken same lines_are = record {
-  before = o;
-  texts = taken.texts;
-  is_content = content;
-  archive = holds;
-  files_are = taken.files_are;
-  accepted = taken.accepted;
-  content_is = taken.content;
-  lines_are = lines_are ∙ ap admit_lines (same ∙ taken.rows_are);
-}

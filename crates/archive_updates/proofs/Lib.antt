@@ -1,8 +1,6 @@
 pub mod Files
-pub mod Rows
 pub mod Joins
 pub mod Streamed
-pub mod Counts
 pub mod Beginnings
 pub mod AtHand
 pub mod Migrated
@@ -13,3 +11,11 @@ pub mod Unnamed
 pub mod Deltas
 pub mod Behind
 pub mod Merged
+pub mod Told
+pub mod Counts
+pub mod Placed
+pub mod Marked
+pub mod Again
+pub mod Come
+pub mod Taking
+pub mod Sliced

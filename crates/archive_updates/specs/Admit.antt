@@ -8,9 +8,10 @@ use Rattle.admission.specs.declared.taken.Taken.{Taken}
 use Rattle.report_text.specs.Report.{admit_lines}
 use Rattle.command_ends.specs.declared.faults.Place.TheVariants.{File}
 use Rattle.report_text.specs.declared.rows.AdmitRow.{AdmitRow}
-use Rattle.command_ends.specs.Ends.{Command, MakesArchive}
-use Rattle.command_ends.specs.Inputs.{Reader, Holds, Unfailed, EachUnfailed, EachUntouched, IsAccepted}
-use Rattle.command_ends.specs.Inputs.{HoldsArchive, IsFileRefused, IsFirstRefused, IsRefusedInOrder}
+use Rattle.command_ends.specs.Ends.{Command, MakesArchive, Streamed, writes_in_turn}
+use Rattle.command_ends.specs.Inputs.{Reader, Holds, Unfailed, EachUnfailed, EachKnown, IsAccepted, IsKnown}
+use Rattle.command_ends.specs.Inputs.{HoldsArchive, IsFileRefused, IsFirstRefused, IsRefusedInTurn, IsWantedInTurn}
+use Rattle.command_ends.specs.Outputs.{Writer}
 
 -- the images of files: those of their parts that are one, in their order
 abbrev pub images_of : List (List ℕ) → List (List ℕ)
@@ -53,6 +54,12 @@ pub record MakesAdmitted {R S : Type 0} (input : Reader R) (files : List (Reader
 abbrev pub admit : {R S : Type 0} → Reader R → List (Reader S) → Command
 admit input files = record {
   Makes = MakesArchive (MakesAdmitted input files);
-  Refuses = IsRefusedInOrder input (EachUntouched files) (IsFirstRefused File IsAccepted IsFileRefused files);
+  Refuses = IsRefusedInTurn input (IsFirstRefused File IsAccepted IsFileRefused files);
   Unfailed = Unfailed input × EachUnfailed files;
 }
+
+-- the same as it comes, the files before IN
+abbrev pub admit_as_it_comes : {R S : Type 0} → Reader R → List (Reader S) → Writer → Streamed
+admit_as_it_comes input files draft =
+    writes_in_turn (admit input files) (IsWantedInTurn input (IsFirstRefused File IsAccepted IsFileRefused files))
+    (IsKnown input × EachKnown files) draft

@@ -5,9 +5,10 @@ use Rattle.archive_core.specs.Record.{record_bytes}
 use Rattle.archive_core.specs.declared.operations.Operation.{Operation}
 use Rattle.archive_records.specs.Text.{IsOperationsText}
 use Rattle.report_text.specs.Report.{apply_line}
-use Rattle.command_ends.specs.Ends.{Command, MakesArchive}
-use Rattle.command_ends.specs.Inputs.{Reader, Gives, Unfailed, IsUntouched, IsRefusedOps, IsRefusedInOrder}
-use Rattle.command_ends.specs.Inputs.{HoldsArchive}
+use Rattle.command_ends.specs.Ends.{Command, MakesArchive, Streamed, writes_in_turn}
+use Rattle.command_ends.specs.Inputs.{Reader, Gives, Unfailed, IsRefusedOps, IsRefusedInTurn, IsWantedInTurn}
+use Rattle.command_ends.specs.Inputs.{HoldsArchive, IsKnown}
+use Rattle.command_ends.specs.Outputs.{Writer}
 
 -- IN is the text of a content and OPS that of operations; this is the content with their records, and this is the line
 -- that counts the new and the known ones.
@@ -27,6 +28,11 @@ pub record MakesApplied {R S : Type 0} (input : Reader R) (ops : Reader S) (cont
 abbrev pub apply : {R S : Type 0} → Reader R → Reader S → Command
 apply input ops = record {
   Makes = MakesArchive (MakesApplied input ops);
-  Refuses = IsRefusedInOrder input (IsUntouched ops) (IsRefusedOps ops);
+  Refuses = IsRefusedInTurn input (IsRefusedOps ops);
   Unfailed = Unfailed input × Unfailed ops;
 }
+
+-- the same as it comes, OPS before IN
+abbrev pub apply_as_it_comes : {R S : Type 0} → Reader R → Reader S → Writer → Streamed
+apply_as_it_comes input ops draft =
+    writes_in_turn (apply input ops) (IsWantedInTurn input (IsRefusedOps ops)) (IsKnown input × IsKnown ops) draft

@@ -9,3 +9,5 @@ pub mod Delta
 pub mod Joining
 pub mod Copying
 pub mod InnerTelling
+pub mod InnerArriving
+pub mod Slicing

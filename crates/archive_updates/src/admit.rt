@@ -1,23 +1,32 @@
 //! `admit IN OUT FILE...`.
-ghost use Rattle.std.specs.Prelude.{◌≡◌, ◌++◌, ℕ, List, OnOk, OnErr, IfOk, IfErr};
-ghost use Rattle.archive_core.specs.Content.{Operations};
+ghost use Rattle.std.specs.Prelude.{◌≡◌, ◌++◌, ℕ, List, length, map, OnOk, IfOk, IfErr};
+ghost use Rattle.std.specs.FinSet as set;
+ghost use Rattle.join_core.specs.Listing.{listing};
 ghost use Rattle.admission.specs.File.{admissible, parts, IsAcceptedFile, IsTakeFault};
+ghost use Rattle.archive_updates.specs.Slicing.{slice_in};
 ghost use Rattle.admission.specs.Take.{admitted, taken_rows};
+ghost use Rattle.archive_updates.specs.Admit.{admit_as_it_comes, file_rows};
+ghost use Rattle.archive_updates.specs.InnerArriving.{ArePlaced, HasCome, lines_again, records_in};
+ghost use Rattle.archive_updates.specs.InnerTelling.{telling};
 ghost use Rattle.command_ends.specs.declared.faults.Place.TheVariants.{File};
-ghost use Rattle.archive_updates.specs.Admit.{HasTaken, admit, file_rows};
-ghost use Rattle.command_ends.specs.Ends.{Ends};
+ghost use Rattle.command_ends.specs.Ends.{EndsAsItComes, EndsStreamed};
 ghost use Rattle.command_ends.specs.Inputs.{EachUnfailed, Holds, IsAccepted, IsFileRefused};
-ghost use Rattle.command_ends.specs.Inputs.{IsFirstRefused, IsRefusal, IsRefusedBytes};
+ghost use Rattle.command_ends.specs.Inputs.{IsFirstRefused, IsKnown, IsRefusal, IsRefusedBytes};
 ghost use Rattle.command_ends.specs.Inputs.{IsRefusedFile, Unfailed, reader, readers};
-ghost use Rattle.command_ends.specs.Outputs.{out_of, outs, writer};
+ghost use Rattle.command_ends.specs.Outputs.{Publishes, Takes, out_of, outs, writer};
+ghost use Rattle.report_text.specs.Report.{admit_lines, archive_line};
 
-use admission::{TakeFault, Taken, take_file};
-use archive_core::Archive;
+use crate::arriving::{Arrivals, told_again};
+use crate::slicing::slice_file;
+use crate::telling::tell_operations;
+use admission::TakeFault;
+use archive_core::Slice;
+use archive_records::Sizes;
 use byte_device::{CannotOpen, Sink, Source};
 use command_ends::{
-    CommandFault, Output, Place, Status, Target, Why, publish, read_file, read_input,
+    CommandFault, Output, Place, Status, Target, Why, publish_draft, read_file, refused_behind,
 };
-use memory::{Heap, NoMemory};
+use memory::Heap;
 use report_text::{AdmitRow, admit_lines};
 
 /// The refusal of the file of this number, whose bytes have this fault.
@@ -31,100 +40,133 @@ fn refusal_of_file(index: u64, fault: TakeFault) -> CommandFault
     }
 }
 
-/// Takes the slices of the file of this number, whose bytes these are.
-fn take_bytes<A: Archive>(
-    archive: &mut A,
-    index: u64,
-    bytes: Vec<u8, Heap>,
-) -> Result<Vec<Taken, Heap>, CommandFault>
+/// The slices of the file of this number, whose bytes these are.
+fn slice_bytes(index: u64, bytes: Vec<u8, Heap>) -> Result<Vec<Option<Slice>, Heap>, CommandFault>
     ensures accepted { OnOk result (IsAcceptedFile bytes.items) }
-    ensures content { OnOk result (A.content archive.new ≡ admitted (A.content archive.old) (admissible bytes.items)) }
-    ensures rows { IfOk result (λ taken. taken.items ≡ taken_rows (A.content archive.old) (parts bytes.items)) }
+    ensures slices { IfOk result (λ slices. slices.items ≡ map slice_in (parts bytes.items)) }
     ensures refused { IfErr result (IsRefusal (IsRefusedBytes index bytes.items) (Unit {0})) }
 {
-    match take_file(archive, bytes) {
-        Ok(taken) => Ok(taken),
+    match slice_file(bytes) {
+        Ok(slices) => Ok(slices),
         Err(fault) => Err(refusal_of_file(index, fault)),
     }
 }
 
-/// Adds a row for each slice of the file of this number.
-fn push_rows(rows: &mut Vec<AdmitRow, Heap>, index: u64, taken: &[Taken]) -> Result<(), NoMemory>
-    ensures { OnOk result (rows.new.items ≡ rows.old.items ++ file_rows index 0 taken.now) }
-{
-    'slices: for (slice, taken) in taken.iter().enumerate() {
-        rows.push(AdmitRow {
-            file: index,
-            slice: slice as u64,
-            taken: *taken,
-        })?;
-    }
-    Ok(())
-}
-
 /// Takes the slices of the file of this number, and adds their rows.
-fn admit_file<A: Archive, S: Source>(
+fn admit_file<S: Source>(
     heap: &Heap,
-    archive: &mut A,
-    rows: &mut Vec<AdmitRow, Heap>,
+    arrivals: &mut Arrivals,
     index: u64,
     file: &mut Result<S, CannotOpen>,
 ) -> Result<(), CommandFault>
     ensures taken { OnOk result ((bytes : List ℕ)
         × IsAcceptedFile bytes
         × Holds (reader S.left S.failures file.old file.new) bytes
-        × (A.content archive.new ≡ admitted (A.content archive.old) (admissible bytes))
-        × (rows.new.items ≡ rows.old.items ++ file_rows index 0 (taken_rows (A.content archive.old) (parts bytes)))) }
+        × (arrivals.new.came ≡ admitted arrivals.old.came (admissible bytes))
+        × (arrivals.new.rows.items
+        ≡ arrivals.old.rows.items ++ file_rows index 0 (taken_rows arrivals.old.came (parts bytes)))
+        × ((records : List (List ℕ))
+        → ArePlaced (listing arrivals.old.came) arrivals.old.places.items arrivals.old.rows.items records
+        → ArePlaced (listing arrivals.new.came) arrivals.new.places.items arrivals.new.rows.items
+        (records ++ records_in bytes))) }
     ensures unfailed { OnOk result (Unfailed (reader S.left S.failures file.old file.new)) }
     ensures refused { IfErr result (IsRefusal (IsRefusedFile index (reader S.left S.failures file.old file.new))
         (Unfailed (reader S.left S.failures file.old file.new))) }
 {
     let bytes = read_file(heap.clone()?, index, file)?;
-    let taken = take_bytes(archive, index, bytes)?;
-    push_rows(rows, index, &taken)?;
+    let slices = slice_bytes(index, bytes)?;
+    arrivals.take_slices(index, slices)?;
     Ok(())
 }
 
-/// Takes the slices of the files, in their order, and tells their rows.
-fn admit_files<A: Archive, S: Source>(
+/// Takes the slices of the files, in their order.
+fn admit_files<S: Source>(
     heap: &Heap,
-    archive: &mut A,
     files: &mut [Result<S, CannotOpen>],
-) -> Result<Vec<AdmitRow, Heap>, CommandFault>
-    ensures taken { IfOk result (λ rows. HasTaken (readers S.left S.failures files.old files.new)
-        (A.content archive.old) (A.content archive.new) rows.items) }
+) -> Result<Arrivals, CommandFault>
+    ensures taken { IfOk result (λ arrivals. HasCome (readers S.left S.failures files.old files.new)
+        arrivals.came arrivals.places.items arrivals.rows.items) }
     ensures unfailed { OnOk result (EachUnfailed (readers S.left S.failures files.old files.new)) }
     ensures refused { IfErr result
         (IsRefusal (IsFirstRefused File IsAccepted IsFileRefused (readers S.left S.failures files.old files.new))
         (EachUnfailed (readers S.left S.failures files.old files.new))) }
 {
-    let mut rows = Vec::new(heap.clone()?);
+    let mut arrivals = Arrivals::none(heap)?;
     'files: for (index, file) in files.iter_mut().enumerate() {
-        admit_file(heap, archive, &mut rows, index as u64, file)?;
+        admit_file(heap, &mut arrivals, index as u64, file)?;
     }
-    Ok(rows)
+    Ok(arrivals)
 }
 
-/// Writes IN's archive to OUT with the slices of each file, and a row a slice and the sizes to the report. The inputs
-/// are read in the order of the words, IN first, each to its end, before anything is written.
+/// Puts OUT in place, whose draft has taken a whole text, and writes the rows and the sizes to the report. What is said
+/// is of all that the draft took since it was `start`.
+fn publish_admitted<T: Target, P: Sink>(
+    heap: Heap,
+    sizes: Sizes,
+    rows: &[AdmitRow],
+    out: &mut Output<T::Draft, T>,
+    report: &mut P,
+) -> Result<Status, CommandFault>
+    ensures { (start : T.Draft) (text : List ℕ)
+        → Takes (writer T.Draft.held T.Draft.failures start out.old.draft) text
+        → sizes.bytes ≡ length text
+        → Publishes (out_of (outs T.Draft.held T.Draft.failures T.placed T.failures
+        (record { draft = start; target = out.old.target }) out.new))
+        (writer P.held P.failures report.old report.new) text
+        (admit_lines rows.now ++ archive_line sizes) result }
+{
+    let lines = admit_lines(heap, rows)?;
+    publish_draft(lines, sizes, out, report)
+}
+
+/// Writes IN's archive to OUT with the slices that came, and their rows and the sizes to the report: a slice that IN
+/// has, or retires, is known.
+fn write_admitted<R: Source, T: Target, P: Sink>(
+    heap: Heap,
+    input: &mut Result<R, CannotOpen>,
+    arrivals: Arrivals,
+    out: &mut Output<T::Draft, T>,
+    report: &mut P,
+) -> Result<Status, CommandFault>
+    requires { (records : List (List ℕ))
+        × ArePlaced (listing arrivals.came) arrivals.places.items arrivals.rows.items records }
+    ensures { (records : List (List ℕ))
+        → ArePlaced (listing arrivals.came) arrivals.places.items arrivals.rows.items records
+        → EndsAsItComes (telling (reader R.left R.failures input.old input.new) arrivals.came
+        (lines_again arrivals.rows.items records))
+        (IsKnown (reader R.left R.failures input.old input.new))
+        (out_of (outs T.Draft.held T.Draft.failures T.placed T.failures out.old out.new))
+        (writer P.held P.failures report.old report.new) result }
+{
+    let Arrivals { came, places, rows } = arrivals;
+    let (sizes, told) = tell_operations(&heap, input, came.operations(), &mut out.draft)?;
+    let again = told_again(rows, &places, &told);
+    publish_admitted(heap, sizes, &again, out, report)
+}
+
+/// Writes IN's archive to OUT with the slices of each file, and a row a slice and the sizes to the report. The files
+/// are read first, in the order of the words, each to its end, and then IN is merged with their slices as it comes, in
+/// the memory of these, of one record and of 57 bytes for each retirement. Where a file is refused, IN is tested to its
+/// end before that is told.
 ///
 /// # Errors
 ///
-/// `Input` for the first input that is refused; `Output` and `Report` where that writer failed; `OutOfMemory`.
-pub fn run_admit<A: Archive + Drop, R: Source, S: Source, T: Target, P: Sink>(
+/// `Input` for the first input that is refused, in the order of the words; `Output` and `Report` where that writer
+/// failed; `OutOfMemory`.
+pub fn run_admit<R: Source, S: Source, T: Target, P: Sink>(
     heap: Heap,
     input: &mut Result<R, CannotOpen>,
     files: &mut [Result<S, CannotOpen>],
     out: &mut Output<T::Draft, T>,
     report: &mut P,
 ) -> Result<Status, CommandFault>
-    ensures { Ends
-        (admit (reader R.left R.failures input.old input.new) (readers S.left S.failures files.old files.new))
-        (out_of (outs T.Draft.held T.Draft.failures T.placed T.failures out.old out.new))
+    ensures { let known = out_of (outs T.Draft.held T.Draft.failures T.placed T.failures out.old out.new) in
+        EndsStreamed (admit_as_it_comes (reader R.left R.failures input.old input.new)
+        (readers S.left S.failures files.old files.new) known.draft) known
         (writer P.held P.failures report.old report.new) result }
 {
-    let mut archive: A = read_input(heap.clone()?, 0, input)?;
-    let rows = admit_files(&heap, &mut archive, files)?;
-    let lines = admit_lines(heap, &rows)?;
-    publish(&archive, lines, out, report)
+    match admit_files(&heap, files) {
+        Ok(arrivals) => write_admitted(heap, input, arrivals, out, report),
+        Err(fault) => Err(refused_behind(heap, input, fault)),
+    }
 }

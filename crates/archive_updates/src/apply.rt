@@ -1,38 +1,125 @@
 //! `apply IN OUT OPS`.
-ghost use Rattle.archive_updates.specs.Apply.{apply};
-ghost use Rattle.command_ends.specs.Ends.{Ends};
-ghost use Rattle.command_ends.specs.Inputs.{reader};
-ghost use Rattle.command_ends.specs.Outputs.{out_of, outs, writer};
+ghost use Rattle.std.specs.Prelude.{◌≡◌, ◌++◌, ◌≤◌, ℕ, List, length, map, IfOk, IfErr, OnOk};
+ghost use Rattle.std.specs.Cmp.Lexicographic.{slice_cmp};
+ghost use Rattle.std.specs.FinSet as set;
+ghost use Rattle.std.specs.List.{AllByRecursion, count_by};
+ghost use Rattle.std.specs.List.Sorted.{IsStrictlySortedBy};
+ghost use Rattle.std.specs.Ordering.{nat_cmp};
+ghost use Rattle.archive_core.specs.Content.{Operations, IsMade, changes};
+ghost use Rattle.archive_core.specs.Record.{IsOperation, record_bytes};
+ghost use Rattle.archive_updates.specs.Apply.{apply_as_it_comes};
+ghost use Rattle.archive_updates.specs.InnerTelling.{HasNewOf, counts_of, telling};
+ghost use Rattle.command_ends.specs.Ends.{EndsAsItComes, EndsStreamed};
+ghost use Rattle.command_ends.specs.Inputs.{IsKnown, IsRefusal, IsRefusedOps, Unfailed, reader};
+ghost use Rattle.command_ends.specs.Outputs.{Publishes, Takes, out_of, outs, writer};
+ghost use Rattle.report_text.specs.Report.{apply_line, archive_line};
 
-use archive_core::Archive;
+use crate::telling::tell_operations;
+use archive_core::Operation;
+use archive_records::Sizes;
 use byte_device::{CannotOpen, Sink, Source};
-use command_ends::{CommandFault, Output, Status, Target, publish, read_input, read_operations};
+use command_ends::{
+    CommandFault, Output, Status, Target, publish_draft, read_operations, refused_behind,
+};
 use memory::Heap;
 use report_text::apply_line;
-use sorted_archive::take_each;
+use sorted_archive::new_in_turn;
+
+/// How many are new.
+fn count_new(told: &[bool]) -> u64
+    ensures counted { result ≡ count_by (λ new. new) told.now }
+    ensures within { result ≤ length told.now }
+{
+    told.iter().filter(|new| **new).count() as u64
+}
+
+/// Puts OUT in place, whose draft has taken a whole text, and writes the line of the counts and the sizes to the
+/// report. What is said is of all that the draft took since it was `start`.
+fn publish_applied<T: Target, P: Sink>(
+    heap: Heap,
+    sizes: Sizes,
+    new: u64,
+    known: u64,
+    out: &mut Output<T::Draft, T>,
+    report: &mut P,
+) -> Result<Status, CommandFault>
+    ensures { (start : T.Draft) (text : List ℕ)
+        → Takes (writer T.Draft.held T.Draft.failures start out.old.draft) text
+        → sizes.bytes ≡ length text
+        → Publishes (out_of (outs T.Draft.held T.Draft.failures T.placed T.failures
+        (record { draft = start; target = out.old.target }) out.new))
+        (writer P.held P.failures report.old report.new) text
+        (apply_line new known ++ archive_line sizes) result }
+{
+    let lines = apply_line(heap, new, known)?;
+    publish_draft(lines, sizes, out, report)
+}
+
+/// Writes IN's archive to OUT with those operations of so many that are new in their turn, and to the report how many
+/// were new and how many were known, and the sizes.
+fn write_applied<R: Source, T: Target, P: Sink>(
+    heap: Heap,
+    input: &mut Result<R, CannotOpen>,
+    operations: &[Operation],
+    number: u64,
+    out: &mut Output<T::Draft, T>,
+    report: &mut P,
+) -> Result<Status, CommandFault>
+    requires ascending { IsStrictlySortedBy (slice_cmp nat_cmp) (map record_bytes operations.now) }
+    requires are { AllByRecursion IsOperation operations.now }
+    requires few { (o : Operations) → IsMade o → count_by (changes o) (map record_bytes operations.now) ≤ number }
+    ensures { EndsAsItComes (telling (reader R.left R.failures input.old input.new)
+        (set.from_list (map record_bytes operations.now)) (counts_of (map record_bytes operations.now) number))
+        (IsKnown (reader R.left R.failures input.old input.new))
+        (out_of (outs T.Draft.held T.Draft.failures T.placed T.failures out.old out.new))
+        (writer P.held P.failures report.old report.new) result }
+{
+    let (sizes, told) = tell_operations(&heap, input, operations, &mut out.draft)?;
+    let new = count_new(&told);
+    publish_applied(heap, sizes, new, number - new, out, report)
+}
+
+/// Reads OPS, and gives those of its operations that are new in their turn among them, in the order of their records,
+/// and how many it has.
+fn read_new<S: Source>(
+    heap: Heap,
+    ops: &mut Result<S, CannotOpen>,
+) -> Result<(Vec<Operation, Heap>, u64), CommandFault>
+    ensures read { IfOk result (λ both. HasNewOf (reader S.left S.failures ops.old ops.new) both.0.items both.1) }
+    ensures unfailed { OnOk result (Unfailed (reader S.left S.failures ops.old ops.new)) }
+    ensures refused { IfErr result (IsRefusal (IsRefusedOps (reader S.left S.failures ops.old ops.new))
+        (Unfailed (reader S.left S.failures ops.old ops.new))) }
+{
+    let operations = read_operations(heap, ops)?;
+    let number = operations.len() as u64;
+    let sorted = new_in_turn(operations)?;
+    Ok((sorted, number))
+}
 
 /// Writes IN's archive to OUT with the operations of an operations file, and to the report how many of them were new
-/// and how many were known, there or covered by a retirement, and the sizes. IN is read first, then OPS, each to its
-/// end, before anything is written.
+/// and how many were known, there or covered by a retirement, and the sizes. OPS is read first, to its end, and then IN
+/// is merged with its operations as it comes, in the memory of these, of one record and of 57 bytes for each
+/// retirement. Where OPS is refused, IN is tested to its end before that is told.
 ///
 /// # Errors
 ///
-/// `Input` for the first input that is refused; `Output` and `Report` where that writer failed; `OutOfMemory`.
-pub fn run_apply<A: Archive + Drop, R: Source, S: Source, T: Target, P: Sink>(
+/// `Input` for the first input that is refused, in the order of the words; `Output` and `Report` where that writer
+/// failed; `OutOfMemory`.
+pub fn run_apply<R: Source, S: Source, T: Target, P: Sink>(
     heap: Heap,
     input: &mut Result<R, CannotOpen>,
     ops: &mut Result<S, CannotOpen>,
     out: &mut Output<T::Draft, T>,
     report: &mut P,
 ) -> Result<Status, CommandFault>
-    ensures { Ends (apply (reader R.left R.failures input.old input.new) (reader S.left S.failures ops.old ops.new))
-        (out_of (outs T.Draft.held T.Draft.failures T.placed T.failures out.old out.new))
+    ensures { let known = out_of (outs T.Draft.held T.Draft.failures T.placed T.failures out.old out.new) in
+        EndsStreamed (apply_as_it_comes (reader R.left R.failures input.old input.new)
+        (reader S.left S.failures ops.old ops.new) known.draft) known
         (writer P.held P.failures report.old report.new) result }
 {
-    let mut archive: A = read_input(heap.clone()?, 0, input)?;
-    let operations = read_operations(heap.clone()?, ops)?;
-    let number = operations.len() as u64;
-    let new = take_each(&mut archive, operations)?;
-    let lines = apply_line(heap, new, number - new)?;
-    publish(&archive, lines, out, report)
+    let kept = heap.clone()?;
+    match read_new(kept, ops) {
+        Ok((sorted, number)) => write_applied(heap, input, &sorted, number, out, report),
+        Err(fault) => Err(refused_behind(heap, input, fault)),
+    }
 }

@@ -1,8 +1,10 @@
 //! The commands that write OUT, over any archive, sources and sinks.
 //!
-//! `merge`, `migrate`, `retire` and `delta` write OUT as their first input comes; each other one reads all its inputs first.
+//! Each reads what comes in by its other words first, and writes OUT as its first input comes.
 //!
 //! - `new`, `admit`, `retire`, `merge`, `migrate`, `apply`, `summary`, `delta`: a command each;
+//! - `slicing`: the slices of a file, each with its bytes to itself;
+//! - `arriving`: the slices of files, each once, and the rows that tell them;
 //! - `joining`: IN, merged with an archive that is at hand;
 //! - `telling`: IN, merged with operations that are at hand, and which of these were new;
 //! - `copying`: what a summary does not name of an archive.
@@ -10,6 +12,7 @@
 
 mod admit;
 mod apply;
+mod arriving;
 mod copying;
 mod delta;
 mod joining;
@@ -17,6 +20,7 @@ mod merge;
 mod migrate;
 mod new;
 mod retire;
+mod slicing;
 mod summary;
 mod telling;
 

@@ -71,8 +71,8 @@ fn publish_retired<T: Target, P: Sink>(
 }
 
 /// Writes IN's archive to OUT with the retirement of the slices under the key that have the digest, and to the report
-/// whether it is new, and the sizes. IN is merged as it comes with the retirement, in the memory of one record and of 57
-/// bytes for each retirement.
+/// whether it is new, and the sizes. IN is merged as it comes with the retirement, in the memory of one record and of
+/// 57 bytes for each retirement.
 ///
 /// # Errors
 ///

@@ -1,6 +1,12 @@
 //! IN's archive, merged into OUT's draft with operations that are at hand, and which of these are new.
-ghost use Rattle.std.specs.Prelude.{Ok, IfOk, IfErr};
+ghost use Rattle.std.specs.Prelude.{Ok, IfOk, IfErr, map};
+ghost use Rattle.std.specs.Cmp.Lexicographic.{slice_cmp};
+ghost use Rattle.std.specs.FinSet as set;
+ghost use Rattle.std.specs.List.{AllByRecursion};
+ghost use Rattle.std.specs.List.Sorted.{IsStrictlySortedBy};
+ghost use Rattle.std.specs.Ordering.{nat_cmp};
 ghost use Rattle.archive_core.specs.Content.{Operations, content_of};
+ghost use Rattle.archive_core.specs.Record.{IsOperation, record_bytes};
 ghost use Rattle.byte_device.specs.Devices.{stream};
 ghost use Rattle.command_ends.specs.Ends.{HasTaken, StopsAmidst};
 ghost use Rattle.command_ends.specs.Inputs.{IsKnown, reader};
@@ -9,11 +15,12 @@ ghost use Rattle.archive_updates.specs.InnerTelling.{AreAtHand, IsJoinedTelling}
 ghost use Rattle.archive_updates.specs.Joining.{joining};
 
 use crate::joining::command_fault_of;
+use archive_core::Operation;
 use archive_records::Sizes;
 use byte_device::{CannotOpen, Sink, Source};
 use command_ends::{CommandFault, Place, opened};
 use memory::Heap;
-use record_merge::merge_telling;
+use record_merge::{LentText, merge_telling};
 
 /// Merges an archive that was opened with the operations at hand into the draft, and tells of each whether it is new.
 fn tell_opened<R: Source, S: Source, W: Sink>(
@@ -59,4 +66,26 @@ pub fn tell_input<R: Source, S: Source, W: Sink>(
 {
     let left = opened(input, Place::Archive(0))?;
     tell_opened(heap, left, other, draft)
+}
+
+/// Merges IN's archive with operations that stand in memory into the draft, and tells of each whether it is new.
+pub fn tell_operations<R: Source, W: Sink>(
+    heap: &Heap,
+    input: &mut Result<R, CannotOpen>,
+    operations: &[Operation],
+    draft: &mut W,
+) -> Result<(Sizes, Vec<bool, Heap>), CommandFault>
+    requires ascending { IsStrictlySortedBy (slice_cmp nat_cmp) (map record_bytes operations.now) }
+    requires are { AllByRecursion IsOperation operations.now }
+    ensures told { IfOk result (λ both. IsJoinedTelling (reader R.left R.failures input.old input.new)
+        (set.from_list (map record_bytes operations.now))
+        (stream W.held W.failures draft.old draft.new) both.0 both.1.items) }
+    ensures stopped { IfErr result (StopsAmidst (joining (reader R.left R.failures input.old input.new)
+        (content_of (set.from_list (map record_bytes operations.now))))
+        (IsKnown (reader R.left R.failures input.old input.new))
+        (writer W.held W.failures draft.old draft.new)) }
+    ensures taken { IfErr result (HasTaken (writer W.held W.failures draft.old draft.new)) }
+{
+    let mut text = LentText::new(operations);
+    tell_input(heap, input, &mut text, draft)
 }

@@ -14,8 +14,8 @@ use Rattle.command_ends.specs.declared.faults.CommandFault.{CommandFault}
 use Rattle.command_ends.specs.declared.faults.Status.{Status}
 use Rattle.archive_files.specs.declared.replaceable.Replaces.{Replaces}
 use Rattle.archive_files.specs.declared.replaceable.Replaces.TheVariants.{OwnFiles, ArchivesBelow}
-use Rattle.archive_updates.specs.Admit.{admit}
-use Rattle.archive_updates.specs.Apply.{apply}
+use Rattle.archive_updates.specs.Admit.{admit_as_it_comes}
+use Rattle.archive_updates.specs.Apply.{apply_as_it_comes}
 use Rattle.archive_updates.specs.Delta.{delta_as_it_comes}
 use Rattle.command_ends.specs.Ends.{Command, Ends, EndsReport, EndsStreamed, Query, Streamed, writes_amidst}
 use Rattle.archive_queries.specs.Find.{find}
@@ -113,13 +113,13 @@ answer_of _ _ = none
 -- of any plan
 abbrev pub deed_of : {S D T : Type 0} → Plan → List (Reader S) → Outs D T → Deed
 deed_of (plan.New _) _ out = empties
-deed_of (plan.Admit _ _ _) (input ∷ files) out = changes (admit input files)
+deed_of (plan.Admit _ _ _) (input ∷ files) out = streams (admit_as_it_comes input files (out_of out).draft)
 deed_of (plan.Retire _ _ uuid arch digest) (input ∷ _) out =
     streams (writes_amidst (retire input (key_of uuid arch) digest) (IsKnown input) (out_of out).draft)
 deed_of (plan.Merge _ _ _) (input ∷ files) out = streams (merge_as_it_comes input files out)
 deed_of (plan.Migrate _ _) (input ∷ _) out =
     streams (writes_amidst (migrate input) (IsKnown input) (out_of out).draft)
-deed_of (plan.Apply _ _ _) (input ∷ ops ∷ _) out = changes (apply input ops)
+deed_of (plan.Apply _ _ _) (input ∷ ops ∷ _) out = streams (apply_as_it_comes input ops (out_of out).draft)
 deed_of (plan.Summary _ _) (archive ∷ _) out = changes (summary archive)
 deed_of (plan.Index _ _) (archive ∷ _) out = changes (index archive)
 deed_of (plan.Delta _ _ _) (archive ∷ named ∷ _) out =

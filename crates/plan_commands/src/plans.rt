@@ -451,7 +451,7 @@ pub fn execute<A: Archive + Drop, L: Archive + Drop, S: Source, T: Target, P: Si
     };
     match plan {
         Plan::New { .. } => unreachable!(),
-        Plan::Admit { .. } => run_admit::<A, _, _, _, _>(heap, first, others, out, report),
+        Plan::Admit { .. } => run_admit(heap, first, others, out, report),
         Plan::Retire {
             uuid,
             arch,
@@ -461,7 +461,7 @@ pub fn execute<A: Archive + Drop, L: Archive + Drop, S: Source, T: Target, P: Si
         Plan::Merge { .. } => run_merge::<A, _, _, _, _>(heap, first, others, out, report),
         Plan::Migrate { .. } => run_migrate(heap, first, out, report),
         Plan::Apply { .. } => match others {
-            [ops] => run_apply::<A, _, _, _, _>(heap, first, ops, out, report),
+            [ops] => run_apply(heap, first, ops, out, report),
             _ => unreachable!(),
         },
         Plan::Summary { .. } => run_summary(heap, first, out, report),

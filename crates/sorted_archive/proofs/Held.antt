@@ -19,7 +19,7 @@ use Rattle.archive_core.proofs.Made.{made_again, made_empty, from_made}
 pub use Rattle.archive_core.proofs.Made.{bytes_same}
 
 -- what holds along a list holds of each member of its set
-each_member : (P : List ℕ → Type 0) (ks : List (List ℕ)) → AllByRecursion P ks → (r : List ℕ) → contains (from_list {R = slice_cmp nat_cmp} ks) r ≡ true → P r
+pub each_member : (P : List ℕ → Type 0) (ks : List (List ℕ)) → AllByRecursion P ks → (r : List ℕ) → contains (from_list {R = slice_cmp nat_cmp} ks) r ≡ true → P r
 each_member P [] all r h = absurd (true≢false (sym h ∙ contains-empty (slice_cmp nat_cmp) r))
 each_member P (k ∷ ks) all r h =
     elim (eq_by_cmp (slice_cmp nat_cmp) r k) as (λ b. eq_by_cmp (slice_cmp nat_cmp) r k ≡ b → (b || contains (from_list {R = slice_cmp nat_cmp} ks) r) ≡ true → P r) [
@@ -31,6 +31,10 @@ each_member P (k ∷ ks) all r h =
 records_along : (operations : List Operation) → AllByRecursion IsOperation operations → AllByRecursion IsRecord (map record_bytes operations)
 records_along [] are = tt
 records_along (x ∷ xs) are = (record_of_operation x are.0, records_along xs are.1)
+
+-- what has the records of operations has no others
+pub are_records : (operations : List Operation) → AllByRecursion IsOperation operations → (r : List ℕ) → contains (from_list {R = slice_cmp nat_cmp} (map record_bytes operations)) r ≡ true → IsRecord r
+are_records operations are = each_member IsRecord (map record_bytes operations) (records_along operations are)
 
 -- what is held makes a content
 pub content_of_held : (operations : List Operation) → IsHeld operations → IsContent (from_list (map record_bytes operations))

@@ -12,3 +12,4 @@ pub mod Parted
 pub mod Keyed
 pub mod Retired
 pub mod Reached
+pub mod InTurn

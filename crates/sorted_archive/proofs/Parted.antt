@@ -4,14 +4,14 @@ use mathlib.Core.Bool.{true≢false}
 use Rattle.std.specs.Prelude.{Result, Ok, Err, OnOk}
 use Rattle.std.specs.Ordering.{nat_cmp, eq_by_cmp}
 use Rattle.std.specs.Cmp.Lexicographic.{slice_cmp, nat_list_cmp_total}
-use Rattle.std.specs.List.{list_all}
+use Rattle.std.specs.List.{AllByRecursion, list_all}
 use Rattle.std.specs.FinSet as set
 use Rattle.std.specs.FinSet.{contains, contains-insert, contains-empty, same_set}
-use Rattle.archive_core.specs.Record.{record_bytes}
+use Rattle.archive_core.specs.Record.{IsOperation, record_bytes}
 use Rattle.archive_core.specs.Content.{Operations, is_admission, covering, is_covered, content_of, IsMade, IsBelow, IsTakenInPart, with_record, with_records, changes, new_among}
-use Rattle.sorted_archive.specs.InnerTaking.{IsBeside, IsParting, IsParted, with_both}
+use Rattle.sorted_archive.specs.InnerTaking.{AreParts, IsBeside, IsParting, IsParted, with_both}
 use Rattle.archive_core.specs.declared.operations.Operation.{Operation}
-use Rattle.archive_core.proofs.Made.{bytes_same, by_test, or_left, or_right, kept, free, covers_same, made_again, made_alike, alike_insert, made_is_alike, below_transitive}
+use Rattle.archive_core.proofs.Made.{bytes_same, by_test, and_left, and_right, or_left, or_right, kept, free, covers_same, made_again, made_alike, alike_insert, made_is_alike, below_transitive}
 use Rattle.archive_core.proofs.Taken.{known_changes, new_changes, with_known, below_taken, apart, tied_is}
 
 -- ---- one operation more
@@ -64,6 +64,14 @@ all_last test (y ∷ ys) x all one = more (test y) (list_all test ys) (list_all 
     more true b c h f = f h
     more false b c h f = absurd (true≢false (sym h))
 
+pub not_of : (b : Bool) → not b ≡ true → b ≡ false
+not_of true h = absurd (true≢false (sym h))
+not_of false h = refl
+
+each_last : (P : Operation → Type 0) (xs : List Operation) (x : Operation) → AllByRecursion P xs → P x → AllByRecursion P (xs ++ x ∷ [])
+each_last P [] x all one = (one, tt)
+each_last P (y ∷ ys) x all one = (all.0, each_last P ys x all.1 one)
+
 -- ---- the two contents, side by side
 
 -- operations of two kinds are two
@@ -71,14 +79,14 @@ two : (q r : List ℕ) → is_admission q ≡ true → is_admission r ≡ false 
 two q r a n = by_test _ (eq_by_cmp (slice_cmp nat_cmp) q r) (λ t. absurd (true≢false (sym a ∙ ap is_admission (tied_is q r t) ∙ n))) (λ f. f)
 
 -- with an admission more, a set has the same retirements
-admission_keeps : (o : Operations) (r q : List ℕ) → is_admission r ≡ true → is_admission q ≡ false → contains (with_record o r) q ≡ contains o q
+pub admission_keeps : (o : Operations) (r q : List ℕ) → is_admission r ≡ true → is_admission q ≡ false → contains (with_record o r) q ≡ contains o q
 admission_keeps o r q a n = kept (set.insert o r) q n ∙ contains-insert nat_list_cmp_total o r q ∙ ap (λ b. b || contains o q) (apart q r n a)
 
-with_retirement : (o : Operations) (r q : List ℕ) → is_admission q ≡ false → contains (with_record o r) q ≡ (eq_by_cmp (slice_cmp nat_cmp) q r || contains o q)
+pub with_retirement : (o : Operations) (r q : List ℕ) → is_admission q ≡ false → contains (with_record o r) q ≡ (eq_by_cmp (slice_cmp nat_cmp) q r || contains o q)
 with_retirement o r q n = kept (set.insert o r) q n ∙ contains-insert nat_list_cmp_total o r q
 
 -- what is not covered is there where it was, or is that one
-with_free : (o : Operations) (r q : List ℕ) → contains (with_record o r) (covering q) ≡ false → contains (with_record o r) q ≡ (eq_by_cmp (slice_cmp nat_cmp) q r || contains o q)
+pub with_free : (o : Operations) (r q : List ℕ) → contains (with_record o r) (covering q) ≡ false → contains (with_record o r) q ≡ (eq_by_cmp (slice_cmp nat_cmp) q r || contains o q)
 with_free o r q c = free (set.insert o r) q (sym (covers_same (set.insert o r) q) ∙ c) ∙ contains-insert nat_list_cmp_total o r q
 
 or_false : (a b : Bool) → (a || b) ≡ false → (a ≡ false) × (b ≡ false)
@@ -128,8 +136,25 @@ beside_retirement old admitted now seen r beside n = record {
 
 -- ---- the lists
 
-covered_there : (o : Operations) (r : List ℕ) → is_admission r ≡ true → is_covered o r ≡ contains o (covering r)
+pub covered_there : (o : Operations) (r : List ℕ) → is_admission r ≡ true → is_covered o r ≡ contains o (covering r)
 covered_there o r a = ap (λ b. b && contains o (covering r)) a
+
+-- a retirement is new behind an admission where it is new before it
+changes_alone : (o : Operations) (r : List ℕ) (q : List ℕ) → is_admission r ≡ true → is_admission q ≡ false → changes (with_record o r) q ≡ changes o q
+unfolding changes
+changes_alone o r q a n =
+    ap (λ b. not (b || is_covered (with_record o r) q)) (admission_keeps o r q a n)
+    ∙ ap (λ b. not (contains o q || (b && contains (with_record o r) (covering q)))) n
+    ∙ sym (ap (λ b. not (contains o q || (b && contains o (covering q)))) n)
+
+unmoved : (o : Operations) (r : List ℕ) (xs : List Operation) → is_admission r ≡ true → list_all (λ operation. not (is_admission (record_bytes operation))) xs ≡ true → new_among (with_record o r) (map record_bytes xs) ≡ new_among o (map record_bytes xs)
+unmoved o r [] a all = new_none (with_record o r) ∙ sym (new_none o)
+unmoved o r (x ∷ xs) a all =
+    let n = not_of (is_admission (record_bytes x)) (and_left _ _ all) in
+    let one : ◌≡◌ {A = ℕ} (if changes (with_record o r) (record_bytes x) then 1 else 0) (if changes o (record_bytes x) then 1 else 0) = ap (λ b. if b then 1 else 0) (changes_alone o r (record_bytes x) a n) in
+    let swap : new_among (with_record (with_record o r) (record_bytes x)) (map record_bytes xs) ≡ new_among (with_record (with_record o (record_bytes x)) r) (map record_bytes xs) = ap (λ p. new_among p (map record_bytes xs)) (swapped o r (record_bytes x)) in
+    let rest = unmoved (with_record o (record_bytes x)) r xs a (and_right _ _ all) in
+    omega (arith, one, swap, rest, new_first (with_record o r) (record_bytes x) (map record_bytes xs), new_first o (record_bytes x) (map record_bytes xs))
 
 -- one that is there, or covered, counts for nothing
 passed : (old : Operations) (all rest admissions retirements : List Operation) (seen more : Operations) (x : Operation) → IsParting old all (x ∷ rest) admissions retirements seen
@@ -141,7 +166,7 @@ passed old all rest admissions retirements seen more x parting known beside =
     let stays : with_record now (record_bytes x) ≡ now = with_known now (record_bytes x) parting.beside.made_now known in
     let none : ◌≡◌ {A = ℕ} (if changes now (record_bytes x) then 1 else 0) 0 = ap (λ b. if b then 1 else 0) (known_changes now (record_bytes x) known) in
     record {
-      only = parting.only;
+      parts = parting.parts;
       beside = beside;
       content = ap (λ p. with_records p (map record_bytes rest)) (sym stays) ∙ parting.content;
       counted =
@@ -160,11 +185,11 @@ admission_passed old all rest admissions retirements seen x parting a there =
 
 -- so is a retirement that came before
 pub retirement_passed : (old : Operations) (all rest admissions retirements : List Operation) (seen : Operations) (x : Operation) → IsParting old all (x ∷ rest) admissions retirements seen
-    → is_admission (record_bytes x) ≡ false → (contains old (record_bytes x) || contains seen (record_bytes x)) ≡ true → IsParting old all rest admissions retirements (set.insert seen (record_bytes x))
+    → is_admission (record_bytes x) ≡ false → contains seen (record_bytes x) ≡ true → IsParting old all rest admissions retirements (set.insert seen (record_bytes x))
 retirement_passed old all rest admissions retirements seen x parting n there =
     let now = with_both old admissions retirements in
     let admitted = with_records old (map record_bytes admissions) in
-    let held : contains now (record_bytes x) ≡ true = parting.beside.known (record_bytes x) n ∙ there in
+    let held : contains now (record_bytes x) ≡ true = parting.beside.known (record_bytes x) n ∙ or_right (contains old (record_bytes x)) _ there in
     let known : (contains now (record_bytes x) || is_covered now (record_bytes x)) ≡ true = or_left _ (is_covered now (record_bytes x)) held in
     passed old all rest admissions retirements seen (set.insert seen (record_bytes x)) x parting known
     (subst (λ p. IsBeside old admitted p (set.insert seen (record_bytes x))) (with_known now (record_bytes x) parting.beside.made_now known) (beside_retirement old admitted now seen (record_bytes x) parting.beside n))
@@ -181,37 +206,47 @@ changes_alike old admitted now seen r beside a unseen =
 
 -- an admission goes behind the admissions
 pub admission_put : (old : Operations) (all rest admissions retirements : List Operation) (seen : Operations) (x : Operation) → IsParting old all (x ∷ rest) admissions retirements seen
-    → is_admission (record_bytes x) ≡ true → contains seen (covering (record_bytes x)) ≡ false → IsParting old all rest (admissions ++ x ∷ []) retirements seen
-admission_put old all rest admissions retirements seen x parting a unseen =
+    → is_admission (record_bytes x) ≡ true → IsOperation x → contains seen (covering (record_bytes x)) ≡ false → IsParting old all rest (admissions ++ x ∷ []) retirements seen
+admission_put old all rest admissions retirements seen x parting a is unseen =
     let admitted = with_records old (map record_bytes admissions) in
     let now = with_both old admissions retirements in
     let admitted_is : with_records old (map record_bytes (admissions ++ x ∷ [])) ≡ with_record admitted (record_bytes x) = with_last old admissions x in
     let now_is : with_both old (admissions ++ x ∷ []) retirements ≡ with_record now (record_bytes x) = ap (λ p. with_records p (map record_bytes retirements)) admitted_is ∙ later admitted (record_bytes x) (map record_bytes retirements) in
     record {
-      only = all_last (λ operation. is_admission (record_bytes operation)) admissions x parting.only a;
+      parts = record {
+        admitted = all_last (λ operation. is_admission (record_bytes operation)) admissions x parting.parts.admitted a;
+        retired = parting.parts.retired;
+        are_admissions = each_last IsOperation admissions x parting.parts.are_admissions is;
+        are_retirements = parting.parts.are_retirements;
+      };
       beside = subst (λ p. IsBeside old p (with_both old (admissions ++ x ∷ []) retirements) seen) (sym admitted_is) (subst (λ p. IsBeside old (with_record admitted (record_bytes x)) p seen) (sym now_is) (beside_admission old admitted now seen (record_bytes x) parting.beside a));
       content = ap (λ p. with_records p (map record_bytes rest)) now_is ∙ parting.content;
       counted =
           let one : ◌≡◌ {A = ℕ} (if changes now (record_bytes x) then 1 else 0) (if changes admitted (record_bytes x) then 1 else 0) = ap (λ b. if b then 1 else 0) (changes_alike old admitted now seen (record_bytes x) parting.beside a unseen) in
           let same : new_among (with_both old (admissions ++ x ∷ []) retirements) (map record_bytes rest) ≡ new_among (with_record now (record_bytes x)) (map record_bytes rest) = ap (λ p. new_among p (map record_bytes rest)) now_is in
-          omega (arith, parting.counted, new_first now (record_bytes x) (map record_bytes rest), new_last old admissions x, one, same);
+          let behind : new_among (with_records old (map record_bytes (admissions ++ x ∷ []))) (map record_bytes retirements) ≡ new_among admitted (map record_bytes retirements) = ap (λ p. new_among p (map record_bytes retirements)) admitted_is ∙ unmoved admitted (record_bytes x) retirements a parting.parts.retired in
+          omega (arith, parting.counted, new_first now (record_bytes x) (map record_bytes rest), new_last old admissions x, one, same, behind);
     }
 
--- and a retirement that is new behind the retirements
+-- and a retirement behind the retirements
 pub retirement_put : (old : Operations) (all rest admissions retirements : List Operation) (seen : Operations) (x : Operation) → IsParting old all (x ∷ rest) admissions retirements seen
-    → is_admission (record_bytes x) ≡ false → (contains old (record_bytes x) || contains seen (record_bytes x)) ≡ false → IsParting old all rest admissions (retirements ++ x ∷ []) (set.insert seen (record_bytes x))
-retirement_put old all rest admissions retirements seen x parting n absent =
+    → is_admission (record_bytes x) ≡ false → IsOperation x → IsParting old all rest admissions (retirements ++ x ∷ []) (set.insert seen (record_bytes x))
+retirement_put old all rest admissions retirements seen x parting n is =
     let admitted = with_records old (map record_bytes admissions) in
     let now = with_both old admissions retirements in
     let now_is : with_both old admissions (retirements ++ x ∷ []) ≡ with_record now (record_bytes x) = with_last admitted retirements x in
     record {
-      only = parting.only;
+      parts = record {
+        admitted = parting.parts.admitted;
+        retired = all_last (λ operation. not (is_admission (record_bytes operation))) retirements x parting.parts.retired (ap not n);
+        are_admissions = parting.parts.are_admissions;
+        are_retirements = each_last IsOperation retirements x parting.parts.are_retirements is;
+      };
       beside = subst (λ p. IsBeside old admitted p (set.insert seen (record_bytes x))) (sym now_is) (beside_retirement old admitted now seen (record_bytes x) parting.beside n);
       content = ap (λ p. with_records p (map record_bytes rest)) now_is ∙ parting.content;
       counted =
-          let one : ◌≡◌ {A = ℕ} (if changes now (record_bytes x) then 1 else 0) 1 = ap (λ b. if b then 1 else 0) (new_changes now (record_bytes x) (parting.beside.known (record_bytes x) n ∙ absent) (ap (λ b. b && contains now (covering (record_bytes x))) n)) in
           let same : new_among (with_both old admissions (retirements ++ x ∷ [])) (map record_bytes rest) ≡ new_among (with_record now (record_bytes x)) (map record_bytes rest) = ap (λ p. new_among p (map record_bytes rest)) now_is in
-          omega (arith, parting.counted, new_first now (record_bytes x) (map record_bytes rest), length-append retirements (x ∷ []), one, same);
+          omega (arith, parting.counted, new_first now (record_bytes x) (map record_bytes rest), new_last admitted retirements x, same);
     }
 
 -- in the words of the lists that are there then
@@ -224,7 +259,7 @@ parting_as old all rest admissions retirements more seen more_seen x y parting m
 -- at first none came
 pub parting_first : (old : Operations) (all left : List Operation) → IsMade old → left ≡ all → IsParting old all left [] [] set.empty
 parting_first old all left is same = rw same (record {
-  only = refl;
+  parts = record { admitted = refl; retired = refl; are_admissions = tt; are_retirements = tt };
   beside = beside_first old is;
   content = refl;
   counted = omega (arith, new_none old);
@@ -239,7 +274,7 @@ parting_none old all left admissions retirements seen is same no_admissions no_r
 -- and in the end all came
 pub parted : (old : Operations) (all left admissions retirements : List Operation) (seen : Operations) → IsParting old all left admissions retirements seen → length left ≡ 0 → IsParted old all admissions retirements
 parted old all [] admissions retirements seen parting none = record {
-  only = parting.only;
+  parts = parting.parts;
   content = parting.content;
   counted = omega (arith, parting.counted, new_none (with_both old admissions retirements));
 }
@@ -274,10 +309,6 @@ neither false b h k = k
 pub not_false : (b : Bool) → not b ≡ false → b ≡ true
 not_false true h = refl
 not_false false h = absurd (true≢false h)
-
-pub not_of : (b : Bool) → not b ≡ true → b ≡ false
-not_of true h = absurd (true≢false (sym h))
-not_of false h = refl
 
 pub on_ok : {X E : Type 0} (P Q : Type 0) (r : Result X E) → (P → Q) → OnOk r P → OnOk r Q
 on_ok P Q (Ok x) f h = f h

@@ -25,4 +25,4 @@ mod taking;
 
 pub use indexed::IndexedArchive;
 pub use plain::PlainArchive;
-pub use taking::take_each;
+pub use taking::{new_in_turn, take_each};

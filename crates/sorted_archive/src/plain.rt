@@ -7,11 +7,14 @@ ghost use Rattle.std.specs.Cmp.Lexicographic.{slice_cmp};
 ghost use Rattle.std.specs.List.{list_all, AllZip, AllByRecursion};
 ghost use Rattle.std.specs.List.Sorted.{IsPermutation, IsSortedBy, IsStrictlySortedBy, IsSearchInRange};
 ghost use Rattle.join_core.specs.InnerSearch.{IsFound};
-ghost use Rattle.archive_core.specs.Record.{record_bytes, IsOperation};
+ghost use Rattle.join_core.specs.Listing.{listing};
+ghost use Rattle.archive_core.specs.Record.{IsOperation, admission_record, record_bytes};
+ghost use Rattle.archive_core.specs.Valid.{IsValid};
 ghost use Rattle.archive_core.specs.Content.{IsContent, IsTakenInPart, is_covered, changes};
 ghost use Rattle.archive_core.specs.Content.{with_record, with_records, joined};
 ghost use Rattle.archive_core.specs.InnerHeld.{IsHeld};
 ghost use Rattle.sorted_archive.specs.InnerScan.{held_in, held_among, IsAnsweringOf};
+ghost use Rattle.sorted_archive.specs.Places.{IsPutAt};
 ghost use Rattle.archive_core.specs.declared.operations.Operation.TheVariants.{Admit, Retire};
 ghost use Rattle.archive_core.specs.Lookup.{IsOwnRow, IsAnswerOf, own_row, answer_view};
 ghost use Rattle.archive_core.specs.Names.{name_view};
@@ -213,23 +216,42 @@ impl PlainArchive {
             .all(|operation| lent.knows(operation, &mut 0))
     }
 
+    /// The operations, in the order of their records.
+    pub fn operations(&self) -> &[Operation]
+        ensures listed { map record_bytes result.now ≡ listing self.now }
+        ensures are { AllByRecursion IsOperation result.now }
+        ensures content { IsContent self.now }
+    {
+        &self.operations
+    }
+
+    /// Takes an admission, and gives its place among the operations, or none where it changes nothing.
+    pub fn admit_at(&mut self, slice: Slice) -> Result<Option<usize>, NoMemory>
+        ensures taken { OnOk result (self.new ≡ with_record self.old (admission_record slice)) }
+        ensures place { IfOk result (λ place. IsPutAt self.old self.new (admission_record slice) place) }
+        ensures valid { IsValid slice }
+        ensures refused { OnErr result (self.new ≡ self.old) }
+    {
+        if Lent::of(&self.operations).retires(&slice, &mut self.near) {
+            return Ok(None);
+        }
+        let admission = Operation::Admit(slice);
+        match search_from_end(&self.operations, &admission) {
+            Ok(_) => Ok(None),
+            Err(index) => {
+                self.operations.insert(index, admission)?;
+                Ok(Some(index))
+            }
+        }
+    }
+
     // Takes an admission.
     fn admit(&mut self, slice: Slice) -> Result<bool, NoMemory>
         ensures taken { OnOk result (self.new ≡ with_record self.old (record_bytes (Admit slice))) }
         ensures answer { IfOk result (λ changed. changed ≡ changes self.old (record_bytes (Admit slice))) }
         ensures refused { OnErr result (self.new ≡ self.old) }
     {
-        if Lent::of(&self.operations).retires(&slice, &mut self.near) {
-            return Ok(false);
-        }
-        let admission = Operation::Admit(slice);
-        match search_from_end(&self.operations, &admission) {
-            Ok(_) => Ok(false),
-            Err(index) => {
-                self.operations.insert(index, admission)?;
-                Ok(true)
-            }
-        }
+        Ok(self.admit_at(slice)?.is_some())
     }
 
     // Takes a retirement. What it covers is dropped behind it, which is not refused.

@@ -3,8 +3,9 @@ ghost use Rattle.std.specs.Prelude.{◌≡◌, true, not, map, IfOk, OnOk, OnErr
 ghost use Rattle.std.specs.List.{list_all};
 ghost use Rattle.archive_core.specs.Record.{record_bytes};
 ghost use Rattle.archive_core.specs.Content.{IsContent, IsTakenInPart, is_admission, with_records, new_among};
+ghost use Rattle.sorted_archive.specs.InTurn.{AreNewInTurn};
 
-use crate::parting::parts_of;
+use crate::parting::{Parts, parts_of};
 use crate::plain::order;
 use archive_core::{Archive, Operation};
 use memory::{Heap, NoMemory};
@@ -110,8 +111,8 @@ fn take_retirements<A: Archive + Drop>(
     Ok(new)
 }
 
-// Takes operations of both kinds: the admissions that no retirement before them covers, then the retirements that are
-// new. A slice that is retired behind its admission is dropped by the latter.
+// Takes operations of both kinds: the admissions that no retirement before them covers, then the retirements. A slice
+// that is retired behind its admission is dropped by the latter.
 fn take_parts<A: Archive + Drop>(
     archive: &mut A,
     operations: Vec<Operation, Heap>,
@@ -123,10 +124,9 @@ fn take_parts<A: Archive + Drop>(
         (IsTakenInPart (A.content archive.old) (map record_bytes operations.items) (A.content archive.new)) }
 {
     let _before = archive.len();
-    let parts = parts_of(archive, operations)?;
-    let retired = parts.retirements.len() as u64;
+    let parts = parts_of(operations)?;
     let admitted = take_admissions(archive, parts.admissions)?;
-    take_sorted(archive, parts.retirements)?;
+    let retired = take_retirements(archive, parts.retirements)?;
     Ok(admitted + retired)
 }
 
@@ -156,4 +156,21 @@ pub fn take_each<A: Archive + Drop>(
         return take_retirements(archive, operations);
     }
     take_parts(archive, operations)
+}
+
+/// Those operations of a list that are new in their turn, whatever it comes to, in the order of their records, each
+/// once: its retirements, and the slices that do not come behind theirs. A slice may stand beside a retirement that comes
+/// behind it and covers it.
+///
+/// Refused for want of memory alone.
+pub fn new_in_turn(operations: Vec<Operation, Heap>) -> Result<Vec<Operation, Heap>, NoMemory>
+    ensures { IfOk result (λ sorted. AreNewInTurn operations.items sorted.items) }
+{
+    let Parts {
+        mut admissions,
+        mut retirements,
+    } = parts_of(operations)?;
+    admissions.append(&mut retirements)?;
+    order(&mut admissions);
+    Ok(admissions)
 }

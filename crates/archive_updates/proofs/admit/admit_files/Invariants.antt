@@ -1,11 +1,11 @@
 use Rattle.std.proofs.Common.{◌≡◌, take, drop}
-use Rattle.archive_updates.specs.Admit.{HasTaken}
+use Rattle.archive_updates.specs.InnerArriving.{HasCome}
 use Rattle.command_ends.specs.Inputs.{EachUnfailed, readers}
 use Rattle.archive_updates.proofs.admit.admit_files.Given as goal
 
 abbrev pub invariant-files : goal.invariant-files
 invariant-files g l = record {
-  taken : HasTaken (take l.index (readers g.S.Source.left g.S.Source.failures l.fn.files l.files)) (g.A.Join.content l.initial.archive) (g.A.Join.content l.archive) l.rows.items;
+  taken : HasCome (take l.index (readers g.S.Source.left g.S.Source.failures l.fn.files l.files)) l.arrivals.came l.arrivals.places.items l.arrivals.rows.items;
   unfailed : EachUnfailed (readers g.S.Source.left g.S.Source.failures l.fn.files l.files);
   rest : drop l.index l.files ≡ drop l.index l.fn.files;
 }

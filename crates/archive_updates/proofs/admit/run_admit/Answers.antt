@@ -1,34 +1,31 @@
-use Rattle.std.proofs.Common.{inl, refl}
-use Rattle.std.proofs.lemmas.Result.{err_from_is_err_and}
+use Rattle.std.proofs.Common.{refl}
 use Rattle.byte_device.proofs.Known.{Appends-none}
-use Rattle.command_ends.proofs.Endings.{behind_refused, first_refused, published}
-use Rattle.archive_updates.proofs.Files.{makes_admitted}
-use Rattle.command_ends.proofs.Readers.{none_failed, none_touched}
+use Rattle.command_ends.specs.declared.faults.Place.TheVariants.{File}
+use Rattle.command_ends.specs.Inputs.{EachKnown, EachUnfailed, IsAccepted, IsFileRefused, IsFirstRefused, IsKnown, reader, readers}
+use Rattle.command_ends.specs.Outputs.{out_of, outs, writer}
+use Rattle.archive_updates.specs.Admit.{MakesAdmitted}
+use Rattle.archive_updates.specs.InnerArriving.{records_of}
+use Rattle.archive_updates.proofs.Behind.{told_behind}
+use Rattle.archive_updates.proofs.Come.{admitted_in_turn}
 use Rattle.archive_updates.proofs.admit.run_admit.Goals as goal
 
-pub returns-in_err-clone : goal.returns-in_err-clone
-returns-in_err-clone g c =
-    let p = err_from_is_err_and c.from_residual.result c.from_residual.ensures.1 in
-    rw (p.1, p.2) ((refl, none_failed g.S.Source.left g.S.Source.failures c.args.files.now), inl (((Appends-none _, refl), (refl, refl)), (Appends-none _, refl)))
+pub write_admitted-requires : goal.write_admitted-requires
+write_admitted-requires g c = let h = c.in-Ok.ensures.taken in (records_of h.taken.texts, h.placed)
 
-pub returns-in_err-archive : goal.returns-in_err-archive
-returns-in_err-archive g c =
-    let p = err_from_is_err_and c.from_residual-in_err-archive.result c.from_residual-in_err-archive.ensures.1 in
-    rw (p.1, p.2) (first_refused _ _ _ _ _ _ _ c.in_err-archive.field-0.0 c.in_err-archive.ensures.refused
-    (none_touched g.S.Source.left g.S.Source.failures c.args.files.now) (none_failed g.S.Source.left g.S.Source.failures c.args.files.now) ((Appends-none _, refl), (refl, refl)) (Appends-none _, refl))
+pub returns-in-Ok : goal.returns-in-Ok
+returns-in-Ok g c =
+    let h = c.in-Ok.ensures.taken in
+    let input = reader g.R.Source.left g.R.Source.failures c.args.input.now c.write_admitted.new.input in
+    let files = readers g.S.Source.left g.S.Source.failures c.args.files.now c.admit_files.new.files in
+    admitted_in_turn input files
+    (out_of (outs g.T.Draft.Sink.held g.T.Draft.Sink.failures g.T.Target.placed g.T.Target.failures c.args.out.now c.write_admitted.new.out))
+    (writer g.P.Sink.held g.P.Sink.failures c.args.report.now c.write_admitted.new.report)
+    c.in-Ok.arrivals.came c.in-Ok.arrivals.places.items c.in-Ok.arrivals.rows.items h c.in-Ok.ensures.unfailed c.write_admitted.result (c.write_admitted.ensures (records_of h.taken.texts) h.placed)
 
-pub returns-in_err-rows : goal.returns-in_err-rows
-returns-in_err-rows g c =
-    let p = err_from_is_err_and c.from_residual-in_err-rows.result c.from_residual-in_err-rows.ensures.1 in
-    rw (p.1, p.2) (behind_refused _ _ _ _ _ _ _ c.in_err-rows.field-0.0 _ c.in_ok-archive.ensures.content c.in_ok-archive.ensures.text c.in_ok-archive.ensures.unfailed
-    c.in_err-rows.ensures.refused ((Appends-none _, refl), (refl, refl)) (Appends-none _, refl))
-
-pub returns-in_err-lines : goal.returns-in_err-lines
-returns-in_err-lines g c =
-    let p = err_from_is_err_and c.from_residual-in_err-lines.result c.from_residual-in_err-lines.ensures.1 in
-    rw (p.1, p.2) ((c.in_ok-archive.ensures.unfailed, c.in_ok-rows.ensures.unfailed), inl (((Appends-none _, refl), (refl, refl)), (Appends-none _, refl)))
-
-pub returns : goal.returns
-returns g c = published _ _ _ _ _ c.publish.result _ _ (c.in_ok-archive.ensures.unfailed, c.in_ok-rows.ensures.unfailed)
-    (makes_admitted _ _ _ _ _ _ _ c.in_ok-archive.ensures.content c.in_ok-archive.ensures.text c.in_ok-rows.ensures.taken c.deref.ensures.value c.in_ok-lines.ensures)
-    c.publish.ensures
+pub returns-in-Err : goal.returns-in-Err
+returns-in-Err g c =
+    let input = reader g.R.Source.left g.R.Source.failures c.args.input.now c.refused_behind.new.input in
+    let files = readers g.S.Source.left g.S.Source.failures c.args.files.now c.admit_files.new.files in
+    told_behind (MakesAdmitted input files) input (IsFirstRefused (λ n. File n) IsAccepted IsFileRefused files) (EachUnfailed files) (IsKnown input × EachKnown files)
+    (out_of (outs g.T.Draft.Sink.held g.T.Draft.Sink.failures g.T.Target.placed g.T.Target.failures c.args.out.now c.args.out.now))
+    (writer g.P.Sink.held g.P.Sink.failures c.args.report.now c.args.report.now) c.in-Err.fault c.refused_behind.result c.in-Err.ensures.refused c.refused_behind.ensures ((Appends-none _, refl), (refl, refl)) (Appends-none _, refl)

@@ -1,31 +1,44 @@
-use Rattle.std.proofs.Common.{◌≡◌, ◌≤◌, ◌+◌, ◌-◌, length, map, arith, refl}
+use Rattle.std.proofs.Common.{refl}
 use Rattle.std.proofs.lemmas.Result.{err_from_is_err_and}
 use Rattle.byte_device.proofs.Known.{Appends-none}
-use Rattle.archive_core.specs.Content.{new_among}
-use Rattle.archive_core.specs.Record.{record_bytes}
-use Rattle.command_ends.proofs.Endings.{behind_refused, published}
-use Rattle.archive_updates.proofs.Counts.{makes_applied, new_within}
+use Rattle.command_ends.specs.Inputs.{IsKnown, IsRefusedOps, Unfailed, reader}
+use Rattle.command_ends.specs.Outputs.{out_of, outs, writer}
+use Rattle.archive_updates.specs.Apply.{MakesApplied}
+use Rattle.archive_updates.proofs.Behind.{told_behind, wanting}
+use Rattle.archive_updates.proofs.Counts.{applied, few_new}
 use Rattle.archive_updates.proofs.apply.run_apply.Goals as goal
 
-pub returns-in_err-operations : goal.returns-in_err-operations
-returns-in_err-operations g c =
-    let p = err_from_is_err_and c.from_residual-in_err-operations.result c.from_residual-in_err-operations.ensures.1 in
-    rw (p.1, p.2) (behind_refused _ _ _ _ _ _ _ c.in_err-operations.field-0.0 _ c.in_ok-archive.ensures.content c.in_ok-archive.ensures.text c.in_ok-archive.ensures.unfailed
-    c.in_err-operations.ensures.refused ((Appends-none _, refl), (refl, refl)) (Appends-none _, refl))
+pub returns-in_err-kept : goal.returns-in_err-kept
+returns-in_err-kept g c =
+    let p = err_from_is_err_and c.from_residual.result c.from_residual.ensures.1 in
+    let input = reader g.R.Source.left g.R.Source.failures c.args.input.now c.args.input.now in
+    let ops = reader g.S.Source.left g.S.Source.failures c.args.ops.now c.args.ops.now in
+    rw (p.1, p.2) (wanting (MakesApplied input ops) input (IsRefusedOps ops) (Unfailed ops) (IsKnown input × IsKnown ops)
+    (out_of (outs g.T.Draft.Sink.held g.T.Draft.Sink.failures g.T.Target.placed g.T.Target.failures c.args.out.now c.args.out.now))
+    (writer g.P.Sink.held g.P.Sink.failures c.args.report.now c.args.report.now) refl refl ((Appends-none _, refl), (refl, refl)) (Appends-none _, refl))
 
-pub overflow_sub-number : goal.overflow_sub-number
-overflow_sub-number g c =
-    let old = g.A.Join.content c.in_ok-archive.archive in
-    let operations = c.in_ok-operations.operations.items in
-    let within : new_among old (map record_bytes operations) ≤ length operations = new_within old operations in
-    omega (arith, c.in_ok-new.ensures.counted)
+pub write_applied-requires-clause-ascending : goal.write_applied-requires-clause-ascending
+write_applied-requires-clause-ascending g c = rw c.deref.ensures.value c.in-Ok.ensures.read.sorted_is.ascending
 
-pub returns : goal.returns
-returns g c =
-    let old = g.A.Join.content c.in_ok-archive.archive in
-    let operations = c.in_ok-operations.operations.items in
-    let within : new_among old (map record_bytes operations) ≤ length operations = new_within old operations in
-    let known : c.len-number.result - c.in_ok-new.new + c.in_ok-new.new ≡ length operations = omega (arith, c.in_ok-new.ensures.counted) in
-    published _ _ _ _ _ c.publish.result _ _ (c.in_ok-archive.ensures.unfailed, c.in_ok-operations.ensures.unfailed)
-    (makes_applied _ _ _ _ _ _ _ _ c.in_ok-archive.ensures.content c.in_ok-archive.ensures.text c.in_ok-operations.ensures.text c.in_ok-new.ensures.taken c.in_ok-new.ensures.counted known c.in_ok-lines.ensures)
-    c.publish.ensures
+pub write_applied-requires-clause-are : goal.write_applied-requires-clause-are
+write_applied-requires-clause-are g c = rw c.deref.ensures.value c.in-Ok.ensures.read.sorted_is.are
+
+pub write_applied-requires-clause-few : goal.write_applied-requires-clause-few
+write_applied-requires-clause-few g c =
+    let has = c.in-Ok.ensures.read in
+    rw c.deref.ensures.value (λ o made. rw has.number_is (few_new has.operations c.in-Ok.sorted.items has.sorted_is o made))
+
+pub returns-in-Ok : goal.returns-in-Ok
+returns-in-Ok g c =
+    applied (reader g.R.Source.left g.R.Source.failures c.args.input.now c.write_applied.new.input) g.S.Source.left g.S.Source.failures c.args.ops.now c.read_new.new.ops
+    (out_of (outs g.T.Draft.Sink.held g.T.Draft.Sink.failures g.T.Target.placed g.T.Target.failures c.args.out.now c.write_applied.new.out))
+    (writer g.P.Sink.held g.P.Sink.failures c.args.report.now c.write_applied.new.report) c.in-Ok.sorted.items c.in-Ok.number c.in-Ok.ensures.read c.in-Ok.ensures.unfailed c.write_applied.result
+    (rw c.deref.ensures.value at c.write_applied.ensures)
+
+pub returns-in-Err : goal.returns-in-Err
+returns-in-Err g c =
+    let input = reader g.R.Source.left g.R.Source.failures c.args.input.now c.refused_behind.new.input in
+    let ops = reader g.S.Source.left g.S.Source.failures c.args.ops.now c.read_new.new.ops in
+    told_behind (MakesApplied input ops) input (IsRefusedOps ops) (Unfailed ops) (IsKnown input × IsKnown ops)
+    (out_of (outs g.T.Draft.Sink.held g.T.Draft.Sink.failures g.T.Target.placed g.T.Target.failures c.args.out.now c.args.out.now))
+    (writer g.P.Sink.held g.P.Sink.failures c.args.report.now c.args.report.now) c.in-Err.fault c.refused_behind.result c.in-Err.ensures.refused c.refused_behind.ensures ((Appends-none _, refl), (refl, refl)) (Appends-none _, refl)

@@ -6,29 +6,27 @@ use Rattle.sorted_archive.proofs.Parted.{parting_none, parted}
 use Rattle.sorted_archive.proofs.parting.parts_of.Goals as goal
 
 pub operations-init : goal.operations-init
-operations-init g c =
+operations-init c =
     let all : List Operation = into_iter_items c.into_iter-operation-iterator.result in
-    let old = g.A.Join.content c.args.archive.now in
     record {
       can = tt;
       finite = tt;
-      way = parting_none old all all c.in_ok-parts.parts.admissions.items c.in_ok-parts.parts.retirements.items c.in_ok-seen.seen c.len-before.ensures.content.itself refl c.in_ok-parts.ensures.admissions c.in_ok-parts.ensures.retirements c.in_ok-seen.ensures;
+      way = λ old is. parting_none old all all c.in_ok-parts.parts.admissions.items c.in_ok-parts.parts.retirements.items c.in_ok-seen.seen is refl c.in_ok-parts.ensures.admissions c.in_ok-parts.ensures.retirements c.in_ok-seen.ensures;
       long = omega (arith, c.into_iter-operation-iterator.ensures.into_iter_gives.1, ap length c.into_iter-operation-iterator.ensures.into_iter_gives.0);
     }
 
 pub operations-preserved : goal.operations-preserved
-operations-preserved g c =
+operations-preserved c =
     let at = c.operations in
     let left : List Operation = into_iter_items at.operation-iterator in
     let rest : List Operation = into_iter_items c.next.new.self in
     let all : List Operation = into_iter_items c.into_iter-operation-iterator.result in
     let steps : left ≡ c.in-Some.operation ∷ rest = c.in-Some.ensures.steps.0 in
-    let old = g.A.Join.content c.args.archive.now in
-    let way = subst (λ (l : List Operation). IsParting old all l at.parts.admissions.items at.parts.retirements.items at.seen) steps at.invariant.way in
     record {
       can = tt;
       finite = tt;
-      way = c.in_ok-put.ensures all rest way;
+      way = λ old is.
+          c.in_ok-put.ensures old all rest (subst (λ (l : List Operation). IsParting old all l at.parts.admissions.items at.parts.retirements.items at.seen) steps (at.invariant.way old is));
       long =
           let was : into_iter_len at.operation-iterator ≡ length left = at.invariant.long in
           let gone = c.in-Some.ensures.steps.1 in
@@ -37,12 +35,12 @@ operations-preserved g c =
     }
 
 pub returns : goal.returns
-returns g c =
+returns c =
     let at = c.operations in
     let left : List Operation = into_iter_items at.operation-iterator in
     let all : List Operation = into_iter_items c.into_iter-operation-iterator.result in
     let long : into_iter_len at.operation-iterator ≡ length left = at.invariant.long in
     let none : length left ≡ 0 = omega (arith, long, c.in-None.ensures.steps) in
-    let old = g.A.Join.content c.args.archive.now in
-    let is = parted old all left at.parts.admissions.items at.parts.retirements.items at.seen at.invariant.way none in
+    λ old made.
+    let is = parted old all left at.parts.admissions.items at.parts.retirements.items at.seen (at.invariant.way old made) none in
     subst (λ (l : List Operation). IsParted old l at.parts.admissions.items at.parts.retirements.items) c.into_iter-operation-iterator.ensures.into_iter_gives.0 is

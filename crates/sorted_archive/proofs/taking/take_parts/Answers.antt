@@ -1,11 +1,18 @@
-use Rattle.std.proofs.Common.{map, arith}
+use Rattle.std.proofs.Common.{map, arith, ap, ◌∙◌}
 use Rattle.std.proofs.Math.ListN.{length-map}
 use Rattle.std.proofs.lemmas.Result.{err_from_is_err_and}
+use Rattle.archive_core.specs.Content.{new_among, with_records}
 use Rattle.archive_core.specs.Record.{record_bytes}
 use Rattle.archive_core.proofs.Joined.{none_taken}
 use Rattle.archive_core.proofs.Taken.{new_within}
 use Rattle.sorted_archive.proofs.Parted.{admissions_in_part, retirements_in_part}
 use Rattle.sorted_archive.proofs.taking.take_parts.Goals as goal
+
+pub take_admissions-requires : goal.take_admissions-requires
+take_admissions-requires g c = (c.in_ok-parts.ensures (g.A.Join.content c.args.archive.now) c.len-before.ensures.content.itself).parts.admitted
+
+pub take_retirements-requires : goal.take_retirements-requires
+take_retirements-requires g c = (c.in_ok-parts.ensures (g.A.Join.content c.args.archive.now) c.len-before.ensures.content.itself).parts.retired
 
 pub returns-in_err-parts-clause-refused : goal.returns-in_err-parts-clause-refused
 returns-in_err-parts-clause-refused g c =
@@ -16,16 +23,31 @@ pub returns-in_err-admitted-clause-refused : goal.returns-in_err-admitted-clause
 returns-in_err-admitted-clause-refused g c =
     let p = err_from_is_err_and c.from_residual-in_err-admitted.result c.from_residual-in_err-admitted.ensures.1 in
     let parts = c.in_ok-parts.parts in
-    rw p.1 (admissions_in_part (g.A.Join.content c.args.archive.now) (g.A.Join.content c.take_admissions.new.archive) c.args.operations.items parts.admissions.items parts.retirements.items c.in_ok-parts.ensures c.in_err-admitted.ensures.refused)
+    let is = c.in_ok-parts.ensures (g.A.Join.content c.args.archive.now) c.len-before.ensures.content.itself in
+    rw p.1 (admissions_in_part (g.A.Join.content c.args.archive.now) (g.A.Join.content c.take_admissions.new.archive) c.args.operations.items parts.admissions.items parts.retirements.items is c.in_err-admitted.ensures.refused)
 
-pub returns-in_err-take_sorted-clause-refused : goal.returns-in_err-take_sorted-clause-refused
-returns-in_err-take_sorted-clause-refused g c =
-    let p = err_from_is_err_and c.from_residual-in_err-take_sorted.result c.from_residual-in_err-take_sorted.ensures.1 in
+pub returns-in_err-retired-clause-refused : goal.returns-in_err-retired-clause-refused
+returns-in_err-retired-clause-refused g c =
+    let p = err_from_is_err_and c.from_residual-in_err-retired.result c.from_residual-in_err-retired.ensures.1 in
     let parts = c.in_ok-parts.parts in
-    rw p.1 (retirements_in_part (g.A.Join.content c.args.archive.now) (g.A.Join.content c.take_admissions.new.archive) (g.A.Join.content c.take_sorted.new.archive) c.args.operations.items parts.admissions.items parts.retirements.items c.in_ok-parts.ensures c.in_ok-admitted.ensures.taken c.in_err-take_sorted.ensures.refused)
+    let is = c.in_ok-parts.ensures (g.A.Join.content c.args.archive.now) c.len-before.ensures.content.itself in
+    rw p.1 (retirements_in_part (g.A.Join.content c.args.archive.now) (g.A.Join.content c.take_admissions.new.archive) (g.A.Join.content c.take_retirements.new.archive) c.args.operations.items parts.admissions.items parts.retirements.items is c.in_ok-admitted.ensures.taken c.in_err-retired.ensures.refused)
 
 pub overflow_add-result : goal.overflow_add-result
 overflow_add-result g c =
     let old = g.A.Join.content c.args.archive.now in
+    let is = c.in_ok-parts.ensures old c.len-before.ensures.content.itself in
     let most = new_within old (map record_bytes c.args.operations.items) in
-    omega (arith, most, length-map c.args.operations.items record_bytes, c.in_ok-parts.ensures.counted, c.in_ok-admitted.ensures.counted, c.len-retired.ensures, c.args.operations.ok.0, c.args.operations.ok.1, c.args.operations.small)
+    let behind = c.in_ok-retired.ensures.counted ∙ ap (λ p. new_among p (map record_bytes c.in_ok-parts.parts.retirements.items)) c.in_ok-admitted.ensures.taken in
+    omega (arith, most, length-map c.args.operations.items record_bytes, is.counted, behind, c.in_ok-admitted.ensures.counted, c.args.operations.ok.0, c.args.operations.ok.1, c.args.operations.small)
+
+pub returns-clause-taken : goal.returns-clause-taken
+returns-clause-taken g c =
+    let is = c.in_ok-parts.ensures (g.A.Join.content c.args.archive.now) c.len-before.ensures.content.itself in
+    c.in_ok-retired.ensures.taken ∙ ap (λ p. with_records p (map record_bytes c.in_ok-parts.parts.retirements.items)) c.in_ok-admitted.ensures.taken ∙ is.content
+
+pub returns-clause-counted : goal.returns-clause-counted
+returns-clause-counted g c =
+    let is = c.in_ok-parts.ensures (g.A.Join.content c.args.archive.now) c.len-before.ensures.content.itself in
+    let behind = c.in_ok-retired.ensures.counted ∙ ap (λ p. new_among p (map record_bytes c.in_ok-parts.parts.retirements.items)) c.in_ok-admitted.ensures.taken in
+    omega (arith, is.counted, behind, c.in_ok-admitted.ensures.counted)

@@ -15,5 +15,5 @@ returns-then-retires c old all rest parting =
 pub returns : goal.returns
 returns c old all rest parting =
     subst (λ (items : List Operation). IsParting old all rest items c.args.self.now.retirements.items c.args.seen.now) (sym c.in_ok-push.ensures.items)
-    (admission_put old all rest c.args.self.now.admissions.items c.args.self.now.retirements.items c.args.seen.now (Admit c.args.slice) parting refl
+    (admission_put old all rest c.args.self.now.admissions.items c.args.self.now.retirements.items c.args.seen.now (Admit c.args.slice) parting refl c.bytes-bytes.ensures.valid
     (ap (contains c.args.seen.now) (covering_admission c.args.slice c.bytes-bytes.ensures.valid) ∙ sym c.retires.ensures ∙ c.if-retires.false))

@@ -1,0 +1,45 @@
+use Rattle.std.proofs.Common.{◌≡◌, ◌≤◌, ◌-◌, ◌++◌, ℕ, Bool, List, ap, arith, length, map, refl, subst, sym, ◌∙◌}
+use Rattle.std.specs.List.{count_by}
+use Rattle.std.proofs.lemmas.Result.{err_from_is_err_and}
+use Rattle.join_core.specs.Listing.{listing}
+use Rattle.archive_core.specs.Content.{Operations, changes}
+use Rattle.archive_core.specs.Record.{record_bytes}
+use Rattle.byte_device.specs.Devices.{stream}
+use Rattle.byte_device.proofs.Known.{Appends-none}
+use Rattle.command_ends.specs.Inputs.{reader}
+use Rattle.command_ends.specs.Outputs.{out_of, outs, writer}
+use Rattle.report_text.specs.Report.{apply_line}
+use Rattle.archive_updates.specs.InnerTelling.{counts_of}
+use Rattle.archive_updates.proofs.Counts.{count_told}
+use Rattle.archive_updates.proofs.Told.{listed_in_order, set_of, told_published, told_stopped}
+use Rattle.archive_updates.proofs.apply.write_applied.Goals as goal
+
+pub returns-in_err-sizes : goal.returns-in_err-sizes
+returns-in_err-sizes g c =
+    let p = err_from_is_err_and c.from_residual.result c.from_residual.ensures.1 in
+    let operations = c.args.operations.now in
+    rw (p.1, p.2) (told_stopped (reader g.R.Source.left g.R.Source.failures c.args.input.now c.tell_operations.new.input) (set_of operations) (counts_of (map record_bytes operations) c.args.number)
+    (out_of (outs g.T.Draft.Sink.held g.T.Draft.Sink.failures g.T.Target.placed g.T.Target.failures c.args.out.now (record { draft = c.tell_operations.new.draft; target = c.args.out.now.target })))
+    (writer g.P.Sink.held g.P.Sink.failures c.args.report.now c.args.report.now) c.in_err-sizes.field-0.0
+    c.in_err-sizes.ensures.stopped c.in_err-sizes.ensures.taken (refl, refl) (Appends-none _, refl))
+
+pub overflow_sub-number : goal.overflow_sub-number
+overflow_sub-number g c =
+    let operations = c.args.operations.now in
+    let j = c.in_ok-sizes.ensures.told in
+    let o = j.joined.content in
+    let counted = c.count_new-new.ensures.counted ∙ ap (count_by (λ (new : Bool). new)) (c.deref.ensures.value ∙ j.told_is ∙ ap (map (changes o)) (listed_in_order operations c.requires.ascending)) ∙ count_told (changes o) (map record_bytes operations) in
+    let few = c.requires.few o j.joined.is_content.itself in
+    omega (arith, counted, few)
+
+pub returns : goal.returns
+returns g c =
+    let operations = c.args.operations.now in
+    let j = c.in_ok-sizes.ensures.told in
+    let o = j.joined.content in
+    let counted = c.count_new-new.ensures.counted ∙ ap (count_by (λ (new : Bool). new)) (c.deref.ensures.value ∙ j.told_is ∙ ap (map (changes o)) (listed_in_order operations c.requires.ascending)) ∙ count_told (changes o) (map record_bytes operations) in
+    told_published (reader g.R.Source.left g.R.Source.failures c.args.input.now c.tell_operations.new.input) (set_of operations) (counts_of (map record_bytes operations) c.args.number)
+    (stream g.T.Draft.Sink.held g.T.Draft.Sink.failures c.args.out.now.draft c.tell_operations.new.draft) c.in_ok-sizes.sizes c.in_ok-sizes.told.items j _ (ap (λ (n : ℕ). apply_line n (c.args.number - n)) counted)
+    (out_of (outs g.T.Draft.Sink.held g.T.Draft.Sink.failures g.T.Target.placed g.T.Target.failures c.args.out.now c.publish_applied.new.out))
+    (writer g.P.Sink.held g.P.Sink.failures c.args.report.now c.publish_applied.new.report) c.publish_applied.result
+    (c.publish_applied.ensures c.args.out.now.draft _ (j.joined.written_is.written, j.joined.written_is.unfailed) j.joined.written_is.bytes_are)
