@@ -129,7 +129,7 @@ unfolding named_command symarch_command clap_on_literals
 migrate_out_is_in = refl
 
 find_read : line_of (symarch (codes "find" ∷ codes "a" ∷ uuid_text ∷ []))
-    ≡ Some (line_with find_command (text (codes "a") ∷ uuids (one uuid_bytes) ∷ texts (several []) ∷ []))
+    ≡ Some (line_with find_command (text (codes "a") ∷ uuids (one uuid_bytes) ∷ texts (several []) ∷ texts (several []) ∷ []))
 unfolding named_command symarch_command clap_on_literals uuid_on_literals
 find_read = refl
 
@@ -137,7 +137,7 @@ find_read = refl
 find_with : line_of (symarch (codes "find" ∷ codes "--with" ∷ codes "c" ∷ codes "a" ∷ codes "--with=b" ∷ uuid_text
     ∷ codes "--with" ∷ codes "c" ∷ []))
     ≡ Some (line_with find_command (text (codes "a") ∷ uuids (one uuid_bytes)
-    ∷ texts (several (codes "c" ∷ codes "b" ∷ codes "c" ∷ [])) ∷ []))
+    ∷ texts (several (codes "c" ∷ codes "b" ∷ codes "c" ∷ [])) ∷ texts (several []) ∷ []))
 unfolding named_command symarch_command clap_on_literals uuid_on_literals
 find_with = refl
 
@@ -166,6 +166,7 @@ symbolicate_read : line_of (symarch (codes "symbolicate" ∷ codes "--load" ∷ 
     ∷ codes "x86_64" ∷ codes "104001040" ∷ codes "0x10" ∷ []))
     ≡ Some (line_with symbolicate_command (text (codes "a") ∷ uuids (one uuid_bytes)
     ∷ archs (one (arch_key 0x0100_0007 3)) ∷ numbers (perhaps (Some 0x104000000)) ∷ texts (several [])
+    ∷ texts (several [])
     ∷ numbers (several (0x104001040 ∷ 0x10 ∷ [])) ∷ []))
 unfolding named_command symarch_command clap_on_literals uuid_on_literals
 symbolicate_read = refl
@@ -173,14 +174,14 @@ symbolicate_read = refl
 load_between : line_of (symarch (codes "symbolicate" ∷ codes "a" ∷ uuid_text ∷ codes "x86_64h" ∷ codes "10"
     ∷ codes "--load=fF" ∷ codes "20" ∷ []))
     ≡ Some (line_with symbolicate_command (text (codes "a") ∷ uuids (one uuid_bytes)
-    ∷ archs (one (arch_key 0x0100_0007 8)) ∷ numbers (perhaps (Some 255)) ∷ texts (several [])
+    ∷ archs (one (arch_key 0x0100_0007 8)) ∷ numbers (perhaps (Some 255)) ∷ texts (several []) ∷ texts (several [])
     ∷ numbers (several (0x10 ∷ 0x20 ∷ [])) ∷ []))
 unfolding named_command symarch_command clap_on_literals uuid_on_literals
 load_between = refl
 
 no_load : line_of (symarch (codes "symbolicate" ∷ codes "a" ∷ uuid_text ∷ codes "arm64" ∷ codes "10" ∷ []))
     ≡ Some (line_with symbolicate_command (text (codes "a") ∷ uuids (one uuid_bytes)
-    ∷ archs (one (arch_key 0x0100_000c 0)) ∷ numbers (perhaps None) ∷ texts (several [])
+    ∷ archs (one (arch_key 0x0100_000c 0)) ∷ numbers (perhaps None) ∷ texts (several []) ∷ texts (several [])
     ∷ numbers (several (0x10 ∷ [])) ∷ []))
 unfolding named_command symarch_command clap_on_literals uuid_on_literals
 no_load = refl
@@ -196,13 +197,13 @@ unfolding are_accepted symarch_command clap_on_literals
 frames_accepted = refl
 
 frames_read : line_of (symarch (codes "frames" ∷ codes "f" ∷ codes "a" ∷ []))
-    ≡ Some (line_with frames_command (text (codes "f") ∷ texts (several (codes "a" ∷ [])) ∷ []))
+    ≡ Some (line_with frames_command (text (codes "f") ∷ texts (several []) ∷ texts (several (codes "a" ∷ [])) ∷ []))
 unfolding named_command symarch_command clap_on_literals
 frames_read = refl
 
 -- and of several the order is that of the words
 frames_of_two : line_of (symarch (codes "frames" ∷ codes "f" ∷ codes "b" ∷ codes "a" ∷ []))
-    ≡ Some (line_with frames_command (text (codes "f") ∷ texts (several (codes "b" ∷ codes "a" ∷ [])) ∷ []))
+    ≡ Some (line_with frames_command (text (codes "f") ∷ texts (several []) ∷ texts (several (codes "b" ∷ codes "a" ∷ [])) ∷ []))
 unfolding named_command symarch_command clap_on_literals
 frames_of_two = refl
 

@@ -38,6 +38,7 @@ writes _ = false
 -- it is the path of an input of this kind
 abbrev pub is_kind : Kind → Kind → Bool
 is_kind kinds.Archive kinds.Archive = true
+is_kind kinds.Index kinds.Index = true
 is_kind kinds.File kinds.File = true
 is_kind kinds.Ops kinds.Ops = true
 is_kind kinds.Summary kinds.Summary = true

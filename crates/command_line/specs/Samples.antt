@@ -1,5 +1,5 @@
 -- For each command a line of words, and what they ask for.
-use Rattle.std.specs.Prelude.{◌≡◌, ⊤, ℕ, true, List, [], ◌∷◌, Some, codes}
+use Rattle.std.specs.Prelude.{◌≡◌, ⊤, ℕ, true, List, [], ◌∷◌, Some, None, codes}
 use Rattle.clap.specs.Words.{Text}
 use Rattle.archive_words.specs.Words.{arch_key}
 use Rattle.command_line.specs.Arguments.{archs, digests, numbers, one, perhaps, several, text, texts, uuids}
@@ -59,20 +59,25 @@ samples =
     (line_with migrate_command (text (codes "i") ∷ text (codes "o") ∷ []))
     ∷ sample (codes "apply" ∷ codes "i" ∷ codes "o" ∷ codes "p" ∷ [])
     (line_with apply_command (text (codes "i") ∷ text (codes "o") ∷ text (codes "p") ∷ []))
-    ∷ sample (codes "find" ∷ codes "--with" ∷ codes "b" ∷ codes "a" ∷ codes "--with=c" ∷ uuid_text ∷ [])
-    (line_with find_command
-    (text (codes "a") ∷ uuids (one uuid_bytes) ∷ texts (several (codes "b" ∷ codes "c" ∷ [])) ∷ []))
-    ∷ sample (codes "list" ∷ codes "a" ∷ []) (line_with list_command (text (codes "a") ∷ []))
+    ∷ sample (codes "find" ∷ codes "--with" ∷ codes "b" ∷ codes "a" ∷ codes "--with=c" ∷ uuid_text ∷ codes "--index"
+    ∷ codes "i" ∷ [])
+    (line_with find_command (text (codes "a") ∷ uuids (one uuid_bytes) ∷ texts (several (codes "b" ∷ codes "c" ∷ []))
+    ∷ texts (several (codes "i" ∷ [])) ∷ []))
+    ∷ sample (codes "list" ∷ codes "a" ∷ codes "--index" ∷ codes "i" ∷ [])
+    (line_with list_command (text (codes "a") ∷ texts (perhaps (Some (codes "i"))) ∷ []))
     ∷ sample (codes "name" ∷ codes "a" ∷ codes "--" ∷ codes "-n" ∷ [])
     (line_with name_command (text (codes "a") ∷ text (codes "-n") ∷ texts (several []) ∷ []))
     ∷ sample (codes "symbolicate" ∷ codes "a" ∷ uuid_text ∷ codes "x86_64h" ∷ codes "10" ∷ codes "--load=0xfF"
     ∷ codes "--with" ∷ codes "b" ∷ codes "0x20" ∷ [])
     (line_with symbolicate_command (text (codes "a") ∷ uuids (one uuid_bytes) ∷ archs (one (arch_key 0x0100_0007 8))
-    ∷ numbers (perhaps (Some 255)) ∷ texts (several (codes "b" ∷ [])) ∷ numbers (several (0x10 ∷ 0x20 ∷ [])) ∷ []))
-    ∷ sample (codes "frames" ∷ codes "f" ∷ codes "a" ∷ codes "b" ∷ [])
-    (line_with frames_command (text (codes "f") ∷ texts (several (codes "a" ∷ codes "b" ∷ [])) ∷ []))
+    ∷ numbers (perhaps (Some 255)) ∷ texts (several (codes "b" ∷ [])) ∷ texts (several [])
+    ∷ numbers (several (0x10 ∷ 0x20 ∷ [])) ∷ []))
+    ∷ sample (codes "frames" ∷ codes "f" ∷ codes "a" ∷ codes "b" ∷ codes "--index" ∷ codes "i" ∷ codes "--index" ∷ codes "j"
+    ∷ [])
+    (line_with frames_command (text (codes "f") ∷ texts (several (codes "i" ∷ codes "j" ∷ []))
+    ∷ texts (several (codes "a" ∷ codes "b" ∷ [])) ∷ []))
     ∷ sample (codes "summary" ∷ codes "a" ∷ codes "o" ∷ [])
-    (line_with summary_command (text (codes "a") ∷ text (codes "o") ∷ []))
+    (line_with summary_command (text (codes "a") ∷ text (codes "o") ∷ texts (perhaps None) ∷ []))
     ∷ sample (codes "index" ∷ codes "a" ∷ codes "o" ∷ [])
     (line_with index_command (text (codes "a") ∷ text (codes "o") ∷ []))
     ∷ sample (codes "delta" ∷ codes "a" ∷ codes "s" ∷ codes "o" ∷ [])

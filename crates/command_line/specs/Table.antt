@@ -25,6 +25,13 @@ archive_path = argument (codes "ARCHIVE") Once (roles.Reads kinds.Archive)
 abbrev pub other_paths : Argument
 other_paths = argument (codes "OTHER") (Often (codes "with")) (roles.Reads kinds.Archive)
 
+-- the index of an archive, and those of several
+abbrev pub index_path : Argument
+index_path = argument (codes "INDEX") (Perhaps (codes "index")) (roles.Reads kinds.Index)
+
+abbrev pub index_paths : Argument
+index_paths = argument (codes "INDEX") (Often (codes "index")) (roles.Reads kinds.Index)
+
 abbrev pub out_path : Argument
 out_path = argument (codes "OUT") Once roles.Writes
 
@@ -57,10 +64,10 @@ apply_command = signature (codes "apply")
     (input_path ∷ out_path ∷ argument (codes "OPS") Once (roles.Reads kinds.Ops) ∷ [])
 
 abbrev pub find_command : Signature
-find_command = signature (codes "find") (archive_path ∷ uuid_word ∷ other_paths ∷ [])
+find_command = signature (codes "find") (archive_path ∷ uuid_word ∷ other_paths ∷ index_paths ∷ [])
 
 abbrev pub list_command : Signature
-list_command = signature (codes "list") (archive_path ∷ [])
+list_command = signature (codes "list") (archive_path ∷ index_path ∷ [])
 
 abbrev pub name_command : Signature
 name_command = signature (codes "name")
@@ -68,16 +75,16 @@ name_command = signature (codes "name")
 
 abbrev pub symbolicate_command : Signature
 symbolicate_command = signature (codes "symbolicate") (archive_path ∷ uuid_word ∷ arch_word
-    ∷ argument (codes "HEX") (Perhaps (codes "load")) (roles.Says forms.Number) ∷ other_paths
+    ∷ argument (codes "HEX") (Perhaps (codes "load")) (roles.Says forms.Number) ∷ other_paths ∷ index_paths
     ∷ argument (codes "ADDRESS") Several (roles.Says forms.Number) ∷ [])
 
 abbrev pub frames_command : Signature
 frames_command = signature (codes "frames")
-    (argument (codes "FRAMES") Once (roles.Reads kinds.Frames)
+    (argument (codes "FRAMES") Once (roles.Reads kinds.Frames) ∷ index_paths
     ∷ argument (codes "ARCHIVE") Several (roles.Reads kinds.Archive) ∷ [])
 
 abbrev pub summary_command : Signature
-summary_command = signature (codes "summary") (archive_path ∷ out_path ∷ [])
+summary_command = signature (codes "summary") (archive_path ∷ out_path ∷ index_path ∷ [])
 
 abbrev pub index_command : Signature
 index_command = signature (codes "index") (archive_path ∷ out_path ∷ [])

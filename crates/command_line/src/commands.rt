@@ -25,6 +25,7 @@ pub enum Form {
 #[derive(Clone, Copy, PartialEq, Eq)]
 pub enum Kind {
     Archive,
+    Index,
     File,
     Ops,
     Summary,
@@ -92,6 +93,19 @@ const TOGETHER: Argument = Argument {
     help: "The archives to read, as their join",
     count: Count::Several,
     ..ARCHIVE
+};
+
+const INDEX: Argument = Argument {
+    name: "INDEX",
+    help: "The index of the archive, which is read in its place",
+    count: Count::Perhaps("index"),
+    role: Role::Reads(Kind::Index),
+};
+
+const INDEXES: Argument = Argument {
+    help: "The index of an archive, which is read by it; the first is that of the first archive, and so on",
+    count: Count::Often("index"),
+    ..INDEX
 };
 
 const IN: Argument = Argument {
@@ -259,13 +273,13 @@ const COMMANDS: &[Signature] = &[
         name: "find",
         about: "List what an archive has of a UUID",
         more: None,
-        arguments: &[ARCHIVE, SOUGHT_UUID, OTHER],
+        arguments: &[ARCHIVE, SOUGHT_UUID, OTHER, INDEXES],
     },
     Signature {
         name: "list",
         about: "List all that an archive has",
         more: None,
-        arguments: &[ARCHIVE],
+        arguments: &[ARCHIVE, INDEX],
     },
     Signature {
         name: "name",
@@ -277,19 +291,19 @@ const COMMANDS: &[Signature] = &[
         name: "symbolicate",
         about: "Name the symbols at addresses",
         more: Some(ANSWERS),
-        arguments: &[ARCHIVE, IMAGE_UUID, ARCH, LOAD, OTHER, ADDRESSES],
+        arguments: &[ARCHIVE, IMAGE_UUID, ARCH, LOAD, OTHER, INDEXES, ADDRESSES],
     },
     Signature {
         name: "frames",
         about: "Name the symbols of all frames of a crash",
         more: Some(ANSWERS),
-        arguments: &[FRAMES, TOGETHER],
+        arguments: &[FRAMES, INDEXES, TOGETHER],
     },
     Signature {
         name: "summary",
         about: "Write what an archive has, without its slices",
         more: None,
-        arguments: &[ARCHIVE, SUMMARY_OUT],
+        arguments: &[ARCHIVE, SUMMARY_OUT, INDEX],
     },
     Signature {
         name: "index",
