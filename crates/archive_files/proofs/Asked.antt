@@ -21,8 +21,8 @@ zip_more R (a ∷ xs) [] x y all one = absurd all
 zip_more R (a ∷ xs) (b ∷ ys) x y all one = (all.0, zip_more R xs ys x y all.1 one)
 
 -- one more input is made
-pub inputs_more : {B X P : Type 0} (R : P → B → Type 0) (f : X → P) (xs : List X) (i : ℕ) (ys zs : List B) (d : X) (y : B)
-    → i < length xs → zs ≡ ys ++ y ∷ [] → AllZip R (map f (take i xs)) ys → R (f (get_or xs i d)) y
+pub inputs_more : {B X P : Type 0} (R : P → B → Type 0) (f : X → P) (xs : List X) (i : ℕ) (ys zs : List B) (d : X)
+    (y : B) → i < length xs → zs ≡ ys ++ y ∷ [] → AllZip R (map f (take i xs)) ys → R (f (get_or xs i d)) y
     → AllZip R (map f (take (i + 1) xs)) zs
 inputs_more R f xs i ys zs d y lt is all one =
     rw (map_more f xs i d lt, is) (zip_more R (map f (take i xs)) ys (f (get_or xs i d)) y all one)

@@ -1,5 +1,6 @@
 -- An input that is opened at its turn.
-use Rattle.std.specs.Prelude.{◌≡◌, ◌≢◌, ℕ, List, [], ◌∷◌, ◌++◌, take, Option, Some, None, Result, Ok, Err, MatchResult, ⊤}
+use Rattle.std.specs.Prelude.{◌≡◌, ◌≢◌, ℕ, List, [], ◌∷◌, ◌++◌, take, Option, Some, None, Result, Ok, Err}
+use Rattle.std.specs.Prelude.{MatchResult, ⊤}
 use Rattle.std.specs.List.{AllByRecursion, AllZip}
 use Rattle.std.specs.IoError.{error_kind}
 use Rattle.std.specs.declared.io.ErrorKind.TheVariants.{OutOfMemory}
@@ -82,7 +83,8 @@ pub record IsWaiting {S : Type 0} (told : Told S) (path : Path) (input : S) : Ty
 
 -- Of an input no other path is opened than its own, and that once, at its turn; and where it is not opened it fails.
 pub record IsAtTurn {S : Type 0} (told : Told S) (input : S) : Type 0 where
-  pub log : (paths : List Path) → told.opened input ≡ Some paths → paths ≡ opened_in (told.stage input) (told.path input)
+  pub log : (paths : List Path) → told.opened input ≡ Some paths
+      → paths ≡ opened_in (told.stage input) (told.path input)
   pub fits : ∥ IsTurnOf (told.file input) (told.stage input) ∥₁
   pub failed : unopened_in (told.stage input) ≢ None → told.failures input ≢ 0
 

@@ -1,9 +1,10 @@
 //! An input that is opened at its turn: with the first call for its bytes.
 
-ghost use Rattle.std.specs.Prelude.{◌≡◌, ◌≢◌, ◌≤◌, ℕ, List, ◌∷◌, [], Option, Some, None, IfOk, OnOk, length, true};
+ghost use Rattle.std.specs.Prelude.{◌≡◌, ◌≢◌, ◌≤◌, List, ◌∷◌, [], Some, None, IfOk, OnOk, length};
 ghost use Rattle.std.specs.Io.KnownBytes.{ReadConsumes};
 ghost use Rattle.byte_device.specs.Disks.{FileAt, Path, opened_with};
-ghost use Rattle.archive_files.specs.Turns.{GivesTurn, IsTurnOf, Open, Waiting, left_in, opened_in, stage_of, unopened_in};
+ghost use Rattle.archive_files.specs.Turns.{GivesTurn, IsTurnOf, Open, Waiting};
+ghost use Rattle.archive_files.specs.Turns.{left_in, opened_in, stage_of, unopened_in};
 
 use byte_device::{CannotOpen, Disk, Failed, Source};
 use memory::NoMemory;

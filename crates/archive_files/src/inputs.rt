@@ -1,6 +1,6 @@
 //! The inputs of a command, each of which is opened at its turn.
 
-ghost use Rattle.std.specs.Prelude.{◌≡◌, ◌++◌, [], List, OnOk, map};
+ghost use Rattle.std.specs.Prelude.{◌≡◌, ◌++◌, [], OnOk, map};
 ghost use Rattle.archive_files.specs.AtTurns.{told};
 ghost use Rattle.archive_files.specs.Turns.{AreFirstAsked, AreWaiting};
 

@@ -73,6 +73,7 @@ impl<'a, F: Files> SystemFiles<'a, F> {
         }
         Ok(())
     }
+
     /// An input for each of these paths, which is opened at its turn.
     pub fn inputs<'l>(&mut self, paths: &[&'l str]) -> Result<Vec<SystemInput<'l, 'a, F>>, NoMemory>
         ensures inputs { IfOk result (λ inputs. AreWaiting told (map (λ p. p.now) paths.now) inputs.items) }

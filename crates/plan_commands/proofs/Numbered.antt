@@ -1,5 +1,6 @@
 -- The number of an input among all leads to its path.
-use Rattle.std.proofs.Common.{◌≡◌, ◌∙◌, ◌⊎◌, inl, inr, ℕ, zero, suc, Bool, true, false, ◌+◌, ◌-◌, ◌<◌, ◌≤◌, if◌then◌else◌, List, [], ◌∷◌, ◌++◌, get_or, length, refl, ap, sym, arith, Option, Some, None}
+use Rattle.std.proofs.Common.{◌≡◌, ◌∙◌, ◌⊎◌, inl, inr, ℕ, zero, suc, Bool, true, false, ◌+◌, ◌-◌, ◌<◌, ◌≤◌}
+use Rattle.std.proofs.Common.{if◌then◌else◌, List, [], ◌∷◌, ◌++◌, get_or, length, refl, ap, sym, arith, Some, None}
 use Rattle.std.specs.Prelude.{slice_get}
 use Rattle.std.proofs.lemmas.Option.{slice_get_cases}
 use Rattle.clap.specs.Words.{Text}
@@ -92,7 +93,8 @@ by_kind kind all n (a ∷ rest) (v ∷ vs) p stands =
     of_role kind a.role all (texts_of v) (texts_by reads rest vs) (texts_by (reads_kind kind) rest vs)
     (λ q. numbers_by kind q rest vs) p n stands (λ q there. by_kind kind all n rest vs q there)
 
-in_line : (kind : Kind) (line : Line) (n : ℕ) → Leads (inputs_of line) n (numbers_of_kind kind line) (inputs_of_kind kind line)
+in_line : (kind : Kind) (line : Line) (n : ℕ)
+    → Leads (inputs_of line) n (numbers_of_kind kind line) (inputs_of_kind kind line)
 in_line kind line n =
     by_kind kind (inputs_of line) n (arguments_named line.name) line.values 0
     (λ j. ap (slice_get (inputs_of line)) (from_none j))

@@ -1,5 +1,7 @@
 -- Which of all inputs one is, by those before it.
-use Rattle.std.proofs.Common.{◌≡◌, ◌∙◌, ◌⊎◌, inl, inr, ℕ, zero, suc, Bool, true, false, ◌+◌, ◌-◌, ◌<◌, ◌≤◌, ◌^◌, min, map, if◌then◌else◌, List, [], ◌∷◌, ◌++◌, length, length-append, refl, ap, sym, arith, Option, Some, subst}
+use Rattle.std.proofs.Common.{◌≡◌, ◌∙◌, ◌⊎◌, inl, inr, ℕ, zero, suc, true, false, ◌+◌, ◌-◌, ◌<◌, ◌≤◌, ◌^◌, min, map}
+use Rattle.std.proofs.Common.{if◌then◌else◌, List, [], ◌∷◌, ◌++◌, length, length-append, refl, ap, sym, arith}
+use Rattle.std.proofs.Common.{Option, Some, subst}
 use Rattle.std.specs.Prelude.{slice_get}
 use Rattle.clap.specs.Words.{Text}
 use Rattle.command_line.specs.Arguments.{Argument, Values, reads, reads_kind}
@@ -74,13 +76,22 @@ Left kind a v k left =
     ((reads_kind kind a.role ≡ true) × (length (texts_of v) ≤ k) × (left ≡ k - length (texts_of v)))
     ⊎ ((reads_kind kind a.role ≡ false) × (left ≡ k))
 
-pub text_past : (ts more : List Text) (k : ℕ) → length ts ≤ k → slice_get (ts ++ more) k ≡ slice_get more (k - length ts)
+pub text_past : (ts more : List Text) (k : ℕ) → length ts ≤ k
+    → slice_get (ts ++ more) k ≡ slice_get more (k - length ts)
 text_past [] more k past = ap (slice_get more) (minus_zero k)
 text_past (u ∷ ts) more zero past = absurd (past_none (length ts) past)
 text_past (u ∷ ts) more (suc k) past =
     text_past ts more k (past_next (length ts) k past) ∙ ap (slice_get more) (minus_suc k (length ts))
 
 module _ (kind : Kind) (rest : List Argument) (vs : List Values) where
+  -- the inputs of an argument stand before the others
+  counted : (a : Argument) (v : Values) (p n : ℕ) → p + length (texts_by reads (a ∷ rest) (v ∷ vs)) ≡ n
+      → reads a.role ≡ true → p + (length (texts_of v) + length (texts_by reads rest vs)) ≡ n
+  counted a v p n whole reading =
+      let more = texts_by reads rest vs in
+      ap (λ l. p + l) (sym (length-append (texts_of v) more))
+      ∙ subst (λ b. p + length (if b then texts_of v ++ more else more) ≡ n) reading whole
+
   -- the one of this number is among these
   pub found : (a : Argument) (v : Values) (p k q n : ℕ) (number : Option ℕ)
       → p + length (texts_by reads (a ∷ rest) (v ∷ vs)) ≡ n → n < 2 ^ 64
@@ -89,10 +100,8 @@ module _ (kind : Kind) (rest : List Argument) (vs : List Values) where
       → Some q ≡ number
   found a v p k q n number whole few at is there far =
       let reading = kind_reads kind a.role is in
-      let lengths : p + (length (texts_of v) + length (texts_by reads rest vs)) ≡ n =
-      ap (λ l. p + l) (sym (length-append (texts_of v) (texts_by reads rest vs)))
-      ∙ subst (λ b. p + length (if b then texts_of v ++ texts_by reads rest vs else texts_by reads rest vs) ≡ n) reading whole in
-      let same : q ≡ p + k = exact p (length (texts_of v)) (length (texts_by reads rest vs)) n lengths few k q (at_most k _ there) far in
+      let lengths = counted a v p n whole reading in
+      let same = exact p (length (texts_of v)) (length (texts_by reads rest vs)) n lengths few k q (at_most k _ there) far in
       ap Some same ∙ sym (from_found p (texts_of v) _ k there)
       ∙ subst (λ b. slice_get (if b then numbers_from p (texts_of v)
       ++ numbers_by kind (if reads a.role then p + length (texts_of v) else p) rest vs
@@ -118,11 +127,9 @@ module _ (kind : Kind) (rest : List Argument) (vs : List Values) where
       → Left kind a v k left
       → (q + length (texts_by reads rest vs) ≡ n) × (slice_get (numbers_by kind q rest vs) left ≡ number)
   passed a v p k q n left number whole few at reading far by =
-      let lengths : p + (length (texts_of v) + length (texts_by reads rest vs)) ≡ n =
-      ap (λ l. p + l) (sym (length-append (texts_of v) (texts_by reads rest vs)))
-      ∙ subst (λ b. p + length (if b then texts_of v ++ texts_by reads rest vs else texts_by reads rest vs) ≡ n) reading whole in
-      let same : q ≡ p + length (texts_of v) = exact p (length (texts_of v)) (length (texts_by reads rest vs)) n lengths few
-      (length (texts_of v)) q (itself _) far in
+      let lengths = counted a v p n whole reading in
+      let same = exact p (length (texts_of v)) (length (texts_by reads rest vs)) n lengths few (length (texts_of v)) q
+      (itself _) far in
       let at_next = subst (λ b. slice_get (if reads_kind kind a.role then numbers_from p (texts_of v)
       ++ numbers_by kind (if b then p + length (texts_of v) else p) rest vs
       else numbers_by kind (if b then p + length (texts_of v) else p) rest vs) k ≡ number) reading at in (

@@ -16,8 +16,8 @@ as_many R (x ∷ xs) [] all = absurd all
 as_many R (x ∷ xs) (y ∷ ys) all = ap suc (as_many R xs ys all.1)
 
 -- each input keeps its rules
-pub at_turn : {D I : Type 0} (disk : Disks D I) (input : Sources I) (xs : List (Result (AtTurn D I disk input) CannotOpen))
-    → AreAtTurn (told_by disk input) xs
+pub at_turn : {D I : Type 0} (disk : Disks D I) (input : Sources I)
+    (xs : List (Result (AtTurn D I disk input) CannotOpen)) → AreAtTurn (told_by disk input) xs
 at_turn disk input [] = tt
 at_turn disk input (Ok s ∷ xs) = (record { log = s.log; fits = s.fits; failed = s.failed }, at_turn disk input xs)
 at_turn disk input (Err e ∷ xs) = (tt, at_turn disk input xs)

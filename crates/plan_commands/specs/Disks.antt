@@ -29,8 +29,8 @@ fault_at None place why = Input place why
 fault_at (Some (unopened.Refused refused)) place why = Input place NotOpened
 fault_at (Some unopened.OutOfMemory) place why = OutOfMemory
 
--- This is told of a command of the line that ended so, behind which its inputs are these: where it is refused for an input
--- that was not opened, why that was not, and else how it ended.
+-- This is told of a command of the line that ended so, behind which its inputs are these: where it is refused for an
+-- input that was not opened, why that was not, and else how it ended.
 abbrev pub Tells : {S : Type 0} → Told S → Line → List (Result S CannotOpen) → Result Status CommandFault
     → Result Status CommandFault → Type 0
 Tells told line inputs (Ok status) result = result ≡ Ok status

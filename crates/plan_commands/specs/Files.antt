@@ -59,9 +59,9 @@ IsOutcome out (Err OutOfMemory) = IsNotPut out (Err OutOfMemory)
 
 -- What was called of the system in a command: the paths that inputs were made for, before it and after it, which alone
 -- may be opened, the inputs that were found to be other files than OUT's, the one that was found to be OUT's own, the
--- calls for OUT, and why it was not begun or not put in place, if it was not. What is told of an input stands first, with
--- the paths that were opened for it; then what is known of OUT's draft and how often it failed, and of what was put in
--- place.
+-- calls for OUT, and why it was not begun or not put in place, if it was not. What is told of an input stands first,
+-- with the paths that were opened for it; then what is known of OUT's draft and how often it failed, and of what was
+-- put in place.
 pub record Calls (S D T : Type 0) : Type 0 where
   pub told : Told S
   pub held : D → Option (List ℕ)
@@ -76,8 +76,9 @@ pub record Calls (S D T : Type 0) : Type 0 where
   pub fault : Option OutFault
 
 -- the calls between these two states of the files
-abbrev pub calls_of : {F T E S D P : Type 0} {reads : Reads T} {writes : Writes T} {seeks : Seeks T} {lists : Reads E} → Told S → (D → Option (List ℕ)) → (D → ℕ)
-    → (P → Option (List ℕ)) → (P → ℕ) → SystemFiles F T E reads writes seeks lists
+abbrev pub calls_of : {F T E S D P : Type 0} {reads : Reads T} {writes : Writes T} {seeks : Seeks T} {lists : Reads E}
+    → Told S → (D → Option (List ℕ)) → (D → ℕ) → (P → Option (List ℕ)) → (P → ℕ)
+    → SystemFiles F T E reads writes seeks lists
     → SystemFiles F T E reads writes seeks lists → Calls S D P
 calls_of told held draft_failures placed place_failures old new = record {
   told = told;
@@ -98,9 +99,10 @@ abbrev pub outs_in : {S D T : Type 0} → Calls S D T → Out D T → Out D T �
 outs_in calls begun done = outs calls.held calls.draft_failures calls.placed calls.place_failures begun done
 
 -- The command of a line ended over files of which nothing is known, and this is told of it. Inputs were made for its
--- paths, each once and in the order of the words, and for no other. OUT has the path of the line, unless an input's file is there. Where a text was put in place, the calls for OUT are those by which it was put
--- at that path; where none was, those by which nothing is left, with the bytes that the draft took; and where the draft
--- took none and did not fail there are none.
+-- paths, each once and in the order of the words, and for no other. OUT has the path of the line, unless an input's
+-- file is there. Where a text was put in place, the calls for OUT are those by which it was put at that path; where
+-- none was, those by which nothing is left, with the bytes that the draft took; and where the draft took none and did
+-- not fail there are none.
 pub record IsCarriedOut {S D T : Type 0} (calls : Calls S D T) (line : Line) (report : Writer)
     (told : Result Status Failure) : Type 0 where
   pub path : Option Text

@@ -17,7 +17,8 @@ use command_line::Line;
 use memory::Heap;
 
 /// Carries out a line over inputs with its paths, in the order of the words. Each is opened with the first call for its
-/// bytes, so where it cannot be opened its command is refused as where it cannot be read, and that is told as what it is.
+/// bytes, so where it cannot be opened its command is refused as where it cannot be read, and that is told as what it
+/// is.
 pub fn execute_on<A: Archive + Drop, L: Archive + Drop, D: Disk, T: Target, P: Sink>(
     heap: Heap,
     inputs: &mut [Result<AtTurn<'_, D>, CannotOpen>],

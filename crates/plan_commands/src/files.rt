@@ -81,8 +81,8 @@ fn told(ended: Result<Status, CommandFault>, fault: Option<OutFault>) -> Result<
 }
 
 /// Carries out a line over files of the system, whose report goes to `report`. Each input is opened at its turn, and
-/// closed at its end; OUT's draft is created with its first bytes, put in place when it is whole, and removed where it was
-/// not. No line without OUT has any. What was seen of the file that it failed at is in `seen`.
+/// closed at its end; OUT's draft is created with its first bytes, put in place when it is whole, and removed where it
+/// was not. No line without OUT has any. What was seen of the file that it failed at is in `seen`.
 pub fn execute<'f, F: Files, P: Sink>(
     files: &mut SystemFiles<'f, F>,
     line: &Line,

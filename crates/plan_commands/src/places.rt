@@ -38,7 +38,8 @@ fn input_of(line: &Line, kind: Kind, number: u64) -> Option<(usize, &str)>
     None
 }
 
-/// The input that is reported by this place: its number among all, where they are so many that each has one, and its path.
+/// The input that is reported by this place: its number among all, where they are so few that each has one, and its
+/// path.
 pub fn input_at(line: &Line, place: Place) -> Option<(usize, &str)>
     ensures path { option_map (λ at. at.1.now) result ≡ path_at (line_view line.now) place }
     ensures number { length (inputs_of (line_view line.now)) < 2 ^ 64

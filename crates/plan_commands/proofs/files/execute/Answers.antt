@@ -1,15 +1,18 @@
-use Rattle.std.proofs.Common.{◌≡◌, ◌∙◌, ℕ, List, [], ◌++◌, Some, None, Err, refl, ap, inl, inr, option_map, string_bytes, subst, sym, append-nil}
+use Rattle.std.proofs.Common.{◌≡◌, ◌∙◌, ℕ, List, [], ◌++◌, Some, None, Err, refl, ap, inl, inr, option_map}
+use Rattle.std.proofs.Common.{string_bytes, subst, sym, append-nil}
 use mathlib.Core.Logic.{∥∥₁_map}
 use Rattle.std.proofs.lemmas.Result.{err_from_is_err_and}
 use Rattle.std.specs.Io.KnownBytes.{Appends}
 use Rattle.std.proofs.KnownBytes.{Appends-nil}
 use Rattle.archive_files.specs.FileCalls.{FileCall, bytes_in}
-use Rattle.archive_files.specs.OutFiles.{draft_account, has_calls, is_settled, placed_account, placing_calls, Untouched, stage_of}
+use Rattle.archive_files.specs.OutFiles.{draft_account, has_calls, is_settled, placed_account, placing_calls, Untouched}
+use Rattle.archive_files.specs.OutFiles.{stage_of}
 use Rattle.archive_files.specs.Placing.{IsPlaced, IsRemoved, account, place}
 use Rattle.command_line.specs.LineView.{line_view}
 use Rattle.command_line.specs.Lines.{inputs_of}
 use Rattle.plan_commands.specs.Files.{command_fault_of}
-use Rattle.plan_commands.proofs.OutPlaces.{draft_took, first_from, none_asked, nothing_taken, nothing_there, placed_there, settled_of, settled_without_calls}
+use Rattle.plan_commands.proofs.OutPlaces.{draft_took, first_from, none_asked, nothing_taken, nothing_there}
+use Rattle.plan_commands.proofs.OutPlaces.{placed_there, settled_of, settled_without_calls}
 use Rattle.plan_commands.proofs.Outcomes.{carried_outcome}
 use Rattle.plan_commands.proofs.Saying.{none_called}
 use Rattle.plan_commands.proofs.files.execute.Goals as goal
@@ -108,7 +111,8 @@ returns g c =
           );
       removed = λ not.
           let is = took not.bytes not.took in
-          let gone : placing_calls done.target.placed ≡ [] = nothing_there done.target.placed (not.kept ∙ none_before) in
+          let gone : placing_calls done.target.placed ≡ [] =
+          nothing_there done.target.placed (not.kept ∙ none_before) in
           let called : placing_calls done.target.placed ++ last.calls.entries ≡ last.calls.entries =
           ap (λ calls. calls ++ last.calls.entries) gone in (
             ∥∥₁_map c.discard.ensures.removed (λ removed. subst (λ calls. IsRemoved path calls) (sym called)

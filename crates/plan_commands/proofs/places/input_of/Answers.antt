@@ -1,4 +1,5 @@
-use Rattle.std.proofs.Common.{◌≡◌, ◌∙◌, ◌+◌, ◌-◌, ◌<◌, ◌≤◌, ◌^◌, ap, inl, inr, length, map, min, string_bytes, subst, sym}
+use Rattle.std.proofs.Common.{◌≡◌, ◌∙◌, ◌+◌, ◌-◌, ◌<◌, ◌≤◌, ◌^◌, ap, inl, inr, length, map, min, string_bytes, subst}
+use Rattle.std.proofs.Common.{sym}
 use Rattle.std.proofs.lemmas.List.{length-map}
 use Rattle.std.specs.Prelude.{slice_get}
 use Rattle.command_line.specs.Arguments.{reads_kind}
@@ -33,7 +34,7 @@ arguments-preserved-then-is_input c =
     sym (length-map c.texts-paths.result.now string_bytes) ∙ ap length c.texts-paths.ensures in
     let left : Left c.args.kind a v c.arguments.left c.if-is_input_of.left =
     elim c.if-is_input_of.branch [
-      then-is_input_of+in_default w ↦ inl (
+      | then-is_input_of+in_default w ↦ inl (
         sym w.if-is_input_of.ensures,
         subst (λ l. l ≤ c.arguments.left) many w.in_default.ensures.lookup.3,
         w.left-is ∙ ap (λ l. c.arguments.left - l) many,
