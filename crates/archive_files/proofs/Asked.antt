@@ -5,8 +5,9 @@ use Rattle.std.proofs.lemmas.List.{map_more, take-map}
 use Rattle.std.specs.List.{AllZip}
 use Rattle.byte_device.specs.Disks.{FileAt, Path}
 use Rattle.byte_device.specs.declared.Source.{Ghosts as Sources}
-use Rattle.byte_device.specs.declared.disks.Disk.{Ghosts as Disks}
+use Rattle.placed_bytes.specs.declared.Placed.{Ghosts as Places}
 use Rattle.archive_files.specs.AtTurns.{told_by}
+use Rattle.archive_files.specs.declared.disks.Disk.{Ghosts as Disks}
 use Rattle.archive_files.specs.declared.at_turn.AtTurn.{AtTurn}
 use Rattle.archive_files.specs.Turns.{AreFirstAsked, IsWaiting, Open, Unopened, Waiting, bytes_at, left_in, stage_of}
 use Rattle.archive_files.specs.declared.at_turn.Turn.{Turn}
@@ -42,10 +43,14 @@ pub first_asked : {X : Type 0} (f : X → List ℕ) (xs : List X) (i : ℕ) (fir
 first_asked f xs i first last is = (i, is ∙ ap (λ more. first ++ more) (sym (take-map f i xs)))
 
 -- an input that waits has what its file gives
-waits_for : {I : Type 0} (left : I → Option (List ℕ)) (file : FileAt) (t : Turn I) → stage_of t ≡ Waiting
+waits_for : {I P : Type 0} (left : I → Option (List ℕ)) (file : FileAt) (t : Turn I P) → stage_of t ≡ Waiting
     → left_in left file t ≡ bytes_at file
 waits_for left file turn.Waiting is = refl
 waits_for left file (turn.Open input) is = absurd (apart is)
+  where
+    apart : Open ≡ Waiting → ⊥
+    apart e = cc
+waits_for left file (turn.Placed places) is = absurd (apart is)
   where
     apart : Open ≡ Waiting → ⊥
     apart e = cc
@@ -55,11 +60,13 @@ waits_for left file (turn.Unopened why) is = absurd (apart is)
     apart e = cc
 
 -- and it waits
-pub is_waiting : {D I : Type 0} (disk : Disks D I) (input : Sources I) (s : AtTurn D I disk input) (path : Path)
-    → s.path.now ≡ path → stage_of s.turn ≡ Waiting → s.failures ≡ 0 → IsWaiting (told_by disk input) path s
-is_waiting disk input s path is waits unfailed = record {
+pub is_waiting : {D I P : Type 0} (disk : Disks D I P) (input : Sources I) (places : Places P)
+    (s : AtTurn D I P disk input places) (path : Path) → s.path.now ≡ path → stage_of s.turn ≡ Waiting
+    → s.failures ≡ 0 → IsWaiting (told_by disk input places) path s
+is_waiting disk input places s path is waits unfailed = record {
   path_is = is;
   waits = waits;
   unfailed = unfailed;
   bytes = waits_for input.left (disk.file_at s.disk s.path.now) s.turn waits;
+  all = refl;
 }

@@ -1,3 +1,4 @@
 pub mod Accounts
 pub mod Placings
 pub mod Asked
+mod PlacesHeld

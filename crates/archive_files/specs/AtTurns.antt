@@ -1,13 +1,16 @@
 -- What is told of an input that is opened at its turn.
 use Rattle.byte_device.specs.declared.Source.{Ghosts as Sources}
-use Rattle.byte_device.specs.declared.disks.Disk.{Ghosts as Disks}
-use Rattle.archive_files.specs.Turns.{Told, left_in, stage_of}
+use Rattle.placed_bytes.specs.declared.Placed.{Ghosts as Places}
+use Rattle.archive_files.specs.Turns.{Told, bytes_at, left_in, stage_of}
+use Rattle.archive_files.specs.declared.disks.Disk.{Ghosts as Disks}
 use Rattle.archive_files.specs.declared.at_turn.AtTurn.{AtTurn}
 
 -- this is told of one of such a disk, whose files are such
-abbrev pub told_by : {D I : Type 0} (disk : Disks D I) (input : Sources I) → Told (AtTurn D I disk input)
-told_by disk input = record {
+abbrev pub told_by : {D I P : Type 0} (disk : Disks D I P) (input : Sources I) (places : Places P)
+    → Told (AtTurn D I P disk input places)
+told_by disk input places = record {
   left = λ s. left_in input.left (disk.file_at s.disk s.path.now) s.turn;
+  whole = λ s. bytes_at (disk.file_at s.disk s.path.now);
   failures = λ s. s.failures;
   path = λ s. s.path.now;
   file = λ s. disk.file_at s.disk s.path.now;
@@ -16,5 +19,6 @@ told_by disk input = record {
 }
 
 -- the same
-abbrev pub told : {D I : Type 0} {disk : Disks D I} {input : Sources I} → Told (AtTurn D I disk input)
-told {disk = disk} {input = input} = told_by disk input
+abbrev pub told : {D I P : Type 0} {disk : Disks D I P} {input : Sources I} {places : Places P}
+    → Told (AtTurn D I P disk input places)
+told {disk = disk} {input = input} {places = places} = told_by disk input places

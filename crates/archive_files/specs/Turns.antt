@@ -1,6 +1,6 @@
 -- An input that is opened at its turn.
 use Rattle.std.specs.Prelude.{◌≡◌, ◌≢◌, ℕ, List, [], ◌∷◌, ◌++◌, take, Option, Some, None, Result, Ok, Err}
-use Rattle.std.specs.Prelude.{MatchResult, ⊤}
+use Rattle.std.specs.Prelude.{IfSome, MatchResult, ⊤}
 use Rattle.std.specs.List.{AllByRecursion, AllZip}
 use Rattle.std.specs.IoError.{error_kind}
 use Rattle.std.specs.declared.io.ErrorKind.TheVariants.{OutOfMemory}
@@ -17,9 +17,10 @@ pub data Stage : Type 0 where
   Open : Stage
   Unopened : Reason → Stage
 
-abbrev pub stage_of : {I : Type 0} → Turn I → Stage
+abbrev pub stage_of : {I P : Type 0} → Turn I P → Stage
 stage_of turn.Waiting = Waiting
 stage_of (turn.Open input) = Open
+stage_of (turn.Placed places) = Open
 stage_of (turn.Unopened reason) = Unopened reason
 
 -- why it was not opened, if its turn came and it was not
@@ -43,18 +44,40 @@ bytes_at Missing = Some (256 ∷ [])
 bytes_at (Holding bytes) = Some bytes
 
 -- the bytes that an input has left, of whose file this is known
-abbrev pub left_in : {I : Type 0} → (I → Option (List ℕ)) → FileAt → Turn I → Option (List ℕ)
+abbrev pub left_in : {I P : Type 0} → (I → Option (List ℕ)) → FileAt → Turn I P → Option (List ℕ)
 left_in left file turn.Waiting = bytes_at file
 left_in left file (turn.Open input) = left input
+left_in left file (turn.Placed places) = bytes_at file
 left_in left file (turn.Unopened reason) = bytes_at file
 
+-- the file of an input that is read from any place
+abbrev pub places_in : {I P : Type 0} → Turn I P → Option P
+places_in turn.Waiting = None
+places_in (turn.Open input) = None
+places_in (turn.Placed places) = Some places
+places_in (turn.Unopened reason) = None
+
+-- It has the bytes of the file, where these are known.
+abbrev pub HoldsFile : {I P : Type 0} → (P → Option (List ℕ)) → FileAt → Turn I P → Type 0
+HoldsFile whole file turn = IfSome (places_in turn) (λ places. IfSome (bytes_at file) (λ bytes. whole places ≡ Some bytes))
+
 -- The input is what opening such a file gives, or there was no memory to open it.
-abbrev pub GivesTurn : {I : Type 0} → (I → Option (List ℕ)) → (I → ℕ) → (I → List Path) → FileAt → Turn I → Type 0
+abbrev pub GivesTurn : {I P : Type 0} → (I → Option (List ℕ)) → (I → ℕ) → (I → List Path) → FileAt → Turn I P → Type 0
 GivesTurn left failures path_of file turn.Waiting = ⊥
 GivesTurn left failures path_of file (turn.Open input) = IsOpened left failures path_of file (Ok input)
+GivesTurn left failures path_of file (turn.Placed places) = ⊥
 GivesTurn left failures path_of file (turn.Unopened (why.Refused refused)) =
     IsOpened left failures path_of file (Err refused)
 GivesTurn left failures path_of file (turn.Unopened why.OutOfMemory) = ⊤
+
+-- The same of one that is opened to be read from any place.
+abbrev pub GivesPlaces : {I P : Type 0} → (P → Option (List ℕ)) → (P → ℕ) → (P → List Path) → FileAt → Turn I P → Type 0
+GivesPlaces whole failures place_of file turn.Waiting = ⊥
+GivesPlaces whole failures place_of file (turn.Open input) = ⊥
+GivesPlaces whole failures place_of file (turn.Placed places) = IsOpened whole failures place_of file (Ok places)
+GivesPlaces whole failures place_of file (turn.Unopened (why.Refused refused)) =
+    IsOpened whole failures place_of file (Err refused)
+GivesPlaces whole failures place_of file (turn.Unopened why.OutOfMemory) = ⊤
 
 -- An input may be so far, of whose file this is known: what is not there is not open; what is known to be there is not
 -- refused, nor is another for want of memory.
@@ -64,10 +87,11 @@ IsTurnOf (Holding bytes) (Unopened (why.Refused refused)) = ⊥
 IsTurnOf (At path) (Unopened (why.Refused refused)) = error_kind refused.reason ≢ OutOfMemory
 IsTurnOf _ _ = ⊤
 
--- What is told of inputs: what each has left and how often it failed, its path, what is known of its file, how far it
+-- What is told of inputs: what each has left, all its bytes, and how often it failed, its path, what is known of its file, how far it
 -- is, and which paths were opened for it, where that is known.
 pub record Told (S : Type 0) : Type 0 where
   pub left : S → Option (List ℕ)
+  pub whole : S → Option (List ℕ)
   pub failures : S → ℕ
   pub path : S → Path
   pub file : S → FileAt
@@ -80,6 +104,7 @@ pub record IsWaiting {S : Type 0} (told : Told S) (path : Path) (input : S) : Ty
   pub waits : told.stage input ≡ Waiting
   pub unfailed : told.failures input ≡ 0
   pub bytes : told.left input ≡ bytes_at (told.file input)
+  pub all : told.whole input ≡ bytes_at (told.file input)
 
 -- Of an input no other path is opened than its own, and that once, at its turn; and where it is not opened it fails.
 pub record IsAtTurn {S : Type 0} (told : Told S) (input : S) : Type 0 where

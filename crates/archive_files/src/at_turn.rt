@@ -1,21 +1,28 @@
-//! An input that is opened at its turn: with the first call for its bytes.
+//! An input that is opened at its turn: with the first call for its bytes, be it for those that come next, or for some
+//! from a place.
 
+ghost use Rattle.std.proofs.Props.{props};
 ghost use Rattle.std.specs.Prelude.{◌≡◌, ◌≢◌, ◌≤◌, List, ◌∷◌, [], Some, None, IfOk, OnOk, length};
 ghost use Rattle.std.specs.Io.KnownBytes.{ReadConsumes};
 ghost use Rattle.byte_device.specs.Disks.{FileAt, Path, opened_with};
-ghost use Rattle.archive_files.specs.Turns.{GivesTurn, IsTurnOf, Open, Waiting};
+ghost use Rattle.placed_bytes.specs.Places.{HasSize, TakenAt};
+ghost use Rattle.archive_files.specs.Turns.{GivesPlaces, GivesTurn, HoldsFile, IsTurnOf, Open, Waiting, bytes_at};
 ghost use Rattle.archive_files.specs.Turns.{left_in, opened_in, stage_of, unopened_in};
 
-use byte_device::{CannotOpen, Disk, Failed, Source};
+use crate::disks::Disk;
+use byte_device::{CannotOpen, Failed, Source};
 use memory::NoMemory;
+use placed_bytes::Placed;
 
 /// How far an input is.
 #[derive(Drop)]
-enum Turn<I> {
+enum Turn<I, P> {
     /// No byte was asked for.
     Waiting,
-    /// It was opened.
+    /// It was opened, and is read from its start.
     Open(I),
+    /// It was opened, and is read from any place.
+    Placed(P),
     /// It was not, for this reason.
     Unopened(Unopened),
 }
@@ -33,12 +40,14 @@ pub enum Unopened {
 pub struct AtTurn<'l, D: Disk> {
     disk: D,
     path: &'l str,
-    turn: Turn<D::Input>,
+    turn: Turn<D::Input, D::Places>,
     failures: u64,
     // The disk, which is its own, opened its path, once, or nothing while no byte was asked for.
     ghost log: { (paths : List Path) → D.opened disk ≡ Some paths → paths ≡ opened_in (stage_of turn) path.now },
     // What is not there is not open, and what is known to be there is not refused.
     ghost fits: { ∥ IsTurnOf (D.file_at disk path.now) (stage_of turn) ∥₁ },
+    // One that is read from any place has the bytes of the file, where these are known.
+    ghost holds: { HoldsFile D.Places.whole (D.file_at disk path.now) turn } by { Prim.hlevel props },
     // One that was not opened failed.
     ghost failed: { unopened_in (stage_of turn) ≢ None → failures ≢ 0 },
 }
@@ -65,22 +74,30 @@ impl<'l, D: Disk> AtTurn<'l, D> {
         ensures { result ≡ unopened_in (stage_of self.now.turn) }
     {
         match &self.turn {
-            Turn::Waiting | Turn::Open(_) => None,
+            Turn::Waiting | Turn::Open(_) | Turn::Placed(_) => None,
             Turn::Unopened(why) => Some(*why),
         }
     }
 
-    /// The file, if it was opened.
+    /// The file, if it was opened to be read from its start.
     pub fn input(&self) -> Option<&D::Input> {
         match &self.turn {
             Turn::Open(input) => Some(input),
-            Turn::Waiting | Turn::Unopened(_) => None,
+            Turn::Waiting | Turn::Placed(_) | Turn::Unopened(_) => None,
+        }
+    }
+
+    /// The file, if it was opened to be read from any place.
+    pub fn places(&self) -> Option<&D::Places> {
+        match &self.turn {
+            Turn::Placed(places) => Some(places),
+            Turn::Waiting | Turn::Open(_) | Turn::Unopened(_) => None,
         }
     }
 }
 
 /// Opens the file at a path.
-fn open<D: Disk>(disk: &mut D, path: &str) -> Turn<D::Input>
+fn open<D: Disk>(disk: &mut D, path: &str) -> Turn<D::Input, D::Places>
     ensures turn { GivesTurn D.Input.left D.Input.failures D.path_of (D.file_at disk.old path.now) result }
     ensures files { D.file_at disk.new ≡ D.file_at disk.old }
     ensures opened { D.opened disk.new ≡ opened_with (D.opened disk.old) (path.now ∷ []) }
@@ -92,12 +109,27 @@ fn open<D: Disk>(disk: &mut D, path: &str) -> Turn<D::Input>
     }
 }
 
+/// Opens the file at a path, to be read from any place.
+fn open_places<D: Disk>(disk: &mut D, path: &str) -> Turn<D::Input, D::Places>
+    ensures turn { GivesPlaces D.Places.whole D.Places.failures D.place_of (D.file_at disk.old path.now) result }
+    ensures files { D.file_at disk.new ≡ D.file_at disk.old }
+    ensures opened { D.opened disk.new ≡ opened_with (D.opened disk.old) (path.now ∷ []) }
+{
+    match disk.open_places(path) {
+        Ok(Ok(places)) => Turn::Placed(places),
+        Ok(Err(refused)) => Turn::Unopened(Unopened::Refused(refused)),
+        Err(NoMemory) => Turn::Unopened(Unopened::OutOfMemory),
+    }
+}
+
 /// Opens the file of an input that waits.
-fn begin<D: Disk>(disk: &mut D, path: &str, turn: &mut Turn<D::Input>)
+fn begin<D: Disk>(disk: &mut D, path: &str, turn: &mut Turn<D::Input, D::Places>)
     ensures files { D.file_at disk.new ≡ D.file_at disk.old }
     ensures waited { stage_of turn.old ≡ Waiting
         → (D.opened disk.new ≡ opened_with (D.opened disk.old) (path.now ∷ []))
         × GivesTurn D.Input.left D.Input.failures D.path_of (D.file_at disk.old path.now) turn.new }
+    ensures holds { HoldsFile D.Places.whole (D.file_at disk.old path.now) turn.old
+        → HoldsFile D.Places.whole (D.file_at disk.old path.now) turn.new }
     ensures came { stage_of turn.old ≢ Waiting
         → (D.opened disk.new ≡ D.opened disk.old) × (turn.new ≡ turn.old) }
 {
@@ -106,17 +138,68 @@ fn begin<D: Disk>(disk: &mut D, path: &str, turn: &mut Turn<D::Input>)
     }
 }
 
+/// Opens the file of an input that waits, to be read from any place.
+fn begin_places<D: Disk>(disk: &mut D, path: &str, turn: &mut Turn<D::Input, D::Places>)
+    ensures files { D.file_at disk.new ≡ D.file_at disk.old }
+    ensures waited { stage_of turn.old ≡ Waiting
+        → (D.opened disk.new ≡ opened_with (D.opened disk.old) (path.now ∷ []))
+        × GivesPlaces D.Places.whole D.Places.failures D.place_of (D.file_at disk.old path.now) turn.new }
+    ensures holds { HoldsFile D.Places.whole (D.file_at disk.old path.now) turn.old
+        → HoldsFile D.Places.whole (D.file_at disk.old path.now) turn.new }
+    ensures came { stage_of turn.old ≢ Waiting
+        → (D.opened disk.new ≡ D.opened disk.old) × (turn.new ≡ turn.old) }
+{
+    if let Turn::Waiting = turn {
+        *turn = open_places(disk, path);
+    }
+}
+
 /// Takes bytes of an input that is open; another one fails.
-fn pull_open<I: Source>(turn: &mut Turn<I>, buf: &mut [u8]) -> Result<usize, Failed>
+fn pull_open<I: Source, P: Placed>(turn: &mut Turn<I, P>, buf: &mut [u8]) -> Result<usize, Failed>
     ensures bound { IfOk result (λ n. n ≤ length buf.new) }
     ensures stage { stage_of turn.new ≡ stage_of turn.old }
     ensures bytes { (file : FileAt)
         → ReadConsumes (left_in I.left file turn.old) (left_in I.left file turn.new) result buf.new }
+    ensures holds { (file : FileAt) → HoldsFile P.whole file turn.old → HoldsFile P.whole file turn.new }
     ensures open { OnOk result (stage_of turn.old ≡ Open) }
 {
     match turn {
         Turn::Open(input) => input.pull(buf),
-        Turn::Waiting | Turn::Unopened(_) => Err(Failed),
+        Turn::Waiting | Turn::Placed(_) | Turn::Unopened(_) => Err(Failed),
+    }
+}
+
+/// Takes bytes from a place of an input that is open for that; another one fails.
+#[tactic(auto, using(crate::proofs::PlacesHeld::held_taken))]
+fn take_open<I: Source, P: Placed>(
+    turn: &mut Turn<I, P>,
+    at: u64,
+    buf: &mut [u8],
+) -> Result<usize, Failed>
+    ensures bound { IfOk result (λ n. n ≤ length buf.new) }
+    ensures stage { stage_of turn.new ≡ stage_of turn.old }
+    ensures bytes { (file : FileAt) → HoldsFile P.whole file turn.old
+        → HoldsFile P.whole file turn.new × IfOk result (λ n. TakenAt (bytes_at file) at n buf.new) }
+    ensures left { (file : FileAt) → left_in I.left file turn.new ≡ left_in I.left file turn.old }
+    ensures open { OnOk result (stage_of turn.old ≡ Open) }
+{
+    match turn {
+        Turn::Placed(places) => places.take_at(at, buf),
+        Turn::Waiting | Turn::Open(_) | Turn::Unopened(_) => Err(Failed),
+    }
+}
+
+/// How many bytes an input has that is open for that; another one fails.
+#[tactic(auto, using(crate::proofs::PlacesHeld::held_size))]
+fn size_open<I: Source, P: Placed>(turn: &mut Turn<I, P>) -> Result<u64, Failed>
+    ensures stage { stage_of turn.new ≡ stage_of turn.old }
+    ensures size { (file : FileAt) → HoldsFile P.whole file turn.old
+        → HoldsFile P.whole file turn.new × IfOk result (λ size. HasSize (bytes_at file) size) }
+    ensures open { OnOk result (stage_of turn.old ≡ Open) }
+{
+    match turn {
+        Turn::Placed(places) => places.size(),
+        Turn::Waiting | Turn::Open(_) | Turn::Unopened(_) => Err(Failed),
     }
 }
 
@@ -132,6 +215,40 @@ impl<'l, D: Disk> Source for AtTurn<'l, D> {
         begin(&mut self.disk, self.path, &mut self.turn);
         match pull_open(&mut self.turn, buf) {
             Ok(n) => Ok(n),
+            Err(Failed) => {
+                self.failures += 1;
+                Err(Failed)
+            }
+        }
+    }
+}
+
+impl<'l, D: Disk> Placed for AtTurn<'l, D> {
+    ghost whole = { λ s. bytes_at (D.file_at s.disk s.path.now) };
+
+    ghost failures = { λ s. s.failures };
+
+    fn take_at(&mut self, at: u64, buf: &mut [u8]) -> Result<usize, Failed> {
+        if self.failures == u64::MAX {
+            return Err(Failed);
+        }
+        begin_places(&mut self.disk, self.path, &mut self.turn);
+        match take_open(&mut self.turn, at, buf) {
+            Ok(n) => Ok(n),
+            Err(Failed) => {
+                self.failures += 1;
+                Err(Failed)
+            }
+        }
+    }
+
+    fn size(&mut self) -> Result<u64, Failed> {
+        if self.failures == u64::MAX {
+            return Err(Failed);
+        }
+        begin_places(&mut self.disk, self.path, &mut self.turn);
+        match size_open(&mut self.turn) {
+            Ok(size) => Ok(size),
             Err(Failed) => {
                 self.failures += 1;
                 Err(Failed)

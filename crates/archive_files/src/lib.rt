@@ -2,8 +2,8 @@
 //!
 //! - `call_log`: a list of calls that only clauses read;
 //! - `file_calls`: the same, of the calls for one output;
-//! - `opened_file`: a file that is read;
-//! - `system_disk`: a file by its path;
+//! - `opened_file`: a file that is read from its start; `placed_file`: one that is read from any place;
+//! - `disks`: [`Disk`], files by their paths; `system_disk`: those of the system;
 //! - `at_turn`: an input that is opened at its turn;
 //! - `inputs`: the inputs of a command;
 //! - `identities`: which file a path names;
@@ -18,6 +18,7 @@
 
 mod at_turn;
 mod call_log;
+mod disks;
 mod drafts;
 mod file_calls;
 mod identities;
@@ -27,15 +28,18 @@ mod opened_file;
 mod out_file;
 mod out_path;
 mod placed;
+mod placed_file;
 mod replaceable;
 mod system_disk;
 mod system_files;
 
 pub use at_turn::{AtTurn, Unopened};
+pub use disks::Disk;
 pub use inputs::SystemInput;
 pub use opened_file::{Front, OpenedFile};
 pub use out_file::OutFile;
 pub use out_path::OutPath;
+pub use placed_file::PlacedFile;
 pub use replaceable::{Obstacle, OutFault, Replaces};
 pub use system_disk::SystemDisk;
 pub use system_files::SystemFiles;

@@ -4,8 +4,10 @@ ghost use Rattle.std.specs.Prelude.{◌≡◌, ◌≢◌, Err, IsErr, Ok};
 ghost use Rattle.std.specs.IoError.{error_kind};
 
 use crate::call_log::CallLog;
+use crate::disks::Disk;
 use crate::opened_file::OpenedFile;
-use byte_device::{CannotOpen, Disk};
+use crate::placed_file::PlacedFile;
+use byte_device::CannotOpen;
 use memory::NoMemory;
 use std::alloc::Global;
 use std::fs;
@@ -56,9 +58,13 @@ impl<'a, F: Files> Disk for SystemDisk<'a, F> {
 
     type Input = OpenedFile<BufReader<F::File>>;
 
+    type Places = PlacedFile<F::File>;
+
     ghost file_at = { λ _ path. At path };
 
     ghost path_of = { λ file. file.at.entries };
+
+    ghost place_of = { λ file. file.at.entries };
 
     ghost opened = { λ disk. Some disk.opened.entries };
 
@@ -70,6 +76,14 @@ impl<'a, F: Files> Disk for SystemDisk<'a, F> {
         };
         match BufReader::with_capacity(self.alloc, PIECE, file) {
             Ok(reader) => Ok(Ok(OpenedFile::new(reader, path))),
+            Err(reason) => unopened(reason),
+        }
+    }
+
+    fn open_places(&mut self, path: &str) -> Result<Result<Self::Places, CannotOpen>, NoMemory> {
+        self.opened.note(path.as_bytes());
+        match fs::open(self.files, path) {
+            Ok(file) => Ok(Ok(PlacedFile::new(file, path))),
             Err(reason) => unopened(reason),
         }
     }

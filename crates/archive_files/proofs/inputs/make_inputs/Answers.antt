@@ -9,7 +9,7 @@ paths-preserved g c =
           (c.note.ensures ∙ ap (λ e. c.paths.asked.entries ++ e ∷ []) c.as_bytes.ensures.value),
       inputs_more _ (λ p. p.now) c.args.paths.now c.paths.path-index c.paths.inputs.items c.push.new.self.items _ _
           c.paths-test.true c.in_ok-push.ensures.items before.1
-          (is_waiting _ _ c.new-in-paths.result _ c.new-in-paths.ensures.path c.new-in-paths.ensures.waiting
+          (is_waiting _ _ _ c.new-in-paths.result _ c.new-in-paths.ensures.path c.new-in-paths.ensures.waiting
           c.new-in-paths.ensures.unfailed),
     )
 

@@ -1,0 +1,49 @@
+//! A file of the system that was opened to be read from any place.
+
+ghost use Rattle.std.specs.Prelude.{◌≡◌, ◌∷◌, []};
+
+use crate::call_log::CallLog;
+use byte_device::Failed;
+use placed_bytes::{Placed, Placing};
+use std::io::{self, Read, Seek};
+
+/// The file that was opened at a path. It stays open.
+#[derive(Drop)]
+pub struct PlacedFile<R> {
+    placing: Placing<R>,
+    // Its path, which only clauses read.
+    at: CallLog,
+}
+
+impl<R: Read + Seek + Drop> PlacedFile<R> {
+    /// The file of this reader, which was opened at this path.
+    pub fn new(reader: R, path: &str) -> Self
+        ensures { result.at.entries ≡ path.now ∷ [] }
+    {
+        let mut at = CallLog::new();
+        at.note(path.as_bytes());
+        PlacedFile {
+            placing: Placing::new(reader),
+            at,
+        }
+    }
+
+    /// Why it could not be read, if it could not.
+    pub fn reason(&self) -> Option<io::Error> {
+        self.placing.reason()
+    }
+}
+
+impl<R: Read + Seek + Drop> Placed for PlacedFile<R> {
+    ghost whole = { λ file. ⟦<Placing<R> as Placed>⟧.whole file.placing };
+
+    ghost failures = { λ file. ⟦<Placing<R> as Placed>⟧.failures file.placing };
+
+    fn take_at(&mut self, at: u64, buf: &mut [u8]) -> Result<usize, Failed> {
+        self.placing.take_at(at, buf)
+    }
+
+    fn size(&mut self) -> Result<u64, Failed> {
+        self.placing.size()
+    }
+}
