@@ -1,7 +1,7 @@
 -- What is in place of OUT, by what is known of it.
-use Rattle.std.proofs.Common.{◌≡◌, ◌∙◌, ◌⊎◌, ℕ, ◌==◌, ◌&&◌, Bool, true, false, List, [], ◌∷◌, ◌++◌, length, take, drop}
+use Rattle.std.proofs.Common.{◌≡◌, ◌∙◌, ℕ, Bool, true, false, List, [], ◌∷◌, ◌++◌, length, take, drop}
 use Rattle.std.proofs.Common.{get_or, suc}
-use Rattle.std.proofs.Common.{Option, Some, None, Result, OnOk, refl, ap, sym, subst, inl, inr, append_assoc}
+use Rattle.std.proofs.Common.{Option, Some, None, Result, OnOk, refl, ap, sym, subst, inl, inr}
 use Rattle.std.proofs.Common.{append-nil, arith, string_bytes}
 use Rattle.std.proofs.lemmas.List.{append_cancel_left}
 use Rattle.std.proofs.Math.Seq.{take-append_seam}

@@ -1,5 +1,5 @@
 -- What is put in OUT's place in a command, however it ends.
-use Rattle.std.proofs.Common.{◌≡◌, ◌∙◌, ◌⊎◌, ℕ, List, [], ◌∷◌, length, take, Option, Some, None, Result, Ok, Err, refl}
+use Rattle.std.proofs.Common.{◌≡◌, ℕ, List, [], length, take, Option, Some, None, Result, Ok, Err, refl}
 use Rattle.std.proofs.Common.{ap, sym, subst, inl, inr, arith, length-take-le}
 use Rattle.std.proofs.KnownBytes.{Appends-nil}
 use Rattle.std.specs.FinSet as set
@@ -24,7 +24,7 @@ use Rattle.command_ends.specs.declared.faults.Why.TheVariants.{CannotOpen as Not
 use Rattle.plan_commands.specs.Disks.{Carried, Tells, fault_at, unopened_of}
 use Rattle.plan_commands.specs.Plans.{Deed, EndsDeed, EndsQuery, answers, changes, deed_of, empties, none, streams}
 use Rattle.plan_commands.specs.Numbers.{number_at}
-use Rattle.plan_commands.specs.Files.{IsNotPut, IsOutcome, IsPut}
+use Rattle.plan_commands.specs.Files.{IsNotPut, IsOutcome}
 
 -- if OUT failed, this is told of it
 abbrev pub Counts : Result Status CommandFault → ℕ → Type 0

@@ -3,11 +3,10 @@ use Rattle.std.proofs.Common.{string_bytes, subst, sym, append-nil}
 use mathlib.Core.Logic.{∥∥₁_map}
 use Rattle.std.proofs.lemmas.Result.{err_from_is_err_and}
 use Rattle.std.specs.Io.KnownBytes.{Appends}
-use Rattle.std.proofs.KnownBytes.{Appends-nil}
-use Rattle.archive_files.specs.FileCalls.{FileCall, bytes_in}
-use Rattle.archive_files.specs.OutFiles.{draft_account, has_calls, is_settled, placed_account, placing_calls, Untouched}
+use Rattle.archive_files.specs.FileCalls.{bytes_in}
+use Rattle.archive_files.specs.OutFiles.{draft_account, is_settled, placed_account, placing_calls, Untouched}
 use Rattle.archive_files.specs.OutFiles.{stage_of}
-use Rattle.archive_files.specs.Placing.{IsPlaced, IsRemoved, account, place}
+use Rattle.archive_files.specs.Placing.{IsPlaced, IsRemoved, account}
 use Rattle.command_line.specs.LineView.{line_view}
 use Rattle.command_line.specs.Lines.{inputs_of}
 use Rattle.plan_commands.specs.Files.{command_fault_of}
