@@ -200,7 +200,7 @@ module _ (n : List ℕ → ℕ) where
   not_below [] sorted = tt
   not_below (x ∷ xs) sorted = (
     recursion_from_All (λ y. n x ≤ n y) xs (λ i d lt. no_less (n (get_or xs i d)) (n x) (sorted_far (λ a b. is_lt (nat_cmp (n a) (n b))) weak (x ∷ xs) sorted 0 (suc i) d (omega arith) (omega arith))),
-    not_below xs (λ k d low high. sorted (suc k) d (omega arith) (omega arith)),
+    not_below xs (λ k d low high. let next : suc k + 1 ≡ suc (k + 1) = omega arith in subst (λ (m : ℕ). is_lt (nat_cmp (n (get_or (x ∷ xs) m d)) (n (get_or (x ∷ xs) (suc k) d))) ≡ false) next (sorted (suc k) d (omega arith) (omega arith))),
   )
     where
       weak : IsStrictWeakOrder (λ a b. is_lt (nat_cmp (n a) (n b)))

@@ -1,7 +1,7 @@
 -- The rows of the index of a content are those of the content.
 use Rattle.std.proofs.Common.{◌≡◌, ℕ, ◌+◌, ◌<◌, ◌≤◌, ◌^◌, Bool, true, false, cond, ◌&&◌, List, [], ◌∷◌, ◌++◌, length, map, take, drop, get_or, refl, sym, ap, ◌∙◌, subst, inl, inr, arith, length-append, append_assoc}
 use Rattle.std.specs.Prelude.{All, filter, Contains}
-use Rattle.std.specs.Int.{w32, to_be_bytes}
+use Rattle.std.specs.Int.{w32, w64, to_be_bytes}
 use Rattle.std.specs.List.{AllByRecursion, AllZip, concat, list_any}
 use Rattle.std.specs.List.Sorted.{IsStrictlySortedBy}
 use Rattle.std.specs.Ordering.{eq_by_cmp, ordering_then}
@@ -90,11 +90,11 @@ unfolding placed_entry
 row_of_entry offset r row (inl a) keyed told =
     let s = a.slice in
     let e = ap entry a.is ∙ admission_entry s a.valid in
-    let tail = drop 57 (placed_entry offset r) in
-    let whole : placed_entry offset r ≡ (2 ∷ (key_bytes (key_of s) ++ sha256 s)) ++ _ = ap (λ (t : List ℕ). t ++ _) e in
+    let tail : List ℕ = kind_byte r ∷ (to_be_bytes w64 offset ++ to_be_bytes w64 (length r)) in
+    let whole : placed_entry offset r ≡ (2 ∷ (key_bytes (key_of s) ++ sha256 s)) ++ tail = ap (λ (t : List ℕ). t ++ tail) e in
     let key_long = length-key_of s a.valid in
-    let key : row.key ≡ key_of s = one_key row.key (key_of s) told.is_key (keyed s a.is) (told.key_is ∙ ap (λ (t : List ℕ). take 24 (drop 1 t)) whole ∙ key_there 2 (key_bytes (key_of s)) (sha256 s) _ key_long (length-sha256 s)) in
-    let digest : row.digest.0 ≡ sha256 s = told.digest_is ∙ ap (λ (t : List ℕ). take 32 (drop 25 t)) whole ∙ digest_there 2 (key_bytes (key_of s)) (sha256 s) _ key_long (length-sha256 s) in
+    let key : row.key ≡ key_of s = one_key row.key (key_of s) told.is_key (keyed s a.is) (told.key_is ∙ ap (λ (t : List ℕ). take 24 (drop 1 t)) whole ∙ key_there 2 (key_bytes (key_of s)) (sha256 s) tail key_long (length-sha256 s)) in
+    let digest : row.digest.0 ≡ sha256 s = told.digest_is ∙ ap (λ (t : List ℕ). take 32 (drop 25 t)) whole ∙ digest_there 2 (key_bytes (key_of s)) (sha256 s) tail key_long (length-sha256 s) in
     let tag : tag_byte row.state ≡ 2 = told.tag_is ∙ ap (λ (t : List ℕ). get_or t 0 0) whole in
     let kind : dsym_byte row.state ≡ cond (is_dsym_image s) 1 0 = told.kind_is ∙ kind_of offset r (inl a) ∙ ap kind_byte a.is ∙ ap (λ (t : List ℕ). cond (is_dsym_image t) 1 0) (slice_of s a.valid) in
     record {
@@ -106,10 +106,11 @@ row_of_entry offset r row (inl a) keyed told =
     }
 row_of_entry offset r row (inr b) keyed told =
     let e = ap entry b.is ∙ retirement_entry b.key b.digest in
-    let whole : placed_entry offset r ≡ (1 ∷ (key_bytes b.key ++ b.digest)) ++ _ = ap (λ (t : List ℕ). t ++ _) e in
+    let tail : List ℕ = kind_byte r ∷ (to_be_bytes w64 offset ++ to_be_bytes w64 (length r)) in
+    let whole : placed_entry offset r ≡ (1 ∷ (key_bytes b.key ++ b.digest)) ++ tail = ap (λ (t : List ℕ). t ++ tail) e in
     let key_long = length_key_bytes b.key b.is_key.uuid in
-    let key : row.key ≡ b.key = one_key row.key b.key told.is_key b.is_key (told.key_is ∙ ap (λ (t : List ℕ). take 24 (drop 1 t)) whole ∙ key_there 1 (key_bytes b.key) b.digest _ key_long b.long) in
-    let digest : row.digest.0 ≡ b.digest = told.digest_is ∙ ap (λ (t : List ℕ). take 32 (drop 25 t)) whole ∙ digest_there 1 (key_bytes b.key) b.digest _ key_long b.long in
+    let key : row.key ≡ b.key = one_key row.key b.key told.is_key b.is_key (told.key_is ∙ ap (λ (t : List ℕ). take 24 (drop 1 t)) whole ∙ key_there 1 (key_bytes b.key) b.digest tail key_long b.long) in
+    let digest : row.digest.0 ≡ b.digest = told.digest_is ∙ ap (λ (t : List ℕ). take 32 (drop 25 t)) whole ∙ digest_there 1 (key_bytes b.key) b.digest tail key_long b.long in
     let tag : tag_byte row.state ≡ 1 = told.tag_is ∙ ap (λ (t : List ℕ). get_or t 0 0) whole in
     record {
       operation = Retire b.key (record { 0 = b.digest });
@@ -282,8 +283,8 @@ module _ (o : Operations) (uuid : List ℕ) (long : length uuid ≡ 16) where
 
   still_ascending : (xs : List Operation) → AllByRecursion (λ y. (key_in y).uuid ≡ uuid) xs → IsStrictlySortedBy list_cmp xs → IsStrictlySortedBy find_cmp xs
   unfolding IsStrictlySortedBy
-  still_ascending [] us up = tt
-  still_ascending (x ∷ xs) us up = (each_less x xs us.0 us.1 up.0, still_ascending xs us.1 up.1)
+  still_ascending [] us less = tt
+  still_ascending (x ∷ xs) us less = (each_less x xs us.0 us.1 less.0, still_ascending xs us.1 less.1)
 
   all_along : (xs : List Operation) → ((a : Operation) → Contains xs a → (key_in a).uuid ≡ uuid) → AllByRecursion (λ y. (key_in y).uuid ≡ uuid) xs
   all_along [] h = tt

@@ -44,11 +44,14 @@ lent_from (Err e) lent is = absurd is
 
 pub has_yes : (whole : Option (List ℕ)) (s : Entries) → IfSome whole (λ text. IsTrue true ↔ HasIndexedLength s text) → IfSome whole (HasIndexedLength s)
 has_yes None s h = tt
-has_yes (Some text) s h = h.0 tt
+has_yes (Some text) s h = h.0 refl
 
 pub has_no : (whole : Option (List ℕ)) (s : Entries) → IfSome whole (λ text. IsTrue false ↔ HasIndexedLength s text) → IfSome whole (λ text. HasIndexedLength s text → ⊥)
 has_no None s h = tt
-has_no (Some text) s h = λ has. h.1 has
+has_no (Some text) s h = λ has. no_truth (h.1 has)
+  where
+    no_truth : false ≡ true → ⊥
+    no_truth e = cc
 
 -- ---- INDEX and its archive
 

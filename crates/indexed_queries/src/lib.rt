@@ -2,11 +2,13 @@
 //!
 //! - `inputs`: an index that is read, and the archive that it is of;
 //! - `rows`: the rows that an index tells; `summaries`: the summary that it tells;
-//! - `find`, `list`, `summary`: commands that read the index alone, and the archive's length.
+//! - `find`, `list`, `summary`: commands that read the index alone, and the archive's length;
+//! - [`laws`]: what they tell by the index of a content.
 #![tactic(auto)]
 
 mod find;
 mod inputs;
+pub mod laws;
 mod list;
 mod rows;
 mod summaries;

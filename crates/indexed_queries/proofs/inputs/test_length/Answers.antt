@@ -1,4 +1,3 @@
-use Rattle.std.proofs.Common.{refl}
 use Rattle.command_ends.proofs.Lent.{of_lent}
 use Rattle.indexed_queries.proofs.Refused.{has_yes}
 use Rattle.indexed_queries.proofs.inputs.test_length.Goals as goal
