@@ -215,7 +215,7 @@ front_same n offset r short is =
     ∙ entry_key n r short is
 
 -- an entry is under a front of a key as its record is
-under_same : (front : List ℕ) (offset : ℕ) (r : List ℕ) → length front ≤ 24 → IsRecord r → is_under front (placed_entry offset r) ≡ is_under front r
+pub under_same : (front : List ℕ) (offset : ℕ) (r : List ℕ) → length front ≤ 24 → IsRecord r → is_under front (placed_entry offset r) ≡ is_under front r
 unfolding is_under
 under_same front offset r short is = ap (bytes_eq front) (front_same (length front) offset r short is)
 

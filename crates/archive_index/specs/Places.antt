@@ -44,13 +44,20 @@ abbrev pub TellsFound : Operations → List (List ℕ) → Type 0
 TellsFound o records = (a b : List ℕ) → set.contains o (admission_record a) ≡ true
     → Contains records (admission_record b) → sha256 a ≡ sha256 b → a ≡ b
 
+-- each entry under the front before this one names a record of the text
+abbrev pub AreNamedBefore : List ℕ → List (List ℕ) → List ℕ → ℕ → Type 0
+AreNamedBefore front entries text k =
+    (j : ℕ) → j < k → is_under front (slice_index_or entries j []) ≡ true
+    → (r : List ℕ) × IsNamedBy text (slice_index_or entries j []) r
+
 -- Why a part is not read by its places: the text has another length than the index tells, or at the place of this entry
--- under the front, from 0 on among all, stands no record that it names.
+-- under the front, from 0 on among all, stands no record that it names, and it is the first such entry.
 abbrev pub IsStale : List ℕ → Entries → List ℕ → Option ℕ → Type 0
 IsStale front entries text None = HasIndexedLength entries text → ⊥
 IsStale front entries text (Some k) =
     (k < set.len entries) × (is_under front (slice_index_or (listing entries) k []) ≡ true)
     × ((r : List ℕ) → IsNamedBy text (slice_index_or (listing entries) k []) r → ⊥)
+    × AreNamedBefore front (listing entries) text k
 
 -- the same of a fault; the others are the machine's
 abbrev pub IsPlaceFault : List ℕ → Entries → List ℕ → PlaceFault → Type 0

@@ -13,7 +13,7 @@ mod name;
 mod symbolicate;
 mod together;
 
-pub use find::run_find;
+pub use find::{run_find, status_of};
 pub use frames::run_frames;
 pub use list::run_list;
 pub use name::run_name;

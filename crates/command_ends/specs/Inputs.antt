@@ -13,6 +13,7 @@ use Rattle.archive_records.specs.declared.kind.TextKind.{TextKind}
 use Rattle.archive_records.specs.declared.kind.TextKind.TheVariants.{Archive as ArchiveFile}
 use Rattle.archive_records.specs.declared.kind.TextKind.TheVariants.{Operations as OperationsFile}
 use Rattle.archive_records.specs.declared.kind.TextKind.TheVariants.{Summary as SummaryFile}
+use Rattle.archive_index.specs.declared.fault.IndexFaultKind.TheVariants.{Device as IndexDevice}
 use Rattle.admission.specs.File.{IsAcceptedFile, IsTakeFault}
 use Rattle.admission.specs.declared.fault.TakeFault.{TakeFault}
 use Rattle.admission.specs.declared.fault.TakeFault.TheVariants.{OutOfMemory as TakeOutOfMemory}
@@ -31,6 +32,7 @@ use Rattle.command_ends.specs.declared.faults.Place.TheVariants.{Frames}
 use Rattle.command_ends.specs.declared.faults.Why.{Why}
 use Rattle.command_ends.specs.declared.faults.Why.TheVariants.{Device as CannotRead, Record, Take, Script as Faulty}
 use Rattle.command_ends.specs.declared.faults.Why.TheVariants.{CannotOpen as NotOpened, BadFrame, OldArchive, TooLong}
+use Rattle.command_ends.specs.declared.faults.Why.TheVariants.{Index as IndexFaulty, Stale}
 
 -- An input in a call, before it and after it: a reader, or that none was opened. The functions tell what a reader has
 -- left, where that is known, and how often it has failed.
@@ -125,6 +127,8 @@ IsUnread input (Faulty _ _ _) = ⊥
 IsUnread input (BadFrame _ _) = ⊥
 IsUnread input OldArchive = ⊥
 IsUnread input TooLong = ⊥
+IsUnread input (IndexFaulty _) = ⊥
+IsUnread input (Stale _) = ⊥
 
 -- why a script is not carried out: its bytes are not read, or they are and this is wrong with their first faulty
 -- line, which has this flaw
@@ -138,6 +142,8 @@ IsScriptRefused input (Faulty fault line flaw) = Unfailed input
 IsScriptRefused input (BadFrame _ _) = ⊥
 IsScriptRefused input OldArchive = ⊥
 IsScriptRefused input TooLong = ⊥
+IsScriptRefused input (IndexFaulty _) = ⊥
+IsScriptRefused input (Stale _) = ⊥
 
 -- why nothing is told of frames: their bytes are not read, or they are and this is their first faulty line, with its
 -- flaw
@@ -151,6 +157,8 @@ IsFramesRefused input (BadFrame line flaw) = Unfailed input
     × Gives input (λ bytes. (frames_of bytes ≡ Err line) × (flaw ≡ frame_flaw (line_at bytes line)))
 IsFramesRefused input OldArchive = ⊥
 IsFramesRefused input TooLong = ⊥
+IsFramesRefused input (IndexFaulty _) = ⊥
+IsFramesRefused input (Stale _) = ⊥
 
 -- The input is an archive's text.
 abbrev pub IsArchive : {S : Type 0} → Reader S → Type 0
@@ -279,6 +287,8 @@ IsDeviceFault (Faulty _ _ _) = ⊥
 IsDeviceFault (BadFrame _ _) = ⊥
 IsDeviceFault OldArchive = ⊥
 IsDeviceFault TooLong = ⊥
+IsDeviceFault (IndexFaulty fault) = fault.kind ≡ IndexDevice
+IsDeviceFault (Stale _) = ⊥
 
 -- An archive's text is refused for its device alone.
 abbrev pub RefusesDevicesAlone : {R : Type 0} → (Reader R → Place → Why → Type 0) → Type 0

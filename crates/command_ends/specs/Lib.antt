@@ -1,5 +1,6 @@
 pub mod FaultTexts
 pub mod Inputs
+pub mod Indexes
 pub mod Archives
 pub mod InnerSources
 pub mod Outputs

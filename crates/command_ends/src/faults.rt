@@ -1,6 +1,8 @@
 //! How a command ends, and why one is refused, with the text of each fault.
 
+use crate::index_faults::IndexText;
 use admission::TakeFault;
+use archive_index::IndexFault;
 use archive_records::RecordFault;
 use crash_frames::FrameFlaw;
 use rehearsal::{ScriptFault, ScriptFlaw};
@@ -33,6 +35,8 @@ pub enum Place {
     Script,
     /// The frames that are answered.
     Frames,
+    /// The index of an archive, with the number of that one.
+    Index(u64),
 }
 
 /// What is wrong with an input.
@@ -40,7 +44,7 @@ pub enum Place {
 pub enum Why {
     /// It could not be opened.
     CannotOpen,
-    /// Reading a file of slices, a script or frames failed.
+    /// Reading a file of slices, a script or frames failed, or an archive at the places of an index.
     Device,
     /// It is no text of an archive, of operations or of a summary, or reading it failed.
     Record(RecordFault),
@@ -61,6 +65,11 @@ pub enum Why {
     OldArchive,
     /// It is an archive with a record that stands after more bytes than an index counts.
     TooLong,
+    /// It is no text of an index, or reading it failed.
+    Index(IndexFault),
+    /// It is an index of another archive: this one has another length, or at the place of this entry, from 0 on, stands
+    /// no record that it names.
+    Stale(Option<u64>),
 }
 
 /// Why a command is refused.
@@ -115,6 +124,7 @@ impl fmt::Display for Place {
             Place::Summary => f.write_str("summary"),
             Place::Script => f.write_str("script"),
             Place::Frames => f.write_str("frames"),
+            Place::Index(number) => write!(f, "index {number}"),
         }
     }
 }
@@ -145,6 +155,12 @@ impl fmt::Display for Why {
             Why::BadFrame { line, .. } => write!(f, "BadFrame at line {line}"),
             Why::OldArchive => f.write_str("OldArchive"),
             Why::TooLong => f.write_str("TooLong"),
+            Why::Index(fault) => {
+                let fault = IndexText(*fault);
+                write!(f, "{fault}")
+            }
+            Why::Stale(None) => f.write_str("Stale"),
+            Why::Stale(Some(entry)) => write!(f, "Stale at entry {entry}"),
         }
     }
 }

@@ -61,7 +61,7 @@ refused_among whole now front s xs size fault fits keeps sized are h =
     there : (w : Option (List ℕ)) (f : PlaceFault) → HasSize w size → IfSome w (λ text. IsStaleAmong front (listing s) text f) → IfSome w (λ text. IsPartRefused front s text f)
     there None f a t = tt
     there (Some text) (Stale None) a t = absurd t
-    there (Some text) (Stale (Some k)) a t = ((omega (arith, t.0, length_written s), t.1, t.2), omega (arith, a, fits))
+    there (Some text) (Stale (Some k)) a t = ((omega (arith, t.0, length_written s), t.1, t.2, t.3), omega (arith, a, fits))
     there (Some text) Device a t = tt
     there (Some text) OutOfMemory a t = tt
 

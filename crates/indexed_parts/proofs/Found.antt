@@ -1,5 +1,5 @@
 -- Records that are taken one after another, by the entries that name them.
-use Rattle.std.proofs.Common.{◌≡◌, ℕ, ◌+◌, ◌<◌, Bool, true, false, cond, ◌||◌, ◌&&◌, not, List, [], ◌∷◌, ◌++◌, length, take, get_or, Option, Some, None, refl, sym, ap, ◌∙◌, subst}
+use Rattle.std.proofs.Common.{◌≡◌, ℕ, ◌+◌, ◌<◌, zero, suc, Bool, true, false, cond, ◌||◌, ◌&&◌, not, List, [], ◌∷◌, ◌++◌, length, take, get_or, Option, Some, None, refl, sym, ap, ◌∙◌, subst, arith}
 use Rattle.std.specs.Prelude.{filter, IfSome}
 use Rattle.std.specs.List.{AllZip}
 use Rattle.std.proofs.lemmas.List.{append-nil}
@@ -72,15 +72,37 @@ made_together held records is =
     let s = content_of (set.from_list records) in
     is ∙ taken_are_joined set.empty records empty_made ∙ ap content_of (none_union s) ∙ made_again (set.from_list records)
 
--- where no record is that an entry under the front names
-pub stale_at : (whole now : Option (List ℕ)) (front : List ℕ) (entries : List (List ℕ)) (i : ℕ) (x : List ℕ) → i < length entries → x ≡ get_or entries i [] → is_under front x ≡ true → now ≡ whole
-    → IfSome now (λ text. false ≡ false → (r : List ℕ) → IsNamedBy text x r → ⊥) → IfSome whole (λ text. IsStaleAmong front entries text (Stale (Some i)))
-stale_at whole now front entries i x lt is under keeps none =
-    there whole (subst (λ (w : Option (List ℕ)). IfSome w (λ text. false ≡ false → (r : List ℕ) → IsNamedBy text x r → ⊥)) keeps none)
+-- each entry before a place that passes has a partner among those up to it
+partner : (R : List ℕ → List ℕ → Type 0) (p : List ℕ → Bool) (xs ys : List (List ℕ)) (n j : ℕ) → AllZip R (filter p (take n xs)) ys → j < n → j < length xs → p (get_or xs j []) ≡ true → (y : List ℕ) × R (get_or xs j []) y
+partner R p xs ys zero j zip below lt passes = absurd (omega arith)
+partner R p [] ys (suc n) j zip below lt passes = absurd (omega arith)
+partner R p (x ∷ xs) ys (suc n) zero zip below lt passes =
+    first ys (subst (λ (b : Bool). AllZip R (cond b (x ∷ filter p (take n xs)) (filter p (take n xs))) ys) passes zip)
   where
-    there : (w : Option (List ℕ)) → IfSome w (λ text. false ≡ false → (r : List ℕ) → IsNamedBy text x r → ⊥) → IfSome w (λ text. IsStaleAmong front entries text (Stale (Some i)))
-    there None h = tt
-    there (Some text) h = (lt, ap (is_under front) (sym is) ∙ under, λ r n. h refl r (subst (λ (y : List ℕ). IsNamedBy text y r) (sym is) n))
+    first : (zs : List (List ℕ)) → AllZip R (x ∷ filter p (take n xs)) zs → (y : List ℕ) × R x y
+    first [] z = absurd z
+    first (z ∷ zs) both = (z, both.0)
+partner R p (x ∷ xs) ys (suc n) (suc j) zip below lt passes = by (p x) ys zip
+  where
+    by : (b : Bool) (zs : List (List ℕ)) → AllZip R (cond b (x ∷ filter p (take n xs)) (filter p (take n xs))) zs → (y : List ℕ) × R (get_or xs j []) y
+    by true [] z = absurd z
+    by true (z ∷ zs) both = partner R p xs zs n j both.1 (omega arith) (omega arith) passes
+    by false zs z = partner R p xs zs n j z (omega arith) (omega arith) passes
+
+-- where no record is that an entry under the front names, and each before it names one
+pub stale_at : (whole now : Option (List ℕ)) (front : List ℕ) (entries : List (List ℕ)) (i : ℕ) (x : List ℕ) (held : Operations) → i < length entries → x ≡ get_or entries i [] → is_under front x ≡ true → now ≡ whole
+    → IfSome whole (λ text. IsTakenTo front entries text i held) → IfSome now (λ text. false ≡ false → (r : List ℕ) → IsNamedBy text x r → ⊥) → IfSome whole (λ text. IsStaleAmong front entries text (Stale (Some i)))
+stale_at whole now front entries i x held lt is under keeps taken none =
+    there whole taken (subst (λ (w : Option (List ℕ)). IfSome w (λ text. false ≡ false → (r : List ℕ) → IsNamedBy text x r → ⊥)) keeps none)
+  where
+    there : (w : Option (List ℕ)) → IfSome w (λ text. IsTakenTo front entries text i held) → IfSome w (λ text. false ≡ false → (r : List ℕ) → IsNamedBy text x r → ⊥) → IfSome w (λ text. IsStaleAmong front entries text (Stale (Some i)))
+    there None t h = tt
+    there (Some text) t h = (
+      lt,
+      ap (is_under front) (sym is) ∙ under,
+      λ r n. h refl r (subst (λ (y : List ℕ). IsNamedBy text y r) (sym is) n),
+      λ j below passes. partner (IsNamedBy text) (is_under front) entries t.records i j t.named below (omega arith) passes,
+    )
 
 -- the record of an entry was taken from the archive as it stands
 pub taken_there : (whole now : Option (List ℕ)) (x : List ℕ) (held new : Operations) → now ≡ whole → IfSome now (λ text. true ≡ true → IsTakenOf text x held new) → IfSome whole (λ text. IsTakenOf text x held new)

@@ -10,7 +10,7 @@ use Rattle.archive_core.specs.Part.{is_under}
 use Rattle.archive_index.specs.declared.fault.PlaceFault.{PlaceFault}
 use Rattle.archive_index.specs.declared.fault.PlaceFault.TheVariants.{Stale, Device, OutOfMemory}
 use Rattle.archive_core.specs.Summary.{Entries}
-use Rattle.archive_index.specs.Places.{IsNamedBy, HasIndexedLength, IsStale}
+use Rattle.archive_index.specs.Places.{AreNamedBefore, IsNamedBy, HasIndexedLength, IsStale}
 
 -- the record that this entry names was taken
 pub record IsTakenOf (text entry : List ℕ) (old new : Operations) : Type 0 where
@@ -30,12 +30,12 @@ abbrev pub place_fault : ReadFault → PlaceFault
 place_fault Read_device = Device
 place_fault Read_memory = OutOfMemory
 
--- at the place of this entry, which is under the front, stands no record that it names
+-- at the place of this entry, which is under the front, stands no record that it names, and it is the first such
 abbrev pub IsStaleAmong : List ℕ → List (List ℕ) → List ℕ → PlaceFault → Type 0
 IsStaleAmong front entries text (Stale None) = ⊥
 IsStaleAmong front entries text (Stale (Some k)) =
     (k < length entries) × (is_under front (slice_index_or entries k []) ≡ true)
-    × ((r : List ℕ) → IsNamedBy text (slice_index_or entries k []) r → ⊥)
+    × ((r : List ℕ) → IsNamedBy text (slice_index_or entries k []) r → ⊥) × AreNamedBefore front entries text k
 IsStaleAmong front entries text Device = Unit {0}
 IsStaleAmong front entries text OutOfMemory = Unit {0}
 

@@ -1,16 +1,16 @@
 //! The records under a UUID or a key.
 
-ghost use Rattle.std.specs.Prelude.{◌≡◌, ◌≤◌, ◌<◌, ◌^◌, ℕ, List, Some, Err, true, false, length, map};
-ghost use Rattle.std.specs.Prelude.{IfOk, IfErr, IfSome, MatchResult, OnOk};
+ghost use Rattle.std.specs.Prelude.{◌≡◌, ◌+◌, ◌≤◌, ◌<◌, ◌^◌, ◌↔◌, ℕ, List, Some, Err, true, false, length, map};
+ghost use Rattle.std.specs.Prelude.{IfOk, IfErr, IfSome, IsTrue, MatchResult, OnOk};
 ghost use Rattle.std.specs.FinSet as set;
 ghost use Rattle.std.specs.List.{AllByRecursion};
 ghost use Rattle.archive_core.specs.Content.{Operations, IsContent};
 ghost use Rattle.archive_core.specs.Part.{is_under, part};
 ghost use Rattle.archive_records.specs.Text.{written};
-ghost use Rattle.byte_device.specs.Devices.{FailedIn};
+ghost use Rattle.byte_device.specs.Devices.{CountsFailure, FailedIn};
 ghost use Rattle.placed_bytes.specs.Places.{HasSize};
 ghost use Rattle.archive_index.specs.Entry.{IsPlacedEntry, placed_bytes};
-ghost use Rattle.archive_index.specs.Index.{index};
+ghost use Rattle.archive_index.specs.Index.{index, lengths_of};
 ghost use Rattle.archive_index.specs.Places.{AreNamed, BlamesPlaced, HasIndexedLength, IsNamedBy};
 ghost use Rattle.archive_index.specs.Places.{IsOfPlaceMachine, IsPlaceFault};
 ghost use Rattle.indexed_parts.specs.InnerPlaces.{IsLengthStale, IsPartRefused, IsStaleAmong};
@@ -19,7 +19,7 @@ ghost use Rattle.indexed_parts.specs.InnerPlaces.{IsTakenOf, IsTakenTo, place_fa
 use crate::records::operation_at;
 use archive_core::Archive;
 use archive_index::{Index, PlaceFault, PlacedEntry};
-use byte_device::ReadFault;
+use byte_device::{Failed, ReadFault};
 use memory::{Heap, NoMemory};
 use placed_bytes::Placed;
 
@@ -55,7 +55,7 @@ fn take_entry<A: Archive, P: Placed>(
 }
 
 /// Whether the key of an entry begins with these bytes.
-fn is_under(front: &[u8], entry: &PlacedEntry) -> bool
+pub fn is_under(front: &[u8], entry: &PlacedEntry) -> bool
     ensures { result ≡ is_under front.now (placed_bytes entry.now) }
 {
     begins(&entry.bytes(), front)
@@ -112,6 +112,24 @@ fn take_entries<A: Archive, P: Placed>(
     Ok(())
 }
 
+/// Whether an archive of this size has the length that the index tells.
+fn tells_size(entries: &Index, size: u64) -> bool
+    ensures { IsTrue result ↔ (size ≡ 17 + lengths_of entries.now) }
+{
+    size >= FRAME_LEN && u128::from(size - FRAME_LEN) == entries.total_length()
+}
+
+/// Whether an archive has the length that the index tells. No byte of it is read.
+pub fn has_length<P: Placed>(entries: &Index, archive: &mut P) -> Result<bool, Failed>
+    ensures has { IfOk result (λ has. IfSome (P.whole archive.old) (λ text.
+        IsTrue has ↔ HasIndexedLength entries.now text)) }
+    ensures keeps { P.whole archive.new ≡ P.whole archive.old }
+    ensures count { CountsFailure (P.failures archive.old) (P.failures archive.new) result }
+{
+    let size = archive.size()?;
+    Ok(tells_size(entries, size))
+}
+
 /// The size of an archive, which is the length that the index tells.
 fn size_of<P: Placed>(entries: &Index, archive: &mut P) -> Result<u64, PlaceFault>
     ensures size { IfOk result (λ size. HasSize (P.whole archive.old) size) }
@@ -125,7 +143,7 @@ fn size_of<P: Placed>(entries: &Index, archive: &mut P) -> Result<u64, PlaceFaul
     let Ok(size) = archive.size() else {
         return Err(PlaceFault::Device);
     };
-    if size >= FRAME_LEN && u128::from(size - FRAME_LEN) == entries.total_length() {
+    if tells_size(entries, size) {
         Ok(size)
     } else {
         Err(PlaceFault::Stale(None))

@@ -1,7 +1,7 @@
 //! The record at the place of an entry.
 
-ghost use Rattle.std.specs.Prelude.{◌≡◌, ◌≢◌, ◌+◌, ◌≤◌, ◌↔◌, ℕ, List, Err, true, false, length, take, drop, slice_index};
-ghost use Rattle.std.specs.Prelude.{IfErr, IfNone, IfOk, IfSome, IsTrue, MatchOption, OnOk};
+ghost use Rattle.std.specs.Prelude.{◌≡◌, ◌≢◌, ◌+◌, ◌≤◌, ◌↔◌, ℕ, List, Err, true, false, length, take, drop};
+ghost use Rattle.std.specs.Prelude.{slice_index, IfErr, IfNone, IfOk, IfSome, IsTrue, MatchOption, OnOk};
 ghost use Rattle.std.specs.Int.{w64, from_be_bytes};
 ghost use Rattle.archive_core.specs.Key.{IsKey, key_bytes};
 ghost use Rattle.archive_core.specs.Record.{Admits, record_bytes, retirement_record};
@@ -76,7 +76,8 @@ fn admission_in(bytes: &[u8]) -> Option<CheckedSlice<'_>>
     }
 }
 
-/// Whether the record of an admission, of which this is the slice, is the one that the entry is of. The slice is hashed.
+/// Whether the record of an admission, of which this is the slice, is the one that the entry is of. The slice is
+/// hashed.
 fn is_of(entry: &PlacedEntry, bytes: &[u8], slice: &CheckedSlice<'_>) -> bool
     requires admits { Admits bytes.now }
     requires slice { slice.now ≡ drop 33 bytes.now }
@@ -86,8 +87,8 @@ fn is_of(entry: &PlacedEntry, bytes: &[u8], slice: &CheckedSlice<'_>) -> bool
     made.bytes() == entry.bytes()
 }
 
-/// The operation of the admission that these bytes are, if they are the record that the entry is of. The slice is hashed,
-/// and copied.
+/// The operation of the admission that these bytes are, if they are the record that the entry is of. The slice is
+/// hashed, and copied.
 fn admission_of(
     heap: Heap,
     entry: &PlacedEntry,

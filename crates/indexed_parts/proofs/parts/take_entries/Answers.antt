@@ -15,7 +15,7 @@ returns-in-Ok-false-clause-stale g c =
     let e = c.index-entries-number.result in
     let at = bytes_at entries c.taking.number e (placed_bytes e) c.taking-test.true c.index-entries-number.is refl in
     let none = rw c.in-Ok-false.field-0-test at c.in-Ok-false.ensures.none in
-    stale_at (g.P.Placed.whole c.args.archive.now) (g.P.Placed.whole c.taking.archive) c.args.front.now (map placed_bytes entries) c.taking.number (placed_bytes e) (omega (arith, length-map entries placed_bytes, c.taking-test.true)) at (sym c.is_under.ensures ∙ c.if-not-is_under.false) c.taking.invariant.keeps none
+    stale_at (g.P.Placed.whole c.args.archive.now) (g.P.Placed.whole c.taking.archive) c.args.front.now (map placed_bytes entries) c.taking.number (placed_bytes e) (g.A.Join.content c.taking.part) (omega (arith, length-map entries placed_bytes, c.taking-test.true)) at (sym c.is_under.ensures ∙ c.if-not-is_under.false) c.taking.invariant.keeps c.taking.invariant.taken none
 
 pub taking-preserved-then-not-is_under : goal.taking-preserved-then-not-is_under
 taking-preserved-then-not-is_under g c =

@@ -1,0 +1,4 @@
+pub mod Ascent
+pub mod Entries
+pub mod IndexRows
+pub mod Refused

@@ -1,0 +1,33 @@
+-- What `find` tells by an index alone.
+use Rattle.std.specs.Prelude.{◌≡◌, ℕ, List}
+use Rattle.archive_core.specs.Summary.{Entries}
+use Rattle.archive_core.specs.declared.find.FindRow.{FindRow}
+use Rattle.report_text.specs.Finds.{find_lines}
+use Rattle.command_ends.specs.declared.faults.Status.{Status}
+use Rattle.command_ends.specs.Ends.{Query}
+use Rattle.command_ends.specs.Indexes.{HasOtherLength, IsIndexOf, IsRefusedByIndex}
+use Rattle.command_ends.specs.Inputs.{Reader, Unfailed}
+use Rattle.archive_queries.specs.Find.{find_status}
+use Rattle.indexed_queries.specs.Rows.{AreIndexRows}
+
+-- what an index tells of a UUID: the status of the rows of its entries there, and their lines
+pub record TellsFoundAt (entries : Entries) (uuid : List ℕ) (status : Status) (text : List ℕ) : Type 0 where
+  pub rows : List FindRow
+  pub are_rows : AreIndexRows uuid entries rows
+  pub status_is : status ≡ find_status rows
+  pub text_is : text ≡ find_lines rows
+
+-- INDEX says entries that tell this of the UUID, and ARCHIVE has the length that they tell.
+pub record MakesFoundAt {R S : Type 0} (index : Reader R) (archive : Reader S) (uuid : List ℕ) (status : Status)
+    (text : List ℕ) : Type 0 where
+  pub entries : Entries
+  pub index_of : IsIndexOf index archive entries
+  pub tells : TellsFoundAt entries uuid status text
+
+-- `find`, over this archive by this index
+abbrev pub find_at : {R S : Type 0} → Reader R → Reader S → List ℕ → Query
+find_at index archive uuid = record {
+  Makes = MakesFoundAt index archive uuid;
+  Refuses = IsRefusedByIndex 0 index archive (HasOtherLength archive);
+  Unfailed = Unfailed index × Unfailed archive;
+}
