@@ -6,12 +6,13 @@ ghost use Rattle.archive_files.specs.Turns.{AreWaiting};
 
 use crate::desk::Desk;
 use archive_core::Archive;
-use archive_files::AtTurn;
-use byte_device::{CannotOpen, Disk};
+use archive_files::{AtTurn, Disk};
+use byte_device::CannotOpen;
 use case_parts::{End, Left, Shelf, StrictSink, StrictSource};
 use command_ends::Output;
 use command_line::Line;
 use memory::{Heap, NoMemory};
+use placed_bytes::LaidPieces;
 use plan_commands::execute_on;
 
 impl<'a> Disk for Desk<'a> {
@@ -20,12 +21,15 @@ impl<'a> Disk for Desk<'a> {
     ghost use Rattle.byte_device.specs.Disks.{Unknown, file_of};
 
     type Input = StrictSource<'a>;
+    type Places = LaidPieces<'a>;
 
     // Of files nothing is known where one of them is cut.
     ghost file_at = { λ desk path. if is_some desk.limits.cut then Unknown
         else file_of (option_map (λ v. v.items) (get_by_text desk.store.now.files path)) };
 
     ghost path_of = { λ _. [] };
+
+    ghost place_of = { λ _. [] };
 
     ghost opened = { λ _. None };
 
@@ -34,6 +38,13 @@ impl<'a> Disk for Desk<'a> {
             return Err(NoMemory);
         }
         Ok(self.input(path))
+    }
+
+    fn open_places(&mut self, path: &str) -> Result<Result<LaidPieces<'a>, CannotOpen>, NoMemory> {
+        if self.limits.opened == 0 {
+            return Err(NoMemory);
+        }
+        Ok(self.places(path))
     }
 }
 

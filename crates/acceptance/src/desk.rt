@@ -7,6 +7,7 @@ ghost use Rattle.byte_device.specs.Disks.{IsOpened, file_of};
 use byte_device::{CannotOpen, Source};
 use case_parts::{CaseFault, Limits, Store, StrictSource};
 use memory::{Heap, NoMemory};
+use placed_bytes::{LaidPieces, Placed};
 use std::alloc::Global;
 use std::io::ErrorKind;
 
@@ -55,7 +56,23 @@ impl<'a> Desk<'a> {
         Ok(StrictSource::new(bytes, size, self.limits.given_of(name)))
     }
 
-    /// The same of a file that has to be there.
+    /// A file that is read from any place, as far as it is not cut.
+    pub fn places(self, name: &str) -> Result<LaidPieces<'a>, CannotOpen>
+        ensures { self.entry.limits.cut ≡ None
+            → IsOpened ⟦<LaidPieces<'a> as Placed>⟧.whole
+            ⟦<LaidPieces<'a> as Placed>⟧.failures (λ _. [])
+            (file_of (option_map (λ v. v.items) (get_by_text self.entry.store.now.files name.now))) result }
+    {
+        let Some(bytes) = self.bytes(name) else {
+            return Err(CannotOpen {
+                reason: ErrorKind::NotFound.into(),
+            });
+        };
+        let size = self.limits.pieces.max(1);
+        Ok(LaidPieces::new(bytes, size, self.limits.given_of(name)))
+    }
+
+    /// The same of a file that has to be there, and is read from its start.
     pub fn source(self, name: &str) -> Result<StrictSource<'a>, CaseFault> {
         self.input(name).ok().ok_or(CaseFault::BadLine)
     }

@@ -5,7 +5,7 @@ use Rattle.std.specs.Prelude.{slice_get}
 use Rattle.std.proofs.lemmas.Option.{slice_get_cases}
 use Rattle.clap.specs.Words.{Text}
 use Rattle.command_ends.specs.declared.faults.Place.{Place}
-use Rattle.command_ends.specs.declared.faults.Place.TheVariants.{Archive, File, Ops, Summary, Script, Frames}
+use Rattle.command_ends.specs.declared.faults.Place.TheVariants.{Archive, File, Ops, Summary, Script, Frames, Index}
 use Rattle.command_line.specs.Arguments.{Argument, Values, reads, reads_kind}
 use Rattle.command_line.specs.Lines.{Line, inputs_of, inputs_of_kind, texts_by, texts_of}
 use Rattle.command_line.specs.Table.{arguments_named}
@@ -108,3 +108,4 @@ numbered line Ops n is = in_line kinds.Ops line n 0 is
 numbered line Summary n is = in_line kinds.Summary line n 0 is
 numbered line Script n is = in_line kinds.Script line n 0 is
 numbered line Frames n is = in_line kinds.Frames line n 0 is
+numbered line (Index k) n is = in_line kinds.Index line n k is

@@ -3,7 +3,8 @@ use Rattle.std.proofs.Common.{◌≡◌, List, [], ◌∷◌, length, refl, ap, 
 use Rattle.std.specs.List.{AllZip}
 use Rattle.byte_device.specs.declared.Source.{Ghosts as Sources}
 use Rattle.byte_device.specs.declared.disks.CannotOpen.{CannotOpen}
-use Rattle.byte_device.specs.declared.disks.Disk.{Ghosts as Disks}
+use Rattle.placed_bytes.specs.declared.Placed.{Ghosts as Places}
+use Rattle.archive_files.specs.declared.disks.Disk.{Ghosts as Disks}
 use Rattle.archive_files.specs.AtTurns.{told_by}
 use Rattle.archive_files.specs.Turns.{AreAtTurn}
 use Rattle.archive_files.specs.declared.at_turn.AtTurn.{AtTurn}
@@ -16,8 +17,9 @@ as_many R (x ∷ xs) [] all = absurd all
 as_many R (x ∷ xs) (y ∷ ys) all = ap suc (as_many R xs ys all.1)
 
 -- each input keeps its rules
-pub at_turn : {D I : Type 0} (disk : Disks D I) (input : Sources I)
-    (xs : List (Result (AtTurn D I disk input) CannotOpen)) → AreAtTurn (told_by disk input) xs
-at_turn disk input [] = tt
-at_turn disk input (Ok s ∷ xs) = (record { log = s.log; fits = s.fits; failed = s.failed }, at_turn disk input xs)
-at_turn disk input (Err e ∷ xs) = (tt, at_turn disk input xs)
+pub at_turn : {D I P : Type 0} (disk : Disks D I P) (input : Sources I) (places : Places P)
+    (xs : List (Result (AtTurn D I P disk input places) CannotOpen)) → AreAtTurn (told_by disk input places) xs
+at_turn disk input places [] = tt
+at_turn disk input places (Ok s ∷ xs) =
+    (record { log = s.log; fits = s.fits; failed = s.failed }, at_turn disk input places xs)
+at_turn disk input places (Err e ∷ xs) = (tt, at_turn disk input places xs)

@@ -2,7 +2,7 @@
 use Rattle.std.specs.Prelude.{◌+◌, ℕ, suc, List, [], ◌∷◌, ◌++◌, length, Option, slice_get, if◌then◌else◌}
 use Rattle.clap.specs.Words.{Text}
 use Rattle.command_ends.specs.declared.faults.Place.{Place}
-use Rattle.command_ends.specs.declared.faults.Place.TheVariants.{Archive, File, Ops, Summary, Script, Frames}
+use Rattle.command_ends.specs.declared.faults.Place.TheVariants.{Archive, File, Ops, Summary, Script, Frames, Index}
 use Rattle.command_line.specs.Arguments.{Argument, Values, reads, reads_kind}
 use Rattle.command_line.specs.Lines.{Line, texts_of}
 use Rattle.command_line.specs.Table.{arguments_named}
@@ -34,3 +34,4 @@ number_at line Ops = slice_get (numbers_of_kind kinds.Ops line) 0
 number_at line Summary = slice_get (numbers_of_kind kinds.Summary line) 0
 number_at line Script = slice_get (numbers_of_kind kinds.Script line) 0
 number_at line Frames = slice_get (numbers_of_kind kinds.Frames line) 0
+number_at line (Index number) = slice_get (numbers_of_kind kinds.Index line) number

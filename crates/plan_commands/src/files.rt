@@ -14,11 +14,13 @@ ghost use Rattle.plan_commands.specs.Files.{IsCarriedOut, IsUnbegun, calls_of, c
 use crate::execute_on;
 use crate::hints::Seen;
 use crate::plans::Plan;
-use archive_files::{OpenedFile, OutFault, OutFile, OutPath, SystemDisk, SystemFiles, SystemInput};
-use byte_device::{CannotCreate, Disk, Sink, Source};
+use archive_files::{Disk, OpenedFile, OutFault, OutFile, OutPath, PlacedFile};
+use archive_files::{SystemDisk, SystemFiles, SystemInput};
+use byte_device::{CannotCreate, Sink, Source};
 use command_ends::{CommandFault, Failure, Status, Target};
 use command_line::Line;
 use memory::{Heap, NoMemory};
+use placed_bytes::Placed;
 use sorted_archive::{IndexedArchive, PlainArchive};
 use std::io::BufReader;
 use std::rt::Files;
@@ -91,7 +93,8 @@ pub fn execute<'f, F: Files, P: Sink>(
 ) -> Result<Status, Failure>
     requires { AreFresh files.old }
     ensures { let calls = calls_of
-        (told_by ⟦<SystemDisk<'f, F> as Disk>⟧ ⟦<OpenedFile<BufReader<F::File>> as Source>⟧)
+        (told_by ⟦<SystemDisk<'f, F> as Disk>⟧ ⟦<OpenedFile<BufReader<F::File>> as Source>⟧
+        ⟦<PlacedFile<F::File> as Placed>⟧)
         ⟦<OutFile<'f, F> as Sink>⟧.held
         ⟦<OutFile<'f, F> as Sink>⟧.failures ⟦<OutPath<'f, F> as Target>⟧.placed
         ⟦<OutPath<'f, F> as Target>⟧.failures files.old files.new in

@@ -53,7 +53,13 @@ impl Seen {
                 reason: Some(refused.reason),
                 ..Seen::NOTHING
             },
-            (None, _) => Seen::NOTHING,
+            (None, _) => match input.places() {
+                Some(file) => Seen {
+                    reason: file.reason(),
+                    ..Seen::NOTHING
+                },
+                None => Seen::NOTHING,
+            },
         }
     }
 
@@ -111,6 +117,7 @@ enum Note {
     Damaged,
     Loses(u64),
     OldVersion,
+    Stale,
 }
 
 impl Note {
@@ -130,6 +137,7 @@ impl Display for Note {
         match self {
             Note::SameFile => f.write_str("the file of an input"),
             Note::OldVersion => f.write_str("an archive of version 1, which `migrate` takes"),
+            Note::Stale => f.write_str("not of this archive, of which `index` writes a new one"),
             Note::Foreign => f.write_str("there, and neither empty nor one of symarch's files"),
             Note::Damaged => f.write_str("there, and an archive that is damaged"),
             Note::Loses(1) => {
@@ -159,6 +167,7 @@ pub struct Hint<'p> {
 fn look_of(why: Why, look: Option<Look>) -> Option<Look> {
     match (why, look) {
         (Why::Record(fault), _) if fault.offset == 0 => look,
+        (Why::Index(fault), _) if fault.offset == 0 => look,
         (Why::Take(_), Some(Look::MachO | Look::Universal | Look::Marked)) => None,
         (Why::Take(_), _) => look,
         _ => None,
@@ -169,6 +178,7 @@ fn look_of(why: Why, look: Option<Look>) -> Option<Look> {
 fn note_of(why: Why) -> Option<Note> {
     match why {
         Why::OldArchive => Some(Note::OldVersion),
+        Why::Stale(_) => Some(Note::Stale),
         _ => None,
     }
 }

@@ -8,8 +8,8 @@ ghost use Rattle.plan_commands.specs.Disks.{Tells, fault_at, unopened_of};
 ghost use Rattle.plan_commands.specs.Hints.{path_at};
 ghost use Rattle.plan_commands.specs.Numbers.{number_at, numbers_of_kind};
 
-use archive_files::{AtTurn, Unopened};
-use byte_device::{CannotOpen, Disk};
+use archive_files::{AtTurn, Disk, Unopened};
+use byte_device::CannotOpen;
 use command_ends::{CommandFault, Place, Status, Why};
 use command_line::{Kind, Line, is_input, is_input_of};
 
@@ -52,6 +52,7 @@ pub fn input_at(line: &Line, place: Place) -> Option<(usize, &str)>
         Place::Summary => input_of(line, Kind::Summary, 0),
         Place::Script => input_of(line, Kind::Script, 0),
         Place::Frames => input_of(line, Kind::Frames, 0),
+        Place::Index(number) => input_of(line, Kind::Index, number),
     }
 }
 

@@ -14,10 +14,11 @@ ghost use Rattle.plan_commands.specs.Said.{SaysEnd, SaysFailure, behind_error, r
 use crate::files::execute;
 use crate::hints::{Seen, help_with};
 use crate::said::{FailureLine, RefusedLine, say, say_more, say_wanting};
-use archive_files::{OpenedFile, OutFile, OutPath, SystemDisk, SystemFiles};
-use byte_device::{Disk, Sink, Source, push_all};
+use archive_files::{Disk, OpenedFile, OutFile, OutPath, PlacedFile, SystemDisk, SystemFiles};
+use byte_device::{Sink, Source, push_all};
 use command_ends::{Failure, Status, Target, status_of};
 use command_line::{Line, LineFault, read_line};
+use placed_bytes::Placed;
 use std::alloc::Global;
 use std::fmt::{self, Display, Write};
 use std::io::{self, BufReader, ErrorKind};
@@ -42,7 +43,8 @@ pub fn run<'f, F: Files, P: Sink, E: Sink>(
 ) -> u8
     requires { AreFresh files.old }
     ensures { let calls = calls_of
-        (told_by ⟦<SystemDisk<'f, F> as Disk>⟧ ⟦<OpenedFile<BufReader<F::File>> as Source>⟧)
+        (told_by ⟦<SystemDisk<'f, F> as Disk>⟧ ⟦<OpenedFile<BufReader<F::File>> as Source>⟧
+        ⟦<PlacedFile<F::File> as Placed>⟧)
         ⟦<OutFile<'f, F> as Sink>⟧.held
         ⟦<OutFile<'f, F> as Sink>⟧.failures ⟦<OutPath<'f, F> as Target>⟧.placed
         ⟦<OutPath<'f, F> as Target>⟧.failures files.old files.new in
@@ -67,7 +69,8 @@ fn run_words<'f, F: Files, P: Sink, E: Sink>(
 ) -> u8
     requires { AreFresh files.old }
     ensures { let calls = calls_of
-        (told_by ⟦<SystemDisk<'f, F> as Disk>⟧ ⟦<OpenedFile<BufReader<F::File>> as Source>⟧)
+        (told_by ⟦<SystemDisk<'f, F> as Disk>⟧ ⟦<OpenedFile<BufReader<F::File>> as Source>⟧
+        ⟦<PlacedFile<F::File> as Placed>⟧)
         ⟦<OutFile<'f, F> as Sink>⟧.held
         ⟦<OutFile<'f, F> as Sink>⟧.failures ⟦<OutPath<'f, F> as Target>⟧.placed
         ⟦<OutPath<'f, F> as Target>⟧.failures files.old files.new in
