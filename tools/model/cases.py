@@ -132,13 +132,16 @@ ONE = {"new": "out", "find": "archive uuid", "list": "archive", "name": "archive
 
 # the commands that ask several archives by `--with`
 ASKING = ("find", "symbolicate", "name")
+# those that read an archive by its index, and those of them that read one alone
+INDEXED = ("find", "symbolicate", "frames", "list", "summary")
+ALONE = ("list", "summary")
 
 
 def plan(words):
     if not words or words[0] not in ONE or (words[0] in ("migrate", "frames") and F.V == 1):
         raise Copy
     cmd, rest = words[0], words[1:]
-    pos, load, more, i, raw = [], None, [], 0, False
+    pos, load, more, indexes, i, raw = [], None, [], [], 0, False
     while i < len(rest):
         w = rest[i]
         if raw or not w.startswith("-") or w == "-":
@@ -155,11 +158,16 @@ def plan(words):
             more.append(rest[i])
         elif cmd in ASKING and w.startswith("--with="):
             more.append(w[7:])
+        elif cmd in INDEXED and w == "--index" and i + 1 < len(rest) and not (indexes and cmd in ALONE):
+            i += 1
+            indexes.append(rest[i])
+        elif cmd in INDEXED and w.startswith("--index=") and not (indexes and cmd in ALONE):
+            indexes.append(w[8:])
         else:
             raise Copy
         i += 1
     names = ONE[cmd].split()
-    p = {"cmd": cmd, "load": None, "with": more}
+    p = {"cmd": cmd, "load": None, "with": more, "index": indexes}
     for k, n in enumerate(names):
         if n.endswith("*"):
             p[n[:-1]] = pos[k:]
@@ -184,7 +192,7 @@ def plan(words):
         p["address"] = [address_word(a) for a in p["address"]]
         if None in p["address"]:
             raise Copy
-    if "out" in p and p["out"] in [p[k] for k in ("in", "archive", "summary", "ops") if k in p] + p.get("file", []):
+    if "out" in p and p["out"] in [p[k] for k in ("in", "archive", "summary", "ops") if k in p] + p.get("file", []) + indexes:
         raise Copy
     return p
 
@@ -265,6 +273,31 @@ class Run:
         c = self.archive(first, "archive 0")
         for i, path in enumerate(others, 1):
             c.join(self.archive(path, "archive %d" % i))
+        return c
+
+    def by_index(self, path, index, number, read):
+        """what is read of the archive of a path by its index, which have this number"""
+        entries = self.other(index, "index %d" % number, F.read_index)
+        placed = F.Placed(self.opened(path, "archive %d" % number))
+        try:
+            F.test_length(entries, placed)
+            return read(entries, placed)
+        except Fault:
+            raise CmdFault("archive %d" % number, "Device")
+        except F.Stale as stale:
+            raise CmdFault("index %d" % number, stale.text)
+
+    def entries(self, p):
+        return self.by_index(p["archive"], p["index"][0], 0, lambda entries, placed: entries)
+
+    def asked(self, archives, indexes, fronts):
+        """the join of archives, of which the first are read by their indexes, and the others whole"""
+        c = Content()
+        for number, path in enumerate(archives):
+            if number < len(indexes):
+                c.join(self.by_index(path, indexes[number], number, lambda e, placed: F.parts_at(e, placed, fronts)))
+            else:
+                c.join(self.archive(path, "archive %d" % number))
         return c
 
     def other(self, path, place, read):
@@ -407,12 +440,18 @@ class Run:
         return self.merge(p["in"], Content(ops).text(), lines_of)
 
     def cmd_find(self, p):
-        lines = find_lines(find_rows(self.join(p["archive"], p["with"]), p["uuid"]), False)
+        if p["index"] and not p["with"]:
+            rows = F.index_rows(self.entries(p), p["uuid"])
+        else:
+            rows = find_rows(self.asked([p["archive"], *p["with"]], p["index"], [p["uuid"]]), p["uuid"])
+        lines = find_lines(rows, False)
         self.tell(lines)
         return 0 if lines else 1
 
     def cmd_list(self, p):
-        lines = find_lines(find_rows(self.archive(p["archive"], "archive 0")), True)
+        by_index = p["index"]
+        rows = F.index_rows(self.entries(p)) if by_index else find_rows(self.archive(p["archive"], "archive 0"))
+        lines = find_lines(rows, True)
         self.tell(lines)
         return 0 if lines else 1
 
@@ -422,8 +461,8 @@ class Run:
         return 0 if lines else 1
 
     def cmd_symbolicate(self, p):
-        c = self.join(p["archive"], p["with"])
         key = p["uuid"] + p["arch"]
+        c = self.asked([p["archive"], *p["with"]], p["index"], [key])
         ms = answering(c, key)
         lines, status = [], 0
         for a in p["address"]:
@@ -438,7 +477,7 @@ class Run:
         frames = read_frames(self.whole(p["frames"], "frames"))
         if isinstance(frames, str):
             raise CmdFault("frames", frames)
-        c = self.join(p["archives"][0], p["archives"][1:])
+        c = self.asked(p["archives"], p["index"], sorted({key for key, _, _ in frames}))
         answers_of, lines, status = {}, [], 0
         for key, load, a in frames:
             if key not in answers_of:
@@ -451,8 +490,10 @@ class Run:
         return status
 
     def cmd_summary(self, p):
-        c = self.archive(p["archive"], "archive 0")
-        e = c.summary()
+        if p["index"]:
+            e = {entry[:57] for entry in self.entries(p)}
+        else:
+            e = self.archive(p["archive"], "archive 0").summary()
         text = summary_text(e)
         self.write(text)
         self.tell(["summary: %d entries, %d bytes" % (len(e), len(text))])

@@ -321,10 +321,15 @@ def index_text(content):
     """of each record its entry, whether it is a companion's, and where it stands in the text of version 2"""
     entries, at = [], 8
     for r in content.records():
-        companion = r[0] == 2 and slice_of(r[33:])[1].dsym
-        entries.append(entry(r) + bytes([companion]) + struct.pack(">QQ", at, len(r)))
+        entries.append(placed_entry(r, at))
         at += len(r)
     return IDX + b"".join(sorted(entries)) + b"\x03" + struct.pack(">Q", len(entries))
+
+
+def placed_entry(r, at):
+    """the entry of a record that stands at this place"""
+    companion = r[0] == 2 and slice_of(r[33:])[1].dsym
+    return entry(r) + bytes([companion]) + struct.pack(">QQ", at, len(r))
 
 
 # ---------------------------------------------------------------- readers
@@ -457,6 +462,114 @@ def read_ops(src):
 
 def read_summary(src):
     return set(read_list(src, "summary"))
+
+
+def read_index(src):
+    """the entries of an index, which is read to its end before it is looked at"""
+    data = src.rest()
+    if src.fails:
+        raise Fault("Device", 0)
+    if not IDX.startswith(data[:8]):
+        raise Fault("BadMagic", 0)
+    if len(data) < 8:
+        raise Fault("Truncated", 0)
+    entries, at = [], 8
+    while True:
+        fault = index_fault(data[at:], entries)
+        if fault:
+            raise Fault(fault, at + 9 if fault == "Trailing" else at)
+        if data[at] == 3:
+            return entries
+        entries.append(data[at:at + 74])
+        at += 74
+
+
+def index_fault(rest, entries):
+    """what is wrong with the entry or the end record that stands first, behind these entries"""
+    if not rest:
+        return "Truncated"
+    if rest[0] == 3:
+        end = b"\x03" + struct.pack(">Q", len(entries))
+        return "Truncated" if len(rest) < 9 else "BadCount" if rest[:9] != end else "Trailing" if len(rest) > 9 else None
+    if rest[0] not in (1, 2):
+        return "BadTag"
+    if len(rest) < 74:
+        return "Truncated"
+    if rest[57] not in ((0,) if rest[0] == 1 else (0, 1)):
+        return "BadKind"
+    length = int.from_bytes(rest[66:74], "big")
+    if not (length == 57 if rest[0] == 1 else 33 <= length <= 33 + 0xFFFFFFFF):
+        return "BadLength"
+    return "NotAscending" if entries and rest[:74] <= entries[-1] else None
+
+
+class Placed:
+    """the bytes of a file, from any place, which fails once it gave so many"""
+
+    def __init__(self, src):
+        self.data, self.left = src.data, src.end if src.fails else 1 << 62
+
+    def size(self):
+        if self.left == 0:
+            raise Fault("Device", 0)
+        return len(self.data)
+
+    def take(self, at, n):
+        if self.left < n or self.left == 0:
+            raise Fault("Device", 0)
+        self.left -= n
+        return self.data[at:at + n]
+
+
+class Stale(Exception):
+    """the index is of another archive: of another length, or for what stands at the place of this entry"""
+
+    def __init__(self, number=None):
+        self.text = "Stale" if number is None else "Stale at entry %d" % number
+
+
+def test_length(entries, placed):
+    if placed.size() != 17 + sum(int.from_bytes(e[66:], "big") for e in entries):
+        raise Stale
+
+
+def record_at(e, placed):
+    """the record that an entry names, or None where no such stands at its place"""
+    if e[0] == 1:
+        return e[:57]
+    at, n = struct.unpack(">QQ", e[58:])
+    if at + n > placed.size():
+        return None
+    r = placed.take(at, n)
+    if r[0] != 2 or int.from_bytes(r[25:33], "big") != n - 33:
+        return None
+    fault, m = slice_of(r[33:])
+    return None if fault or key_of(m) != r[1:25] or placed_entry(r, at) != e else r
+
+
+def part_at(entries, placed, front):
+    """the content of the records under a front, at the places that the entries name"""
+    c = Content()
+    for number, e in enumerate(entries):
+        if e[1:1 + len(front)] == front:
+            r = record_at(e, placed)
+            if r is None:
+                raise Stale(number)
+            c.take(r)
+    return c
+
+
+def parts_at(entries, placed, fronts):
+    """the join of those of several fronts"""
+    c = Content()
+    for front in fronts:
+        c.join(part_at(entries, placed, front))
+    return c
+
+
+def index_rows(entries, uuid=b""):
+    those = sorted((e for e in entries if e[1:17].startswith(uuid)), key=lambda e: (e[1:25], e[58:66]))
+    return [(e[1:25], "retired" if e[0] == 1 else "dsym" if e[57] else "image", e[25:57]) for e in those]
 
 
 class MergeFault(Exception):
