@@ -1,5 +1,5 @@
 -- What is lost is what was told as new.
-use Rattle.std.proofs.Common.{◌≡◌, ℕ, ◌+◌, ◌||◌, Bool, true, false, not, List, map, count_by, ap, ◌∙◌, subst, cond}
+use Rattle.std.proofs.Common.{◌≡◌, ℕ, ◌+◌, ◌||◌, Bool, true, false, not, List, map, count_by, refl, ap, ◌∙◌, subst, cond}
 use Rattle.std.proofs.lemmas.List.Folds.{fold-map}
 use Rattle.std.specs.FinSet as set
 use Rattle.join_core.specs.Listing.{listing}
