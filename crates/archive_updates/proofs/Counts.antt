@@ -1,5 +1,5 @@
 -- What `apply` makes: its operations that are new in their turn, told by IN.
-use Rattle.std.proofs.Common.{◌≡◌, ◌≤◌, ℕ, ◌-◌, List, length, map, Option, Result, Ok, Err, refl, sym, ap, ◌∙◌, subst, inl}
+use Rattle.std.proofs.Common.{◌≡◌, ◌≤◌, ℕ, ◌-◌, List, length, map, Option, Result, Ok, Err, sym, ap, ◌∙◌, subst, inl}
 use Rattle.std.proofs.lemmas.List.{length-map}
 use Rattle.std.specs.List.{count_by}
 use Rattle.archive_core.specs.Content.{Operations, IsMade, changes, content_of, joined, new_among, with_records}

@@ -1,5 +1,6 @@
 -- Notes as they are added.
-use Rattle.std.proofs.Common.{◌≡◌, ◌++◌, ◌∷◌, [], ℕ, Bool, true, false, cond, if◌then◌else◌, List, map, refl, sym, ap, ◌∙◌}
+use Rattle.std.proofs.Common.{◌≡◌, ◌<◌, ◌+◌, ◌++◌, ◌∷◌, [], ℕ, Bool, true, false, cond, if◌then◌else◌, List, get_or, length, map, take, refl, sym, ap, ◌∙◌}
+use Rattle.std.proofs.lemmas.List.{flat_map_more, take_more}
 use Rattle.std.specs.FinSet as set
 use Rattle.std.specs.List.{AllByRecursion, filter, flat_map}
 use Rattle.sha2.specs.Sha256.{sha256}
@@ -12,11 +13,10 @@ use Rattle.archive_core.specs.declared.keys.SliceKey.{SliceKey}
 use Rattle.archive_core.specs.declared.operations.Operation.{Operation}
 use Rattle.archive_core.specs.declared.operations.Operation.TheVariants.{Admit, Retire}
 use Rattle.archive_core.proofs.Entries.{slice_of}
-use Rattle.admission.specs.Take.{admitted}
 use Rattle.record_merge.specs.Turns.{turn_by, turn_of}
 use Rattle.report_text.specs.declared.rows.AdmitRow.{AdmitRow}
 use Rattle.command_ends.specs.Inputs.{Reader}
-use Rattle.archive_updates.specs.Admit.{HasTaken, images_of}
+use Rattle.archive_updates.specs.Admit.{HasTaken}
 use Rattle.archive_updates.specs.InnerNotes.{IsNoted, note_of}
 use Rattle.archive_updates.specs.Notes.{NotesRetired, has_slice, missing_notes, retired_note, retired_notes}
 use Rattle.archive_updates.specs.declared.notes.Note.{Note}
@@ -51,6 +51,13 @@ noted o (Retire key digest ∷ rest) all = by_cases (set.contains o (record_byte
 
 pub all_noted : (o : Operations) (operations : List Operation) → AllByRecursion IsOperation operations → (came : Operations) → map record_bytes operations ≡ listing came → flat_map (note_by o) operations ≡ retired_notes o came
 all_noted o operations all came listed = noted o operations all ∙ ap (λ (rs : List (List ℕ)). map retired_note (filter (is_covered o) rs)) listed
+
+-- one more
+pub noted_more : (f : Operation → List Note) (old : List Note) (operations : List Operation) (i : ℕ) (operation : Operation) → i < length operations → operation ≡ get_or operations i operation
+    → (now : List Note) → now ≡ old ++ flat_map f (take i operations) → (new : List Note) → new ≡ now ++ f operation → new ≡ old ++ flat_map f (take (i + 1) operations)
+noted_more f old operations i operation lt at now before new more =
+    more ∙ ap (λ ns. ns ++ f operation) before ∙ flat_map_more f old (take i operations) operation
+    ∙ ap (λ xs. old ++ flat_map f xs) (ap (λ x. take i operations ++ x ∷ []) at ∙ sym (take_more operations i operation lt))
 
 -- those of the files
 pub retired_noted : {R S : Type 0} (input : Reader R) (files : List (Reader S)) (came : Operations) (rows : List AdmitRow) → HasTaken files set.empty came rows → (old new : List Note) → IsNoted input came old new → NotesRetired input files old new

@@ -1,5 +1,5 @@
 -- What `retire` makes, by a merge with the retirement.
-use Rattle.std.proofs.Common.{◌≡◌, ℕ, Bool, List, [], ◌∷◌, ◌++◌, length, map, Option, Some, Result, Err, refl, sym, ap, ◌∙◌, subst, inl, inr}
+use Rattle.std.proofs.Common.{◌≡◌, ℕ, Bool, List, [], ◌∷◌, ◌++◌, map, Result, Err, refl, sym, ap, ◌∙◌, subst, inr}
 use Rattle.std.specs.Cmp.Lexicographic.{nat_list_cmp_total}
 use Rattle.std.specs.FinSet as set
 use Rattle.join_core.specs.Listing.{listing}
@@ -8,8 +8,8 @@ use Rattle.archive_core.specs.declared.keys.Digest.{Digest}
 use Rattle.archive_core.specs.declared.keys.SliceKey.{SliceKey}
 use Rattle.archive_core.specs.declared.operations.Operation.{Operation}
 use Rattle.archive_core.specs.declared.operations.Operation.TheVariants.{Retire}
-use Rattle.archive_core.specs.Content.{Operations, IsMade, changes, content_of, joined, with_record}
-use Rattle.archive_core.specs.Record.{IsOperation, IsRecord, record_bytes, retirement_record}
+use Rattle.archive_core.specs.Content.{Operations, IsMade, content_of, joined, with_record}
+use Rattle.archive_core.specs.Record.{IsOperation, record_bytes, retirement_record}
 use Rattle.archive_core.proofs.Taken.{taken_are_joined}
 use Rattle.archive_records.specs.declared.format.Format.TheVariants.{Archive, OldArchive}
 use Rattle.archive_records.specs.declared.writing.Sizes.{Sizes}

@@ -1,6 +1,5 @@
 -- IN's archive, merged with operations that are at hand: what came of it.
-use Rattle.std.proofs.Common.{◌≡◌, ℕ, Bool, List, map, Option, Some, Ok, refl, ap, ◌∙◌, inl, inr}
-use Rattle.std.specs.FinSet as set
+use Rattle.std.proofs.Common.{◌≡◌, ℕ, Bool, List, map, Option, Ok, refl, ap, ◌∙◌, inr}
 use Rattle.join_core.specs.Listing.{listing}
 use Rattle.std.specs.List.{list_any}
 use Rattle.archive_core.specs.Content.{Operations, content_of, is_covered}

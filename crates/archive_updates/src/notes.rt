@@ -33,7 +33,10 @@ impl fmt::Display for Note {
             Note::Retired(key, digest) => {
                 let key = Text(*key);
                 let digest = Spelled(*digest);
-                write!(f, "note: {key} {digest} is retired in IN, and does not come in")
+                write!(
+                    f,
+                    "note: {key} {digest} is retired in IN, and does not come in"
+                )
             }
             Note::Missing(key, digest) => {
                 let key = Text(*key);

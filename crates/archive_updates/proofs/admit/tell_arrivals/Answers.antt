@@ -1,4 +1,4 @@
-use Rattle.std.proofs.Common.{◌≡◌, ◌++◌, ℕ, Bool, List, ap, length, map, refl, subst, sym, ◌∙◌, arith}
+use Rattle.std.proofs.Common.{◌++◌, ℕ, List, ap, length, map, subst, sym, ◌∙◌}
 use Rattle.std.proofs.lemmas.List.{length-map}
 use Rattle.join_core.specs.Listing.{listing}
 use Rattle.archive_core.specs.Record.{record_bytes}
@@ -6,7 +6,6 @@ use Rattle.record_merge.specs.Turns.{turn_of}
 use Rattle.record_merge.proofs.Lost.{new_changes}
 use Rattle.report_text.specs.Report.{admit_lines}
 use Rattle.archive_updates.specs.InnerArriving.{ArePlaced, rows_again}
-use Rattle.archive_updates.specs.Notes.{retired_note}
 use Rattle.archive_updates.proofs.Noted.{all_noted}
 use Rattle.archive_updates.proofs.Told.{ok_then}
 use Rattle.archive_updates.proofs.Taking.{always}
@@ -27,7 +26,7 @@ pub returns-clause-lines : goal.returns-clause-lines
 returns-clause-lines c =
     let came = c.args.arrivals.came in
     ok_then _ _ c.admit_lines.result (λ lines is o records placed turns.
-    is ∙ ap admit_lines (c.deref-again.ensures.value
+    is ∙ ap admit_lines (c.deref-2.ensures.value
     ∙ c.told_again-again.ensures (turn_of o) (listing came) records (subst (λ (places : List ℕ). ArePlaced (listing came) places c.args.arrivals.rows.items records) (sym c.deref.ensures.value) placed) turns
     ∙ (λ i. rows_again (λ r. new_changes o r i) c.args.arrivals.rows.items records))) c.admit_lines.ensures
 

@@ -13,6 +13,7 @@ use Rattle.archive_records.proofs.Puts.{bytes_same}
 use Rattle.byte_device.specs.Devices.{stream}
 use Rattle.byte_device.proofs.Known.{Appends-none}
 use Rattle.record_merge.specs.Turns.{turn_of}
+use Rattle.command_ends.specs.declared.faults.CommandFault.TheVariants.{OutOfMemory}
 use Rattle.command_ends.specs.Ends.{StopsAmidst}
 use Rattle.command_ends.specs.Inputs.{IsKnown, reader}
 use Rattle.command_ends.specs.Outputs.{out_of, outs, writer}
@@ -41,8 +42,8 @@ returns-in_err-sizes-clause-ends g c = λ records placed.
     (writer g.P.Sink.held g.P.Sink.failures c.args.report.now c.args.report.now) c.in_err-sizes.field-0.0
     (subst (λ (o : Operations). StopsAmidst (joining input (content_of o)) (IsKnown input) draft c.in_err-sizes.field-0.0) same c.in_err-sizes.ensures.stopped) c.in_err-sizes.ensures.taken (refl, refl) (Appends-none _, refl))
 
-pub tell_arrivals-lines-requires-clause-told : goal.tell_arrivals-lines-requires-clause-told
-tell_arrivals-lines-requires-clause-told g c =
+pub tell_arrivals-requires-clause-told : goal.tell_arrivals-requires-clause-told
+tell_arrivals-requires-clause-told g c =
     let came = c.args.arrivals.came in
     let told = c.in_ok-sizes.ensures.told in
     let operations : Operations = set.from_list {R = slice_cmp nat_cmp} (map record_bytes c.operations.result.now) in
@@ -57,9 +58,9 @@ returns-in_err-lines-clause-ends g c = λ records placed.
     let input = reader g.R.Source.left g.R.Source.failures c.args.input.now c.tell_operations.new.input in
     let draft = stream g.T.Draft.Sink.held g.T.Draft.Sink.failures c.args.out.now.draft c.tell_operations.new.draft in
     let j = subst (λ (o : Operations). IsJoinedTelling input o draft c.in_ok-sizes.sizes c.in_ok-sizes.told.turns.items c.in_ok-sizes.told.withdraws) same c.in_ok-sizes.ensures.told in
-    rw (p.1, p.2) (told_published input came (lines_again c.args.arrivals.rows.items records) draft c.in_ok-sizes.sizes c.in_ok-sizes.told.turns.items c.in_ok-sizes.told.withdraws j _ refl
+    rw (p.1, p.2) (told_published input came (lines_again c.args.arrivals.rows.items records) draft c.in_ok-sizes.sizes c.in_ok-sizes.told.turns.items c.in_ok-sizes.told.withdraws j (lines_again c.args.arrivals.rows.items records (changes j.joined.content)) refl
     (out_of (outs g.T.Draft.Sink.held g.T.Draft.Sink.failures g.T.Target.placed g.T.Target.failures c.args.out.now (record { draft = c.tell_operations.new.draft; target = c.args.out.now.target })))
-    (writer g.P.Sink.held g.P.Sink.failures c.args.report.now c.args.report.now) (Err _)
+    (writer g.P.Sink.held g.P.Sink.failures c.args.report.now c.args.report.now) (Err OutOfMemory)
     (inr (j.joined.written_is.written, j.joined.written_is.unfailed), (refl, refl), (Appends-none _, refl)))
 
 pub returns-clause-ends : goal.returns-clause-ends

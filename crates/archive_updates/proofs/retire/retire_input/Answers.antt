@@ -1,13 +1,11 @@
-use Rattle.std.proofs.Common.{◌≡◌, Bool, List, Some, [], ◌∷◌, ap, arith, length, map, refl, subst, ◌∙◌}
+use Rattle.std.proofs.Common.{Some, ap, arith, length, map, refl, subst, ◌∙◌}
 use Rattle.std.proofs.lemmas.Result.{err_from_is_err_and}
-use Rattle.join_core.specs.Listing.{listing}
 use Rattle.archive_core.specs.Record.{IsOperation}
-use Rattle.archive_core.specs.declared.operations.Operation.{Operation}
 use Rattle.byte_device.specs.Devices.{stream}
 use Rattle.record_merge.specs.Turns.{is_new, turn_of}
 use Rattle.command_ends.specs.Inputs.{reader}
 use Rattle.command_ends.specs.Outputs.{writer}
-use Rattle.archive_updates.proofs.Retired.{alone, are_alone, listed_alone, record_of, retire_stops, retired, text_alone}
+use Rattle.archive_updates.proofs.Retired.{alone, are_alone, listed_alone, retire_stops, retired, text_alone}
 use Rattle.archive_updates.proofs.retire.retire_input.Goals as goal
 
 pub returns-in_err-sizes-clause-stopped : goal.returns-in_err-sizes-clause-stopped

@@ -2,6 +2,7 @@ use Rattle.std.proofs.Common.{refl, ◌∙◌, Err, inr}
 use Rattle.std.proofs.lemmas.Result.{err_from_is_err_and}
 use Rattle.byte_device.specs.Devices.{stream}
 use Rattle.byte_device.proofs.Known.{Appends-none}
+use Rattle.command_ends.specs.declared.faults.CommandFault.TheVariants.{OutOfMemory}
 use Rattle.command_ends.specs.Inputs.{reader}
 use Rattle.command_ends.specs.Outputs.{out_of, outs, writer}
 use Rattle.archive_updates.proofs.Noted.{missing_noted}
@@ -24,7 +25,7 @@ returns-in_err-note_missing-clause-ends g c =
     rw (p.1, p.2) (retire_published c.args.key c.args.digest (reader g.R.Source.left g.R.Source.failures c.args.input.now c.retire_input.new.input)
     (stream g.T.Draft.Sink.held g.T.Draft.Sink.failures c.args.out.now.draft c.retire_input.new.draft) c.in_ok-written.written.sizes c.in_ok-written.written.changed c.in_ok-written.written.had i
     (out_of (outs g.T.Draft.Sink.held g.T.Draft.Sink.failures g.T.Target.placed g.T.Target.failures c.args.out.now (record { draft = c.retire_input.new.draft; target = c.args.out.now.target })))
-    (writer g.P.Sink.held g.P.Sink.failures c.args.report.now c.args.report.now) (Err _)
+    (writer g.P.Sink.held g.P.Sink.failures c.args.report.now c.args.report.now) (Err OutOfMemory)
     (inr (i.written_is.written, i.written_is.unfailed), (refl, refl), (Appends-none _, refl)))
 
 pub returns-clause-ends : goal.returns-clause-ends
