@@ -24,6 +24,13 @@ class CmdFault(Exception):
         self.place, self.text = place, text
 
 
+class NoMemory(CmdFault):
+    """there is no memory to open an input"""
+
+    def __init__(self):
+        super().__init__(None, "out of memory")
+
+
 # ---------------------------------------------------------------- parts
 
 def part_bytes(store, part):
@@ -241,10 +248,14 @@ class Run:
         self.open, self.out, self.report = open_source, out, report
         self.notes = []
 
-    def archive(self, path, place):
+    def opened(self, path, place):
         src = self.open(path)
         if src is None:
             raise CmdFault(place, "cannot open")
+        return src
+
+    def archive(self, path, place):
+        src = self.opened(path, place)
         try:
             return read_archive(src)
         except Fault as f:
@@ -258,18 +269,14 @@ class Run:
         return c
 
     def other(self, path, place, read):
-        src = self.open(path)
-        if src is None:
-            raise CmdFault(place, "cannot open")
+        src = self.opened(path, place)
         try:
             return read(src)
         except Fault as f:
             raise CmdFault(place, f.text)
 
     def whole(self, path, place):
-        src = self.open(path)
-        if src is None:
-            raise CmdFault(place, "cannot open")
+        src = self.opened(path, place)
         b = src.rest()
         if src.fails:
             raise CmdFault(place, "Device")
@@ -326,9 +333,7 @@ class Run:
 
     def merge(self, path, right, lines_of=lambda content: []):
         """the archive of a path, merged with the text of another one as it comes; the lines are those of its content"""
-        src = self.open(path)
-        if src is None:
-            raise CmdFault("archive 0", "cannot open")
+        src = self.opened(path, "archive 0")
         try:
             n = merge_streams(src, Source(right), lambda b: self.out.push(b, "output"))
         except MergeFault as f:
@@ -362,11 +367,15 @@ class Run:
 
     def cmd_merge(self, p):
         if len(p["file"]) == 1:
-            srcs = []
-            for i, path in enumerate([p["in"], p["file"][0]]):
-                srcs.append(self.open(path))
-                if srcs[-1] is None:
-                    raise CmdFault("archive %d" % i, "cannot open")
+            srcs = [self.opened(p["in"], "archive 0")]
+            try:
+                srcs.append(self.opened(p["file"][0], "archive 1"))
+            except CmdFault:
+                # FILE is opened behind the magic of IN
+                fault = F.magic_fault(srcs[0])
+                if fault:
+                    raise CmdFault("archive 0", fault)
+                raise
             written = [0]
 
             def write(b):
@@ -467,9 +476,7 @@ class Run:
 
     def cmd_delta(self, p):
         e = self.behind(p["archive"], lambda: self.other(p["summary"], "summary", read_summary))
-        src = self.open(p["archive"])
-        if src is None:
-            raise CmdFault("archive 0", "cannot open")
+        src = self.opened(p["archive"], "archive 0")
         try:
             n = copy_unnamed(src, e, lambda b: self.out.push(b, "output"))
         except Fault as f:
@@ -502,6 +509,8 @@ def run_plan(p, open_source, limits):
     command = Run(open_source, out, report)
     try:
         end = ("done", command.run(p))
+    except NoMemory as f:
+        end = ("wanting", f.text)
     except CmdFault as f:
         end = ("refused", "%s: %s" % (f.place, f.text))
     return Left(end, out.data, report.data, out.is_draft, command.notes)
@@ -860,6 +869,8 @@ def left_lines(left):
         out.append("  status %d" % left.end[1])
     elif left.end[0] == "refused":
         out += ["  symarch: " + left.end[1], "  status 2"]
+    elif left.end[0] == "wanting":
+        out += ["  symarch: " + left.end[1], "  status 4"]
     elif left.end[0] == "fault":
         out.append("  " + left.end[1])
     return out
@@ -935,8 +946,8 @@ class Folder:
 
 
 def inputs_of(p):
-    """the paths of the inputs of a plan"""
-    keys = ("in", "archive", "summary", "ops", "script", "frames")
+    """the paths of the inputs of a plan, in the order of the words"""
+    keys = ("in", "frames", "archive", "summary", "ops", "script")
     return [p[k] for k in keys if k in p] + p.get("archives", []) + p["with"] + p.get("file", [])
 
 
@@ -990,7 +1001,7 @@ def run_program(folder, words, most):
     lines = left_lines(Left(left.end, b"", left.report))
     if left.end[0] == "refused":
         lines[-1:-1] = second_line(p, left.end[1], folder)
-    else:
+    elif left.end[0] == "done":
         lines[-1:-1] = ["  note: " + note for note in left.notes]
     return lines
 
@@ -1009,7 +1020,13 @@ class Bench:
     def carry(self, verb, words, limits, old):
         if verb == "run":
             p = plan(words_of(words) if words != "-" else [])
-            return run_plan(p, lambda path: limits.source(self.store, path), limits), p
+            paths = inputs_of(p)
+
+            def open_source(path):
+                if paths.index(path) >= limits.opened:
+                    raise NoMemory
+                return limits.source(self.store, path)
+            return run_plan(p, open_source, limits), p
         return call(verb, words, self.store, limits, old), {}
 
     def line(self, line, old):
@@ -1077,8 +1094,6 @@ class Bench:
             except Copy:
                 raise
         self.reset()
-        if verb == "run" and limits.opened < len(inputs_of(plan(words_of(words)))):
-            return ["  symarch: out of memory", "  status 4"]
         if sweep == "growth":
             self.carry(verb, words, limits, old)
             raise Copy

@@ -1,5 +1,5 @@
 -- An output that has no path.
-use Rattle.std.proofs.Common.{◌≡◌, ◌∙◌, ℕ, List, [], Option, Some, None, Result, Ok, Err, refl, sym, ap, subst, inl, inr}
+use Rattle.std.proofs.Common.{◌≡◌, ◌∙◌, ℕ, List, [], Some, None, Result, Ok, Err, refl, sym, ap, subst, inl, inr}
 use Rattle.std.proofs.KnownBytes.{Appends-nil}
 use Rattle.std.specs.Io.KnownBytes.{Appends}
 use Rattle.command_line.specs.Lines.{Line}
@@ -10,7 +10,7 @@ use Rattle.command_ends.specs.declared.faults.Status.{Status}
 use Rattle.command_ends.specs.declared.outputs.Output.{Output as Out}
 use Rattle.command_ends.specs.Outputs.{IsKept, Outs, Writer, out_of as known_of}
 use Rattle.plan_commands.specs.Files.{Calls, IsCarriedOut, IsNotPut, IsOutcome, IsPut, outs_in}
-use Rattle.plan_commands.proofs.Places.{called_nowhere}
+use Rattle.plan_commands.proofs.OutPlaces.{called_nowhere}
 
 -- an output that is as it was is kept
 kept_same : {D T : Type 0} (out : Outs D T) → out.new ≡ out.old → IsKept (known_of out)

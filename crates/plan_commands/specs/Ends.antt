@@ -1,5 +1,5 @@
 -- How the program ends.
-use Rattle.std.specs.Prelude.{◌≡◌, ◌≢◌, ◌⊎◌, ℕ, Bool, true, List, [], ◌∷◌, codes, Option, Some, Result, String, string_bytes}
+use Rattle.std.specs.Prelude.{◌≡◌, ◌≢◌, ◌⊎◌, ℕ, Bool, true, List, [], ◌∷◌, codes, Some, Result, String, string_bytes}
 use Rattle.std.specs.declared.alloc.Global.{Global}
 use Rattle.clap.specs.Words.{IsAmong, Text}
 use Rattle.clap.specs.declared.error.kind.ErrorKind.TheVariants.{DisplayHelp, DisplayVersion}
@@ -14,9 +14,9 @@ use Rattle.command_ends.specs.Statuses.{status_of}
 use Rattle.plan_commands.specs.Files.{Calls, IsCarriedOut, IsUnbegun}
 use Rattle.plan_commands.specs.Said.{IsPushed, SaysEnd, SaysRefused, SaysWanting, reason_in}
 
--- No call of the system was noted.
+-- No call of the system was noted, and no input was made.
 pub record IsIdle {S D T : Type 0} (calls : Calls S D T) : Type 0 where
-  pub opened : calls.opened_new ≡ calls.opened_old
+  pub asked : calls.asked_new ≡ calls.asked_old
   pub uncalled : calls.called ≡ []
 
 -- The words are accepted and ask for this line, it was carried out over files of the system, unless there was no memory

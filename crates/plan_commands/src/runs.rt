@@ -4,6 +4,7 @@ ghost use Rattle.std.specs.Prelude.{◌≡◌, ◌≢◌, [], List, MatchResult,
 ghost use Rattle.std.specs.IoError.{error_kind};
 ghost use Rattle.std.specs.Io.KnownBytes.{Appends};
 ghost use Rattle.command_ends.specs.Outputs.{Takes, writer};
+ghost use Rattle.archive_files.specs.AtTurns.{told_by};
 ghost use Rattle.archive_files.specs.Fresh.{AreFresh};
 ghost use Rattle.plan_commands.specs.Files.{calls_of};
 ghost use Rattle.command_ends.specs.Statuses.{status_of};
@@ -40,8 +41,8 @@ pub fn run<'f, F: Files, P: Sink, E: Sink>(
     errors: &mut E,
 ) -> u8
     requires { AreFresh files.old }
-    ensures { let calls = calls_of ⟦<OpenedFile<BufReader<F::File>> as Source>⟧.left
-        ⟦<OpenedFile<BufReader<F::File>> as Source>⟧.failures ⟦<SystemDisk<'f, F> as Disk>⟧.path_of
+    ensures { let calls = calls_of
+        (told_by ⟦<SystemDisk<'f, F> as Disk>⟧ ⟦<OpenedFile<BufReader<F::File>> as Source>⟧)
         ⟦<OutFile<'f, F> as Sink>⟧.held
         ⟦<OutFile<'f, F> as Sink>⟧.failures ⟦<OutPath<'f, F> as Target>⟧.placed
         ⟦<OutPath<'f, F> as Target>⟧.failures files.old files.new in
@@ -54,7 +55,7 @@ pub fn run<'f, F: Files, P: Sink, E: Sink>(
 {
     match words {
         Ok(words) => run_words(&words, files, report, errors),
-        Err(error) => refuse_words(files.disk.alloc(), &error, report, errors),
+        Err(error) => refuse_words(files.alloc(), &error, report, errors),
     }
 }
 
@@ -65,15 +66,15 @@ fn run_words<'f, F: Files, P: Sink, E: Sink>(
     errors: &mut E,
 ) -> u8
     requires { AreFresh files.old }
-    ensures { let calls = calls_of ⟦<OpenedFile<BufReader<F::File>> as Source>⟧.left
-        ⟦<OpenedFile<BufReader<F::File>> as Source>⟧.failures ⟦<SystemDisk<'f, F> as Disk>⟧.path_of
+    ensures { let calls = calls_of
+        (told_by ⟦<SystemDisk<'f, F> as Disk>⟧ ⟦<OpenedFile<BufReader<F::File>> as Source>⟧)
         ⟦<OutFile<'f, F> as Sink>⟧.held
         ⟦<OutFile<'f, F> as Sink>⟧.failures ⟦<OutPath<'f, F> as Target>⟧.placed
         ⟦<OutPath<'f, F> as Target>⟧.failures files.old files.new in
         EndsWords calls (map string_bytes words.now) (writer P.held P.failures report.old report.new)
         (writer E.held E.failures errors.old errors.new) result }
 {
-    let alloc = files.disk.alloc();
+    let alloc = files.alloc();
     match read_line(alloc, words) {
         Ok(line) => {
             let mut seen = Seen::NOTHING;
