@@ -254,6 +254,7 @@ class Run:
 
     def __init__(self, open_source, out, report):
         self.open, self.out, self.report = open_source, out, report
+        self.notes = []
 
     def opened(self, path, place):
         src = self.open(path)
@@ -347,7 +348,11 @@ class Run:
     def cmd_admit(self, p):
         parts = self.behind(p["in"], lambda: self.slices(p["file"]))
 
+        came = Content([admission(b) for _, _, b in parts if b is not None])
+
         def lines_of(content):
+            retired = [r for r in came.records() if covering(r) in content.rets]
+            self.notes = ["%s %s is retired in IN, and does not come in" % (key_text(r[1:25]), sha(r[33:]).hex()) for r in retired]
             lines = []
             for f, s, b in parts:
                 if b is None:
@@ -357,7 +362,6 @@ class Run:
                 word = "added" if content.take(r) else "known"
                 lines.append("file %d slice %d %s %s %s" % (f, s, word, key_text(r[1:25]), sha(b).hex()))
             return lines
-        came = Content([admission(b) for _, _, b in parts if b is not None])
         return self.merge(p["in"], came.text(), lines_of)
 
     def merge(self, path, right, lines_of=lambda content: []):
@@ -389,6 +393,8 @@ class Run:
 
         def lines_of(content):
             word = "known" if content.holds(r) else "retired"
+            if r not in content.adms:
+                self.notes = ["IN has no slice %s %s" % (key_text(key), p["digest"].hex())]
             return ["%s %s %s" % (word, key_text(key), p["digest"].hex())]
         return self.merge(p["in"], Content([r]).text(), lines_of)
 
@@ -534,19 +540,21 @@ class Run:
 class Left:
     """end: ("done", status), ("refused", CmdFault text), ("given",), ("fault", text); out: OUT, or the draft of it"""
 
-    def __init__(self, end, out, report, is_draft=False):
+    def __init__(self, end, out, report, is_draft=False, notes=()):
         self.end, self.out, self.report, self.is_draft = end, bytes(out), bytes(report), is_draft
+        self.notes = notes
 
 
 def run_plan(p, open_source, limits):
     out, report = Out(limits.out, limits.places), Short(limits.report)
+    command = Run(open_source, out, report)
     try:
-        end = ("done", Run(open_source, out, report).run(p))
+        end = ("done", command.run(p))
     except NoMemory as f:
         end = ("wanting", f.text)
     except CmdFault as f:
         end = ("refused", "%s: %s" % (f.place, f.text))
-    return Left(end, out.data, report.data, out.is_draft)
+    return Left(end, out.data, report.data, out.is_draft, command.notes)
 
 
 # ---------------------------------------------------------------- calls below the commands
@@ -1034,6 +1042,8 @@ def run_program(folder, words, most):
     lines = left_lines(Left(left.end, b"", left.report))
     if left.end[0] == "refused":
         lines[-1:-1] = second_line(p, left.end[1], folder)
+    elif left.end[0] == "done":
+        lines[-1:-1] = ["  note: " + note for note in left.notes]
     return lines
 
 
