@@ -35,7 +35,7 @@ pub(crate) fn status_behind(status: Status, answer: &Answer<'_>) -> Status
 }
 
 /// The lines of the answers to the addresses, with how a command ends that prints them.
-fn answer_each<A: Archive>(
+pub fn answer_each<A: Archive>(
     heap: Heap,
     archive: &A,
     key: &SliceKey,

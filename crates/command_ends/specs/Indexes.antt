@@ -1,9 +1,8 @@
 -- Archives with their indexes: what an index says, and which of the two is refused, and why.
 use Rattle.std.specs.Prelude.{◌≡◌, ◌≢◌, ℕ, List, Option, None, Ok, MatchResult, ◌⊎◌}
-use Rattle.archive_core.specs.Content.{Operations}
 use Rattle.archive_core.specs.Summary.{Entries}
 use Rattle.archive_index.specs.Index.{AreIndexEntries}
-use Rattle.archive_index.specs.Places.{AreNamed, HasIndexedLength, IsStale}
+use Rattle.archive_index.specs.Places.{HasIndexedLength}
 use Rattle.archive_index.specs.Reading.{IsIndexRefused}
 use Rattle.archive_index.specs.Text.{index_text}
 use Rattle.archive_index.specs.declared.fault.IndexFault.{IndexFault}
@@ -52,15 +51,3 @@ IsRefusedByIndex number index archive IsStaleFor at why =
 abbrev pub HasOtherLength : {S : Type 0} → Reader S → Entries → Option ℕ → Type 0
 HasOtherLength archive entries entry =
     (entry ≡ None) × Gives archive (λ text. HasIndexedLength entries text → ⊥)
-
--- so it has, or at the place of this entry under the front stands no record that it names
-abbrev pub IsStaleUnder : {S : Type 0} → List ℕ → Reader S → Entries → Option ℕ → Type 0
-IsStaleUnder front archive entries entry = Gives archive (λ text. IsStale front entries text entry)
-
--- INDEX says entries, ARCHIVE has the length that they tell, and what the entries under the front name in it makes this
--- content.
-pub record HoldsNamed {R S : Type 0} (index : Reader R) (archive : Reader S) (front : List ℕ) (p : Operations)
-    : Type 0 where
-  pub entries : Entries
-  pub index_of : IsIndexOf index archive entries
-  pub named : Gives archive (λ text. AreNamed front entries text p)
