@@ -82,12 +82,13 @@ partner R p (x ∷ xs) ys (suc n) zero zip below lt passes =
     first : (zs : List (List ℕ)) → AllZip R (x ∷ filter p (take n xs)) zs → (y : List ℕ) × R x y
     first [] z = absurd z
     first (z ∷ zs) both = (z, both.0)
-partner R p (x ∷ xs) ys (suc n) (suc j) zip below lt passes = by (p x) ys zip
+partner R p (x ∷ xs) ys (suc n) (suc j) zip below lt passes =
+    by (λ zs z. partner R p xs zs n j z (omega arith) (omega arith) passes) (p x) ys zip
   where
-    by : (b : Bool) (zs : List (List ℕ)) → AllZip R (cond b (x ∷ filter p (take n xs)) (filter p (take n xs))) zs → (y : List ℕ) × R (get_or xs j []) y
-    by true [] z = absurd z
-    by true (z ∷ zs) both = partner R p xs zs n j both.1 (omega arith) (omega arith) passes
-    by false zs z = partner R p xs zs n j z (omega arith) (omega arith) passes
+    by : ((zs : List (List ℕ)) → AllZip R (filter p (take n xs)) zs → (y : List ℕ) × R (get_or xs j []) y) → (b : Bool) (zs : List (List ℕ)) → AllZip R (cond b (x ∷ filter p (take n xs)) (filter p (take n xs))) zs → (y : List ℕ) × R (get_or xs j []) y
+    by rest true [] z = absurd z
+    by rest true (z ∷ zs) both = rest zs both.1
+    by rest false zs z = rest zs z
 
 -- where no record is that an entry under the front names, and each before it names one
 pub stale_at : (whole now : Option (List ℕ)) (front : List ℕ) (entries : List (List ℕ)) (i : ℕ) (x : List ℕ) (held : Operations) → i < length entries → x ≡ get_or entries i [] → is_under front x ≡ true → now ≡ whole

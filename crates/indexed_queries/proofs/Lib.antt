@@ -2,3 +2,4 @@ pub mod Ascent
 pub mod Entries
 pub mod IndexRows
 pub mod Refused
+pub mod Joined

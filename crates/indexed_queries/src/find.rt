@@ -1,10 +1,10 @@
 //! `find ARCHIVE UUID --index INDEX`, over one archive.
-ghost use Rattle.std.specs.Prelude.{◌≡◌, length};
 ghost use Rattle.command_ends.specs.Ends.{EndsReport};
 ghost use Rattle.command_ends.specs.Inputs.{reader};
 ghost use Rattle.command_ends.specs.Outputs.{writer};
 ghost use Rattle.indexed_queries.specs.Find.{find_at};
 
+use crate::fronts::uuid_bytes;
 use crate::inputs::read_index_of;
 use crate::rows::rows_under;
 use archive_queries::status_of;
@@ -14,14 +14,6 @@ use memory::Heap;
 use placed_bytes::Placed;
 use report_text::find_lines;
 use uuid::Uuid;
-
-/// The bytes of a UUID.
-fn bytes_of(uuid: Uuid) -> [u8; 16]
-    ensures bytes { result ≡ uuid }
-    ensures long { length uuid ≡ 16 }
-{
-    *uuid.as_bytes()
-}
 
 /// Writes a row for each retirement and each live slice of the UUID that INDEX names to the report, as `run_find` of
 /// `archive_queries` does. INDEX is read to its end, and of ARCHIVE the length alone.
@@ -41,7 +33,7 @@ pub fn run_find_at<I: Source, P: Placed, W: Sink>(
         (reader P.whole P.failures archive.old archive.new) uuid.now)
         (writer W.held W.failures report.old report.new) result }
 {
-    let front = bytes_of(*uuid);
+    let front = uuid_bytes(*uuid);
     let entries = read_index_of(heap.clone()?, 0, index, archive)?;
     let rows = rows_under(&heap, &front, &entries)?;
     let text = find_lines(heap, &rows)?;

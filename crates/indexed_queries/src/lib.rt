@@ -2,18 +2,25 @@
 //!
 //! - `inputs`: an index that is read, and the archive that it is of;
 //! - `rows`: the rows that an index tells; `summaries`: the summary that it tells;
+//! - `fronts`: [`Front`], what a key begins with; `parts`: what an index names there, read and joined;
+//! - `symbolicate`: the command that reads what the index names under a key;
 //! - `find`, `list`, `summary`: commands that read the index alone, and the archive's length;
 //! - [`laws`]: what they tell by the index of a content.
 #![tactic(auto)]
 
 mod find;
+mod fronts;
 mod inputs;
 pub mod laws;
 mod list;
+mod parts;
 mod rows;
 mod summaries;
 mod summary;
+mod symbolicate;
 
 pub use find::run_find_at;
+pub use fronts::Front;
 pub use list::run_list_at;
 pub use summary::run_summary_at;
+pub use symbolicate::run_symbolicate_at;

@@ -1,0 +1,41 @@
+-- What an index names under several fronts of keys.
+use Rattle.std.specs.Prelude.{◌≡◌, ◌<◌, ℕ, List, [], Option, Some, None, length, take, slice_index_or}
+use Rattle.std.specs.List.{AllZip}
+use Rattle.archive_core.specs.Content.{Operations}
+use Rattle.archive_core.specs.Key.{key_bytes}
+use Rattle.archive_core.specs.Summary.{Entries}
+use Rattle.archive_index.specs.Places.{AreNamed, HasIndexedLength, IsStale}
+use Rattle.command_ends.specs.Indexes.{IsIndexOf}
+use Rattle.command_ends.specs.Inputs.{Reader, Gives}
+use Rattle.indexed_queries.specs.declared.fronts.Front.{Front}
+use Rattle.indexed_queries.specs.declared.fronts.Front.TheVariants.{Uuid, Key}
+
+-- the bytes that keys begin with
+abbrev pub front_bytes : Front → List ℕ
+front_bytes (Uuid uuid) = uuid
+front_bytes (Key key) = key_bytes key
+
+-- of the entries under each of these fronts, what they name in the text makes these contents, in the order of the fronts
+abbrev pub AreNamedUnder : List (List ℕ) → Entries → List ℕ → List Operations → Type 0
+AreNamedUnder fronts entries text parts = AllZip (λ front part. AreNamed front entries text part) fronts parts
+
+-- Why nothing is named so: the text has another length than the index tells; or, at the first of the fronts at which one
+-- is, an entry names no record of the text.
+abbrev pub IsStaleUnder : List (List ℕ) → Entries → List ℕ → Option ℕ → Type 0
+IsStaleUnder fronts entries text None = HasIndexedLength entries text → ⊥
+IsStaleUnder fronts entries text (Some entry) =
+    (number : ℕ) × (number < length fronts)
+    × ((parts : List Operations) × AreNamedUnder (take number fronts) entries text parts)
+    × IsStale (slice_index_or fronts number []) entries text (Some entry)
+
+-- INDEX says entries, ARCHIVE has the length that they tell, and what they name in it under each of these fronts makes
+-- these contents.
+pub record HoldsNamed {R S : Type 0} (index : Reader R) (archive : Reader S) (fronts : List (List ℕ))
+    (parts : List Operations) : Type 0 where
+  pub entries : Entries
+  pub index_of : IsIndexOf index archive entries
+  pub named : Gives archive (λ text. AreNamedUnder fronts entries text parts)
+
+-- the index is not of this archive, as far as these fronts tell
+abbrev pub IsStaleFor : {S : Type 0} → List (List ℕ) → Reader S → Entries → Option ℕ → Type 0
+IsStaleFor fronts archive entries entry = Gives archive (λ text. IsStaleUnder fronts entries text entry)

@@ -1,0 +1,55 @@
+-- Parts that are joined one after another: the words of inner functions. No contract of a public one has them.
+use Rattle.std.specs.Prelude.{◌≡◌, ℕ, List, Option, IfSome}
+use Rattle.archive_core.specs.Content.{Operations, joined}
+use Rattle.archive_core.specs.Summary.{Entries}
+use Rattle.archive_index.specs.declared.fault.PlaceFault.{PlaceFault}
+use Rattle.archive_index.specs.declared.fault.PlaceFault.TheVariants.{Stale, Device, OutOfMemory}
+use Rattle.archive_index.specs.Places.{AreNamed, HasIndexedLength}
+use Rattle.command_ends.specs.Archives.{merged}
+use Rattle.command_ends.specs.Inputs.{Reader, Gives}
+use Rattle.command_ends.specs.declared.faults.CommandFault.{CommandFault}
+use Rattle.command_ends.specs.declared.faults.CommandFault.TheVariants as command
+use Rattle.command_ends.specs.declared.faults.Place.TheVariants as place
+use Rattle.command_ends.specs.declared.faults.Why.TheVariants as why
+use Rattle.indexed_queries.specs.Fronts.{AreNamedUnder, HoldsNamed, IsStaleUnder}
+
+-- what the entries under these fronts name was joined to the content
+pub record HasJoinedNamed (whole : Option (List ℕ)) (fronts : List (List ℕ)) (entries : Entries) (old new : Operations)
+    : Type 0 where
+  pub parts : List Operations
+  pub content : new ≡ merged old parts
+  pub named : IfSome whole (λ text. AreNamedUnder fronts entries text parts)
+
+-- the same of one front
+pub record IsJoinedFrom (whole : Option (List ℕ)) (front : List ℕ) (entries : Entries) (old new : Operations)
+    : Type 0 where
+  pub part : Operations
+  pub content : new ≡ joined old part
+  pub named : IfSome whole (λ text. AreNamed front entries text part)
+
+-- the same of an input, which was opened and has the length that the index tells
+pub record IsNamedIn {S : Type 0} (archive : Reader S) (fronts : List (List ℕ)) (entries : Entries)
+    (old new : Operations) : Type 0 where
+  pub parts : List Operations
+  pub content : new ≡ merged old parts
+  pub archive_is : Gives archive (HasIndexedLength entries)
+  pub named : Gives archive (λ text. AreNamedUnder fronts entries text parts)
+
+-- the same of an index and its archive
+pub record HasJoinedParts {R S : Type 0} (index : Reader R) (archive : Reader S) (fronts : List (List ℕ))
+    (old new : Operations) : Type 0 where
+  pub parts : List Operations
+  pub content : new ≡ merged old parts
+  pub named : HoldsNamed index archive fronts parts
+
+-- why it was not
+abbrev pub IsFaultUnder : List (List ℕ) → Entries → List ℕ → PlaceFault → Type 0
+IsFaultUnder fronts entries text (Stale entry) = IsStaleUnder fronts entries text entry
+IsFaultUnder fronts entries text Device = Unit {0}
+IsFaultUnder fronts entries text OutOfMemory = Unit {0}
+
+-- the same, as it is told of the archive with this number
+abbrev pub told_fault : ℕ → PlaceFault → CommandFault
+told_fault number (Stale entry) = command.Input (place.Index number) (why.Stale entry)
+told_fault number Device = command.Input (place.Archive number) why.Device
+told_fault number OutOfMemory = command.OutOfMemory
