@@ -1,5 +1,6 @@
 -- What a line asks for, by name, and how its command ends.
-use Rattle.std.specs.Prelude.{◌≡◌, ℕ, Bool, true, false, List, [], ◌∷◌, Result, map, string_bytes}
+use Rattle.std.specs.Prelude.{◌≡◌, ℕ, ◌+◌, Bool, true, false, List, [], ◌∷◌, length, map, take, drop, string_bytes}
+use Rattle.std.specs.Prelude.{Option, Some, None, option_map, Result}
 use Rattle.std.specs.FinSet as set
 use Rattle.command_line.specs.Arguments.{archs, digests, numbers, one, perhaps, several, text, texts, uuids}
 use Rattle.command_line.specs.Lines.{Line, line_with}
@@ -48,19 +49,22 @@ plan_view (plan.Migrate input out) =
     line_with migrate_command (text input.now ∷ text out.now ∷ [])
 plan_view (plan.Apply input out ops) =
     line_with apply_command (text input.now ∷ text out.now ∷ text ops.now ∷ [])
-plan_view (plan.Find archive uuid others) =
-    line_with find_command (text archive.now ∷ uuids (one uuid) ∷ texts (several (map string_bytes others.now)) ∷ [])
-plan_view (plan.List archive) =
-    line_with list_command (text archive.now ∷ [])
+plan_view (plan.Find archive uuid others indexes) =
+    line_with find_command (text archive.now ∷ uuids (one uuid) ∷ texts (several (map string_bytes others.now))
+    ∷ texts (several (map string_bytes indexes.now)) ∷ [])
+plan_view (plan.List archive index) =
+    line_with list_command (text archive.now ∷ texts (perhaps (option_map string_bytes index.now)) ∷ [])
 plan_view (plan.Name archive name others) =
     line_with name_command (text archive.now ∷ text name.now ∷ texts (several (map string_bytes others.now)) ∷ [])
-plan_view (plan.Symbolicate archive uuid arch load others addresses) =
+plan_view (plan.Symbolicate archive uuid arch load others indexes addresses) =
     line_with symbolicate_command (text archive.now ∷ uuids (one uuid) ∷ archs (one arch) ∷ numbers (perhaps load)
-    ∷ texts (several (map string_bytes others.now)) ∷ numbers (several addresses.now) ∷ [])
-plan_view (plan.Frames frames archive others) =
-    line_with frames_command (text frames.now ∷ texts (several (archive.now ∷ map string_bytes others.now)) ∷ [])
-plan_view (plan.Summary archive out) =
-    line_with summary_command (text archive.now ∷ text out.now ∷ [])
+    ∷ texts (several (map string_bytes others.now)) ∷ texts (several (map string_bytes indexes.now))
+    ∷ numbers (several addresses.now) ∷ [])
+plan_view (plan.Frames frames indexes archive others) =
+    line_with frames_command (text frames.now ∷ texts (several (map string_bytes indexes.now))
+    ∷ texts (several (archive.now ∷ map string_bytes others.now)) ∷ [])
+plan_view (plan.Summary archive out index) =
+    line_with summary_command (text archive.now ∷ text out.now ∷ texts (perhaps (option_map string_bytes index.now)) ∷ [])
 plan_view (plan.Index archive out) =
     line_with index_command (text archive.now ∷ text out.now ∷ [])
 plan_view (plan.Delta archive summary out) =
@@ -70,18 +74,18 @@ plan_view (plan.Rehearse script) =
 
 -- which files the OUT of a plan replaces: a message or an index each of symarch's own, an archive those below it
 abbrev pub replaces_of : Plan → Replaces
-replaces_of (plan.Summary archive out) = OwnFiles
+replaces_of (plan.Summary archive out index) = OwnFiles
 replaces_of (plan.Index archive out) = OwnFiles
 replaces_of (plan.Delta archive summary out) = OwnFiles
 replaces_of _ = ArchivesBelow
 
 -- the plan writes no OUT: it only reports
 abbrev pub only_reports : Plan → Bool
-only_reports (plan.Find _ _ _) = true
-only_reports (plan.List _) = true
+only_reports (plan.Find _ _ _ _) = true
+only_reports (plan.List _ _) = true
 only_reports (plan.Name _ _ _) = true
-only_reports (plan.Symbolicate _ _ _ _ _ _) = true
-only_reports (plan.Frames _ _ _) = true
+only_reports (plan.Symbolicate _ _ _ _ _ _ _) = true
+only_reports (plan.Frames _ _ _ _) = true
 only_reports (plan.Rehearse _) = true
 only_reports _ = false
 

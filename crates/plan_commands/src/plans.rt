@@ -67,16 +67,18 @@ pub enum Plan<'l> {
         out: &'l str,
         ops: &'l str,
     },
-    /// `find ARCHIVE UUID [--with OTHER]...`: to tell what the archives have of a build. The others stand in the order
-    /// of the words.
+    /// `find ARCHIVE UUID [--with OTHER]... [--index INDEX]...`: to tell what the archives have of a build. The others
+    /// stand in the order of the words, and so do the indexes of the first archives.
     Find {
         archive: &'l str,
         uuid: Uuid,
         others: &'l [String],
+        indexes: &'l [String],
     },
-    /// `list ARCHIVE`: to tell all that the archive has.
+    /// `list ARCHIVE [--index INDEX]`: to tell all that the archive has.
     List {
         archive: &'l str,
+        index: &'l Option<String>,
     },
     /// `name ARCHIVE NAME [--with OTHER]...`: to tell where symbols of a name stand. The name is the word itself.
     Name {
@@ -84,26 +86,30 @@ pub enum Plan<'l> {
         name: &'l str,
         others: &'l [String],
     },
-    /// `symbolicate ARCHIVE UUID ARCH [--load HEX] [--with OTHER]... ADDRESS...`: to answer each address, in the order
-    /// of the words. With `load` the addresses are those of an image that was loaded there.
+    /// `symbolicate ARCHIVE UUID ARCH [--load HEX] [--with OTHER]... [--index INDEX]... ADDRESS...`: to answer each
+    /// address, in the order of the words. With `load` the addresses are those of an image that was loaded there.
     Symbolicate {
         archive: &'l str,
         uuid: Uuid,
         arch: ArchKey,
         load: Option<u64>,
         others: &'l [String],
+        indexes: &'l [String],
         addresses: &'l [u64],
     },
-    /// `frames FRAMES ARCHIVE...`: to answer each frame of a crash, in the order of the lines of FRAMES.
+    /// `frames FRAMES [--index INDEX]... ARCHIVE...`: to answer each frame of a crash, in the order of the lines of
+    /// FRAMES.
     Frames {
         frames: &'l str,
+        indexes: &'l [String],
         archive: &'l str,
         others: &'l [String],
     },
-    /// `summary ARCHIVE OUT`: to write the summary of an archive.
+    /// `summary ARCHIVE OUT [--index INDEX]`: to write the summary of an archive.
     Summary {
         archive: &'l str,
         out: &'l str,
+        index: &'l Option<String>,
     },
     /// `index ARCHIVE OUT`: to write the index of an archive.
     Index {
@@ -245,6 +251,7 @@ fn find<'l>(values: &'l [Values]) -> Plan<'l>
         Texts(One(archive)),
         Uuids(One(uuid)),
         Texts(Several(others)),
+        Texts(Several(indexes)),
     ] = values
     else {
         unreachable!();
@@ -253,6 +260,7 @@ fn find<'l>(values: &'l [Values]) -> Plan<'l>
         archive,
         uuid: *uuid,
         others,
+        indexes,
     }
 }
 
@@ -260,10 +268,10 @@ fn list<'l>(values: &'l [Values]) -> Plan<'l>
     requires { are_values_of list_command.arguments (map values_view values.now) ≡ true }
     ensures { plan_view result ≡ line_with list_command (map values_view values.now) }
 {
-    let [Texts(One(archive))] = values else {
+    let [Texts(One(archive)), Texts(Perhaps(index))] = values else {
         unreachable!();
     };
-    Plan::List { archive }
+    Plan::List { archive, index }
 }
 
 fn name<'l>(values: &'l [Values]) -> Plan<'l>
@@ -301,6 +309,7 @@ fn symbolicate<'l>(values: &'l [Values]) -> Plan<'l>
     let [
         Numbers(Perhaps(load)),
         Texts(Several(others)),
+        Texts(Several(indexes)),
         Numbers(Several(addresses)),
     ] = rest
     else {
@@ -312,6 +321,7 @@ fn symbolicate<'l>(values: &'l [Values]) -> Plan<'l>
         arch: *arch,
         load: *load,
         others,
+        indexes,
         addresses,
     }
 }
@@ -320,7 +330,12 @@ fn frames<'l>(values: &'l [Values]) -> Plan<'l>
     requires { are_values_of frames_command.arguments (map values_view values.now) ≡ true }
     ensures { plan_view result ≡ line_with frames_command (map values_view values.now) }
 {
-    let [Texts(One(frames)), Texts(Several(archives))] = values else {
+    let [
+        Texts(One(frames)),
+        Texts(Several(indexes)),
+        Texts(Several(archives)),
+    ] = values
+    else {
         unreachable!();
     };
     let Some((archive, others)) = archives.split_first() else {
@@ -328,6 +343,7 @@ fn frames<'l>(values: &'l [Values]) -> Plan<'l>
     };
     Plan::Frames {
         frames,
+        indexes,
         archive,
         others,
     }
@@ -337,10 +353,10 @@ fn summary<'l>(values: &'l [Values]) -> Plan<'l>
     requires { are_values_of summary_command.arguments (map values_view values.now) ≡ true }
     ensures { plan_view result ≡ line_with summary_command (map values_view values.now) }
 {
-    let [Texts(One(archive)), Texts(One(out))] = values else {
+    let [Texts(One(archive)), Texts(One(out)), Texts(Perhaps(index))] = values else {
         unreachable!();
     };
-    Plan::Summary { archive, out }
+    Plan::Summary { archive, out, index }
 }
 
 fn index<'l>(values: &'l [Values]) -> Plan<'l>
