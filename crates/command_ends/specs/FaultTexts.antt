@@ -8,7 +8,7 @@ use Rattle.command_ends.specs.declared.faults.Place.TheVariants.{Archive, File, 
 use Rattle.command_ends.specs.declared.faults.Place.TheVariants.{Frames, Index}
 use Rattle.command_ends.specs.declared.faults.Why.{Why}
 use Rattle.command_ends.specs.declared.faults.Why.TheVariants.{CannotOpen, Device, Record, Take, Script, BadFrame}
-use Rattle.command_ends.specs.declared.faults.Why.TheVariants.{OldArchive, TooLong, Index as IndexFaulty, Stale}
+use Rattle.command_ends.specs.declared.faults.Why.TheVariants.{OldArchive, TooLong, Index as IndexFaulty, NoArchive, Stale}
 use Rattle.archive_index.specs.declared.fault.IndexFault.{IndexFault}
 use Rattle.archive_index.specs.declared.fault.IndexFaultKind.{IndexFaultKind}
 use Rattle.archive_index.specs.declared.fault.IndexFaultKind.TheVariants as index_is
@@ -55,6 +55,7 @@ why_text TooLong = codes "TooLong"
 why_text (IndexFaulty fault) = index_fault_text fault
 why_text (Stale None) = codes "Stale"
 why_text (Stale (Some entry)) = codes "Stale at entry " ++ decimal entry
+why_text NoArchive = codes "NoArchive"
 
 -- where a device failed: the number of bytes that it had taken
 abbrev pub failed_after : ℕ → List ℕ

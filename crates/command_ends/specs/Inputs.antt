@@ -32,7 +32,7 @@ use Rattle.command_ends.specs.declared.faults.Place.TheVariants.{Frames}
 use Rattle.command_ends.specs.declared.faults.Why.{Why}
 use Rattle.command_ends.specs.declared.faults.Why.TheVariants.{Device as CannotRead, Record, Take, Script as Faulty}
 use Rattle.command_ends.specs.declared.faults.Why.TheVariants.{CannotOpen as NotOpened, BadFrame, OldArchive, TooLong}
-use Rattle.command_ends.specs.declared.faults.Why.TheVariants.{Index as IndexFaulty, Stale}
+use Rattle.command_ends.specs.declared.faults.Why.TheVariants.{Index as IndexFaulty, NoArchive, Stale}
 
 -- An input in a call, before it and after it: a reader, or that none was opened. The functions tell what a reader has
 -- left, where that is known, and how often it has failed.
@@ -129,6 +129,7 @@ IsUnread input OldArchive = ⊥
 IsUnread input TooLong = ⊥
 IsUnread input (IndexFaulty _) = ⊥
 IsUnread input (Stale _) = ⊥
+IsUnread input NoArchive = ⊥
 
 -- why a script is not carried out: its bytes are not read, or they are and this is wrong with their first faulty
 -- line, which has this flaw
@@ -144,6 +145,7 @@ IsScriptRefused input OldArchive = ⊥
 IsScriptRefused input TooLong = ⊥
 IsScriptRefused input (IndexFaulty _) = ⊥
 IsScriptRefused input (Stale _) = ⊥
+IsScriptRefused input NoArchive = ⊥
 
 -- why nothing is told of frames: their bytes are not read, or they are and this is their first faulty line, with its
 -- flaw
@@ -159,6 +161,7 @@ IsFramesRefused input OldArchive = ⊥
 IsFramesRefused input TooLong = ⊥
 IsFramesRefused input (IndexFaulty _) = ⊥
 IsFramesRefused input (Stale _) = ⊥
+IsFramesRefused input NoArchive = ⊥
 
 -- The input is an archive's text.
 abbrev pub IsArchive : {S : Type 0} → Reader S → Type 0
@@ -289,6 +292,7 @@ IsDeviceFault OldArchive = ⊥
 IsDeviceFault TooLong = ⊥
 IsDeviceFault (IndexFaulty fault) = fault.kind ≡ IndexDevice
 IsDeviceFault (Stale _) = ⊥
+IsDeviceFault NoArchive = ⊥
 
 -- An archive's text is refused for its device alone.
 abbrev pub RefusesDevicesAlone : {R : Type 0} → (Reader R → Place → Why → Type 0) → Type 0

@@ -70,6 +70,8 @@ pub enum Why {
     /// It is an index of another archive: this one has another length, or at the place of this entry, from 0 on, stands
     /// no record that it names.
     Stale(Option<u64>),
+    /// It is an index with a number that no archive has.
+    NoArchive,
 }
 
 /// Why a command is refused.
@@ -161,6 +163,7 @@ impl fmt::Display for Why {
             }
             Why::Stale(None) => f.write_str("Stale"),
             Why::Stale(Some(entry)) => write!(f, "Stale at entry {entry}"),
+            Why::NoArchive => f.write_str("NoArchive"),
         }
     }
 }

@@ -156,4 +156,5 @@ pub carried_outcome : {S D T : Type 0} (told : Told S) (line : Line) (before beh
     → IsOutcome out r
 carried_outcome told line before behind out report r c =
     told_outcome told line behind out c.ended r c.tells
-    (done (deed_of c.plan (readers told.left told.failures before behind) out) out report c.ended c.executes)
+    (done (deed_of c.plan (readers told.left told.failures before behind)
+    (readers told.whole told.failures before behind) out) out report c.ended c.executes)

@@ -50,5 +50,6 @@ pub record Carried {S D T : Type 0} (told : Told S) (line : Line) (before behind
   pub as_many : length behind ≡ length before
   pub at_turn : AreAtTurn told behind
   pub ended : Result Status CommandFault
-  pub executes : Executes plan (readers told.left told.failures before behind) out report ended
+  pub executes : Executes plan (readers told.left told.failures before behind)
+      (readers told.whole told.failures before behind) out report ended
   pub tells : Tells told line behind ended result

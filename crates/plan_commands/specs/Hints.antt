@@ -11,7 +11,7 @@ use Rattle.command_ends.specs.declared.faults.Status.{Status}
 use Rattle.command_ends.specs.declared.faults.Why.{Why}
 use Rattle.command_ends.specs.declared.faults.Why.TheVariants.{CannotOpen, Device, Record, Take}
 use Rattle.command_ends.specs.declared.faults.Why.TheVariants.{Script as ScriptFaulty, BadFrame, OldArchive, TooLong}
-use Rattle.command_ends.specs.declared.faults.Why.TheVariants.{Index as IndexFaulty, Stale}
+use Rattle.command_ends.specs.declared.faults.Why.TheVariants.{Index as IndexFaulty, NoArchive, Stale}
 use Rattle.command_line.specs.Lines.{Line, inputs_of_kind, out_of}
 use Rattle.command_line.specs.declared.commands.Kind.TheVariants as kinds
 use Rattle.plan_commands.specs.declared.flaws.FaultyLine.{FaultyLine}
@@ -49,6 +49,7 @@ faulty_line OldArchive = None
 faulty_line TooLong = None
 faulty_line (IndexFaulty _) = None
 faulty_line (Stale _) = None
+faulty_line NoArchive = None
 
 -- the same of a failure
 abbrev pub faulty_line_of : Failure → Option FaultyLine

@@ -1,3 +1,4 @@
+pub mod Asking
 pub mod Plans
 pub mod Disks
 pub mod Files

@@ -19,10 +19,10 @@ use Rattle.archive_updates.specs.Admit.{admit_as_it_comes}
 use Rattle.archive_updates.specs.Apply.{apply_as_it_comes}
 use Rattle.archive_updates.specs.Delta.{delta_as_it_comes}
 use Rattle.command_ends.specs.Ends.{Command, Ends, EndsReport, EndsStreamed, Query, Streamed, writes_amidst}
-use Rattle.archive_queries.specs.Find.{find}
+use Rattle.indexed_queries.specs.Summary.{summary_at}
+use Rattle.plan_commands.specs.Asking.{find_of, list_of, symbolicate_of}
 use Rattle.archive_queries.specs.Frames.{frames}
 use Rattle.command_ends.specs.Inputs.{IsKnown, Reader}
-use Rattle.archive_queries.specs.List.{list}
 use Rattle.archive_updates.specs.MergeStreams.{merge_as_it_comes}
 use Rattle.archive_updates.specs.Migrate.{migrate}
 use Rattle.archive_queries.specs.Name.{name}
@@ -30,7 +30,6 @@ use Rattle.command_ends.specs.Outputs.{Outs, Publishes, Writer, out_of, report_o
 use Rattle.rehearse.specs.Rehearse.{rehearse}
 use Rattle.archive_updates.specs.Retire.{retire}
 use Rattle.archive_updates.specs.Summary.{summary}
-use Rattle.archive_queries.specs.Symbolicate.{symbolicate}
 use Rattle.index_updates.specs.Index.{index}
 use Rattle.plan_commands.specs.declared.plans.Plan.{Plan}
 use Rattle.plan_commands.specs.declared.plans.Plan.TheVariants as plan
@@ -102,33 +101,36 @@ pub data Deed : Type 1 where
   answers : Query → Deed
   none : Deed
 
--- of a plan that only reports, over the inputs at the paths of its line, in their order: an archive and the further ones
--- are asked as their join
-abbrev pub answer_of : {S : Type 0} → Plan → List (Reader S) → Deed
-answer_of (plan.Find _ uuid _) (archive ∷ others) = answers (find archive others uuid)
-answer_of (plan.List _) (archive ∷ _) = answers (list archive)
-answer_of (plan.Name _ sought _) (archive ∷ others) = answers (name archive others sought.now)
-answer_of (plan.Symbolicate _ uuid arch load _ addresses) (archive ∷ others) =
-    answers (symbolicate archive others (key_of uuid arch) load addresses.now)
-answer_of (plan.Frames _ _ _) (crash ∷ archive ∷ others) = answers (frames crash archive others)
-answer_of (plan.Rehearse _) (script ∷ _) = answers (rehearse script)
-answer_of _ _ = none
+-- of a plan that only reports, over the inputs at the paths of its line, in their order, as they are read from their
+-- start, and as they are read from any place: an archive and the further ones are asked as their join
+abbrev pub answer_of : {S : Type 0} → Plan → List (Reader S) → List (Reader S) → Deed
+answer_of (plan.Find _ uuid others _) (archive ∷ rest) (place ∷ _) =
+    answers (find_of archive place (take (length others.now) rest) (drop (length others.now) rest) uuid)
+answer_of (plan.List _ _) (archive ∷ rest) (place ∷ _) = answers (list_of archive place rest)
+answer_of (plan.Name _ sought _) (archive ∷ others) _ = answers (name archive others sought.now)
+answer_of (plan.Symbolicate _ uuid arch load others _ addresses) (archive ∷ rest) (place ∷ _) =
+    answers (symbolicate_of archive place (take (length others.now) rest) (drop (length others.now) rest)
+    (key_of uuid arch) load addresses.now)
+answer_of (plan.Frames _ _ _ _) (crash ∷ archive ∷ others) _ = answers (frames crash archive others)
+answer_of (plan.Rehearse _) (script ∷ _) _ = answers (rehearse script)
+answer_of _ _ _ = none
 
 -- of any plan
-abbrev pub deed_of : {S D T : Type 0} → Plan → List (Reader S) → Outs D T → Deed
-deed_of (plan.New _) _ out = empties
-deed_of (plan.Admit _ _ _) (input ∷ files) out = streams (admit_as_it_comes input files (out_of out).draft)
-deed_of (plan.Retire _ _ uuid arch digest) (input ∷ _) out =
+abbrev pub deed_of : {S D T : Type 0} → Plan → List (Reader S) → List (Reader S) → Outs D T → Deed
+deed_of (plan.New _) _ _ out = empties
+deed_of (plan.Admit _ _ _) (input ∷ files) _ out = streams (admit_as_it_comes input files (out_of out).draft)
+deed_of (plan.Retire _ _ uuid arch digest) (input ∷ _) _ out =
     streams (writes_amidst (retire input (key_of uuid arch) digest) (IsKnown input) (out_of out).draft)
-deed_of (plan.Merge _ _ _) (input ∷ files) out = streams (merge_as_it_comes input files out)
-deed_of (plan.Migrate _ _) (input ∷ _) out =
+deed_of (plan.Merge _ _ _) (input ∷ files) _ out = streams (merge_as_it_comes input files out)
+deed_of (plan.Migrate _ _) (input ∷ _) _ out =
     streams (writes_amidst (migrate input) (IsKnown input) (out_of out).draft)
-deed_of (plan.Apply _ _ _) (input ∷ ops ∷ _) out = streams (apply_as_it_comes input ops (out_of out).draft)
-deed_of (plan.Summary _ _) (archive ∷ _) out = changes (summary archive)
-deed_of (plan.Index _ _) (archive ∷ _) out = changes (index archive)
-deed_of (plan.Delta _ _ _) (archive ∷ named ∷ _) out =
+deed_of (plan.Apply _ _ _) (input ∷ ops ∷ _) _ out = streams (apply_as_it_comes input ops (out_of out).draft)
+deed_of (plan.Summary _ _ _) (archive ∷ []) _ out = changes (summary archive)
+deed_of (plan.Summary _ _ _) (_ ∷ named ∷ _) (place ∷ _) out = changes (summary_at named place)
+deed_of (plan.Index _ _) (archive ∷ _) _ out = changes (index archive)
+deed_of (plan.Delta _ _ _) (archive ∷ named ∷ _) _ out =
     streams (delta_as_it_comes archive named (out_of out).draft)
-deed_of asked inputs out = answer_of asked inputs
+deed_of asked inputs places out = answer_of asked inputs places
 
 -- It reports so.
 abbrev pub Reports : Deed → Writer → Result Status CommandFault → Type 0
@@ -148,6 +150,8 @@ EndsDeed (streams command) out report result = EndsStreamed command (out_of out)
 EndsDeed (answers query) out report result = EndsQuery query out report result
 EndsDeed none out report result = ⊥
 
--- How the command of a plan ends over the inputs at the paths of its line, in their order.
-abbrev pub Executes : {S D T : Type 0} → Plan → List (Reader S) → Outs D T → Writer → Result Status CommandFault → Type 0
-Executes asked inputs out report result = EndsDeed (deed_of asked inputs out) out report result
+-- How the command of a plan ends over the inputs at the paths of its line, in their order, as they are read from their
+-- start, and as they are read from any place.
+abbrev pub Executes : {S D T : Type 0} → Plan → List (Reader S) → List (Reader S) → Outs D T → Writer
+    → Result Status CommandFault → Type 0
+Executes asked inputs places out report result = EndsDeed (deed_of asked inputs places out) out report result

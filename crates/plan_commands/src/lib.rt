@@ -1,6 +1,7 @@
 //! The program but for `main`: a command line, carried out over any files and over those of the system, and
 //! what is said of how it ended.
 //!
+//! - `asking`: queries of archives that are read whole or by their indexes;
 //! - `plans`: what a line asks for, by name, and its command over its inputs, OUT and the report;
 //! - `places`: which input a place is, and what is told of one that was not opened;
 //! - `disks`: a line over inputs that are opened at their turn;
@@ -13,6 +14,7 @@
 //! - `laws`: what is said of an output without a path.
 #![tactic(auto)]
 
+mod asking;
 mod disks;
 mod files;
 mod flaws;

@@ -12,19 +12,22 @@ ghost use Rattle.command_line.specs.Table.{new_command};
 ghost use Rattle.command_line.specs.Table.{rehearse_command, retire_command, summary_command, symbolicate_command};
 ghost use Rattle.plan_commands.specs.Plans.{Executes, Reports, answer_of, key_of, only_reports, plan_view, replaces_of};
 
+use crate::asking::{self, Input};
 use archive_core::{ArchKey, Archive, Digest, SliceKey};
 use archive_files::Replaces;
-use archive_queries::{run_find, run_frames, run_list, run_name, run_symbolicate};
+use archive_queries::{run_frames, run_name};
 use archive_updates::{
     run_admit, run_apply, run_delta, run_merge, run_migrate, run_new, run_retire, run_summary,
 };
-use byte_device::{CannotOpen, Sink, Source};
+use byte_device::{Sink, Source};
 use command_ends::{CommandFault, Output, Status, Target};
 use command_line::Amount::{One, Perhaps, Several};
 use command_line::Values::{Archs, Digests, Numbers, Texts, Uuids};
 use command_line::{Line, Values};
 use index_updates::run_index;
+use indexed_queries::run_summary_at;
 use memory::Heap;
+use placed_bytes::Placed;
 use rehearse::run_rehearse;
 use uuid::Uuid;
 
@@ -393,9 +396,6 @@ fn rehearse<'l>(values: &'l [Values]) -> Plan<'l>
     Plan::Rehearse { script }
 }
 
-/// An input of a command, if it could be opened.
-type Input<S> = Result<S, CannotOpen>;
-
 /// The key that a line names.
 fn key(uuid: &Uuid, arch: &ArchKey) -> SliceKey
     ensures { result ≡ key_of uuid.now arch.now }
@@ -408,34 +408,44 @@ fn key(uuid: &Uuid, arch: &ArchKey) -> SliceKey
 
 /// Carries out a plan that only reports, over its first input and the others. An archive of the type `L` is asked for
 /// addresses, and one of `A` for all else.
-fn answer<A: Archive + Drop, L: Archive + Drop, S: Source, P: Sink>(
+fn answer<A: Archive + Drop, L: Archive + Drop, S: Source + Placed, P: Sink>(
     heap: Heap,
     plan: &Plan,
     first: &mut Input<S>,
-    others: &mut [Input<S>],
+    rest: &mut [Input<S>],
     report: &mut P,
 ) -> Result<Status, CommandFault>
     requires kind { only_reports plan.now ≡ true }
-    requires count { 1 + length others.old ≡ length (inputs_of (plan_view plan.now)) }
+    requires count { 1 + length rest.old ≡ length (inputs_of (plan_view plan.now)) }
     ensures { Reports (answer_of plan.now
-        (reader S.left S.failures first.old first.new ∷ readers S.left S.failures others.old others.new))
+        (reader ⟦<S as Source>⟧.left ⟦<S as Source>⟧.failures first.old first.new
+        ∷ readers ⟦<S as Source>⟧.left ⟦<S as Source>⟧.failures rest.old rest.new)
+        (reader ⟦<S as Placed>⟧.whole ⟦<S as Placed>⟧.failures first.old first.new
+        ∷ readers ⟦<S as Placed>⟧.whole ⟦<S as Placed>⟧.failures rest.old rest.new))
         (writer P.held P.failures report.old report.new) result }
 {
     match plan {
-        Plan::Find { uuid, .. } => run_find::<A, _, _>(heap, first, others, uuid, report),
-        Plan::List { .. } => run_list(heap, first, report),
-        Plan::Name { name, .. } => run_name(heap, first, others, name.as_bytes(), report),
+        Plan::Find { uuid, others, .. } => {
+            let (others, indexes) = rest.split_at_mut(others.len());
+            asking::find::<A, _, _>(heap, first, others, indexes, uuid, report)
+        }
+        Plan::List { .. } => asking::list(heap, first, rest, report),
+        Plan::Name { name, .. } => run_name(heap, first, rest, name.as_bytes(), report),
         Plan::Symbolicate {
             uuid,
             arch,
             load,
+            others,
             addresses,
             ..
         } => {
+            let (others, indexes) = rest.split_at_mut(others.len());
             let key = key(uuid, arch);
-            run_symbolicate::<L, _, _>(heap, first, others, &key, *load, addresses, report)
+            asking::symbolicate::<L, _, _>(
+                heap, first, others, indexes, &key, *load, addresses, report,
+            )
         }
-        Plan::Frames { .. } => match others.split_first_mut() {
+        Plan::Frames { .. } => match rest.split_first_mut() {
             Some((archive, others)) => {
                 run_frames::<L, _, _>(heap, first, archive, others, report)
             }
@@ -447,7 +457,7 @@ fn answer<A: Archive + Drop, L: Archive + Drop, S: Source, P: Sink>(
 }
 
 /// Carries out a plan over its inputs, which stand in the order of the words.
-pub fn execute<A: Archive + Drop, L: Archive + Drop, S: Source, T: Target, P: Sink>(
+pub fn execute<A: Archive + Drop, L: Archive + Drop, S: Source + Placed, T: Target, P: Sink>(
     heap: Heap,
     plan: &Plan,
     inputs: &mut [Input<S>],
@@ -455,7 +465,9 @@ pub fn execute<A: Archive + Drop, L: Archive + Drop, S: Source, T: Target, P: Si
     report: &mut P,
 ) -> Result<Status, CommandFault>
     requires { length inputs.old ≡ length (inputs_of (plan_view plan.now)) }
-    ensures { Executes plan.now (readers S.left S.failures inputs.old inputs.new)
+    ensures { Executes plan.now
+        (readers ⟦<S as Source>⟧.left ⟦<S as Source>⟧.failures inputs.old inputs.new)
+        (readers ⟦<S as Placed>⟧.whole ⟦<S as Placed>⟧.failures inputs.old inputs.new)
         (outs T.Draft.held T.Draft.failures T.placed T.failures out.old out.new)
         (writer P.held P.failures report.old report.new) result }
 {
@@ -480,7 +492,11 @@ pub fn execute<A: Archive + Drop, L: Archive + Drop, S: Source, T: Target, P: Si
             [ops] => run_apply(heap, first, ops, out, report),
             _ => unreachable!(),
         },
-        Plan::Summary { .. } => run_summary(heap, first, out, report),
+        Plan::Summary { .. } => match others {
+            [] => run_summary(heap, first, out, report),
+            [index] => run_summary_at(heap, index, first, out, report),
+            _ => unreachable!(),
+        },
         Plan::Index { .. } => run_index(heap, first, out, report),
         Plan::Delta { .. } => match others {
             [summary] => run_delta(heap, first, summary, out, report),
