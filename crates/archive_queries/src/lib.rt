@@ -17,4 +17,4 @@ pub use find::{run_find, status_of};
 pub use frames::run_frames;
 pub use list::run_list;
 pub use name::run_name;
-pub use symbolicate::{answer_each, run_symbolicate};
+pub use symbolicate::{answer_each, asked_of, run_symbolicate, status_behind};

@@ -15,7 +15,7 @@ use memory::{Heap, NoMemory};
 use report_text::push_answer;
 
 /// The place that an address of the words means.
-pub(crate) fn asked_of(load: Option<u64>, address: u64) -> Where
+pub fn asked_of(load: Option<u64>, address: u64) -> Where
     ensures { result ≡ asked_of load address }
 {
     match load {
@@ -25,7 +25,7 @@ pub(crate) fn asked_of(load: Option<u64>, address: u64) -> Where
 }
 
 /// How a command ends behind one more answer: as before it, if that is one symbol.
-pub(crate) fn status_behind(status: Status, answer: &Answer<'_>) -> Status
+pub fn status_behind(status: Status, answer: &Answer<'_>) -> Status
     ensures { result ≡ if is_symbol answer.now then status else Partial }
 {
     match answer {

@@ -3,3 +3,4 @@ pub mod Entries
 pub mod IndexRows
 pub mod Refused
 pub mod Joined
+pub mod Framed

@@ -5,3 +5,4 @@ pub mod Summary
 pub mod Fronts
 pub mod InnerParts
 pub mod Symbolicate
+pub mod Frames

@@ -3,12 +3,13 @@
 //! - `inputs`: an index that is read, and the archive that it is of;
 //! - `rows`: the rows that an index tells; `summaries`: the summary that it tells;
 //! - `fronts`: [`Front`], what a key begins with; `parts`: what an index names there, read and joined;
-//! - `symbolicate`: the command that reads what the index names under a key;
+//! - `symbolicate`, `frames`: the commands that read what the index names under keys;
 //! - `find`, `list`, `summary`: commands that read the index alone, and the archive's length;
 //! - [`laws`]: what they tell by the index of a content.
 #![tactic(auto)]
 
 mod find;
+mod frames;
 mod fronts;
 mod inputs;
 pub mod laws;
@@ -20,6 +21,7 @@ mod summary;
 mod symbolicate;
 
 pub use find::run_find_at;
+pub use frames::run_frames_at;
 pub use fronts::Front;
 pub use list::run_list_at;
 pub use summary::run_summary_at;

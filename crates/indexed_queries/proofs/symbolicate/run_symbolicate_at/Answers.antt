@@ -1,10 +1,17 @@
 use Rattle.std.proofs.Common.{List, ℕ, refl, sym, ap, ◌∙◌, subst}
 use Rattle.std.specs.FinSet as set
+use Rattle.std.proofs.lemmas.Result.{err_from_is_err_and}
+use Rattle.byte_device.proofs.Known.{Appends-none}
 use Rattle.archive_core.specs.Content.{Operations}
 use Rattle.archive_queries.specs.Symbolicate.{TellsAddresses}
 use Rattle.command_ends.specs.Archives.{merged}
 use Rattle.command_ends.proofs.Endings.{reported}
 use Rattle.indexed_queries.proofs.symbolicate.run_symbolicate_at.Goals as goal
+
+pub returns-in_err-status : goal.returns-in_err-status
+returns-in_err-status g c =
+    let p = err_from_is_err_and c.from_residual-in_err-status.result c.from_residual-in_err-status.ensures.1 in
+    rw (p.1, p.2) (c.in_ok-join_named.ensures.unfailed, (Appends-none _, refl))
 
 pub returns : goal.returns
 returns g c =

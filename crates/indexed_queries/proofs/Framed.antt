@@ -1,0 +1,128 @@
+-- Frames, and the keys that they have.
+use Rattle.std.proofs.Common.{◌≡◌, ℕ, ◌+◌, ◌<◌, List, [], ◌∷◌, ◌++◌, length, map, take, get_or, Contains, Ok, Err, refl, sym, ap, ◌∙◌, subst, inl, inr, arith, add-one, if◌then◌else◌}
+use Rattle.std.specs.Prelude.{◌↔◌}
+use Rattle.std.specs.List.{AllZip}
+use Rattle.std.proofs.Math.ListN.{length-map}
+use Rattle.std.proofs.Math.Seq.{take-suc}
+use Rattle.std.proofs.lemmas.List.{get_or-map, flat_map_more}
+use Rattle.std.proofs.lemmas.List.Elements.{Contains-append_left, Contains-get_or, Contains-push, Contains-push_cases}
+use Rattle.archive_core.specs.Content.{Operations, HaveSameMembers}
+use Rattle.archive_core.specs.Key.{key_bytes}
+use Rattle.archive_core.specs.Lookup.{IsAnswer, answer_view}
+use Rattle.archive_core.specs.declared.lookup.Answer.{Answer}
+use Rattle.archive_queries.specs.Frames.{IsFrameAnswered, TellsFrames}
+use Rattle.archive_queries.specs.Symbolicate.{Answered, asked_of, is_symbol}
+use Rattle.archive_queries.proofs.Answered.{status_more}
+use Rattle.crash_frames.specs.Frames.{frames_of}
+use Rattle.crash_frames.specs.declared.frame.Frame.{Frame}
+use Rattle.report_text.specs.Answers.{answer_lines}
+use Rattle.command_ends.specs.Ends.{EndsReport}
+use Rattle.command_ends.specs.Indexes.{IsRefusedByIndex}
+use Rattle.command_ends.specs.Inputs.{Reader, Gives, IsRefusal, IsRefusedFrames, IsUntouched, Unfailed, failures_of}
+use Rattle.command_ends.specs.Outputs.{Takes, Writer}
+use Rattle.command_ends.specs.declared.faults.CommandFault.{CommandFault}
+use Rattle.command_ends.specs.declared.faults.CommandFault.TheVariants.{Input, Output, Report, OutOfMemory}
+use Rattle.command_ends.specs.declared.faults.Status.{Status}
+use Rattle.command_ends.specs.declared.faults.Status.TheVariants.{Done, Partial}
+use Rattle.command_ends.proofs.Readers.{pairs_more}
+use Rattle.indexed_queries.specs.declared.fronts.Front.{Front}
+use Rattle.indexed_queries.specs.Frames.{AreRefusedAt, MakesFramedAt, RefusesFramesAt, keys_of}
+use Rattle.indexed_queries.specs.Fronts.{IsStaleFor, front_bytes}
+
+-- ---- keys
+
+pub among : (fronts : List Front) (i : ℕ) (front : Front) (key : List ℕ) → i < length fronts → front ≡ get_or fronts i front → front_bytes front ≡ key → Contains (map front_bytes fronts) key
+among fronts i front key lt is same =
+    let there : get_or (map front_bytes fronts) i key ≡ key = get_or-map front_bytes fronts i front key lt ∙ ap front_bytes (sym is) ∙ same in
+    (i, omega (arith, lt, length-map fronts front_bytes), there)
+
+take_key : (frames : List Frame) (i : ℕ) (frame : Frame) → i < length frames → frame ≡ get_or frames i frame → take (i + 1) (keys_of frames) ≡ take i (keys_of frames) ++ key_bytes frame.key ∷ []
+take_key frames i frame lt is =
+    let key_of : Frame → List ℕ = λ (f : Frame). key_bytes f.key in
+    let within : i < length (keys_of frames) = omega (arith, lt, length-map frames key_of) in
+    ap (λ (n : ℕ). take n (keys_of frames)) (add-one i) ∙ take-suc (keys_of frames) i [] within
+    ∙ ap (λ (k : List ℕ). take i (keys_of frames) ++ k ∷ []) (get_or-map key_of frames i frame [] lt ∙ ap key_of (sym is))
+
+same_passed : (xs ys : List (List ℕ)) (y : List ℕ) → HaveSameMembers xs ys → Contains xs y → HaveSameMembers xs (ys ++ y ∷ [])
+same_passed xs ys y same there = λ q. (
+  λ h. Contains-append_left ys (y ∷ []) q ((same q).0 h),
+  λ h. elim (Contains-push_cases ys y q h) [
+    | inl before ↦ (same q).1 before
+    | inr e ↦ subst (Contains xs) e there
+  ],
+)
+
+same_pushed : (xs ys : List (List ℕ)) (y : List ℕ) → HaveSameMembers xs ys → HaveSameMembers (xs ++ y ∷ []) (ys ++ y ∷ [])
+same_pushed xs ys y same = λ q. (
+  λ h. elim (Contains-push_cases xs y q h) [
+    | inl before ↦ Contains-append_left ys (y ∷ []) q ((same q).0 before)
+    | inr e ↦ subst (Contains (ys ++ y ∷ [])) e (Contains-push ys y)
+  ],
+  λ h. elim (Contains-push_cases ys y q h) [
+    | inl before ↦ Contains-append_left xs (y ∷ []) q ((same q).1 before)
+    | inr e ↦ subst (Contains (xs ++ y ∷ [])) e (Contains-push xs y)
+  ],
+)
+
+pub keys_passed : (fronts : List Front) (frames : List Frame) (i : ℕ) (frame : Frame) → i < length frames → frame ≡ get_or frames i frame → HaveSameMembers (map front_bytes fronts) (take i (keys_of frames)) → Contains (map front_bytes fronts) (key_bytes frame.key)
+    → HaveSameMembers (map front_bytes fronts) (take (i + 1) (keys_of frames))
+keys_passed fronts frames i frame lt is same there =
+    subst (HaveSameMembers (map front_bytes fronts)) (sym (take_key frames i frame lt is)) (same_passed (map front_bytes fronts) (take i (keys_of frames)) (key_bytes frame.key) same there)
+
+pub keys_pushed : (fronts after : List Front) (frames : List Frame) (i : ℕ) (frame : Frame) → i < length frames → frame ≡ get_or frames i frame → map front_bytes after ≡ map front_bytes fronts ++ key_bytes frame.key ∷ [] → HaveSameMembers (map front_bytes fronts) (take i (keys_of frames))
+    → HaveSameMembers (map front_bytes after) (take (i + 1) (keys_of frames))
+keys_pushed fronts after frames i frame lt is grown same =
+    subst (λ (xs : List (List ℕ)). HaveSameMembers xs (take (i + 1) (keys_of frames))) (sym grown)
+    (subst (HaveSameMembers (map front_bytes fronts ++ key_bytes frame.key ∷ [])) (sym (take_key frames i frame lt is)) (same_pushed (map front_bytes fronts) (take i (keys_of frames)) (key_bytes frame.key) same))
+
+pub no_keys : HaveSameMembers [] []
+no_keys = λ q. (λ h. h, λ h. h)
+
+-- ---- answers
+
+take_frame : (frames : List Frame) (i : ℕ) (frame : Frame) → i < length frames → frame ≡ get_or frames i frame → take (i + 1) frames ≡ take i frames ++ frame ∷ []
+take_frame frames i frame lt is = ap (λ (n : ℕ). take n frames) (add-one i) ∙ take-suc frames i frame lt ∙ ap (λ (f : Frame). take i frames ++ f ∷ []) (sym is)
+
+pub none_framed : (content : Operations) → TellsFrames content [] Done []
+none_framed content = record { rows = []; answered = tt; status_is = refl; text_is = refl }
+
+pub more_framed : (content : Operations) (frames : List Frame) (i : ℕ) (frame : Frame) (status next : Status) (text lines : List ℕ) (answer : Answer) → i < length frames → frame ≡ get_or frames i frame
+    → TellsFrames content (take i frames) status text
+    → IsAnswer content frame.key (asked_of frame.load frame.address) (answer_view answer)
+    → next ≡ (if is_symbol answer then status else Partial)
+    → lines ≡ text ++ answer_lines frame.address answer
+    → TellsFrames content (take (i + 1) frames) next lines
+more_framed content frames i frame status next text lines answer lt is told is_answer next_is lines_are =
+    let row : Answered = record { address = frame.address; answer = answer } in
+    record {
+      rows = told.rows ++ row ∷ [];
+      answered = subst (λ (fs : List Frame). AllZip (IsFrameAnswered content) fs (told.rows ++ row ∷ [])) (sym (take_frame frames i frame lt is)) (pairs_more (IsFrameAnswered content) (take i frames) told.rows frame row told.answered (refl, is_answer));
+      status_is = next_is ∙ ap (λ (s : Status). if is_symbol answer then s else Partial) told.status_is ∙ status_more told.rows row;
+      text_is = lines_are ∙ ap (λ t. t ++ answer_lines frame.address answer) told.text_is ∙ flat_map_more (λ (row : Answered). answer_lines row.address row.answer) [] told.rows row;
+    }
+
+-- ---- refusals
+
+-- INDEX or its archive is refused
+pub refused_keyed : {R S : Type 0} (index : Reader R) (archive : Reader S) (frames : List Frame) (keys : List (List ℕ)) (NoneFailed : Type 0) (fault : CommandFault) → HaveSameMembers keys (keys_of frames)
+    → IsRefusal (IsRefusedByIndex 0 index archive (IsStaleFor keys archive)) NoneFailed fault → IsRefusal (AreRefusedAt index archive frames) NoneFailed fault
+refused_keyed index archive frames keys NoneFailed (Input at why) same r = (keys, same, r)
+refused_keyed index archive frames keys NoneFailed (Output n) same r = r
+refused_keyed index archive frames keys NoneFailed (Report n) same r = r
+refused_keyed index archive frames keys NoneFailed OutOfMemory same r = r
+
+module _ {Q R S : Type 0} (frames : Reader Q) (index : Reader R) (archive : Reader S) (report : Writer) where
+  abbrev EndsSo : CommandFault → Type 0
+  EndsSo fault = EndsReport (record { Makes = MakesFramedAt frames index archive; Refuses = RefusesFramesAt frames index archive; Unfailed = Unfailed frames × (Unfailed index × Unfailed archive) }) report (Err fault)
+
+  pub frames_first : (fault : CommandFault) → IsRefusal (IsRefusedFrames frames) (Unfailed frames) fault → IsUntouched index → IsUntouched archive → Unfailed index → Unfailed archive → Takes report [] → EndsSo fault
+  frames_first (Input at why) r index_kept archive_kept index_unfailed archive_unfailed t = (inl (r, index_kept, archive_kept), t)
+  frames_first (Output n) r index_kept archive_kept index_unfailed archive_unfailed t = absurd r
+  frames_first (Report n) r index_kept archive_kept index_unfailed archive_unfailed t = absurd r
+  frames_first OutOfMemory r index_kept archive_kept index_unfailed archive_unfailed t = ((r, (index_unfailed, archive_unfailed)), t)
+
+  pub archive_after : (fault : CommandFault) (said : List Frame) → Gives frames (λ bytes. frames_of bytes ≡ Ok said) → Unfailed frames → IsRefusal (AreRefusedAt index archive said) (Unfailed index × Unfailed archive) fault → Takes report [] → EndsSo fault
+  archive_after (Input at why) said gives unfailed r t = (inr (said, gives, unfailed, r), t)
+  archive_after (Output n) said gives unfailed r t = absurd r
+  archive_after (Report n) said gives unfailed r t = absurd r
+  archive_after OutOfMemory said gives unfailed r t = ((unfailed, r), t)

@@ -1,0 +1,34 @@
+use Rattle.std.proofs.Common.{List, ℕ, refl, string_bytes, subst, sym}
+use Rattle.std.proofs.lemmas.Result.{err_from_is_err_and}
+use Rattle.byte_device.proofs.Known.{Appends-none}
+use Rattle.crash_frames.specs.declared.frame.Frame.{Frame}
+use Rattle.command_ends.proofs.Endings.{reported}
+use Rattle.command_ends.specs.Inputs.{reader}
+use Rattle.indexed_queries.specs.Frames.{AreRefusedAt, AreToldAt}
+use Rattle.indexed_queries.proofs.Framed.{archive_after, frames_first}
+use Rattle.indexed_queries.proofs.frames.run_frames_at.Goals as goal
+
+pub returns-in_err-frames : goal.returns-in_err-frames
+returns-in_err-frames g c =
+    let p = err_from_is_err_and c.from_residual-in_err-frames.result c.from_residual-in_err-frames.ensures.1 in
+    rw (p.1, p.2) (frames_first _ _ _ _ c.in_err-frames.field-0.0 c.in_err-frames.ensures.refused refl refl refl refl (Appends-none _, refl))
+
+pub returns-in_err-status : goal.returns-in_err-status
+returns-in_err-status g c =
+    let p = err_from_is_err_and c.from_residual-in_err-status.result c.from_residual-in_err-status.ensures.1 in
+    let said = c.in_ok-frames.ensures in
+    rw (p.1, p.2) (archive_after _ _ _ _ c.in_err-status.field-0.0 c.in_ok-frames.frames.items said.frames said.unfailed (rw c.deref.ensures.value at c.in_err-status.ensures.refused) (Appends-none _, refl))
+
+pub returns : goal.returns
+returns g c =
+    let said = c.in_ok-frames.ensures in
+    let index = reader g.I.Source.left g.I.Source.failures c.args.index.now c.tell_frames.new.index in
+    let archive = reader g.P.Placed.whole g.P.Placed.failures c.args.archive.now c.tell_frames.new.archive in
+    reported _ _ _ _ c.publish_report.result _ _ (said.unfailed, c.in_ok-status.ensures.unfailed)
+    (record {
+      said = c.in_ok-frames.frames.items;
+      frames_are = said.frames;
+      told = subst (λ (text : List ℕ). AreToldAt index archive c.in_ok-frames.frames.items c.in_ok-status.status text) (sym c.deref-2.ensures)
+          (subst (λ (frames : List Frame). AreToldAt index archive frames c.in_ok-status.status (string_bytes c.in_ok-status.text)) c.deref.ensures.value c.in_ok-status.ensures.told);
+    })
+    c.publish_report.ensures
