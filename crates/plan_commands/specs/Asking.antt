@@ -8,9 +8,11 @@ use Rattle.command_ends.specs.declared.faults.Why.TheVariants.{NoArchive}
 use Rattle.command_ends.specs.Ends.{Query}
 use Rattle.command_ends.specs.Inputs.{Reader}
 use Rattle.archive_queries.specs.Find.{find}
+use Rattle.archive_queries.specs.Frames.{frames}
 use Rattle.archive_queries.specs.List.{list}
 use Rattle.archive_queries.specs.Symbolicate.{symbolicate}
 use Rattle.indexed_queries.specs.Find.{find_at}
+use Rattle.indexed_queries.specs.Frames.{frames_at}
 use Rattle.indexed_queries.specs.List.{list_at}
 use Rattle.indexed_queries.specs.Symbolicate.{symbolicate_at}
 
@@ -44,3 +46,9 @@ abbrev pub symbolicate_of : {S : Type 0} → Reader S → Reader S → List (Rea
 symbolicate_of archive place others [] key load addresses = symbolicate archive others key load addresses
 symbolicate_of archive place [] (index ∷ []) key load addresses = symbolicate_at index place key load addresses
 symbolicate_of archive place others (index ∷ indexes) key load addresses = extra_index (1 + length others)
+
+-- `frames`
+abbrev pub frames_of : {S : Type 0} → Reader S → Reader S → Reader S → List (Reader S) → List (Reader S) → Query
+frames_of crash archive place others [] = frames crash archive others
+frames_of crash archive place [] (index ∷ []) = frames_at crash index place
+frames_of crash archive place others (index ∷ indexes) = extra_index (1 + length others)

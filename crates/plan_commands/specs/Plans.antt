@@ -20,8 +20,7 @@ use Rattle.archive_updates.specs.Apply.{apply_as_it_comes}
 use Rattle.archive_updates.specs.Delta.{delta_as_it_comes}
 use Rattle.command_ends.specs.Ends.{Command, Ends, EndsReport, EndsStreamed, Query, Streamed, writes_amidst}
 use Rattle.indexed_queries.specs.Summary.{summary_at}
-use Rattle.plan_commands.specs.Asking.{find_of, list_of, symbolicate_of}
-use Rattle.archive_queries.specs.Frames.{frames}
+use Rattle.plan_commands.specs.Asking.{find_of, frames_of, list_of, symbolicate_of}
 use Rattle.command_ends.specs.Inputs.{IsKnown, Reader}
 use Rattle.archive_updates.specs.MergeStreams.{merge_as_it_comes}
 use Rattle.archive_updates.specs.Migrate.{migrate}
@@ -101,6 +100,11 @@ pub data Deed : Type 1 where
   answers : Query → Deed
   none : Deed
 
+-- of `frames`, over FRAMES, the indexes, and the archives as they are read from their start, and from any place
+abbrev pub framed : {S : Type 0} → Reader S → List (Reader S) → List (Reader S) → List (Reader S) → Deed
+framed crash indexes (archive ∷ others) (place ∷ _) = answers (frames_of crash archive place others indexes)
+framed crash indexes _ _ = none
+
 -- of a plan that only reports, over the inputs at the paths of its line, in their order, as they are read from their
 -- start, and as they are read from any place: an archive and the further ones are asked as their join
 abbrev pub answer_of : {S : Type 0} → Plan → List (Reader S) → List (Reader S) → Deed
@@ -111,7 +115,8 @@ answer_of (plan.Name _ sought _) (archive ∷ others) _ = answers (name archive 
 answer_of (plan.Symbolicate _ uuid arch load others _ addresses) (archive ∷ rest) (place ∷ _) =
     answers (symbolicate_of archive place (take (length others.now) rest) (drop (length others.now) rest)
     (key_of uuid arch) load addresses.now)
-answer_of (plan.Frames _ _ _ _) (crash ∷ archive ∷ others) _ = answers (frames crash archive others)
+answer_of (plan.Frames _ indexes _ _) (crash ∷ rest) (_ ∷ places) =
+    framed crash (take (length indexes.now) rest) (drop (length indexes.now) rest) (drop (length indexes.now) places)
 answer_of (plan.Rehearse _) (script ∷ _) _ = answers (rehearse script)
 answer_of _ _ _ = none
 

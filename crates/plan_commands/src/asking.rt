@@ -4,13 +4,13 @@ ghost use Rattle.std.specs.Prelude.{◌≡◌, ◌+◌, length};
 ghost use Rattle.command_ends.specs.Ends.{EndsReport};
 ghost use Rattle.command_ends.specs.Inputs.{reader, readers};
 ghost use Rattle.command_ends.specs.Outputs.{writer};
-ghost use Rattle.plan_commands.specs.Asking.{find_of, list_of, no_archive, symbolicate_of};
+ghost use Rattle.plan_commands.specs.Asking.{find_of, frames_of, list_of, no_archive, symbolicate_of};
 
 use archive_core::{Archive, SliceKey};
-use archive_queries::{run_find, run_list, run_symbolicate};
+use archive_queries::{run_find, run_frames, run_list, run_symbolicate};
 use byte_device::{CannotOpen, Sink, Source};
 use command_ends::{CommandFault, Place, Status, Why};
-use indexed_queries::{run_find_at, run_list_at, run_symbolicate_at};
+use indexed_queries::{run_find_at, run_frames_at, run_list_at, run_symbolicate_at};
 use memory::Heap;
 use placed_bytes::Placed;
 use uuid::Uuid;
@@ -94,6 +94,32 @@ pub fn symbolicate<A: Archive + Drop, S: Source + Placed, P: Sink>(
         ([], [index]) => {
             run_symbolicate_at::<A, _, _, _>(heap, index, archive, key, load, addresses, report)
         }
+        (others, _) => Err(no_archive(others.len())),
+    }
+}
+
+/// `frames` over the archive and the others, the first of which are read by these indexes.
+pub fn frames<A: Archive + Drop, S: Source + Placed, P: Sink>(
+    heap: Heap,
+    crash: &mut Input<S>,
+    archive: &mut Input<S>,
+    others: &mut [Input<S>],
+    indexes: &mut [Input<S>],
+    report: &mut P,
+) -> Result<Status, CommandFault>
+    ensures { EndsReport (frames_of
+        (reader ⟦<S as Source>⟧.left ⟦<S as Source>⟧.failures crash.old crash.new)
+        (reader ⟦<S as Source>⟧.left ⟦<S as Source>⟧.failures archive.old archive.new)
+        (reader ⟦<S as Placed>⟧.whole ⟦<S as Placed>⟧.failures archive.old archive.new)
+        (readers ⟦<S as Source>⟧.left ⟦<S as Source>⟧.failures others.old others.new)
+        (readers ⟦<S as Source>⟧.left ⟦<S as Source>⟧.failures indexes.old indexes.new))
+        (writer P.held P.failures report.old report.new) result }
+{
+    if indexes.is_empty() {
+        return run_frames::<A, _, _>(heap, crash, archive, others, report);
+    }
+    match (others, indexes) {
+        ([], [index]) => run_frames_at::<A, _, _, _, _>(heap, crash, index, archive, report),
         (others, _) => Err(no_archive(others.len())),
     }
 }

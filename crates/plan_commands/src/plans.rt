@@ -15,7 +15,7 @@ ghost use Rattle.plan_commands.specs.Plans.{Executes, Reports, answer_of, key_of
 use crate::asking::{self, Input};
 use archive_core::{ArchKey, Archive, Digest, SliceKey};
 use archive_files::Replaces;
-use archive_queries::{run_frames, run_name};
+use archive_queries::run_name;
 use archive_updates::{
     run_admit, run_apply, run_delta, run_merge, run_migrate, run_new, run_retire, run_summary,
 };
@@ -445,12 +445,15 @@ fn answer<A: Archive + Drop, L: Archive + Drop, S: Source + Placed, P: Sink>(
                 heap, first, others, indexes, &key, *load, addresses, report,
             )
         }
-        Plan::Frames { .. } => match rest.split_first_mut() {
-            Some((archive, others)) => {
-                run_frames::<L, _, _>(heap, first, archive, others, report)
+        Plan::Frames { indexes, .. } => {
+            let (indexes, archives) = rest.split_at_mut(indexes.len());
+            match archives.split_first_mut() {
+                Some((archive, others)) => {
+                    asking::frames::<L, _, _>(heap, first, archive, others, indexes, report)
+                }
+                None => unreachable!(),
             }
-            None => unreachable!(),
-        },
+        }
         Plan::Rehearse { .. } => run_rehearse::<A, _, _>(heap, first, report),
         _ => unreachable!(),
     }
