@@ -6,11 +6,12 @@ use Rattle.command_ends.specs.declared.failures.Failure.TheVariants.{Command, Ca
 use Rattle.command_ends.specs.declared.faults.CommandFault.TheVariants.{Input, Output, Report, OutOfMemory}
 use Rattle.command_ends.specs.declared.faults.CommandFault.{CommandFault}
 use Rattle.command_ends.specs.declared.faults.Place.{Place}
-use Rattle.command_ends.specs.declared.faults.Place.TheVariants.{Archive, File, Ops, Summary, Script, Frames}
+use Rattle.command_ends.specs.declared.faults.Place.TheVariants.{Archive, File, Ops, Summary, Script, Frames, Index}
 use Rattle.command_ends.specs.declared.faults.Status.{Status}
 use Rattle.command_ends.specs.declared.faults.Why.{Why}
 use Rattle.command_ends.specs.declared.faults.Why.TheVariants.{CannotOpen, Device, Record, Take}
 use Rattle.command_ends.specs.declared.faults.Why.TheVariants.{Script as ScriptFaulty, BadFrame, OldArchive, TooLong}
+use Rattle.command_ends.specs.declared.faults.Why.TheVariants.{Index as IndexFaulty, Stale}
 use Rattle.command_line.specs.Lines.{Line, inputs_of_kind, out_of}
 use Rattle.command_line.specs.declared.commands.Kind.TheVariants as kinds
 use Rattle.plan_commands.specs.declared.flaws.FaultyLine.{FaultyLine}
@@ -24,6 +25,7 @@ path_at line Ops = slice_get (inputs_of_kind kinds.Ops line) 0
 path_at line Summary = slice_get (inputs_of_kind kinds.Summary line) 0
 path_at line Script = slice_get (inputs_of_kind kinds.Script line) 0
 path_at line Frames = slice_get (inputs_of_kind kinds.Frames line) 0
+path_at line (Index number) = None
 
 -- the path of the file that a failure is of
 abbrev pub file_of : Line → Failure → Option Text
@@ -45,6 +47,8 @@ faulty_line (ScriptFaulty _ number found) =
 faulty_line (BadFrame number found) = Some (record { line = number; flaw = flaw.Frame found })
 faulty_line OldArchive = None
 faulty_line TooLong = None
+faulty_line (IndexFaulty _) = None
+faulty_line (Stale _) = None
 
 -- the same of a failure
 abbrev pub faulty_line_of : Failure → Option FaultyLine

@@ -117,6 +117,8 @@ fn input_at(line: &Line, place: Place) -> Option<(usize, &str)>
         Place::Summary => input_of(line, Kind::Summary, 0),
         Place::Script => input_of(line, Kind::Script, 0),
         Place::Frames => input_of(line, Kind::Frames, 0),
+        // No line names one yet.
+        Place::Index(_) => None,
     }
 }
 
