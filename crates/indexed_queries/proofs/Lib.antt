@@ -4,3 +4,4 @@ pub mod IndexRows
 pub mod Refused
 pub mod Joined
 pub mod Framed
+pub mod ByIndex

@@ -6,3 +6,4 @@ pub mod Fronts
 pub mod InnerParts
 pub mod Symbolicate
 pub mod Frames
+pub mod Told

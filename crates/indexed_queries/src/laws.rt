@@ -1,21 +1,35 @@
 //! What the commands tell by the index of a content. Each law is a function with an empty body, and its contract the
 //! law.
 
-ghost use Rattle.std.specs.Prelude.{◌≡◌, ◌≤◌, ◌<◌, ◌^◌, ℕ, List, length};
+ghost use Rattle.std.specs.Prelude.{◌≡◌, ◌≤◌, ◌<◌, ◌^◌, ℕ, List, Option, Contains, length};
 ghost use Rattle.archive_core.specs.Content.{Operations, IsContent};
+ghost use Rattle.archive_core.specs.Key.{key_bytes};
 ghost use Rattle.archive_core.specs.Lists.{IsList};
 ghost use Rattle.archive_core.specs.Part.{is_under, part};
 ghost use Rattle.archive_core.specs.Summary.{summary};
 ghost use Rattle.archive_core.specs.declared.find.FindRow.{FindRow};
+ghost use Rattle.archive_core.specs.declared.keys.SliceKey.{SliceKey};
 ghost use Rattle.archive_index.specs.Index.{index};
-ghost use Rattle.archive_records.specs.Text.{written};
+ghost use Rattle.archive_index.specs.Text.{index_text};
+ghost use Rattle.archive_records.specs.Text.{summary_text, written};
 ghost use Rattle.archive_queries.specs.Find.{TellsFound, find_status};
+ghost use Rattle.archive_queries.specs.Frames.{TellsFrames};
+ghost use Rattle.archive_queries.specs.Symbolicate.{TellsAddresses};
+ghost use Rattle.crash_frames.specs.declared.frame.Frame.{Frame};
+ghost use Rattle.command_ends.specs.Inputs.{IsGiven, Reader};
+ghost use Rattle.command_ends.specs.Outputs.{summary_report_of};
 ghost use Rattle.command_ends.specs.declared.faults.Status.{Status};
 ghost use Rattle.report_text.specs.Finds.{list_lines};
-ghost use Rattle.indexed_queries.specs.Find.{TellsFoundAt};
-ghost use Rattle.indexed_queries.specs.List.{TellsListedAt};
+ghost use Rattle.indexed_queries.specs.Find.{MakesFoundAt};
+ghost use Rattle.indexed_queries.specs.Frames.{AreToldAt, keys_of};
+ghost use Rattle.indexed_queries.specs.List.{MakesListedAt};
 ghost use Rattle.indexed_queries.specs.Rows.{AreIndexRows, HaveKeys};
-ghost use Rattle.indexed_queries.specs.Summary.{summary_in};
+ghost use Rattle.indexed_queries.specs.Summary.{MakesSummaryAt};
+ghost use Rattle.indexed_queries.specs.Symbolicate.{MakesAnsweredAt};
+ghost use Rattle.indexed_queries.specs.Told.{DigestsTellOver};
+
+use byte_device::Source;
+use placed_bytes::Placed;
 
 /// The rows of the index of a content, under a front, are the list of what the content has there. Nothing is supposed of
 /// SHA-256, and no archive is read.
@@ -24,21 +38,53 @@ pub fn rows_of_index()
         → length (written o) < 2 ^ 64 → AreIndexRows front (index o) rows → IsList (part o (is_under front)) rows }
 {}
 
-/// What `find` tells by the index of a content is what it tells of that content.
-pub fn found_by_index()
-    ensures { (o : Operations) (uuid : List ℕ) (status : Status) (text : List ℕ) → length uuid ≡ 16 → IsContent o
-        → HaveKeys o → length (written o) < 2 ^ 64 → TellsFoundAt (index o) uuid status text
+/// Where INDEX is that of a content, `find` tells what it tells of that content, whatever bytes ARCHIVE has.
+pub fn found_by_index<R: Source, S: Placed>()
+    ensures { (input : Reader R) (archive : Reader S) (o : Operations) (uuid : List ℕ) (status : Status)
+        (text : List ℕ) → length uuid ≡ 16 → IsContent o → HaveKeys o → length (written o) < 2 ^ 64
+        → IsGiven input (index_text (index o)) → MakesFoundAt input archive uuid status text
         → TellsFound o uuid status text }
 {}
 
-/// What `list` tells by the index of a content is what it tells of that content.
-pub fn listed_by_index()
-    ensures { (o : Operations) (status : Status) (text : List ℕ) → IsContent o → HaveKeys o
-        → length (written o) < 2 ^ 64 → TellsListedAt (index o) status text
+/// Where INDEX is that of a content, `list` tells what it tells of that content, whatever bytes ARCHIVE has.
+pub fn listed_by_index<R: Source, S: Placed>()
+    ensures { (input : Reader R) (archive : Reader S) (o : Operations) (status : Status) (text : List ℕ)
+        → IsContent o → HaveKeys o → length (written o) < 2 ^ 64 → IsGiven input (index_text (index o))
+        → MakesListedAt input archive status text
         → (rows : List FindRow) × IsList o rows × (status ≡ find_status rows) × (text ≡ list_lines rows) }
 {}
 
-/// The summary that the index of a content tells is that of the content.
-pub fn summarized_by_index()
-    ensures { (o : Operations) → IsContent o → summary_in (index o) ≡ summary o }
+/// Where INDEX is that of a content, `summary` makes the summary of that content, whatever bytes ARCHIVE has.
+pub fn summarized_by_index<R: Source, S: Placed>()
+    ensures { (input : Reader R) (archive : Reader S) (o : Operations) (text told : List ℕ) → IsContent o
+        → IsGiven input (index_text (index o)) → MakesSummaryAt input archive text told
+        → (text ≡ summary_text (summary o)) × (told ≡ summary_report_of (summary o)) }
+{}
+
+/// Where INDEX is that of a content, `symbolicate` tells what it tells of that content: if ARCHIVE is the text of it,
+/// and nothing is supposed of SHA-256; or if ARCHIVE has any bytes, and no slice of the content has the SHA-256 of a
+/// different slice in these. Else it is refused.
+pub fn answered_by_index<R: Source, S: Placed>()
+    ensures right { (input : Reader R) (archive : Reader S) (o : Operations) (key : SliceKey) (load : Option ℕ)
+        (addresses : List ℕ) (status : Status) (text : List ℕ) → length (key_bytes key) ≤ 24 → IsContent o
+        → length (written o) < 2 ^ 64 → IsGiven input (index_text (index o)) → IsGiven archive (written o)
+        → MakesAnsweredAt input archive key load addresses status text
+        → TellsAddresses o key load addresses status text }
+    ensures any { (input : Reader R) (archive : Reader S) (o : Operations) (key : SliceKey) (load : Option ℕ)
+        (addresses : List ℕ) (status : Status) (text bytes : List ℕ) → length (key_bytes key) ≤ 24 → IsContent o
+        → IsGiven input (index_text (index o)) → IsGiven archive bytes → DigestsTellOver o bytes
+        → MakesAnsweredAt input archive key load addresses status text
+        → TellsAddresses o key load addresses status text }
+{}
+
+/// The same of `frames`.
+pub fn framed_by_index<R: Source, S: Placed>()
+    ensures right { (input : Reader R) (archive : Reader S) (o : Operations) (said : List Frame) (status : Status)
+        (text : List ℕ) → ((key : List ℕ) → Contains (keys_of said) key → length key ≤ 24) → IsContent o
+        → length (written o) < 2 ^ 64 → IsGiven input (index_text (index o)) → IsGiven archive (written o)
+        → AreToldAt input archive said status text → TellsFrames o said status text }
+    ensures any { (input : Reader R) (archive : Reader S) (o : Operations) (said : List Frame) (status : Status)
+        (text bytes : List ℕ) → ((key : List ℕ) → Contains (keys_of said) key → length key ≤ 24) → IsContent o
+        → IsGiven input (index_text (index o)) → IsGiven archive bytes → DigestsTellOver o bytes
+        → AreToldAt input archive said status text → TellsFrames o said status text }
 {}

@@ -1,0 +1,181 @@
+-- What is told by the index of a content is what the content tells.
+use Rattle.std.proofs.Common.{◌≡◌, ℕ, ◌<◌, ◌≤◌, ◌^◌, zero, suc, Bool, true, false, ◌||◌, ◌&&◌, List, [], ◌∷◌, length, map, get_or, Contains, Option, Some, None, Result, Ok, Err, refl, sym, ap, ◌∙◌, subst, arith}
+use Rattle.std.specs.Prelude.{IfSome, MatchResult}
+use Rattle.std.specs.List.{AllByRecursion, AllZip, list_any}
+use Rattle.std.specs.Cmp.Lexicographic.{nat_list_cmp_total}
+use Rattle.std.specs.FinSet as set
+use Rattle.std.specs.FinSet.{contains-empty, contains-union, same_set}
+use Rattle.archive_core.specs.Content.{Operations, IsContent, content_of, is_admission, joined}
+use Rattle.archive_core.specs.Key.{key_bytes}
+use Rattle.archive_core.specs.Part.{AreAlikeUnder, is_under, part}
+use Rattle.archive_core.specs.Record.{admission_record}
+use Rattle.archive_core.specs.Summary.{Entries}
+use Rattle.archive_core.specs.declared.keys.SliceKey.{SliceKey}
+use Rattle.archive_core.proofs.Made.{bytes_same}
+use Rattle.archive_core.proofs.Members.{in_rest}
+use Rattle.archive_core.proofs.Picked.{answer_alike, contains_part, part_alike, part_content}
+use Rattle.archive_records.specs.Text.{written}
+use Rattle.archive_index.specs.Entry.{IsPlacedEntry}
+use Rattle.archive_index.specs.Index.{AreIndexEntries, index}
+use Rattle.archive_index.specs.Places.{AreNamed, IsNamedBy, TellsFound}
+use Rattle.archive_index.specs.Text.{index_text}
+use Rattle.archive_index.proofs.Faults.{one_text}
+use Rattle.archive_index.proofs.Named.{entry_in, of_the_index, right}
+use Rattle.archive_index.proofs.Placed.{is_placed}
+use Rattle.archive_queries.specs.Frames.{IsFrameAnswered, TellsFrames}
+use Rattle.archive_queries.specs.Symbolicate.{Answered, TellsAddresses, asked_of}
+use Rattle.archive_core.specs.Lookup.{answer_view}
+use Rattle.archive_queries.proofs.Answered.{told_alike}
+use Rattle.byte_device.specs.declared.disks.CannotOpen.{CannotOpen}
+use Rattle.crash_frames.specs.declared.frame.Frame.{Frame}
+use Rattle.command_ends.specs.Archives.{merged}
+use Rattle.command_ends.specs.Indexes.{HoldsIndex}
+use Rattle.command_ends.specs.Inputs.{Reader, Gives, IsGiven, reader}
+use Rattle.command_ends.specs.declared.faults.Status.{Status}
+use Rattle.indexed_queries.specs.Frames.{AreToldAt, keys_of}
+use Rattle.indexed_queries.specs.Fronts.{AreNamedUnder}
+use Rattle.indexed_queries.specs.Symbolicate.{MakesAnsweredAt}
+use Rattle.indexed_queries.specs.Told.{DigestsTellOver}
+
+-- ---- INDEX is that of a content
+
+pub index_entries : (o : Operations) → IsContent o → AreIndexEntries (index o)
+index_entries o content = λ e h.
+    let p = entry_in o e h in
+    subst IsPlacedEntry (sym p.entry_is) (is_placed p.offset p.r (content.records p.r p.member))
+
+given_text : (w : Option (List ℕ)) (bytes : List ℕ) (P : List ℕ → Type 0) → w ≡ Some bytes → IfSome w P → P bytes
+given_text w bytes P is h = subst (λ (v : Option (List ℕ)). IfSome v P) is h
+
+given_so : {S : Type 0} (left : S → Option (List ℕ)) (failures : S → ℕ) (old new : Result S CannotOpen) (bytes : List ℕ) (P : List ℕ → Type 0) → IsGiven (reader left failures old new) bytes → Gives (reader left failures old new) P → P bytes
+given_so left failures (Ok source) new bytes P given gives = given_text (left source) bytes P given gives
+given_so left failures (Err _) new bytes P given gives = absurd given
+
+-- what is true of the bytes of an input, of these
+pub of_given : {S : Type 0} (input : Reader S) (bytes : List ℕ) (P : List ℕ → Type 0) → IsGiven input bytes → Gives input P → P bytes
+of_given input bytes P given gives = given_so input.left input.failures input.old input.new bytes P given gives
+
+pub entries_are : {S : Type 0} (input : Reader S) (o : Operations) (entries : Entries) → IsContent o → IsGiven input (index_text (index o)) → HoldsIndex input entries → entries ≡ index o
+entries_are input o entries content given holds =
+    one_text entries (index o) holds.0 (index_entries o content) (sym (of_given input (index_text (index o)) (λ text. text ≡ index_text entries) given holds.1))
+
+-- ---- parts of a content, joined
+
+both_and : (c p q : Bool) → ((c && p) || (c && q)) ≡ (c && (p || q))
+both_and true p q = refl
+both_and false p q = refl
+
+or_assoc : (a b c : Bool) → ((a || b) || c) ≡ (a || (b || c))
+or_assoc true b c = refl
+or_assoc false b c = refl
+
+or_none : (a : Bool) → (a || false) ≡ a
+or_none true = refl
+or_none false = refl
+
+module _ (o : Operations) (content : IsContent o) where
+  part_same : (p q : List ℕ → Bool) → ((r : List ℕ) → p r ≡ q r) → part o p ≡ part o q
+  part_same p q same = same_set nat_list_cmp_total bytes_same (part o p) (part o q) (λ r. contains_part o p r ∙ ap (λ (b : Bool). set.contains o r && b) (same r) ∙ sym (contains_part o q r))
+
+  part_none : part o (λ r. false) ≡ set.empty
+  part_none = same_set nat_list_cmp_total bytes_same (part o (λ r. false)) set.empty (λ r. contains_part o (λ r. false) r ∙ and_none (set.contains o r) ∙ sym (contains-empty _ r))
+    where
+      and_none : (b : Bool) → (b && false) ≡ false
+      and_none true = refl
+      and_none false = refl
+
+  parts_joined : (p q : List ℕ → Bool) → joined (part o p) (part o q) ≡ part o (λ r. p r || q r)
+  parts_joined p q =
+      let picks : List ℕ → Bool = λ (r : List ℕ). p r || q r in
+      let one : set.union (part o p) (part o q) ≡ part o picks = same_set nat_list_cmp_total bytes_same (set.union (part o p) (part o q)) (part o picks) (λ r.
+      contains-union nat_list_cmp_total (part o p) (part o q) r ∙ (λ i. contains_part o p r i || contains_part o q r i) ∙ both_and (set.contains o r) (p r) (q r) ∙ sym (contains_part o picks r)) in
+      ap content_of one ∙ (part_content o picks content).itself
+
+  all_joined : (p picks : List ℕ → Bool) (fronts : List (List ℕ)) (parts : List Operations) → AllZip (λ (front : List ℕ) (q : Operations). q ≡ part o (is_under front)) fronts parts
+      → ((r : List ℕ) → picks r ≡ (p r || list_any (λ (front : List ℕ). is_under front r) fronts)) → merged (part o p) parts ≡ part o picks
+  all_joined p picks [] [] are same = part_same p picks (λ r. sym (same r ∙ or_none (p r)))
+  all_joined p picks [] (q ∷ qs) are same = absurd are
+  all_joined p picks (f ∷ fs) [] are same = absurd are
+  all_joined p picks (f ∷ fs) (q ∷ qs) are same =
+      let both : List ℕ → Bool = λ (r : List ℕ). p r || is_under f r in
+      ap (λ (m : Operations). merged m qs) (ap (joined (part o p)) are.0 ∙ parts_joined p (is_under f))
+      ∙ all_joined both picks fs qs are.1 (λ r. same r ∙ sym (or_assoc (p r) (is_under f r) (list_any (λ (front : List ℕ). is_under front r) fs)))
+
+  there : (fronts : List (List ℕ)) (front r : List ℕ) → Contains fronts front → is_under front r ≡ true → list_any (λ (f : List ℕ). is_under f r) fronts ≡ true
+  there [] front r in_fronts under = absurd (omega (arith, in_fronts.1))
+  there (f ∷ fs) front r (zero, lt, is) under = ap (λ (b : Bool). b || list_any (λ (g : List ℕ). is_under g r) fs) (ap (λ (g : List ℕ). is_under g r) is ∙ under)
+  there (f ∷ fs) front r (suc k, lt, is) under = or_true (is_under f r) (there fs front r (k, omega arith, is) under)
+    where
+      or_true : (a : Bool) {b : Bool} → b ≡ true → (a || b) ≡ true
+      or_true true e = refl
+      or_true false e = e
+
+  -- they have what the content has under each of the fronts
+  pub joined_alike : (fronts : List (List ℕ)) (parts : List Operations) (front : List ℕ) → AllZip (λ (f : List ℕ) (q : Operations). q ≡ part o (is_under f)) fronts parts → Contains fronts front → AreAlikeUnder front (merged set.empty parts) o
+  joined_alike fronts parts front are in_fronts =
+      let picks : List ℕ → Bool = λ (r : List ℕ). list_any (λ (f : List ℕ). is_under f r) fronts in
+      let whole : merged set.empty parts ≡ part o picks = ap (λ (m : Operations). merged m parts) (sym part_none) ∙ all_joined (λ r. false) picks fronts parts are (λ r. refl) in
+      subst (λ (m : Operations). AreAlikeUnder front m o) (sym whole) (part_alike o picks front (λ r under. there fronts front r in_fronts under))
+
+-- ---- what was named is what the content has
+
+zip_back : {X Y : Type 0} (R : X → Y → Type 0) (xs : List X) (ys : List Y) (y : Y) → AllZip R xs ys → Contains ys y → (x : X) × R x y
+zip_back R [] [] y zip in_ys = absurd (omega (arith, in_ys.1))
+zip_back R [] (_ ∷ _) y zip in_ys = absurd zip
+zip_back R (_ ∷ _) [] y zip in_ys = absurd zip
+zip_back R (x ∷ xs) (z ∷ ys) y zip (zero, lt, is) = (x, subst (R x) is zip.0)
+zip_back R (x ∷ xs) (z ∷ ys) y zip (suc k, lt, is) = zip_back R xs ys y zip.1 (k, omega arith, is)
+
+found_tells : (o : Operations) (front bytes : List ℕ) (entries : Entries) (p : Operations) → DigestsTellOver o bytes → (n : AreNamed front entries bytes p) → TellsFound o n.records
+found_tells o front bytes entries p tells n = λ a b in_o found same.
+    let named = zip_back (IsNamedBy bytes) _ n.records (admission_record b) n.named found in
+    tells a b named.1.offset in_o (named.1.stands refl) same
+
+module _ (o : Operations) (content : IsContent o) where
+  zip_along : (P Q : List ℕ → Operations → Type 0) (fronts : List (List ℕ)) (parts : List Operations) → AllByRecursion (λ (f : List ℕ). length f ≤ 24) fronts → ((f : List ℕ) (q : Operations) → length f ≤ 24 → P f q → Q f q) → AllZip P fronts parts → AllZip Q fronts parts
+  zip_along P Q [] [] short more zip = tt
+  zip_along P Q [] (_ ∷ _) short more zip = absurd zip
+  zip_along P Q (_ ∷ _) [] short more zip = absurd zip
+  zip_along P Q (f ∷ fs) (q ∷ qs) short more zip = (more f q short.0 zip.0, zip_along P Q fs qs short.1 more zip.1)
+
+  -- in the text that the index is of
+  pub parts_right : (fronts : List (List ℕ)) (parts : List Operations) → length (written o) < 2 ^ 64 → AllByRecursion (λ (f : List ℕ). length f ≤ 24) fronts → AreNamedUnder fronts (index o) (written o) parts
+      → AllZip (λ (f : List ℕ) (q : Operations). q ≡ part o (is_under f)) fronts parts
+  parts_right fronts parts fits short named = zip_along (λ f q. AreNamed f (index o) (written o) q) (λ f q. q ≡ part o (is_under f)) fronts parts short (λ f q le n. right f o q le content fits n) named
+
+  -- in any bytes
+  pub parts_told : (fronts : List (List ℕ)) (parts : List Operations) (bytes : List ℕ) → DigestsTellOver o bytes → AllByRecursion (λ (f : List ℕ). length f ≤ 24) fronts → AreNamedUnder fronts (index o) bytes parts
+      → AllZip (λ (f : List ℕ) (q : Operations). q ≡ part o (is_under f)) fronts parts
+  parts_told fronts parts bytes tells short named = zip_along (λ f q. AreNamed f (index o) bytes q) (λ f q. q ≡ part o (is_under f)) fronts parts short (λ f q le n. of_the_index f bytes o q le content n (found_tells o f bytes (index o) q tells n)) named
+
+  -- ---- addresses
+
+  pub addresses_told : (key : SliceKey) (load : Option ℕ) (addresses : List ℕ) (status : Status) (text : List ℕ) (parts : List Operations) → AllZip (λ (f : List ℕ) (q : Operations). q ≡ part o (is_under f)) (key_bytes key ∷ []) parts
+      → TellsAddresses (merged set.empty parts) key load addresses status text → TellsAddresses o key load addresses status text
+  addresses_told key load addresses status text parts are told =
+      told_alike (merged set.empty parts) o key load addresses status text (joined_alike o content (key_bytes key ∷ []) parts (key_bytes key) are (0, omega arith, refl)) told
+
+  -- ---- frames
+
+  rows_told : (m : Operations) (frames : List Frame) (rows : List Answered) → ((frame : Frame) → Contains (keys_of frames) (key_bytes frame.key) → AreAlikeUnder (key_bytes frame.key) m o) → AllZip (IsFrameAnswered m) frames rows → AllZip (IsFrameAnswered o) frames rows
+  rows_told m [] [] alike zip = tt
+  rows_told m [] (_ ∷ _) alike zip = absurd zip
+  rows_told m (_ ∷ _) [] alike zip = absurd zip
+  rows_told m (frame ∷ frames) (row ∷ rows) alike zip = (
+    (zip.0.0, answer_alike m o frame.key (asked_of frame.load row.address) (answer_view row.answer) (alike frame (0, omega arith, refl)) zip.0.1),
+    rows_told m frames rows (λ f h. alike f (in_rest (key_bytes frame.key) (keys_of frames) (key_bytes f.key) h)) zip.1,
+  )
+
+  pub frames_told : (frames : List Frame) (status : Status) (text : List ℕ) (keys : List (List ℕ)) (parts : List Operations) → ((key : List ℕ) → Contains (keys_of frames) key → Contains keys key) → AllZip (λ (f : List ℕ) (q : Operations). q ≡ part o (is_under f)) keys parts
+      → TellsFrames (merged set.empty parts) frames status text → TellsFrames o frames status text
+  frames_told frames status text keys parts within are told = record {
+    rows = told.rows;
+    answered = rows_told (merged set.empty parts) frames told.rows (λ frame h. joined_alike o content keys parts (key_bytes frame.key) are (within (key_bytes frame.key) h)) told.answered;
+    status_is = told.status_is;
+    text_is = told.text_is;
+  }
+
+-- fronts that are short, of which each is a key of frames
+pub short_keys : (keys all : List (List ℕ)) → ((key : List ℕ) → Contains keys key → Contains all key) → ((key : List ℕ) → Contains all key → length key ≤ 24) → AllByRecursion (λ (f : List ℕ). length f ≤ 24) keys
+short_keys [] all within short = tt
+short_keys (k ∷ keys) all within short = (short k (within k (0, omega arith, refl)), short_keys keys all (λ q h. within q (in_rest k keys q h)) short)
