@@ -1,10 +1,6 @@
 -- What commands tell of archives that are asked together, of which the first have indexes.
-use Rattle.std.specs.Prelude.{ℕ, List, [], ◌∷◌, Option}
+use Rattle.std.specs.Prelude.{ℕ, List}
 use Rattle.archive_core.specs.Content.{Operations}
-use Rattle.archive_core.specs.Key.{key_bytes}
-use Rattle.archive_core.specs.declared.keys.SliceKey.{SliceKey}
-use Rattle.archive_queries.specs.Find.{TellsFound}
-use Rattle.archive_queries.specs.Symbolicate.{TellsAddresses}
 use Rattle.command_ends.specs.Ends.{Query}
 use Rattle.command_ends.specs.Inputs.{Reader}
 use Rattle.command_ends.specs.declared.faults.Status.{Status}
@@ -26,15 +22,3 @@ asks_together fronts indexes archives others Tells = record {
   Refuses = AreRefusedTogether fronts indexes archives others;
   Unfailed = AreUnfailedTogether indexes archives others;
 }
-
--- `find`, over these archives
-abbrev pub find_together : {I P R : Type 0} → List (Reader I) → List (Reader P) → List (Reader R) → List ℕ → Query
-find_together indexes archives others uuid =
-    asks_together (uuid ∷ []) indexes archives others (λ o status text. TellsFound o uuid status text)
-
--- `symbolicate`, over these archives
-abbrev pub symbolicate_together : {I P R : Type 0} → List (Reader I) → List (Reader P) → List (Reader R) → SliceKey
-    → Option ℕ → List ℕ → Query
-symbolicate_together indexes archives others key load addresses =
-    asks_together (key_bytes key ∷ []) indexes archives others
-    (λ o status text. TellsAddresses o key load addresses status text)

@@ -5,7 +5,7 @@ use Rattle.report_text.specs.Finds.{find_lines}
 use Rattle.archive_queries.specs.Find.{find_status}
 use Rattle.command_ends.proofs.Endings.{reported}
 use Rattle.indexed_queries.proofs.Refused.{query_refused}
-use Rattle.indexed_queries.proofs.several.run_find_together.Goals as goal
+use Rattle.indexed_queries.proofs.find.run_find_together.Goals as goal
 
 pub returns-in_err-kept : goal.returns-in_err-kept
 returns-in_err-kept g c =
