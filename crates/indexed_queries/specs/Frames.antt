@@ -17,8 +17,8 @@ abbrev pub keys_of : List Frame → List (List ℕ)
 keys_of frames = map (λ frame. key_bytes frame.key) frames
 
 -- What is joined under the keys of the frames, in some order, tells this of them.
-pub record AreToldAt {I P R : Type 0} (indexes : List (Reader I)) (archives : List (Reader P)) (others : List (Reader R))
-    (frames : List Frame) (status : Status) (text : List ℕ) : Type 0 where
+pub record AreToldAt {I P R : Type 0} (indexes : List (Reader I)) (archives : List (Reader P))
+    (others : List (Reader R)) (frames : List Frame) (status : Status) (text : List ℕ) : Type 0 where
   pub keys : List (List ℕ)
   pub are_keys : HaveSameMembers keys (keys_of frames)
   pub content : Operations

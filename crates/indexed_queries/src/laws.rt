@@ -35,8 +35,8 @@ ghost use Rattle.indexed_queries.specs.Told.{IsIndexed};
 use byte_device::Source;
 use placed_bytes::Placed;
 
-/// The rows of the index of a content, under a front, are the list of what the content has there. Nothing is supposed of
-/// SHA-256, and no archive is read.
+/// The rows of the index of a content, under a front, are the list of what the content has there. Nothing is supposed
+/// of SHA-256, and no archive is read.
 pub fn rows_of_index()
     ensures { (front : List ℕ) (o : Operations) (rows : List FindRow) → length front ≤ 24 → IsContent o → HaveKeys o
         → length (written o) < 2 ^ 64 → AreIndexRows front (index o) rows → IsList (part o (is_under front)) rows }

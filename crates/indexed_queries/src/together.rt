@@ -105,8 +105,8 @@ fn join_indexed<A: Archive + Drop, I: Source, P: Placed>(
     Ok(())
 }
 
-/// Joins what is under the fronts in each of these archives, which are read whole, in their order. This many stand before
-/// them among the words.
+/// Joins what is under the fronts in each of these archives, which are read whole, in their order. This many stand
+/// before them among the words.
 fn join_others<A: Archive + Drop, R: Source>(
     heap: &Heap,
     kept: &mut A,
