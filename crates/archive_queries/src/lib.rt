@@ -18,3 +18,4 @@ pub use frames::run_frames;
 pub use list::run_list;
 pub use name::run_name;
 pub use symbolicate::{answer_each, asked_of, run_symbolicate, status_behind};
+pub use together::join_part;

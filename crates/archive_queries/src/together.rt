@@ -18,7 +18,7 @@ use command_ends::{CommandFault, answer_input, read_input_part};
 use memory::{Heap, NoMemory};
 
 /// Joins what is picked of the archive with this number among the words.
-fn join_part<A: Archive + Drop, S: Selects, R: Source>(
+pub fn join_part<A: Archive + Drop, S: Selects, R: Source>(
     heap: Heap,
     kept: &mut A,
     number: u64,

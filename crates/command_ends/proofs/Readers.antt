@@ -37,7 +37,7 @@ all_set P [] i x all one = tt
 all_set P (y ∷ ys) zero x all one = (one, all.1)
 all_set P (y ∷ ys) (suc i) x all one = (all.0, all_set P ys i x all.1 one)
 
-all_take : {X : Type 0} (P : X → Type 0) (n : ℕ) (xs : List X) → AllByRecursion P xs → AllByRecursion P (take n xs)
+pub all_take : {X : Type 0} (P : X → Type 0) (n : ℕ) (xs : List X) → AllByRecursion P xs → AllByRecursion P (take n xs)
 all_take P zero xs all = tt
 all_take P (suc n) [] all = tt
 all_take P (suc n) (x ∷ xs) all = (all.0, all_take P n xs all.1)
@@ -68,7 +68,7 @@ module _ {S : Type 0} (left : S → Option (List ℕ)) (failures : S → ℕ) wh
   readers_long (x ∷ xs) (y ∷ ys) long = let rest : length ys ≡ length xs = omega arith in ap suc (readers_long xs ys rest)
 
   -- one more input was read
-  set_one : (old now : List (Result S CannotOpen)) (place : ℕ) (file after : Result S CannotOpen) → place < length old → length now ≡ length old → file ≡ get_or old place file
+  pub set_one : (old now : List (Result S CannotOpen)) (place : ℕ) (file after : Result S CannotOpen) → place < length old → length now ≡ length old → file ≡ get_or old place file
       → between old (set now place after) ≡ set (between old now) place (reader left failures file after)
   set_one [] now place file after lt long is = absurd (omega (arith, lt))
   set_one (x ∷ xs) [] place file after lt long is = absurd (omega (arith, long))
@@ -109,7 +109,7 @@ module _ {S : Type 0} (left : S → Option (List ℕ)) (failures : S → ℕ) wh
   none_touched [] = tt
   none_touched (file ∷ files) = (refl, none_touched files)
 
-  untouched_behind : (old now : List (Result S CannotOpen)) (n : ℕ) → drop n now ≡ drop n old → EachUntouched (drop n (between old now))
+  pub untouched_behind : (old now : List (Result S CannotOpen)) (n : ℕ) → drop n now ≡ drop n old → EachUntouched (drop n (between old now))
   untouched_behind old now zero same = subst (λ (l : List (Result S CannotOpen)). EachUntouched (between old l)) (sym same) (none_touched old)
   untouched_behind [] now (suc n) same = tt
   untouched_behind (x ∷ xs) [] (suc n) same = tt

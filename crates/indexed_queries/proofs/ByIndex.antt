@@ -1,5 +1,5 @@
 -- What is told by the index of a content is what the content tells.
-use Rattle.std.proofs.Common.{◌≡◌, ℕ, ◌<◌, ◌≤◌, ◌^◌, zero, suc, Bool, true, false, ◌||◌, ◌&&◌, List, [], ◌∷◌, length, map, get_or, Contains, Option, Some, None, Result, Ok, Err, refl, sym, ap, ◌∙◌, subst, arith}
+use Rattle.std.proofs.Common.{◌≡◌, ℕ, ◌<◌, ◌≤◌, ◌^◌, zero, suc, Bool, true, false, ◌||◌, ◌&&◌, List, [], ◌∷◌, length, map, get_or, Contains, Option, Some, None, Result, Ok, Err, refl, sym, ap, ◌∙◌, subst, inl, inr, arith}
 use Rattle.std.specs.Prelude.{IfSome, MatchResult}
 use Rattle.std.specs.List.{AllByRecursion, AllZip, list_any}
 use Rattle.std.specs.Cmp.Lexicographic.{nat_list_cmp_total}
@@ -10,8 +10,7 @@ use Rattle.archive_core.specs.Key.{key_bytes}
 use Rattle.archive_core.specs.Part.{AreAlikeUnder, is_under, part}
 use Rattle.archive_core.specs.Record.{admission_record}
 use Rattle.archive_core.specs.Summary.{Entries}
-use Rattle.archive_core.specs.declared.keys.SliceKey.{SliceKey}
-use Rattle.archive_core.proofs.Made.{bytes_same}
+use Rattle.archive_core.proofs.Made.{alike_union, bytes_same, joined_content, joined_made_right, made_alike, made_empty, made_is_alike}
 use Rattle.archive_core.proofs.Members.{in_rest}
 use Rattle.archive_core.proofs.Picked.{answer_alike, contains_part, part_alike, part_content}
 use Rattle.archive_records.specs.Text.{written}
@@ -23,19 +22,19 @@ use Rattle.archive_index.proofs.Faults.{one_text}
 use Rattle.archive_index.proofs.Named.{entry_in, of_the_index, right}
 use Rattle.archive_index.proofs.Placed.{is_placed}
 use Rattle.archive_queries.specs.Frames.{IsFrameAnswered, TellsFrames}
-use Rattle.archive_queries.specs.Symbolicate.{Answered, TellsAddresses, asked_of}
+use Rattle.archive_queries.specs.Symbolicate.{Answered, asked_of}
 use Rattle.archive_core.specs.Lookup.{answer_view}
-use Rattle.archive_queries.proofs.Answered.{told_alike}
+use Rattle.archive_queries.proofs.Parts.{joined_alike, merged_alike}
 use Rattle.byte_device.specs.declared.disks.CannotOpen.{CannotOpen}
 use Rattle.crash_frames.specs.declared.frame.Frame.{Frame}
 use Rattle.command_ends.specs.Archives.{merged}
 use Rattle.command_ends.specs.Indexes.{HoldsIndex}
 use Rattle.command_ends.specs.Inputs.{Reader, Gives, IsGiven, reader}
 use Rattle.command_ends.specs.declared.faults.Status.{Status}
-use Rattle.indexed_queries.specs.Frames.{AreToldAt, keys_of}
-use Rattle.indexed_queries.specs.Fronts.{AreNamedUnder}
-use Rattle.indexed_queries.specs.Symbolicate.{MakesAnsweredAt}
-use Rattle.indexed_queries.specs.Told.{DigestsTellOver}
+use Rattle.indexed_queries.specs.Frames.{keys_of}
+use Rattle.indexed_queries.specs.Fronts.{AreNamedUnder, HoldsNamed}
+use Rattle.indexed_queries.specs.Together.{AllThree, AreNamedBy, HoldNamedTogether, is_under_any, merged_each}
+use Rattle.indexed_queries.specs.Told.{DigestsTellOver, IsIndexed}
 
 -- ---- INDEX is that of a content
 
@@ -77,29 +76,12 @@ module _ (o : Operations) (content : IsContent o) where
   part_same : (p q : List ℕ → Bool) → ((r : List ℕ) → p r ≡ q r) → part o p ≡ part o q
   part_same p q same = same_set nat_list_cmp_total bytes_same (part o p) (part o q) (λ r. contains_part o p r ∙ ap (λ (b : Bool). set.contains o r && b) (same r) ∙ sym (contains_part o q r))
 
-  part_none : part o (λ r. false) ≡ set.empty
-  part_none = same_set nat_list_cmp_total bytes_same (part o (λ r. false)) set.empty (λ r. contains_part o (λ r. false) r ∙ and_none (set.contains o r) ∙ sym (contains-empty _ r))
-    where
-      and_none : (b : Bool) → (b && false) ≡ false
-      and_none true = refl
-      and_none false = refl
-
   parts_joined : (p q : List ℕ → Bool) → joined (part o p) (part o q) ≡ part o (λ r. p r || q r)
   parts_joined p q =
       let picks : List ℕ → Bool = λ (r : List ℕ). p r || q r in
       let one : set.union (part o p) (part o q) ≡ part o picks = same_set nat_list_cmp_total bytes_same (set.union (part o p) (part o q)) (part o picks) (λ r.
       contains-union nat_list_cmp_total (part o p) (part o q) r ∙ (λ i. contains_part o p r i || contains_part o q r i) ∙ both_and (set.contains o r) (p r) (q r) ∙ sym (contains_part o picks r)) in
       ap content_of one ∙ (part_content o picks content).itself
-
-  all_joined : (p picks : List ℕ → Bool) (fronts : List (List ℕ)) (parts : List Operations) → AllZip (λ (front : List ℕ) (q : Operations). q ≡ part o (is_under front)) fronts parts
-      → ((r : List ℕ) → picks r ≡ (p r || list_any (λ (front : List ℕ). is_under front r) fronts)) → merged (part o p) parts ≡ part o picks
-  all_joined p picks [] [] are same = part_same p picks (λ r. sym (same r ∙ or_none (p r)))
-  all_joined p picks [] (q ∷ qs) are same = absurd are
-  all_joined p picks (f ∷ fs) [] are same = absurd are
-  all_joined p picks (f ∷ fs) (q ∷ qs) are same =
-      let both : List ℕ → Bool = λ (r : List ℕ). p r || is_under f r in
-      ap (λ (m : Operations). merged m qs) (ap (joined (part o p)) are.0 ∙ parts_joined p (is_under f))
-      ∙ all_joined both picks fs qs are.1 (λ r. same r ∙ sym (or_assoc (p r) (is_under f r) (list_any (λ (front : List ℕ). is_under front r) fs)))
 
   there : (fronts : List (List ℕ)) (front r : List ℕ) → Contains fronts front → is_under front r ≡ true → list_any (λ (f : List ℕ). is_under f r) fronts ≡ true
   there [] front r in_fronts under = absurd (omega (arith, in_fronts.1))
@@ -109,13 +91,6 @@ module _ (o : Operations) (content : IsContent o) where
       or_true : (a : Bool) {b : Bool} → b ≡ true → (a || b) ≡ true
       or_true true e = refl
       or_true false e = e
-
-  -- they have what the content has under each of the fronts
-  pub joined_alike : (fronts : List (List ℕ)) (parts : List Operations) (front : List ℕ) → AllZip (λ (f : List ℕ) (q : Operations). q ≡ part o (is_under f)) fronts parts → Contains fronts front → AreAlikeUnder front (merged set.empty parts) o
-  joined_alike fronts parts front are in_fronts =
-      let picks : List ℕ → Bool = λ (r : List ℕ). list_any (λ (f : List ℕ). is_under f r) fronts in
-      let whole : merged set.empty parts ≡ part o picks = ap (λ (m : Operations). merged m parts) (sym part_none) ∙ all_joined (λ r. false) picks fronts parts are (λ r. refl) in
-      subst (λ (m : Operations). AreAlikeUnder front m o) (sym whole) (part_alike o picks front (λ r under. there fronts front r in_fronts under))
 
 -- ---- what was named is what the content has
 
@@ -148,32 +123,114 @@ module _ (o : Operations) (content : IsContent o) where
       → AllZip (λ (f : List ℕ) (q : Operations). q ≡ part o (is_under f)) fronts parts
   parts_told fronts parts bytes tells short named = zip_along (λ f q. AreNamed f (index o) bytes q) (λ f q. q ≡ part o (is_under f)) fronts parts short (λ f q le n. of_the_index f bytes o q le content n (found_tells o f bytes (index o) q tells n)) named
 
-  -- ---- addresses
+-- ---- joined to others
 
-  pub addresses_told : (key : SliceKey) (load : Option ℕ) (addresses : List ℕ) (status : Status) (text : List ℕ) (parts : List Operations) → AllZip (λ (f : List ℕ) (q : Operations). q ≡ part o (is_under f)) (key_bytes key ∷ []) parts
-      → TellsAddresses (merged set.empty parts) key load addresses status text → TellsAddresses o key load addresses status text
-  addresses_told key load addresses status text parts are told =
-      told_alike (merged set.empty parts) o key load addresses status text (joined_alike o content (key_bytes key ∷ []) parts (key_bytes key) are (0, omega arith, refl)) told
+union_assoc : (a b c : Operations) → set.union (set.union a b) c ≡ set.union a (set.union b c)
+union_assoc a b c = same_set nat_list_cmp_total bytes_same (set.union (set.union a b) c) (set.union a (set.union b c)) (λ r.
+    contains-union nat_list_cmp_total (set.union a b) c r ∙ ap (λ (x : Bool). x || set.contains c r) (contains-union nat_list_cmp_total a b r) ∙ or_assoc (set.contains a r) (set.contains b r) (set.contains c r)
+    ∙ sym (contains-union nat_list_cmp_total a (set.union b c) r ∙ ap (λ (x : Bool). set.contains a r || x) (contains-union nat_list_cmp_total b c r)))
 
-  -- ---- frames
+joined_assoc : (a b c : Operations) → joined (joined a b) c ≡ joined a (joined b c)
+joined_assoc a b c =
+    made_alike (set.union (content_of (set.union a b)) c) (set.union (set.union a b) c) (alike_union (content_of (set.union a b)) (set.union a b) c (made_is_alike (set.union a b)))
+    ∙ ap content_of (union_assoc a b c) ∙ sym (joined_made_right a (set.union b c))
 
-  rows_told : (m : Operations) (frames : List Frame) (rows : List Answered) → ((frame : Frame) → Contains (keys_of frames) (key_bytes frame.key) → AreAlikeUnder (key_bytes frame.key) m o) → AllZip (IsFrameAnswered m) frames rows → AllZip (IsFrameAnswered o) frames rows
-  rows_told m [] [] alike zip = tt
-  rows_told m [] (_ ∷ _) alike zip = absurd zip
-  rows_told m (_ ∷ _) [] alike zip = absurd zip
-  rows_told m (frame ∷ frames) (row ∷ rows) alike zip = (
-    (zip.0.0, answer_alike m o frame.key (asked_of frame.load row.address) (answer_view row.answer) (alike frame (0, omega arith, refl)) zip.0.1),
-    rows_told m frames rows (λ f h. alike f (in_rest (key_bytes frame.key) (keys_of frames) (key_bytes f.key) h)) zip.1,
-  )
+module _ (w : Operations) (content : IsContent w) where
+  abbrev IsPart : List ℕ → Operations → Type 0
+  IsPart f q = q ≡ part w (is_under f)
 
-  pub frames_told : (frames : List Frame) (status : Status) (text : List ℕ) (keys : List (List ℕ)) (parts : List Operations) → ((key : List ℕ) → Contains (keys_of frames) key → Contains keys key) → AllZip (λ (f : List ℕ) (q : Operations). q ≡ part o (is_under f)) keys parts
-      → TellsFrames (merged set.empty parts) frames status text → TellsFrames o frames status text
-  frames_told frames status text keys parts within are told = record {
-    rows = told.rows;
-    answered = rows_told (merged set.empty parts) frames told.rows (λ frame h. joined_alike o content keys parts (key_bytes frame.key) are (within (key_bytes frame.key) h)) told.answered;
-    status_is = told.status_is;
-    text_is = told.text_is;
-  }
+  merged_after : (few : Operations) (p picks : List ℕ → Bool) (fronts : List (List ℕ)) (parts : List Operations) → AllZip IsPart fronts parts
+      → ((r : List ℕ) → picks r ≡ (p r || list_any (λ (front : List ℕ). is_under front r) fronts)) → merged (joined few (part w p)) parts ≡ joined few (part w picks)
+  merged_after few p picks [] [] are same = ap (joined few) (part_same w content p picks (λ r. sym (same r ∙ or_none (p r))))
+  merged_after few p picks [] (q ∷ qs) are same = absurd are
+  merged_after few p picks (f ∷ fs) [] are same = absurd are
+  merged_after few p picks (f ∷ fs) (q ∷ qs) are same =
+      let both : List ℕ → Bool = λ (r : List ℕ). p r || is_under f r in
+      ap (λ (m : Operations). merged m qs) (joined_assoc few (part w p) q ∙ ap (joined few) (ap (joined (part w p)) are.0 ∙ parts_joined w content p (is_under f)))
+      ∙ merged_after few both picks fs qs are.1 (λ r. same r ∙ sym (or_assoc (p r) (is_under f r) (list_any (λ (front : List ℕ). is_under front r) fs)))
+
+  merged_some : (few : Operations) (fronts : List (List ℕ)) (parts : List Operations) (front : List ℕ) → Contains fronts front → AllZip IsPart fronts parts → merged few parts ≡ joined few (part w (is_under_any fronts))
+  merged_some few [] parts front in_fronts are = absurd (omega (arith, in_fronts.1))
+  merged_some few (f ∷ fs) [] front in_fronts are = absurd are
+  merged_some few (f ∷ fs) (q ∷ qs) front in_fronts are =
+      ap (λ (m : Operations). merged (joined few m) qs) are.0 ∙ merged_after few (is_under f) (is_under_any (f ∷ fs)) fs qs are.1 (λ r. refl)
+
+  group_alike : (front : List ℕ) (fronts : List (List ℕ)) (few o : Operations) (parts : List Operations) → length front ≤ 24 → Contains fronts front → IsContent o → AllZip IsPart fronts parts → AreAlikeUnder front few o → AreAlikeUnder front (merged few parts) (joined o w)
+  group_alike front fronts few o parts short in_fronts is are same =
+      subst (λ (m : Operations). AreAlikeUnder front m (joined o w)) (sym (merged_some few fronts parts front in_fronts are))
+      (joined_alike front short o w few (part w (is_under_any fronts)) is content same (part_alike w (is_under_any fronts) front (λ r under. there w content fronts front r in_fronts under)))
+
+-- what an index names is of its content
+parts_named : {I P : Type 0} (index : Reader I) (archive : Reader P) (w : Operations) (fronts : List (List ℕ)) (parts : List Operations) → AllByRecursion (λ (f : List ℕ). length f ≤ 24) fronts → IsIndexed index archive w → HoldsNamed index archive fronts parts
+    → AllZip (λ (f : List ℕ) (q : Operations). q ≡ part w (is_under f)) fronts parts
+parts_named input archive w fronts parts short is h =
+    let entries = entries_are input w h.entries is.0 is.1 h.index_of.index_is in
+    elim is.2 [
+      | inl r ↦ parts_right w is.0 fronts parts r.1 short (subst (λ (s : Entries). AreNamedUnder fronts s (written w) parts) entries (of_given archive (written w) (λ t. AreNamedUnder fronts h.entries t parts) r.0 h.named))
+      | inr a ↦ parts_told w is.0 fronts parts a.0 a.2 short (subst (λ (s : Entries). AreNamedUnder fronts s a.0 parts) entries (of_given archive a.0 (λ t. AreNamedUnder fronts h.entries t parts) a.1 h.named))
+    ]
+
+-- with others before them
+record AreAlikeAfter (front : List ℕ) (few o : Operations) : Type 0 where
+  alike : AreAlikeUnder front few o
+  content : IsContent o
+
+module _ {I P : Type 0} (front : List ℕ) (fronts : List (List ℕ)) (le : length front ≤ 24) (in_fronts : Contains fronts front) (short : AllByRecursion (λ (f : List ℕ). length f ≤ 24) fronts) where
+  groups_alike : (indexes : List (Reader I)) (archives : List (Reader P)) (os : List Operations) (groups : List (List Operations)) (few o : Operations) → AllThree IsIndexed indexes archives os → AreNamedBy fronts indexes archives groups
+      → AreAlikeAfter front few o → AreAlikeAfter front (merged_each few groups) (merged o os)
+  groups_alike [] [] [] [] few o are named same = same
+  groups_alike [] [] [] (_ ∷ _) few o are named same = absurd named
+  groups_alike [] [] (_ ∷ _) groups few o are named same = absurd are
+  groups_alike [] (_ ∷ _) [] groups few o are named same = absurd are
+  groups_alike [] (_ ∷ _) (_ ∷ _) groups few o are named same = absurd are
+  groups_alike (_ ∷ _) [] [] groups few o are named same = absurd are
+  groups_alike (_ ∷ _) [] (_ ∷ _) groups few o are named same = absurd are
+  groups_alike (_ ∷ _) (_ ∷ _) [] groups few o are named same = absurd are
+  groups_alike (_ ∷ _) (_ ∷ _) (_ ∷ _) [] few o are named same = absurd named
+  groups_alike (i ∷ indexes) (a ∷ archives) (w ∷ os) (parts ∷ groups) few o are named same =
+      groups_alike indexes archives os groups (merged few parts) (joined o w) are.1 named.1 (record {
+        alike = group_alike w are.0.0 front fronts few o parts le in_fronts same.content (parts_named i a w fronts parts short are.0 named.0) same.alike;
+        content = joined_content o w same.content are.0.0;
+      })
+
+no_truth : false ≡ true → ⊥
+no_truth e = cc
+
+empty_content : IsContent set.empty
+empty_content = record { itself = made_empty; records = λ r h. absurd (no_truth (sym (contains-empty _ r) ∙ h)) }
+
+at_front : (fronts : List (List ℕ)) (front : List ℕ) → Contains fronts front → AllByRecursion (λ (f : List ℕ). length f ≤ 24) fronts → length front ≤ 24
+at_front [] front in_fronts short = absurd (omega (arith, in_fronts.1))
+at_front (f ∷ fs) front (zero, lt, is) short = subst (λ (x : List ℕ). length x ≤ 24) is short.0
+at_front (f ∷ fs) front (suc k, lt, is) short = at_front fs front (k, omega arith, is) short.1
+
+-- what is held together has what the join of the contents has, under each of the fronts
+pub held_alike : {I P R : Type 0} (fronts : List (List ℕ)) (indexes : List (Reader I)) (archives : List (Reader P)) (others : List (Reader R)) (os : List Operations) (p : Operations) → AllByRecursion (λ (f : List ℕ). length f ≤ 24) fronts
+    → AllThree IsIndexed indexes archives os → (h : HoldNamedTogether fronts indexes archives others p) → (front : List ℕ) → Contains fronts front → AreAlikeUnder front p (merged (merged set.empty os) h.contents)
+held_alike fronts indexes archives others os p short are h front in_fronts =
+    let le = at_front fronts front in_fronts short in
+    let first = groups_alike front fronts le in_fronts short indexes archives os h.groups set.empty set.empty are h.named (record { alike = λ r under. refl; content = empty_content }) in
+    subst (λ (m : Operations). AreAlikeUnder front m (merged (merged set.empty os) h.contents)) (sym h.content_is)
+    (merged_alike front (is_under_any fronts) le (λ r under. there set.empty empty_content fronts front r in_fronts under) (merged set.empty os) (merged_each set.empty h.groups) h.contents first.content h.are_contents first.alike)
+
+-- ---- frames
+
+rows_told : (m o : Operations) (frames : List Frame) (rows : List Answered) → ((frame : Frame) → Contains (keys_of frames) (key_bytes frame.key) → AreAlikeUnder (key_bytes frame.key) m o) → AllZip (IsFrameAnswered m) frames rows → AllZip (IsFrameAnswered o) frames rows
+rows_told m o [] [] alike zip = tt
+rows_told m o [] (_ ∷ _) alike zip = absurd zip
+rows_told m o (_ ∷ _) [] alike zip = absurd zip
+rows_told m o (frame ∷ frames) (row ∷ rows) alike zip = (
+  (zip.0.0, answer_alike m o frame.key (asked_of frame.load row.address) (answer_view row.answer) (alike frame (0, omega arith, refl)) zip.0.1),
+  rows_told m o frames rows (λ f h. alike f (in_rest (key_bytes frame.key) (keys_of frames) (key_bytes f.key) h)) zip.1,
+)
+
+pub frames_told : (m o : Operations) (frames : List Frame) (status : Status) (text : List ℕ) → ((key : List ℕ) → Contains (keys_of frames) key → AreAlikeUnder key m o) → TellsFrames m frames status text → TellsFrames o frames status text
+frames_told m o frames status text alike told = record {
+  rows = told.rows;
+  answered = rows_told m o frames told.rows (λ frame h. alike (key_bytes frame.key) h) told.answered;
+  status_is = told.status_is;
+  text_is = told.text_is;
+}
 
 -- fronts that are short, of which each is a key of frames
 pub short_keys : (keys all : List (List ℕ)) → ((key : List ℕ) → Contains keys key → Contains all key) → ((key : List ℕ) → Contains all key → length key ≤ 24) → AllByRecursion (λ (f : List ℕ). length f ≤ 24) keys

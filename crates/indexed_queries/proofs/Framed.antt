@@ -17,8 +17,7 @@ use Rattle.crash_frames.specs.Frames.{frames_of}
 use Rattle.crash_frames.specs.declared.frame.Frame.{Frame}
 use Rattle.report_text.specs.Answers.{answer_lines}
 use Rattle.command_ends.specs.Ends.{EndsReport}
-use Rattle.command_ends.specs.Indexes.{IsRefusedByIndex}
-use Rattle.command_ends.specs.Inputs.{Reader, Gives, IsRefusal, IsRefusedFrames, IsUntouched, Unfailed, failures_of}
+use Rattle.command_ends.specs.Inputs.{Reader, EachUntouched, Gives, IsRefusal, IsRefusedFrames, Unfailed}
 use Rattle.command_ends.specs.Outputs.{Takes, Writer}
 use Rattle.command_ends.specs.declared.faults.CommandFault.{CommandFault}
 use Rattle.command_ends.specs.declared.faults.CommandFault.TheVariants.{Input, Output, Report, OutOfMemory}
@@ -27,7 +26,8 @@ use Rattle.command_ends.specs.declared.faults.Status.TheVariants.{Done, Partial}
 use Rattle.command_ends.proofs.Readers.{pairs_more}
 use Rattle.indexed_queries.specs.declared.fronts.Front.{Front}
 use Rattle.indexed_queries.specs.Frames.{AreRefusedAt, MakesFramedAt, RefusesFramesAt, keys_of}
-use Rattle.indexed_queries.specs.Fronts.{IsStaleFor, front_bytes}
+use Rattle.indexed_queries.specs.Fronts.{front_bytes}
+use Rattle.indexed_queries.specs.Together.{AreRefusedTogether, AreUnfailedTogether}
 
 -- ---- keys
 
@@ -103,26 +103,27 @@ more_framed content frames i frame status next text lines answer lt is told is_a
 
 -- ---- refusals
 
--- INDEX or its archive is refused
-pub refused_keyed : {R S : Type 0} (index : Reader R) (archive : Reader S) (frames : List Frame) (keys : List (List ℕ)) (NoneFailed : Type 0) (fault : CommandFault) → HaveSameMembers keys (keys_of frames)
-    → IsRefusal (IsRefusedByIndex 0 index archive (IsStaleFor keys archive)) NoneFailed fault → IsRefusal (AreRefusedAt index archive frames) NoneFailed fault
-refused_keyed index archive frames keys NoneFailed (Input at why) same r = (keys, same, r)
-refused_keyed index archive frames keys NoneFailed (Output n) same r = r
-refused_keyed index archive frames keys NoneFailed (Report n) same r = r
-refused_keyed index archive frames keys NoneFailed OutOfMemory same r = r
+module _ {I P R : Type 0} (indexes : List (Reader I)) (archives : List (Reader P)) (others : List (Reader R)) where
+  -- an index or an archive is refused
+  pub refused_keyed : (frames : List Frame) (keys : List (List ℕ)) (NoneFailed : Type 0) (fault : CommandFault) → HaveSameMembers keys (keys_of frames)
+      → IsRefusal (AreRefusedTogether keys indexes archives others) NoneFailed fault → IsRefusal (AreRefusedAt indexes archives others frames) NoneFailed fault
+  refused_keyed frames keys NoneFailed (Input at why) same r = (keys, same, r)
+  refused_keyed frames keys NoneFailed (Output n) same r = r
+  refused_keyed frames keys NoneFailed (Report n) same r = r
+  refused_keyed frames keys NoneFailed OutOfMemory same r = r
 
-module _ {Q R S : Type 0} (frames : Reader Q) (index : Reader R) (archive : Reader S) (report : Writer) where
-  abbrev EndsSo : CommandFault → Type 0
-  EndsSo fault = EndsReport (record { Makes = MakesFramedAt frames index archive; Refuses = RefusesFramesAt frames index archive; Unfailed = Unfailed frames × (Unfailed index × Unfailed archive) }) report (Err fault)
+  module _ {Q : Type 0} (frames : Reader Q) (report : Writer) where
+    abbrev EndsSo : CommandFault → Type 0
+    EndsSo fault = EndsReport (record { Makes = MakesFramedAt frames indexes archives others; Refuses = RefusesFramesAt frames indexes archives others; Unfailed = Unfailed frames × AreUnfailedTogether indexes archives others }) report (Err fault)
 
-  pub frames_first : (fault : CommandFault) → IsRefusal (IsRefusedFrames frames) (Unfailed frames) fault → IsUntouched index → IsUntouched archive → Unfailed index → Unfailed archive → Takes report [] → EndsSo fault
-  frames_first (Input at why) r index_kept archive_kept index_unfailed archive_unfailed t = (inl (r, index_kept, archive_kept), t)
-  frames_first (Output n) r index_kept archive_kept index_unfailed archive_unfailed t = absurd r
-  frames_first (Report n) r index_kept archive_kept index_unfailed archive_unfailed t = absurd r
-  frames_first OutOfMemory r index_kept archive_kept index_unfailed archive_unfailed t = ((r, (index_unfailed, archive_unfailed)), t)
+    pub frames_first : (fault : CommandFault) → IsRefusal (IsRefusedFrames frames) (Unfailed frames) fault → EachUntouched indexes → EachUntouched archives → EachUntouched others → AreUnfailedTogether indexes archives others → Takes report [] → EndsSo fault
+    frames_first (Input at why) r i a o unfailed t = (inl (r, i, a, o), t)
+    frames_first (Output n) r i a o unfailed t = absurd r
+    frames_first (Report n) r i a o unfailed t = absurd r
+    frames_first OutOfMemory r i a o unfailed t = ((r, unfailed), t)
 
-  pub archive_after : (fault : CommandFault) (said : List Frame) → Gives frames (λ bytes. frames_of bytes ≡ Ok said) → Unfailed frames → IsRefusal (AreRefusedAt index archive said) (Unfailed index × Unfailed archive) fault → Takes report [] → EndsSo fault
-  archive_after (Input at why) said gives unfailed r t = (inr (said, gives, unfailed, r), t)
-  archive_after (Output n) said gives unfailed r t = absurd r
-  archive_after (Report n) said gives unfailed r t = absurd r
-  archive_after OutOfMemory said gives unfailed r t = ((unfailed, r), t)
+    pub archive_after : (fault : CommandFault) (said : List Frame) → Gives frames (λ bytes. frames_of bytes ≡ Ok said) → Unfailed frames → IsRefusal (AreRefusedAt indexes archives others said) (AreUnfailedTogether indexes archives others) fault → Takes report [] → EndsSo fault
+    archive_after (Input at why) said gives unfailed r t = (inr (said, gives, unfailed, r), t)
+    archive_after (Output n) said gives unfailed r t = absurd r
+    archive_after (Report n) said gives unfailed r t = absurd r
+    archive_after OutOfMemory said gives unfailed r t = ((unfailed, r), t)

@@ -224,7 +224,7 @@ module _ (front : List ℕ) (o : Operations) (short : length front ≤ 24) (cont
   rows_of_index rows is =
       let sorted = ascend_sorted offset_in (entries_under front (index o)) is.placed is.moved is.by_place at_most_once in
       let same : is.placed ≡ placed_under = one_ascent offset_in is.placed placed_under sorted up (λ q.
-          sym (list_any-IsPermutation (is_same q) (entries_under front (index o)) is.placed is.moved) ∙ members q) in
+      sym (list_any-IsPermutation (is_same q) (entries_under front (index o)) is.placed is.moved) ∙ members q) in
       let told : AllZip IsEntryRow placed_under is.told = subst (λ (es : List (List ℕ)). AllZip IsEntryRow es is.told) same is.each in
       let of : AreRowsOf (filter (is_under front) rs) is.told = rows_of_entries placed_under (filter (is_under front) rs) is.told (of_under front short 8 rs keyed_are) told in
       list_of (part o (is_under front)) is.told rows (part_content o (is_under front) content)

@@ -5,3 +5,4 @@ pub mod Refused
 pub mod Joined
 pub mod Framed
 pub mod ByIndex
+pub mod Groups

@@ -1,5 +1,5 @@
--- What `find` tells by an index alone.
-use Rattle.std.specs.Prelude.{◌≡◌, ℕ, List}
+-- What `find` tells by an index alone, and of several archives, of which the first have indexes.
+use Rattle.std.specs.Prelude.{◌≡◌, ℕ, List, [], ◌∷◌}
 use Rattle.archive_core.specs.Summary.{Entries}
 use Rattle.archive_core.specs.declared.find.FindRow.{FindRow}
 use Rattle.report_text.specs.Finds.{find_lines}
@@ -7,8 +7,9 @@ use Rattle.command_ends.specs.declared.faults.Status.{Status}
 use Rattle.command_ends.specs.Ends.{Query}
 use Rattle.command_ends.specs.Indexes.{HasOtherLength, IsIndexOf, IsRefusedByIndex}
 use Rattle.command_ends.specs.Inputs.{Reader, Unfailed}
-use Rattle.archive_queries.specs.Find.{find_status}
+use Rattle.archive_queries.specs.Find.{TellsFound, find_status}
 use Rattle.indexed_queries.specs.Rows.{AreIndexRows}
+use Rattle.indexed_queries.specs.Several.{asks_together}
 
 -- what an index tells of a UUID: the status of the rows of its entries there, and their lines
 pub record TellsFoundAt (entries : Entries) (uuid : List ℕ) (status : Status) (text : List ℕ) : Type 0 where
@@ -31,3 +32,8 @@ find_at index archive uuid = record {
   Refuses = IsRefusedByIndex 0 index archive (HasOtherLength archive);
   Unfailed = Unfailed index × Unfailed archive;
 }
+
+-- `find`, over several archives
+abbrev pub find_together : {I P R : Type 0} → List (Reader I) → List (Reader P) → List (Reader R) → List ℕ → Query
+find_together indexes archives others uuid =
+    asks_together (uuid ∷ []) indexes archives others (λ o status text. TellsFound o uuid status text)

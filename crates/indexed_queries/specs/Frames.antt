@@ -1,58 +1,57 @@
--- What `frames` tells of an archive by its index.
+-- What `frames` tells of archives, of which the first have indexes.
 use Rattle.std.specs.Prelude.{◌≡◌, ℕ, List, Ok, map, ◌⊎◌}
-use Rattle.std.specs.FinSet as set
 use Rattle.archive_core.specs.Content.{Operations, HaveSameMembers}
 use Rattle.archive_core.specs.Key.{key_bytes}
 use Rattle.archive_queries.specs.Frames.{TellsFrames}
 use Rattle.crash_frames.specs.Frames.{frames_of}
 use Rattle.crash_frames.specs.declared.frame.Frame.{Frame}
-use Rattle.command_ends.specs.Archives.{merged}
 use Rattle.command_ends.specs.Ends.{Query}
-use Rattle.command_ends.specs.Indexes.{IsRefusedByIndex}
-use Rattle.command_ends.specs.Inputs.{Reader, Gives, IsRefusedFrames, IsUntouched, Unfailed}
+use Rattle.command_ends.specs.Inputs.{Reader, EachUntouched, Gives, IsRefusedFrames, Unfailed}
 use Rattle.command_ends.specs.declared.faults.Place.{Place}
 use Rattle.command_ends.specs.declared.faults.Status.{Status}
 use Rattle.command_ends.specs.declared.faults.Why.{Why}
-use Rattle.indexed_queries.specs.Fronts.{HoldsNamed, IsStaleFor}
+use Rattle.indexed_queries.specs.Together.{AreRefusedTogether, AreUnfailedTogether, HoldNamedTogether}
 
 -- the keys of frames
 abbrev pub keys_of : List Frame → List (List ℕ)
 keys_of frames = map (λ frame. key_bytes frame.key) frames
 
--- What INDEX names in ARCHIVE under the keys of the frames, in some order, tells this of them.
-pub record AreToldAt {R S : Type 0} (index : Reader R) (archive : Reader S) (frames : List Frame) (status : Status)
-    (text : List ℕ) : Type 0 where
+-- What is joined under the keys of the frames, in some order, tells this of them.
+pub record AreToldAt {I P R : Type 0} (indexes : List (Reader I)) (archives : List (Reader P))
+    (others : List (Reader R)) (frames : List Frame) (status : Status) (text : List ℕ) : Type 0 where
   pub keys : List (List ℕ)
   pub are_keys : HaveSameMembers keys (keys_of frames)
-  pub parts : List Operations
-  pub named : HoldsNamed index archive keys parts
-  pub tells : TellsFrames (merged set.empty parts) frames status text
+  pub content : Operations
+  pub held : HoldNamedTogether keys indexes archives others content
+  pub tells : TellsFrames content frames status text
 
--- INDEX or ARCHIVE is refused, as far as the keys of the frames, in some order, tell.
-abbrev pub AreRefusedAt : {R S : Type 0} → Reader R → Reader S → List Frame → Place → Why → Type 0
-AreRefusedAt index archive frames at why =
+-- An index or an archive is refused, as far as the keys of the frames, in some order, tell.
+abbrev pub AreRefusedAt : {I P R : Type 0} → List (Reader I) → List (Reader P) → List (Reader R) → List Frame
+    → Place → Why → Type 0
+AreRefusedAt indexes archives others frames at why =
     (keys : List (List ℕ)) × HaveSameMembers keys (keys_of frames)
-    × IsRefusedByIndex 0 index archive (IsStaleFor keys archive) at why
+    × AreRefusedTogether keys indexes archives others at why
 
 -- FRAMES says these frames, and this is told of them.
-pub record MakesFramedAt {Q R S : Type 0} (frames : Reader Q) (index : Reader R) (archive : Reader S) (status : Status)
-    (text : List ℕ) : Type 0 where
+pub record MakesFramedAt {Q I P R : Type 0} (frames : Reader Q) (indexes : List (Reader I))
+    (archives : List (Reader P)) (others : List (Reader R)) (status : Status) (text : List ℕ) : Type 0 where
   pub said : List Frame
   pub frames_are : Gives frames (λ bytes. frames_of bytes ≡ Ok said)
-  pub told : AreToldAt index archive said status text
+  pub told : AreToldAt indexes archives others said status text
 
--- FRAMES is refused, and nothing else is touched; or FRAMES says frames, its reader does not fail, and INDEX or ARCHIVE
--- is refused
-abbrev pub RefusesFramesAt : {Q R S : Type 0} → Reader Q → Reader R → Reader S → Place → Why → Type 0
-RefusesFramesAt frames index archive at why =
-    (IsRefusedFrames frames at why × IsUntouched index × IsUntouched archive)
+-- FRAMES is refused, and nothing else is touched; or FRAMES says frames, its reader does not fail, and an index or an
+-- archive is refused
+abbrev pub RefusesFramesAt : {Q I P R : Type 0} → Reader Q → List (Reader I) → List (Reader P) → List (Reader R)
+    → Place → Why → Type 0
+RefusesFramesAt frames indexes archives others at why =
+    (IsRefusedFrames frames at why × EachUntouched indexes × EachUntouched archives × EachUntouched others)
     ⊎ ((said : List Frame) × Gives frames (λ bytes. frames_of bytes ≡ Ok said) × Unfailed frames
-    × AreRefusedAt index archive said at why)
+    × AreRefusedAt indexes archives others said at why)
 
--- `frames`, over these frames and this archive by this index
-abbrev pub frames_at : {Q R S : Type 0} → Reader Q → Reader R → Reader S → Query
-frames_at frames index archive = record {
-  Makes = MakesFramedAt frames index archive;
-  Refuses = RefusesFramesAt frames index archive;
-  Unfailed = Unfailed frames × (Unfailed index × Unfailed archive);
+-- `frames`, over these frames and these archives
+abbrev pub frames_at : {Q I P R : Type 0} → Reader Q → List (Reader I) → List (Reader P) → List (Reader R) → Query
+frames_at frames indexes archives others = record {
+  Makes = MakesFramedAt frames indexes archives others;
+  Refuses = RefusesFramesAt frames indexes archives others;
+  Unfailed = Unfailed frames × AreUnfailedTogether indexes archives others;
 }

@@ -15,12 +15,12 @@ abbrev pub front_bytes : Front → List ℕ
 front_bytes (Uuid uuid) = uuid
 front_bytes (Key key) = key_bytes key
 
--- of the entries under each of these fronts, what they name in the text makes these contents, in the order of the fronts
+-- of the entries under each of these fronts, what they name in the text makes these contents, in their order
 abbrev pub AreNamedUnder : List (List ℕ) → Entries → List ℕ → List Operations → Type 0
 AreNamedUnder fronts entries text parts = AllZip (λ front part. AreNamed front entries text part) fronts parts
 
--- Why nothing is named so: the text has another length than the index tells; or, at the first of the fronts at which one
--- is, an entry names no record of the text.
+-- Why nothing is named so: the text has another length than the index tells; or, at the first of the fronts at which
+-- one is, an entry names no record of the text.
 abbrev pub IsStaleUnder : List (List ℕ) → Entries → List ℕ → Option ℕ → Type 0
 IsStaleUnder fronts entries text None = HasIndexedLength entries text → ⊥
 IsStaleUnder fronts entries text (Some entry) =

@@ -12,6 +12,7 @@ use Rattle.command_ends.specs.declared.faults.CommandFault.TheVariants as comman
 use Rattle.command_ends.specs.declared.faults.Place.TheVariants as place
 use Rattle.command_ends.specs.declared.faults.Why.TheVariants as why
 use Rattle.indexed_queries.specs.Fronts.{AreNamedUnder, HoldsNamed, IsStaleUnder}
+use Rattle.indexed_queries.specs.Together.{AreNamedBy, merged_each}
 
 -- what the entries under these fronts name was joined to the content
 pub record HasJoinedNamed (whole : Option (List ℕ)) (fronts : List (List ℕ)) (entries : Entries) (old new : Operations)
@@ -53,3 +54,10 @@ abbrev pub told_fault : ℕ → PlaceFault → CommandFault
 told_fault number (Stale entry) = command.Input (place.Index number) (why.Stale entry)
 told_fault number Device = command.Input (place.Archive number) why.Device
 told_fault number OutOfMemory = command.OutOfMemory
+
+-- each of these indexes named groups in its archive, and they were joined
+pub record HaveJoinedGroups {I P : Type 0} (fronts : List (List ℕ)) (indexes : List (Reader I))
+    (archives : List (Reader P)) (old new : Operations) : Type 0 where
+  pub groups : List (List Operations)
+  pub named : AreNamedBy fronts indexes archives groups
+  pub content : new ≡ merged_each old groups

@@ -7,3 +7,5 @@ pub mod InnerParts
 pub mod Symbolicate
 pub mod Frames
 pub mod Told
+pub mod Together
+pub mod Several

@@ -14,7 +14,7 @@ use Rattle.archive_core.specs.declared.find.FindRow.{FindRow}
 use Rattle.archive_index.specs.Entry.{dsym_byte, offset_in, tag_byte}
 use Rattle.archive_index.specs.Places.{entries_under}
 
--- the row that an entry tells: its key and its digest, and by its tag and its kind a retirement, an image or a companion
+-- the row that an entry tells: its key and digest, and by its tag and kind a retirement, an image or a companion
 pub record IsEntryRow (entry : List ℕ) (row : FindRow) : Type 0 where
   pub is_key : IsKey row.key
   pub key_is : key_bytes row.key ≡ take 24 (drop 1 entry)

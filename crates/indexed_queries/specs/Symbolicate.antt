@@ -1,28 +1,15 @@
--- What `symbolicate` tells of an archive by its index.
+-- What `symbolicate` tells of archives, of which the first have indexes.
 use Rattle.std.specs.Prelude.{ℕ, List, [], ◌∷◌, Option}
-use Rattle.std.specs.FinSet as set
-use Rattle.archive_core.specs.Content.{Operations}
 use Rattle.archive_core.specs.Key.{key_bytes}
 use Rattle.archive_core.specs.declared.keys.SliceKey.{SliceKey}
 use Rattle.archive_queries.specs.Symbolicate.{TellsAddresses}
-use Rattle.command_ends.specs.Archives.{merged}
 use Rattle.command_ends.specs.Ends.{Query}
-use Rattle.command_ends.specs.Indexes.{IsRefusedByIndex}
-use Rattle.command_ends.specs.Inputs.{Reader, Unfailed}
-use Rattle.command_ends.specs.declared.faults.Status.{Status}
-use Rattle.indexed_queries.specs.Fronts.{HoldsNamed, IsStaleFor}
+use Rattle.command_ends.specs.Inputs.{Reader}
+use Rattle.indexed_queries.specs.Several.{asks_together}
 
--- What INDEX names in ARCHIVE under the key tells this of the addresses.
-pub record MakesAnsweredAt {R S : Type 0} (index : Reader R) (archive : Reader S) (key : SliceKey) (load : Option ℕ)
-    (addresses : List ℕ) (status : Status) (text : List ℕ) : Type 0 where
-  pub parts : List Operations
-  pub named : HoldsNamed index archive (key_bytes key ∷ []) parts
-  pub tells : TellsAddresses (merged set.empty parts) key load addresses status text
-
--- `symbolicate`, over this archive by this index
-abbrev pub symbolicate_at : {R S : Type 0} → Reader R → Reader S → SliceKey → Option ℕ → List ℕ → Query
-symbolicate_at index archive key load addresses = record {
-  Makes = MakesAnsweredAt index archive key load addresses;
-  Refuses = IsRefusedByIndex 0 index archive (IsStaleFor (key_bytes key ∷ []) archive);
-  Unfailed = Unfailed index × Unfailed archive;
-}
+-- `symbolicate`, over these archives
+abbrev pub symbolicate_at : {I P R : Type 0} → List (Reader I) → List (Reader P) → List (Reader R) → SliceKey
+    → Option ℕ → List ℕ → Query
+symbolicate_at indexes archives others key load addresses =
+    asks_together (key_bytes key ∷ []) indexes archives others
+    (λ o status text. TellsAddresses o key load addresses status text)

@@ -1,12 +1,15 @@
-//! `find ARCHIVE UUID --index INDEX`, over one archive.
+//! `find ARCHIVE UUID --index INDEX`, over one archive, and over several.
+ghost use Rattle.std.specs.Prelude.{◌≡◌, ◌<◌, ◌+◌, ◌^◌, length};
 ghost use Rattle.command_ends.specs.Ends.{EndsReport};
-ghost use Rattle.command_ends.specs.Inputs.{reader};
+ghost use Rattle.command_ends.specs.Inputs.{reader, readers};
 ghost use Rattle.command_ends.specs.Outputs.{writer};
-ghost use Rattle.indexed_queries.specs.Find.{find_at};
+ghost use Rattle.indexed_queries.specs.Find.{find_at, find_together};
 
-use crate::fronts::uuid_bytes;
+use crate::fronts::{Front, uuid_bytes};
 use crate::inputs::read_index_of;
 use crate::rows::rows_under;
+use crate::together::read_fronts;
+use archive_core::Archive;
 use archive_queries::status_of;
 use byte_device::{CannotOpen, Sink, Source};
 use command_ends::{CommandFault, Status, publish_report};
@@ -36,6 +39,33 @@ pub fn run_find_at<I: Source, P: Placed, W: Sink>(
     let front = uuid_bytes(*uuid);
     let entries = read_index_of(heap.clone()?, 0, index, archive)?;
     let rows = rows_under(&heap, &front, &entries)?;
+    let text = find_lines(heap, &rows)?;
+    publish_report(status_of(&rows), &text, report)
+}
+
+/// Writes a row for each retirement and each live slice of the UUID in the join of the archives to the report. Of the
+/// first archives the slices that their indexes name under the UUID are read at their places, tested and hashed, since
+/// slices of several archives are told in the order of their bytes; the others are read whole, each to its end.
+///
+/// # Errors
+///
+/// `Input` for the first index or archive that is refused; `Report` where the report failed; `OutOfMemory`.
+pub fn run_find_together<A: Archive + Drop, I: Source, P: Placed, R: Source, W: Sink>(
+    heap: Heap,
+    indexes: &mut [Result<I, CannotOpen>],
+    archives: &mut [Result<P, CannotOpen>],
+    others: &mut [Result<R, CannotOpen>],
+    uuid: &Uuid,
+    report: &mut W,
+) -> Result<Status, CommandFault>
+    requires same { length indexes.old ≡ length archives.old }
+    requires few { length indexes.old + length others.old < 2 ^ 64 }
+    ensures { EndsReport (find_together (readers I.left I.failures indexes.old indexes.new)
+        (readers P.whole P.failures archives.old archives.new) (readers R.left R.failures others.old others.new)
+        uuid.now) (writer W.held W.failures report.old report.new) result }
+{
+    let kept: A = read_fronts(&heap, &[Front::Uuid(*uuid)], indexes, archives, others)?;
+    let rows = kept.find(uuid)?;
     let text = find_lines(heap, &rows)?;
     publish_report(status_of(&rows), &text, report)
 }

@@ -1,16 +1,17 @@
-//! `frames FRAMES ARCHIVE --index INDEX`, over one archive.
-ghost use Rattle.std.specs.Prelude.{◌≡◌, true, Contains, IfErr, IfOk, OnOk, map, string_bytes};
+//! `frames FRAMES ARCHIVE... --index INDEX`, over one archive or several.
+ghost use Rattle.std.specs.Prelude.{◌≡◌, ◌<◌, ◌+◌, ◌^◌, true, Contains, IfErr, IfOk, OnOk, length, map, string_bytes};
 ghost use Rattle.archive_core.specs.Content.{HaveSameMembers};
 ghost use Rattle.archive_core.specs.Key.{key_bytes};
 ghost use Rattle.archive_queries.specs.Frames.{TellsFrames};
 ghost use Rattle.command_ends.specs.Ends.{EndsReport};
-ghost use Rattle.command_ends.specs.Inputs.{IsRefusal, Unfailed, reader};
+ghost use Rattle.command_ends.specs.Inputs.{IsRefusal, reader, readers};
 ghost use Rattle.command_ends.specs.Outputs.{writer};
 ghost use Rattle.indexed_queries.specs.Frames.{AreRefusedAt, AreToldAt, frames_at, keys_of};
 ghost use Rattle.indexed_queries.specs.Fronts.{front_bytes};
+ghost use Rattle.indexed_queries.specs.Together.{AreUnfailedTogether};
 
 use crate::fronts::Front;
-use crate::parts::join_named;
+use crate::together::read_fronts;
 use archive_core::{Archive, SliceKey};
 use archive_queries::{asked_of, status_behind};
 use byte_device::{CannotOpen, Sink, Source};
@@ -74,52 +75,62 @@ fn answer_frames<A: Archive>(
     Ok((status, text))
 }
 
-/// Reads what INDEX names in ARCHIVE under the keys of the frames, and gives the lines of its answers to these.
-fn tell_frames<A: Archive + Drop, I: Source, P: Placed>(
+/// Reads what the archives have under the keys of the frames, and gives the lines of the answers to these.
+fn tell_frames<A: Archive + Drop, I: Source, P: Placed, R: Source>(
     heap: &Heap,
     frames: &[Frame],
-    index: &mut Result<I, CannotOpen>,
-    archive: &mut Result<P, CannotOpen>,
+    indexes: &mut [Result<I, CannotOpen>],
+    archives: &mut [Result<P, CannotOpen>],
+    others: &mut [Result<R, CannotOpen>],
 ) -> Result<(Status, String<Heap>), CommandFault>
-    ensures told { IfOk result (λ told. AreToldAt (reader I.left I.failures index.old index.new)
-        (reader P.whole P.failures archive.old archive.new) frames.now told.0 (string_bytes told.1)) }
-    ensures unfailed { OnOk result (Unfailed (reader I.left I.failures index.old index.new)
-        × Unfailed (reader P.whole P.failures archive.old archive.new)) }
+    requires same { length indexes.old ≡ length archives.old }
+    requires few { length indexes.old + length others.old < 2 ^ 64 }
+    ensures told { IfOk result (λ told. AreToldAt (readers I.left I.failures indexes.old indexes.new)
+        (readers P.whole P.failures archives.old archives.new) (readers R.left R.failures others.old others.new)
+        frames.now told.0 (string_bytes told.1)) }
+    ensures unfailed { OnOk result (AreUnfailedTogether (readers I.left I.failures indexes.old indexes.new)
+        (readers P.whole P.failures archives.old archives.new) (readers R.left R.failures others.old others.new)) }
     ensures refused { IfErr result (IsRefusal
-        (AreRefusedAt (reader I.left I.failures index.old index.new)
-        (reader P.whole P.failures archive.old archive.new) frames.now)
-        (Unfailed (reader I.left I.failures index.old index.new)
-        × Unfailed (reader P.whole P.failures archive.old archive.new))) }
+        (AreRefusedAt (readers I.left I.failures indexes.old indexes.new)
+        (readers P.whole P.failures archives.old archives.new) (readers R.left R.failures others.old others.new)
+        frames.now)
+        (AreUnfailedTogether (readers I.left I.failures indexes.old indexes.new)
+        (readers P.whole P.failures archives.old archives.new)
+        (readers R.left R.failures others.old others.new))) }
 {
     let fronts = fronts_of(heap.clone()?, frames)?;
-    let mut kept = A::empty(heap.clone()?);
-    join_named(heap, &mut kept, 0, &fronts, index, archive)?;
+    let kept: A = read_fronts(heap, &fronts, indexes, archives, others)?;
     let told = answer_frames(heap.clone()?, &kept, frames)?;
     Ok(told)
 }
 
 /// Writes for each frame of FRAMES what `run_symbolicate_at` writes for its address to the report, in the order of the
-/// lines. FRAMES is read to its end first, and then INDEX; of ARCHIVE the slices under the keys of the frames are read,
-/// and held. Where FRAMES has no frame INDEX is read, and compared with the length of ARCHIVE, all the same.
+/// lines. FRAMES is read to its end first. Of the first archives the slices under the keys of the frames are read, each
+/// once, at the places that their indexes name, and the others are read whole; what is under these keys is held. Where
+/// FRAMES has no frame the indexes are read, and compared with the lengths of their archives, all the same.
 ///
 /// The status is `Done` where each answer is one symbol, and else `Partial`.
 ///
 /// # Errors
 ///
-/// `Input` where FRAMES, INDEX or ARCHIVE is refused, or INDEX is not of ARCHIVE; `Report` where the report failed;
+/// `Input` for FRAMES, or for the first index or archive that is refused; `Report` where the report failed;
 /// `OutOfMemory`.
-pub fn run_frames_at<A: Archive + Drop, C: Source, I: Source, P: Placed, W: Sink>(
+pub fn run_frames_at<A: Archive + Drop, C: Source, I: Source, P: Placed, R: Source, W: Sink>(
     heap: Heap,
     crash: &mut Result<C, CannotOpen>,
-    index: &mut Result<I, CannotOpen>,
-    archive: &mut Result<P, CannotOpen>,
+    indexes: &mut [Result<I, CannotOpen>],
+    archives: &mut [Result<P, CannotOpen>],
+    others: &mut [Result<R, CannotOpen>],
     report: &mut W,
 ) -> Result<Status, CommandFault>
+    requires same { length indexes.old ≡ length archives.old }
+    requires few { length indexes.old + length others.old < 2 ^ 64 }
     ensures { EndsReport (frames_at (reader C.left C.failures crash.old crash.new)
-        (reader I.left I.failures index.old index.new) (reader P.whole P.failures archive.old archive.new))
+        (readers I.left I.failures indexes.old indexes.new) (readers P.whole P.failures archives.old archives.new)
+        (readers R.left R.failures others.old others.new))
         (writer W.held W.failures report.old report.new) result }
 {
     let frames = read_crash(heap.clone()?, crash)?;
-    let (status, text) = tell_frames::<A, I, P>(&heap, &frames, index, archive)?;
+    let (status, text) = tell_frames::<A, I, P, R>(&heap, &frames, indexes, archives, others)?;
     publish_report(status, &text, report)
 }

@@ -68,8 +68,8 @@ fn test_length<P: Placed>(
     }
 }
 
-/// Reads the index of an archive, and tests that this has the length that it tells. Both have this number among those of
-/// the words.
+/// Reads the index of an archive, and tests that this has the length that it tells. Both have this number among those
+/// of the words.
 pub(crate) fn read_index_of<I: Source, P: Placed>(
     heap: Heap,
     number: u64,

@@ -3,8 +3,9 @@
 //! - `inputs`: an index that is read, and the archive that it is of;
 //! - `rows`: the rows that an index tells; `summaries`: the summary that it tells;
 //! - `fronts`: [`Front`], what a key begins with; `parts`: what an index names there, read and joined;
-//! - `symbolicate`, `frames`: the commands that read what the index names under keys;
+//! - `together`: the same of several archives, of which the first have indexes;
 //! - `find`, `list`, `summary`: commands that read the index alone, and the archive's length;
+//! - `symbolicate`, `frames`: commands that read slices, at their places;
 //! - [`laws`]: what they tell by the index of a content.
 #![tactic(auto)]
 
@@ -19,8 +20,9 @@ mod rows;
 mod summaries;
 mod summary;
 mod symbolicate;
+mod together;
 
-pub use find::run_find_at;
+pub use find::{run_find_at, run_find_together};
 pub use frames::run_frames_at;
 pub use fronts::Front;
 pub use list::run_list_at;

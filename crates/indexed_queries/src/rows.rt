@@ -93,8 +93,8 @@ fn put_by_key(rows: &mut Vec<FindRow, Heap>) -> Result<(), NoMemory>
     Ok(())
 }
 
-/// The rows of the entries of an index under a front, a UUID or an empty one: by key, and those of a key in the order in
-/// which their records stand. Refused for want of memory alone.
+/// The rows of the entries of an index under a front, a UUID or an empty one: by key, and those of a key in the order
+/// in which their records stand. Refused for want of memory alone.
 pub(crate) fn rows_under(
     heap: &Heap,
     front: &[u8],

@@ -11,8 +11,8 @@ use command_ends::{CommandFault, Output, Status, Target, publish_summary};
 use memory::Heap;
 use placed_bytes::Placed;
 
-/// Writes the summary that INDEX tells to OUT, and to the report how many entries and bytes it has, as `summary` does of
-/// an archive. INDEX is read to its end, and of ARCHIVE the length alone.
+/// Writes the summary that INDEX tells to OUT, and to the report how many entries and bytes it has, as `summary` does
+/// of an archive. INDEX is read to its end, and of ARCHIVE the length alone.
 ///
 /// # Errors
 ///

@@ -1,11 +1,12 @@
-//! `symbolicate ARCHIVE UUID ARCH [--load HEX] ADDRESS... --index INDEX`, over one archive.
+//! `symbolicate ARCHIVE UUID ARCH [--load HEX] ADDRESS... --index INDEX`, over one archive or several.
+ghost use Rattle.std.specs.Prelude.{◌≡◌, ◌<◌, ◌+◌, ◌^◌, length};
 ghost use Rattle.command_ends.specs.Ends.{EndsReport};
-ghost use Rattle.command_ends.specs.Inputs.{reader};
+ghost use Rattle.command_ends.specs.Inputs.{readers};
 ghost use Rattle.command_ends.specs.Outputs.{writer};
 ghost use Rattle.indexed_queries.specs.Symbolicate.{symbolicate_at};
 
 use crate::fronts::Front;
-use crate::parts::join_named;
+use crate::together::read_fronts;
 use archive_core::{Archive, SliceKey};
 use archive_queries::answer_each;
 use byte_device::{CannotOpen, Sink, Source};
@@ -13,31 +14,32 @@ use command_ends::{CommandFault, Status, publish_report};
 use memory::Heap;
 use placed_bytes::Placed;
 
-/// Writes what the slices answer that INDEX names under the key in ARCHIVE, as `run_symbolicate` of `archive_queries`
-/// does. INDEX is read to its end, and of ARCHIVE the slices of the key alone, each at its place: it is tested as a record
-/// of an archive is, and hashed.
+/// Writes what the join of the archives answers for each address to the report, as `run_symbolicate` of
+/// `archive_queries` does. Of the first archives the slices that their indexes name under the key are read at their
+/// places, tested and hashed; the others are read whole, each to its end.
 ///
 /// The status is `Done` where each answer is one symbol, and else `Partial`.
 ///
 /// # Errors
 ///
-/// `Input` where INDEX or ARCHIVE is refused, or INDEX is not of ARCHIVE; `Report` where the report failed;
-/// `OutOfMemory`.
-pub fn run_symbolicate_at<A: Archive + Drop, I: Source, P: Placed, W: Sink>(
+/// `Input` for the first index or archive that is refused; `Report` where the report failed; `OutOfMemory`.
+pub fn run_symbolicate_at<A: Archive + Drop, I: Source, P: Placed, R: Source, W: Sink>(
     heap: Heap,
-    index: &mut Result<I, CannotOpen>,
-    archive: &mut Result<P, CannotOpen>,
+    indexes: &mut [Result<I, CannotOpen>],
+    archives: &mut [Result<P, CannotOpen>],
+    others: &mut [Result<R, CannotOpen>],
     key: &SliceKey,
     load: Option<u64>,
     addresses: &[u64],
     report: &mut W,
 ) -> Result<Status, CommandFault>
-    ensures { EndsReport (symbolicate_at (reader I.left I.failures index.old index.new)
-        (reader P.whole P.failures archive.old archive.new) key.now load addresses.now)
-        (writer W.held W.failures report.old report.new) result }
+    requires same { length indexes.old ≡ length archives.old }
+    requires few { length indexes.old + length others.old < 2 ^ 64 }
+    ensures { EndsReport (symbolicate_at (readers I.left I.failures indexes.old indexes.new)
+        (readers P.whole P.failures archives.old archives.new) (readers R.left R.failures others.old others.new)
+        key.now load addresses.now) (writer W.held W.failures report.old report.new) result }
 {
-    let mut kept = A::empty(heap.clone()?);
-    join_named(&heap, &mut kept, 0, &[Front::Key(*key)], index, archive)?;
+    let kept: A = read_fronts(&heap, &[Front::Key(*key)], indexes, archives, others)?;
     let (status, text) = answer_each(heap, &kept, key, load, addresses)?;
     publish_report(status, &text, report)
 }

@@ -1,28 +1,39 @@
-use Rattle.std.proofs.Common.{List, ℕ, ap, sym, ◌∙◌, map, subst}
+use Rattle.std.proofs.Common.{List, ℕ, map, subst, sym}
 use Rattle.std.proofs.lemmas.Result.{err_from_is_err_and}
-use Rattle.archive_core.specs.Content.{Operations, HaveSameMembers}
-use Rattle.archive_queries.specs.Frames.{TellsFrames}
-use Rattle.command_ends.specs.Archives.{merged}
+use Rattle.archive_core.specs.Content.{HaveSameMembers}
+use Rattle.command_ends.specs.Inputs.{readers}
+use Rattle.command_ends.proofs.Readers.{none_failed}
 use Rattle.indexed_queries.specs.Frames.{keys_of}
 use Rattle.indexed_queries.specs.Fronts.{front_bytes}
 use Rattle.indexed_queries.specs.declared.fronts.Front.{Front}
 use Rattle.indexed_queries.proofs.Framed.{refused_keyed}
 use Rattle.indexed_queries.proofs.frames.tell_frames.Goals as goal
 
-pub returns-in_err-join_named-clause-refused : goal.returns-in_err-join_named-clause-refused
-returns-in_err-join_named-clause-refused g c =
-    let p = err_from_is_err_and c.from_residual-in_err-join_named.result c.from_residual-in_err-join_named.ensures.1 in
+pub returns-in_err-clone-clause-refused : goal.returns-in_err-clone-clause-refused
+returns-in_err-clone-clause-refused g c =
+    let p = err_from_is_err_and c.from_residual.result c.from_residual.ensures.1 in
+    rw (p.1, p.2)
+    ((none_failed g.I.Source.left g.I.Source.failures c.args.indexes.now, none_failed g.P.Placed.whole g.P.Placed.failures c.args.archives.now), none_failed g.R.Source.left g.R.Source.failures c.args.others.now)
+
+pub returns-in_err-fronts-clause-refused : goal.returns-in_err-fronts-clause-refused
+returns-in_err-fronts-clause-refused g c =
+    let p = err_from_is_err_and c.from_residual-in_err-fronts.result c.from_residual-in_err-fronts.ensures.1 in
+    rw (p.1, p.2)
+    ((none_failed g.I.Source.left g.I.Source.failures c.args.indexes.now, none_failed g.P.Placed.whole g.P.Placed.failures c.args.archives.now), none_failed g.R.Source.left g.R.Source.failures c.args.others.now)
+
+pub returns-in_err-kept-clause-refused : goal.returns-in_err-kept-clause-refused
+returns-in_err-kept-clause-refused g c =
+    let p = err_from_is_err_and c.from_residual-in_err-kept.result c.from_residual-in_err-kept.ensures.1 in
     let same = subst (λ (fs : List Front). HaveSameMembers (map front_bytes fs) (keys_of c.args.frames.now)) (sym c.deref.ensures.value) c.in_ok-fronts.ensures in
-    rw (p.1, p.2) (refused_keyed _ _ c.args.frames.now (map front_bytes c.deref.result.now) _ c.in_err-join_named.field-0.0 same c.in_err-join_named.ensures.refused)
+    rw (p.1, p.2) (refused_keyed _ _ _ c.args.frames.now (map front_bytes c.deref.result.now) _ c.in_err-kept.field-0.0 same c.in_err-kept.ensures.refused)
 
 pub returns-clause-told : goal.returns-clause-told
 returns-clause-told g c =
-    let j = c.in_ok-join_named.ensures.joined in
-    let is = j.content ∙ ap (λ (o : Operations). merged o j.parts) c.empty-kept.ensures in
+    let same = subst (λ (fs : List Front). HaveSameMembers (map front_bytes fs) (keys_of c.args.frames.now)) (sym c.deref.ensures.value) c.in_ok-fronts.ensures in
     record {
-      keys = map front_bytes c.in_ok-fronts.fronts.items;
-      are_keys = c.in_ok-fronts.ensures;
-      parts = j.parts;
-      named = rw c.deref.ensures.value at j.named;
-      tells = rw is at c.in_ok-told.ensures;
+      keys = map front_bytes c.deref.result.now;
+      are_keys = same;
+      content = g.A.Join.content c.in_ok-kept.kept;
+      held = c.in_ok-kept.ensures.held;
+      tells = c.in_ok-told.ensures;
     }

@@ -1,0 +1,53 @@
+use Rattle.std.proofs.Common.{◌≡◌, ◌<◌, ◌+◌, ℕ, length, map, take, arith, refl, subst, ap, ◌∙◌}
+use Rattle.std.proofs.lemmas.Result.{err_from_is_err_and}
+use Rattle.command_ends.specs.Inputs.{IsArchive, IsArchiveRefused, reader, readers}
+use Rattle.command_ends.specs.declared.faults.Place.TheVariants.{Archive}
+use Rattle.command_ends.proofs.Readers.{all_read, none_failed, one_more, refused_at, rest_kept, same_at, unfailed_more}
+use Rattle.archive_queries.specs.InnerTogether.{HasJoinedParts}
+use Rattle.archive_queries.proofs.Parts.{parts_archives, parts_more, parts_none}
+use Rattle.indexed_queries.specs.Fronts.{front_bytes}
+use Rattle.indexed_queries.specs.Together.{is_under_any}
+use Rattle.indexed_queries.proofs.together.join_others.Goals as goal
+
+pub others-init : goal.others-init
+others-init g c = record { joined = parts_none _ _; unfailed = none_failed g.R.Source.left g.R.Source.failures c.args.others.now; rest = refl }
+
+pub others-preserved : goal.others-preserved
+others-preserved g c =
+    let left = g.R.Source.left in
+    let failures = g.R.Source.failures in
+    let others = c.args.others.now in
+    let now = c.others.others in
+    let index = c.others.index in
+    let other = c.index-others-index.result in
+    let after = c.join_part.new.archive in
+    let got = c.in_ok-join_part.ensures.joined in
+    let lt : index < length others = omega arith in
+    let is = same_at now others index other c.others.invariant.rest c.index-others-index.is in
+    record {
+      joined = parts_more (take index (readers left failures others now)) _ (is_under_any (map front_bytes c.args.fronts.now)) (reader left failures other after) (g.A.Join.content c.args.kept.now) (g.A.Join.content c.others.kept) (g.A.Join.content c.join_part.new.kept) got.0
+          (one_more left failures others now index other after lt c.others.auto.others is) c.others.invariant.joined got.1 (rw (← c.index-others-index.is) at got.2) got.3;
+      unfailed = unfailed_more left failures others now index other after lt c.others.auto.others is c.others.invariant.unfailed (rw (← c.index-others-index.is) at c.in_ok-join_part.ensures.unfailed);
+      rest = rest_kept now others index after c.others.invariant.rest;
+    }
+
+pub returns-in_err-join_part-clause-refused : goal.returns-in_err-join_part-clause-refused
+returns-in_err-join_part-clause-refused g c =
+    let others = c.args.others.now in
+    let now = c.others.others in
+    let index = c.others.index in
+    let p = err_from_is_err_and c.from_residual-in_err-join_part.result c.from_residual-in_err-join_part.ensures.1 in
+    let lt : index < length others = omega arith in
+    rw (p.1, p.2)
+    (refused_at g.R.Source.left g.R.Source.failures (λ (n : ℕ). Archive (c.args.before + n)) IsArchive IsArchiveRefused others now index c.index-others-index.result _ _ lt c.others.auto.others
+    (same_at now others index _ c.others.invariant.rest c.index-others-index.is) (parts_archives _ _ _ _ c.others.invariant.joined) c.others.invariant.rest c.others.invariant.unfailed
+    (rw (← c.index-others-index.is) at c.in_err-join_part.ensures.refused))
+
+pub returns-clause-joined : goal.returns-clause-joined
+returns-clause-joined g c =
+    let others = c.args.others.now in
+    let now = c.others.others in
+    let end : c.others.index ≡ length others = omega arith in
+    subst (λ seen. HasJoinedParts seen (is_under_any (map front_bytes c.args.fronts.now)) (g.A.Join.content c.args.kept.now) (g.A.Join.content c.others.kept))
+    (ap (λ n. take n (readers g.R.Source.left g.R.Source.failures others now)) end ∙ all_read g.R.Source.left g.R.Source.failures others now c.others.auto.others)
+    c.others.invariant.joined

@@ -1,0 +1,160 @@
+//! Archives that are asked together, of which the first have indexes.
+
+ghost use Rattle.std.specs.Prelude.{◌≡◌, ◌<◌, ◌+◌, ◌^◌, IfErr, IfOk, OnOk, length, map};
+ghost use Rattle.std.specs.FinSet as set;
+ghost use Rattle.archive_core.specs.Part.{is_under};
+ghost use Rattle.archive_queries.specs.InnerTogether.{HasJoinedParts as HaveJoinedPicked};
+ghost use Rattle.command_ends.specs.Inputs.{EachUnfailed, IsArchive, IsArchiveRefused, IsFirstRefused, IsRefusal};
+ghost use Rattle.command_ends.specs.Inputs.{readers};
+ghost use Rattle.command_ends.specs.declared.faults.Place.TheVariants.{Archive as ArchivePlace};
+ghost use Rattle.indexed_queries.specs.Fronts.{front_bytes};
+ghost use Rattle.indexed_queries.specs.InnerParts.{HaveJoinedGroups};
+ghost use Rattle.indexed_queries.specs.Together.{AreRefusedTogether, AreUnfailedTogether, HoldNamedTogether};
+ghost use Rattle.indexed_queries.specs.Together.{IsFirstRefusedByIndex, is_under_any};
+
+use crate::fronts::{Front, key_of, uuid_bytes};
+use crate::parts::join_named;
+use archive_core::Archive;
+use archive_queries::join_part;
+use archive_reading::Selects;
+use byte_device::{CannotOpen, Source};
+use command_ends::CommandFault;
+use memory::Heap;
+use placed_bytes::Placed;
+
+/// Whether bytes behind a tag begin with these.
+fn begins(bytes: &[u8], front: &[u8]) -> bool
+    requires { 0 < length bytes.now }
+    ensures { result ≡ is_under front.now bytes.now }
+{
+    bytes[1..].starts_with(front)
+}
+
+/// Whether the bytes behind the tag of a record begin with a front.
+fn is_over(front: &Front, bytes: &[u8]) -> bool
+    requires { 0 < length bytes.now }
+    ensures { result ≡ is_under (front_bytes front.now) bytes.now }
+{
+    match front {
+        Front::Uuid(uuid) => begins(bytes, &uuid_bytes(*uuid)),
+        Front::Key(key) => begins(bytes, &key_of(*key)),
+    }
+}
+
+/// Whether the bytes behind the tag of a record begin with one of these fronts.
+fn any_over(fronts: &[Front], bytes: &[u8]) -> bool
+    requires { 0 < length bytes.now }
+    ensures { result ≡ is_under_any (map front_bytes fronts.now) bytes.now }
+{
+    'fronts: for front in fronts {
+        if is_over(front, bytes) {
+            return true;
+        }
+    }
+    false
+}
+
+/// The records under one of these fronts.
+#[derive(Drop)]
+struct UnderAny<'f> {
+    fronts: &'f [Front],
+}
+
+impl<'f> Selects for UnderAny<'f> {
+    ghost use Rattle.std.specs.Prelude.{map};
+    ghost use Rattle.indexed_queries.specs.Fronts.{front_bytes};
+    ghost use Rattle.indexed_queries.specs.Together.{is_under_any};
+
+    ghost picked = { λ under bytes. is_under_any (map front_bytes under.fronts.now) bytes };
+
+    fn picks(&self, bytes: &[u8]) -> bool {
+        any_over(self.fronts, bytes)
+    }
+}
+
+/// Joins what each of these indexes names under the fronts in its archive, in their order.
+fn join_indexed<A: Archive + Drop, I: Source, P: Placed>(
+    heap: &Heap,
+    kept: &mut A,
+    fronts: &[Front],
+    indexes: &mut [Result<I, CannotOpen>],
+    archives: &mut [Result<P, CannotOpen>],
+) -> Result<(), CommandFault>
+    requires { length indexes.old ≡ length archives.old }
+    ensures joined { OnOk result (HaveJoinedGroups (map front_bytes fronts.now)
+        (readers I.left I.failures indexes.old indexes.new) (readers P.whole P.failures archives.old archives.new)
+        (A.content kept.old) (A.content kept.new)) }
+    ensures unfailed { OnOk result (EachUnfailed (readers I.left I.failures indexes.old indexes.new)
+        × EachUnfailed (readers P.whole P.failures archives.old archives.new)) }
+    ensures refused { IfErr result (IsRefusal
+        (IsFirstRefusedByIndex (map front_bytes fronts.now)
+        (readers I.left I.failures indexes.old indexes.new) (readers P.whole P.failures archives.old archives.new))
+        (EachUnfailed (readers I.left I.failures indexes.old indexes.new)
+        × EachUnfailed (readers P.whole P.failures archives.old archives.new))) }
+{
+    'archives: for number in 0..indexes.len() {
+        join_named(
+            heap,
+            kept,
+            number as u64,
+            fronts,
+            &mut indexes[number],
+            &mut archives[number],
+        )?;
+    }
+    Ok(())
+}
+
+/// Joins what is under the fronts in each of these archives, which are read whole, in their order. This many stand
+/// before them among the words.
+fn join_others<A: Archive + Drop, R: Source>(
+    heap: &Heap,
+    kept: &mut A,
+    before: usize,
+    fronts: &[Front],
+    others: &mut [Result<R, CannotOpen>],
+) -> Result<(), CommandFault>
+    requires { before + length others.old < 2 ^ 64 }
+    ensures joined { OnOk result (HaveJoinedPicked (readers R.left R.failures others.old others.new)
+        (is_under_any (map front_bytes fronts.now)) (A.content kept.old) (A.content kept.new)) }
+    ensures unfailed { OnOk result (EachUnfailed (readers R.left R.failures others.old others.new)) }
+    ensures refused { IfErr result (IsRefusal
+        (IsFirstRefused (λ number. ArchivePlace (before + number)) IsArchive IsArchiveRefused
+        (readers R.left R.failures others.old others.new))
+        (EachUnfailed (readers R.left R.failures others.old others.new))) }
+{
+    let select = UnderAny { fronts };
+    'others: for (index, other) in others.iter_mut().enumerate() {
+        join_part(heap.clone()?, kept, (before + index) as u64, &select, other)?;
+    }
+    Ok(())
+}
+
+/// Reads what the archives have under the fronts, in the order of the words: the first by their indexes, at their
+/// places, and the others whole.
+pub(crate) fn read_fronts<A: Archive + Drop, I: Source, P: Placed, R: Source>(
+    heap: &Heap,
+    fronts: &[Front],
+    indexes: &mut [Result<I, CannotOpen>],
+    archives: &mut [Result<P, CannotOpen>],
+    others: &mut [Result<R, CannotOpen>],
+) -> Result<A, CommandFault>
+    requires same { length indexes.old ≡ length archives.old }
+    requires few { length indexes.old + length others.old < 2 ^ 64 }
+    ensures held { IfOk result (λ kept. HoldNamedTogether (map front_bytes fronts.now)
+        (readers I.left I.failures indexes.old indexes.new) (readers P.whole P.failures archives.old archives.new)
+        (readers R.left R.failures others.old others.new) (A.content kept)) }
+    ensures unfailed { OnOk result (AreUnfailedTogether (readers I.left I.failures indexes.old indexes.new)
+        (readers P.whole P.failures archives.old archives.new) (readers R.left R.failures others.old others.new)) }
+    ensures refused { IfErr result (IsRefusal
+        (AreRefusedTogether (map front_bytes fronts.now) (readers I.left I.failures indexes.old indexes.new)
+        (readers P.whole P.failures archives.old archives.new) (readers R.left R.failures others.old others.new))
+        (AreUnfailedTogether (readers I.left I.failures indexes.old indexes.new)
+        (readers P.whole P.failures archives.old archives.new)
+        (readers R.left R.failures others.old others.new))) }
+{
+    let mut kept = A::empty(heap.clone()?);
+    join_indexed(heap, &mut kept, fronts, indexes, archives)?;
+    join_others(heap, &mut kept, indexes.len(), fronts, others)?;
+    Ok(kept)
+}
