@@ -1,5 +1,5 @@
--- Queries of archives, each of which is read whole or by its index.
-use Rattle.std.specs.Prelude.{◌≡◌, ℕ, ◌+◌, List, [], ◌∷◌, length, Option, ⊥}
+-- Queries of archives, the first of which are read by their indexes, and the others whole.
+use Rattle.std.specs.Prelude.{◌≡◌, ℕ, List, [], ◌∷◌, Bool, true, false, nat_lt, length, take, drop, Option, ⊥}
 use Rattle.archive_core.specs.declared.keys.SliceKey.{SliceKey}
 use Rattle.command_ends.specs.declared.faults.CommandFault.{CommandFault}
 use Rattle.command_ends.specs.declared.faults.CommandFault.TheVariants.{Input}
@@ -11,7 +11,7 @@ use Rattle.archive_queries.specs.Find.{find}
 use Rattle.archive_queries.specs.Frames.{frames}
 use Rattle.archive_queries.specs.List.{list}
 use Rattle.archive_queries.specs.Symbolicate.{symbolicate}
-use Rattle.indexed_queries.specs.Find.{find_at}
+use Rattle.indexed_queries.specs.Find.{find_at, find_together}
 use Rattle.indexed_queries.specs.Frames.{frames_at}
 use Rattle.indexed_queries.specs.List.{list_at}
 use Rattle.indexed_queries.specs.Symbolicate.{symbolicate_at}
@@ -20,7 +20,7 @@ use Rattle.indexed_queries.specs.Symbolicate.{symbolicate_at}
 abbrev pub no_archive : ℕ → CommandFault
 no_archive number = Input (Index number) NoArchive
 
--- the query that is refused for the index of this number, since fewer archives are asked
+-- the query that is refused for that
 abbrev pub extra_index : ℕ → Query
 extra_index number = record {
   Makes = λ status text. ⊥;
@@ -28,27 +28,36 @@ extra_index number = record {
   Unfailed = ⊥;
 }
 
--- `find`, over the first archive, as it is read from its start and from any place, the others, and the indexes of the
--- first of them all
-abbrev pub find_of : {S : Type 0} → Reader S → Reader S → List (Reader S) → List (Reader S) → List ℕ → Query
-find_of archive place others [] uuid = find archive others uuid
-find_of archive place [] (index ∷ []) uuid = find_at index place uuid
-find_of archive place others (index ∷ indexes) uuid = extra_index (1 + length others)
+-- this query; but where there are more indexes than so many archives the next one is refused
+abbrev pub unless_more : Bool → ℕ → Query → Query
+unless_more true archives query = extra_index archives
+unless_more false archives query = query
 
--- `list`
+-- `find`, over archives as they are read from their start, and from any place, and the indexes of the first of them. Of
+-- one archive the index alone is read.
+abbrev pub find_of : {S : Type 0} → List (Reader S) → List (Reader S) → List (Reader S) → List ℕ → Query
+find_of (archive ∷ others) places [] uuid = find archive others uuid
+find_of (archive ∷ []) (place ∷ []) (index ∷ []) uuid = find_at index place uuid
+find_of archives places indexes uuid =
+    unless_more (nat_lt (length archives) (length indexes)) (length archives)
+    (find_together indexes (take (length indexes) places) (drop (length indexes) archives) uuid)
+
+-- `list`, over an archive, and its index, if there is one
 abbrev pub list_of : {S : Type 0} → Reader S → Reader S → List (Reader S) → Query
 list_of archive place [] = list archive
 list_of archive place (index ∷ _) = list_at index place
 
--- `symbolicate`
-abbrev pub symbolicate_of : {S : Type 0} → Reader S → Reader S → List (Reader S) → List (Reader S) → SliceKey
-    → Option ℕ → List ℕ → Query
-symbolicate_of archive place others [] key load addresses = symbolicate archive others key load addresses
-symbolicate_of archive place [] (index ∷ []) key load addresses = symbolicate_at index place key load addresses
-symbolicate_of archive place others (index ∷ indexes) key load addresses = extra_index (1 + length others)
+-- `symbolicate`, over archives and indexes as those of `find`
+abbrev pub symbolicate_of : {S : Type 0} → List (Reader S) → List (Reader S) → List (Reader S) → SliceKey → Option ℕ
+    → List ℕ → Query
+symbolicate_of (archive ∷ others) places [] key load addresses = symbolicate archive others key load addresses
+symbolicate_of archives places indexes key load addresses =
+    unless_more (nat_lt (length archives) (length indexes)) (length archives)
+    (symbolicate_at indexes (take (length indexes) places) (drop (length indexes) archives) key load addresses)
 
--- `frames`
-abbrev pub frames_of : {S : Type 0} → Reader S → Reader S → Reader S → List (Reader S) → List (Reader S) → Query
-frames_of crash archive place others [] = frames crash archive others
-frames_of crash archive place [] (index ∷ []) = frames_at crash index place
-frames_of crash archive place others (index ∷ indexes) = extra_index (1 + length others)
+-- `frames`, over FRAMES, and such archives and indexes
+abbrev pub frames_of : {S : Type 0} → Reader S → List (Reader S) → List (Reader S) → List (Reader S) → Query
+frames_of crash (archive ∷ others) places [] = frames crash archive others
+frames_of crash archives places indexes =
+    unless_more (nat_lt (length archives) (length indexes)) (length archives)
+    (frames_at crash indexes (take (length indexes) places) (drop (length indexes) archives))

@@ -87,6 +87,14 @@ only_reports (plan.Frames _ _ _ _) = true
 only_reports (plan.Rehearse _) = true
 only_reports _ = false
 
+-- it is one of these whose first input is one by itself
+abbrev pub begins_with_one : Plan → Bool
+begins_with_one (plan.List _ _) = true
+begins_with_one (plan.Name _ _ _) = true
+begins_with_one (plan.Frames _ _ _ _) = true
+begins_with_one (plan.Rehearse _) = true
+begins_with_one _ = false
+
 -- the key that a line names
 abbrev pub key_of : List ℕ → ArchKey → SliceKey
 key_of uuid arch = record { uuid = uuid; arch = arch }
@@ -100,23 +108,21 @@ pub data Deed : Type 1 where
   answers : Query → Deed
   none : Deed
 
--- of `frames`, over FRAMES, the indexes, and the archives as they are read from their start, and from any place
-abbrev pub framed : {S : Type 0} → Reader S → List (Reader S) → List (Reader S) → List (Reader S) → Deed
-framed crash indexes (archive ∷ others) (place ∷ _) = answers (frames_of crash archive place others indexes)
-framed crash indexes _ _ = none
-
 -- of a plan that only reports, over the inputs at the paths of its line, in their order, as they are read from their
 -- start, and as they are read from any place: an archive and the further ones are asked as their join
 abbrev pub answer_of : {S : Type 0} → Plan → List (Reader S) → List (Reader S) → Deed
-answer_of (plan.Find _ uuid others _) (archive ∷ rest) (place ∷ _) =
-    answers (find_of archive place (take (length others.now) rest) (drop (length others.now) rest) uuid)
-answer_of (plan.List _ _) (archive ∷ rest) (place ∷ _) = answers (list_of archive place rest)
+answer_of (plan.Find _ uuid others _) inputs places =
+    let number = 1 + length others.now in
+    answers (find_of (take number inputs) (take number places) (drop number inputs) uuid)
+answer_of (plan.List _ _) (archive ∷ indexes) (place ∷ _) = answers (list_of archive place indexes)
 answer_of (plan.Name _ sought _) (archive ∷ others) _ = answers (name archive others sought.now)
-answer_of (plan.Symbolicate _ uuid arch load others _ addresses) (archive ∷ rest) (place ∷ _) =
-    answers (symbolicate_of archive place (take (length others.now) rest) (drop (length others.now) rest)
-    (key_of uuid arch) load addresses.now)
-answer_of (plan.Frames _ indexes _ _) (crash ∷ rest) (_ ∷ places) =
-    framed crash (take (length indexes.now) rest) (drop (length indexes.now) rest) (drop (length indexes.now) places)
+answer_of (plan.Symbolicate _ uuid arch load others _ addresses) inputs places =
+    let number = 1 + length others.now in
+    answers (symbolicate_of (take number inputs) (take number places) (drop number inputs) (key_of uuid arch) load
+    addresses.now)
+answer_of (plan.Frames _ indexes _ _) (crash ∷ inputs) (_ ∷ places) =
+    let number = length indexes.now in
+    answers (frames_of crash (drop number inputs) (drop number places) (take number inputs))
 answer_of (plan.Rehearse _) (script ∷ _) _ = answers (rehearse script)
 answer_of _ _ _ = none
 

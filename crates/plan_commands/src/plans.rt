@@ -10,7 +10,8 @@ ghost use Rattle.command_line.specs.Table.{admit_command, apply_command, delta_c
 ghost use Rattle.command_line.specs.Table.{index_command, list_command, merge_command, migrate_command, name_command};
 ghost use Rattle.command_line.specs.Table.{new_command};
 ghost use Rattle.command_line.specs.Table.{rehearse_command, retire_command, summary_command, symbolicate_command};
-ghost use Rattle.plan_commands.specs.Plans.{Executes, Reports, answer_of, key_of, only_reports, plan_view, replaces_of};
+ghost use Rattle.plan_commands.specs.Plans.{Executes, Reports, answer_of, begins_with_one, key_of};
+ghost use Rattle.plan_commands.specs.Plans.{only_reports, plan_view, replaces_of};
 
 use crate::asking::{self, Input};
 use archive_core::{ArchKey, Archive, Digest, SliceKey};
@@ -406,16 +407,31 @@ fn key(uuid: &Uuid, arch: &ArchKey) -> SliceKey
     }
 }
 
-/// Carries out a plan that only reports, over its first input and the others. An archive of the type `L` is asked for
-/// addresses, and one of `A` for all else.
-fn answer<A: Archive + Drop, L: Archive + Drop, S: Source + Placed, P: Sink>(
+/// Whether a plan writes no OUT.
+fn only_reports(plan: &Plan) -> bool
+    ensures { result ≡ only_reports plan.now }
+{
+    matches!(
+        plan,
+        Plan::Find { .. }
+            | Plan::List { .. }
+            | Plan::Name { .. }
+            | Plan::Symbolicate { .. }
+            | Plan::Frames { .. }
+            | Plan::Rehearse { .. }
+    )
+}
+
+/// Carries out a plan that only reports, and asks no archives by a UUID, over its first input and the rest. An archive of
+/// the type `L` is asked for frames, and one of `A` for all else.
+fn answer_first<A: Archive + Drop, L: Archive + Drop, S: Source + Placed, P: Sink>(
     heap: Heap,
     plan: &Plan,
     first: &mut Input<S>,
     rest: &mut [Input<S>],
     report: &mut P,
 ) -> Result<Status, CommandFault>
-    requires kind { only_reports plan.now ≡ true }
+    requires kind { begins_with_one plan.now ≡ true }
     requires count { 1 + length rest.old ≡ length (inputs_of (plan_view plan.now)) }
     ensures { Reports (answer_of plan.now
         (reader ⟦<S as Source>⟧.left ⟦<S as Source>⟧.failures first.old first.new
@@ -425,12 +441,37 @@ fn answer<A: Archive + Drop, L: Archive + Drop, S: Source + Placed, P: Sink>(
         (writer P.held P.failures report.old report.new) result }
 {
     match plan {
-        Plan::Find { uuid, others, .. } => {
-            let (others, indexes) = rest.split_at_mut(others.len());
-            asking::find::<A, _, _>(heap, first, others, indexes, uuid, report)
-        }
         Plan::List { .. } => asking::list(heap, first, rest, report),
         Plan::Name { name, .. } => run_name(heap, first, rest, name.as_bytes(), report),
+        Plan::Frames { indexes, .. } => {
+            let (indexes, archives) = rest.split_at_mut(indexes.len());
+            asking::frames::<L, _, _>(heap, first, archives, indexes, report)
+        }
+        Plan::Rehearse { .. } => run_rehearse::<A, _, _>(heap, first, report),
+        _ => unreachable!(),
+    }
+}
+
+/// Carries out a plan that only reports, over its inputs. An archive of the type `L` is asked for addresses, and one of
+/// `A` for all else.
+fn answer<A: Archive + Drop, L: Archive + Drop, S: Source + Placed, P: Sink>(
+    heap: Heap,
+    plan: &Plan,
+    inputs: &mut [Input<S>],
+    report: &mut P,
+) -> Result<Status, CommandFault>
+    requires kind { only_reports plan.now ≡ true }
+    requires count { length inputs.old ≡ length (inputs_of (plan_view plan.now)) }
+    ensures { Reports (answer_of plan.now
+        (readers ⟦<S as Source>⟧.left ⟦<S as Source>⟧.failures inputs.old inputs.new)
+        (readers ⟦<S as Placed>⟧.whole ⟦<S as Placed>⟧.failures inputs.old inputs.new))
+        (writer P.held P.failures report.old report.new) result }
+{
+    match plan {
+        Plan::Find { uuid, others, .. } => {
+            let (archives, indexes) = inputs.split_at_mut(others.len() + 1);
+            asking::find::<A, _, _>(heap, archives, indexes, uuid, report)
+        }
         Plan::Symbolicate {
             uuid,
             arch,
@@ -439,23 +480,18 @@ fn answer<A: Archive + Drop, L: Archive + Drop, S: Source + Placed, P: Sink>(
             addresses,
             ..
         } => {
-            let (others, indexes) = rest.split_at_mut(others.len());
+            let (archives, indexes) = inputs.split_at_mut(others.len() + 1);
             let key = key(uuid, arch);
             asking::symbolicate::<L, _, _>(
-                heap, first, others, indexes, &key, *load, addresses, report,
+                heap, archives, indexes, &key, *load, addresses, report,
             )
         }
-        Plan::Frames { indexes, .. } => {
-            let (indexes, archives) = rest.split_at_mut(indexes.len());
-            match archives.split_first_mut() {
-                Some((archive, others)) => {
-                    asking::frames::<L, _, _>(heap, first, archive, others, indexes, report)
-                }
-                None => unreachable!(),
-            }
+        _ => {
+            let Some((first, rest)) = inputs.split_first_mut() else {
+                unreachable!();
+            };
+            answer_first::<A, L, _, _>(heap, plan, first, rest, report)
         }
-        Plan::Rehearse { .. } => run_rehearse::<A, _, _>(heap, first, report),
-        _ => unreachable!(),
     }
 }
 
@@ -476,6 +512,9 @@ pub fn execute<A: Archive + Drop, L: Archive + Drop, S: Source + Placed, T: Targ
 {
     if let Plan::New { .. } = plan {
         return run_new::<A, _, _>(heap, out, report);
+    }
+    if only_reports(plan) {
+        return answer::<A, L, _, _>(heap, plan, inputs, report);
     }
     let Some((first, others)) = inputs.split_first_mut() else {
         unreachable!();
@@ -510,6 +549,6 @@ pub fn execute<A: Archive + Drop, L: Archive + Drop, S: Source + Placed, T: Targ
         | Plan::Name { .. }
         | Plan::Symbolicate { .. }
         | Plan::Frames { .. }
-        | Plan::Rehearse { .. } => answer::<A, L, _, _>(heap, plan, first, others, report),
+        | Plan::Rehearse { .. } => unreachable!(),
     }
 }
