@@ -1,4 +1,4 @@
-use Rattle.std.proofs.Common.{◌≡◌, ◌∙◌, ℕ, List, [], ◌++◌, Some, None, Err, refl, ap, inl, inr, option_map}
+use Rattle.std.proofs.Common.{◌≡◌, ◌∙◌, ℕ, List, [], ◌++◌, Some, None, refl, ap, inl, option_map}
 use Rattle.std.proofs.Common.{string_bytes, subst, sym, append-nil}
 use mathlib.Core.Logic.{∥∥₁_map}
 use Rattle.std.proofs.lemmas.Result.{err_from_is_err_and}
@@ -19,47 +19,49 @@ use Rattle.plan_commands.proofs.files.execute.Goals as goal
 
 pub returns-in_err-heap : goal.returns-in_err-heap
 returns-in_err-heap g c =
-    let wanting = err_from_is_err_and c.from_residual.result c.from_residual.ensures.1 in inl (record {
-      wanting = wanting.1 ∙ ap (λ fault. Err fault) wanting.2;
+    let wanting = err_from_is_err_and c.from_residual.result c.from_residual.ensures.1 in
+    rw (wanting.1, wanting.2) (inl (record {
+      wanting = refl;
       asked = none_asked _ _;
       uncalled = none_called _ _ c.requires.6 c.requires.5;
       report_same = refl;
       report_unfailed = refl;
-    })
+    }))
 
-pub returns-in_err-notes : goal.returns-in_err-notes
-returns-in_err-notes g c =
-    let wanting = err_from_is_err_and c.from_residual-in_err-notes.result c.from_residual-in_err-notes.ensures.1 in inl (record {
-      wanting = wanting.1 ∙ ap (λ fault. Err fault) wanting.2;
+pub returns-in_err-clone : goal.returns-in_err-clone
+returns-in_err-clone g c =
+    let wanting = err_from_is_err_and c.from_residual-in_err-clone.result c.from_residual-in_err-clone.ensures.1 in
+    rw (wanting.1, wanting.2) (inl (record {
+      wanting = refl;
       asked = none_asked _ _;
       uncalled = none_called _ _ c.requires.6 c.requires.5;
       report_same = refl;
       report_unfailed = refl;
-    })
+    }))
 
 pub returns-in_err-begin : goal.returns-in_err-begin
 returns-in_err-begin g c =
-    let wanting =
-    err_from_is_err_and c.from_residual-in_err-begin.result c.from_residual-in_err-begin.ensures.1 in inl (record {
-      wanting = wanting.1 ∙ ap (λ fault. Err fault) wanting.2;
+    let wanting = err_from_is_err_and c.from_residual-in_err-begin.result c.from_residual-in_err-begin.ensures.1 in
+    rw (wanting.1, wanting.2) (inl (record {
+      wanting = refl;
       asked = (0, c.begin.ensures.asked ∙ sym (append-nil _));
       uncalled = none_called _ _ c.begin.ensures.placed c.begin.ensures.calls;
       report_same = refl;
       report_unfailed = refl;
-    })
+    }))
 
 pub returns-in_err-inputs : goal.returns-in_err-inputs
 returns-in_err-inputs g c =
-    let wanting =
-    err_from_is_err_and c.from_residual-in_err-inputs.result c.from_residual-in_err-inputs.ensures.1 in inl (record {
-      wanting = wanting.1 ∙ ap (λ fault. Err fault) wanting.2;
+    let wanting = err_from_is_err_and c.from_residual-in_err-inputs.result c.from_residual-in_err-inputs.ensures.1 in
+    rw (wanting.1, wanting.2) (inl (record {
+      wanting = refl;
       asked = first_from _ _ _ _ c.begin.ensures.asked c.inputs_for.ensures.first;
       uncalled = none_called _ _
           (ap (λ out. out.target.placed) c.inputs_for.ensures.out ∙ c.begin.ensures.placed)
           (ap (λ out. out.draft.calls.entries) c.inputs_for.ensures.out ∙ c.begin.ensures.calls);
       report_same = refl;
       report_unfailed = refl;
-    })
+    }))
 
 pub returns : goal.returns
 returns g c =
@@ -94,7 +96,7 @@ returns g c =
     ∙ last.first (nothing_taken _ _ (c.discard.ensures.bytes ∙ none)
     (c.discard.ensures.failures ∙ as_often ∙ unfailed)) in
     let noted = c.execute_on-ended.new.notes.items in
-    let carried = rw c.new-notes.ensures at c.execute_on-ended.ensures in
+    let carried = rw c.new-notes.ensures.items at c.execute_on-ended.ensures in
     told_done (λ notes. notes.items) _ _ _ c.fault.result c.execute_on-ended.result noted c.told_with.result c.told_with.ensures (record {
       path = path;
       begun = before;
