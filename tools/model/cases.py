@@ -352,7 +352,8 @@ class Run:
 
         def lines_of(content):
             retired = [r for r in came.records() if covering(r) in content.rets]
-            self.notes = ["%s %s is retired in IN, and does not come in" % (key_text(r[1:25]), sha(r[33:]).hex()) for r in retired]
+            stays_out = "%s %s is retired in IN, and does not come in"
+            self.notes = [stays_out % (key_text(r[1:25]), sha(r[33:]).hex()) for r in retired]
             lines = []
             for f, s, b in parts:
                 if b is None:

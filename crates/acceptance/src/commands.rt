@@ -77,10 +77,13 @@ impl<'a> Desk<'a> {
         let mut report = StrictSink::new(Heap::new(self.alloc)?, self.limits.report);
         let mut inputs = Vec::new(self.alloc);
         make_inputs(self, &line.inputs(self.alloc)?, &mut inputs)?;
+        let heap = self.heap()?;
+        let mut notes = Vec::new(heap.clone()?);
         let ended = execute_on::<A, A, _, _, _>(
-            self.heap()?,
+            heap,
             &mut inputs,
             line,
+            &mut notes,
             &mut out,
             &mut report,
         );

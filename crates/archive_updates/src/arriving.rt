@@ -1,5 +1,5 @@
 //! The slices of files as they come, each once, and the rows that tell them.
-ghost use Rattle.std.specs.Prelude.{◌≡◌, ◌++◌, ◌∷◌, ℕ, ◌<◌, List, [], true, length, map, IfOk, OnOk};
+ghost use Rattle.std.specs.Prelude.{◌≡◌, ◌++◌, ◌∷◌, ℕ, ◌<◌, List, [], length, map, IfOk, OnOk};
 ghost use Rattle.std.specs.Prelude.{slice_index_or, slice_set};
 ghost use Rattle.std.specs.FinSet as set;
 ghost use Rattle.join_core.specs.Listing.{listing};

@@ -47,8 +47,8 @@ fn retire_input<R: Source, W: Sink>(
     digest: &Digest,
     draft: &mut W,
 ) -> Result<Written, CommandFault>
-    ensures retired { IfOk result (λ written. IsRetired (reader R.left R.failures input.old input.new) key.now digest.now
-        (stream W.held W.failures draft.old draft.new) written.sizes written.changed
+    ensures retired { IfOk result (λ written. IsRetired (reader R.left R.failures input.old input.new)
+        key.now digest.now (stream W.held W.failures draft.old draft.new) written.sizes written.changed
         written.had) }
     ensures stopped { IfErr result (λ fault. StopsAmidst
         (retire (reader R.left R.failures input.old input.new) key.now digest.now)

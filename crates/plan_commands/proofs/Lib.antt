@@ -3,6 +3,7 @@ pub mod OutPlaces
 pub mod Pathless
 pub mod Outcomes
 pub mod Saying
+pub mod Noting
 pub mod Reasons
 pub mod Numbers
 pub mod Numbered

@@ -18,6 +18,7 @@ use Rattle.command_ends.specs.Ends.{Command, Ends, EndsStreamed, Query, Streamed
 use Rattle.command_ends.specs.Inputs.{readers}
 use Rattle.command_ends.specs.Outputs.{FailsAt, IsKept, Outs, Publishes, Writer, out_of, report_of}
 use Rattle.archive_files.specs.Turns.{Told}
+use Rattle.archive_updates.specs.declared.notes.Note.{Note}
 use Rattle.archive_files.specs.declared.at_turn.Unopened.{Unopened}
 use Rattle.archive_files.specs.declared.at_turn.Unopened.TheVariants as unopened
 use Rattle.command_ends.specs.declared.faults.Why.TheVariants.{CannotOpen as NotOpened}
@@ -152,9 +153,10 @@ module _ {S D T : Type 0} (told : Told S) (line : Line) (behind : List (Result S
   told_outcome (Err OutOfMemory) result tells o = subst (IsOutcome out) (sym tells) o
 
 pub carried_outcome : {S D T : Type 0} (told : Told S) (line : Line) (before behind : List (Result S CannotOpen))
-    (out : Outs D T) (report : Writer) (r : Result Status CommandFault) → Carried told line before behind out report r
+    (out : Outs D T) (report : Writer) (r : Result Status CommandFault) (notes noted : List Note)
+    → Carried told line before behind out report r notes noted
     → IsOutcome out r
-carried_outcome told line before behind out report r c =
+carried_outcome told line before behind out report r notes noted c =
     told_outcome told line behind out c.ended r c.tells
     (done (deed_of c.plan (readers told.left told.failures before behind)
     (readers told.whole told.failures before behind) out) out report c.ended c.executes)

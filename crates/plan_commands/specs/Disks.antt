@@ -1,5 +1,5 @@
 -- A plan over inputs that are opened at their turn.
-use Rattle.std.specs.Prelude.{◌≡◌, List, length, Option, Some, None, option_and_then, slice_get, Result, Ok, Err}
+use Rattle.std.specs.Prelude.{◌≡◌, List, OnOk, length, Option, Some, None, option_and_then, slice_get, Result, Ok, Err}
 use Rattle.byte_device.specs.declared.disks.CannotOpen.{CannotOpen}
 use Rattle.archive_files.specs.Turns.{AreAtTurn, AreWaiting, Told, unopened_in}
 use Rattle.archive_files.specs.declared.at_turn.Unopened.{Unopened}
@@ -14,7 +14,8 @@ use Rattle.command_ends.specs.declared.faults.Why.TheVariants.{CannotOpen as Not
 use Rattle.command_ends.specs.Inputs.{readers}
 use Rattle.command_ends.specs.Outputs.{Outs, Writer}
 use Rattle.plan_commands.specs.Numbers.{number_at}
-use Rattle.plan_commands.specs.Plans.{Executes, plan_view}
+use Rattle.archive_updates.specs.declared.notes.Note.{Note}
+use Rattle.plan_commands.specs.Plans.{Executes, Notes, plan_view}
 use Rattle.plan_commands.specs.declared.plans.Plan.{Plan}
 
 -- why an input was not opened at its turn, if it was not
@@ -41,9 +42,9 @@ Tells told line inputs (Err (Report n)) result = result ≡ Err (Report n)
 Tells told line inputs (Err OutOfMemory) result = result ≡ Err OutOfMemory
 
 -- The command of a line ended so over inputs with the paths of the line, in the order of the words, each of which was
--- opened at its turn, if that came; and this was told of it.
+-- opened at its turn, if that came; this was told of it, and where it ended well, these notes were added to those.
 pub record Carried {S D T : Type 0} (told : Told S) (line : Line) (before behind : List (Result S CannotOpen))
-    (out : Outs D T) (report : Writer) (result : Result Status CommandFault) : Type 0 where
+    (out : Outs D T) (report : Writer) (result : Result Status CommandFault) (notes noted : List Note) : Type 0 where
   pub plan : Plan
   pub plan_is : plan_view plan ≡ line
   pub waiting : AreWaiting told (inputs_of line) before
@@ -52,4 +53,5 @@ pub record Carried {S D T : Type 0} (told : Told S) (line : Line) (before behind
   pub ended : Result Status CommandFault
   pub executes : Executes plan (readers told.left told.failures before behind)
       (readers told.whole told.failures before behind) out report ended
+  pub notes_are : OnOk ended (Notes plan (readers told.left told.failures before behind) notes noted)
   pub tells : Tells told line behind ended result

@@ -1,5 +1,5 @@
 -- A line that is carried out over files of the system.
-use Rattle.std.specs.Prelude.{◌≡◌, ◌⊎◌, ℕ, List, [], ◌++◌, length, Option, Some, None, Result, Ok, Err}
+use Rattle.std.specs.Prelude.{◌≡◌, ◌⊎◌, ℕ, List, OnOk, [], ◌++◌, length, Option, Some, None, Result, Ok, Err}
 use Rattle.std.specs.Io.KnownBytes.{Appends}
 use Rattle.std.specs.declared.io.traits.Read.{Ghosts as Reads}
 use Rattle.std.specs.declared.io.traits.Seek.{Ghosts as Seeks}
@@ -20,6 +20,7 @@ use Rattle.archive_files.specs.Turns.{AreFirstAsked, Told}
 use Rattle.archive_files.specs.declared.replaceable.OutFault.{OutFault}
 use Rattle.archive_files.specs.declared.replaceable.OutFault.TheVariants as fault
 use Rattle.archive_files.specs.declared.system_files.SystemFiles.{SystemFiles}
+use Rattle.archive_updates.specs.declared.notes.Note.{Note}
 use Rattle.plan_commands.specs.Disks.{Carried}
 use Rattle.byte_device.specs.declared.disks.CannotOpen.{CannotOpen}
 
@@ -98,13 +99,13 @@ calls_of told held draft_failures placed place_failures old new = record {
 abbrev pub outs_in : {S D T : Type 0} → Calls S D T → Out D T → Out D T → Outs D T
 outs_in calls begun done = outs calls.held calls.draft_failures calls.placed calls.place_failures begun done
 
--- The command of a line ended over files of which nothing is known, and this is told of it. Inputs were made for its
--- paths, each once and in the order of the words, and for no other. OUT has the path of the line, unless an input's
--- file is there. Where a text was put in place, the calls for OUT are those by which it was put at that path; where
--- none was, those by which nothing is left, with the bytes that the draft took; and where the draft took none and did
--- not fail there are none.
+-- The command of a line ended over files of which nothing is known, and this is told of it; where it ended well, these
+-- are its notes. Inputs were made for its paths, each once and in the order of the words, and for no other. OUT has the
+-- path of the line, unless an input's file is there. Where a text was put in place, the calls for OUT are those by
+-- which it was put at that path; where none was, those by which nothing is left, with the bytes that the draft took;
+-- and where the draft took none and did not fail there are none.
 pub record IsCarriedOut {S D T : Type 0} (calls : Calls S D T) (line : Line) (report : Writer)
-    (told : Result Status Failure) : Type 0 where
+    (told : Result Status Failure) (notes : List Note) : Type 0 where
   pub path : Option Text
   pub begun : Out D T
   pub done : Out D T
@@ -116,7 +117,9 @@ pub record IsCarriedOut {S D T : Type 0} (calls : Calls S D T) (line : Line) (re
   pub asked : calls.asked_new ≡ calls.asked_old ++ inputs_of line
   pub before : List (Result S CannotOpen)
   pub behind : List (Result S CannotOpen)
-  pub carried : Carried calls.told line before behind (outs_in calls begun done) report ended
+  pub noted : List Note
+  pub carried : Carried calls.told line before behind (outs_in calls begun done) report ended [] noted
+  pub notes_are : OnOk told (notes ≡ noted)
   pub outcome : IsOutcome (outs_in calls begun done) ended
   pub placed : (text : List ℕ) → Places (known_of (outs_in calls begun done)) text
       → (p : List ℕ) × (path ≡ Some p) × ∥ IsPlaced p text calls.called ∥₁
@@ -133,3 +136,7 @@ pub record IsUnbegun {S D T : Type 0} (calls : Calls S D T) (line : Line) (repor
   pub uncalled : calls.called ≡ []
   pub report_same : report.new ≡ report.old
   pub report_unfailed : report.failures_new ≡ report.failures_old
+
+-- A line was carried out, or there was no memory to begin that; and this is told of it.
+abbrev pub IsDone : {S D T : Type 0} → Calls S D T → Line → Writer → Result Status Failure → List Note → Type 0
+IsDone calls line report told notes = IsUnbegun calls line report told ⊎ IsCarriedOut calls line report told notes

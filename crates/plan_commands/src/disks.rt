@@ -11,6 +11,7 @@ use crate::places::blamed;
 use crate::plans::{Plan, execute};
 use archive_core::Archive;
 use archive_files::{AtTurn, Disk};
+use archive_updates::Note;
 use byte_device::{CannotOpen, Sink};
 use command_ends::{CommandFault, Output, Status, Target};
 use command_line::Line;
@@ -18,19 +19,20 @@ use memory::Heap;
 
 /// Carries out a line over inputs with its paths, in the order of the words. Each is opened with the first call for its
 /// bytes, so where it cannot be opened its command is refused as where it cannot be read, and that is told as what it
-/// is.
+/// is. What the command notes is added to `notes`.
 pub fn execute_on<A: Archive + Drop, L: Archive + Drop, D: Disk, T: Target, P: Sink>(
     heap: Heap,
     inputs: &mut [Result<AtTurn<'_, D>, CannotOpen>],
     line: &Line,
+    notes: &mut Vec<Note, Heap>,
     out: &mut Output<T::Draft, T>,
     report: &mut P,
 ) -> Result<Status, CommandFault>
     requires { AreWaiting told (inputs_of (line_view line.now)) inputs.old }
     ensures { Carried told (line_view line.now) inputs.old inputs.new
         (outs T.Draft.held T.Draft.failures T.placed T.failures out.old out.new)
-        (writer P.held P.failures report.old report.new) result }
+        (writer P.held P.failures report.old report.new) result notes.old.items notes.new.items }
 {
-    let ended = execute::<A, L, _, _, _>(heap, &Plan::of(line), inputs, out, report);
+    let ended = execute::<A, L, _, _, _>(heap, &Plan::of(line), inputs, notes, out, report);
     blamed(line, inputs, ended)
 }

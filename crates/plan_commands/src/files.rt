@@ -1,6 +1,6 @@
 //! A line, carried out over files of the system.
 
-ghost use Rattle.std.specs.Prelude.{◌≡◌, ◌⊎◌, ◌++◌, [], IfOk, None, OnOk, option_map, string_bytes};
+ghost use Rattle.std.specs.Prelude.{◌≡◌, ◌++◌, [], Err, IfOk, MatchResult, None, Ok, OnOk, option_map, string_bytes};
 ghost use Rattle.command_ends.specs.Outputs.{writer};
 ghost use Rattle.archive_files.specs.AtTurns.{told as told_of, told_by};
 ghost use Rattle.archive_files.specs.Fresh.{AreFresh};
@@ -9,13 +9,14 @@ ghost use Rattle.archive_files.specs.Placing.{IsPath};
 ghost use Rattle.archive_files.specs.Turns.{AreFirstAsked, AreWaiting};
 ghost use Rattle.command_line.specs.Lines.{inputs_of, out_of};
 ghost use Rattle.command_line.specs.LineView.{line_view};
-ghost use Rattle.plan_commands.specs.Files.{IsCarriedOut, IsUnbegun, calls_of, command_fault_of, out_failure};
+ghost use Rattle.plan_commands.specs.Files.{IsDone, calls_of, command_fault_of, out_failure};
 
 use crate::execute_on;
 use crate::hints::Seen;
 use crate::plans::Plan;
 use archive_files::{Disk, OpenedFile, OutFault, OutFile, OutPath, PlacedFile};
 use archive_files::{SystemDisk, SystemFiles, SystemInput};
+use archive_updates::Note;
 use byte_device::{CannotCreate, Sink, Source};
 use command_ends::{CommandFault, Failure, Status, Target};
 use command_line::Line;
@@ -82,15 +83,32 @@ fn told(ended: Result<Status, CommandFault>, fault: Option<OutFault>) -> Result<
     }
 }
 
+/// The same with its notes, where it ended well.
+fn told_with(
+    ended: Result<Status, CommandFault>,
+    notes: Vec<Note, Heap>,
+    fault: Option<OutFault>,
+) -> Result<(Status, Vec<Note, Heap>), Failure>
+    ensures { MatchResult result
+        (λ both. (Ok both.0 ≡ command_fault_of fault ended) × (both.1.items ≡ notes.items))
+        (λ failure. Err failure ≡ command_fault_of fault ended) }
+{
+    match told(ended, fault) {
+        Ok(status) => Ok((status, notes)),
+        Err(failure) => Err(failure),
+    }
+}
+
 /// Carries out a line over files of the system, whose report goes to `report`. Each input is opened at its turn, and
 /// closed at its end; OUT's draft is created with its first bytes, put in place when it is whole, and removed where it
-/// was not. No line without OUT has any. What was seen of the file that it failed at is in `seen`.
+/// was not. No line without OUT has any. What was seen of the file that it failed at is in `seen`, and what a command
+/// that ended well notes is handed back.
 pub fn execute<'f, F: Files, P: Sink>(
     files: &mut SystemFiles<'f, F>,
     line: &Line,
     report: &mut P,
     seen: &mut Seen,
-) -> Result<Status, Failure>
+) -> Result<(Status, Vec<Note, Heap>), Failure>
     requires { AreFresh files.old }
     ensures { let calls = calls_of
         (told_by ⟦<SystemDisk<'f, F> as Disk>⟧ ⟦<OpenedFile<BufReader<F::File>> as Source>⟧
@@ -99,19 +117,23 @@ pub fn execute<'f, F: Files, P: Sink>(
         ⟦<OutFile<'f, F> as Sink>⟧.failures ⟦<OutPath<'f, F> as Target>⟧.placed
         ⟦<OutPath<'f, F> as Target>⟧.failures files.old files.new in
         let told = writer P.held P.failures report.old report.new in
-        IsUnbegun calls (line_view line.now) told result ⊎ IsCarriedOut calls (line_view line.now) told result }
+        MatchResult result
+        (λ both. IsDone calls (line_view line.now) told (Ok both.0) both.1.items)
+        (λ failure. IsDone calls (line_view line.now) told (Err failure) []) }
 {
     let heap = Heap::new(files.alloc())?;
+    let mut notes = Vec::new(heap.clone()?);
     begin(files, line)?;
     let mut inputs = inputs_for(files, line)?;
     let ended = execute_on::<PlainArchive, IndexedArchive, _, _, _>(
         heap,
         &mut inputs,
         line,
+        &mut notes,
         &mut files.out,
         report,
     );
     files.out.draft.discard();
     *seen = Seen::by(&ended, line, &inputs, &files.out.draft);
-    told(ended, files.out.draft.fault())
+    told_with(ended, notes, files.out.draft.fault())
 }

@@ -1,6 +1,7 @@
 //! What the definitions say of the number of an input, and of an output that has no path.
 
-ghost use Rattle.std.specs.Prelude.{◌≡◌, [], ℕ, None, Result, Some, slice_get};
+ghost use Rattle.std.specs.Prelude.{◌≡◌, [], ℕ, List, None, Result, Some, slice_get};
+ghost use Rattle.archive_updates.specs.declared.notes.Note.{Note};
 ghost use Rattle.command_ends.specs.Outputs.{Writer};
 ghost use Rattle.command_ends.specs.declared.failures.Failure.{Failure};
 ghost use Rattle.command_ends.specs.declared.faults.Place.{Place};
@@ -23,7 +24,8 @@ pub fn each_number_leads_to_its_path()
 /// For an output without a path nothing is called: it takes nothing, and is created nowhere.
 pub fn nothing_is_called_without_a_path<S: Source, D: Sink, T: Target>()
     ensures { (calls : Calls S D T) (line : Line) (report : Writer) (told : Result Status Failure)
-        (is : IsCarriedOut calls line report told)
+        (notes : List Note)
+        (is : IsCarriedOut calls line report told notes)
         → is.path ≡ None
         → calls.called ≡ [] }
 {}

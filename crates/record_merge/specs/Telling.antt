@@ -17,9 +17,9 @@ pub record HasOperations (operations : Operations) (text : List ℕ) : Type 0 wh
   pub are : AreOperations operations
   pub whole : (IsMade operations × (text ≡ written operations)) ⊎ (text ≡ old_written operations)
 
--- Both inputs are texts of archives, and the text of their join was written; of each operation of the right text, in the
--- order of its records, it was told what it is to the content of the left one, and whether one of them retires a slice
--- that is there.
+-- Both inputs are texts of archives, and the text of their join was written; of each operation of the right text, in
+-- the order of its records, it was told what it is to the content of the left one, and whether one of them retires a
+-- slice that is there.
 pub record IsMergedTelling {R S W : Type 0} (left : Stream R) (right : Stream S) (out : Stream W) (sizes : Sizes)
     (turns : List Turn) (withdraws : Bool) : Type 0 where
   pub merged : IsMerged left right out sizes

@@ -1,10 +1,9 @@
 //! What a merge tells of its sides.
 
-ghost use Rattle.std.specs.Prelude.{◌≡◌, ◌&&◌, ◌||◌, Bool, false, []};
-ghost use Rattle.record_merge.specs.declared.turns.Turn.{Turn};
+ghost use Rattle.std.specs.Prelude.{◌≡◌, ◌&&◌, ◌||◌, false, []};
 ghost use Rattle.record_merge.specs.Turns.{is_new, turn_by};
 
-use memory::{Heap, NoMemory};
+use memory::Heap;
 
 /// What a record of the right side is to the left one.
 #[derive(Clone, Copy, Debug, PartialEq, Eq)]

@@ -17,6 +17,7 @@ returns g c = record {
   as_many = c.execute-ended.auto.inputs;
   at_turn = at_turn g.D.Disk g.D.Input.Source g.D.Places.Placed c.execute-ended.new.inputs;
   ended = c.execute-ended.result;
-  executes = c.execute-ended.ensures;
+  executes = c.execute-ended.ensures.ends;
+  notes_are = c.execute-ended.ensures.noted;
   tells = c.blamed.ensures;
 }

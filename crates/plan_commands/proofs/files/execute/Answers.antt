@@ -1,4 +1,4 @@
-use Rattle.std.proofs.Common.{◌≡◌, ◌∙◌, ℕ, List, [], ◌++◌, Some, None, Err, refl, ap, inl, inr, option_map}
+use Rattle.std.proofs.Common.{◌≡◌, ◌∙◌, ℕ, List, [], ◌++◌, Some, None, refl, ap, inl, option_map}
 use Rattle.std.proofs.Common.{string_bytes, subst, sym, append-nil}
 use mathlib.Core.Logic.{∥∥₁_map}
 use Rattle.std.proofs.lemmas.Result.{err_from_is_err_and}
@@ -12,43 +12,56 @@ use Rattle.command_line.specs.Lines.{inputs_of}
 use Rattle.plan_commands.specs.Files.{command_fault_of}
 use Rattle.plan_commands.proofs.OutPlaces.{draft_took, first_from, none_asked, nothing_taken, nothing_there}
 use Rattle.plan_commands.proofs.OutPlaces.{placed_there, settled_of, settled_without_calls}
+use Rattle.plan_commands.proofs.Noting.{on_any, told_done}
 use Rattle.plan_commands.proofs.Outcomes.{carried_outcome}
 use Rattle.plan_commands.proofs.Saying.{none_called}
 use Rattle.plan_commands.proofs.files.execute.Goals as goal
 
 pub returns-in_err-heap : goal.returns-in_err-heap
 returns-in_err-heap g c =
-    let wanting = err_from_is_err_and c.from_residual.result c.from_residual.ensures.1 in inl (record {
-      wanting = wanting.1 ∙ ap (λ fault. Err fault) wanting.2;
+    let wanting = err_from_is_err_and c.from_residual.result c.from_residual.ensures.1 in
+    rw (wanting.1, wanting.2) (inl (record {
+      wanting = refl;
       asked = none_asked _ _;
       uncalled = none_called _ _ c.requires.6 c.requires.5;
       report_same = refl;
       report_unfailed = refl;
-    })
+    }))
+
+pub returns-in_err-clone : goal.returns-in_err-clone
+returns-in_err-clone g c =
+    let wanting = err_from_is_err_and c.from_residual-in_err-clone.result c.from_residual-in_err-clone.ensures.1 in
+    rw (wanting.1, wanting.2) (inl (record {
+      wanting = refl;
+      asked = none_asked _ _;
+      uncalled = none_called _ _ c.requires.6 c.requires.5;
+      report_same = refl;
+      report_unfailed = refl;
+    }))
 
 pub returns-in_err-begin : goal.returns-in_err-begin
 returns-in_err-begin g c =
-    let wanting =
-    err_from_is_err_and c.from_residual-in_err-begin.result c.from_residual-in_err-begin.ensures.1 in inl (record {
-      wanting = wanting.1 ∙ ap (λ fault. Err fault) wanting.2;
+    let wanting = err_from_is_err_and c.from_residual-in_err-begin.result c.from_residual-in_err-begin.ensures.1 in
+    rw (wanting.1, wanting.2) (inl (record {
+      wanting = refl;
       asked = (0, c.begin.ensures.asked ∙ sym (append-nil _));
       uncalled = none_called _ _ c.begin.ensures.placed c.begin.ensures.calls;
       report_same = refl;
       report_unfailed = refl;
-    })
+    }))
 
 pub returns-in_err-inputs : goal.returns-in_err-inputs
 returns-in_err-inputs g c =
-    let wanting =
-    err_from_is_err_and c.from_residual-in_err-inputs.result c.from_residual-in_err-inputs.ensures.1 in inl (record {
-      wanting = wanting.1 ∙ ap (λ fault. Err fault) wanting.2;
+    let wanting = err_from_is_err_and c.from_residual-in_err-inputs.result c.from_residual-in_err-inputs.ensures.1 in
+    rw (wanting.1, wanting.2) (inl (record {
+      wanting = refl;
       asked = first_from _ _ _ _ c.begin.ensures.asked c.inputs_for.ensures.first;
       uncalled = none_called _ _
           (ap (λ out. out.target.placed) c.inputs_for.ensures.out ∙ c.begin.ensures.placed)
           (ap (λ out. out.draft.calls.entries) c.inputs_for.ensures.out ∙ c.begin.ensures.calls);
       report_same = refl;
       report_unfailed = refl;
-    })
+    }))
 
 pub returns : goal.returns
 returns g c =
@@ -82,7 +95,9 @@ returns g c =
     ap (λ calls. calls ++ last.calls.entries) (nothing_there done.target.placed (kept ∙ none_before))
     ∙ last.first (nothing_taken _ _ (c.discard.ensures.bytes ∙ none)
     (c.discard.ensures.failures ∙ as_often ∙ unfailed)) in
-    let carried = c.execute_on-ended.ensures in inr (record {
+    let noted = c.execute_on-ended.new.notes.items in
+    let carried = rw c.new-notes.ensures.items at c.execute_on-ended.ensures in
+    told_done (λ notes. notes.items) _ _ _ c.fault.result c.execute_on-ended.result noted c.told_with.result c.told_with.ensures (record {
       path = path;
       begun = before;
       done = done;
@@ -95,8 +110,10 @@ returns g c =
           ∙ ap (λ asked. asked ++ inputs_of (line_view c.args.line.now)) c.begin.ensures.asked;
       before = c.deref_mut.result.now;
       behind = c.execute_on-ended.new.inputs;
+      noted = noted;
       carried = carried;
-      outcome = carried_outcome _ _ _ _ _ _ _ carried;
+      notes_are = on_any (command_fault_of c.fault.result c.execute_on-ended.result) refl;
+      outcome = carried_outcome _ _ _ _ _ _ _ _ _ carried;
       placed = λ text is.
           let there = placed_there path done.target.placed text
           (subst (λ held. Appends held (placed_account done.target.placed) text) begun is.placed) in
@@ -121,5 +138,5 @@ returns g c =
           );
       untouched = λ kept.
           let is = took [] kept.0.0 in none_called is.1 kept.0.1 kept.1.0;
-      told_is = c.told.ensures ∙ ap (λ fault. command_fault_of fault c.execute_on-ended.result) c.fault.ensures;
+      told_is = ap (λ fault. command_fault_of fault c.execute_on-ended.result) c.fault.ensures;
     })
