@@ -288,11 +288,16 @@ class Run:
         except F.Stale as stale:
             raise CmdFault("index %d" % number, stale.text)
 
+    def test_indexes(self, archives, indexes):
+        if len(indexes) > len(archives):
+            raise CmdFault("index %d" % len(archives), "NoArchive")
+
     def entries(self, p):
         return self.by_index(p["archive"], p["index"][0], 0, lambda entries, placed: entries)
 
     def asked(self, archives, indexes, fronts):
         """the join of archives, of which the first are read by their indexes, and the others whole"""
+        self.test_indexes(archives, indexes)
         c = Content()
         for number, path in enumerate(archives):
             if number < len(indexes):
@@ -447,7 +452,7 @@ class Run:
         return self.merge(p["in"], Content(ops).text(), lines_of)
 
     def cmd_find(self, p):
-        if p["index"] and not p["with"]:
+        if len(p["index"]) == 1 and not p["with"]:
             rows = F.index_rows(self.entries(p), p["uuid"])
         else:
             rows = find_rows(self.asked([p["archive"], *p["with"]], p["index"], [p["uuid"]]), p["uuid"])
@@ -481,6 +486,7 @@ class Run:
         return status
 
     def cmd_frames(self, p):
+        self.test_indexes(p["archives"], p["index"])
         frames = read_frames(self.whole(p["frames"], "frames"))
         if isinstance(frames, str):
             raise CmdFault("frames", frames)
@@ -990,7 +996,9 @@ class Folder:
 def inputs_of(p):
     """the paths of the inputs of a plan, in the order of the words"""
     keys = ("in", "frames", "archive", "summary", "ops", "script")
-    return [p[k] for k in keys if k in p] + p.get("archives", []) + p["with"] + p.get("file", [])
+    indexes = p["index"]
+    return [p[k] for k in keys if k in p] + indexes * ("archives" in p) + p.get("archives", []) + p["with"] + (
+        indexes * ("archives" not in p)) + p.get("file", [])
 
 
 def obstacle(cmd, there, new):

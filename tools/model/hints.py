@@ -99,6 +99,8 @@ def word_at(plan, place):
         return plan["file"][int(number)]
     if kind == "archive":
         return archives_of(plan)[int(number)]
+    if kind == "index":
+        return plan["index"][int(number)]
     return plan[kind]
 
 
@@ -115,6 +117,8 @@ def what_is_wrong(place, text, folder, word, obstacle):
         return NO_FILE
     if text == "OldArchive":
         return ", an archive of version 1, which `migrate` takes"
+    if text.startswith("Stale"):
+        return ", not of this archive, of which `index` writes a new one"
     if place in ("frames", "script"):
         return faulty_line(text, folder.bytes(word[1:]))
     look = look_of(folder.bytes(word[1:]))
