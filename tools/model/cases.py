@@ -24,6 +24,13 @@ class CmdFault(Exception):
         self.place, self.text = place, text
 
 
+class NoMemory(CmdFault):
+    """there is no memory to open an input"""
+
+    def __init__(self):
+        super().__init__(None, "out of memory")
+
+
 # ---------------------------------------------------------------- parts
 
 def part_bytes(store, part):
@@ -239,11 +246,16 @@ class Run:
 
     def __init__(self, open_source, out, report):
         self.open, self.out, self.report = open_source, out, report
+        self.notes = []
 
-    def archive(self, path, place):
+    def opened(self, path, place):
         src = self.open(path)
         if src is None:
             raise CmdFault(place, "cannot open")
+        return src
+
+    def archive(self, path, place):
+        src = self.opened(path, place)
         try:
             return read_archive(src)
         except Fault as f:
@@ -257,18 +269,14 @@ class Run:
         return c
 
     def other(self, path, place, read):
-        src = self.open(path)
-        if src is None:
-            raise CmdFault(place, "cannot open")
+        src = self.opened(path, place)
         try:
             return read(src)
         except Fault as f:
             raise CmdFault(place, f.text)
 
     def whole(self, path, place):
-        src = self.open(path)
-        if src is None:
-            raise CmdFault(place, "cannot open")
+        src = self.opened(path, place)
         b = src.rest()
         if src.fails:
             raise CmdFault(place, "Device")
@@ -307,7 +315,12 @@ class Run:
     def cmd_admit(self, p):
         parts = self.behind(p["in"], lambda: self.slices(p["file"]))
 
+        came = Content([admission(b) for _, _, b in parts if b is not None])
+
         def lines_of(content):
+            retired = [r for r in came.records() if covering(r) in content.rets]
+            stays_out = "%s %s is retired in IN, and does not come in"
+            self.notes = [stays_out % (key_text(r[1:25]), sha(r[33:]).hex()) for r in retired]
             lines = []
             for f, s, b in parts:
                 if b is None:
@@ -317,14 +330,11 @@ class Run:
                 word = "added" if content.take(r) else "known"
                 lines.append("file %d slice %d %s %s %s" % (f, s, word, key_text(r[1:25]), sha(b).hex()))
             return lines
-        came = Content([admission(b) for _, _, b in parts if b is not None])
         return self.merge(p["in"], came.text(), lines_of)
 
     def merge(self, path, right, lines_of=lambda content: []):
         """the archive of a path, merged with the text of another one as it comes; the lines are those of its content"""
-        src = self.open(path)
-        if src is None:
-            raise CmdFault("archive 0", "cannot open")
+        src = self.opened(path, "archive 0")
         try:
             n = merge_streams(src, Source(right), lambda b: self.out.push(b, "output"))
         except MergeFault as f:
@@ -351,16 +361,22 @@ class Run:
 
         def lines_of(content):
             word = "known" if content.holds(r) else "retired"
+            if r not in content.adms:
+                self.notes = ["IN has no slice %s %s" % (key_text(key), p["digest"].hex())]
             return ["%s %s %s" % (word, key_text(key), p["digest"].hex())]
         return self.merge(p["in"], Content([r]).text(), lines_of)
 
     def cmd_merge(self, p):
         if len(p["file"]) == 1:
-            srcs = []
-            for i, path in enumerate([p["in"], p["file"][0]]):
-                srcs.append(self.open(path))
-                if srcs[-1] is None:
-                    raise CmdFault("archive %d" % i, "cannot open")
+            srcs = [self.opened(p["in"], "archive 0")]
+            try:
+                srcs.append(self.opened(p["file"][0], "archive 1"))
+            except CmdFault:
+                # FILE is opened behind the magic of IN
+                fault = F.magic_fault(srcs[0])
+                if fault:
+                    raise CmdFault("archive 0", fault)
+                raise
             written = [0]
 
             def write(b):
@@ -461,9 +477,7 @@ class Run:
 
     def cmd_delta(self, p):
         e = self.behind(p["archive"], lambda: self.other(p["summary"], "summary", read_summary))
-        src = self.open(p["archive"])
-        if src is None:
-            raise CmdFault("archive 0", "cannot open")
+        src = self.opened(p["archive"], "archive 0")
         try:
             n = copy_unnamed(src, e, lambda b: self.out.push(b, "output"))
         except Fault as f:
@@ -486,17 +500,21 @@ class Run:
 class Left:
     """end: ("done", status), ("refused", CmdFault text), ("given",), ("fault", text); out: OUT, or the draft of it"""
 
-    def __init__(self, end, out, report, is_draft=False):
+    def __init__(self, end, out, report, is_draft=False, notes=()):
         self.end, self.out, self.report, self.is_draft = end, bytes(out), bytes(report), is_draft
+        self.notes = notes
 
 
 def run_plan(p, open_source, limits):
     out, report = Out(limits.out, limits.places), Short(limits.report)
+    command = Run(open_source, out, report)
     try:
-        end = ("done", Run(open_source, out, report).run(p))
+        end = ("done", command.run(p))
+    except NoMemory as f:
+        end = ("wanting", f.text)
     except CmdFault as f:
         end = ("refused", "%s: %s" % (f.place, f.text))
-    return Left(end, out.data, report.data, out.is_draft)
+    return Left(end, out.data, report.data, out.is_draft, command.notes)
 
 
 # ---------------------------------------------------------------- calls below the commands
@@ -852,6 +870,8 @@ def left_lines(left):
         out.append("  status %d" % left.end[1])
     elif left.end[0] == "refused":
         out += ["  symarch: " + left.end[1], "  status 2"]
+    elif left.end[0] == "wanting":
+        out += ["  symarch: " + left.end[1], "  status 4"]
     elif left.end[0] == "fault":
         out.append("  " + left.end[1])
     return out
@@ -927,8 +947,8 @@ class Folder:
 
 
 def inputs_of(p):
-    """the paths of the inputs of a plan"""
-    keys = ("in", "archive", "summary", "ops", "script", "frames")
+    """the paths of the inputs of a plan, in the order of the words"""
+    keys = ("in", "frames", "archive", "summary", "ops", "script")
     return [p[k] for k in keys if k in p] + p.get("archives", []) + p["with"] + p.get("file", [])
 
 
@@ -982,6 +1002,8 @@ def run_program(folder, words, most):
     lines = left_lines(Left(left.end, b"", left.report))
     if left.end[0] == "refused":
         lines[-1:-1] = second_line(p, left.end[1], folder)
+    elif left.end[0] == "done":
+        lines[-1:-1] = ["  note: " + note for note in left.notes]
     return lines
 
 
@@ -999,7 +1021,13 @@ class Bench:
     def carry(self, verb, words, limits, old):
         if verb == "run":
             p = plan(words_of(words) if words != "-" else [])
-            return run_plan(p, lambda path: limits.source(self.store, path), limits), p
+            paths = inputs_of(p)
+
+            def open_source(path):
+                if paths.index(path) >= limits.opened:
+                    raise NoMemory
+                return limits.source(self.store, path)
+            return run_plan(p, open_source, limits), p
         return call(verb, words, self.store, limits, old), {}
 
     def line(self, line, old):
@@ -1067,8 +1095,6 @@ class Bench:
             except Copy:
                 raise
         self.reset()
-        if verb == "run" and limits.opened < len(inputs_of(plan(words_of(words)))):
-            return ["  symarch: out of memory", "  status 4"]
         if sweep == "growth":
             self.carry(verb, words, limits, old)
             raise Copy

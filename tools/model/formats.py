@@ -465,6 +465,14 @@ class MergeFault(Exception):
         self.side, self.text = side, text
 
 
+def magic_fault(src):
+    """the fault of an archive's magic, if it has one"""
+    try:
+        Reader(src, "archive").magic()
+    except Fault as fault:
+        return fault.text
+
+
 def merge_streams(left, right, write):
     """the order of reading and writing of two sides; `write` raises where the output fails"""
     sides = [Reader(left, "archive"), Reader(right, "archive")]

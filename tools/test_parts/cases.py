@@ -36,6 +36,21 @@ def is_done(words):
     return False
 
 
+def pieces_in(path):
+    """The bytes of a file, in pieces."""
+    with open(path, "rb") as file:
+        while piece := file.read(1 << 20):
+            yield piece
+
+
+def digest_of(pieces):
+    """The SHA-256 of bytes that come in pieces."""
+    digest = hashlib.sha256()
+    for piece in pieces:
+        digest.update(piece)
+    return digest.hexdigest()
+
+
 def outcome(name, case, room_at):
     """Whether a case passed, or None where it was left out. It has a folder, which is removed."""
     folder = pathlib.Path(tempfile.mkdtemp(prefix=f"{name}-"))

@@ -5,6 +5,7 @@ import re
 
 OF_AN_INPUT = ", the file of an input"
 MACHO = ", a Mach-O file, which `admit` takes"
+ARCHIVE = ", an archive, which `merge` takes"
 # What is at OUT that a command does not replace.
 FOREIGN = ", there, and neither empty nor one of symarch's files"
 DAMAGED = ", there, and an archive that is damaged"

@@ -48,6 +48,16 @@ def step(line, folder):
     return " ".join([kind, *(named(path, folder) for path in paths)])
 
 
+def input_in(line, folder):
+    """The path of the file that is opened to be read in a line, or closed."""
+    read = LINE.match(line)
+    if not read or int(read[3]) < 0:
+        return None
+    if read[1] == "close":
+        return named(DESCRIPTOR.match(read[2])[2], folder)
+    return named(QUOTED.search(read[2])[1], folder) if opening(read[1], read[2]) is None else None
+
+
 def opening(call, given):
     """How a file is opened, unless it is only read."""
     flags = set(re.findall(r"O_\w+", given))

@@ -18,7 +18,7 @@
 //! - `hold pieces N`: inputs give at most N bytes at a time;
 //! - `hold growths N`: N growths are granted; `hold bytes N`: growths of N bytes in all are granted to a command, or to
 //!   a call that reads;
-//! - `hold opened N`: N inputs of a command are opened, and then there is no memory to open more;
+//! - `hold opened N`: there is memory to open the first N inputs of a command, in the order of the words;
 //! - `hold out N`, `hold report N`: OUT, or the report, fails when it took N bytes; `hold places 0`: OUT takes all
 //!   bytes, and cannot be put in place;
 //! - `hold cut NAME N`: a file has its first N bytes alone; `hold read NAME N`: it fails when it gave N bytes;

@@ -1,7 +1,12 @@
 //! A line, carried out over files in memory.
 
+ghost use Rattle.std.specs.Prelude.{◌≡◌, [], OnOk, map};
+ghost use Rattle.archive_files.specs.AtTurns.{told};
+ghost use Rattle.archive_files.specs.Turns.{AreWaiting};
+
 use crate::desk::Desk;
 use archive_core::Archive;
+use archive_files::AtTurn;
 use byte_device::{CannotOpen, Disk};
 use case_parts::{End, Left, Shelf, StrictSink, StrictSource};
 use command_ends::Output;
@@ -28,26 +33,46 @@ impl<'a> Disk for Desk<'a> {
         if self.limits.opened == 0 {
             return Err(NoMemory);
         }
-        self.limits.opened -= 1;
         Ok(self.input(path))
     }
 }
 
+/// An input of a line, which stands at its place among those of the words.
+type Input<'l, 'a> = Result<AtTurn<'l, Desk<'a>>, CannotOpen>;
+
+/// Makes an input for each of these paths, of which the first so many have memory to be opened.
+fn make_inputs<'l, 'a>(
+    mut desk: Desk<'a>,
+    paths: &[&'l str],
+    inputs: &mut Vec<Input<'l, 'a>>,
+) -> Result<(), NoMemory>
+    requires { inputs.old.items ≡ [] }
+    ensures { OnOk result (AreWaiting told (map (λ p. p.now) paths.now) inputs.new.items) }
+{
+    'paths: for path in paths {
+        inputs.push(Ok(AtTurn::new(desk, path)))?;
+        desk.limits.opened = desk.limits.opened.saturating_sub(1);
+    }
+    Ok(())
+}
+
 impl<'a> Desk<'a> {
     /// Carries out a line.
-    pub fn run<A: Archive + Drop>(mut self, line: &Line) -> Result<Left, NoMemory> {
+    pub fn run<A: Archive + Drop>(self, line: &Line) -> Result<Left, NoMemory> {
         let mut out = Output {
             draft: StrictSink::new(Heap::new(self.alloc)?, self.limits.out),
             target: Shelf::new(Heap::new(self.alloc)?, self.limits.places),
         };
         let mut report = StrictSink::new(Heap::new(self.alloc)?, self.limits.report);
         let mut inputs = Vec::new(self.alloc);
+        make_inputs(self, &line.inputs(self.alloc)?, &mut inputs)?;
+        let heap = self.heap()?;
+        let mut notes = Vec::new(heap.clone()?);
         let ended = execute_on::<A, A, _, _, _>(
-            self.alloc,
-            self.heap()?,
-            &mut self,
+            heap,
             &mut inputs,
             line,
+            &mut notes,
             &mut out,
             &mut report,
         );

@@ -1,5 +1,5 @@
 -- What is known of OUT.
-use Rattle.std.proofs.Common.{◌≡◌, ℕ, ◌<◌, List, length, get_or, map, subst, sym, Contains}
+use Rattle.std.proofs.Common.{ℕ, ◌<◌, List, length, get_or, map, subst, sym, Contains}
 use Rattle.std.proofs.lemmas.List.{get_or-map, length-map}
 
 -- a list has what a function makes of an element of another

@@ -1,16 +1,16 @@
 -- What was called for OUT, one call more at a time.
-use Rattle.std.proofs.Common.{◌≡◌, ◌∙◌, ◌⊎◌, ℕ, Bool, true, false, List, [], ◌∷◌, ◌++◌, length, map, Option, Some, None, refl, sym, ap, inl, inr}
-use Rattle.std.proofs.Common.{append_assoc, append-nil, arith, get_or, subst, ◌<◌, ◌+◌, ◌==◌, ◌&&◌, suc, take, ◌≤◌}
+use Rattle.std.proofs.Common.{◌≡◌, ◌∙◌, ◌⊎◌, ℕ, true, false, List, [], ◌∷◌, ◌++◌, length, map, Option, Some, None, refl, sym, ap, inl, inr}
+use Rattle.std.proofs.Common.{append_assoc, append-nil, arith, subst, ◌<◌, ◌+◌, ◌==◌, take, ◌≤◌}
 use Rattle.std.proofs.lemmas.List.{length-append, length-take-le, map-append}
 use Rattle.std.proofs.lemmas.Bool.{and_parts}
 use Rattle.std.proofs.lemmas.Grind.{not_there}
 use Rattle.std.proofs.lemmas.List.Folds.{concat-append}
 use Rattle.std.specs.List.{concat}
 use Rattle.archive_files.specs.FileCalls.{FileCall, Creates, Opens, Writes, Syncs, Renames, SyncsFolder, Removes}
-use Rattle.archive_files.specs.FileCalls.{bytes_in, drafting, placing, writing}
+use Rattle.archive_files.specs.FileCalls.{bytes_in, drafting, placing}
 use Rattle.archive_files.specs.OutFiles.{IsSoFar, Stage, Untouched, Through, Drafted, Refused, Removed, Settled}
 use Rattle.archive_files.specs.OutFiles.{draft_account, has_calls, is_drafted, is_settled, takes_bytes}
-use Rattle.archive_files.specs.Placing.{HandsOn, IsDrafted, IsPlaced, IsReplaced, IsWrittenThrough, account, folder_of}
+use Rattle.archive_files.specs.Placing.{HandsOn, IsDrafted, IsPlaced, IsWrittenThrough, account, folder_of}
 use Rattle.archive_files.specs.Placing.{place, took_nothing}
 
 -- the bytes of some calls and of others behind them

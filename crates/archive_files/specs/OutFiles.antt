@@ -1,5 +1,5 @@
 -- OUT: how far it is, and what is known of it.
-use Rattle.std.specs.Prelude.{◌≡◌, ◌⊎◌, ℕ, Bool, true, false, List, [], ◌++◌, Option, Some, None, Result, IsErr, string_bytes}
+use Rattle.std.specs.Prelude.{◌≡◌, ℕ, Bool, true, false, List, [], Option, Some, None, Result, IsErr, string_bytes}
 use Rattle.std.specs.Io.KnownBytes.{WriteAppends}
 use Rattle.archive_files.specs.FileCalls.{FileCall, bytes_in}
 use Rattle.archive_files.specs.Placing.{IsDrafted, IsRemoved, IsWrittenThrough, account}

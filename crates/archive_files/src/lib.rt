@@ -3,7 +3,9 @@
 //! - `call_log`: a list of calls that only clauses read;
 //! - `file_calls`: the same, of the calls for one output;
 //! - `opened_file`: a file that is read;
-//! - `system_disk`: files by their paths;
+//! - `system_disk`: a file by its path;
+//! - `at_turn`: an input that is opened at its turn;
+//! - `inputs`: the inputs of a command;
 //! - `identities`: which file a path names;
 //! - `replaceable`: what stands at OUT's path, and whether it may be replaced;
 //! - `losses`: what would be lost of an archive in its place;
@@ -14,10 +16,12 @@
 //! - `system_files`: the files of one command.
 #![tactic(auto)]
 
+mod at_turn;
 mod call_log;
 mod drafts;
 mod file_calls;
 mod identities;
+mod inputs;
 mod losses;
 mod opened_file;
 mod out_file;
@@ -27,6 +31,8 @@ mod replaceable;
 mod system_disk;
 mod system_files;
 
+pub use at_turn::{AtTurn, Unopened};
+pub use inputs::SystemInput;
 pub use opened_file::{Front, OpenedFile};
 pub use out_file::OutFile;
 pub use out_path::OutPath;

@@ -1,6 +1,8 @@
-//! A file of the system that was opened to be read.
+//! A file of the system that was opened to be read, and is closed at its end.
 
-ghost use Rattle.std.specs.Prelude.{◌≡◌, ◌∷◌, []};
+ghost use Rattle.std.specs.Prelude.{◌≡◌, ◌≤◌, ◌<◌, None, Ok, IfOk, ◌∷◌, [], length};
+ghost use Rattle.std.specs.Io.KnownBytes.{ReadConsumes};
+ghost use Rattle.archive_files.specs.Opened.{left_of};
 
 use crate::call_log::CallLog;
 use byte_device::{Failed, Reading, Source};
@@ -12,10 +14,12 @@ pub const FRONT_LEN: usize = 8;
 /// The first bytes of a file, as far as it was read, with zeros behind them.
 pub type Front = [u8; FRONT_LEN];
 
-/// The reader of a file that was opened at a path.
+/// The reader of a file that was opened at a path. It is closed at its end, and gives no more bytes then.
 #[derive(Drop)]
 pub struct OpenedFile<R> {
-    reading: Reading<R>,
+    // None where it is closed.
+    reading: Option<Reading<R>>,
+    failures: u64,
     front: Front,
     read: usize,
     // Its path, which only clauses read.
@@ -30,7 +34,8 @@ impl<R: Read + Drop> OpenedFile<R> {
         let mut at = CallLog::new();
         at.note(path.as_bytes());
         OpenedFile {
-            reading: Reading::new(reader),
+            reading: Some(Reading::new(reader)),
+            failures: 0,
             front: [0; FRONT_LEN],
             read: 0,
             at,
@@ -39,7 +44,10 @@ impl<R: Read + Drop> OpenedFile<R> {
 
     /// Why it could not be read, if it could not.
     pub fn reason(&self) -> Option<io::Error> {
-        self.reading.reason()
+        match &self.reading {
+            Some(reading) => reading.reason(),
+            None => None,
+        }
     }
 
     /// Its first bytes.
@@ -58,14 +66,54 @@ fn keep(front: &mut Front, read: usize, bytes: &[u8]) -> usize {
     read + most
 }
 
+/// Takes bytes of a file, and closes it where there are no more.
+fn pull_open<R: Read + Drop>(
+    reading: &mut Option<Reading<R>>,
+    buf: &mut [u8],
+) -> Result<usize, Failed>
+    ensures bound { IfOk result (λ n. n ≤ length buf.new) }
+    ensures bytes { ReadConsumes (left_of ⟦<Reading<R> as Source>⟧.left reading.old)
+        (left_of ⟦<Reading<R> as Source>⟧.left reading.new) result buf.new }
+    ensures closed { result ≡ Ok 0 → 0 < length buf.new → reading.new ≡ None }
+{
+    let Some(open) = reading else {
+        return Ok(0);
+    };
+    let taken = open.pull(buf)?;
+    if taken == 0 && !buf.is_empty() {
+        *reading = None;
+    }
+    Ok(taken)
+}
+
 impl<R: Read + Drop> Source for OpenedFile<R> {
-    ghost left = { λ file. ⟦<Reading<R> as Source>⟧.left file.reading };
+    ghost use Rattle.byte_device.specs.Devices.{CountsFailure};
 
-    ghost failures = { λ file. ⟦<Reading<R> as Source>⟧.failures file.reading };
+    ghost left = { λ file. left_of ⟦<Reading<R> as Source>⟧.left file.reading };
 
-    fn pull(&mut self, buf: &mut [u8]) -> Result<usize, Failed> {
-        let taken = self.reading.pull(buf)?;
-        self.read = keep(&mut self.front, self.read, &buf[..taken]);
-        Ok(taken)
+    ghost failures = { λ file. file.failures };
+
+    fn pull(&mut self, buf: &mut [u8]) -> Result<usize, Failed>
+        ensures bound { IfOk result (λ n. n ≤ length buf.new) }
+        ensures bytes { ReadConsumes (left_of ⟦<Reading<R> as Source>⟧.left self.old.reading)
+            (left_of ⟦<Reading<R> as Source>⟧.left self.new.reading) result buf.new }
+        ensures count { CountsFailure self.old.failures self.new.failures result }
+
+        // At its end it is closed.
+        ensures closed { result ≡ Ok 0 → 0 < length buf.new → self.new.reading ≡ None }
+    {
+        if self.failures == u64::MAX {
+            return Err(Failed);
+        }
+        match pull_open(&mut self.reading, buf) {
+            Ok(taken) => {
+                self.read = keep(&mut self.front, self.read, &buf[..taken]);
+                Ok(taken)
+            }
+            Err(Failed) => {
+                self.failures += 1;
+                Err(Failed)
+            }
+        }
     }
 }

@@ -15,7 +15,7 @@ use std::rt::Files;
 /// How many bytes of a file are read at a time.
 const PIECE: usize = 64 * 1024;
 
-/// The files of the system.
+/// The files of the system, one of which is read.
 #[derive(Drop)]
 pub struct SystemDisk<'a, F: Files> {
     alloc: Global,
@@ -27,7 +27,7 @@ impl<'a, F: Files> SystemDisk<'a, F> {
     ghost use Rattle.std.specs.Prelude.{[]};
 
     /// These files, of which none was opened.
-    pub fn new(alloc: Global, files: &'a F) -> Self
+    pub(crate) fn new(alloc: Global, files: &'a F) -> Self
         ensures { result.opened.entries ≡ [] }
     {
         SystemDisk {
@@ -35,11 +35,6 @@ impl<'a, F: Files> SystemDisk<'a, F> {
             files,
             opened: CallLog::new(),
         }
-    }
-
-    /// The memory that its readers take.
-    pub fn alloc(&self) -> Global {
-        self.alloc
     }
 }
 

@@ -1,5 +1,5 @@
 -- The rows of files over the join of two contents: those over the one, told again by the other.
-use Rattle.std.proofs.Common.{◌≡◌, ℕ, suc, ◌+◌, Bool, true, false, not, ◌&&◌, ◌||◌, if◌then◌else◌, List, [], ◌∷◌, ◌++◌, length, map, Option, Some, None, refl, sym, ap, ◌∙◌, arith, length-append}
+use Rattle.std.proofs.Common.{◌≡◌, ℕ, suc, ◌+◌, Bool, true, false, not, ◌&&◌, ◌||◌, if◌then◌else◌, List, [], ◌∷◌, ◌++◌, length, map, Some, None, refl, sym, ap, ◌∙◌, arith}
 use Rattle.std.specs.Prelude.{filter}
 use Rattle.std.specs.Ordering.{nat_cmp, eq_by_cmp}
 use Rattle.std.specs.Cmp.Lexicographic.{slice_cmp, nat_list_cmp_total}
@@ -10,14 +10,14 @@ use Rattle.sha2.specs.Sha256.{sha256}
 use Rattle.archive_core.specs.Content.{Operations, IsMade, changes, content_of, covering, is_admission, is_covered, joined, with_record, with_records}
 use Rattle.archive_core.specs.Record.{admission_record}
 use Rattle.archive_core.specs.Valid.{key_of}
-use Rattle.archive_core.proofs.Made.{alike_insert, bytes_same, contains_made, covers_same, joined_made_right, made_alike, made_is_alike}
+use Rattle.archive_core.proofs.Made.{alike_insert, bytes_same, contains_made, joined_made_right, made_alike, made_is_alike}
 use Rattle.admission.specs.File.{is_admissible, parts}
 use Rattle.archive_updates.specs.Slicing.{slice_in}
 use Rattle.admission.specs.Take.{admitted, taken_of, taken_rows}
 use Rattle.admission.specs.declared.taken.Taken.{Taken}
 use Rattle.admission.specs.declared.taken.Taken.TheVariants.{Added, Known, Skipped}
 use Rattle.report_text.specs.declared.rows.AdmitRow.{AdmitRow}
-use Rattle.archive_updates.specs.Admit.{admit_rows, file_rows, images_of}
+use Rattle.archive_updates.specs.Admit.{admit_rows, file_rows}
 use Rattle.archive_updates.specs.InnerArriving.{images_in, record_in, records_in, records_of, row_again, rows_again, slice_rows, taken_again}
 use Rattle.archive_updates.proofs.Migrated.{join_with_nothing}
 

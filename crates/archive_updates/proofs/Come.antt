@@ -1,8 +1,8 @@
 -- The files of `admit`, and then IN.
-use Rattle.std.proofs.Common.{◌≡◌, ◌++◌, ℕ, List, [], ◌∷◌, length, map, Option, Some, Result, Ok, Err, refl, sym, ap, ◌∙◌, subst, inl}
+use Rattle.std.proofs.Common.{◌≡◌, ◌++◌, ℕ, List, [], ◌∷◌, length, Option, Result, Ok, Err, refl, sym, ap, ◌∙◌, subst, inl}
 use Rattle.std.proofs.lemmas.List.{append-nil}
 use Rattle.std.proofs.lemmas.Grind.{flat_map-append}
-use Rattle.std.specs.List.{AllByRecursion, AllZip}
+use Rattle.std.specs.List.{AllZip}
 use Rattle.std.specs.FinSet as set
 use Rattle.join_core.specs.Listing.{listing}
 use Rattle.archive_core.specs.Content.{Operations, IsMade, changes, content_of, joined}
@@ -18,7 +18,7 @@ use Rattle.command_ends.specs.Ends.{EndsAsItComes, EndsStreamed}
 use Rattle.command_ends.specs.Inputs.{EachKnown, EachUnfailed, Holds, IsAccepted, IsFileRefused, IsFirstRefused, IsKnown, IsRefusedArchive, IsRefusedInTurn, IsWantedInTurn, Reader, Unfailed, reader}
 use Rattle.command_ends.specs.Outputs.{Out, Writer}
 use Rattle.command_ends.proofs.Amidst.{ends_in_turn}
-use Rattle.archive_updates.specs.Admit.{HasTaken, MakesAdmitted, admit_as_it_comes, admit_rows, file_rows, images_of}
+use Rattle.archive_updates.specs.Admit.{MakesAdmitted, admit_as_it_comes, admit_rows, file_rows, images_of}
 use Rattle.archive_updates.specs.InnerArriving.{ArePlaced, HasCome, lines_again, records_in, records_of, rows_again}
 use Rattle.archive_updates.specs.InnerTelling.{MakesTold, telling}
 use Rattle.archive_updates.proofs.Again.{admitted_joined, rows_over}

@@ -1,7 +1,6 @@
 -- What `apply` makes: its operations that are new in their turn, told by IN.
-use Rattle.std.proofs.Common.{◌≡◌, ◌≤◌, ℕ, ◌+◌, ◌-◌, Bool, cond, List, [], ◌∷◌, length, map, Option, Result, Ok, Err, refl, sym, ap, ◌∙◌, subst, inl}
+use Rattle.std.proofs.Common.{◌≡◌, ◌≤◌, ℕ, ◌-◌, List, length, map, Option, Result, Ok, Err, sym, ap, ◌∙◌, subst, inl}
 use Rattle.std.proofs.lemmas.List.{length-map}
-use Rattle.std.proofs.lemmas.List.Sums.{sum_by-cons}
 use Rattle.std.specs.List.{count_by}
 use Rattle.archive_core.specs.Content.{Operations, IsMade, changes, content_of, joined, new_among, with_records}
 use Rattle.archive_core.specs.Record.{record_bytes}
@@ -21,14 +20,6 @@ use Rattle.command_ends.specs.Ends.{EndsAsItComes, EndsStreamed}
 use Rattle.command_ends.specs.Inputs.{Gives, IsKnown, IsRefusedArchive, IsRefusedInTurn, IsRefusedOps, IsWantedInTurn, Reader, Unfailed, reader}
 use Rattle.command_ends.specs.Outputs.{Out, Writer}
 use Rattle.command_ends.proofs.Amidst.{ends_in_turn}
-
--- as many pass as are told that they do
-pub count_told : (f : List ℕ → Bool) (records : List (List ℕ)) → count_by (λ (new : Bool). new) (map f records) ≡ count_by f records
-count_told f [] = refl
-count_told f (r ∷ rs) =
-    sum_by-cons (λ (b : Bool). cond b 1 0) (f r) (map f rs)
-    ∙ ap (λ (n : ℕ). cond (f r) 1 0 + n) (count_told f rs)
-    ∙ sym (sum_by-cons (λ (y : List ℕ). cond (f y) 1 0) r rs)
 
 -- no more are new than there are
 pub new_within : (o : Operations) (operations : List Operation) → new_among o (map record_bytes operations) ≤ length operations

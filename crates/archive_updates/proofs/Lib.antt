@@ -19,3 +19,4 @@ pub mod Again
 pub mod Come
 pub mod Taking
 pub mod Sliced
+pub mod Noted

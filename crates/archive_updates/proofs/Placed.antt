@@ -1,5 +1,5 @@
 -- The numbers of the rows of which the records that came are, with one part more.
-use Rattle.std.proofs.Common.{◌≡◌, ◌⊎◌, ◌≤◌, ℕ, zero, suc, ◌+◌, true, false, List, [], ◌∷◌, ◌++◌, length, Option, Some, slice_get, refl, sym, ap, ◌∙◌, subst, inl, inr, arith, length-append}
+use Rattle.std.proofs.Common.{◌≡◌, ◌⊎◌, ◌≤◌, ℕ, zero, suc, false, List, [], ◌∷◌, ◌++◌, length, Some, slice_get, refl, sym, ap, ◌∙◌, subst, inl, inr, arith, length-append}
 use mathlib.Core.Bool.{true≢false}
 use Rattle.std.specs.List.{AllZip, insert}
 use Rattle.std.specs.List.Sorted.{IsStrictlySortedBy}

@@ -1,5 +1,5 @@
 -- What `retire` makes, by a merge with the retirement.
-use Rattle.std.proofs.Common.{◌≡◌, ℕ, Bool, List, [], ◌∷◌, ◌++◌, length, map, Option, Some, Result, Err, refl, sym, ap, ◌∙◌, subst, inl, inr}
+use Rattle.std.proofs.Common.{◌≡◌, ℕ, Bool, List, [], ◌∷◌, ◌++◌, map, Result, Err, refl, sym, ap, ◌∙◌, subst, inr}
 use Rattle.std.specs.Cmp.Lexicographic.{nat_list_cmp_total}
 use Rattle.std.specs.FinSet as set
 use Rattle.join_core.specs.Listing.{listing}
@@ -8,8 +8,8 @@ use Rattle.archive_core.specs.declared.keys.Digest.{Digest}
 use Rattle.archive_core.specs.declared.keys.SliceKey.{SliceKey}
 use Rattle.archive_core.specs.declared.operations.Operation.{Operation}
 use Rattle.archive_core.specs.declared.operations.Operation.TheVariants.{Retire}
-use Rattle.archive_core.specs.Content.{Operations, IsMade, changes, content_of, joined, with_record}
-use Rattle.archive_core.specs.Record.{IsOperation, IsRecord, record_bytes, retirement_record}
+use Rattle.archive_core.specs.Content.{Operations, IsMade, content_of, joined, with_record}
+use Rattle.archive_core.specs.Record.{IsOperation, record_bytes, retirement_record}
 use Rattle.archive_core.proofs.Taken.{taken_are_joined}
 use Rattle.archive_records.specs.declared.format.Format.TheVariants.{Archive, OldArchive}
 use Rattle.archive_records.specs.declared.writing.Sizes.{Sizes}
@@ -20,6 +20,9 @@ use Rattle.archive_records.proofs.Contents.{are_records, sorted-InOrder}
 use Rattle.archive_records.proofs.Puts.{bytes_same}
 use Rattle.archive_records.proofs.Versions.{old_written-records}
 use Rattle.byte_device.specs.Devices.{Stream}
+use Rattle.record_merge.specs.declared.turns.Turn.{Turn}
+use Rattle.record_merge.specs.Turns.{is_new, turn_of}
+use Rattle.record_merge.proofs.Lost.{new_changes}
 use Rattle.report_text.specs.Report.{archive_line, retire_line}
 use Rattle.command_ends.specs.declared.faults.CommandFault.{CommandFault}
 use Rattle.command_ends.specs.declared.faults.Status.{Status}
@@ -67,8 +70,8 @@ module _ (key : SliceKey) (digest : Digest) where
       text_is = m.text_is ∙ ap written (m.makes.content_is ∙ with_alone m.makes.before m.makes.is_content.itself);
     }
 
-    pub retired : {W : Type 0} (draft : Stream W) (sizes : Sizes) (told : List Bool) (changed : Bool) → IsOperation (Retire key digest) → (j : IsJoinedTelling input alone draft sizes told) → ((x : Bool) → told ≡ x ∷ [] → changed ≡ x) → IsRetired input key digest draft sizes changed
-    retired draft sizes told changed is j first =
+    pub retired : {W : Type 0} (draft : Stream W) (sizes : Sizes) (turns : List Turn) (had changed : Bool) → IsOperation (Retire key digest) → (j : IsJoinedTelling input alone draft sizes turns had) → ((x : Turn) → turns ≡ x ∷ [] → changed ≡ is_new x) → IsRetired input key digest draft sizes changed had
+    retired draft sizes turns had changed is j first =
         let o : Operations = j.joined.content in
         let same : joined o (content_of alone) ≡ with_record o record_of = sym (with_alone o j.joined.is_content.itself) in
         record {
@@ -77,7 +80,8 @@ module _ (key : SliceKey) (digest : Digest) where
           archive = j.joined.archive;
           unfailed = j.joined.unfailed;
           written_is = subst (λ (q : Operations). IsWrittenWhole draft.bytes draft.failures draft.old draft.new (set.len q) (written q) sizes) same j.joined.written_is;
-          changed_is = first (changes o record_of) (j.told_is ∙ ap (map (changes o)) (listed_alone is));
+          changed_is = first (turn_of o record_of) (j.turns_are ∙ ap (map (turn_of o)) (listed_alone is)) ∙ new_changes o record_of;
+          had_is = j.withdraws_is;
         }
 
     -- what stops the join stops it
@@ -91,9 +95,9 @@ module _ (key : SliceKey) (digest : Digest) where
     retire_stopped out report fault s = stopped_amidst (MakesArchive (MakesRetired input key digest)) (IsRefusedArchive 0 input) (Unfailed input) (IsKnown input) out report fault s
 
     -- and what it makes is published
-    pub retire_published : {W : Type 0} (draft : Stream W) (sizes : Sizes) (changed : Bool) (i : IsRetired input key digest draft sizes changed) (out : Out) (report : Writer) (result : Result Status CommandFault)
+    pub retire_published : {W : Type 0} (draft : Stream W) (sizes : Sizes) (changed had : Bool) (i : IsRetired input key digest draft sizes changed had) (out : Out) (report : Writer) (result : Result Status CommandFault)
         → Publishes out report (written (with_record i.before record_of)) (retire_line changed key digest ++ archive_line sizes) result → EndsAsItComes (retire input key digest) (IsKnown input) out report result
-    retire_published draft sizes changed i out report result =
+    retire_published draft sizes changed had i out report result =
         let o : Operations = with_record i.before record_of in
         let lines : List ℕ = retire_line changed key digest in
         published_amidst (MakesArchive (MakesRetired input key digest)) (IsRefusedArchive 0 input) (Unfailed input) (IsKnown input) out report result (written o) (lines ++ archive_line sizes) i.unfailed

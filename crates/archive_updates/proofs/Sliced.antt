@@ -1,5 +1,5 @@
 -- The slices of a file, one part more at a time.
-use Rattle.std.proofs.Common.{◌≡◌, ℕ, zero, suc, ◌+◌, Bool, true, List, [], ◌∷◌, ◌++◌, length, map, take, Option, Some, None, slice_get, refl, sym, ap, ◌∙◌, add-one, arith}
+use Rattle.std.proofs.Common.{◌≡◌, ℕ, zero, suc, ◌+◌, Bool, true, List, [], ◌∷◌, ◌++◌, length, map, take, Option, Some, None, slice_get, sym, ap, ◌∙◌, add-one, arith}
 use Rattle.std.specs.Prelude.{if◌then◌else◌}
 use Rattle.std.proofs.lemmas.List.{map-append, take_all}
 use Rattle.fat_slices.specs.Kind.{kind_of, is_fat}
@@ -7,7 +7,7 @@ use Rattle.fat_slices.specs.Slices.{slices}
 use Rattle.fat_slices.specs.declared.file_kind.FileKind.TheVariants.{Thin}
 use Rattle.archive_core.specs.declared.slices.SliceFacts.{SliceFacts}
 use Rattle.admission.specs.Accepted.{IsFoundOf}
-use Rattle.admission.specs.File.{is_admissible, parts}
+use Rattle.admission.specs.File.{parts}
 use Rattle.archive_updates.specs.Slicing.{slice_in}
 use Rattle.admission.proofs.FileKinds.{parts_fat, parts_thin, thin_begins, valid_begins}
 use Rattle.admission.proofs.Found.{valid_found}

@@ -16,6 +16,7 @@ use Rattle.archive_records.specs.Text.{old_written, text_of, written}
 use Rattle.archive_records.proofs.Puts.{bytes_same}
 use Rattle.archive_records.proofs.Versions.{old_written_text}
 use Rattle.byte_device.specs.Devices.{Stream}
+use Rattle.record_merge.specs.declared.turns.Turn.{Turn}
 use Rattle.report_text.specs.Report.{archive_line}
 use Rattle.command_ends.specs.declared.faults.CommandFault.{CommandFault}
 use Rattle.command_ends.specs.declared.faults.Status.{Status}
@@ -70,9 +71,9 @@ module _ {R : Type 0} (input : Reader R) (operations : Operations) (lines_of : (
       joins_made (λ at why r. r) (λ u. u) (λ k. k) fault s)
 
   -- and what it makes is published
-  pub told_published : {W : Type 0} (draft : Stream W) (sizes : Sizes) (told : List Bool) (j : IsJoinedTelling input operations draft sizes told) (lines : List ℕ) → lines ≡ lines_of (changes j.joined.content) → (out : Out) (report : Writer) (result : Result Status CommandFault)
+  pub told_published : {W : Type 0} (draft : Stream W) (sizes : Sizes) (turns : List Turn) (withdraws : Bool) (j : IsJoinedTelling input operations draft sizes turns withdraws) (lines : List ℕ) → lines ≡ lines_of (changes j.joined.content) → (out : Out) (report : Writer) (result : Result Status CommandFault)
       → Publishes out report (written (joined j.joined.content (content_of operations))) (lines ++ archive_line sizes) result → EndsAsItComes (telling input operations lines_of) (IsKnown input) out report result
-  told_published draft sizes told j lines lines_are out report result =
+  told_published draft sizes turns withdraws j lines lines_are out report result =
       let content : Operations = joined j.joined.content (content_of operations) in
       published_amidst (MakesArchive (MakesTold input operations lines_of)) (IsRefusedArchive 0 input) (Unfailed input) (IsKnown input) out report result (written content) (lines ++ archive_line sizes) j.joined.unfailed
       (record {

@@ -1,10 +1,10 @@
--- IN's archive, merged with operations that are at hand, and which of these were new: the words of inner functions. No
--- contract of a public one has them.
+-- IN's archive, merged with operations that are at hand, and what each of these is to IN: the words of inner functions.
+-- No contract of a public one has them.
 use Rattle.std.specs.Prelude.{◌≡◌, ℕ, ◌-◌, List, Bool, Some, length, map}
-use Rattle.std.specs.List.{count_by}
+use Rattle.std.specs.List.{count_by, list_any}
 use Rattle.std.specs.FinSet as set
 use Rattle.join_core.specs.Listing.{listing}
-use Rattle.archive_core.specs.Content.{Operations, IsContent, changes, content_of, joined, with_record}
+use Rattle.archive_core.specs.Content.{Operations, IsContent, changes, content_of, is_covered, joined, with_record}
 use Rattle.archive_core.specs.Record.{retirement_record}
 use Rattle.archive_core.specs.declared.keys.Digest.{Digest}
 use Rattle.archive_core.specs.declared.keys.SliceKey.{SliceKey}
@@ -13,11 +13,14 @@ use Rattle.archive_records.specs.declared.writing.Sizes.{Sizes}
 use Rattle.archive_records.specs.Text.{AreOperations, IsOperationsText, old_written, written}
 use Rattle.archive_records.specs.Writing.{IsWrittenWhole}
 use Rattle.byte_device.specs.Devices.{Stream}
+use Rattle.record_merge.specs.declared.turns.Turn.{Turn}
+use Rattle.record_merge.specs.Turns.{turn_of}
 use Rattle.report_text.specs.Report.{apply_line}
 use Rattle.command_ends.specs.Ends.{Command, MakesArchive}
 use Rattle.command_ends.specs.Inputs.{Gives, HoldsArchive, IsRefusedArchive, Reader, Unfailed}
 use Rattle.sorted_archive.specs.InTurn.{AreNewInTurn}
 use Rattle.archive_updates.specs.Joining.{IsJoined}
+use Rattle.archive_updates.specs.Notes.{has_slice}
 
 -- A source has the text of an archive of version 1 with these operations, and does not fail.
 pub record AreAtHand {S : Type 0} (side : Stream S) (operations : Operations) : Type 0 where
@@ -26,17 +29,18 @@ pub record AreAtHand {S : Type 0} (side : Stream S) (operations : Operations) : 
   pub unfailed_before : side.failures side.old ≡ 0
   pub unfailed : side.failures side.new ≡ 0
 
--- The input is an archive's text, and that of the join of its content with what these operations make was written; each
--- of them was told as new where it changes that content.
+-- The input is an archive's text, and that of the join of its content with what these operations make was written; of
+-- each of them it was told what it is to that content, and whether one of them retires a slice that is there.
 pub record IsJoinedTelling {R W : Type 0} (input : Reader R) (operations : Operations) (draft : Stream W)
-    (sizes : Sizes) (told : List Bool) : Type 0 where
+    (sizes : Sizes) (turns : List Turn) (withdraws : Bool) : Type 0 where
   pub joined : IsJoined input (content_of operations) draft sizes
-  pub told_is : told ≡ map (changes joined.content) (listing operations)
+  pub turns_are : turns ≡ map (turn_of joined.content) (listing operations)
+  pub withdraws_is : withdraws ≡ list_any (is_covered operations) (listing joined.content)
 
--- The input is an archive's text, and that of its content with the retirement was written; and this tells whether that
--- changed it.
+-- The input is an archive's text, and that of its content with the retirement was written; and these tell whether that
+-- changed it, and whether it had such a slice.
 pub record IsRetired {R W : Type 0} (input : Reader R) (key : SliceKey) (digest : Digest) (draft : Stream W)
-    (sizes : Sizes) (changed : Bool) : Type 0 where
+    (sizes : Sizes) (changed had : Bool) : Type 0 where
   pub before : Operations
   pub is_content : IsContent before
   pub archive : HoldsArchive input before
@@ -45,6 +49,7 @@ pub record IsRetired {R W : Type 0} (input : Reader R) (key : SliceKey) (digest 
       (set.len (with_record before (retirement_record key digest.0)))
       (written (with_record before (retirement_record key digest.0))) sizes
   pub changed_is : changed ≡ changes before (retirement_record key digest.0)
+  pub had_is : had ≡ has_slice before key digest
 
 -- The input is an archive's text, and this is the join of its content with what these operations make; its lines are
 -- made of which records change that content.

@@ -1,4 +1,6 @@
 pub mod Admit
+pub mod Notes
+pub mod InnerNotes
 pub mod Retire
 pub mod Merge
 pub mod Migrate

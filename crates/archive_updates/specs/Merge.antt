@@ -2,7 +2,7 @@
 use Rattle.std.specs.Prelude.{◌≡◌, ℕ, List, [], fold}
 use Rattle.std.specs.List.{AllByRecursion, AllZip}
 use Rattle.std.specs.FinSet as set
-use Rattle.archive_core.specs.Content.{Operations, IsContent, joined}
+use Rattle.archive_core.specs.Content.{Operations, IsContent}
 use Rattle.command_ends.specs.Archives.{file_place, merged}
 use Rattle.command_ends.specs.Ends.{Command, MakesArchive, Streamed, writes_in_turn}
 use Rattle.command_ends.specs.Inputs.{Reader, Unfailed, EachUnfailed, IsArchive, HoldsArchive, IsKnown, EachKnown}

@@ -1,5 +1,5 @@
 //! `admit IN OUT FILE...`.
-ghost use Rattle.std.specs.Prelude.{◌≡◌, ◌++◌, ℕ, List, length, map, OnOk, IfOk, IfErr};
+ghost use Rattle.std.specs.Prelude.{◌≡◌, ◌++◌, ℕ, List, length, map, string_bytes, OnOk, IfOk, IfErr};
 ghost use Rattle.std.specs.FinSet as set;
 ghost use Rattle.join_core.specs.Listing.{listing};
 ghost use Rattle.admission.specs.File.{admissible, parts, IsAcceptedFile, IsTakeFault};
@@ -7,27 +7,31 @@ ghost use Rattle.archive_updates.specs.Slicing.{slice_in};
 ghost use Rattle.admission.specs.Take.{admitted, taken_rows};
 ghost use Rattle.archive_updates.specs.Admit.{admit_as_it_comes, file_rows};
 ghost use Rattle.archive_updates.specs.InnerArriving.{ArePlaced, HasCome, lines_again, records_in};
+ghost use Rattle.archive_core.specs.Content.{Operations, changes};
+ghost use Rattle.record_merge.specs.Turns.{turn_of};
+ghost use Rattle.archive_updates.specs.InnerNotes.{IsNoted};
 ghost use Rattle.archive_updates.specs.InnerTelling.{telling};
+ghost use Rattle.archive_updates.specs.Notes.{NotesRetired, retired_notes};
 ghost use Rattle.command_ends.specs.declared.faults.Place.TheVariants.{File};
 ghost use Rattle.command_ends.specs.Ends.{EndsAsItComes, EndsStreamed};
 ghost use Rattle.command_ends.specs.Inputs.{EachUnfailed, Holds, IsAccepted, IsFileRefused};
 ghost use Rattle.command_ends.specs.Inputs.{IsFirstRefused, IsKnown, IsRefusal, IsRefusedBytes};
 ghost use Rattle.command_ends.specs.Inputs.{IsRefusedFile, Unfailed, reader, readers};
-ghost use Rattle.command_ends.specs.Outputs.{Publishes, Takes, out_of, outs, writer};
-ghost use Rattle.report_text.specs.Report.{admit_lines, archive_line};
+ghost use Rattle.command_ends.specs.Outputs.{out_of, outs, writer};
 
 use crate::arriving::{Arrivals, told_again};
+use crate::notes::{Note, note_retired};
 use crate::slicing::slice_file;
 use crate::telling::tell_operations;
 use admission::TakeFault;
 use archive_core::Slice;
-use archive_records::Sizes;
 use byte_device::{CannotOpen, Sink, Source};
 use command_ends::{
     CommandFault, Output, Place, Status, Target, Why, publish_draft, read_file, refused_behind,
 };
-use memory::Heap;
-use report_text::{AdmitRow, admit_lines};
+use memory::{Heap, NoMemory};
+use record_merge::Turn;
+use report_text::admit_lines;
 
 /// The refusal of the file of this number, whose bytes have this fault.
 fn refusal_of_file(index: u64, fault: TakeFault) -> CommandFault
@@ -98,56 +102,61 @@ fn admit_files<S: Source>(
     Ok(arrivals)
 }
 
-/// Puts OUT in place, whose draft has taken a whole text, and writes the rows and the sizes to the report. What is said
-/// is of all that the draft took since it was `start`.
-fn publish_admitted<T: Target, P: Sink>(
+/// The lines of the rows, told again by what each of the slices that came is to IN. Of each that IN retires a note is
+/// added.
+fn tell_arrivals(
     heap: Heap,
-    sizes: Sizes,
-    rows: &[AdmitRow],
-    out: &mut Output<T::Draft, T>,
-    report: &mut P,
-) -> Result<Status, CommandFault>
-    ensures { (start : T.Draft) (text : List ℕ)
-        → Takes (writer T.Draft.held T.Draft.failures start out.old.draft) text
-        → sizes.bytes ≡ length text
-        → Publishes (out_of (outs T.Draft.held T.Draft.failures T.placed T.failures
-        (record { draft = start; target = out.old.target }) out.new))
-        (writer P.held P.failures report.old report.new) text
-        (admit_lines rows.now ++ archive_line sizes) result }
+    arrivals: Arrivals,
+    turns: &[Turn],
+    notes: &mut Vec<Note, Heap>,
+) -> Result<String<Heap>, NoMemory>
+    requires placed { (records : List (List ℕ))
+        × ArePlaced (listing arrivals.came) arrivals.places.items arrivals.rows.items records }
+    requires told { length turns.now ≡ length (listing arrivals.came) }
+    ensures lines { IfOk result (λ lines. (o : Operations) (records : List (List ℕ))
+        → ArePlaced (listing arrivals.came) arrivals.places.items arrivals.rows.items records
+        → turns.now ≡ map (turn_of o) (listing arrivals.came)
+        → string_bytes lines ≡ lines_again arrivals.rows.items records (changes o)) }
+    ensures noted { OnOk result ((o : Operations) → turns.now ≡ map (turn_of o) (listing arrivals.came)
+        → notes.new.items ≡ notes.old.items ++ retired_notes o arrivals.came) }
 {
-    let lines = admit_lines(heap, rows)?;
-    publish_draft(lines, sizes, out, report)
+    let Arrivals { came, places, rows } = arrivals;
+    note_retired(notes, came.operations(), turns)?;
+    let again = told_again(rows, &places, turns);
+    admit_lines(heap, &again)
 }
 
 /// Writes IN's archive to OUT with the slices that came, and their rows and the sizes to the report: a slice that IN
-/// has, or retires, is known.
+/// has, or retires, is known. Of each that IN retires a note is added.
 fn write_admitted<R: Source, T: Target, P: Sink>(
     heap: Heap,
     input: &mut Result<R, CannotOpen>,
     arrivals: Arrivals,
+    notes: &mut Vec<Note, Heap>,
     out: &mut Output<T::Draft, T>,
     report: &mut P,
 ) -> Result<Status, CommandFault>
     requires { (records : List (List ℕ))
         × ArePlaced (listing arrivals.came) arrivals.places.items arrivals.rows.items records }
-    ensures { (records : List (List ℕ))
+    ensures ends { (records : List (List ℕ))
         → ArePlaced (listing arrivals.came) arrivals.places.items arrivals.rows.items records
         → EndsAsItComes (telling (reader R.left R.failures input.old input.new) arrivals.came
         (lines_again arrivals.rows.items records))
         (IsKnown (reader R.left R.failures input.old input.new))
         (out_of (outs T.Draft.held T.Draft.failures T.placed T.failures out.old out.new))
         (writer P.held P.failures report.old report.new) result }
+    ensures noted { OnOk result (IsNoted (reader R.left R.failures input.old input.new) arrivals.came
+        notes.old.items notes.new.items) }
 {
-    let Arrivals { came, places, rows } = arrivals;
-    let (sizes, told) = tell_operations(&heap, input, came.operations(), &mut out.draft)?;
-    let again = told_again(rows, &places, &told);
-    publish_admitted(heap, sizes, &again, out, report)
+    let (sizes, told) = tell_operations(&heap, input, arrivals.came.operations(), &mut out.draft)?;
+    let lines = tell_arrivals(heap, arrivals, &told.turns, notes)?;
+    publish_draft(lines, sizes, out, report)
 }
 
 /// Writes IN's archive to OUT with the slices of each file, and a row a slice and the sizes to the report. The files
 /// are read first, in the order of the words, each to its end, and then IN is merged with their slices as it comes, in
 /// the memory of these, of one record and of 57 bytes for each retirement. Where a file is refused, IN is tested to its
-/// end before that is told.
+/// end before that is told. Of each slice of the files that IN retires a note is added, in the order of their records.
 ///
 /// # Errors
 ///
@@ -157,16 +166,19 @@ pub fn run_admit<R: Source, S: Source, T: Target, P: Sink>(
     heap: Heap,
     input: &mut Result<R, CannotOpen>,
     files: &mut [Result<S, CannotOpen>],
+    notes: &mut Vec<Note, Heap>,
     out: &mut Output<T::Draft, T>,
     report: &mut P,
 ) -> Result<Status, CommandFault>
-    ensures { let known = out_of (outs T.Draft.held T.Draft.failures T.placed T.failures out.old out.new) in
+    ensures ends { let known = out_of (outs T.Draft.held T.Draft.failures T.placed T.failures out.old out.new) in
         EndsStreamed (admit_as_it_comes (reader R.left R.failures input.old input.new)
         (readers S.left S.failures files.old files.new) known.draft) known
         (writer P.held P.failures report.old report.new) result }
+    ensures noted { OnOk result (NotesRetired (reader R.left R.failures input.old input.new)
+        (readers S.left S.failures files.old files.new) notes.old.items notes.new.items) }
 {
     match admit_files(&heap, files) {
-        Ok(arrivals) => write_admitted(heap, input, arrivals, out, report),
+        Ok(arrivals) => write_admitted(heap, input, arrivals, notes, out, report),
         Err(fault) => Err(refused_behind(heap, input, fault)),
     }
 }

@@ -12,6 +12,7 @@ ghost use Rattle.archive_updates.specs.InnerTelling.{HasNewOf, counts_of, tellin
 ghost use Rattle.command_ends.specs.Ends.{EndsAsItComes, EndsStreamed};
 ghost use Rattle.command_ends.specs.Inputs.{IsKnown, IsRefusal, IsRefusedOps, Unfailed, reader};
 ghost use Rattle.command_ends.specs.Outputs.{Publishes, Takes, out_of, outs, writer};
+ghost use Rattle.record_merge.specs.Turns.{is_new};
 ghost use Rattle.report_text.specs.Report.{apply_line, archive_line};
 
 use crate::telling::tell_operations;
@@ -22,15 +23,16 @@ use command_ends::{
     CommandFault, Output, Status, Target, publish_draft, read_operations, refused_behind,
 };
 use memory::Heap;
+use record_merge::Turn;
 use report_text::apply_line;
 use sorted_archive::new_in_turn;
 
 /// How many are new.
-fn count_new(told: &[bool]) -> u64
-    ensures counted { result ≡ count_by (λ new. new) told.now }
-    ensures within { result ≤ length told.now }
+fn count_new(turns: &[Turn]) -> u64
+    ensures counted { result ≡ count_by is_new turns.now }
+    ensures within { result ≤ length turns.now }
 {
-    told.iter().filter(|new| **new).count() as u64
+    turns.iter().filter(|turn| turn.is_new()).count() as u64
 }
 
 /// Puts OUT in place, whose draft has taken a whole text, and writes the line of the counts and the sizes to the
@@ -75,7 +77,7 @@ fn write_applied<R: Source, T: Target, P: Sink>(
         (writer P.held P.failures report.old report.new) result }
 {
     let (sizes, told) = tell_operations(&heap, input, operations, &mut out.draft)?;
-    let new = count_new(&told);
+    let new = count_new(&told.turns);
     publish_applied(heap, sizes, new, number - new, out, report)
 }
 

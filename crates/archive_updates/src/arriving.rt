@@ -1,10 +1,11 @@
 //! The slices of files as they come, each once, and the rows that tell them.
-ghost use Rattle.std.specs.Prelude.{◌≡◌, ◌++◌, ◌∷◌, ℕ, ◌<◌, Bool, List, [], true, length, map, IfOk, OnOk};
+ghost use Rattle.std.specs.Prelude.{◌≡◌, ◌++◌, ◌∷◌, ℕ, ◌<◌, List, [], true, length, map, IfOk, OnOk};
 ghost use Rattle.std.specs.Prelude.{slice_index_or, slice_set};
 ghost use Rattle.std.specs.FinSet as set;
 ghost use Rattle.join_core.specs.Listing.{listing};
 ghost use Rattle.archive_core.specs.Record.{admission_record};
 ghost use Rattle.admission.specs.Take.{admitted, taken_of};
+ghost use Rattle.record_merge.specs.Turns.{is_new};
 ghost use Rattle.report_text.specs.declared.rows.AdmitRow.{AdmitRow};
 ghost use Rattle.archive_updates.specs.Admit.{file_rows};
 ghost use Rattle.archive_updates.specs.InnerArriving.{ArePlaced, images_in, record_in, row_again, rows_again};
@@ -13,6 +14,7 @@ ghost use Rattle.archive_updates.specs.InnerArriving.{slice_rows, taken_again};
 use admission::Taken;
 use archive_core::{Archive, Slice};
 use memory::{Heap, NoMemory};
+use record_merge::Turn;
 use report_text::AdmitRow;
 use sorted_archive::PlainArchive;
 
@@ -153,28 +155,28 @@ fn tell_row(rows: &mut [AdmitRow], place: usize, new: bool)
     rows[place] = row_again(rows[place], new);
 }
 
-/// Tells the rows again of which slices came, by whether each of these is new.
-fn tell_rows(rows: &mut [AdmitRow], places: &[u64], told: &[bool])
+/// Tells the rows again of which slices came, by what each of these is to IN.
+fn tell_rows(rows: &mut [AdmitRow], places: &[u64], told: &[Turn])
     requires { (came records : List (List ℕ)) × ArePlaced came places.now rows.old records
         × (length told.now ≡ length came) }
-    ensures { (is_new : List ℕ → Bool) (came records : List (List ℕ)) → ArePlaced came places.now rows.old records
-        → told.now ≡ map is_new came → rows.new ≡ rows_again is_new rows.old records }
+    ensures { (turn : List ℕ → Turn) (came records : List (List ℕ)) → ArePlaced came places.now rows.old records
+        → told.now ≡ map turn came → rows.new ≡ rows_again (λ r. is_new (turn r)) rows.old records }
 {
-    'told: for (index, new) in told.iter().enumerate() {
-        tell_row(rows, places[index] as usize, *new);
+    'told: for (index, turn) in told.iter().enumerate() {
+        tell_row(rows, places[index] as usize, turn.is_new());
     }
 }
 
-/// The rows, told again by whether each of the slices that came is new.
+/// The rows, told again by what each of the slices that came is to IN.
 pub fn told_again(
     mut rows: Vec<AdmitRow, Heap>,
     places: &[u64],
-    told: &[bool],
+    told: &[Turn],
 ) -> Vec<AdmitRow, Heap>
     requires { (came records : List (List ℕ)) × ArePlaced came places.now rows.items records
         × (length told.now ≡ length came) }
-    ensures { (is_new : List ℕ → Bool) (came records : List (List ℕ)) → ArePlaced came places.now rows.items records
-        → told.now ≡ map is_new came → result.items ≡ rows_again is_new rows.items records }
+    ensures { (turn : List ℕ → Turn) (came records : List (List ℕ)) → ArePlaced came places.now rows.items records
+        → told.now ≡ map turn came → result.items ≡ rows_again (λ r. is_new (turn r)) rows.items records }
 {
     tell_rows(&mut rows, places, told);
     rows

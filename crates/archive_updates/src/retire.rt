@@ -1,5 +1,5 @@
 //! `retire IN OUT UUID ARCH DIGEST`.
-ghost use Rattle.std.specs.Prelude.{◌≡◌, ◌++◌, ℕ, List, length, IfOk, IfErr};
+ghost use Rattle.std.specs.Prelude.{◌≡◌, ◌++◌, ℕ, List, length, IfOk, IfErr, OnOk};
 ghost use Rattle.archive_core.specs.Record.{IsOperation};
 ghost use Rattle.byte_device.specs.Devices.{stream};
 ghost use Rattle.command_ends.specs.Ends.{EndsAsItComes, HasTaken, StopsAmidst};
@@ -7,8 +7,10 @@ ghost use Rattle.command_ends.specs.Inputs.{IsKnown, reader};
 ghost use Rattle.report_text.specs.Report.{archive_line, retire_line};
 ghost use Rattle.command_ends.specs.Outputs.{Publishes, Takes, out_of, outs, writer};
 ghost use Rattle.archive_updates.specs.InnerTelling.{IsRetired};
+ghost use Rattle.archive_updates.specs.Notes.{NotesMissing};
 ghost use Rattle.archive_updates.specs.Retire.{retire};
 
+use crate::notes::{Note, note_missing};
 use crate::telling::tell_input;
 use archive_core::{Digest, Operation, SliceKey};
 use archive_records::Sizes;
@@ -26,16 +28,28 @@ fn retirement(key: SliceKey, digest: Digest) -> Operation
     Operation::Retire(key, digest)
 }
 
-/// Merges IN's archive with the retirement into the draft, and tells whether that changed it.
+/// IN's archive with a retirement, as it was written.
+#[derive(Clone, Copy)]
+struct Written {
+    sizes: Sizes,
+    /// Whether the retirement is new.
+    changed: bool,
+    /// Whether IN had such a slice.
+    had: bool,
+}
+
+/// Merges IN's archive with the retirement into the draft, and tells whether that changed it, and whether it had such a
+/// slice.
 fn retire_input<R: Source, W: Sink>(
     heap: &Heap,
     input: &mut Result<R, CannotOpen>,
     key: &SliceKey,
     digest: &Digest,
     draft: &mut W,
-) -> Result<(Sizes, bool), CommandFault>
-    ensures retired { IfOk result (λ both. IsRetired (reader R.left R.failures input.old input.new) key.now digest.now
-        (stream W.held W.failures draft.old draft.new) both.0 both.1) }
+) -> Result<Written, CommandFault>
+    ensures retired { IfOk result (λ written. IsRetired (reader R.left R.failures input.old input.new)
+        key.now digest.now (stream W.held W.failures draft.old draft.new) written.sizes written.changed
+        written.had) }
     ensures stopped { IfErr result (λ fault. StopsAmidst
         (retire (reader R.left R.failures input.old input.new) key.now digest.now)
         (IsKnown (reader R.left R.failures input.old input.new))
@@ -45,14 +59,18 @@ fn retire_input<R: Source, W: Sink>(
     let retirements = [retirement(*key, *digest)];
     let mut text = LentText::new(&retirements);
     let (sizes, told) = tell_input(heap, input, &mut text, draft)?;
-    Ok((sizes, told[0]))
+    Ok(Written {
+        sizes,
+        changed: told.turns[0].is_new(),
+        had: told.withdraws,
+    })
 }
 
 /// Puts OUT in place, whose draft has taken a whole text, and writes the line of the retirement and the sizes to the
 /// report. What is said is of all that the draft took since it was `start`.
 fn publish_retired<T: Target, P: Sink>(
     heap: Heap,
-    merged: (Sizes, bool),
+    written: Written,
     key: SliceKey,
     digest: Digest,
     out: &mut Output<T::Draft, T>,
@@ -60,19 +78,19 @@ fn publish_retired<T: Target, P: Sink>(
 ) -> Result<Status, CommandFault>
     ensures { (start : T.Draft) (text : List ℕ)
         → Takes (writer T.Draft.held T.Draft.failures start out.old.draft) text
-        → merged.0.bytes ≡ length text
+        → written.sizes.bytes ≡ length text
         → Publishes (out_of (outs T.Draft.held T.Draft.failures T.placed T.failures
         (record { draft = start; target = out.old.target }) out.new))
         (writer P.held P.failures report.old report.new) text
-        (retire_line merged.1 key digest ++ archive_line merged.0) result }
+        (retire_line written.changed key digest ++ archive_line written.sizes) result }
 {
-    let lines = retire_line(heap, merged.1, key, digest)?;
-    publish_draft(lines, merged.0, out, report)
+    let lines = retire_line(heap, written.changed, key, digest)?;
+    publish_draft(lines, written.sizes, out, report)
 }
 
 /// Writes IN's archive to OUT with the retirement of the slices under the key that have the digest, and to the report
 /// whether it is new, and the sizes. IN is merged as it comes with the retirement, in the memory of one record and of
-/// 57 bytes for each retirement.
+/// 57 bytes for each retirement. Where IN has no such slice, a note is added that says so.
 ///
 /// # Errors
 ///
@@ -82,14 +100,18 @@ pub fn run_retire<R: Source, T: Target, P: Sink>(
     input: &mut Result<R, CannotOpen>,
     key: SliceKey,
     digest: Digest,
+    notes: &mut Vec<Note, Heap>,
     out: &mut Output<T::Draft, T>,
     report: &mut P,
 ) -> Result<Status, CommandFault>
-    ensures { EndsAsItComes (retire (reader R.left R.failures input.old input.new) key digest)
+    ensures ends { EndsAsItComes (retire (reader R.left R.failures input.old input.new) key digest)
         (IsKnown (reader R.left R.failures input.old input.new))
         (out_of (outs T.Draft.held T.Draft.failures T.placed T.failures out.old out.new))
         (writer P.held P.failures report.old report.new) result }
+    ensures noted { OnOk result (NotesMissing (reader R.left R.failures input.old input.new) key digest
+        notes.old.items notes.new.items) }
 {
-    let merged = retire_input(&heap, input, &key, &digest, &mut out.draft)?;
-    publish_retired(heap, merged, key, digest, out, report)
+    let written = retire_input(&heap, input, &key, &digest, &mut out.draft)?;
+    note_missing(notes, written.had, key, digest)?;
+    publish_retired(heap, written, key, digest, out, report)
 }

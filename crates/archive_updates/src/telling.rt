@@ -1,4 +1,4 @@
-//! IN's archive, merged into OUT's draft with operations that are at hand, and which of these are new.
+//! IN's archive, merged into OUT's draft with operations that are at hand, and what each of these is to IN.
 ghost use Rattle.std.specs.Prelude.{Ok, IfOk, IfErr, map};
 ghost use Rattle.std.specs.Cmp.Lexicographic.{slice_cmp};
 ghost use Rattle.std.specs.FinSet as set;
@@ -20,19 +20,20 @@ use archive_records::Sizes;
 use byte_device::{CannotOpen, Sink, Source};
 use command_ends::{CommandFault, Place, opened};
 use memory::Heap;
-use record_merge::{LentText, merge_telling};
+use record_merge::{LentText, Told, merge_telling};
 
-/// Merges an archive that was opened with the operations at hand into the draft, and tells of each whether it is new.
+/// Merges an archive that was opened with the operations at hand into the draft, and tells what each is to IN.
 fn tell_opened<R: Source, S: Source, W: Sink>(
     heap: &Heap,
     left: &mut R,
     other: &mut S,
     draft: &mut W,
-) -> Result<(Sizes, Vec<bool, Heap>), CommandFault>
+) -> Result<(Sizes, Told), CommandFault>
     ensures told { IfOk result (λ both. (operations : Operations)
         → AreAtHand (stream S.left S.failures other.old other.new) operations
         → IsJoinedTelling (reader R.left R.failures (Ok left.old) (Ok left.new)) operations
-        (stream W.held W.failures draft.old draft.new) both.0 both.1.items) }
+        (stream W.held W.failures draft.old draft.new) both.0 both.1.turns.items
+        both.1.withdraws) }
     ensures stopped { IfErr result (λ fault. (operations : Operations)
         → AreAtHand (stream S.left S.failures other.old other.new) operations
         → StopsAmidst (joining (reader R.left R.failures (Ok left.old) (Ok left.new)) (content_of operations))
@@ -46,17 +47,18 @@ fn tell_opened<R: Source, S: Source, W: Sink>(
     }
 }
 
-/// Merges IN's archive with the operations at hand into the draft, and tells of each whether it is new.
+/// Merges IN's archive with the operations at hand into the draft, and tells what each is to IN.
 pub fn tell_input<R: Source, S: Source, W: Sink>(
     heap: &Heap,
     input: &mut Result<R, CannotOpen>,
     other: &mut S,
     draft: &mut W,
-) -> Result<(Sizes, Vec<bool, Heap>), CommandFault>
+) -> Result<(Sizes, Told), CommandFault>
     ensures told { IfOk result (λ both. (operations : Operations)
         → AreAtHand (stream S.left S.failures other.old other.new) operations
         → IsJoinedTelling (reader R.left R.failures input.old input.new) operations
-        (stream W.held W.failures draft.old draft.new) both.0 both.1.items) }
+        (stream W.held W.failures draft.old draft.new) both.0 both.1.turns.items
+        both.1.withdraws) }
     ensures stopped { IfErr result (λ fault. (operations : Operations)
         → AreAtHand (stream S.left S.failures other.old other.new) operations
         → StopsAmidst (joining (reader R.left R.failures input.old input.new) (content_of operations))
@@ -68,18 +70,19 @@ pub fn tell_input<R: Source, S: Source, W: Sink>(
     tell_opened(heap, left, other, draft)
 }
 
-/// Merges IN's archive with operations that stand in memory into the draft, and tells of each whether it is new.
+/// Merges IN's archive with operations that stand in memory into the draft, and tells what each is to IN.
 pub fn tell_operations<R: Source, W: Sink>(
     heap: &Heap,
     input: &mut Result<R, CannotOpen>,
     operations: &[Operation],
     draft: &mut W,
-) -> Result<(Sizes, Vec<bool, Heap>), CommandFault>
+) -> Result<(Sizes, Told), CommandFault>
     requires ascending { IsStrictlySortedBy (slice_cmp nat_cmp) (map record_bytes operations.now) }
     requires are { AllByRecursion IsOperation operations.now }
     ensures told { IfOk result (λ both. IsJoinedTelling (reader R.left R.failures input.old input.new)
         (set.from_list (map record_bytes operations.now))
-        (stream W.held W.failures draft.old draft.new) both.0 both.1.items) }
+        (stream W.held W.failures draft.old draft.new) both.0 both.1.turns.items
+        both.1.withdraws) }
     ensures stopped { IfErr result (StopsAmidst (joining (reader R.left R.failures input.old input.new)
         (content_of (set.from_list (map record_bytes operations.now))))
         (IsKnown (reader R.left R.failures input.old input.new))

@@ -1,6 +1,9 @@
-pub mod Opened
-pub mod Places
+pub mod Turned
+pub mod OutPlaces
 pub mod Pathless
 pub mod Outcomes
 pub mod Saying
+pub mod Noting
 pub mod Reasons
+pub mod Numbers
+pub mod Numbered

@@ -1,9 +1,10 @@
 -- What is put in OUT's place in a command, however it ends.
-use Rattle.std.proofs.Common.{◌≡◌, ◌∙◌, ◌⊎◌, ℕ, List, [], ◌∷◌, length, map, take, Option, Result, Ok, Err, refl, ap, sym, subst, inl, inr, arith, length-take-le}
+use Rattle.std.proofs.Common.{◌≡◌, ℕ, List, [], length, take, Option, Some, None, Result, Ok, Err, refl}
+use Rattle.std.proofs.Common.{ap, sym, subst, inl, inr, arith, length-take-le}
 use Rattle.std.proofs.KnownBytes.{Appends-nil}
 use Rattle.std.specs.FinSet as set
 use Rattle.std.specs.Io.KnownBytes.{Appends}
-use Rattle.clap.specs.Words.{Text}
+use Rattle.std.specs.Prelude.{option_and_then, slice_get}
 use Rattle.command_line.specs.Lines.{Line}
 use Rattle.archive_records.specs.Text.{written}
 use Rattle.byte_device.specs.declared.disks.CannotOpen.{CannotOpen}
@@ -14,12 +15,17 @@ use Rattle.command_ends.specs.declared.faults.Place.{Place}
 use Rattle.command_ends.specs.declared.faults.Status.{Status}
 use Rattle.command_ends.specs.declared.faults.Why.{Why}
 use Rattle.command_ends.specs.Ends.{Command, Ends, EndsStreamed, Query, Streamed}
-use Rattle.command_ends.specs.Inputs.{reader}
+use Rattle.command_ends.specs.Inputs.{readers}
 use Rattle.command_ends.specs.Outputs.{FailsAt, IsKept, Outs, Publishes, Writer, out_of, report_of}
-use Rattle.plan_commands.specs.Disks.{Carried}
-use Rattle.byte_device.specs.Disks.{FileAt}
+use Rattle.archive_files.specs.Turns.{Told}
+use Rattle.archive_updates.specs.declared.notes.Note.{Note}
+use Rattle.archive_files.specs.declared.at_turn.Unopened.{Unopened}
+use Rattle.archive_files.specs.declared.at_turn.Unopened.TheVariants as unopened
+use Rattle.command_ends.specs.declared.faults.Why.TheVariants.{CannotOpen as NotOpened}
+use Rattle.plan_commands.specs.Disks.{Carried, Tells, fault_at, unopened_of}
 use Rattle.plan_commands.specs.Plans.{Deed, EndsDeed, EndsQuery, answers, changes, deed_of, empties, none, streams}
-use Rattle.plan_commands.specs.Files.{IsNotPut, IsOutcome, IsPut}
+use Rattle.plan_commands.specs.Numbers.{number_at}
+use Rattle.plan_commands.specs.Files.{IsNotPut, IsOutcome}
 
 -- if OUT failed, this is told of it
 abbrev pub Counts : Result Status CommandFault → ℕ → Type 0
@@ -126,9 +132,30 @@ done (streams command) out report r e = streamed command out report r e
 done (answers query) out report r e = queried query out report r e
 done none out report r e = absurd e
 
-pub carried_outcome : {S D T : Type 0} (left : S → Option (List ℕ)) (failures : S → ℕ) (path_of : S → List Text)
-    (file_at : Text → FileAt) (old new : Option (List Text)) (l : Line) (behind : List (Result S CannotOpen)) (out : Outs D T)
-    (report : Writer) (r : Result Status CommandFault)
-    → Carried left failures path_of file_at old new l behind out report r → IsOutcome out r
-carried_outcome left failures path_of file_at old new l behind out report r c =
-    done (deed_of c.plan (map (λ state. reader left failures state.0 state.1) c.states) out) out report r c.executes
+-- and what is told of it
+module _ {S D T : Type 0} (told : Told S) (line : Line) (behind : List (Result S CannotOpen)) (out : Outs D T) where
+  by_fault : (u : Option Unopened) (place : Place) (why : Why) → IsNotPut out (Err (Input place why))
+      → IsOutcome out (Err (fault_at u place why))
+  by_fault None place why o = o
+  by_fault (Some (unopened.Refused refused)) place why o =
+      not_put out (Err (Input place NotOpened)) o.bytes o.took o.kept (input_counts place NotOpened (length o.bytes))
+  by_fault (Some unopened.OutOfMemory) place why o =
+      not_put out (Err OutOfMemory) o.bytes o.took o.kept (memory_counts (length o.bytes))
+
+  told_outcome : (ended result : Result Status CommandFault) → Tells told line behind ended result → IsOutcome out ended
+      → IsOutcome out result
+  told_outcome (Ok status) result tells o = subst (IsOutcome out) (sym tells) o
+  told_outcome (Err (Input place why)) result tells o =
+      subst (IsOutcome out) (sym tells)
+      (by_fault (unopened_of told (option_and_then (slice_get behind) (number_at line place))) place why o)
+  told_outcome (Err (Output n)) result tells o = subst (IsOutcome out) (sym tells) o
+  told_outcome (Err (Report n)) result tells o = subst (IsOutcome out) (sym tells) o
+  told_outcome (Err OutOfMemory) result tells o = subst (IsOutcome out) (sym tells) o
+
+pub carried_outcome : {S D T : Type 0} (told : Told S) (line : Line) (before behind : List (Result S CannotOpen))
+    (out : Outs D T) (report : Writer) (r : Result Status CommandFault) (notes noted : List Note)
+    → Carried told line before behind out report r notes noted
+    → IsOutcome out r
+carried_outcome told line before behind out report r notes noted c =
+    told_outcome told line behind out c.ended r c.tells
+    (done (deed_of c.plan (readers told.left told.failures before behind) out) out report c.ended c.executes)

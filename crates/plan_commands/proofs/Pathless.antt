@@ -1,8 +1,9 @@
 -- An output that has no path.
-use Rattle.std.proofs.Common.{◌≡◌, ◌∙◌, ℕ, List, [], Option, Some, None, Result, Ok, Err, refl, sym, ap, subst, inl, inr}
+use Rattle.std.proofs.Common.{◌≡◌, ◌∙◌, ℕ, List, [], Some, None, Result, Ok, Err, refl, sym, ap, subst, inl, inr}
 use Rattle.std.proofs.KnownBytes.{Appends-nil}
 use Rattle.std.specs.Io.KnownBytes.{Appends}
 use Rattle.command_line.specs.Lines.{Line}
+use Rattle.archive_updates.specs.declared.notes.Note.{Note}
 use Rattle.command_ends.specs.declared.failures.Failure.{Failure}
 use Rattle.command_ends.specs.declared.faults.CommandFault.{CommandFault}
 use Rattle.command_ends.specs.declared.faults.CommandFault.TheVariants.{Input, Output, Report, OutOfMemory}
@@ -10,7 +11,7 @@ use Rattle.command_ends.specs.declared.faults.Status.{Status}
 use Rattle.command_ends.specs.declared.outputs.Output.{Output as Out}
 use Rattle.command_ends.specs.Outputs.{IsKept, Outs, Writer, out_of as known_of}
 use Rattle.plan_commands.specs.Files.{Calls, IsCarriedOut, IsNotPut, IsOutcome, IsPut, outs_in}
-use Rattle.plan_commands.proofs.Places.{called_nowhere}
+use Rattle.plan_commands.proofs.OutPlaces.{called_nowhere}
 
 -- an output that is as it was is kept
 kept_same : {D T : Type 0} (out : Outs D T) → out.new ≡ out.old → IsKept (known_of out)
@@ -22,7 +23,7 @@ kept_same {D = D} {T = T} out same = (
   (ap (λ (o : Out D T). out.placed o.target) same, ap (λ (o : Out D T). out.failures o.target) same),
 )
 
-module _ {S D T : Type 0} (calls : Calls S D T) (line : Line) (report : Writer) (told : Result Status Failure) (is : IsCarriedOut calls line report told) (none : is.path ≡ None) where
+module _ {S D T : Type 0} (calls : Calls S D T) (line : Line) (report : Writer) (told : Result Status Failure) (notes : List Note) (is : IsCarriedOut calls line report told notes) (none : is.path ≡ None) where
   abbrev out : Outs D T
   out = outs_in calls is.begun is.done
 

@@ -1,7 +1,5 @@
 -- What is said, from what its parts did.
-use Rattle.std.proofs.Common.{◌≡◌, ◌∙◌, ◌⊎◌, ℕ, Bool, true, false, List, [], ◌∷◌, ◌++◌, take, Option, Some, None, IfSome, Result, Ok, Err, refl, sym, ap, string_bytes, subst, inl, inr}
-use Rattle.std.proofs.KnownBytes.{Appends-nil, Appends-trans}
-use Rattle.std.specs.Io.KnownBytes.{Appends}
+use Rattle.std.proofs.Common.{◌≡◌, ◌∙◌, ◌⊎◌, ℕ, Bool, true, false, List, [], ◌∷◌, ◌++◌, Option, Some, None, IfSome, refl, string_bytes, subst, inl, inr}
 use Rattle.clap.specs.Words.{IsAmong, Text}
 use Rattle.clap.specs.declared.error.kind.ErrorKind.TheVariants.{DisplayHelp, DisplayVersion}
 use Rattle.archive_files.specs.FileCalls.{FileCall}
@@ -12,10 +10,9 @@ use Rattle.command_line.specs.Lines.{error_kinds, is_in_order, named_command}
 use Rattle.command_line.specs.declared.line_faults.LineFault.{LineFault}
 use Rattle.command_line.specs.declared.line_faults.LineFault.TheVariants.{Help, Refused, OutOfMemory}
 use Rattle.report_text.specs.Report.{line}
-use Rattle.command_ends.specs.declared.failures.Failure.{Failure}
 use Rattle.command_ends.specs.Outputs.{FailsBehind, Takes, Writer}
 use Rattle.plan_commands.specs.Ends.{EndsLine, IsHelped, IsRefused, WantsMemory}
-use Rattle.plan_commands.specs.Said.{IsPushed, IsSaid, SaysFailure, failure_text, wanting_text}
+use Rattle.plan_commands.specs.Said.{IsPushed, IsSaid, wanting_text}
 
 -- a line whose text is known was said
 pub said_of : (text : Option (List ℕ)) (w : Writer) (bytes given : List ℕ) (whole : Bool) → IfSome text (λ t. bytes ≡ line t)

@@ -1,48 +1,56 @@
--- A plan over files by their paths.
-use Rattle.std.specs.Prelude.{◌≡◌, ℕ, List, Option, Result, Err, map, take}
-use Rattle.std.specs.List.{AllZip}
-use Rattle.clap.specs.Words.{Text}
-use Rattle.command_line.specs.Lines.{Line, inputs_of}
+-- A plan over inputs that are opened at their turn.
+use Rattle.std.specs.Prelude.{◌≡◌, List, OnOk, length, Option, Some, None, option_and_then, slice_get, Result, Ok, Err}
 use Rattle.byte_device.specs.declared.disks.CannotOpen.{CannotOpen}
+use Rattle.archive_files.specs.Turns.{AreAtTurn, AreWaiting, Told, unopened_in}
+use Rattle.archive_files.specs.declared.at_turn.Unopened.{Unopened}
+use Rattle.archive_files.specs.declared.at_turn.Unopened.TheVariants as unopened
+use Rattle.command_line.specs.Lines.{Line, inputs_of}
 use Rattle.command_ends.specs.declared.faults.CommandFault.{CommandFault}
-use Rattle.command_ends.specs.declared.faults.CommandFault.TheVariants.{OutOfMemory}
+use Rattle.command_ends.specs.declared.faults.CommandFault.TheVariants.{Input, Output, Report, OutOfMemory}
+use Rattle.command_ends.specs.declared.faults.Place.{Place}
 use Rattle.command_ends.specs.declared.faults.Status.{Status}
-use Rattle.command_ends.specs.Inputs.{reader}
+use Rattle.command_ends.specs.declared.faults.Why.{Why}
+use Rattle.command_ends.specs.declared.faults.Why.TheVariants.{CannotOpen as NotOpened}
+use Rattle.command_ends.specs.Inputs.{readers}
 use Rattle.command_ends.specs.Outputs.{Outs, Writer}
-use Rattle.plan_commands.specs.Plans.{Executes, plan_view}
+use Rattle.plan_commands.specs.Numbers.{number_at}
+use Rattle.archive_updates.specs.declared.notes.Note.{Note}
+use Rattle.plan_commands.specs.Plans.{Executes, Notes, plan_view}
 use Rattle.plan_commands.specs.declared.plans.Plan.{Plan}
-use Rattle.byte_device.specs.Disks.{FileAt, IsOpened, opened_with}
 
--- The inputs are what opening the files at these paths gives.
-abbrev pub AreOpened : {S : Type 0} → (S → Option (List ℕ)) → (S → ℕ) → (S → List Text) → (Text → FileAt) → List Text
-    → List (Result S CannotOpen) → Type 0
-AreOpened left failures path_of file_at paths inputs =
-    AllZip (λ path input. IsOpened left failures path_of (file_at path) input) paths inputs
+-- why an input was not opened at its turn, if it was not
+abbrev pub unopened_of : {S : Type 0} → Told S → Option (Result S CannotOpen) → Option Unopened
+unopened_of told None = None
+unopened_of told (Some (Ok input)) = unopened_in (told.stage input)
+unopened_of told (Some (Err refused)) = None
 
--- The files at the first of these paths were opened, each once and in their order.
-abbrev pub AreFirstOpened : Option (List Text) → Option (List Text) → List Text → Type 0
-AreFirstOpened opened_old opened_new paths =
-    (count : ℕ) × (opened_new ≡ opened_with opened_old (take count paths))
+-- what is told where a command is refused for this input, which was not opened for this reason, if it was not
+abbrev pub fault_at : Option Unopened → Place → Why → CommandFault
+fault_at None place why = Input place why
+fault_at (Some (unopened.Refused refused)) place why = Input place NotOpened
+fault_at (Some unopened.OutOfMemory) place why = OutOfMemory
 
--- The files at the paths of a line were opened, each once and in the order of the words, and its command ended so over
--- them. Of each input a state is what opening the file at its path gave, and what is behind the call.
-pub record Carried {S D T : Type 0} (left : S → Option (List ℕ)) (failures : S → ℕ) (path_of : S → List Text)
-    (file_at : Text → FileAt) (opened_old opened_new : Option (List Text)) (line : Line)
-    (behind : List (Result S CannotOpen)) (out : Outs D T) (report : Writer) (result : Result Status CommandFault)
-    : Type 0 where
+-- This is told of a command of the line that ended so, behind which its inputs are these: where it is refused for an
+-- input that was not opened, why that was not, and else how it ended.
+abbrev pub Tells : {S : Type 0} → Told S → Line → List (Result S CannotOpen) → Result Status CommandFault
+    → Result Status CommandFault → Type 0
+Tells told line inputs (Ok status) result = result ≡ Ok status
+Tells told line inputs (Err (Input place why)) result =
+    result ≡ Err (fault_at (unopened_of told (option_and_then (slice_get inputs) (number_at line place))) place why)
+Tells told line inputs (Err (Output n)) result = result ≡ Err (Output n)
+Tells told line inputs (Err (Report n)) result = result ≡ Err (Report n)
+Tells told line inputs (Err OutOfMemory) result = result ≡ Err OutOfMemory
+
+-- The command of a line ended so over inputs with the paths of the line, in the order of the words, each of which was
+-- opened at its turn, if that came; this was told of it, and where it ended well, these notes were added to those.
+pub record Carried {S D T : Type 0} (told : Told S) (line : Line) (before behind : List (Result S CannotOpen))
+    (out : Outs D T) (report : Writer) (result : Result Status CommandFault) (notes noted : List Note) : Type 0 where
   pub plan : Plan
   pub plan_is : plan_view plan ≡ line
-  pub states : List (Result S CannotOpen × Result S CannotOpen)
-  pub inputs : AllZip (λ path state. IsOpened left failures path_of (file_at path) state.0) (inputs_of line) states
-  pub behind_is : map (λ state. state.1) states ≡ behind
-  pub opened : opened_new ≡ opened_with opened_old (inputs_of line)
-  pub executes : Executes plan (map (λ state. reader left failures state.0 state.1) states) out report result
-
--- There was no memory to open the files of a line, or the others of them, and nothing was written.
-pub record IsUnbegun {D T : Type 0} (opened_old opened_new : Option (List Text)) (line : Line) (out : Outs D T)
-    (report : Writer) (result : Result Status CommandFault) : Type 0 where
-  pub wanting : result ≡ Err OutOfMemory
-  pub opened : AreFirstOpened opened_old opened_new (inputs_of line)
-  pub out_same : out.new ≡ out.old
-  pub report_same : report.new ≡ report.old
-  pub report_unfailed : report.failures_new ≡ report.failures_old
+  pub waiting : AreWaiting told (inputs_of line) before
+  pub as_many : length behind ≡ length before
+  pub at_turn : AreAtTurn told behind
+  pub ended : Result Status CommandFault
+  pub executes : Executes plan (readers told.left told.failures before behind) out report ended
+  pub notes_are : OnOk ended (Notes plan (readers told.left told.failures before behind) notes noted)
+  pub tells : Tells told line behind ended result

@@ -1,5 +1,5 @@
 -- How the program ends.
-use Rattle.std.specs.Prelude.{◌≡◌, ◌≢◌, ◌⊎◌, ℕ, Bool, true, List, [], ◌∷◌, codes, Option, Some, Result, String, string_bytes}
+use Rattle.std.specs.Prelude.{◌≡◌, ◌≢◌, ◌⊎◌, ℕ, Bool, true, List, [], ◌∷◌, codes, Some, Result, String, string_bytes}
 use Rattle.std.specs.declared.alloc.Global.{Global}
 use Rattle.clap.specs.Words.{IsAmong, Text}
 use Rattle.clap.specs.declared.error.kind.ErrorKind.TheVariants.{DisplayHelp, DisplayVersion}
@@ -11,23 +11,25 @@ use Rattle.command_ends.specs.declared.failures.Failure.{Failure}
 use Rattle.command_ends.specs.declared.faults.Status.{Status}
 use Rattle.command_ends.specs.Outputs.{Takes, Writer}
 use Rattle.command_ends.specs.Statuses.{status_of}
-use Rattle.plan_commands.specs.Files.{Calls, IsCarriedOut, IsUnbegun}
+use Rattle.archive_updates.specs.declared.notes.Note.{Note}
+use Rattle.plan_commands.specs.Files.{Calls, IsDone}
 use Rattle.plan_commands.specs.Said.{IsPushed, SaysEnd, SaysRefused, SaysWanting, reason_in}
 
--- No call of the system was noted.
+-- No call of the system was noted, and no input was made.
 pub record IsIdle {S D T : Type 0} (calls : Calls S D T) : Type 0 where
-  pub opened : calls.opened_new ≡ calls.opened_old
+  pub asked : calls.asked_new ≡ calls.asked_old
   pub uncalled : calls.called ≡ []
 
 -- The words are accepted and ask for this line, it was carried out over files of the system, unless there was no memory
--- to begin it, why it failed was said, if it did, and the exit status is that of how it ended.
+-- to begin it, its notes were said, or why it failed, and the exit status is that of how it ended.
 pub record Ran {S D T : Type 0} (calls : Calls S D T) (words : List Text) (told said : Writer) (status : ℕ) : Type 0 where
   pub line : Line
   pub ended : Result Status Failure
+  pub notes : List Note
   pub accepted : error_kinds words ≡ []
   pub line_is : Some line ≡ line_of words
-  pub carried : IsUnbegun calls line told ended ⊎ IsCarriedOut calls line told ended
-  pub says : SaysEnd said ended
+  pub carried : IsDone calls line told ended notes
+  pub says : SaysEnd said ended notes
   pub status_is : status ≡ status_of ended
 
 -- the words are not accepted, or a value has not its form, or OUT is an input

@@ -1,5 +1,5 @@
 -- A line that is carried out over files of the system.
-use Rattle.std.specs.Prelude.{◌≡◌, ◌⊎◌, ℕ, List, [], ◌++◌, length, Option, Some, None, Result, Ok, Err}
+use Rattle.std.specs.Prelude.{◌≡◌, ◌⊎◌, ℕ, List, OnOk, [], ◌++◌, length, Option, Some, None, Result, Ok, Err}
 use Rattle.std.specs.Io.KnownBytes.{Appends}
 use Rattle.std.specs.declared.io.traits.Read.{Ghosts as Reads}
 use Rattle.std.specs.declared.io.traits.Seek.{Ghosts as Seeks}
@@ -16,12 +16,13 @@ use Rattle.command_ends.specs.Outputs.{IsKept, Outs, Places, Writer, out_of as k
 use Rattle.archive_files.specs.FileCalls.{FileCall, bytes_in}
 use Rattle.archive_files.specs.OutFiles.{fault_of, placing_calls, stage_of}
 use Rattle.archive_files.specs.Placing.{IsPath, IsPlaced, IsRemoved, account}
+use Rattle.archive_files.specs.Turns.{AreFirstAsked, Told}
 use Rattle.archive_files.specs.declared.replaceable.OutFault.{OutFault}
 use Rattle.archive_files.specs.declared.replaceable.OutFault.TheVariants as fault
 use Rattle.archive_files.specs.declared.system_files.SystemFiles.{SystemFiles}
-use Rattle.plan_commands.specs.Disks.{AreFirstOpened, Carried}
+use Rattle.archive_updates.specs.declared.notes.Note.{Note}
+use Rattle.plan_commands.specs.Disks.{Carried}
 use Rattle.byte_device.specs.declared.disks.CannotOpen.{CannotOpen}
-use Rattle.byte_device.specs.Disks.{At}
 
 -- why OUT failed after it took so many bytes
 abbrev pub out_failure : Option OutFault → ℕ → Failure
@@ -57,40 +58,37 @@ IsOutcome out (Err (Output n)) = IsNotPut out (Err (Output n))
 IsOutcome out (Err (Report n)) = IsPut out
 IsOutcome out (Err OutOfMemory) = IsNotPut out (Err OutOfMemory)
 
--- What was called of the system in a command: the paths that were opened, before it and after it, the inputs that were
--- found to be other files than OUT's, the one that was found to be OUT's own, the calls for OUT, and why it was not
--- begun or not put in place, if it was not. The functions tell what an input has left and how often it failed, what is
--- known of OUT's draft and how often it failed, and what is known of what was put in place and how often that failed.
--- Before these stands the path at which an input was opened.
+-- What was called of the system in a command: the paths that inputs were made for, before it and after it, which alone
+-- may be opened, the inputs that were found to be other files than OUT's, the one that was found to be OUT's own, the
+-- calls for OUT, and why it was not begun or not put in place, if it was not. What is told of an input stands first,
+-- with the paths that were opened for it; then what is known of OUT's draft and how often it failed, and of what was
+-- put in place.
 pub record Calls (S D T : Type 0) : Type 0 where
-  pub left : S → Option (List ℕ)
-  pub failures : S → ℕ
-  pub path_of : S → List Text
+  pub told : Told S
   pub held : D → Option (List ℕ)
   pub draft_failures : D → ℕ
   pub placed : T → Option (List ℕ)
   pub place_failures : T → ℕ
-  pub opened_old : List Text
-  pub opened_new : List Text
+  pub asked_old : List Text
+  pub asked_new : List Text
   pub others : List Text
   pub same : List Text
   pub called : List FileCall
   pub fault : Option OutFault
 
 -- the calls between these two states of the files
-abbrev pub calls_of : {F T E S D P : Type 0} {reads : Reads T} {writes : Writes T} {seeks : Seeks T} {lists : Reads E} → (S → Option (List ℕ)) → (S → ℕ) → (S → List Text) → (D → Option (List ℕ)) → (D → ℕ)
-    → (P → Option (List ℕ)) → (P → ℕ) → SystemFiles F T E reads writes seeks lists
+abbrev pub calls_of : {F T E S D P : Type 0} {reads : Reads T} {writes : Writes T} {seeks : Seeks T} {lists : Reads E}
+    → Told S → (D → Option (List ℕ)) → (D → ℕ) → (P → Option (List ℕ)) → (P → ℕ)
+    → SystemFiles F T E reads writes seeks lists
     → SystemFiles F T E reads writes seeks lists → Calls S D P
-calls_of left failures path_of held draft_failures placed place_failures old new = record {
-  left = left;
-  failures = failures;
-  path_of = path_of;
+calls_of told held draft_failures placed place_failures old new = record {
+  told = told;
   held = held;
   draft_failures = draft_failures;
   placed = placed;
   place_failures = place_failures;
-  opened_old = old.disk.opened.entries;
-  opened_new = new.disk.opened.entries;
+  asked_old = old.asked.entries;
+  asked_new = new.asked.entries;
   others = new.others.entries;
   same = new.same.entries;
   called = placing_calls new.out.target.placed ++ new.out.draft.calls.entries;
@@ -101,12 +99,13 @@ calls_of left failures path_of held draft_failures placed place_failures old new
 abbrev pub outs_in : {S D T : Type 0} → Calls S D T → Out D T → Out D T → Outs D T
 outs_in calls begun done = outs calls.held calls.draft_failures calls.placed calls.place_failures begun done
 
--- The command of a line ended over files of which nothing is known, and this is told of it. OUT has the path of the
--- line, unless an input's file is there. Where a text was put in place, the calls for OUT are those by which it was put
--- at that path; where none was, those by which nothing is left, with the bytes that the draft took; and where the draft
--- took none and did not fail there are none.
+-- The command of a line ended over files of which nothing is known, and this is told of it; where it ended well, these
+-- are its notes. Inputs were made for its paths, each once and in the order of the words, and for no other. OUT has the
+-- path of the line, unless an input's file is there. Where a text was put in place, the calls for OUT are those by
+-- which it was put at that path; where none was, those by which nothing is left, with the bytes that the draft took;
+-- and where the draft took none and did not fail there are none.
 pub record IsCarriedOut {S D T : Type 0} (calls : Calls S D T) (line : Line) (report : Writer)
-    (told : Result Status Failure) : Type 0 where
+    (told : Result Status Failure) (notes : List Note) : Type 0 where
   pub path : Option Text
   pub begun : Out D T
   pub done : Out D T
@@ -115,9 +114,12 @@ pub record IsCarriedOut {S D T : Type 0} (calls : Calls S D T) (line : Line) (re
   pub begun_is : calls.held begun.draft ≡ Some (account path [])
   pub begun_unfailed : calls.draft_failures begun.draft ≡ 0
   pub nothing_placed : calls.placed begun.target ≡ None
+  pub asked : calls.asked_new ≡ calls.asked_old ++ inputs_of line
+  pub before : List (Result S CannotOpen)
   pub behind : List (Result S CannotOpen)
-  pub carried : Carried calls.left calls.failures calls.path_of At (Some calls.opened_old) (Some calls.opened_new) line
-      behind (outs_in calls begun done) report ended
+  pub noted : List Note
+  pub carried : Carried calls.told line before behind (outs_in calls begun done) report ended [] noted
+  pub notes_are : OnOk told (notes ≡ noted)
   pub outcome : IsOutcome (outs_in calls begun done) ended
   pub placed : (text : List ℕ) → Places (known_of (outs_in calls begun done)) text
       → (p : List ℕ) × (path ≡ Some p) × ∥ IsPlaced p text calls.called ∥₁
@@ -130,7 +132,11 @@ pub record IsCarriedOut {S D T : Type 0} (calls : Calls S D T) (line : Line) (re
 pub record IsUnbegun {S D T : Type 0} (calls : Calls S D T) (line : Line) (report : Writer)
     (told : Result Status Failure) : Type 0 where
   pub wanting : told ≡ Err (Command OutOfMemory)
-  pub opened : AreFirstOpened (Some calls.opened_old) (Some calls.opened_new) (inputs_of line)
+  pub asked : AreFirstAsked calls.asked_old calls.asked_new (inputs_of line)
   pub uncalled : calls.called ≡ []
   pub report_same : report.new ≡ report.old
   pub report_unfailed : report.failures_new ≡ report.failures_old
+
+-- A line was carried out, or there was no memory to begin that; and this is told of it.
+abbrev pub IsDone : {S D T : Type 0} → Calls S D T → Line → Writer → Result Status Failure → List Note → Type 0
+IsDone calls line report told notes = IsUnbegun calls line report told ⊎ IsCarriedOut calls line report told notes

@@ -3,4 +3,5 @@ pub mod Disks
 pub mod Files
 pub mod Said
 pub mod Ends
+pub mod Numbers
 pub mod Hints

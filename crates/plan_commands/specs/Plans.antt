@@ -24,6 +24,8 @@ use Rattle.command_ends.specs.Inputs.{IsKnown, Reader}
 use Rattle.archive_queries.specs.List.{list}
 use Rattle.archive_updates.specs.MergeStreams.{merge_as_it_comes}
 use Rattle.archive_updates.specs.Migrate.{migrate}
+use Rattle.archive_updates.specs.Notes.{NotesMissing, NotesRetired}
+use Rattle.archive_updates.specs.declared.notes.Note.{Note}
 use Rattle.archive_queries.specs.Name.{name}
 use Rattle.command_ends.specs.Outputs.{Outs, Publishes, Writer, out_of, report_of}
 use Rattle.rehearse.specs.Rehearse.{rehearse}
@@ -147,3 +149,9 @@ EndsDeed none out report result = ⊥
 -- How the command of a plan ends over the inputs at the paths of its line, in their order.
 abbrev pub Executes : {S D T : Type 0} → Plan → List (Reader S) → Outs D T → Writer → Result Status CommandFault → Type 0
 Executes asked inputs out report result = EndsDeed (deed_of asked inputs out) out report result
+
+-- What the command of a plan that ended well notes over these inputs: `admit` and `retire` alone note something.
+abbrev pub Notes : {S : Type 0} → Plan → List (Reader S) → List Note → List Note → Type 0
+Notes (plan.Admit _ _ _) (input ∷ files) old new = NotesRetired input files old new
+Notes (plan.Retire _ _ uuid arch digest) (input ∷ _) old new = NotesMissing input (key_of uuid arch) digest old new
+Notes _ _ old new = new ≡ old

@@ -1,7 +1,7 @@
 -- What is said on standard error.
 use Rattle.std.specs.Prelude.{◌⊎◌, ℕ, Bool, true, false, List, [], ◌∷◌, ◌++◌, ◌-◌, codes, drop, length, take, if◌then◌else◌, nat_eq, Result, Ok, Err}
 use Rattle.std.specs.Io.KnownBytes.{Appends}
-use Rattle.std.specs.List.{ends_with, starts_with}
+use Rattle.std.specs.List.{ends_with, flat_map, starts_with}
 use Rattle.clap.specs.Words.{Text}
 use Rattle.byte_device.specs.Disks.{cannot_create_text}
 use Rattle.report_text.specs.Report.{line}
@@ -10,6 +10,8 @@ use Rattle.command_ends.specs.declared.failures.Failure.TheVariants.{Command, Ca
 use Rattle.command_ends.specs.declared.faults.Status.{Status}
 use Rattle.command_ends.specs.FaultTexts.{command_fault_text}
 use Rattle.command_ends.specs.Outputs.{FailsBehind, Takes, Writer}
+use Rattle.archive_updates.specs.Notes.{note_text}
+use Rattle.archive_updates.specs.declared.notes.Note.{Note}
 
 -- the line of a failure
 unfoldable pub failure_text : Failure → List ℕ
@@ -43,10 +45,19 @@ SaysFailure said failure =
     ((more : List ℕ) × Appends said.old said.new (line (failure_text failure) ++ more))
     ⊎ IsSaid said (failure_text failure) false
 
--- what a command that ended so says: nothing, or why it failed
-abbrev pub SaysEnd : Writer → Result Status Failure → Type 0
-SaysEnd said (Ok _) = Takes said []
-SaysEnd said (Err failure) = SaysFailure said failure
+-- a line a note
+abbrev pub note_lines : List Note → List ℕ
+note_lines notes = flat_map (λ note. line (note_text note)) notes
+
+-- The writer took the lines of the notes, or failed inside them; or there was no memory for them, and it took nothing.
+-- Without a note it took nothing.
+abbrev pub SaysNotes : Writer → List Note → Type 0
+SaysNotes said notes = ((whole : Bool) × IsPushed said (note_lines notes) whole) ⊎ Takes said []
+
+-- what a command that ended so says: its notes, or why it failed
+abbrev pub SaysEnd : Writer → Result Status Failure → List Note → Type 0
+SaysEnd said (Ok _) notes = SaysNotes said notes
+SaysEnd said (Err failure) notes = SaysFailure said failure
 
 -- a text without the line feed at its end, and without the word at its front
 abbrev pub without_line_feed : Text → Text

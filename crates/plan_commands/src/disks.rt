@@ -1,59 +1,38 @@
-//! A line that is carried out over files by their paths.
+//! A line that is carried out over inputs which are opened at their turn.
 
-ghost use Rattle.std.specs.Prelude.{◌≡◌, ◌⊎◌, [], OnErr, OnOk, map};
+ghost use Rattle.archive_files.specs.AtTurns.{told};
+ghost use Rattle.archive_files.specs.Turns.{AreWaiting};
 ghost use Rattle.command_ends.specs.Outputs.{outs, writer};
 ghost use Rattle.command_line.specs.LineView.{line_view};
-ghost use Rattle.plan_commands.specs.Disks.{AreFirstOpened, AreOpened, Carried, IsUnbegun};
-ghost use Rattle.byte_device.specs.Disks.{opened_with};
+ghost use Rattle.command_line.specs.Lines.{inputs_of};
+ghost use Rattle.plan_commands.specs.Disks.{Carried};
 
+use crate::places::blamed;
 use crate::plans::{Plan, execute};
 use archive_core::Archive;
-use byte_device::{CannotOpen, Disk, Sink, Source};
+use archive_files::AtTurn;
+use archive_updates::Note;
+use byte_device::{CannotOpen, Disk, Sink};
 use command_ends::{CommandFault, Output, Status, Target};
 use command_line::Line;
-use memory::{Heap, NoMemory};
-use std::alloc::Global;
+use memory::Heap;
 
-/// Opens the files at these paths, one after another.
-fn open_all<D: Disk>(
-    disk: &mut D,
-    paths: &[&str],
-    inputs: &mut Vec<Result<D::Input, CannotOpen>>,
-) -> Result<(), NoMemory>
-    requires { inputs.old.items ≡ [] }
-    ensures inputs { OnOk result (AreOpened D.Input.left D.Input.failures D.path_of (D.file_at disk.old)
-        (map (λ p. p.now) paths.now) inputs.new.items) }
-    ensures opened { OnOk result
-        (D.opened disk.new ≡ opened_with (D.opened disk.old) (map (λ p. p.now) paths.now)) }
-    ensures first { OnErr result
-        (AreFirstOpened (D.opened disk.old) (D.opened disk.new) (map (λ p. p.now) paths.now)) }
-{
-    'paths: for path in paths {
-        inputs.push(disk.open(path)?)?;
-    }
-    Ok(())
-}
-
-/// Carries out a line over the files of a disk, which are opened before its command begins, and stand in `inputs` behind
-/// it.
+/// Carries out a line over inputs with its paths, in the order of the words. Each is opened with the first call for its
+/// bytes, so where it cannot be opened its command is refused as where it cannot be read, and that is told as what it
+/// is. What the command notes is added to `notes`.
 pub fn execute_on<A: Archive + Drop, L: Archive + Drop, D: Disk, T: Target, P: Sink>(
-    alloc: Global,
     heap: Heap,
-    disk: &mut D,
-    inputs: &mut Vec<Result<D::Input, CannotOpen>>,
+    inputs: &mut [Result<AtTurn<'_, D>, CannotOpen>],
     line: &Line,
+    notes: &mut Vec<Note, Heap>,
     out: &mut Output<T::Draft, T>,
     report: &mut P,
 ) -> Result<Status, CommandFault>
-    requires { inputs.old.items ≡ [] }
-    ensures { IsUnbegun (D.opened disk.old) (D.opened disk.new) (line_view line.now)
+    requires { AreWaiting told (inputs_of (line_view line.now)) inputs.old }
+    ensures { Carried told (line_view line.now) inputs.old inputs.new
         (outs T.Draft.held T.Draft.failures T.placed T.failures out.old out.new)
-        (writer P.held P.failures report.old report.new) result
-        ⊎ Carried D.Input.left D.Input.failures D.path_of (D.file_at disk.old) (D.opened disk.old) (D.opened disk.new)
-        (line_view line.now) inputs.new.items (outs T.Draft.held T.Draft.failures T.placed T.failures out.old out.new)
-        (writer P.held P.failures report.old report.new) result }
+        (writer P.held P.failures report.old report.new) result notes.old.items notes.new.items }
 {
-    let paths = line.inputs(alloc)?;
-    open_all(disk, &paths, inputs)?;
-    execute::<A, L, _, _, _>(heap, &Plan::of(line), inputs, out, report)
+    let ended = execute::<A, L, _, _, _>(heap, &Plan::of(line), inputs, notes, out, report);
+    blamed(line, inputs, ended)
 }

@@ -1,18 +1,21 @@
 //! A line, carried out over files of the system.
 
-ghost use Rattle.std.specs.Prelude.{◌≡◌, ◌⊎◌, [], None, OnOk, option_map, string_bytes};
+ghost use Rattle.std.specs.Prelude.{◌≡◌, ◌++◌, [], Err, IfOk, MatchResult, None, Ok, OnOk, option_map, string_bytes};
 ghost use Rattle.command_ends.specs.Outputs.{writer};
+ghost use Rattle.archive_files.specs.AtTurns.{told as told_of, told_by};
 ghost use Rattle.archive_files.specs.Fresh.{AreFresh};
 ghost use Rattle.archive_files.specs.OutFiles.{Untouched, stage_of};
 ghost use Rattle.archive_files.specs.Placing.{IsPath};
+ghost use Rattle.archive_files.specs.Turns.{AreFirstAsked, AreWaiting};
 ghost use Rattle.command_line.specs.Lines.{inputs_of, out_of};
 ghost use Rattle.command_line.specs.LineView.{line_view};
-ghost use Rattle.plan_commands.specs.Files.{IsCarriedOut, IsUnbegun, calls_of, command_fault_of, out_failure};
+ghost use Rattle.plan_commands.specs.Files.{IsDone, calls_of, command_fault_of, out_failure};
 
 use crate::execute_on;
 use crate::hints::Seen;
 use crate::plans::Plan;
-use archive_files::{OpenedFile, OutFault, OutFile, OutPath, SystemDisk, SystemFiles};
+use archive_files::{OpenedFile, OutFault, OutFile, OutPath, SystemDisk, SystemFiles, SystemInput};
+use archive_updates::Note;
 use byte_device::{CannotCreate, Disk, Sink, Source};
 use command_ends::{CommandFault, Failure, Status, Target};
 use command_line::Line;
@@ -24,7 +27,7 @@ use std::rt::Files;
 /// Takes the path of OUT, if the line has one.
 fn begin<F: Files>(files: &mut SystemFiles<'_, F>, line: &Line) -> Result<(), NoMemory>
     requires { AreFresh files.old }
-    ensures opened { files.new.disk.opened.entries ≡ files.old.disk.opened.entries }
+    ensures asked { files.new.asked.entries ≡ files.old.asked.entries }
     ensures path { OnOk result (IsPath (out_of (line_view line.now)) (inputs_of (line_view line.now))
         files.new.others.entries files.new.same.entries (option_map string_bytes files.new.out.draft.path)) }
     ensures untouched { stage_of files.new.out.draft.state ≡ Untouched }
@@ -35,8 +38,24 @@ fn begin<F: Files>(files: &mut SystemFiles<'_, F>, line: &Line) -> Result<(), No
     let Some(path) = line.out_path() else {
         return Ok(());
     };
-    let inputs = line.inputs(files.disk.alloc())?;
+    let inputs = line.inputs(files.alloc())?;
     files.begin(path, &inputs, Plan::of(line).replaces())
+}
+
+/// The inputs of a line, each of which is opened at its turn.
+fn inputs_for<'l, 'f, F: Files>(
+    files: &mut SystemFiles<'f, F>,
+    line: &'l Line,
+) -> Result<Vec<SystemInput<'l, 'f, F>>, NoMemory>
+    ensures inputs { IfOk result (λ inputs. AreWaiting told_of (inputs_of (line_view line.now)) inputs.items) }
+    ensures asked { OnOk result
+        (files.new.asked.entries ≡ files.old.asked.entries ++ inputs_of (line_view line.now)) }
+    ensures first { AreFirstAsked files.old.asked.entries files.new.asked.entries (inputs_of (line_view line.now)) }
+    ensures out { files.new.out ≡ files.old.out }
+    ensures others { (files.new.others ≡ files.old.others) × (files.new.same ≡ files.old.same) }
+{
+    let paths = line.inputs(files.alloc())?;
+    files.inputs(&paths)
 }
 
 /// Why OUT failed after it took so many bytes: it was not begun, or not put in place, or its device failed.
@@ -62,38 +81,56 @@ fn told(ended: Result<Status, CommandFault>, fault: Option<OutFault>) -> Result<
     }
 }
 
-/// Carries out a line over files of the system, whose report goes to `report`. Inputs are opened before the command
-/// begins, and refused at their turn; OUT's draft is created with its first bytes, put in place when it is whole, and
-/// removed where it was not. No line without OUT has any. What was seen of the file that it failed at is in `seen`.
+/// The same with its notes, where it ended well.
+fn told_with(
+    ended: Result<Status, CommandFault>,
+    notes: Vec<Note, Heap>,
+    fault: Option<OutFault>,
+) -> Result<(Status, Vec<Note, Heap>), Failure>
+    ensures { MatchResult result
+        (λ both. (Ok both.0 ≡ command_fault_of fault ended) × (both.1.items ≡ notes.items))
+        (λ failure. Err failure ≡ command_fault_of fault ended) }
+{
+    match told(ended, fault) {
+        Ok(status) => Ok((status, notes)),
+        Err(failure) => Err(failure),
+    }
+}
+
+/// Carries out a line over files of the system, whose report goes to `report`. Each input is opened at its turn, and
+/// closed at its end; OUT's draft is created with its first bytes, put in place when it is whole, and removed where it
+/// was not. No line without OUT has any. What was seen of the file that it failed at is in `seen`, and what a command
+/// that ended well notes is handed back.
 pub fn execute<'f, F: Files, P: Sink>(
     files: &mut SystemFiles<'f, F>,
     line: &Line,
     report: &mut P,
     seen: &mut Seen,
-) -> Result<Status, Failure>
+) -> Result<(Status, Vec<Note, Heap>), Failure>
     requires { AreFresh files.old }
-    ensures { let calls = calls_of ⟦<OpenedFile<BufReader<F::File>> as Source>⟧.left
-        ⟦<OpenedFile<BufReader<F::File>> as Source>⟧.failures ⟦<SystemDisk<'f, F> as Disk>⟧.path_of
+    ensures { let calls = calls_of
+        (told_by ⟦<SystemDisk<'f, F> as Disk>⟧ ⟦<OpenedFile<BufReader<F::File>> as Source>⟧)
         ⟦<OutFile<'f, F> as Sink>⟧.held
         ⟦<OutFile<'f, F> as Sink>⟧.failures ⟦<OutPath<'f, F> as Target>⟧.placed
         ⟦<OutPath<'f, F> as Target>⟧.failures files.old files.new in
         let told = writer P.held P.failures report.old report.new in
-        IsUnbegun calls (line_view line.now) told result ⊎ IsCarriedOut calls (line_view line.now) told result }
+        MatchResult result
+        (λ both. IsDone calls (line_view line.now) told (Ok both.0) both.1.items)
+        (λ failure. IsDone calls (line_view line.now) told (Err failure) []) }
 {
-    let alloc = files.disk.alloc();
-    let heap = Heap::new(alloc)?;
+    let heap = Heap::new(files.alloc())?;
+    let mut notes = Vec::new(heap.clone()?);
     begin(files, line)?;
-    let mut inputs = Vec::new(alloc);
+    let mut inputs = inputs_for(files, line)?;
     let ended = execute_on::<PlainArchive, IndexedArchive, _, _, _>(
-        alloc,
         heap,
-        &mut files.disk,
         &mut inputs,
         line,
+        &mut notes,
         &mut files.out,
         report,
     );
     files.out.draft.discard();
     *seen = Seen::by(&ended, line, &inputs, &files.out.draft);
-    told(ended, files.out.draft.fault())
+    told_with(ended, notes, files.out.draft.fault())
 }

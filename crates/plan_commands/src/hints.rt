@@ -2,19 +2,19 @@
 //! stands in a line of its own after that of the failure, which programs read. Of it contracts say the path and the
 //! faulty line alone.
 
-ghost use Rattle.std.specs.Prelude.{◌≡◌, IfSome, None, Some, option_map, slice_get};
+ghost use Rattle.std.specs.Prelude.{◌≡◌, IfSome, None, Some};
 ghost use Rattle.command_line.specs.LineView.{line_view};
-ghost use Rattle.command_line.specs.Lines.{inputs_of_kind, out_of};
-ghost use Rattle.plan_commands.specs.Hints.{IsOfInput, IsOfNoFile, IsOfOut, faulty_line_of, file_of, path_at};
+ghost use Rattle.command_line.specs.Lines.{out_of};
+ghost use Rattle.plan_commands.specs.Hints.{IsOfInput, IsOfNoFile, IsOfOut, faulty_line_of, file_of};
 
 use crate::flaws::FaultyLine;
 use crate::looks::Look;
-use archive_files::{Obstacle, OpenedFile, OutFile};
-use byte_device::CannotOpen;
+use crate::places::input_at;
+use archive_files::{Obstacle, OutFile, SystemInput, Unopened};
 use command_ends::{CommandFault, Failure, Place, Status, Why};
-use command_line::{Kind, Line, is_input, is_input_of};
+use command_line::Line;
 use std::fmt::{self, Display, Write};
-use std::io::{self, ErrorKind, Read};
+use std::io::{self, ErrorKind};
 use std::rt::Files;
 
 /// What was seen of the file that a command failed at.
@@ -37,28 +37,31 @@ impl Seen {
     };
 
     /// What was seen of an input.
-    fn of_input<R: Read + Drop>(input: &Result<OpenedFile<R>, CannotOpen>) -> Seen
+    fn of_input<F: Files>(input: &SystemInput<'_, '_, F>) -> Seen
         ensures { result.obstacle ≡ None }
     {
-        match input {
-            Ok(file) => Seen {
+        let Ok(input) = input else {
+            return Seen::NOTHING;
+        };
+        match (input.input(), input.unopened()) {
+            (Some(file), _) => Seen {
                 reason: file.reason(),
                 look: Look::of(&file.front()),
                 obstacle: None,
             },
-            Err(refused) => Seen {
+            (None, Some(Unopened::Refused(refused))) => Seen {
                 reason: Some(refused.reason),
-                look: None,
-                obstacle: None,
+                ..Seen::NOTHING
             },
+            (None, _) => Seen::NOTHING,
         }
     }
 
     /// What was seen of the file that the command of this line failed at.
-    pub fn by<R: Read + Drop, F: Files>(
+    pub fn by<F: Files>(
         ended: &Result<Status, CommandFault>,
         line: &Line,
-        inputs: &[Result<OpenedFile<R>, CannotOpen>],
+        inputs: &[SystemInput<'_, '_, F>],
         out: &OutFile<'_, F>,
     ) -> Seen
         ensures nothing { IsOfNoFile ended.now
@@ -67,12 +70,13 @@ impl Seen {
         ensures input { IsOfInput ended.now → result.obstacle ≡ None }
     {
         match ended {
-            Err(CommandFault::Input(place, _)) => {
-                match input_at(line, *place).and_then(|(number, _)| inputs.get(number)) {
+            Err(CommandFault::Input(place, _)) => match input_at(line, *place) {
+                Some((number, _)) => match inputs.get(number) {
                     Some(input) => Seen::of_input(input),
                     None => Seen::NOTHING,
-                }
-            }
+                },
+                None => Seen::NOTHING,
+            },
             Err(CommandFault::Output(_)) => Seen {
                 reason: out.reason(),
                 look: None,
@@ -80,43 +84,6 @@ impl Seen {
             },
             _ => Seen::NOTHING,
         }
-    }
-}
-
-/// The input of this number among those of a kind: its number among all, and its path.
-fn input_of(line: &Line, kind: Kind, number: u64) -> Option<(usize, &str)>
-    ensures { option_map (λ at. at.1.now) result
-        ≡ slice_get (inputs_of_kind kind (line_view line.now)) number }
-{
-    let arguments = line.arguments();
-    let mut passed = 0_usize;
-    let mut left = number as usize;
-    'arguments: for (argument, values) in arguments.iter().zip(&line.values) {
-        let paths = values.texts();
-        if is_input_of(argument.role, kind) {
-            if let Some(path) = paths.get(left) {
-                return Some((passed.saturating_add(left), path));
-            }
-            left -= paths.len();
-        }
-        if is_input(argument.role) {
-            passed = passed.saturating_add(paths.len());
-        }
-    }
-    None
-}
-
-/// The input that is reported by this place.
-fn input_at(line: &Line, place: Place) -> Option<(usize, &str)>
-    ensures { option_map (λ at. at.1.now) result ≡ path_at (line_view line.now) place }
-{
-    match place {
-        Place::Archive(number) => input_of(line, Kind::Archive, number),
-        Place::File(number) => input_of(line, Kind::File, number),
-        Place::Ops => input_of(line, Kind::Ops, 0),
-        Place::Summary => input_of(line, Kind::Summary, 0),
-        Place::Script => input_of(line, Kind::Script, 0),
-        Place::Frames => input_of(line, Kind::Frames, 0),
     }
 }
 

@@ -2,7 +2,8 @@
 //! what is said of how it ended.
 //!
 //! - `plans`: what a line asks for, by name, and its command over its inputs, OUT and the report;
-//! - `disks`: a line over files by their paths;
+//! - `places`: which input a place is, and what is told of one that was not opened;
+//! - `disks`: a line over inputs that are opened at their turn;
 //! - `looks`: what a file that is refused looks like;
 //! - `flaws`: the faulty line of an input, in words;
 //! - `hints`: what helps a person with a failure;
@@ -18,6 +19,7 @@ mod flaws;
 mod hints;
 mod laws;
 mod looks;
+mod places;
 mod plans;
 mod runs;
 mod said;

@@ -1,6 +1,6 @@
 //! What a line asks for, by name, and the command that does it.
 
-ghost use Rattle.std.specs.Prelude.{◌≡◌, ◌+◌, ◌∷◌, length, map, true};
+ghost use Rattle.std.specs.Prelude.{◌≡◌, ◌+◌, ◌∷◌, length, map, OnOk, true};
 ghost use Rattle.command_ends.specs.Inputs.{reader, readers};
 ghost use Rattle.command_ends.specs.Outputs.{outs, writer};
 ghost use Rattle.command_line.specs.Arguments.{are_values_of};
@@ -10,13 +10,13 @@ ghost use Rattle.command_line.specs.Table.{admit_command, apply_command, delta_c
 ghost use Rattle.command_line.specs.Table.{index_command, list_command, merge_command, migrate_command, name_command};
 ghost use Rattle.command_line.specs.Table.{new_command};
 ghost use Rattle.command_line.specs.Table.{rehearse_command, retire_command, summary_command, symbolicate_command};
-ghost use Rattle.plan_commands.specs.Plans.{Executes, Reports, answer_of, key_of, only_reports, plan_view, replaces_of};
+ghost use Rattle.plan_commands.specs.Plans.{Executes, Notes, Reports, answer_of, key_of, only_reports, plan_view, replaces_of};
 
 use archive_core::{ArchKey, Archive, Digest, SliceKey};
 use archive_files::Replaces;
 use archive_queries::{run_find, run_frames, run_list, run_name, run_symbolicate};
 use archive_updates::{
-    run_admit, run_apply, run_delta, run_merge, run_migrate, run_new, run_retire, run_summary,
+    Note, run_admit, run_apply, run_delta, run_merge, run_migrate, run_new, run_retire, run_summary,
 };
 use byte_device::{CannotOpen, Sink, Source};
 use command_ends::{CommandFault, Output, Status, Target};
@@ -430,18 +430,21 @@ fn answer<A: Archive + Drop, L: Archive + Drop, S: Source, P: Sink>(
     }
 }
 
-/// Carries out a plan over its inputs, which stand in the order of the words.
+/// Carries out a plan over its inputs, which stand in the order of the words. What it notes is added to `notes`.
 pub fn execute<A: Archive + Drop, L: Archive + Drop, S: Source, T: Target, P: Sink>(
     heap: Heap,
     plan: &Plan,
     inputs: &mut [Input<S>],
+    notes: &mut Vec<Note, Heap>,
     out: &mut Output<T::Draft, T>,
     report: &mut P,
 ) -> Result<Status, CommandFault>
     requires { length inputs.old ≡ length (inputs_of (plan_view plan.now)) }
-    ensures { Executes plan.now (readers S.left S.failures inputs.old inputs.new)
+    ensures ends { Executes plan.now (readers S.left S.failures inputs.old inputs.new)
         (outs T.Draft.held T.Draft.failures T.placed T.failures out.old out.new)
         (writer P.held P.failures report.old report.new) result }
+    ensures noted { OnOk result (Notes plan.now (readers S.left S.failures inputs.old inputs.new)
+        notes.old.items notes.new.items) }
 {
     if let Plan::New { .. } = plan {
         return run_new::<A, _, _>(heap, out, report);
@@ -451,13 +454,13 @@ pub fn execute<A: Archive + Drop, L: Archive + Drop, S: Source, T: Target, P: Si
     };
     match plan {
         Plan::New { .. } => unreachable!(),
-        Plan::Admit { .. } => run_admit(heap, first, others, out, report),
+        Plan::Admit { .. } => run_admit(heap, first, others, notes, out, report),
         Plan::Retire {
             uuid,
             arch,
             digest,
             ..
-        } => run_retire(heap, first, key(uuid, arch), *digest, out, report),
+        } => run_retire(heap, first, key(uuid, arch), *digest, notes, out, report),
         Plan::Merge { .. } => run_merge::<A, _, _, _, _>(heap, first, others, out, report),
         Plan::Migrate { .. } => run_migrate(heap, first, out, report),
         Plan::Apply { .. } => match others {

@@ -1,22 +1,25 @@
 //! The program over its words, the files of the system, its report and standard error.
 
-ghost use Rattle.std.specs.Prelude.{◌≡◌, ◌≢◌, [], List, MatchResult, None, map, string_bytes, ℕ};
+ghost use Rattle.std.specs.Prelude.{◌≡◌, ◌≢◌, [], Err, List, MatchResult, None, Ok, map, string_bytes, ℕ};
 ghost use Rattle.std.specs.IoError.{error_kind};
 ghost use Rattle.std.specs.Io.KnownBytes.{Appends};
 ghost use Rattle.command_ends.specs.Outputs.{Takes, writer};
+ghost use Rattle.archive_files.specs.AtTurns.{told_by};
 ghost use Rattle.archive_files.specs.Fresh.{AreFresh};
 ghost use Rattle.plan_commands.specs.Files.{calls_of};
 ghost use Rattle.command_ends.specs.Statuses.{status_of};
 ghost use Rattle.plan_commands.specs.Ends.{EndsLine, EndsWords, IsIdle, IsUnreadable, WantsMemory};
-ghost use Rattle.plan_commands.specs.Said.{SaysEnd, SaysFailure, behind_error, reason_in, without_line_feed};
+ghost use Rattle.plan_commands.specs.Said.{SaysFailure, SaysNotes, behind_error, reason_in, without_line_feed};
 
 use crate::files::execute;
 use crate::hints::{Seen, help_with};
-use crate::said::{FailureLine, RefusedLine, say, say_more, say_wanting};
+use crate::said::{FailureLine, RefusedLine, say, say_more, say_notes, say_wanting};
 use archive_files::{OpenedFile, OutFile, OutPath, SystemDisk, SystemFiles};
+use archive_updates::Note;
 use byte_device::{Disk, Sink, Source, push_all};
 use command_ends::{Failure, Status, Target, status_of};
 use command_line::{Line, LineFault, read_line};
+use memory::Heap;
 use std::alloc::Global;
 use std::fmt::{self, Display, Write};
 use std::io::{self, BufReader, ErrorKind};
@@ -32,7 +35,8 @@ const BAD_LINE: u8 = 3;
 const OUT_OF_MEMORY: u8 = 4;
 
 /// Carries out what the words of the command line ask for over these files, and gives the exit status. The report, help
-/// and the version go to `report`; why it failed goes to `errors`, in one line, and what helps a person in a second one.
+/// and the version go to `report`; what it notes goes to `errors`, a line each, or why it failed, in one line, and what
+/// helps a person in a second one.
 pub fn run<'f, F: Files, P: Sink, E: Sink>(
     words: io::Result<Vec<String>>,
     files: &mut SystemFiles<'f, F>,
@@ -40,8 +44,8 @@ pub fn run<'f, F: Files, P: Sink, E: Sink>(
     errors: &mut E,
 ) -> u8
     requires { AreFresh files.old }
-    ensures { let calls = calls_of ⟦<OpenedFile<BufReader<F::File>> as Source>⟧.left
-        ⟦<OpenedFile<BufReader<F::File>> as Source>⟧.failures ⟦<SystemDisk<'f, F> as Disk>⟧.path_of
+    ensures { let calls = calls_of
+        (told_by ⟦<SystemDisk<'f, F> as Disk>⟧ ⟦<OpenedFile<BufReader<F::File>> as Source>⟧)
         ⟦<OutFile<'f, F> as Sink>⟧.held
         ⟦<OutFile<'f, F> as Sink>⟧.failures ⟦<OutPath<'f, F> as Target>⟧.placed
         ⟦<OutPath<'f, F> as Target>⟧.failures files.old files.new in
@@ -54,7 +58,7 @@ pub fn run<'f, F: Files, P: Sink, E: Sink>(
 {
     match words {
         Ok(words) => run_words(&words, files, report, errors),
-        Err(error) => refuse_words(files.disk.alloc(), &error, report, errors),
+        Err(error) => refuse_words(files.alloc(), &error, report, errors),
     }
 }
 
@@ -65,15 +69,15 @@ fn run_words<'f, F: Files, P: Sink, E: Sink>(
     errors: &mut E,
 ) -> u8
     requires { AreFresh files.old }
-    ensures { let calls = calls_of ⟦<OpenedFile<BufReader<F::File>> as Source>⟧.left
-        ⟦<OpenedFile<BufReader<F::File>> as Source>⟧.failures ⟦<SystemDisk<'f, F> as Disk>⟧.path_of
+    ensures { let calls = calls_of
+        (told_by ⟦<SystemDisk<'f, F> as Disk>⟧ ⟦<OpenedFile<BufReader<F::File>> as Source>⟧)
         ⟦<OutFile<'f, F> as Sink>⟧.held
         ⟦<OutFile<'f, F> as Sink>⟧.failures ⟦<OutPath<'f, F> as Target>⟧.placed
         ⟦<OutPath<'f, F> as Target>⟧.failures files.old files.new in
         EndsWords calls (map string_bytes words.now) (writer P.held P.failures report.old report.new)
         (writer E.held E.failures errors.old errors.new) result }
 {
-    let alloc = files.disk.alloc();
+    let alloc = files.alloc();
     match read_line(alloc, words) {
         Ok(line) => {
             let mut seen = Seen::NOTHING;
@@ -84,21 +88,31 @@ fn run_words<'f, F: Files, P: Sink, E: Sink>(
     }
 }
 
-/// Ends as a line did, of which why it failed is said.
+/// Ends as a line did, of which the notes are said, or why it failed.
 fn end<E: Sink>(
     alloc: Global,
     line: &Line,
-    ended: Result<Status, Failure>,
+    ended: Result<(Status, Vec<Note, Heap>), Failure>,
     seen: Seen,
     errors: &mut E,
 ) -> u8
-    ensures says { SaysEnd (writer E.held E.failures errors.old errors.new) ended }
-    ensures status { result ≡ status_of ended }
+    ensures says { MatchResult ended
+        (λ both. SaysNotes (writer E.held E.failures errors.old errors.new) both.1.items)
+        (λ failure. SaysFailure (writer E.held E.failures errors.old errors.new) failure) }
+    ensures status { MatchResult ended
+        (λ both. result ≡ status_of (Ok both.0))
+        (λ failure. result ≡ status_of (Err failure)) }
 {
-    if let Err(failure) = ended {
-        say_failure(alloc, line, failure, seen, errors);
+    match ended {
+        Ok((status, notes)) => {
+            say_notes(alloc, &notes, errors);
+            status_of(&Ok(status))
+        }
+        Err(failure) => {
+            say_failure(alloc, line, failure, seen, errors);
+            status_of(&Err(failure))
+        }
     }
-    status_of(&ended)
 }
 
 /// Says why a line failed, and after it what helps a person.

@@ -4,8 +4,9 @@ ghost use Rattle.std.specs.Prelude.{◌≡◌, IfOk, IfSome, List, string_bytes,
 ghost use Rattle.std.specs.Io.KnownBytes.{Appends};
 ghost use Rattle.command_ends.specs.Outputs.{writer};
 ghost use Rattle.report_text.specs.Report.{line};
-ghost use Rattle.plan_commands.specs.Said.{IsPushed, IsSaid, SaysWanting};
+ghost use Rattle.plan_commands.specs.Said.{IsPushed, IsSaid, SaysNotes, SaysWanting, note_lines};
 
+use archive_updates::Note;
 use byte_device::{Sink, push_all};
 use command_ends::Failure;
 use memory::NoMemory;
@@ -94,5 +95,25 @@ pub fn say_more<E: Sink, T: Display>(alloc: Global, told: &T, errors: &mut E)
 {
     if let Ok(whole) = line_of(alloc, told) {
         push_whole(errors, whole.as_bytes());
+    }
+}
+
+/// The lines of the notes.
+fn lines_of(alloc: Global, notes: &[Note]) -> Result<String, NoMemory>
+    ensures { IfOk result (λ lines. string_bytes lines ≡ note_lines notes.now) }
+{
+    let mut lines = String::new(alloc);
+    'notes: for note in notes {
+        writeln!(lines, "{note}")?;
+    }
+    Ok(lines)
+}
+
+/// Says the notes, a line each, where there is memory for them.
+pub fn say_notes<E: Sink>(alloc: Global, notes: &[Note], errors: &mut E)
+    ensures { SaysNotes (writer E.held E.failures errors.old errors.new) notes.now }
+{
+    if let Ok(lines) = lines_of(alloc, notes) {
+        push_whole(errors, lines.as_bytes());
     }
 }

@@ -9,7 +9,7 @@ pub mod Unread
 pub mod Merges
 pub mod Gained
 pub mod Tells
-pub mod Told
+pub mod Tellings
 pub mod TextPieces
 pub mod Lost
 pub mod Rises

@@ -1,26 +1,40 @@
 -- What is lost is what was told as new.
-use Rattle.std.proofs.Common.{◌≡◌, ℕ, ◌+◌, Bool, List, map, count_by, ap, ◌∙◌, subst, cond}
+use Rattle.std.proofs.Common.{◌≡◌, ℕ, ◌+◌, ◌||◌, Bool, true, false, not, List, map, count_by, refl, ap, ◌∙◌, subst, cond}
 use Rattle.std.proofs.lemmas.List.Folds.{fold-map}
+use Rattle.std.specs.FinSet as set
 use Rattle.join_core.specs.Listing.{listing}
 use Rattle.byte_device.specs.Devices.{Stream}
-use Rattle.archive_core.specs.Content.{changes}
+use Rattle.archive_core.specs.Content.{Operations, changes, is_covered}
 use Rattle.archive_records.specs.declared.kind.TextKind.TheVariants.{Archive as Archive_text}
 use Rattle.archive_records.specs.declared.writing.Sizes.{Sizes}
 use Rattle.archive_records.specs.Reading.{IsReadWhole}
+use Rattle.record_merge.specs.declared.turns.Turn.{Turn}
 use Rattle.record_merge.specs.Losses.{Loses}
 use Rattle.record_merge.specs.Telling.{IsMergedTelling}
+use Rattle.record_merge.specs.Turns.{is_new, turn_by, turn_of}
 
-count_of_map : {X : Type 0} (p : X → Bool) (xs : List X) → count_by (λ b. b) (map p xs) ≡ count_by p xs
-count_of_map p xs = fold-map (λ n b. n + cond b 1 0) p 0 xs
+-- a record is new where it changes the content
+pub new_changes : (o : Operations) (r : List ℕ) → is_new (turn_of o r) ≡ changes o r
+unfolding turn_of changes
+new_changes o r = by_cases (set.contains o r) (is_covered o r)
+  where
+    by_cases : (has covered : Bool) → is_new (turn_by covered has) ≡ not (has || covered)
+    by_cases true true = refl
+    by_cases true false = refl
+    by_cases false true = refl
+    by_cases false false = refl
 
-pub loses : {R S W : Type 0} (new : Stream R) (old : Stream S) (out : Stream W) (sizes : Sizes) (told : List Bool) (n : ℕ)
-    → IsMergedTelling new old out sizes told → n ≡ count_by (λ b. b) told → Loses new old n
-loses new old out sizes told n t count = record {
+pub count_new : (o : Operations) (rs : List (List ℕ)) → count_by is_new (map (turn_of o) rs) ≡ count_by (changes o) rs
+count_new o rs = fold-map (λ n t. n + cond (is_new t) 1 0) (turn_of o) 0 rs ∙ (λ i. count_by (λ r. new_changes o r i) rs)
+
+pub loses : {R S W : Type 0} (new : Stream R) (old : Stream S) (out : Stream W) (sizes : Sizes) (turns : List Turn) (withdraws : Bool) (n : ℕ)
+    → IsMergedTelling new old out sizes turns withdraws → n ≡ count_by is_new turns → Loses new old n
+loses new old out sizes turns withdraws n t count = record {
   content = t.merged.o;
   operations = t.operations;
   new_is = t.merged.left_is;
   old_is = subst (λ o. IsReadWhole Archive_text o old.bytes old.failures old.old old.new) t.makes t.merged.right_is;
   are = t.are;
   old_has = t.right_is;
-  lost_is = count ∙ ap (count_by (λ b. b)) t.told_is ∙ count_of_map (changes t.merged.o) (listing t.operations);
+  lost_is = count ∙ ap (count_by is_new) t.turns_are ∙ count_new t.merged.o (listing t.operations);
 }

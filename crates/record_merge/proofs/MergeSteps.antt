@@ -88,7 +88,7 @@ pub held_record : (a b : Option (List ℕ)) (done : List (List ℕ)) (low : List
 held_record a b done low s p held = last_is_record [] done s.reader.last (in_order_of s.reader.file p.archive [] (done ++ s.reader.last ∷ []) (p.held held).0.ordered)
 
 -- whether its own retirements cover it
-held_dropped : (a b : Option (List ℕ)) (done : List (List ℕ)) (low : List ℕ) (s : MergeInput) → Stands a b done low s → s.ahead ≡ Held → s.reader.dropped ≡ is_covered (set_of done) s.reader.last
+pub held_dropped : (a b : Option (List ℕ)) (done : List (List ℕ)) (low : List ℕ) (s : MergeInput) → Stands a b done low s → s.ahead ≡ Held → s.reader.dropped ≡ is_covered (set_of done) s.reader.last
 held_dropped a b done low s p held = dropped_own s.reader.file p.archive s.reader.dropped done s.reader.last (p.held held).0.dropped_is
 
 -- ---- both sides, once the record x is behind the others

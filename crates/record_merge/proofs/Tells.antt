@@ -1,17 +1,18 @@
--- What a merge tells of the records of its right side that had their turn.
+-- What a merge tells of the records of its sides that had their turn.
 use Rattle.std.proofs.Common.{◌≡◌, ◌≢◌, ℕ, ◌+◌, ◌^◌, ◌<◌, Bool, true, false, not, ◌||◌, ◌&&◌, List, [], ◌∷◌, ◌++◌, length, map, Option, Result, Ok, Err, refl, sym, ap, ◌∙◌, subst, arith, inl, inr, lit≤, append_assoc, length-append}
 use Rattle.std.proofs.lemmas.List.{append-nil, map-append}
 use Rattle.std.proofs.lemmas.List.Elements.{Contains-push}
 use Rattle.std.proofs.lemmas.Bool.{false≢true, cases_Bool}
+use Rattle.std.proofs.lemmas.List.Folds.{list_any-append}
 use Rattle.std.specs.Prelude.{MatchResult, OnOk}
 use Rattle.std.specs.declared.cmp.Ordering.{Ordering}
 use Rattle.std.specs.declared.cmp.Ordering.TheVariants.{Less, Equal, Greater}
 use Rattle.std.specs.FinSet.{contains}
-use Rattle.std.specs.List.{concat, Contains}
+use Rattle.std.specs.List.{concat, list_any, Contains}
 use Rattle.std.specs.Io.KnownBytes.{Appends, Consumes}
 use Rattle.byte_device.specs.declared.writing.WriteFault.{WriteFault}
 use Rattle.byte_device.proofs.Known.{Appends-then}
-use Rattle.archive_core.specs.Content.{changes, covering, is_admission, is_covered}
+use Rattle.archive_core.specs.Content.{covering, is_admission, is_covered}
 use Rattle.archive_records.specs.declared.fault.MergeCause.TheVariants.{Right}
 use Rattle.archive_records.specs.declared.fault.MergeFault.{MergeFault}
 use Rattle.archive_records.specs.declared.fault.RecordFault.{RecordFault}
@@ -25,33 +26,43 @@ use Rattle.archive_records.specs.Front.{front_length}
 use Rattle.archive_records.specs.Kind.{magic, magic_of, kind_of, may_follow}
 use Rattle.archive_records.specs.Reader.{set_of, HasRead, Stopped}
 use Rattle.archive_records.specs.Text.{end_record, kept, last_of, text_of}
-use Rattle.archive_records.proofs.Apart.{in_set, from_set, is_false, covering_below, contains-push}
-use Rattle.archive_records.proofs.Ascending.{below-greater, below-trans, up_to_last, here, later}
+use Rattle.archive_records.proofs.Apart.{in_set, from_set, is_false, covering_below, contains-push, covered_push}
+use Rattle.archive_records.proofs.Ascending.{below-greater, below-less, below-trans, up_to_last, here, later}
 use Rattle.archive_records.proofs.Ends.{length-end_record}
 use Rattle.archive_records.proofs.Framed.{framed-empty}
 use Rattle.archive_records.proofs.KeptRecords.{long_record}
+use Rattle.archive_records.proofs.Puts.{bytes_same}
 use Rattle.archive_records.proofs.Undecided.{cut_off}
 use Rattle.record_merge.specs.declared.merging.Merge.{Merge}
 use Rattle.record_merge.specs.declared.side.Lookahead.TheVariants.{Unread, Held, Ended}
 use Rattle.record_merge.specs.declared.side.MergeInput.{MergeInput}
-use Rattle.record_merge.specs.MergeSteps.{HasStoppedMerge, IsRecordWritten, Joins, Merging, Stands, TellsCovered, first_of, memory_behind}
-use Rattle.record_merge.specs.TellingSteps.{Telling, TellsNewBy, TellsNext, ToldAll, told_with}
+use Rattle.record_merge.specs.declared.turns.Turn.{Turn}
+use Rattle.record_merge.specs.MergeSteps.{HasStoppedMerge, IsRecordWritten, Joins, Merging, Stands, TellsBy, TellsCovered, first_of, memory_behind}
+use Rattle.record_merge.specs.TellingSteps.{Telling, TellsNextBy, TellsNext, ToldAll, has_next, has_next_by, is_withdrawn, told_with}
+use Rattle.record_merge.specs.Turns.{turn_by, turn_of}
 use Rattle.record_merge.proofs.Covered.{covered_by, not_same}
-use Rattle.record_merge.proofs.MergeSteps.{first_less, first_equal, first_greater, held_record, unread_of, next_left, next_both, next_right, less_covered, both_covered, greater_covered, passed, pass_left, pass_both, pass_right, wrote}
+use Rattle.record_merge.proofs.MergeSteps.{first_less, first_equal, first_greater, held_dropped, held_record, unread_of, next_left, next_both, next_right, less_covered, both_covered, greater_covered, passed, pass_left, pass_both, pass_right, wrote}
 use Rattle.record_merge.proofs.Starts.{left_read, right_read, right_stopped, merging_start}
 
 -- ---- lists of answers
 
-pub same_answers : (f g : List ℕ → Bool) (xs : List (List ℕ)) → ((r : List ℕ) → Contains xs r → f r ≡ g r) → map f xs ≡ map g xs
+pub same_answers : {A : Type 0} (f g : List ℕ → A) (xs : List (List ℕ)) → ((r : List ℕ) → Contains xs r → f r ≡ g r) → map f xs ≡ map g xs
 same_answers f g [] same = refl
 same_answers f g (x ∷ xs) same =
     let first : f x ≡ g x = same x (here x xs) in
     let rest : map f xs ≡ map g xs = same_answers f g xs (λ r c. same r (later x r xs c)) in
     λ i. first i ∷ rest i
 
--- ---- one record more of the left side, x, above all that had their turn
+same_tests : (f g : List ℕ → Bool) (xs : List (List ℕ)) → ((r : List ℕ) → Contains xs r → f r ≡ g r) → list_any f xs ≡ list_any g xs
+same_tests f g [] same = refl
+same_tests f g (x ∷ xs) same =
+    let first : f x ≡ g x = same x (here x xs) in
+    let rest : list_any f xs ≡ list_any g xs = same_tests f g xs (λ r c. same r (later x r xs c)) in
+    λ i. first i || rest i
 
-module _ (out lefts rights : List (List ℕ)) (x : List ℕ) (j : Joins out lefts rights) (above : may_follow Archive (last_of [] out) x ≡ true) where
+-- ---- one record more, x, above all that had their turn
+
+module _ (out : List (List ℕ)) (x : List ℕ) (above : may_follow Archive (last_of [] out) x ≡ true) where
   -- none that had its turn is that record
   other : (r : List ℕ) → may_follow Archive (last_of [] out) r ≡ false → x ≡ r → ⊥
   other r under same = false≢true (sym under ∙ subst (λ (y : List ℕ). may_follow Archive (last_of [] out) y ≡ true) same above)
@@ -62,129 +73,221 @@ module _ (out lefts rights : List (List ℕ)) (x : List ℕ) (j : Joins out left
       let below : may_follow Archive (last_of [] out) (covering r) ≡ true = subst (λ (y : List ℕ). may_follow Archive (last_of [] out) y ≡ true) same above in
       false≢true (sym under ∙ below-trans (last_of [] out) (covering r) r below (covering_below r admission))
 
-  covered_as : (r : List ℕ) → may_follow Archive (last_of [] out) r ≡ false → is_covered (set_of (lefts ++ x ∷ [])) r ≡ is_covered (set_of lefts) r
-  covered_as r under = elim (cases_Bool (is_admission r)) [
-    | inl t ↦ ap (λ c. is_admission r && c) (contains-push lefts x (covering r) ∙ ap (λ b. b || contains (set_of lefts) (covering r)) (not_same (covering r) x (uncovered r under t)))
-    | inr f ↦ ap (λ c. c && contains (set_of (lefts ++ x ∷ [])) (covering r)) f ∙ sym (ap (λ c. c && contains (set_of lefts) (covering r)) f)
+  covered_as : (mine : List (List ℕ)) (r : List ℕ) → may_follow Archive (last_of [] out) r ≡ false → is_covered (set_of (mine ++ x ∷ [])) r ≡ is_covered (set_of mine) r
+  covered_as mine r under = elim (cases_Bool (is_admission r)) [
+    | inl t ↦ ap (λ c. is_admission r && c) (contains-push mine x (covering r) ∙ ap (λ b. b || contains (set_of mine) (covering r)) (not_same (covering r) x (uncovered r under t)))
+    | inr f ↦ ap (λ c. c && contains (set_of (mine ++ x ∷ [])) (covering r)) f ∙ sym (ap (λ c. c && contains (set_of mine) (covering r)) f)
   ]
 
-  changes_as : (r : List ℕ) → may_follow Archive (last_of [] out) r ≡ false → changes (set_of (lefts ++ x ∷ [])) r ≡ changes (set_of lefts) r
-  unfolding changes
-  changes_as r under =
-      let has : contains (set_of (lefts ++ x ∷ [])) r ≡ contains (set_of lefts) r = contains-push lefts x r ∙ ap (λ b. b || contains (set_of lefts) r) (not_same r x (other r under)) in
-      let covers : is_covered (set_of (lefts ++ x ∷ [])) r ≡ is_covered (set_of lefts) r = covered_as r under in
-      λ i. not (has i || covers i)
+module _ (out lefts rights : List (List ℕ)) (x : List ℕ) (j : Joins out lefts rights) (above : may_follow Archive (last_of [] out) x ≡ true) where
+  -- of the left side: what was told stays
+  turn_as : (r : List ℕ) → may_follow Archive (last_of [] out) r ≡ false → turn_of (set_of (lefts ++ x ∷ [])) r ≡ turn_of (set_of lefts) r
+  unfolding turn_of
+  turn_as r under =
+      let has : contains (set_of (lefts ++ x ∷ [])) r ≡ contains (set_of lefts) r = contains-push lefts x r ∙ ap (λ b. b || contains (set_of lefts) r) (not_same r x (other out x above r under)) in
+      let covers : is_covered (set_of (lefts ++ x ∷ [])) r ≡ is_covered (set_of lefts) r = covered_as out x above lefts r under in
+      λ i. turn_by (covers i) (has i)
 
-  -- so what was told stays
-  told_still : map (changes (set_of (lefts ++ x ∷ []))) rights ≡ map (changes (set_of lefts)) rights
-  told_still = same_answers (changes (set_of (lefts ++ x ∷ []))) (changes (set_of lefts)) rights (λ r c. changes_as r (up_to_last [] r out j.ordered (j.right r c)))
+  told_still : map (turn_of (set_of (lefts ++ x ∷ []))) rights ≡ map (turn_of (set_of lefts)) rights
+  told_still = same_answers (turn_of (set_of (lefts ++ x ∷ []))) (turn_of (set_of lefts)) rights (λ r c. turn_as r (up_to_last [] r out j.ordered (j.right r c)))
 
-  -- it is not new there
-  not_new : changes (set_of (lefts ++ x ∷ [])) x ≡ false
-  unfolding changes
-  not_new = ap (λ b. not (b || is_covered (set_of (lefts ++ x ∷ [])) x)) (in_set (lefts ++ x ∷ []) x (Contains-push lefts x))
+  -- it is there, or covered
+  turn_there : turn_of (set_of (lefts ++ x ∷ [])) x ≡ turn_by (is_covered (set_of lefts) x) true
+  unfolding turn_of
+  turn_there =
+      let has : contains (set_of (lefts ++ x ∷ [])) x ≡ true = in_set (lefts ++ x ∷ []) x (Contains-push lefts x) in
+      let covers : is_covered (set_of (lefts ++ x ∷ [])) x ≡ is_covered (set_of lefts) x = covered_push lefts x in
+      λ i. turn_by (covers i) (has i)
 
-  -- where the right side alone has it, it is, unless it is covered
-  new_alone : changes (set_of lefts) x ≡ not (is_covered (set_of lefts) x)
-  unfolding changes
-  new_alone = ap (λ b. not (b || is_covered (set_of lefts) x)) (is_false (contains (set_of lefts) x) (λ has. other x (up_to_last [] x out j.ordered (j.left x (from_set lefts x has))) refl))
+  -- of the right side alone: it is new, or covered
+  turn_alone : turn_of (set_of lefts) x ≡ turn_by (is_covered (set_of lefts) x) false
+  unfolding turn_of
+  turn_alone = ap (turn_by (is_covered (set_of lefts) x)) (is_false (contains (set_of lefts) x) (λ has. other out x above x (up_to_last [] x out j.ordered (j.left x (from_set lefts x has))) refl))
+
+  -- what is retired of the left side stays
+  abbrev withdrawn : Bool
+  withdrawn = list_any (is_withdrawn (set_of lefts) (set_of rights)) lefts
+
+  withdrawn_left : list_any (is_withdrawn (set_of (lefts ++ x ∷ [])) (set_of rights)) lefts ≡ withdrawn
+  withdrawn_left = same_tests (is_withdrawn (set_of (lefts ++ x ∷ [])) (set_of rights)) (is_withdrawn (set_of lefts) (set_of rights)) lefts
+      (λ r c. ap (λ b. is_covered (set_of rights) r && not b) (covered_as out x above lefts r (up_to_last [] r out j.ordered (j.left r c))))
+
+  withdrawn_right : list_any (is_withdrawn (set_of lefts) (set_of (rights ++ x ∷ []))) lefts ≡ withdrawn
+  withdrawn_right = same_tests (is_withdrawn (set_of lefts) (set_of (rights ++ x ∷ []))) (is_withdrawn (set_of lefts) (set_of rights)) lefts
+      (λ r c. ap (λ b. b && not (is_covered (set_of lefts) r)) (covered_as out x above rights r (up_to_last [] r out j.ordered (j.left r c))))
+
+  withdrawn_both : list_any (is_withdrawn (set_of (lefts ++ x ∷ [])) (set_of (rights ++ x ∷ []))) lefts ≡ withdrawn
+  withdrawn_both = same_tests (is_withdrawn (set_of (lefts ++ x ∷ [])) (set_of (rights ++ x ∷ []))) (is_withdrawn (set_of lefts) (set_of rights)) lefts
+      (λ r c. let under : may_follow Archive (last_of [] out) r ≡ false = up_to_last [] r out j.ordered (j.left r c) in
+      let mine : is_covered (set_of (lefts ++ x ∷ [])) r ≡ is_covered (set_of lefts) r = covered_as out x above lefts r under in
+      let others : is_covered (set_of (rights ++ x ∷ [])) r ≡ is_covered (set_of rights) r = covered_as out x above rights r under in
+      λ i. others i && not (mine i))
+
+-- one record more of the left side, that its own retirements cover or not (d), and the other side's (c)
+withdraws_more : (d c w : Bool) → (((d || c) && not d) || w) ≡ (w || ((c && not d) || false))
+withdraws_more true true true = refl
+withdraws_more true true false = refl
+withdraws_more true false true = refl
+withdraws_more true false false = refl
+withdraws_more false true true = refl
+withdraws_more false true false = refl
+withdraws_more false false true = refl
+withdraws_more false false false = refl
+
+withdraws_same : (passed w : Bool) → ((passed && false) || w) ≡ w
+withdraws_same true w = refl
+withdraws_same false w = refl
 
 -- ---- a turn
 
-module _ (a1 b1 a2 b2 w0 w1 w2 : Option (List ℕ)) (m : Merge) (told : List Bool) (is_new : Option Bool) (t : Telling a1 b1 a2 b2 w0 w1 m told) (tells : TellsNext m is_new) where
+module _ (a1 b1 a2 b2 w0 w1 w2 : Option (List ℕ)) (m : Merge) (told : List Turn) (withdraws : Bool) (turn : Option Turn) (t : Telling a1 b1 a2 b2 w0 w1 m told withdraws) (tells : TellsNext m turn) where
   abbrev p : Merging a1 b1 a2 b2 w0 w1 m
   p = t.merging
 
-  abbrev Told : List (List ℕ) → List (List ℕ) → Type 0
-  Told lefts rights = told_with told is_new ≡ map (changes (set_of lefts)) rights
+  abbrev Turns : List (List ℕ) → List (List ℕ) → Type 0
+  Turns lefts rights = told_with told turn ≡ map (turn_of (set_of lefts)) rights
 
-  tells_by : (o : Ordering) → first_of m.left m.right ≡ o → TellsNewBy o m.left m.right is_new
-  tells_by o first = subst (λ (q : Ordering). TellsNewBy q m.left m.right is_new) first tells
+  abbrev Withdraws : Bool → List (List ℕ) → List (List ℕ) → Type 0
+  Withdraws passed lefts rights = ((passed && has_next m) || withdraws) ≡ list_any (is_withdrawn (set_of lefts) (set_of rights)) lefts
 
-  told_left : first_of m.left m.right ≡ Less → Told (p.lefts ++ m.left.reader.last ∷ []) p.rights
+  tells_by : (o : Ordering) → first_of m.left m.right ≡ o → TellsNextBy o m.left m.right turn
+  tells_by o first = subst (λ (q : Ordering). TellsNextBy q m.left m.right turn) first tells
+
+  told_left : first_of m.left m.right ≡ Less → Turns (p.lefts ++ m.left.reader.last ∷ []) p.rights
   told_left first =
       let f = first_less m.left.ahead m.right.ahead _ first in
-      ap (told_with told) (tells_by Less first) ∙ t.told_is ∙ sym (told_still p.out p.lefts p.rights m.left.reader.last p.joins (p.left.held f.0).1)
+      ap (told_with told) (tells_by Less first) ∙ t.turns_are ∙ sym (told_still p.out p.lefts p.rights m.left.reader.last p.joins (p.left.held f.0).1)
 
-  told_both : first_of m.left m.right ≡ Equal → Told (p.lefts ++ m.left.reader.last ∷ []) (p.rights ++ m.left.reader.last ∷ [])
+  told_both : first_of m.left m.right ≡ Equal → Turns (p.lefts ++ m.left.reader.last ∷ []) (p.rights ++ m.left.reader.last ∷ [])
   told_both first =
       let x = m.left.reader.last in
       let f = first_equal m.left.ahead m.right.ahead _ first in
       let above = (p.left.held f.0).1 in
-      let before : told ≡ map (changes (set_of (p.lefts ++ x ∷ []))) p.rights = t.told_is ∙ sym (told_still p.out p.lefts p.rights x p.joins above) in
-      let here : false ≡ changes (set_of (p.lefts ++ x ∷ [])) x = sym (not_new p.out p.lefts p.rights x p.joins above) in
-      ap (told_with told) (tells_by Equal first) ∙ (λ i. before i ++ here i ∷ []) ∙ sym (map-append (changes (set_of (p.lefts ++ x ∷ []))) p.rights (x ∷ []))
+      let own : m.left.reader.dropped ≡ is_covered (set_of p.lefts) x = held_dropped a1 b1 p.lefts (last_of [] p.out) m.left p.left f.0 in
+      let before : told ≡ map (turn_of (set_of (p.lefts ++ x ∷ []))) p.rights = t.turns_are ∙ sym (told_still p.out p.lefts p.rights x p.joins above) in
+      let here : turn_by m.left.reader.dropped true ≡ turn_of (set_of (p.lefts ++ x ∷ [])) x = ap (λ b. turn_by b true) own ∙ sym (turn_there p.out p.lefts p.rights x p.joins above) in
+      ap (told_with told) (tells_by Equal first) ∙ (λ i. before i ++ here i ∷ []) ∙ sym (map-append (turn_of (set_of (p.lefts ++ x ∷ []))) p.rights (x ∷ []))
 
-  told_right : m.left.ahead ≢ Unread → (m.left.ahead ≡ Ended → m.right.ahead ≡ Held) → first_of m.left m.right ≡ Greater → Told p.lefts (p.rights ++ m.right.reader.last ∷ [])
+  told_right : m.left.ahead ≢ Unread → (m.left.ahead ≡ Ended → m.right.ahead ≡ Held) → first_of m.left m.right ≡ Greater → Turns p.lefts (p.rights ++ m.right.reader.last ∷ [])
   told_right read some first =
       let x = m.right.reader.last in
       let f = first_greater m.left.ahead m.right.ahead _ read some first in
       let above = (p.right.held f.0).1 in
       let long = long_record x (held_record a2 b2 p.rights (last_of [] p.out) m.right p.right f.0) in
       let covers : is_covered (set_of m.left.reader.retired) x ≡ is_covered (set_of p.lefts) x = covered_by a1 b1 p.lefts (last_of [] p.out) m.left x p.left read (λ held. below-greater _ _ (f.1 held)) in
-      let here : not (is_covered (set_of m.left.reader.retired) x) ≡ changes (set_of p.lefts) x = ap not covers ∙ sym (new_alone p.out p.lefts p.rights x p.joins above) in
-      ap (told_with told) (tells_by Greater first long) ∙ (λ i. t.told_is i ++ here i ∷ []) ∙ sym (map-append (changes (set_of p.lefts)) p.rights (x ∷ []))
+      let here : turn_by (is_covered (set_of m.left.reader.retired) x) false ≡ turn_of (set_of p.lefts) x = ap (λ b. turn_by b false) covers ∙ sym (turn_alone p.out p.lefts p.rights x p.joins above) in
+      ap (told_with told) (tells_by Greater first long) ∙ (λ i. t.turns_are i ++ here i ∷ []) ∙ sym (map-append (turn_of (set_of p.lefts)) p.rights (x ∷ []))
+
+  -- whether the record that is passed over or written is one that the right side retires
+  module _ (passed : Bool) (covers : TellsCovered m.left m.right passed) where
+    covers_by : (o : Ordering) → first_of m.left m.right ≡ o → TellsBy o m.left m.right passed
+    covers_by o first = subst (λ (q : Ordering). TellsBy q m.left m.right passed) first covers
+
+    withdraws_left : m.right.ahead ≢ Unread → first_of m.left m.right ≡ Less → Withdraws passed (p.lefts ++ m.left.reader.last ∷ []) p.rights
+    withdraws_left read first =
+        let x = m.left.reader.last in
+        let f = first_less m.left.ahead m.right.ahead _ first in
+        let above = (p.left.held f.0).1 in
+        let all = p.lefts ++ x ∷ [] in
+        let test = is_withdrawn (set_of all) (set_of p.rights) in
+        let d = m.left.reader.dropped in
+        let c = is_covered (set_of m.right.reader.retired) x in
+        let is : passed ≡ (d || c) = covers_by Less first (long_record x (held_record a1 b1 p.lefts (last_of [] p.out) m.left p.left f.0)) in
+        let next : has_next m ≡ not d = ap (λ (o : Ordering). has_next_by o m.left) first in
+        let own : d ≡ is_covered (set_of all) x = held_dropped a1 b1 p.lefts (last_of [] p.out) m.left p.left f.0 ∙ sym (covered_push p.lefts x) in
+        let others : c ≡ is_covered (set_of p.rights) x = covered_by a2 b2 p.rights (last_of [] p.out) m.right x p.right read (λ held. below-less _ _ (f.1 held)) in
+        let before : withdraws ≡ list_any test p.lefts = t.withdraws_is ∙ sym (withdrawn_left p.out p.lefts p.rights x p.joins above) in
+        (λ i. (is i && next i) || withdraws) ∙ withdraws_more d c withdraws ∙ (λ i. before i || ((others i && not (own i)) || false)) ∙ sym (list_any-append test p.lefts (x ∷ []))
+
+    withdraws_both : first_of m.left m.right ≡ Equal → Withdraws passed (p.lefts ++ m.left.reader.last ∷ []) (p.rights ++ m.left.reader.last ∷ [])
+    withdraws_both first =
+        let x = m.left.reader.last in
+        let f = first_equal m.left.ahead m.right.ahead _ first in
+        let above = (p.left.held f.0).1 in
+        let all = p.lefts ++ x ∷ [] in
+        let ours = p.rights ++ x ∷ [] in
+        let test = is_withdrawn (set_of all) (set_of ours) in
+        let d = m.left.reader.dropped in
+        let c = m.right.reader.dropped in
+        let is : passed ≡ (d || c) = covers_by Equal first in
+        let next : has_next m ≡ not d = ap (λ (o : Ordering). has_next_by o m.left) first in
+        let own : d ≡ is_covered (set_of all) x = held_dropped a1 b1 p.lefts (last_of [] p.out) m.left p.left f.0 ∙ sym (covered_push p.lefts x) in
+        let same : m.right.reader.last ≡ x = sym (bytes_same _ _ f.2) in
+        let others : c ≡ is_covered (set_of ours) x = held_dropped a2 b2 p.rights (last_of [] p.out) m.right p.right f.1 ∙ ap (λ (r : List ℕ). is_covered (set_of p.rights) r) same ∙ sym (covered_push p.rights x) in
+        let before : withdraws ≡ list_any test p.lefts = t.withdraws_is ∙ sym (withdrawn_both p.out p.lefts p.rights x p.joins above) in
+        (λ i. (is i && next i) || withdraws) ∙ withdraws_more d c withdraws ∙ (λ i. before i || ((others i && not (own i)) || false)) ∙ sym (list_any-append test p.lefts (x ∷ []))
+
+    withdraws_right : m.left.ahead ≢ Unread → (m.left.ahead ≡ Ended → m.right.ahead ≡ Held) → first_of m.left m.right ≡ Greater → Withdraws passed p.lefts (p.rights ++ m.right.reader.last ∷ [])
+    withdraws_right read some first =
+        let x = m.right.reader.last in
+        let f = first_greater m.left.ahead m.right.ahead _ read some first in
+        let above = (p.right.held f.0).1 in
+        let next : has_next m ≡ false = ap (λ (o : Ordering). has_next_by o m.left) first in
+        (λ i. (passed && next i) || withdraws) ∙ withdraws_same passed withdraws ∙ t.withdraws_is ∙ sym (withdrawn_right p.out p.lefts p.rights x p.joins above)
 
   -- the record is passed over
-  pub tells_pass_left : m.right.ahead ≢ Unread → first_of m.left m.right ≡ Less → TellsCovered m.left m.right true → Telling a1 b1 a2 b2 w0 w1 (record { left = unread_of m.left; right = m.right; written = m.written }) (told_with told is_new)
+  pub tells_pass_left : m.right.ahead ≢ Unread → first_of m.left m.right ≡ Less → TellsCovered m.left m.right true → Telling a1 b1 a2 b2 w0 w1 (record { left = unread_of m.left; right = m.right; written = m.written }) (told_with told turn) (has_next m || withdraws)
   unfolding pass_left passed next_left
-  tells_pass_left read first covered = record { merging = pass_left a1 b1 a2 b2 w0 w1 w2 m p read first covered; told_is = told_left first }
+  tells_pass_left read first covered = record { merging = pass_left a1 b1 a2 b2 w0 w1 w2 m p read first covered; turns_are = told_left first; withdraws_is = withdraws_left true covered read first }
 
-  pub tells_pass_both : first_of m.left m.right ≡ Equal → TellsCovered m.left m.right true → Telling a1 b1 a2 b2 w0 w1 (record { left = unread_of m.left; right = unread_of m.right; written = m.written }) (told_with told is_new)
+  pub tells_pass_both : first_of m.left m.right ≡ Equal → TellsCovered m.left m.right true → Telling a1 b1 a2 b2 w0 w1 (record { left = unread_of m.left; right = unread_of m.right; written = m.written }) (told_with told turn) (has_next m || withdraws)
   unfolding pass_both passed next_both
-  tells_pass_both first covered = record { merging = pass_both a1 b1 a2 b2 w0 w1 w2 m p first covered; told_is = told_both first }
+  tells_pass_both first covered = record { merging = pass_both a1 b1 a2 b2 w0 w1 w2 m p first covered; turns_are = told_both first; withdraws_is = withdraws_both true covered first }
 
-  pub tells_pass_right : m.left.ahead ≢ Unread → (m.left.ahead ≡ Ended → m.right.ahead ≡ Held) → first_of m.left m.right ≡ Greater → TellsCovered m.left m.right true → Telling a1 b1 a2 b2 w0 w1 (record { left = m.left; right = unread_of m.right; written = m.written }) (told_with told is_new)
+  pub tells_pass_right : m.left.ahead ≢ Unread → (m.left.ahead ≡ Ended → m.right.ahead ≡ Held) → first_of m.left m.right ≡ Greater → TellsCovered m.left m.right true → Telling a1 b1 a2 b2 w0 w1 (record { left = m.left; right = unread_of m.right; written = m.written }) (told_with told turn) (has_next m || withdraws)
   unfolding pass_right passed next_right
-  tells_pass_right read some first covered = record { merging = pass_right a1 b1 a2 b2 w0 w1 w2 m p read some first covered; told_is = told_right read some first }
+  tells_pass_right read some first covered = record { merging = pass_right a1 b1 a2 b2 w0 w1 w2 m p read some first covered; turns_are = told_right read some first; withdraws_is = withdraws_right true covered read some first }
 
   -- or written
   module _ {X : Type 0} (written : Sizes) (side : MergeInput) where
     pub tells_left : (r : Result X WriteFault) → m.right.ahead ≢ Unread → first_of m.left m.right ≡ Less → TellsCovered m.left m.right false → OnOk r (IsRecordWritten w1 w2 m.written written m.left side)
-        → OnOk r (Telling a1 b1 a2 b2 w0 w2 (record { left = side; right = m.right; written = written }) (told_with told is_new))
+        → OnOk r (Telling a1 b1 a2 b2 w0 w2 (record { left = side; right = m.right; written = written }) (told_with told turn) withdraws)
     unfolding wrote next_left
-    tells_left (Ok x) read first free i = subst (λ (s : MergeInput). Telling a1 b1 a2 b2 w0 w2 (record { left = s; right = m.right; written = written }) (told_with told is_new)) (sym i.side) (record {
+    tells_left (Ok x) read first free i = subst (λ (s : MergeInput). Telling a1 b1 a2 b2 w0 w2 (record { left = s; right = m.right; written = written }) (told_with told turn) withdraws) (sym i.side) (record {
       merging = wrote a1 b1 a2 b2 w0 w1 w2 m p m.left.reader.last (unread_of m.left) m.right m.left side written refl (less_covered a1 b1 a2 b2 w0 w1 w2 m p read first false free) (next_left a1 b1 a2 b2 w0 w1 w2 m p read first) i;
-      told_is = told_left first;
+      turns_are = told_left first;
+      withdraws_is = withdraws_left false free read first;
     })
     tells_left (Err e) read first free i = tt
 
     pub tells_both : (r : Result X WriteFault) → first_of m.left m.right ≡ Equal → TellsCovered m.left m.right false → OnOk r (IsRecordWritten w1 w2 m.written written m.left side)
-        → OnOk r (Telling a1 b1 a2 b2 w0 w2 (record { left = side; right = unread_of m.right; written = written }) (told_with told is_new))
+        → OnOk r (Telling a1 b1 a2 b2 w0 w2 (record { left = side; right = unread_of m.right; written = written }) (told_with told turn) withdraws)
     unfolding wrote next_both
-    tells_both (Ok x) first free i = subst (λ (s : MergeInput). Telling a1 b1 a2 b2 w0 w2 (record { left = s; right = unread_of m.right; written = written }) (told_with told is_new)) (sym i.side) (record {
+    tells_both (Ok x) first free i = subst (λ (s : MergeInput). Telling a1 b1 a2 b2 w0 w2 (record { left = s; right = unread_of m.right; written = written }) (told_with told turn) withdraws) (sym i.side) (record {
       merging = wrote a1 b1 a2 b2 w0 w1 w2 m p m.left.reader.last (unread_of m.left) (unread_of m.right) m.left side written refl (both_covered a1 b1 a2 b2 w0 w1 w2 m p first false free) (next_both a1 b1 a2 b2 w0 w1 w2 m p first) i;
-      told_is = told_both first;
+      turns_are = told_both first;
+      withdraws_is = withdraws_both false free first;
     })
     tells_both (Err e) first free i = tt
 
     pub tells_right : (r : Result X WriteFault) → m.left.ahead ≢ Unread → (m.left.ahead ≡ Ended → m.right.ahead ≡ Held) → first_of m.left m.right ≡ Greater → TellsCovered m.left m.right false → OnOk r (IsRecordWritten w1 w2 m.written written m.right side)
-        → OnOk r (Telling a1 b1 a2 b2 w0 w2 (record { left = m.left; right = side; written = written }) (told_with told is_new))
+        → OnOk r (Telling a1 b1 a2 b2 w0 w2 (record { left = m.left; right = side; written = written }) (told_with told turn) withdraws)
     unfolding wrote next_right
-    tells_right (Ok x) read some first free i = subst (λ (s : MergeInput). Telling a1 b1 a2 b2 w0 w2 (record { left = m.left; right = s; written = written }) (told_with told is_new)) (sym i.side) (record {
+    tells_right (Ok x) read some first free i = subst (λ (s : MergeInput). Telling a1 b1 a2 b2 w0 w2 (record { left = m.left; right = s; written = written }) (told_with told turn) withdraws) (sym i.side) (record {
       merging = wrote a1 b1 a2 b2 w0 w1 w2 m p m.right.reader.last m.left (unread_of m.right) m.right side written refl (greater_covered a1 b1 a2 b2 w0 w1 w2 m p read some first false free) (next_right a1 b1 a2 b2 w0 w1 w2 m p read some first) i;
-      told_is = told_right read some first;
+      turns_are = told_right read some first;
+      withdraws_is = withdraws_right false free read some first;
     })
     tells_right (Err e) read some first free i = tt
 
 -- ---- the magics were read
 
 pub tells_start : (a1 b1 a2 b2 w0 w1 : Option (List ℕ)) (left right : MergeInput) (f : kind_of left.reader.file ≡ Archive_text) (g : kind_of right.reader.file ≡ Archive_text) (h : HasRead left.reader.file a1 b1 [] left.reader) (k : HasRead right.reader.file a2 b2 [] right.reader) (s : left.ahead ≡ Unread) (t : right.ahead ≡ Unread)
-    (x : List ℕ) (x_is : x ≡ magic) (written : ℕ) → written ≡ 0 + length x → Appends w0 w1 x → Telling a1 b1 a2 b2 w0 w1 (record { left = left; right = right; written = record { records = 0; bytes = written } }) []
+    (x : List ℕ) (x_is : x ≡ magic) (written : ℕ) → written ≡ 0 + length x → Appends w0 w1 x → Telling a1 b1 a2 b2 w0 w1 (record { left = left; right = right; written = record { records = 0; bytes = written } }) [] false
 unfolding merging_start
-tells_start a1 b1 a2 b2 w0 w1 left right f g h k s t x x_is written n p = record { merging = merging_start a1 b1 a2 b2 w0 w1 left right f g h k s t x x_is written n p; told_is = refl }
+tells_start a1 b1 a2 b2 w0 w1 left right f g h k s t x x_is written n p = record { merging = merging_start a1 b1 a2 b2 w0 w1 left right f g h k s t x x_is written n p; turns_are = refl; withdraws_is = refl }
 
 -- ---- a side is read on
 
-pub tells_left_read : (a1 a2 w0 w1 b1 b2 c1 : Option (List ℕ)) (m : Merge) (told : List Bool) → Telling a1 b1 a2 b2 w0 w1 m told → (left : MergeInput) → left.ahead ≢ Unread → ((done : List (List ℕ)) (low : List ℕ) → Stands a1 b1 done low m.left → Stands a1 c1 done low left)
-    → Telling a1 c1 a2 b2 w0 w1 (record { left = left; right = m.right; written = m.written }) told
+pub tells_left_read : (a1 a2 w0 w1 b1 b2 c1 : Option (List ℕ)) (m : Merge) (told : List Turn) (withdraws : Bool) → Telling a1 b1 a2 b2 w0 w1 m told withdraws → (left : MergeInput) → left.ahead ≢ Unread → ((done : List (List ℕ)) (low : List ℕ) → Stands a1 b1 done low m.left → Stands a1 c1 done low left)
+    → Telling a1 c1 a2 b2 w0 w1 (record { left = left; right = m.right; written = m.written }) told withdraws
 unfolding left_read
-tells_left_read a1 a2 w0 w1 b1 b2 c1 m told t left read stands = record { merging = left_read a1 a2 w0 w1 b1 b2 c1 m t.merging left read stands; told_is = t.told_is }
+tells_left_read a1 a2 w0 w1 b1 b2 c1 m told withdraws t left read stands = record { merging = left_read a1 a2 w0 w1 b1 b2 c1 m t.merging left read stands; turns_are = t.turns_are; withdraws_is = t.withdraws_is }
 
-pub tells_right_read : (a1 a2 w0 w1 b1 b2 c2 : Option (List ℕ)) (m : Merge) (told : List Bool) → Telling a1 b1 a2 b2 w0 w1 m told → m.left.ahead ≢ Unread → (right : MergeInput) → ((done : List (List ℕ)) (low : List ℕ) → Stands a2 b2 done low m.right → Stands a2 c2 done low right)
-    → Telling a1 b1 a2 c2 w0 w1 (record { left = m.left; right = right; written = m.written }) told
+pub tells_right_read : (a1 a2 w0 w1 b1 b2 c2 : Option (List ℕ)) (m : Merge) (told : List Turn) (withdraws : Bool) → Telling a1 b1 a2 b2 w0 w1 m told withdraws → m.left.ahead ≢ Unread → (right : MergeInput) → ((done : List (List ℕ)) (low : List ℕ) → Stands a2 b2 done low m.right → Stands a2 c2 done low right)
+    → Telling a1 b1 a2 c2 w0 w1 (record { left = m.left; right = right; written = m.written }) told withdraws
 unfolding right_read
-tells_right_read a1 a2 w0 w1 b1 b2 c2 m told t read right stands = record { merging = right_read a1 a2 w0 w1 b1 b2 c2 m t.merging read right stands; told_is = t.told_is }
+tells_right_read a1 a2 w0 w1 b1 b2 c2 m told withdraws t read right stands = record { merging = right_read a1 a2 w0 w1 b1 b2 c2 m t.merging read right stands; turns_are = t.turns_are; withdraws_is = t.withdraws_is }
 
 -- ---- want of memory before the right side is read on
 
@@ -220,9 +323,13 @@ no_room a1 b1 a2 b2 w0 w1 m p read unread few e fault offset is memory at =
 
 -- ---- what is told
 
--- the same list, as it is held
-pub tells_as : (a1 b1 a2 b2 w0 w1 : Option (List ℕ)) (m : Merge) (told held : List Bool) → held ≡ told → Telling a1 b1 a2 b2 w0 w1 m told → Telling a1 b1 a2 b2 w0 w1 m held
-tells_as a1 b1 a2 b2 w0 w1 m told held same t = subst (Telling a1 b1 a2 b2 w0 w1 m) (sym same) t
+-- the same, as it is held
+pub tells_as : (a1 b1 a2 b2 w0 w1 : Option (List ℕ)) (m : Merge) (told held : List Turn) (withdraws kept : Bool) → held ≡ told → kept ≡ withdraws → Telling a1 b1 a2 b2 w0 w1 m told withdraws → Telling a1 b1 a2 b2 w0 w1 m held kept
+tells_as a1 b1 a2 b2 w0 w1 m told held withdraws kept same alike t = record {
+  merging = t.merging;
+  turns_are = same ∙ t.turns_are;
+  withdraws_is = alike ∙ t.withdraws_is;
+}
 
 -- a step that goes well has told, and one that does not stops the merge
 pub told_or_stopped : {X E : Type 0} (P M : Type 0) (Q : E → Type 0) (r : Result X E) → OnOk r P → MatchResult r (λ _. M) Q → MatchResult r (λ _. P) Q
@@ -230,9 +337,9 @@ told_or_stopped P M Q (Ok x) told merging = told
 told_or_stopped P M Q (Err e) told merging = merging
 
 -- the merge ended
-pub tells_end : (a1 b1 a2 b2 w0 w1 w2 : Option (List ℕ)) (m : Merge) (told : List Bool) → Telling a1 b1 a2 b2 w0 w1 m told → m.left.ahead ≡ Ended → m.right.ahead ≡ Ended → m.written.records < 2 ^ 63 → (sizes : Sizes) → Appends w1 w2 (end_record m.written.records) → sizes.records ≡ m.written.records
-    → sizes.bytes ≡ m.written.bytes + length (end_record m.written.records) → ToldAll a1 b1 a2 b2 w0 w2 sizes told
-tells_end a1 b1 a2 b2 w0 w1 w2 m told t left_end right_end few sizes gained records bytes =
+pub tells_end : (a1 b1 a2 b2 w0 w1 w2 : Option (List ℕ)) (m : Merge) (told : List Turn) (withdraws : Bool) → Telling a1 b1 a2 b2 w0 w1 m told withdraws → m.left.ahead ≡ Ended → m.right.ahead ≡ Ended → m.written.records < 2 ^ 63 → (sizes : Sizes) → Appends w1 w2 (end_record m.written.records) → sizes.records ≡ m.written.records
+    → sizes.bytes ≡ m.written.bytes + length (end_record m.written.records) → ToldAll a1 b1 a2 b2 w0 w2 sizes told withdraws
+tells_end a1 b1 a2 b2 w0 w1 w2 m told withdraws t left_end right_end few sizes gained records bytes =
     let p = t.merging in
     let front : List ℕ = magic ++ concat (kept p.out) in
     let end : List ℕ = end_record m.written.records in
@@ -254,5 +361,6 @@ tells_end a1 b1 a2 b2 w0 w1 w2 m told t left_end right_end few sizes gained reco
         records = records ∙ p.records;
         bytes = omega (arith, bytes, p.bytes, ap length text, length-append front end, length-append magic (concat (kept p.out)));
       };
-      told_is = t.told_is;
+      turns_are = t.turns_are;
+      withdraws_is = t.withdraws_is;
     }

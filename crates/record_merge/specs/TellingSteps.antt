@@ -1,37 +1,59 @@
--- What a merge tells of its right side, turn by turn: the words of the inner functions. No contract of a public one has
+-- What a merge tells of its sides, turn by turn: the words of the inner functions. No contract of a public one has
 -- them.
-use Rattle.std.specs.Prelude.{◌≡◌, ℕ, ◌≤◌, List, [], ◌∷◌, ◌++◌, length, map, Bool, false, not, Option, Some, None}
+use Rattle.std.specs.Prelude.{◌≡◌, ℕ, ◌≤◌, List, [], ◌∷◌, ◌++◌, length, map, Bool, true, false, not, ◌&&◌}
+use Rattle.std.specs.Prelude.{Option, Some, None}
 use Rattle.std.specs.declared.cmp.Ordering.{Ordering}
 use Rattle.std.specs.declared.cmp.Ordering.TheVariants.{Less, Equal, Greater}
-use Rattle.archive_core.specs.Content.{changes, is_covered}
+use Rattle.std.specs.List.{list_any}
+use Rattle.archive_core.specs.Content.{Operations, is_covered}
 use Rattle.archive_records.specs.declared.writing.Sizes.{Sizes}
 use Rattle.archive_records.specs.Reader.{set_of}
 use Rattle.record_merge.specs.declared.merging.Merge.{Merge}
 use Rattle.record_merge.specs.declared.side.MergeInput.{MergeInput}
+use Rattle.record_merge.specs.declared.turns.Turn.{Turn}
 use Rattle.record_merge.specs.MergeSteps.{Merging, MergedAll, first_of}
+use Rattle.record_merge.specs.Turns.{turn_by, turn_of}
 
--- whether the record that is next is a new one of the right side: none where it is the left side's alone
-abbrev pub TellsNewBy : Ordering → MergeInput → MergeInput → Option Bool → Type 0
-TellsNewBy Less left right is_new = is_new ≡ None
-TellsNewBy Equal left right is_new = is_new ≡ Some false
-TellsNewBy Greater left right is_new = 33 ≤ length right.reader.last
-    → is_new ≡ Some (not (is_covered (set_of left.reader.retired) right.reader.last))
+-- what the record that is next is to the left side: none where it is that side's alone
+abbrev pub TellsNextBy : Ordering → MergeInput → MergeInput → Option Turn → Type 0
+TellsNextBy Less left right turn = turn ≡ None
+TellsNextBy Equal left right turn = turn ≡ Some (turn_by left.reader.dropped true)
+TellsNextBy Greater left right turn = 33 ≤ length right.reader.last
+    → turn ≡ Some (turn_by (is_covered (set_of left.reader.retired) right.reader.last) false)
 
-abbrev pub TellsNext : Merge → Option Bool → Type 0
-TellsNext m is_new = TellsNewBy (first_of m.left m.right) m.left m.right is_new
+abbrev pub TellsNext : Merge → Option Turn → Type 0
+TellsNext m turn = TellsNextBy (first_of m.left m.right) m.left m.right turn
+
+-- whether the left side has the record that is next: it reads it, and does not retire it
+abbrev pub has_next_by : Ordering → MergeInput → Bool
+has_next_by Less left = not left.reader.dropped
+has_next_by Equal left = not left.reader.dropped
+has_next_by Greater left = false
+
+abbrev pub has_next : Merge → Bool
+has_next m = has_next_by (first_of m.left m.right) m.left
 
 -- what was told, with what there is to tell
-abbrev pub told_with : List Bool → Option Bool → List Bool
-told_with told None = told
-told_with told (Some is_new) = told ++ is_new ∷ []
+abbrev pub told_with : List Turn → Option Turn → List Turn
+told_with turns None = turns
+told_with turns (Some turn) = turns ++ turn ∷ []
 
--- A merge that stands so; and each record of the right side that had its turn is told as new where it changes what those
--- of the left side make.
-pub record Telling (a1 b1 a2 b2 w0 w1 : Option (List ℕ)) (m : Merge) (told : List Bool) : Type 0 where
+-- whether these operations retire a record that those do not
+abbrev pub is_withdrawn : Operations → Operations → List ℕ → Bool
+is_withdrawn o p r = is_covered p r && not (is_covered o r)
+
+-- A merge that stands so; and of each record of the right side that had its turn it is told what it is to what those of
+-- the left side make, and whether those of the right side retire one of the left side's.
+pub record Telling (a1 b1 a2 b2 w0 w1 : Option (List ℕ)) (m : Merge) (turns : List Turn) (withdraws : Bool)
+    : Type 0 where
   pub merging : Merging a1 b1 a2 b2 w0 w1 m
-  pub told_is : told ≡ map (changes (set_of merging.lefts)) merging.rights
+  pub turns_are : turns ≡ map (turn_of (set_of merging.lefts)) merging.rights
+  pub withdraws_is : withdraws
+      ≡ list_any (is_withdrawn (set_of merging.lefts) (set_of merging.rights)) merging.lefts
 
 -- The same of a merge that ended.
-pub record ToldAll (a1 b1 a2 b2 w0 w1 : Option (List ℕ)) (sizes : Sizes) (told : List Bool) : Type 0 where
+pub record ToldAll (a1 b1 a2 b2 w0 w1 : Option (List ℕ)) (sizes : Sizes) (turns : List Turn) (withdraws : Bool)
+    : Type 0 where
   pub merged : MergedAll a1 b1 a2 b2 w0 w1 sizes
-  pub told_is : told ≡ map (changes (set_of merged.lefts)) merged.rights
+  pub turns_are : turns ≡ map (turn_of (set_of merged.lefts)) merged.rights
+  pub withdraws_is : withdraws ≡ list_any (is_withdrawn (set_of merged.lefts) (set_of merged.rights)) merged.lefts

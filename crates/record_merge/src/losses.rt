@@ -3,18 +3,20 @@
 ghost use Rattle.std.specs.Prelude.{◌≡◌, IfOk, count_by};
 ghost use Rattle.byte_device.specs.Devices.{stream};
 ghost use Rattle.record_merge.specs.Losses.{Loses};
+ghost use Rattle.record_merge.specs.Turns.{is_new};
 
 use crate::telling::merge_telling;
+use crate::turns::Turn;
 use archive_records::MergeFault;
 use byte_device::{Source, Writing};
 use memory::Heap;
 use std::io;
 
-/// How many are told as new.
-fn number_of_new(told: &[bool]) -> u64
-    ensures { result ≡ count_by (λ is_new. is_new) told.now }
+/// How many are new.
+fn number_of_new(turns: &[Turn]) -> u64
+    ensures { result ≡ count_by is_new turns.now }
 {
-    told.iter().filter(|is_new| **is_new).count() as u64
+    turns.iter().filter(|turn| turn.is_new()).count() as u64
 }
 
 /// How many operations of the old archive the new one neither has nor covers by a retirement: those that are lost where
@@ -34,5 +36,5 @@ pub fn lost_operations<R: Source, S: Source>(
         (stream S.left S.failures old.old old.new) lost) }
 {
     let (_, told) = merge_telling(heap, new, old, &mut Writing::new(io::sink()))?;
-    Ok(number_of_new(&told))
+    Ok(number_of_new(&told.turns))
 }

@@ -2,7 +2,7 @@
 //! that it came from are read on.
 
 ghost use Rattle.std.specs.Prelude.{◌≡◌, ◌+◌, ◌*◌, ◌^◌, ◌<◌, ◌≤◌, ℕ, List, Option, OnOk};
-ghost use Rattle.std.specs.Prelude.{Bool, IfErr, MatchResult, IsTrue, ◌↔◌, ◌≢◌, true, false};
+ghost use Rattle.std.specs.Prelude.{Bool, IfErr, IfOk, MatchResult, IsTrue, ◌↔◌, ◌≢◌, ◌&&◌, ◌||◌, true, false};
 ghost use Rattle.byte_device.specs.Devices.{FailedIn};
 ghost use Rattle.byte_device.specs.Writes.{WritesFirst};
 ghost use Rattle.record_merge.specs.Merging.{most_records};
@@ -11,7 +11,8 @@ ghost use Rattle.record_merge.specs.MergeSteps.{BlamesDevices, Fits, HasStoppedM
 ghost use Rattle.record_merge.specs.MergeSteps.{IsLastOfBoth, IsToldOfRight, IsRecordWritten};
 ghost use Rattle.record_merge.specs.MergeSteps.{Merging, TellsCovered, WriteStopped, cost_of, first_of};
 ghost use Rattle.record_merge.specs.MergeSteps.{BlamesLeft, BlamesRight, BlamesWriter, HadTurn};
-ghost use Rattle.record_merge.specs.TellingSteps.{Telling, TellsNext, told_with};
+ghost use Rattle.record_merge.specs.declared.turns.Turn.{Turn};
+ghost use Rattle.record_merge.specs.TellingSteps.{Telling, TellsNext, has_next, told_with};
 
 use crate::side::{Lookahead, MergeInput};
 use archive_records::{MOST, MergeCause, MergeFault, RecordFault, RecordFaultKind, Sizes};
@@ -118,9 +119,9 @@ fn pass_over(m: &mut Merge)
     requires covered { TellsCovered m.old.left m.old.right true }
     ensures merging { (a1 b1 a2 b2 w0 w1 : Option (List ℕ)) → Merging a1 b1 a2 b2 w0 w1 m.old
         → Merging a1 b1 a2 b2 w0 w1 m.new }
-    ensures telling { (a1 b1 a2 b2 w0 w1 : Option (List ℕ)) (told : List Bool) (is_new : Option Bool)
-        → Telling a1 b1 a2 b2 w0 w1 m.old told → TellsNext m.old is_new
-        → Telling a1 b1 a2 b2 w0 w1 m.new (told_with told is_new) }
+    ensures telling { (a1 b1 a2 b2 w0 w1 : Option (List ℕ)) (told : List Turn) (withdraws : Bool) (turn : Option Turn)
+        → Telling a1 b1 a2 b2 w0 w1 m.old told withdraws → TellsNext m.old turn
+        → Telling a1 b1 a2 b2 w0 w1 m.new (told_with told turn) (has_next m.old || withdraws) }
     ensures fits { Fits m.new }
     ensures had { HadTurn m.old m.new }
     ensures less { cost_of m.new < cost_of m.old }
@@ -167,9 +168,9 @@ fn write_first<W: Sink>(w: &mut W, m: &mut Merge) -> Result<(), WriteFault>
         → MatchResult result
         (λ _. Merging a1 b1 a2 b2 w0 (W.held w.new) m.new)
         (λ fault. WriteStopped a1 b1 a2 b2 w0 (W.held w.new) fault.written) }
-    ensures telling { (a1 b1 a2 b2 w0 : Option (List ℕ)) (told : List Bool) (is_new : Option Bool)
-        → Telling a1 b1 a2 b2 w0 (W.held w.old) m.old told → TellsNext m.old is_new
-        → OnOk result (Telling a1 b1 a2 b2 w0 (W.held w.new) m.new (told_with told is_new)) }
+    ensures telling { (a1 b1 a2 b2 w0 : Option (List ℕ)) (told : List Turn) (withdraws : Bool) (turn : Option Turn)
+        → Telling a1 b1 a2 b2 w0 (W.held w.old) m.old told withdraws → TellsNext m.old turn
+        → OnOk result (Telling a1 b1 a2 b2 w0 (W.held w.new) m.new (told_with told turn) withdraws) }
     ensures fits { OnOk result (Fits m.new) }
     ensures had { OnOk result (HadTurn m.old m.new) }
     ensures less { OnOk result (cost_of m.new < cost_of m.old) }
@@ -187,8 +188,8 @@ fn write_first<W: Sink>(w: &mut W, m: &mut Merge) -> Result<(), WriteFault>
 }
 
 /// Gives the record that is next its turn: it is written, unless the retirements of either side cover it, and the side
-/// or sides that it came from are left to be read on.
-pub fn take_turn<W: Sink>(w: &mut W, m: &mut Merge) -> Result<(), MergeFault>
+/// or sides that it came from are left to be read on. Tells whether it was passed over.
+pub fn take_turn<W: Sink>(w: &mut W, m: &mut Merge) -> Result<bool, MergeFault>
     requires fits { Fits m.old }
     requires read { IsRead m.old }
     requires some { m.old.left.ahead ≡ Lookahead.Ended → m.old.right.ahead ≡ Lookahead.Held }
@@ -196,9 +197,10 @@ pub fn take_turn<W: Sink>(w: &mut W, m: &mut Merge) -> Result<(), MergeFault>
         → MatchResult result
         (λ _. Merging a1 b1 a2 b2 w0 (W.held w.new) m.new)
         (λ e. HasStoppedMerge a1 b1 a2 b2 w0 (W.held w.new) e) }
-    ensures telling { (a1 b1 a2 b2 w0 : Option (List ℕ)) (told : List Bool) (is_new : Option Bool)
-        → Telling a1 b1 a2 b2 w0 (W.held w.old) m.old told → TellsNext m.old is_new
-        → OnOk result (Telling a1 b1 a2 b2 w0 (W.held w.new) m.new (told_with told is_new)) }
+    ensures telling { (a1 b1 a2 b2 w0 : Option (List ℕ)) (told : List Turn) (withdraws : Bool) (turn : Option Turn)
+        → Telling a1 b1 a2 b2 w0 (W.held w.old) m.old told withdraws → TellsNext m.old turn
+        → IfOk result (λ passed. Telling a1 b1 a2 b2 w0 (W.held w.new) m.new (told_with told turn)
+        ((passed && has_next m.old) || withdraws)) }
     ensures fits { OnOk result (Fits m.new) }
     ensures had { OnOk result (HadTurn m.old m.new) }
     ensures less { OnOk result (cost_of m.new < cost_of m.old) }
@@ -207,7 +209,7 @@ pub fn take_turn<W: Sink>(w: &mut W, m: &mut Merge) -> Result<(), MergeFault>
 {
     if is_covered(&m.left, &m.right) {
         pass_over(m);
-        return Ok(());
+        return Ok(true);
     }
     m.test_number()?;
     if let Err(fault) = write_first(w, m) {
@@ -216,7 +218,7 @@ pub fn take_turn<W: Sink>(w: &mut W, m: &mut Merge) -> Result<(), MergeFault>
             written: fault.written,
         });
     }
-    Ok(())
+    Ok(false)
 }
 
 /// Reads the left side on, where its last record had its turn.
@@ -226,9 +228,9 @@ pub fn read_left<R: Source>(r1: &mut R, m: &mut Merge) -> Result<(), MergeFault>
         → MatchResult result
         (λ _. Merging a1 (R.left r1.new) a2 b2 w0 w1 m.new)
         (λ e. HasStoppedMerge a1 (R.left r1.new) a2 b2 w0 w1 e) }
-    ensures telling { (a1 a2 b2 w0 w1 : Option (List ℕ)) (told : List Bool)
-        → Telling a1 (R.left r1.old) a2 b2 w0 w1 m.old told
-        → OnOk result (Telling a1 (R.left r1.new) a2 b2 w0 w1 m.new told) }
+    ensures telling { (a1 a2 b2 w0 w1 : Option (List ℕ)) (told : List Turn) (withdraws : Bool)
+        → Telling a1 (R.left r1.old) a2 b2 w0 w1 m.old told withdraws
+        → OnOk result (Telling a1 (R.left r1.new) a2 b2 w0 w1 m.new told withdraws) }
     ensures fits { OnOk result (Fits m.new) }
     ensures read { OnOk result (m.new.left.ahead ≢ Lookahead.Unread) }
     ensures right { OnOk result (m.new.right ≡ m.old.right) }
@@ -250,9 +252,9 @@ pub fn read_right<S: Source>(r2: &mut S, m: &mut Merge) -> Result<(), MergeFault
         → MatchResult result
         (λ _. Merging a1 b1 a2 (S.left r2.new) w0 w1 m.new)
         (λ e. HasStoppedMerge a1 b1 a2 (S.left r2.new) w0 w1 e) }
-    ensures telling { (a1 b1 a2 w0 w1 : Option (List ℕ)) (told : List Bool)
-        → Telling a1 b1 a2 (S.left r2.old) w0 w1 m.old told
-        → OnOk result (Telling a1 b1 a2 (S.left r2.new) w0 w1 m.new told) }
+    ensures telling { (a1 b1 a2 w0 w1 : Option (List ℕ)) (told : List Turn) (withdraws : Bool)
+        → Telling a1 b1 a2 (S.left r2.old) w0 w1 m.old told withdraws
+        → OnOk result (Telling a1 b1 a2 (S.left r2.new) w0 w1 m.new told withdraws) }
     ensures fits { OnOk result (Fits m.new) }
     ensures read { OnOk result (IsRead m.new) }
     ensures less { OnOk result (cost_of m.new ≤ cost_of m.old) }

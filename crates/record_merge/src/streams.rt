@@ -1,11 +1,12 @@
 //! Two archives that are merged as they come.
 
-ghost use Rattle.std.specs.Prelude.{◌≡◌, ℕ, Bool, List, [], Option, OnOk, IfOk, IfErr, MatchResult};
+ghost use Rattle.std.specs.Prelude.{◌≡◌, ℕ, Bool, false, List, [], Option, OnOk, IfOk, IfErr, MatchResult};
 ghost use Rattle.byte_device.specs.Devices.{FailedIn};
 ghost use Rattle.archive_records.specs.declared.fault.MergeCause.TheVariants.{Write};
 ghost use Rattle.record_merge.specs.Merging.{GainsCount, Merges};
 ghost use Rattle.byte_device.specs.Devices.{stream};
 ghost use Rattle.record_merge.specs.MergeSteps.{BlamesDevices, Fits, Leaves, Merging, StopsMerge};
+ghost use Rattle.record_merge.specs.declared.turns.Turn.{Turn};
 ghost use Rattle.record_merge.specs.TellingSteps.{Telling, ToldAll};
 
 use crate::merging::{Merge, merge_records};
@@ -33,7 +34,7 @@ pub fn begin_both<R: Source, S: Source, W: Sink>(
         (λ e. StopsMerge (R.left r1.old) (R.left r1.new) (S.left r2.old) (S.left r2.new)
         (W.held w.old) (W.held w.new) e) }
     ensures telling { IfOk result (λ m. Telling (R.left r1.old) (R.left r1.new) (S.left r2.old) (S.left r2.new)
-        (W.held w.old) (W.held w.new) m []) }
+        (W.held w.old) (W.held w.new) m [] false) }
     ensures fits { IfOk result (λ m. Fits m) }
     ensures devices { BlamesDevices (stream R.left R.failures r1.old r1.new) (stream S.left S.failures r2.old r2.new)
         (W.failures w.old) (W.failures w.new) result }
@@ -66,9 +67,9 @@ pub fn finish<W: Sink>(w: &mut W, m: &Merge) -> Result<Sizes, MergeFault>
     requires right_end { m.now.right.ahead ≡ Lookahead.Ended }
     ensures leaves { (a1 b1 a2 b2 w0 : Option (List ℕ)) → Merging a1 b1 a2 b2 w0 (W.held w.old) m.now
         → Leaves a1 b1 a2 b2 w0 (W.held w.new) result }
-    ensures told { (a1 b1 a2 b2 w0 : Option (List ℕ)) (told : List Bool)
-        → Telling a1 b1 a2 b2 w0 (W.held w.old) m.now told
-        → IfOk result (λ sizes. ToldAll a1 b1 a2 b2 w0 (W.held w.new) sizes told) }
+    ensures told { (a1 b1 a2 b2 w0 : Option (List ℕ)) (told : List Turn) (withdraws : Bool)
+        → Telling a1 b1 a2 b2 w0 (W.held w.old) m.now told withdraws
+        → IfOk result (λ sizes. ToldAll a1 b1 a2 b2 w0 (W.held w.new) sizes told withdraws) }
     ensures unfailed { OnOk result (W.failures w.new ≡ W.failures w.old) }
     ensures cause { IfErr result (λ e. (e.cause ≡ Write) × FailedIn (W.failures w.old) (W.failures w.new)) }
 {

@@ -1,56 +1,71 @@
-//! A merge that tells which records of its right side were new when their turn came.
+//! A merge that tells what each record of its right side is to the left one, and whether the right one retires what is
+//! there.
 
 ghost use Rattle.std.specs.Prelude.{◌≡◌, ◌≢◌, ◌<◌, ◌≤◌, ℕ, Bool, List, [], Option, OnOk, IfOk, IfErr, IsSome};
-ghost use Rattle.std.specs.Prelude.{IfSome, MatchResult, map};
+ghost use Rattle.std.specs.Prelude.{IfSome, MatchResult, map, ◌&&◌, ◌||◌, false};
+ghost use Rattle.std.specs.List.{list_any};
 ghost use Rattle.std.specs.Result.{result_map_both};
 ghost use Rattle.std.specs.declared.cmp.Ordering.TheVariants.{Less};
 ghost use Rattle.join_core.specs.Listing.{listing};
 ghost use Rattle.byte_device.specs.Devices.{stream};
-ghost use Rattle.archive_core.specs.Content.{IsContent, Operations, changes};
+ghost use Rattle.archive_core.specs.Content.{IsContent, Operations, is_covered};
 ghost use Rattle.archive_records.specs.Text.{IsArchiveOf};
 ghost use Rattle.archive_records.specs.declared.fault.MergeCause.TheVariants.{Right};
 ghost use Rattle.record_merge.specs.Merging.{GainsCount, Merges};
 ghost use Rattle.record_merge.specs.MergeSteps.{BlamesDevices, Fits, HasStoppedMerge, IsRead, Leaves, Merging};
 ghost use Rattle.record_merge.specs.MergeSteps.{cost_of, first_of, memory_behind};
 ghost use Rattle.record_merge.specs.Telling.{HasOperations, IsMergedTelling};
-ghost use Rattle.record_merge.specs.TellingSteps.{Telling, TellsNext, ToldAll, told_with};
+ghost use Rattle.record_merge.specs.TellingSteps.{Telling, TellsNext, ToldAll, has_next, told_with};
+ghost use Rattle.record_merge.specs.Turns.{turn_of};
 
 use crate::merging::{Merge, first, read_left, read_right, take_turn};
 use crate::side::Lookahead;
 use crate::streams::{before_the_magic, begin_both, finish};
+use crate::turns::{Told, Turn, turn_by};
 use archive_records::{MergeCause, MergeFault, RecordFault, Sizes};
 use byte_device::{Sink, Source};
 use memory::Heap;
 use std::cmp::Ordering;
 
-/// Whether the record that is next is a new one of the right side: none where it is the left side's alone. All of the
-/// left side that are not above it were read, and so were its retirements where it is an admission.
-fn is_next_new(m: &Merge) -> Option<bool>
+/// What the record that is next is to the left side: none where it is that side's alone. All of the left side that are
+/// not above it were read, and so were its retirements where it is an admission.
+fn next_turn(m: &Merge) -> Option<Turn>
     ensures tells { TellsNext m.now result }
     ensures right { IsSome result → first_of m.now.left m.now.right ≢ Less }
 {
     match first(&m.left, &m.right) {
         Ordering::Less => None,
-        Ordering::Equal => Some(false),
-        Ordering::Greater => Some(!m.left.reader.retires(m.right.reader.last())),
+        Ordering::Equal => Some(turn_by(m.left.reader.dropped(), true)),
+        Ordering::Greater => Some(turn_by(m.left.reader.retires(m.right.reader.last()), false)),
+    }
+}
+
+/// Whether the left side has the record that is next, and does not retire it.
+fn has_next(m: &Merge) -> bool
+    ensures { result ≡ has_next m.now }
+{
+    match first(&m.left, &m.right) {
+        Ordering::Less | Ordering::Equal => !m.left.reader.dropped(),
+        Ordering::Greater => false,
     }
 }
 
 /// Tells of the record of the right side that had its turn, if there is one. Memory that is wanted for that is wanted
 /// before the next one is read.
-fn tell(m: &Merge, told: &mut Vec<bool, Heap>, is_new: Option<bool>) -> Result<(), MergeFault>
+fn tell(m: &Merge, told: &mut Told, turn: Option<Turn>) -> Result<(), MergeFault>
     requires fits { Fits m.now }
     requires read { m.now.left.ahead ≢ Lookahead.Unread }
-    requires unread { IsSome is_new → m.now.right.ahead ≡ Lookahead.Unread }
-    ensures told { OnOk result (told.new.items ≡ told_with told.old.items is_new) }
+    requires unread { IsSome turn → m.now.right.ahead ≡ Lookahead.Unread }
+    ensures turns { OnOk result (told.new.turns.items ≡ told_with told.old.turns.items turn) }
+    ensures withdraws { told.new.withdraws ≡ told.old.withdraws }
     ensures stops { IfErr result (λ e. (a1 b1 a2 b2 w0 w1 : Option (List ℕ)) → Merging a1 b1 a2 b2 w0 w1 m.now
         → HasStoppedMerge a1 b1 a2 b2 w0 w1 e) }
     ensures cause { IfErr result (λ e. e.cause ≡ Right (memory_behind m.now.right.reader.offset)) }
 {
-    let Some(is_new) = is_new else {
+    let Some(turn) = turn else {
         return Ok(());
     };
-    match told.push(is_new) {
+    match told.turns.push(turn) {
         Ok(()) => Ok(()),
         Err(_) => {
             let fault = RecordFault::out_of_memory(m.right.reader.offset());
@@ -64,15 +79,16 @@ fn tell_and_read_on<R: Source, S: Source>(
     r1: &mut R,
     r2: &mut S,
     m: &mut Merge,
-    told: &mut Vec<bool, Heap>,
-    is_new: Option<bool>,
+    told: &mut Told,
+    turn: Option<Turn>,
 ) -> Result<(), MergeFault>
     requires fits { Fits m.old }
-    requires unread { IsSome is_new → m.old.right.ahead ≡ Lookahead.Unread }
+    requires unread { IsSome turn → m.old.right.ahead ≡ Lookahead.Unread }
     ensures telling { (a1 a2 w0 w1 : Option (List ℕ))
-        → Telling a1 (R.left r1.old) a2 (S.left r2.old) w0 w1 m.old (told_with told.old.items is_new)
+        → Telling a1 (R.left r1.old) a2 (S.left r2.old) w0 w1 m.old (told_with told.old.turns.items turn)
+        told.old.withdraws
         → MatchResult result
-        (λ _. Telling a1 (R.left r1.new) a2 (S.left r2.new) w0 w1 m.new told.new.items)
+        (λ _. Telling a1 (R.left r1.new) a2 (S.left r2.new) w0 w1 m.new told.new.turns.items told.new.withdraws)
         (λ e. HasStoppedMerge a1 (R.left r1.new) a2 (S.left r2.new) w0 w1 e) }
     ensures fits { OnOk result (Fits m.new) }
     ensures read { OnOk result (IsRead m.new) }
@@ -81,25 +97,27 @@ fn tell_and_read_on<R: Source, S: Source>(
         0 0 result }
 {
     read_left(r1, m)?;
-    tell(m, told, is_new)?;
+    tell(m, told, turn)?;
     read_right(r2, m)
 }
 
 /// Gives the record that is next its turn, tells of it where it is one of the right side, and reads on.
-fn turn<R: Source, S: Source, W: Sink>(
+fn give_turn<R: Source, S: Source, W: Sink>(
     r1: &mut R,
     r2: &mut S,
     w: &mut W,
     m: &mut Merge,
-    told: &mut Vec<bool, Heap>,
+    told: &mut Told,
 ) -> Result<(), MergeFault>
     requires fits { Fits m.old }
     requires read { IsRead m.old }
     requires some { m.old.left.ahead ≡ Lookahead.Ended → m.old.right.ahead ≡ Lookahead.Held }
     ensures telling { (a1 a2 w0 : Option (List ℕ))
-        → Telling a1 (R.left r1.old) a2 (S.left r2.old) w0 (W.held w.old) m.old told.old.items
+        → Telling a1 (R.left r1.old) a2 (S.left r2.old) w0 (W.held w.old) m.old told.old.turns.items
+        told.old.withdraws
         → MatchResult result
-        (λ _. Telling a1 (R.left r1.new) a2 (S.left r2.new) w0 (W.held w.new) m.new told.new.items)
+        (λ _. Telling a1 (R.left r1.new) a2 (S.left r2.new) w0 (W.held w.new) m.new told.new.turns.items
+        told.new.withdraws)
         (λ e. HasStoppedMerge a1 (R.left r1.new) a2 (S.left r2.new) w0 (W.held w.new) e) }
     ensures fits { OnOk result (Fits m.new) }
     ensures read { OnOk result (IsRead m.new) }
@@ -107,9 +125,11 @@ fn turn<R: Source, S: Source, W: Sink>(
     ensures devices { BlamesDevices (stream R.left R.failures r1.old r1.new) (stream S.left S.failures r2.old r2.new)
         (W.failures w.old) (W.failures w.new) result }
 {
-    let is_new = is_next_new(m);
-    take_turn(w, m)?;
-    tell_and_read_on(r1, r2, m, told, is_new)
+    let turn = next_turn(m);
+    let had = has_next(m);
+    let passed = take_turn(w, m)?;
+    told.pass(passed, had);
+    tell_and_read_on(r1, r2, m, told, turn)
 }
 
 /// Writes all records behind the magic, but for those that are covered, and tells of those of the right side.
@@ -118,13 +138,15 @@ fn tell_records<R: Source, S: Source, W: Sink>(
     r2: &mut S,
     w: &mut W,
     m: &mut Merge,
-    told: &mut Vec<bool, Heap>,
+    told: &mut Told,
 ) -> Result<(), MergeFault>
     requires fits { Fits m.old }
     ensures telling { (a1 a2 w0 : Option (List ℕ))
-        → Telling a1 (R.left r1.old) a2 (S.left r2.old) w0 (W.held w.old) m.old told.old.items
+        → Telling a1 (R.left r1.old) a2 (S.left r2.old) w0 (W.held w.old) m.old told.old.turns.items
+        told.old.withdraws
         → MatchResult result
-        (λ _. Telling a1 (R.left r1.new) a2 (S.left r2.new) w0 (W.held w.new) m.new told.new.items)
+        (λ _. Telling a1 (R.left r1.new) a2 (S.left r2.new) w0 (W.held w.new) m.new told.new.turns.items
+        told.new.withdraws)
         (λ e. HasStoppedMerge a1 (R.left r1.new) a2 (S.left r2.new) w0 (W.held w.new) e) }
     ensures fits { OnOk result (Fits m.new) }
     ensures left_end { OnOk result (m.new.left.ahead ≡ Lookahead.Ended) }
@@ -134,7 +156,7 @@ fn tell_records<R: Source, S: Source, W: Sink>(
 {
     tell_and_read_on(r1, r2, m, told, None)?;
     'turns: while !m.is_done() {
-        turn(r1, r2, w, m, told)?;
+        give_turn(r1, r2, w, m, told)?;
     }
     Ok(())
 }
@@ -145,13 +167,14 @@ fn tell_taken<R: Source, S: Source, W: Sink>(
     r1: &mut R,
     r2: &mut S,
     w: &mut W,
-    told: &mut Vec<bool, Heap>,
+    told: &mut Told,
 ) -> Result<Sizes, MergeFault>
-    requires { told.old.items ≡ [] }
+    requires turns { told.old.turns.items ≡ [] }
+    requires withdraws { told.old.withdraws ≡ false }
     ensures leaves { Leaves (R.left r1.old) (R.left r1.new) (S.left r2.old) (S.left r2.new)
         (W.held w.old) (W.held w.new) result }
     ensures told { IfOk result (λ sizes. ToldAll (R.left r1.old) (R.left r1.new) (S.left r2.old) (S.left r2.new)
-        (W.held w.old) (W.held w.new) sizes told.new.items) }
+        (W.held w.old) (W.held w.new) sizes told.new.turns.items told.new.withdraws) }
     ensures devices { BlamesDevices (stream R.left R.failures r1.old r1.new) (stream S.left S.failures r2.old r2.new)
         (W.failures w.old) (W.failures w.new) result }
 {
@@ -160,9 +183,9 @@ fn tell_taken<R: Source, S: Source, W: Sink>(
     finish(w, &m)
 }
 
-/// Merges two archives as [`merge_streams`](crate::merge_streams) does, and tells for each record of the right one, in
-/// their order, whether it was new when its turn came: the left one neither has it nor retired it. In a text of version 1
-/// the records that are covered there are told of, too.
+/// Merges two archives as [`merge_streams`](crate::merge_streams) does, and tells of each record of the right one, in
+/// their order, whether the left one retires it, and else whether it has it; in a text of version 1 of the records that
+/// are covered there, too. And it tells whether the right one retires a slice that the left one has.
 ///
 /// # Errors
 ///
@@ -173,17 +196,21 @@ pub fn merge_telling<R: Source, S: Source, W: Sink>(
     left: &mut R,
     right: &mut S,
     w: &mut W,
-) -> Result<(Sizes, Vec<bool, Heap>), MergeFault>
+) -> Result<(Sizes, Told), MergeFault>
     ensures merges { Merges (stream R.left R.failures left.old left.new) (stream S.left S.failures right.old right.new)
         (stream W.held W.failures w.old w.new)
         (result_map_both (λ both. both.0) (λ e. e) result) }
     ensures tells { IfOk result (λ both. IsMergedTelling (stream R.left R.failures left.old left.new)
-        (stream S.left S.failures right.old right.new) (stream W.held W.failures w.old w.new) both.0 both.1.items) }
+        (stream S.left S.failures right.old right.new) (stream W.held W.failures w.old w.new) both.0
+        both.1.turns.items both.1.withdraws) }
 
     // Where the texts are known, of their contents.
-    ensures told { IfOk result (λ both. IfSome (R.left left.old) (λ t. IfSome (S.left right.old) (λ u.
+    ensures turns { IfOk result (λ both. IfSome (R.left left.old) (λ t. IfSome (S.left right.old) (λ u.
         (o p : Operations) → IsContent o → IsArchiveOf o t → HasOperations p u
-        → both.1.items ≡ map (changes o) (listing p)))) }
+        → both.1.turns.items ≡ map (turn_of o) (listing p)))) }
+    ensures withdraws { IfOk result (λ both. IfSome (R.left left.old) (λ t. IfSome (S.left right.old) (λ u.
+        (o p : Operations) → IsContent o → IsArchiveOf o t → HasOperations p u
+        → both.1.withdraws ≡ list_any (is_covered p) (listing o)))) }
 
     // Whatever stops it, and whatever is known of the inputs.
     ensures written { IfErr result (λ e. GainsCount (stream W.held W.failures w.old w.new) e.written) }
@@ -191,7 +218,7 @@ pub fn merge_telling<R: Source, S: Source, W: Sink>(
     let Ok(memory) = heap.clone() else {
         return Err(before_the_magic(MergeCause::Left(RecordFault::out_of_memory(0))));
     };
-    let mut told = Vec::new(memory);
+    let mut told = Told::nothing(memory);
     let sizes = tell_taken(heap, left, right, w, &mut told)?;
     Ok((sizes, told))
 }

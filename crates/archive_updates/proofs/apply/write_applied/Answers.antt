@@ -1,16 +1,15 @@
-use Rattle.std.proofs.Common.{◌≡◌, ◌≤◌, ◌-◌, ◌++◌, ℕ, Bool, List, ap, arith, length, map, refl, subst, sym, ◌∙◌}
+use Rattle.std.proofs.Common.{◌-◌, ℕ, ap, arith, map, refl, ◌∙◌}
 use Rattle.std.specs.List.{count_by}
 use Rattle.std.proofs.lemmas.Result.{err_from_is_err_and}
-use Rattle.join_core.specs.Listing.{listing}
-use Rattle.archive_core.specs.Content.{Operations, changes}
 use Rattle.archive_core.specs.Record.{record_bytes}
 use Rattle.byte_device.specs.Devices.{stream}
 use Rattle.byte_device.proofs.Known.{Appends-none}
 use Rattle.command_ends.specs.Inputs.{reader}
 use Rattle.command_ends.specs.Outputs.{out_of, outs, writer}
+use Rattle.record_merge.specs.Turns.{is_new, turn_of}
+use Rattle.record_merge.proofs.Lost.{count_new}
 use Rattle.report_text.specs.Report.{apply_line}
 use Rattle.archive_updates.specs.InnerTelling.{counts_of}
-use Rattle.archive_updates.proofs.Counts.{count_told}
 use Rattle.archive_updates.proofs.Told.{listed_in_order, set_of, told_published, told_stopped}
 use Rattle.archive_updates.proofs.apply.write_applied.Goals as goal
 
@@ -28,7 +27,7 @@ overflow_sub-number g c =
     let operations = c.args.operations.now in
     let j = c.in_ok-sizes.ensures.told in
     let o = j.joined.content in
-    let counted = c.count_new-new.ensures.counted ∙ ap (count_by (λ (new : Bool). new)) (c.deref.ensures.value ∙ j.told_is ∙ ap (map (changes o)) (listed_in_order operations c.requires.ascending)) ∙ count_told (changes o) (map record_bytes operations) in
+    let counted = c.count_new-new.ensures.counted ∙ ap (count_by is_new) (c.deref.ensures.value ∙ j.turns_are ∙ ap (map (turn_of o)) (listed_in_order operations c.requires.ascending)) ∙ count_new o (map record_bytes operations) in
     let few = c.requires.few o j.joined.is_content.itself in
     omega (arith, counted, few)
 
@@ -37,9 +36,9 @@ returns g c =
     let operations = c.args.operations.now in
     let j = c.in_ok-sizes.ensures.told in
     let o = j.joined.content in
-    let counted = c.count_new-new.ensures.counted ∙ ap (count_by (λ (new : Bool). new)) (c.deref.ensures.value ∙ j.told_is ∙ ap (map (changes o)) (listed_in_order operations c.requires.ascending)) ∙ count_told (changes o) (map record_bytes operations) in
+    let counted = c.count_new-new.ensures.counted ∙ ap (count_by is_new) (c.deref.ensures.value ∙ j.turns_are ∙ ap (map (turn_of o)) (listed_in_order operations c.requires.ascending)) ∙ count_new o (map record_bytes operations) in
     told_published (reader g.R.Source.left g.R.Source.failures c.args.input.now c.tell_operations.new.input) (set_of operations) (counts_of (map record_bytes operations) c.args.number)
-    (stream g.T.Draft.Sink.held g.T.Draft.Sink.failures c.args.out.now.draft c.tell_operations.new.draft) c.in_ok-sizes.sizes c.in_ok-sizes.told.items j _ (ap (λ (n : ℕ). apply_line n (c.args.number - n)) counted)
+    (stream g.T.Draft.Sink.held g.T.Draft.Sink.failures c.args.out.now.draft c.tell_operations.new.draft) c.in_ok-sizes.sizes c.in_ok-sizes.told.turns.items c.in_ok-sizes.told.withdraws j _ (ap (λ (n : ℕ). apply_line n (c.args.number - n)) counted)
     (out_of (outs g.T.Draft.Sink.held g.T.Draft.Sink.failures g.T.Target.placed g.T.Target.failures c.args.out.now c.publish_applied.new.out))
     (writer g.P.Sink.held g.P.Sink.failures c.args.report.now c.publish_applied.new.report) c.publish_applied.result
     (c.publish_applied.ensures c.args.out.now.draft _ (j.joined.written_is.written, j.joined.written_is.unfailed) j.joined.written_is.bytes_are)

@@ -1,5 +1,6 @@
 use Rattle.std.proofs.Common.{◌≡◌, ◌++◌, ◌∙◌, ℕ, List, ap, arith, drop, length, subst, sym, take}
 use Rattle.std.proofs.Math.Seq.{take-append_seam}
+use Rattle.record_merge.specs.Turns.{is_new}
 use Rattle.report_text.specs.declared.rows.AdmitRow.{AdmitRow}
 use Rattle.archive_updates.specs.InnerArriving.{ArePlaced, rows_again}
 use Rattle.archive_updates.proofs.arriving.told_again.Goals as goal
@@ -18,4 +19,4 @@ returns c = λ f came records placed is.
     let long : c.args.rows.len ≡ length new = omega (arith, c.args.rows.ok.0, same, c.tell_rows.auto.rows) in
     ap (λ (n : ℕ). take n (new ++ rest)) long ∙ take-append_seam new rest
     ∙ c.tell_rows.ensures f came records (subst (λ (rows : List AdmitRow). ArePlaced came c.args.places.now rows records) (sym value) placed) is
-    ∙ ap (λ (rows : List AdmitRow). rows_again f rows records) value
+    ∙ ap (λ (rows : List AdmitRow). rows_again (λ r. is_new (f r)) rows records) value

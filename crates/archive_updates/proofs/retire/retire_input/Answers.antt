@@ -1,13 +1,11 @@
-use Rattle.std.proofs.Common.{◌≡◌, Bool, List, Some, [], ◌∷◌, ap, arith, length, map, refl, subst, ◌∙◌}
+use Rattle.std.proofs.Common.{Some, ap, arith, length, map, refl, subst, ◌∙◌}
 use Rattle.std.proofs.lemmas.Result.{err_from_is_err_and}
-use Rattle.join_core.specs.Listing.{listing}
-use Rattle.archive_core.specs.Content.{changes}
 use Rattle.archive_core.specs.Record.{IsOperation}
-use Rattle.archive_core.specs.declared.operations.Operation.{Operation}
 use Rattle.byte_device.specs.Devices.{stream}
+use Rattle.record_merge.specs.Turns.{is_new, turn_of}
 use Rattle.command_ends.specs.Inputs.{reader}
 use Rattle.command_ends.specs.Outputs.{writer}
-use Rattle.archive_updates.proofs.Retired.{alone, are_alone, listed_alone, record_of, retire_stops, retired, text_alone}
+use Rattle.archive_updates.proofs.Retired.{alone, are_alone, listed_alone, retire_stops, retired, text_alone}
 use Rattle.archive_updates.proofs.retire.retire_input.Goals as goal
 
 pub returns-in_err-sizes-clause-stopped : goal.returns-in_err-sizes-clause-stopped
@@ -27,8 +25,8 @@ index-requires g c =
     let is = subst IsOperation c.retirement.ensures.is c.retirement.ensures.operation in
     let text = ap Some (text_alone key digest is c.retirement.result c.retirement.ensures.is) in
     let j = c.in_ok-sizes.ensures.told (alone key digest) (record { are = are_alone key digest is; bytes = c.new-text.ensures.left ∙ text; unfailed_before = c.new-text.ensures.failures; unfailed = refl }) in
-    let one = ap length (j.told_is ∙ ap (map (changes j.joined.content)) (listed_alone key digest is)) in
-    omega (arith, one, c.in_ok-sizes.told.ok.0)
+    let one = ap length (j.turns_are ∙ ap (map (turn_of j.joined.content)) (listed_alone key digest is)) in
+    omega (arith, one, c.in_ok-sizes.told.turns.ok.0)
 
 pub returns-clause-retired : goal.returns-clause-retired
 returns-clause-retired g c =
@@ -37,5 +35,5 @@ returns-clause-retired g c =
     let is = subst IsOperation c.retirement.ensures.is c.retirement.ensures.operation in
     let text = ap Some (text_alone key digest is c.retirement.result c.retirement.ensures.is) in
     let j = c.in_ok-sizes.ensures.told (alone key digest) (record { are = are_alone key digest is; bytes = c.new-text.ensures.left ∙ text; unfailed_before = c.new-text.ensures.failures; unfailed = refl }) in
-    retired key digest (reader g.R.Source.left g.R.Source.failures c.args.input.now c.tell_input.new.input) (stream g.W.Sink.held g.W.Sink.failures c.args.draft.now c.tell_input.new.draft) c.in_ok-sizes.sizes c.in_ok-sizes.told.items c.index.result.now is j
-    (λ x e. rw e at c.index.ensures)
+    retired key digest (reader g.R.Source.left g.R.Source.failures c.args.input.now c.tell_input.new.input) (stream g.W.Sink.held g.W.Sink.failures c.args.draft.now c.tell_input.new.draft) c.in_ok-sizes.sizes c.in_ok-sizes.told.turns.items c.in_ok-sizes.told.withdraws c.is_new.result is j
+    (λ x e. c.is_new.ensures ∙ ap is_new (rw e at c.index.ensures))

@@ -8,7 +8,7 @@ pub returns-in-Ok-clause-told : goal.returns-in-Ok-clause-told
 returns-in-Ok-clause-told g c = λ operations at.
     told_opened g.S.Source.left g.S.Source.failures c.args.other.now c.merge_telling.new.right operations at
     g.R.Source.left g.R.Source.failures c.args.left.now c.merge_telling.new.left
-    g.W.Sink.held g.W.Sink.failures c.args.draft.now c.merge_telling.new.w c.in-Ok.told.0 c.in-Ok.told.1.items c.in-Ok.ensures.tells
+    g.W.Sink.held g.W.Sink.failures c.args.draft.now c.merge_telling.new.w c.in-Ok.told.0 c.in-Ok.told.1.turns.items c.in-Ok.told.1.withdraws c.in-Ok.ensures.tells
 
 pub returns-in-Err-clause-stopped : goal.returns-in-Err-clause-stopped
 returns-in-Err-clause-stopped g c = λ operations at.

@@ -1,49 +1,85 @@
-use Rattle.std.proofs.Common.{◌≡◌, ◌∙◌, ℕ, List, [], ◌++◌, Some, None, Err, refl, true, false, ap, inl, inr, option_map, string_bytes, subst, sym, append-nil}
+use Rattle.std.proofs.Common.{◌≡◌, ◌∙◌, ℕ, List, [], ◌++◌, Some, None, refl, ap, inl, option_map}
+use Rattle.std.proofs.Common.{string_bytes, subst, sym, append-nil}
 use mathlib.Core.Logic.{∥∥₁_map}
 use Rattle.std.proofs.lemmas.Result.{err_from_is_err_and}
 use Rattle.std.specs.Io.KnownBytes.{Appends}
-use Rattle.std.proofs.KnownBytes.{Appends-nil}
-use Rattle.archive_files.specs.FileCalls.{FileCall, bytes_in}
-use Rattle.archive_files.specs.OutFiles.{draft_account, has_calls, is_settled, placed_account, placing_calls, stage_of}
-use Rattle.archive_files.specs.Placing.{IsPlaced, IsRemoved, account, place}
+use Rattle.archive_files.specs.FileCalls.{bytes_in}
+use Rattle.archive_files.specs.OutFiles.{draft_account, is_settled, placed_account, placing_calls, Untouched}
+use Rattle.archive_files.specs.OutFiles.{stage_of}
+use Rattle.archive_files.specs.Placing.{IsPlaced, IsRemoved, account}
+use Rattle.command_line.specs.LineView.{line_view}
+use Rattle.command_line.specs.Lines.{inputs_of}
 use Rattle.plan_commands.specs.Files.{command_fault_of}
-use Rattle.plan_commands.proofs.Places.{carried_from, draft_took, first_from, none_opened, nothing_taken, nothing_there, placed_there, settled_of, settled_without_calls}
+use Rattle.plan_commands.proofs.OutPlaces.{draft_took, first_from, none_asked, nothing_taken, nothing_there}
+use Rattle.plan_commands.proofs.OutPlaces.{placed_there, settled_of, settled_without_calls}
+use Rattle.plan_commands.proofs.Noting.{on_any, told_done}
 use Rattle.plan_commands.proofs.Outcomes.{carried_outcome}
 use Rattle.plan_commands.proofs.Saying.{none_called}
 use Rattle.plan_commands.proofs.files.execute.Goals as goal
 
 pub returns-in_err-heap : goal.returns-in_err-heap
 returns-in_err-heap g c =
-    let wanting = err_from_is_err_and c.from_residual.result c.from_residual.ensures.1 in inl (record {
-      wanting = wanting.1 ∙ ap (λ fault. Err fault) wanting.2;
-      opened = none_opened _ _;
+    let wanting = err_from_is_err_and c.from_residual.result c.from_residual.ensures.1 in
+    rw (wanting.1, wanting.2) (inl (record {
+      wanting = refl;
+      asked = none_asked _ _;
       uncalled = none_called _ _ c.requires.6 c.requires.5;
       report_same = refl;
       report_unfailed = refl;
-    })
+    }))
+
+pub returns-in_err-clone : goal.returns-in_err-clone
+returns-in_err-clone g c =
+    let wanting = err_from_is_err_and c.from_residual-in_err-clone.result c.from_residual-in_err-clone.ensures.1 in
+    rw (wanting.1, wanting.2) (inl (record {
+      wanting = refl;
+      asked = none_asked _ _;
+      uncalled = none_called _ _ c.requires.6 c.requires.5;
+      report_same = refl;
+      report_unfailed = refl;
+    }))
 
 pub returns-in_err-begin : goal.returns-in_err-begin
 returns-in_err-begin g c =
-    let wanting =
-    err_from_is_err_and c.from_residual-in_err-begin.result c.from_residual-in_err-begin.ensures.1 in inl (record {
-      wanting = wanting.1 ∙ ap (λ fault. Err fault) wanting.2;
-      opened = (0, ap (λ o. Some o) (c.begin.ensures.opened ∙ sym (append-nil _)));
+    let wanting = err_from_is_err_and c.from_residual-in_err-begin.result c.from_residual-in_err-begin.ensures.1 in
+    rw (wanting.1, wanting.2) (inl (record {
+      wanting = refl;
+      asked = (0, c.begin.ensures.asked ∙ sym (append-nil _));
       uncalled = none_called _ _ c.begin.ensures.placed c.begin.ensures.calls;
       report_same = refl;
       report_unfailed = refl;
-    })
+    }))
+
+pub returns-in_err-inputs : goal.returns-in_err-inputs
+returns-in_err-inputs g c =
+    let wanting = err_from_is_err_and c.from_residual-in_err-inputs.result c.from_residual-in_err-inputs.ensures.1 in
+    rw (wanting.1, wanting.2) (inl (record {
+      wanting = refl;
+      asked = first_from _ _ _ _ c.begin.ensures.asked c.inputs_for.ensures.first;
+      uncalled = none_called _ _
+          (ap (λ out. out.target.placed) c.inputs_for.ensures.out ∙ c.begin.ensures.placed)
+          (ap (λ out. out.draft.calls.entries) c.inputs_for.ensures.out ∙ c.begin.ensures.calls);
+      report_same = refl;
+      report_unfailed = refl;
+    }))
 
 pub returns : goal.returns
 returns g c =
-    let before = c.begin.new.files.out in
+    let before = c.inputs_for.new.files.out in
+    let same = c.inputs_for.ensures.out in
+    let untouched : stage_of before.draft.state ≡ Untouched =
+    ap (λ out. stage_of out.draft.state) same ∙ c.begin.ensures.untouched in
+    let uncalled : before.draft.calls.entries ≡ [] = ap (λ out. out.draft.calls.entries) same ∙ c.begin.ensures.calls in
+    let unfailed : before.draft.failures ≡ 0 = ap (λ out. out.draft.failures) same ∙ c.begin.ensures.unfailed in
+    let unplaced : before.target.placed ≡ None = ap (λ out. out.target.placed) same ∙ c.begin.ensures.placed in
     let done = c.execute_on-ended.new.out in
     let last = c.discard.new.self in
     let path = option_map string_bytes before.draft.path in
     let begun : Some (draft_account (is_settled (stage_of before.draft.state)) path before.draft.calls.entries)
     ≡ Some (account path []) =
-    ap (λ stage. Some (draft_account (is_settled stage) path before.draft.calls.entries)) c.begin.ensures.untouched
-    ∙ ap (λ calls. Some (account path (bytes_in calls))) c.begin.ensures.calls in
-    let none_before : placed_account before.target.placed ≡ None = ap placed_account c.begin.ensures.placed in
+    ap (λ stage. Some (draft_account (is_settled stage) path before.draft.calls.entries)) untouched
+    ∙ ap (λ calls. Some (account path (bytes_in calls))) uncalled in
+    let none_before : placed_account before.target.placed ≡ None = ap placed_account unplaced in
     let settled = is_settled (stage_of done.draft.state) in
     let after = option_map string_bytes done.draft.path in
     let took : (bytes : List ℕ)
@@ -55,56 +91,52 @@ returns g c =
     let none_called : (took_none : bytes_in done.draft.calls.entries ≡ [])
     → done.draft.failures ≡ before.draft.failures → placed_account done.target.placed ≡ placed_account before.target.placed
     → placing_calls done.target.placed ++ last.calls.entries ≡ [] =
-    λ none unfailed kept.
+    λ none as_often kept.
     ap (λ calls. calls ++ last.calls.entries) (nothing_there done.target.placed (kept ∙ none_before))
     ∙ last.first (nothing_taken _ _ (c.discard.ensures.bytes ∙ none)
-    (c.discard.ensures.failures ∙ unfailed ∙ c.begin.ensures.unfailed)) in
-    elim c.execute_on-ended.ensures [
-      | inl unbegun ↦ inl (record {
-        wanting = c.told.ensures ∙ ap (command_fault_of _) unbegun.wanting;
-        opened = first_from _ _ _ _ c.begin.ensures.opened unbegun.opened;
-        uncalled =
-            let same = unbegun.out_same in
-            none_called (ap (λ o. bytes_in o.draft.calls.entries) same ∙ ap bytes_in c.begin.ensures.calls)
-            (ap (λ o. o.draft.failures) same) (ap (λ o. placed_account o.target.placed) same);
-        report_same = unbegun.report_same;
-        report_unfailed = unbegun.report_unfailed;
-      })
-      | inr carried ↦ inr (record {
-        path = path;
-        begun = before;
-        done = done;
-        ended = c.execute_on-ended.result;
-        path_is = c.in_ok-begin.ensures.path;
-        begun_is = begun;
-        begun_unfailed = c.begin.ensures.unfailed;
-        nothing_placed = none_before;
-        behind = c.execute_on-ended.new.inputs.items;
-        carried = carried_from _ _ _ _ _ _ _ _ _ _ _ c.begin.ensures.opened carried;
-        outcome = carried_outcome _ _ _ _ _ _ _ _ _ _ _ carried;
-        placed = λ text is.
-            let there = placed_there path done.target.placed text
-            (subst (λ held. Appends held (placed_account done.target.placed) text) begun is.placed) in
-            let gone : last.calls.entries ≡ [] = last.empty (settled_without_calls (stage_of last.state)
-            (c.discard.ensures.settled ∙ settled_of settled after done.draft.calls.entries is.emptied)) in (
-              there.0,
-              there.1,
-              ∥∥₁_map there.2 (λ whole. subst (λ calls. IsPlaced there.0 text calls)
-                  (sym (ap (λ calls. placing_calls done.target.placed ++ calls) gone
-                  ∙ append-nil (placing_calls done.target.placed))) whole),
-            );
-        removed = λ not.
-            let is = took not.bytes not.took in
-            let gone : placing_calls done.target.placed ≡ [] = nothing_there done.target.placed (not.kept ∙ none_before) in
-            let called : placing_calls done.target.placed ++ last.calls.entries ≡ last.calls.entries =
-            ap (λ calls. calls ++ last.calls.entries) gone in (
-              ∥∥₁_map c.discard.ensures.removed (λ removed. subst (λ calls. IsRemoved path calls) (sym called)
-                  (subst (λ p. IsRemoved p last.calls.entries)
-                  (ap (option_map string_bytes) c.discard.ensures.path ∙ is.0) removed)),
-              ap bytes_in called ∙ c.discard.ensures.bytes ∙ is.1,
-            );
-        untouched = λ kept.
-            let is = took [] kept.0.0 in none_called is.1 kept.0.1 kept.1.0;
-        told_is = c.told.ensures ∙ ap (λ fault. command_fault_of fault c.execute_on-ended.result) c.fault.ensures;
-      })
-    ]
+    (c.discard.ensures.failures ∙ as_often ∙ unfailed)) in
+    let noted = c.execute_on-ended.new.notes.items in
+    let carried = rw c.new-notes.ensures.items at c.execute_on-ended.ensures in
+    told_done (λ notes. notes.items) _ _ _ c.fault.result c.execute_on-ended.result noted c.told_with.result c.told_with.ensures (record {
+      path = path;
+      begun = before;
+      done = done;
+      ended = c.execute_on-ended.result;
+      path_is = rw (c.inputs_for.ensures.others.0, c.inputs_for.ensures.others.1, same) c.in_ok-begin.ensures.path;
+      begun_is = begun;
+      begun_unfailed = unfailed;
+      nothing_placed = none_before;
+      asked = c.in_ok-inputs.ensures.asked
+          ∙ ap (λ asked. asked ++ inputs_of (line_view c.args.line.now)) c.begin.ensures.asked;
+      before = c.deref_mut.result.now;
+      behind = c.execute_on-ended.new.inputs;
+      noted = noted;
+      carried = carried;
+      notes_are = on_any (command_fault_of c.fault.result c.execute_on-ended.result) refl;
+      outcome = carried_outcome _ _ _ _ _ _ _ _ _ carried;
+      placed = λ text is.
+          let there = placed_there path done.target.placed text
+          (subst (λ held. Appends held (placed_account done.target.placed) text) begun is.placed) in
+          let gone : last.calls.entries ≡ [] = last.empty (settled_without_calls (stage_of last.state)
+          (c.discard.ensures.settled ∙ settled_of settled after done.draft.calls.entries is.emptied)) in (
+            there.0,
+            there.1,
+            ∥∥₁_map there.2 (λ whole. subst (λ calls. IsPlaced there.0 text calls)
+                (sym (ap (λ calls. placing_calls done.target.placed ++ calls) gone
+                ∙ append-nil (placing_calls done.target.placed))) whole),
+          );
+      removed = λ not.
+          let is = took not.bytes not.took in
+          let gone : placing_calls done.target.placed ≡ [] =
+          nothing_there done.target.placed (not.kept ∙ none_before) in
+          let called : placing_calls done.target.placed ++ last.calls.entries ≡ last.calls.entries =
+          ap (λ calls. calls ++ last.calls.entries) gone in (
+            ∥∥₁_map c.discard.ensures.removed (λ removed. subst (λ calls. IsRemoved path calls) (sym called)
+                (subst (λ p. IsRemoved p last.calls.entries)
+                (ap (option_map string_bytes) c.discard.ensures.path ∙ is.0) removed)),
+            ap bytes_in called ∙ c.discard.ensures.bytes ∙ is.1,
+          );
+      untouched = λ kept.
+          let is = took [] kept.0.0 in none_called is.1 kept.0.1 kept.1.0;
+      told_is = ap (λ fault. command_fault_of fault c.execute_on-ended.result) c.fault.ensures;
+    })

@@ -8,9 +8,9 @@ returns-in-Ok-clause-merging g c = λ a1 a2 b2 w0 w1 p.
     left_read a1 a2 w0 w1 _ b2 _ c.args.m.now p c.read_on.new.self left.read (λ done low s. left.stands a1 done low s)
 
 pub returns-in-Ok-clause-telling : goal.returns-in-Ok-clause-telling
-returns-in-Ok-clause-telling g c = λ a1 a2 b2 w0 w1 told t.
+returns-in-Ok-clause-telling g c = λ a1 a2 b2 w0 w1 told withdraws t.
     let left = c.in-Ok.ensures in
-    tells_left_read a1 a2 w0 w1 _ b2 _ c.args.m.now told t c.read_on.new.self left.read (λ done low s. left.stands a1 done low s)
+    tells_left_read a1 a2 w0 w1 _ b2 _ c.args.m.now told withdraws t c.read_on.new.self left.read (λ done low s. left.stands a1 done low s)
 
 pub returns-in-Err-clause-merging : goal.returns-in-Err-clause-merging
 returns-in-Err-clause-merging g c = λ a1 a2 b2 w0 w1 p.

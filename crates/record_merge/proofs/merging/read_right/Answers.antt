@@ -9,9 +9,9 @@ returns-in-Ok-clause-merging g c = λ a1 b1 a2 w0 w1 p.
     right_read a1 a2 w0 w1 b1 _ _ c.args.m.now p c.requires.read c.read_on.new.self (λ done low s. right.stands a2 done low s)
 
 pub returns-in-Ok-clause-telling : goal.returns-in-Ok-clause-telling
-returns-in-Ok-clause-telling g c = λ a1 b1 a2 w0 w1 told t.
+returns-in-Ok-clause-telling g c = λ a1 b1 a2 w0 w1 told withdraws t.
     let right = c.in-Ok.ensures in
-    tells_right_read a1 a2 w0 w1 b1 _ _ c.args.m.now told t c.requires.read c.read_on.new.self (λ done low s. right.stands a2 done low s)
+    tells_right_read a1 a2 w0 w1 b1 _ _ c.args.m.now told withdraws t c.requires.read c.read_on.new.self (λ done low s. right.stands a2 done low s)
 
 pub returns-in-Err-clause-merging : goal.returns-in-Err-clause-merging
 returns-in-Err-clause-merging g c = λ a1 b1 a2 w0 w1 p.

@@ -8,4 +8,4 @@ returns-in_err-test_number-clause-merging g c = λ a1 b1 a2 b2 w0 p.
     rw (e.1, e.2) (full_stops _ _ _ _ _ _ c.args.m.now p c.requires.fits c.requires.read c.requires.some c.if-is_covered.ensures _ c.in_err-test_number.ensures.refused)
 
 pub returns-then-is_covered-clause-telling : goal.returns-then-is_covered-clause-telling
-returns-then-is_covered-clause-telling g c = λ a1 b1 a2 b2 w0 told is_new t tells. c.pass_over.ensures.telling a1 b1 a2 b2 w0 _ told is_new t tells
+returns-then-is_covered-clause-telling g c = λ a1 b1 a2 b2 w0 told withdraws turn t tells. c.pass_over.ensures.telling a1 b1 a2 b2 w0 _ told withdraws turn t tells

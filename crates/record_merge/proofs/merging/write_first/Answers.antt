@@ -19,13 +19,13 @@ returns-in-Greater-clause-merging g c = λ a1 b1 a2 b2 w0 p.
     right_turn a1 b1 a2 b2 w0 _ _ c.args.m.now p c.put_held-in-Greater.result c.put_held-in-Greater.new.written c.put_held-in-Greater.new.side c.requires.read.left c.requires.some (sym c.in-Greater.ensures) c.requires.kept put.ok put.err
 
 pub returns-in-Less-clause-telling : goal.returns-in-Less-clause-telling
-returns-in-Less-clause-telling g c = λ a1 b1 a2 b2 w0 told is_new t tells.
-    tells_left a1 b1 a2 b2 w0 _ _ c.args.m.now told is_new t tells c.put_held.new.written c.put_held.new.side c.put_held.result c.requires.read.right (sym c.in-Less.ensures) c.requires.kept c.put_held.ensures.ok
+returns-in-Less-clause-telling g c = λ a1 b1 a2 b2 w0 told withdraws turn t tells.
+    tells_left a1 b1 a2 b2 w0 _ _ c.args.m.now told withdraws turn t tells c.put_held.new.written c.put_held.new.side c.put_held.result c.requires.read.right (sym c.in-Less.ensures) c.requires.kept c.put_held.ensures.ok
 
 pub returns-in-Equal-clause-telling : goal.returns-in-Equal-clause-telling
-returns-in-Equal-clause-telling g c = λ a1 b1 a2 b2 w0 told is_new t tells.
-    tells_both a1 b1 a2 b2 w0 _ _ c.args.m.now told is_new t tells c.put_held-in-Equal.new.written c.put_held-in-Equal.new.side c.put_held-in-Equal.result (sym c.in-Equal.ensures) c.requires.kept c.put_held-in-Equal.ensures.ok
+returns-in-Equal-clause-telling g c = λ a1 b1 a2 b2 w0 told withdraws turn t tells.
+    tells_both a1 b1 a2 b2 w0 _ _ c.args.m.now told withdraws turn t tells c.put_held-in-Equal.new.written c.put_held-in-Equal.new.side c.put_held-in-Equal.result (sym c.in-Equal.ensures) c.requires.kept c.put_held-in-Equal.ensures.ok
 
 pub returns-in-Greater-clause-telling : goal.returns-in-Greater-clause-telling
-returns-in-Greater-clause-telling g c = λ a1 b1 a2 b2 w0 told is_new t tells.
-    tells_right a1 b1 a2 b2 w0 _ _ c.args.m.now told is_new t tells c.put_held-in-Greater.new.written c.put_held-in-Greater.new.side c.put_held-in-Greater.result c.requires.read.left c.requires.some (sym c.in-Greater.ensures) c.requires.kept c.put_held-in-Greater.ensures.ok
+returns-in-Greater-clause-telling g c = λ a1 b1 a2 b2 w0 told withdraws turn t tells.
+    tells_right a1 b1 a2 b2 w0 _ _ c.args.m.now told withdraws turn t tells c.put_held-in-Greater.new.written c.put_held-in-Greater.new.side c.put_held-in-Greater.result c.requires.read.left c.requires.some (sym c.in-Greater.ensures) c.requires.kept c.put_held-in-Greater.ensures.ok

@@ -3,9 +3,9 @@ use Rattle.record_merge.proofs.Tells.{tells_end}
 use Rattle.record_merge.proofs.streams.finish.Goals as goal
 
 pub returns-in-Ok-clause-told : goal.returns-in-Ok-clause-told
-returns-in-Ok-clause-told g c = λ a1 b1 a2 b2 w0 told t.
+returns-in-Ok-clause-told g c = λ a1 b1 a2 b2 w0 told withdraws t.
     let put = c.in-Ok.ensures in
-    tells_end a1 b1 a2 b2 w0 _ _ c.args.m.now told t c.requires.left_end c.requires.right_end c.requires.fits.few c.in-Ok.sizes put.ok.1 put.records put.ok.0
+    tells_end a1 b1 a2 b2 w0 _ _ c.args.m.now told withdraws t c.requires.left_end c.requires.right_end c.requires.fits.few c.in-Ok.sizes put.ok.1 put.records put.ok.0
 
 pub returns-in-Err-clause-leaves : goal.returns-in-Err-clause-leaves
 returns-in-Err-clause-leaves g c = λ a1 b1 a2 b2 w0 p.

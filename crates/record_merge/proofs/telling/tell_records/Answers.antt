@@ -4,7 +4,7 @@ use Rattle.record_merge.proofs.telling.tell_records.Goals as goal
 pub turns-preserved : goal.turns-preserved
 turns-preserved g c =
     let before = c.turns.invariant in
-    let turn = c.in_ok-turn.ensures in
+    let turn = c.in_ok-give_turn.ensures in
     record {
       telling = λ a1 a2 w0 t. turn.telling a1 a2 w0 (before.telling a1 a2 w0 t);
       fits = turn.fits;

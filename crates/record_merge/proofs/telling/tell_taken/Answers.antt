@@ -1,4 +1,4 @@
-use Rattle.std.proofs.Common.{[]}
+use Rattle.std.proofs.Common.{[], false}
 use Rattle.std.proofs.lemmas.Result.{err_from_is_err_and}
 use Rattle.record_merge.proofs.Starts.{stops_later}
 use Rattle.record_merge.proofs.Tells.{tells_as}
@@ -7,11 +7,11 @@ use Rattle.record_merge.proofs.telling.tell_taken.Goals as goal
 pub returns-in_err-tell_records-clause-leaves : goal.returns-in_err-tell_records-clause-leaves
 returns-in_err-tell_records-clause-leaves g c =
     let e = err_from_is_err_and c.from_residual-in_err-tell_records.result c.from_residual-in_err-tell_records.ensures.1 in
-    let begun = tells_as _ _ _ _ _ _ c.in_ok-m.m [] c.args.told.now.items c.requires c.in_ok-m.ensures.telling in
+    let begun = tells_as _ _ _ _ _ _ c.in_ok-m.m [] c.args.told.now.turns.items false c.args.told.now.withdraws c.requires.turns c.requires.withdraws c.in_ok-m.ensures.telling in
     rw (e.1, e.2) (stops_later _ _ _ _ _ _ _ (c.in_err-tell_records.ensures.telling _ _ _ begun))
 
 pub returns-clause-leaves : goal.returns-clause-leaves
 returns-clause-leaves g c =
-    let begun = tells_as _ _ _ _ _ _ c.in_ok-m.m [] c.args.told.now.items c.requires c.in_ok-m.ensures.telling in
+    let begun = tells_as _ _ _ _ _ _ c.in_ok-m.m [] c.args.told.now.turns.items false c.args.told.now.withdraws c.requires.turns c.requires.withdraws c.in_ok-m.ensures.telling in
     let told = c.in_ok-tell_records.ensures.telling _ _ _ begun in
     c.finish.ensures.leaves _ _ _ _ _ told.merging

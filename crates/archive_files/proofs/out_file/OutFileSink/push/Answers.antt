@@ -1,4 +1,4 @@
-use Rattle.std.proofs.Common.{◌∙◌, refl, sym, ap, option_map, string_bytes, subst, take}
+use Rattle.std.proofs.Common.{◌∙◌, sym, ap, option_map, string_bytes, subst, take}
 use mathlib.Core.Logic.{∥∥₁_map}
 use Rattle.archive_files.specs.OutFiles.{IsSoFar, has_calls, is_settled, stage_of}
 use Rattle.archive_files.proofs.Placings.{failed_some, more_account, more_so_far, takes_has_calls, took_some}

@@ -1,19 +1,15 @@
 -- What is in place of OUT, by what is known of it.
-use Rattle.std.proofs.Common.{◌≡◌, ◌∙◌, ◌⊎◌, ℕ, ◌==◌, ◌&&◌, Bool, true, false, List, [], ◌∷◌, ◌++◌, length, take, drop, get_or, suc}
-use Rattle.std.proofs.Common.{Option, Some, None, Result, OnOk, refl, ap, sym, subst, inl, inr, append_assoc, append-nil, arith, string_bytes}
+use Rattle.std.proofs.Common.{◌≡◌, ◌∙◌, ℕ, Bool, true, false, List, [], ◌∷◌, ◌++◌, length, take, drop}
+use Rattle.std.proofs.Common.{get_or, suc}
+use Rattle.std.proofs.Common.{Option, Some, None, Result, OnOk, refl, ap, sym, subst, inl, inr}
+use Rattle.std.proofs.Common.{append-nil, arith, string_bytes}
 use Rattle.std.proofs.lemmas.List.{append_cancel_left}
 use Rattle.std.proofs.Math.Seq.{take-append_seam}
 use Rattle.std.proofs.lemmas.Grind.{not_there}
 use mathlib.Core.Logic.{∥∥₁_map}
 use Rattle.std.specs.Io.KnownBytes.{Appends}
 use Rattle.clap.specs.Words.{Text}
-use Rattle.command_line.specs.Lines.{Line}
-use Rattle.command_ends.specs.declared.faults.CommandFault.{CommandFault}
-use Rattle.command_ends.specs.declared.faults.Status.{Status}
-use Rattle.command_ends.specs.Outputs.{Outs, Writer}
-use Rattle.plan_commands.specs.Disks.{AreFirstOpened, Carried}
-use Rattle.byte_device.specs.declared.disks.CannotOpen.{CannotOpen}
-use Rattle.byte_device.specs.Disks.{At}
+use Rattle.archive_files.specs.Turns.{AreFirstAsked}
 use Rattle.archive_files.specs.FileCalls.{FileCall, bytes_in}
 use Rattle.archive_files.specs.OutFiles.{Stage, Untouched, Through, Drafted, Refused, Removed, Settled}
 use Rattle.archive_files.specs.OutFiles.{draft_account, has_calls, is_settled, placed_account, placing_calls}
@@ -100,19 +96,6 @@ path_from r a b xs ys others same path asked inputs is =
     subst (λ o. OnOk r (IsPath o ys others same path)) asked
     (subst (λ i. OnOk r (IsPath a i others same path)) inputs is)
 
--- what was opened behind the same paths
-pub first_from : (old first : List Text) (new : Option (List Text)) (paths : List Text) → first ≡ old
-    → AreFirstOpened (Some first) new paths → AreFirstOpened (Some old) new paths
-first_from old first new paths same opened = subst (λ o. AreFirstOpened (Some o) new paths) same opened
-
-pub carried_from : {S D T : Type 0} (left : S → Option (List ℕ)) (failures : S → ℕ) (path_of : S → List Text) (old first : List Text)
-    (new : Option (List Text)) (line : Line) (behind : List (Result S CannotOpen)) (out : Outs D T) (report : Writer)
-    (ended : Result Status CommandFault)
-    → first ≡ old → Carried left failures path_of At (Some first) new line behind out report ended
-    → Carried left failures path_of At (Some old) new line behind out report ended
-carried_from left failures path_of old first new line behind out report ended same carried =
-    subst (λ o. Carried left failures path_of At (Some o) new line behind out report ended) same carried
-
 -- without a path nothing was called
 pub called_nowhere : (path : Option (List ℕ)) (calls : List FileCall) → path ≡ None → ∥ IsRemoved path calls ∥₁ → calls ≡ []
 called_nowhere path [] none removed = refl
@@ -129,6 +112,11 @@ called_nowhere path (call ∷ calls) none removed = absurd (not_there removed by
     by_case (inr (inl drafted)) = none_some drafted.0 drafted.1
     by_case (inr (inr through)) = none_some through.0 through.1
 
--- no path was opened yet
-pub none_opened : (opened paths : List Text) → AreFirstOpened (Some opened) (Some opened) paths
-none_opened opened paths = (0, ap (λ o. Some o) (sym (append-nil opened)))
+-- no input was made yet
+pub none_asked : (asked paths : List Text) → AreFirstAsked asked asked paths
+none_asked asked paths = (0, sym (append-nil asked))
+
+-- what was made behind the same paths
+pub first_from : (old first new : List Text) (paths : List Text) → first ≡ old → AreFirstAsked first new paths
+    → AreFirstAsked old new paths
+first_from old first new paths same asked = subst (λ o. AreFirstAsked o new paths) same asked

@@ -1,6 +1,7 @@
--- What a merge told of its right side, once it ended.
-use Rattle.std.proofs.Common.{◌≡◌, ℕ, Bool, true, false, not, ◌||◌, ◌&&◌, List, [], ◌++◌, map, Option, Some, None, refl, sym, ap, ◌∙◌, subst, inl, inr}
+-- What a merge told of its sides, once it ended.
+use Rattle.std.proofs.Common.{◌≡◌, ℕ, Bool, true, false, cond, not, ◌||◌, ◌&&◌, List, [], ◌∷◌, ◌++◌, map, Option, Some, None, refl, sym, ap, ◌∙◌, subst, inl, inr}
 use Rattle.std.proofs.lemmas.List.{append-nil}
+use Rattle.std.specs.List.{filter, list_any}
 use Rattle.std.specs.Prelude.{IfSome}
 use Rattle.std.specs.Cmp.Lexicographic.{nat_list_cmp_total}
 use Rattle.std.specs.FinSet as set
@@ -8,7 +9,7 @@ use Rattle.std.specs.Io.KnownBytes.{Consumes, IsAtEnd}
 use Rattle.join_core.specs.Listing.{listing}
 use Rattle.join_core.proofs.Listing.{listing_ascending}
 use Rattle.byte_device.specs.Devices.{Stream}
-use Rattle.archive_core.specs.Content.{Operations, IsContent, IsMade, changes, content_of, is_admission, is_covered}
+use Rattle.archive_core.specs.Content.{Operations, IsContent, IsMade, content_of, is_admission, is_covered}
 use Rattle.archive_core.proofs.Made.{contains_made, covers_same}
 use Rattle.archive_records.specs.declared.format.Format.{Format}
 use Rattle.archive_records.specs.declared.format.Format.TheVariants.{Archive, OldArchive, Operations as Operations_file, Summary as Summary_file}
@@ -16,15 +17,17 @@ use Rattle.archive_records.specs.declared.kind.TextKind.TheVariants.{Archive as 
 use Rattle.archive_records.specs.declared.writing.Sizes.{Sizes}
 use Rattle.archive_records.specs.Kind.{archive_format, kind_of}
 use Rattle.archive_records.specs.Reader.{set_of}
-use Rattle.archive_records.specs.Text.{text_of, InOrder, AreApart, IsArchiveOf, taken_of}
+use Rattle.archive_records.specs.Text.{text_of, InOrder, AreApart, IsArchiveOf, kept, taken_of}
 use Rattle.archive_records.proofs.Contents.{InOrder-set, are_records, content_is, sorted-InOrder, written-records, written_text}
 use Rattle.archive_records.proofs.Exact.{same_records}
 use Rattle.archive_records.proofs.Formats.{format_magic, in_order_of, no_operations_text, no_summary_text, old_in_order}
 use Rattle.archive_records.proofs.Puts.{bytes_same}
-use Rattle.archive_records.proofs.Versions.{kept_set, no_operations, old_written-records, old_written_text}
+use Rattle.archive_records.proofs.Versions.{kept_records, kept_set, no_operations, old_written-records, old_written_text}
 use Rattle.record_merge.specs.Merging.{IsUnfailed}
 use Rattle.record_merge.specs.Telling.{HasOperations, IsMergedTelling}
-use Rattle.record_merge.specs.TellingSteps.{ToldAll}
+use Rattle.record_merge.specs.declared.turns.Turn.{Turn}
+use Rattle.record_merge.specs.TellingSteps.{ToldAll, is_withdrawn}
+use Rattle.record_merge.specs.Turns.{turn_by, turn_of}
 use Rattle.record_merge.proofs.Fronts.{taken_rest}
 use Rattle.record_merge.proofs.Merges.{merged}
 use Rattle.record_merge.proofs.Tells.{same_answers}
@@ -40,18 +43,39 @@ taken_makes OldArchive k xs a apart = kept_set xs a
 taken_makes Operations_file k xs a apart = absurd (no_operations_text k)
 taken_makes Summary_file k xs a apart = absurd (no_summary_text k)
 
--- and what changes the one changes the other
-changes_made : (o : Operations) (r : List ℕ) → changes (content_of o) r ≡ changes o r
-unfolding changes
-changes_made o r =
-    (λ i. not (contains_made o r i || (is_admission r && covers_same o r i)))
+-- and a record is the same to both
+turn_made : (o : Operations) (r : List ℕ) → turn_of (content_of o) r ≡ turn_of o r
+unfolding turn_of
+turn_made o r =
+    (λ i. turn_by (is_admission r && covers_same o r i) (contains_made o r i))
     ∙ by_cases (set.contains o r) (is_covered o r)
   where
-    by_cases : (a b : Bool) → not ((a && not b) || b) ≡ not (a || b)
+    by_cases : (a b : Bool) → turn_by b (a && not b) ≡ turn_by b a
     by_cases true true = refl
     by_cases true false = refl
     by_cases false true = refl
     by_cases false false = refl
+
+-- what is retired among what is kept of records
+and_true : (b : Bool) → (b && true) ≡ b
+and_true true = refl
+and_true false = refl
+
+and_false : (b : Bool) → (b && false) ≡ false
+and_false true = refl
+and_false false = refl
+
+any_kept : (p q : List ℕ → Bool) (xs : List (List ℕ)) → list_any (λ r. p r && q r) xs ≡ list_any p (filter q xs)
+any_kept p q [] = refl
+any_kept p q (x ∷ xs) = ap (λ b. (p x && q x) || b) (any_kept p q xs) ∙ by_test (q x)
+  where
+    by_test : (keep : Bool) → ((p x && keep) || list_any p (filter q xs)) ≡ list_any p (cond keep (x ∷ filter q xs) (filter q xs))
+    by_test true = ap (λ b. b || list_any p (filter q xs)) (and_true (p x))
+    by_test false = ap (λ b. b || list_any p (filter q xs)) (and_false (p x))
+
+withdrawn_kept : (xs : List (List ℕ)) (p : Operations) → InOrder Archive [] xs → list_any (is_withdrawn (set_of xs) p) xs ≡ list_any (is_covered p) (listing (content_of (set_of xs)))
+unfolding kept
+withdrawn_kept xs p a = any_kept (is_covered p) (λ r. not (is_covered (set_of xs) r)) xs ∙ ap (list_any (is_covered p)) (sym (kept_records xs a))
 
 -- ---- the operations of a text
 
@@ -100,9 +124,9 @@ one_set text o p has other =
 
 -- ---- what was told
 
-module _ {R S W : Type 0} (left : Stream R) (right : Stream S) (out : Stream W) (sizes : Sizes) (told : List Bool) where
-  pub merged_telling : ToldAll (left.bytes left.old) (left.bytes left.new) (right.bytes right.old) (right.bytes right.new) (out.bytes out.old) (out.bytes out.new) sizes told
-      → IsUnfailed left × IsUnfailed right × IsUnfailed out → IsMergedTelling left right out sizes told
+module _ {R S W : Type 0} (left : Stream R) (right : Stream S) (out : Stream W) (sizes : Sizes) (turns : List Turn) (withdraws : Bool) where
+  pub merged_telling : ToldAll (left.bytes left.old) (left.bytes left.new) (right.bytes right.old) (right.bytes right.new) (out.bytes out.old) (out.bytes out.new) sizes turns withdraws
+      → IsUnfailed left × IsUnfailed right × IsUnfailed out → IsMergedTelling left right out sizes turns withdraws
   unfolding merged
   merged_telling t unfailed =
       let m = t.merged in
@@ -117,20 +141,27 @@ module _ {R S W : Type 0} (left : Stream R) (right : Stream S) (out : Stream W) 
         are = are_records m.rights rights_in;
         right_is = of_taken (right.bytes right.old) (right.bytes right.new) (set_of m.rights) (text_of m.right.reader.file m.rights) r.taken m.right_read.1 (of_text m.right.reader.file m.right_archive m.rights rights_in r.apart);
         makes = taken_makes m.right.reader.file m.right_archive m.rights rights_in r.apart;
-        told_is = t.told_is
-            ∙ same_answers (changes (set_of m.lefts)) (changes (set_of (taken_of m.left.reader.file m.lefts))) m.rights (λ x _. sym (changes_made (set_of m.lefts) x) ∙ ap (λ (o : Operations). changes o x) (sym taken))
-            ∙ ap (map (changes (set_of (taken_of m.left.reader.file m.lefts)))) (sym (listing_of m.rights rights_in));
+        turns_are = t.turns_are
+            ∙ same_answers (turn_of (set_of m.lefts)) (turn_of (set_of (taken_of m.left.reader.file m.lefts))) m.rights (λ x _. sym (turn_made (set_of m.lefts) x) ∙ ap (λ (o : Operations). turn_of o x) (sym taken))
+            ∙ ap (map (turn_of (set_of (taken_of m.left.reader.file m.lefts)))) (sym (listing_of m.rights rights_in));
+        withdraws_is = t.withdraws_is ∙ withdrawn_kept m.lefts (set_of m.rights) lefts_in
+            ∙ ap (λ (o : Operations). list_any (is_covered (set_of m.rights)) (listing o)) (sym taken);
       }
 
 -- of texts that are known it was told of their operations
-abbrev ToldOfTexts : List Bool → Option (List ℕ) → Option (List ℕ) → Type 0
-ToldOfTexts told a1 a2 = IfSome a1 (λ t. IfSome a2 (λ u. (o p : Operations) → IsContent o → IsArchiveOf o t → HasOperations p u → told ≡ map (changes o) (listing p)))
+module _ (P : Operations → Operations → Type 0) where
+  abbrev ToldOfTexts : Option (List ℕ) → Option (List ℕ) → Type 0
+  ToldOfTexts a1 a2 = IfSome a1 (λ t. IfSome a2 (λ u. (o p : Operations) → IsContent o → IsArchiveOf o t → HasOperations p u → P o p))
 
-told_by : (told : List Bool) (o operations : Operations) → told ≡ map (changes o) (listing operations) → (a1 a2 : Option (List ℕ)) → IfSome a1 (λ t. (other : Operations) → IsContent other → IsArchiveOf other t → o ≡ other) → IfSome a2 (HasOperations operations) → ToldOfTexts told a1 a2
-told_by told o operations is None a2 alone has = tt
-told_by told o operations is (Some t) None alone has = tt
-told_by told o operations is (Some t) (Some u) alone has = λ q p content text other.
-    is ∙ ap (λ (x : Operations). map (changes x) (listing operations)) (alone q content text) ∙ ap (λ (x : Operations). map (changes q) (listing x)) (one_set u operations p has other)
+  told_by : (o operations : Operations) → P o operations → (a1 a2 : Option (List ℕ)) → IfSome a1 (λ t. (other : Operations) → IsContent other → IsArchiveOf other t → o ≡ other) → IfSome a2 (HasOperations operations) → ToldOfTexts a1 a2
+  told_by o operations is None a2 alone has = tt
+  told_by o operations is (Some t) None alone has = tt
+  told_by o operations is (Some t) (Some u) alone has = λ q p content text other.
+      subst (λ (x : Operations). P q x) (one_set u operations p has other) (subst (λ (x : Operations). P x operations) (alone q content text) is)
 
-pub told_of_texts : {R S W : Type 0} (left : Stream R) (right : Stream S) (out : Stream W) (sizes : Sizes) (told : List Bool) → IsMergedTelling left right out sizes told → ToldOfTexts told (left.bytes left.old) (right.bytes right.old)
-told_of_texts left right out sizes told t = told_by told t.merged.o t.operations t.told_is (left.bytes left.old) (right.bytes right.old) t.merged.left_is.alone t.right_is
+module _ {R S W : Type 0} (left : Stream R) (right : Stream S) (out : Stream W) (sizes : Sizes) (turns : List Turn) (withdraws : Bool) (t : IsMergedTelling left right out sizes turns withdraws) where
+  pub turns_of_texts : ToldOfTexts (λ o p. turns ≡ map (turn_of o) (listing p)) (left.bytes left.old) (right.bytes right.old)
+  turns_of_texts = told_by (λ o p. turns ≡ map (turn_of o) (listing p)) t.merged.o t.operations t.turns_are (left.bytes left.old) (right.bytes right.old) t.merged.left_is.alone t.right_is
+
+  pub withdraws_of_texts : ToldOfTexts (λ o p. withdraws ≡ list_any (is_covered p) (listing o)) (left.bytes left.old) (right.bytes right.old)
+  withdraws_of_texts = told_by (λ o p. withdraws ≡ list_any (is_covered p) (listing o)) t.merged.o t.operations t.withdraws_is (left.bytes left.old) (right.bytes right.old) t.merged.left_is.alone t.right_is

@@ -1,0 +1,7 @@
+use Rattle.std.proofs.Common.{take, map}
+use Rattle.archive_files.specs.AtTurns.{told}
+use Rattle.archive_files.specs.Turns.{AreWaiting}
+use Rattle.acceptance.proofs.commands.make_inputs.Given as goal
+
+abbrev pub invariant-paths : goal.invariant-paths
+invariant-paths l = AreWaiting told (map (λ p. p.now) (take l.path-index l.paths)) l.inputs.items

@@ -1,0 +1,101 @@
+-- An input that is opened at its turn.
+use Rattle.std.specs.Prelude.{◌≡◌, ◌≢◌, ℕ, List, [], ◌∷◌, ◌++◌, take, Option, Some, None, Result, Ok, Err}
+use Rattle.std.specs.Prelude.{MatchResult, ⊤}
+use Rattle.std.specs.List.{AllByRecursion, AllZip}
+use Rattle.std.specs.IoError.{error_kind}
+use Rattle.std.specs.declared.io.ErrorKind.TheVariants.{OutOfMemory}
+use Rattle.byte_device.specs.Disks.{At, FileAt, Holding, IsOpened, Missing, Path, Unknown}
+use Rattle.byte_device.specs.declared.disks.CannotOpen.{CannotOpen}
+use Rattle.archive_files.specs.declared.at_turn.Turn.{Turn}
+use Rattle.archive_files.specs.declared.at_turn.Turn.TheVariants as turn
+use Rattle.archive_files.specs.declared.at_turn.Unopened.{Unopened as Reason}
+use Rattle.archive_files.specs.declared.at_turn.Unopened.TheVariants as why
+
+-- how far an input is
+pub data Stage : Type 0 where
+  Waiting : Stage
+  Open : Stage
+  Unopened : Reason → Stage
+
+abbrev pub stage_of : {I : Type 0} → Turn I → Stage
+stage_of turn.Waiting = Waiting
+stage_of (turn.Open input) = Open
+stage_of (turn.Unopened reason) = Unopened reason
+
+-- why it was not opened, if its turn came and it was not
+abbrev pub unopened_in : Stage → Option Reason
+unopened_in Waiting = None
+unopened_in Open = None
+unopened_in (Unopened reason) = Some reason
+
+-- the paths that were opened for an input with this path
+abbrev pub opened_in : Stage → Path → List Path
+opened_in Waiting path = []
+opened_in Open path = path ∷ []
+opened_in (Unopened reason) path = path ∷ []
+
+-- The bytes that a file gives, of which this is known. One that is not there gives none: what stands for them is no
+-- byte, so that nobody can have read it.
+abbrev pub bytes_at : FileAt → Option (List ℕ)
+bytes_at Unknown = None
+bytes_at (At path) = None
+bytes_at Missing = Some (256 ∷ [])
+bytes_at (Holding bytes) = Some bytes
+
+-- the bytes that an input has left, of whose file this is known
+abbrev pub left_in : {I : Type 0} → (I → Option (List ℕ)) → FileAt → Turn I → Option (List ℕ)
+left_in left file turn.Waiting = bytes_at file
+left_in left file (turn.Open input) = left input
+left_in left file (turn.Unopened reason) = bytes_at file
+
+-- The input is what opening such a file gives, or there was no memory to open it.
+abbrev pub GivesTurn : {I : Type 0} → (I → Option (List ℕ)) → (I → ℕ) → (I → List Path) → FileAt → Turn I → Type 0
+GivesTurn left failures path_of file turn.Waiting = ⊥
+GivesTurn left failures path_of file (turn.Open input) = IsOpened left failures path_of file (Ok input)
+GivesTurn left failures path_of file (turn.Unopened (why.Refused refused)) =
+    IsOpened left failures path_of file (Err refused)
+GivesTurn left failures path_of file (turn.Unopened why.OutOfMemory) = ⊤
+
+-- An input may be so far, of whose file this is known: what is not there is not open; what is known to be there is not
+-- refused, nor is another for want of memory.
+abbrev pub IsTurnOf : FileAt → Stage → Type 0
+IsTurnOf Missing Open = ⊥
+IsTurnOf (Holding bytes) (Unopened (why.Refused refused)) = ⊥
+IsTurnOf (At path) (Unopened (why.Refused refused)) = error_kind refused.reason ≢ OutOfMemory
+IsTurnOf _ _ = ⊤
+
+-- What is told of inputs: what each has left and how often it failed, its path, what is known of its file, how far it
+-- is, and which paths were opened for it, where that is known.
+pub record Told (S : Type 0) : Type 0 where
+  pub left : S → Option (List ℕ)
+  pub failures : S → ℕ
+  pub path : S → Path
+  pub file : S → FileAt
+  pub stage : S → Stage
+  pub opened : S → Option (List Path)
+
+-- The input has this path, and waits for its turn.
+pub record IsWaiting {S : Type 0} (told : Told S) (path : Path) (input : S) : Type 0 where
+  pub path_is : told.path input ≡ path
+  pub waits : told.stage input ≡ Waiting
+  pub unfailed : told.failures input ≡ 0
+  pub bytes : told.left input ≡ bytes_at (told.file input)
+
+-- Of an input no other path is opened than its own, and that once, at its turn; and where it is not opened it fails.
+pub record IsAtTurn {S : Type 0} (told : Told S) (input : S) : Type 0 where
+  pub log : (paths : List Path) → told.opened input ≡ Some paths
+      → paths ≡ opened_in (told.stage input) (told.path input)
+  pub fits : ∥ IsTurnOf (told.file input) (told.stage input) ∥₁
+  pub failed : unopened_in (told.stage input) ≢ None → told.failures input ≢ 0
+
+-- The inputs have these paths, in their order, and wait.
+abbrev pub AreWaiting : {S : Type 0} → Told S → List Path → List (Result S CannotOpen) → Type 0
+AreWaiting told paths inputs = AllZip (λ path input. MatchResult input (IsWaiting told path) (λ _. ⊥)) paths inputs
+
+-- So it is with each of these inputs.
+abbrev pub AreAtTurn : {S : Type 0} → Told S → List (Result S CannotOpen) → Type 0
+AreAtTurn told inputs = AllByRecursion (λ input. MatchResult input (IsAtTurn told) (λ _. ⊤)) inputs
+
+-- Inputs were made for the first of these paths, each once and in their order.
+abbrev pub AreFirstAsked : List Path → List Path → List Path → Type 0
+AreFirstAsked asked_old asked_new paths = (count : ℕ) × (asked_new ≡ asked_old ++ take count paths)

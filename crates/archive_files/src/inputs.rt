@@ -1,0 +1,36 @@
+//! The inputs of a command, each of which is opened at its turn.
+
+ghost use Rattle.std.specs.Prelude.{◌≡◌, ◌++◌, [], OnOk, map};
+ghost use Rattle.archive_files.specs.AtTurns.{told};
+ghost use Rattle.archive_files.specs.Turns.{AreFirstAsked, AreWaiting};
+
+use crate::at_turn::AtTurn;
+use crate::call_log::CallLog;
+use crate::system_disk::SystemDisk;
+use byte_device::CannotOpen;
+use memory::NoMemory;
+use std::alloc::Global;
+use std::rt::Files;
+
+/// An input of the system. It stands in a result since the commands take inputs that may be refused beforehand.
+pub type SystemInput<'l, 'a, F> = Result<AtTurn<'l, SystemDisk<'a, F>>, CannotOpen>;
+
+/// Makes an input for each of these paths, which is noted.
+pub fn make_inputs<'l, 'a, F: Files>(
+    alloc: Global,
+    files: &'a F,
+    paths: &[&'l str],
+    asked: &mut CallLog,
+    inputs: &mut Vec<SystemInput<'l, 'a, F>>,
+) -> Result<(), NoMemory>
+    requires { inputs.old.items ≡ [] }
+    ensures inputs { OnOk result (AreWaiting told (map (λ p. p.now) paths.now) inputs.new.items) }
+    ensures asked { OnOk result (asked.new.entries ≡ asked.old.entries ++ map (λ p. p.now) paths.now) }
+    ensures first { AreFirstAsked asked.old.entries asked.new.entries (map (λ p. p.now) paths.now) }
+{
+    'paths: for path in paths {
+        asked.note(path.as_bytes());
+        inputs.push(Ok(AtTurn::new(SystemDisk::new(alloc, files), path)))?;
+    }
+    Ok(())
+}

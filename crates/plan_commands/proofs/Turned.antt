@@ -1,0 +1,23 @@
+-- Inputs that are opened at their turn.
+use Rattle.std.proofs.Common.{◌≡◌, List, [], ◌∷◌, length, refl, ap, suc, Result, Ok, Err}
+use Rattle.std.specs.List.{AllZip}
+use Rattle.byte_device.specs.declared.Source.{Ghosts as Sources}
+use Rattle.byte_device.specs.declared.disks.CannotOpen.{CannotOpen}
+use Rattle.byte_device.specs.declared.disks.Disk.{Ghosts as Disks}
+use Rattle.archive_files.specs.AtTurns.{told_by}
+use Rattle.archive_files.specs.Turns.{AreAtTurn}
+use Rattle.archive_files.specs.declared.at_turn.AtTurn.{AtTurn}
+
+-- there are as many inputs as paths
+pub as_many : {A B : Type 0} (R : A → B → Type 0) (xs : List A) (ys : List B) → AllZip R xs ys → length ys ≡ length xs
+as_many R [] [] all = refl
+as_many R [] (y ∷ ys) all = absurd all
+as_many R (x ∷ xs) [] all = absurd all
+as_many R (x ∷ xs) (y ∷ ys) all = ap suc (as_many R xs ys all.1)
+
+-- each input keeps its rules
+pub at_turn : {D I : Type 0} (disk : Disks D I) (input : Sources I)
+    (xs : List (Result (AtTurn D I disk input) CannotOpen)) → AreAtTurn (told_by disk input) xs
+at_turn disk input [] = tt
+at_turn disk input (Ok s ∷ xs) = (record { log = s.log; fits = s.fits; failed = s.failed }, at_turn disk input xs)
+at_turn disk input (Err e ∷ xs) = (tt, at_turn disk input xs)
