@@ -1,12 +1,12 @@
 -- Admissions, and behind them retirements: as many are new in their turn as there are of them, each once, that change the content.
-use Rattle.std.proofs.Common.{◌≡◌, ℕ, ◌+◌, if◌then◌else◌, Bool, true, false, not, cond, ◌||◌, ◌&&◌, List, [], ◌∷◌, ◌++◌, length, map, filter, refl, sym, ap, ◌∙◌, arith, subst}
+use Rattle.std.proofs.Common.{◌≡◌, ℕ, ◌+◌, if◌then◌else◌, Bool, true, false, not, cond, ◌||◌, ◌&&◌, List, [], ◌∷◌, ◌++◌, map, filter, refl, sym, ap, ◌∙◌, arith, subst}
 use mathlib.Core.Bool.{true≢false}
 use Rattle.std.specs.Ordering.{nat_cmp, eq_by_cmp}
 use Rattle.std.specs.Cmp.Lexicographic.{slice_cmp, nat_list_cmp_total}
 use Rattle.std.specs.List.{AllByRecursion, count_by, list_all}
 use Rattle.std.specs.List.Sorted.{IsStrictlySortedBy}
 use Rattle.std.specs.FinSet as set
-use Rattle.std.specs.FinSet.{contains, from_list, same_set, contains-empty, contains-insert, len-insert}
+use Rattle.std.specs.FinSet.{contains, from_list, same_set, contains-insert, len-insert}
 use Rattle.std.proofs.lemmas.List.Kept.{IsStrictlySortedBy-filter}
 use Rattle.std.proofs.lemmas.List.Sums.{length-filter}
 use Rattle.std.proofs.lemmas.List.Elements.{All-append, All-from_recursion, recursion_from_All}
@@ -14,8 +14,8 @@ use Rattle.join_core.proofs.Place.{len_listed}
 use Rattle.archive_core.specs.Record.{IsOperation, record_bytes}
 use Rattle.archive_core.specs.Content.{Operations, is_admission, covering, is_covered, content_of, IsMade, joined, with_record, with_records, changes, new_among}
 use Rattle.archive_core.specs.declared.operations.Operation.{Operation}
-use Rattle.archive_core.proofs.Made.{bytes_same, by_test, either, or_left, or_right, made_again, made_empty, and_left, and_right}
-use Rattle.archive_core.proofs.Taken.{contains_with, known_changes, taken_are_joined, tied_is, with_known, new_in_turn, new_of_none}
+use Rattle.archive_core.proofs.Made.{bytes_same, by_test, or_left, or_right, made_again, made_empty, and_left, and_right}
+use Rattle.archive_core.proofs.Taken.{contains_with, known_changes, taken_are_joined, with_known, new_in_turn, new_of_none}
 use Rattle.sorted_archive.specs.InTurn.{AreNewInTurn}
 use Rattle.sorted_archive.specs.InnerTaking.{AreParts, IsParted, new_of_both, with_both}
 use Rattle.sorted_archive.proofs.Held.{each_member}

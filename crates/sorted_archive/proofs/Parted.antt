@@ -1,5 +1,5 @@
 -- A list of operations in two parts: its admissions, then its retirements, without those that are not new where they come.
-use Rattle.std.proofs.Common.{◌≡◌, ℕ, ◌+◌, if◌then◌else◌, List, [], ◌∷◌, ◌++◌, Bool, true, false, not, ◌||◌, ◌&&◌, length, map, refl, sym, ap, ◌∙◌, subst, arith, length-append}
+use Rattle.std.proofs.Common.{◌≡◌, ℕ, ◌+◌, if◌then◌else◌, List, [], ◌∷◌, ◌++◌, Bool, true, false, not, ◌||◌, ◌&&◌, length, map, refl, sym, ap, ◌∙◌, subst, arith}
 use mathlib.Core.Bool.{true≢false}
 use Rattle.std.specs.Prelude.{Result, Ok, Err, OnOk}
 use Rattle.std.specs.Ordering.{nat_cmp, eq_by_cmp}
@@ -9,10 +9,10 @@ use Rattle.std.specs.FinSet as set
 use Rattle.std.specs.FinSet.{contains, contains-insert, contains-empty, same_set}
 use Rattle.archive_core.specs.Record.{IsOperation, record_bytes}
 use Rattle.archive_core.specs.Content.{Operations, is_admission, covering, is_covered, content_of, IsMade, IsBelow, IsTakenInPart, with_record, with_records, changes, new_among}
-use Rattle.sorted_archive.specs.InnerTaking.{AreParts, IsBeside, IsParting, IsParted, with_both}
+use Rattle.sorted_archive.specs.InnerTaking.{IsBeside, IsParting, IsParted, with_both}
 use Rattle.archive_core.specs.declared.operations.Operation.{Operation}
 use Rattle.archive_core.proofs.Made.{bytes_same, by_test, and_left, and_right, or_left, or_right, kept, free, covers_same, made_again, made_alike, alike_insert, made_is_alike, below_transitive}
-use Rattle.archive_core.proofs.Taken.{known_changes, new_changes, with_known, below_taken, apart, tied_is}
+use Rattle.archive_core.proofs.Taken.{known_changes, with_known, below_taken, apart, tied_is}
 
 -- ---- one operation more
 

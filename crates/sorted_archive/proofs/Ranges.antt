@@ -1,5 +1,5 @@
 -- The operations of one kind under one key, or under one UUID, stand together.
-use Rattle.std.proofs.Common.{◌≡◌, ℕ, ◌<◌, ◌≤◌, ◌-◌, ◌+◌, get_or, take, length-drop, Bool, true, false, cond, List, [], ◌∷◌, ◌++◌, length, map, filter, drop, Some, None, refl, sym, ap, ◌∙◌, arith, subst, append_assoc, w32}
+use Rattle.std.proofs.Common.{◌≡◌, ℕ, ◌<◌, ◌≤◌, ◌-◌, ◌+◌, get_or, length-drop, Bool, true, false, cond, List, [], ◌∷◌, ◌++◌, length, map, filter, drop, Some, None, refl, sym, ap, ◌∙◌, arith, subst, append_assoc, w32}
 use mathlib.Core.Bool.{true≢false}
 use Rattle.std.specs.declared.cmp.Ordering.{Ordering}
 use Rattle.std.specs.declared.cmp.Ordering.TheVariants.{Less, Equal, Greater}
@@ -37,7 +37,7 @@ use Rattle.sorted_archive.specs.declared.range.RecordKind.{RecordKind}
 use Rattle.sorted_archive.specs.declared.range.RecordKind.TheVariants.{Retirement, Admission}
 use Rattle.sorted_archive.specs.declared.range.Scope.{Scope}
 use Rattle.sorted_archive.specs.declared.range.Scope.TheVariants.{OfKey, OfUuid}
-use Rattle.sorted_archive.proofs.Falling.{Falls, parted, falls_drop, middle}
+use Rattle.sorted_archive.proofs.Falling.{Falls, parted, middle}
 
 -- the bytes of a key behind its UUID
 arch_bytes : SliceKey → List ℕ

@@ -1,15 +1,13 @@
 -- Retirements that are taken alone: those are new that are not held, each once.
 use Rattle.std.proofs.Common.{◌≡◌, ℕ, ◌+◌, if◌then◌else◌, Bool, true, false, not, cond, ◌||◌, ◌&&◌, List, [], ◌∷◌, length, map, filter, refl, sym, ap, ◌∙◌, arith, subst}
 use Rattle.std.specs.Prelude.{fold}
-use mathlib.Core.Bool.{true≢false}
-use Rattle.std.specs.Ordering.{nat_cmp, eq_by_cmp}
+use Rattle.std.specs.Ordering.{nat_cmp}
 use Rattle.std.specs.Cmp.Lexicographic.{slice_cmp, nat_list_cmp_total}
 use Rattle.std.specs.List.{list_all}
 use Rattle.std.specs.FinSet as set
 use Rattle.std.specs.FinSet.{contains, union, from_list, same_set, contains-union, len-insert, len-empty}
 use Rattle.std.proofs.Math.ListN.{length-map}
 use Rattle.std.proofs.lemmas.List.Kept.{IsStrictlySortedBy-filter}
-use Rattle.std.specs.List.Sorted.{IsStrictlySortedBy}
 use Rattle.join_core.proofs.Members.{inserts_are_union}
 use Rattle.join_core.proofs.Merge.{from_list_append}
 use Rattle.join_core.proofs.Place.{len_listed}
@@ -17,7 +15,7 @@ use Rattle.archive_core.specs.Record.{record_bytes}
 use Rattle.archive_core.specs.Content.{Operations, is_admission, covering, is_covered, content_of, IsMade, IsBelow, IsTakenInPart, with_record, with_records, changes, new_among}
 use Rattle.sorted_archive.specs.InnerTaking.{IsBeside}
 use Rattle.archive_core.specs.declared.operations.Operation.{Operation}
-use Rattle.archive_core.proofs.Made.{bytes_same, by_test, and_left, and_right, and_true, or_left, or_right, joined_made_right}
+use Rattle.archive_core.proofs.Made.{bytes_same, and_left, and_right, and_true, or_left, or_right, joined_made_right}
 use Rattle.archive_core.proofs.Taken.{known_changes, new_changes, with_known, taken_are_joined, new_in_turn, new_of_none}
 use Rattle.sorted_archive.proofs.Merged.{IsOrderOf, contains_filtered, records_filtered}
 use Rattle.sorted_archive.proofs.Parted.{beside_first, beside_retirement, not_of, neither}

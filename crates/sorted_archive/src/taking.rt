@@ -159,8 +159,8 @@ pub fn take_each<A: Archive + Drop>(
 }
 
 /// Those operations of a list that are new in their turn, whatever it comes to, in the order of their records, each
-/// once: its retirements, and the slices that do not come behind theirs. A slice may stand beside a retirement that comes
-/// behind it and covers it.
+/// once: its retirements, and the slices that do not come behind theirs. A slice may stand beside a retirement that
+/// comes behind it and covers it.
 ///
 /// Refused for want of memory alone.
 pub fn new_in_turn(operations: Vec<Operation, Heap>) -> Result<Vec<Operation, Heap>, NoMemory>

@@ -1,4 +1,4 @@
-use Rattle.std.proofs.Common.{true, false, ◌∙◌, ap, sym, arith}
+use Rattle.std.proofs.Common.{◌∙◌, ap, sym, arith}
 use Rattle.std.specs.Ordering.{is_lt, is_gt}
 use Rattle.sorted_archive.specs.declared.range.RecordKind.TheVariants.{Retirement}
 use Rattle.sorted_archive.proofs.Ranges.{below_place, above_place, none_at}

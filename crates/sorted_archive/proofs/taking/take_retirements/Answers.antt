@@ -1,4 +1,4 @@
-use Rattle.std.proofs.Common.{not, map, sym, ap, ◌∙◌, rules, arith, length}
+use Rattle.std.proofs.Common.{not, ap, ◌∙◌, rules, arith, length}
 use Rattle.std.specs.FinSet.{contains}
 use Rattle.std.proofs.lemmas.Fn.{filter_same}
 use Rattle.std.proofs.lemmas.Result.{err_from_is_err_and}

@@ -1,6 +1,6 @@
-use Rattle.std.proofs.Common.{◌≡◌, false, true, refl, sym, subst, ◌∙◌}
+use Rattle.std.proofs.Common.{◌≡◌, true, refl, sym, subst, ◌∙◌}
 use Rattle.std.specs.FinSet.{contains}
-use Rattle.archive_core.specs.Record.{IsOperation, record_bytes}
+use Rattle.archive_core.specs.Record.{record_bytes}
 use Rattle.archive_core.specs.Content.{Operations}
 use Rattle.sorted_archive.specs.InnerTaking.{IsParting}
 use Rattle.archive_core.specs.declared.operations.Operation.TheVariants.{Retire}
