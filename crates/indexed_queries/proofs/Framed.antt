@@ -1,11 +1,10 @@
 -- Frames, and the keys that they have.
 use Rattle.std.proofs.Common.{◌≡◌, ℕ, ◌+◌, ◌<◌, List, [], ◌∷◌, ◌++◌, length, map, take, get_or, Contains, Ok, Err, refl, sym, ap, ◌∙◌, subst, inl, inr, arith, add-one, if◌then◌else◌}
-use Rattle.std.specs.Prelude.{◌↔◌}
 use Rattle.std.specs.List.{AllZip}
 use Rattle.std.proofs.Math.ListN.{length-map}
 use Rattle.std.proofs.Math.Seq.{take-suc}
 use Rattle.std.proofs.lemmas.List.{get_or-map, flat_map_more}
-use Rattle.std.proofs.lemmas.List.Elements.{Contains-append_left, Contains-get_or, Contains-push, Contains-push_cases}
+use Rattle.std.proofs.lemmas.List.Elements.{Contains-append_left, Contains-push, Contains-push_cases}
 use Rattle.archive_core.specs.Content.{Operations, HaveSameMembers}
 use Rattle.archive_core.specs.Key.{key_bytes}
 use Rattle.archive_core.specs.Lookup.{IsAnswer, answer_view}

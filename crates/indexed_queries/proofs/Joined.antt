@@ -1,7 +1,6 @@
 -- Parts that are joined one after another.
 use Rattle.std.proofs.Common.{◌≡◌, ℕ, ◌+◌, ◌<◌, List, [], ◌∷◌, ◌++◌, length, map, take, get_or, Option, Some, None, Result, Ok, Err, refl, sym, ap, ◌∙◌, subst, inl, inr, arith, add-one}
-use Rattle.std.specs.Prelude.{IfErr, IfSome, OnOk, MatchResult}
-use Rattle.std.specs.List.{AllZip}
+use Rattle.std.specs.Prelude.{IfErr, IfSome, OnOk}
 use Rattle.std.proofs.Math.ListN.{length-map}
 use Rattle.std.proofs.Math.Seq.{take-suc}
 use Rattle.std.proofs.lemmas.List.{get_or-map}
@@ -11,8 +10,6 @@ use Rattle.archive_core.specs.Summary.{Entries}
 use Rattle.archive_index.specs.Places.{AreNamed, BlamesPlaced, HasIndexedLength, IsPlaceFault}
 use Rattle.archive_index.specs.declared.fault.PlaceFault.{PlaceFault}
 use Rattle.archive_index.specs.declared.fault.PlaceFault.TheVariants.{Stale, Device, OutOfMemory}
-use Rattle.byte_device.specs.declared.disks.CannotOpen.{CannotOpen}
-use Rattle.command_ends.specs.Archives.{merged}
 use Rattle.command_ends.specs.Indexes.{HoldsIndex, IsRefusedBehindIndex, IsRefusedByIndex}
 use Rattle.command_ends.specs.Inputs.{Reader, IsRefusal, Unfailed, reader}
 use Rattle.command_ends.specs.declared.faults.CommandFault.{CommandFault}

@@ -1,5 +1,5 @@
 -- What is refused, from what reading an index and its archive came to.
-use Rattle.std.proofs.Common.{◌≡◌, ◌≢◌, ℕ, List, [], Option, Some, None, Result, Ok, Err, true, false, refl, ap, sym, inl, inr, ◌⊎◌}
+use Rattle.std.proofs.Common.{◌≡◌, ◌≢◌, ℕ, List, [], Option, Some, None, Result, Ok, Err, true, false, refl, ap, sym, inl, inr}
 use Rattle.std.specs.Prelude.{IfSome, IsTrue, MatchResult, ◌↔◌}
 use Rattle.archive_core.specs.Summary.{Entries}
 use Rattle.archive_index.specs.Places.{HasIndexedLength}
