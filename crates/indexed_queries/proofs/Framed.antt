@@ -21,7 +21,7 @@ use Rattle.command_ends.specs.Outputs.{Takes, Writer}
 use Rattle.command_ends.specs.declared.faults.CommandFault.{CommandFault}
 use Rattle.command_ends.specs.declared.faults.CommandFault.TheVariants.{Input, Output, Report, OutOfMemory}
 use Rattle.command_ends.specs.declared.faults.Status.{Status}
-use Rattle.command_ends.specs.declared.faults.Status.TheVariants.{Done, Partial}
+use Rattle.command_ends.specs.declared.faults.Status.TheVariants.{Partial}
 use Rattle.command_ends.proofs.Readers.{pairs_more}
 use Rattle.indexed_queries.specs.declared.fronts.Front.{Front}
 use Rattle.indexed_queries.specs.Frames.{AreRefusedAt, MakesFramedAt, RefusesFramesAt, keys_of}
@@ -81,9 +81,6 @@ no_keys = λ q. (λ h. h, λ h. h)
 
 take_frame : (frames : List Frame) (i : ℕ) (frame : Frame) → i < length frames → frame ≡ get_or frames i frame → take (i + 1) frames ≡ take i frames ++ frame ∷ []
 take_frame frames i frame lt is = ap (λ (n : ℕ). take n frames) (add-one i) ∙ take-suc frames i frame lt ∙ ap (λ (f : Frame). take i frames ++ f ∷ []) (sym is)
-
-pub none_framed : (content : Operations) → TellsFrames content [] Done []
-none_framed content = record { rows = []; answered = tt; status_is = refl; text_is = refl }
 
 pub more_framed : (content : Operations) (frames : List Frame) (i : ℕ) (frame : Frame) (status next : Status) (text lines : List ℕ) (answer : Answer) → i < length frames → frame ≡ get_or frames i frame
     → TellsFrames content (take i frames) status text
