@@ -1,11 +1,10 @@
 -- Frames, and the keys that they have.
 use Rattle.std.proofs.Common.{◌≡◌, ℕ, ◌+◌, ◌<◌, List, [], ◌∷◌, ◌++◌, length, map, take, get_or, Contains, Ok, Err, refl, sym, ap, ◌∙◌, subst, inl, inr, arith, add-one, if◌then◌else◌}
-use Rattle.std.specs.Prelude.{◌↔◌}
 use Rattle.std.specs.List.{AllZip}
 use Rattle.std.proofs.Math.ListN.{length-map}
 use Rattle.std.proofs.Math.Seq.{take-suc}
 use Rattle.std.proofs.lemmas.List.{get_or-map, flat_map_more}
-use Rattle.std.proofs.lemmas.List.Elements.{Contains-append_left, Contains-get_or, Contains-push, Contains-push_cases}
+use Rattle.std.proofs.lemmas.List.Elements.{Contains-append_left, Contains-push, Contains-push_cases}
 use Rattle.archive_core.specs.Content.{Operations, HaveSameMembers}
 use Rattle.archive_core.specs.Key.{key_bytes}
 use Rattle.archive_core.specs.Lookup.{IsAnswer, answer_view}
@@ -22,7 +21,7 @@ use Rattle.command_ends.specs.Outputs.{Takes, Writer}
 use Rattle.command_ends.specs.declared.faults.CommandFault.{CommandFault}
 use Rattle.command_ends.specs.declared.faults.CommandFault.TheVariants.{Input, Output, Report, OutOfMemory}
 use Rattle.command_ends.specs.declared.faults.Status.{Status}
-use Rattle.command_ends.specs.declared.faults.Status.TheVariants.{Done, Partial}
+use Rattle.command_ends.specs.declared.faults.Status.TheVariants.{Partial}
 use Rattle.command_ends.proofs.Readers.{pairs_more}
 use Rattle.indexed_queries.specs.declared.fronts.Front.{Front}
 use Rattle.indexed_queries.specs.Frames.{AreRefusedAt, MakesFramedAt, RefusesFramesAt, keys_of}
@@ -82,9 +81,6 @@ no_keys = λ q. (λ h. h, λ h. h)
 
 take_frame : (frames : List Frame) (i : ℕ) (frame : Frame) → i < length frames → frame ≡ get_or frames i frame → take (i + 1) frames ≡ take i frames ++ frame ∷ []
 take_frame frames i frame lt is = ap (λ (n : ℕ). take n frames) (add-one i) ∙ take-suc frames i frame lt ∙ ap (λ (f : Frame). take i frames ++ f ∷ []) (sym is)
-
-pub none_framed : (content : Operations) → TellsFrames content [] Done []
-none_framed content = record { rows = []; answered = tt; status_is = refl; text_is = refl }
 
 pub more_framed : (content : Operations) (frames : List Frame) (i : ℕ) (frame : Frame) (status next : Status) (text lines : List ℕ) (answer : Answer) → i < length frames → frame ≡ get_or frames i frame
     → TellsFrames content (take i frames) status text

@@ -1,15 +1,14 @@
 -- Archives with indexes, one more of which was read.
-use Rattle.std.proofs.Common.{◌≡◌, ℕ, zero, suc, ◌+◌, ◌<◌, Bool, true, false, ◌||◌, List, [], ◌∷◌, ◌++◌, length, map, take, drop, get_or, set, Option, Some, Result, Err, refl, sym, ap, ◌∙◌, subst, inl, inr, arith, add-one}
+use Rattle.std.proofs.Common.{◌≡◌, ℕ, zero, suc, ◌+◌, ◌<◌, Bool, true, false, ◌||◌, List, [], ◌∷◌, ◌++◌, length, map, take, drop, get_or, set, Option, Some, Result, refl, sym, ap, ◌∙◌, subst, inl, inr, arith, add-one}
 use Rattle.std.specs.Prelude.{slice_get}
-use Rattle.std.specs.List.{AllByRecursion, AllZip, list_any}
 use Rattle.std.specs.FinSet as sets
 use Rattle.std.proofs.Math.ListN.{length-map, length-set}
 use Rattle.std.proofs.Math.Seq.{take-suc}
-use Rattle.std.proofs.lemmas.List.{get_or-map, get_or-set_same, take_all}
+use Rattle.std.proofs.lemmas.List.{get_or-map, get_or-set_same}
 use Rattle.std.proofs.lemmas.List.Folds.{list_any-append}
 use Rattle.std.proofs.lemmas.List.Sums.{fold-append}
 use Rattle.std.proofs.lemmas.Option.{slice_get-get_or}
-use Rattle.archive_core.specs.Content.{Operations, IsContent}
+use Rattle.archive_core.specs.Content.{Operations}
 use Rattle.archive_core.specs.Part.{is_under, part}
 use Rattle.archive_queries.specs.InnerTogether.{HasJoinedParts as HaveJoinedPicked}
 use Rattle.byte_device.specs.declared.disks.CannotOpen.{CannotOpen}
@@ -23,7 +22,7 @@ use Rattle.command_ends.proofs.Readers.{all_take, readers_long, rest_kept, set_o
 use Rattle.indexed_queries.specs.declared.fronts.Front.{Front}
 use Rattle.indexed_queries.specs.Fronts.{HoldsNamed, IsStaleFor, front_bytes}
 use Rattle.indexed_queries.specs.InnerParts.{HasJoinedParts, HaveJoinedGroups}
-use Rattle.indexed_queries.specs.Together.{AllThree, AreNamedBy, AreRefusedTogether, AreUnfailedTogether, HoldNamedTogether, IsFirstRefusedByIndex, IsOneOf, is_under_any, merged_each}
+use Rattle.indexed_queries.specs.Together.{AllThree, AreNamedBy, AreRefusedTogether, AreUnfailedTogether, HoldNamedTogether, IsFirstRefusedByIndex, IsOneOf, is_under_any}
 
 three_more : {X Y Z : Type 0} (R : X → Y → Z → Type 0) (xs : List X) (ys : List Y) (zs : List Z) (x : X) (y : Y) (z : Z) → AllThree R xs ys zs → R x y z → AllThree R (xs ++ x ∷ []) (ys ++ y ∷ []) (zs ++ z ∷ [])
 three_more R [] [] [] x y z all one = (one, tt)

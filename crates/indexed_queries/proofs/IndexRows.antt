@@ -1,17 +1,16 @@
 -- The rows of the index of a content are those of the content.
-use Rattle.std.proofs.Common.{◌≡◌, ℕ, ◌+◌, ◌<◌, ◌≤◌, ◌^◌, Bool, true, false, cond, ◌&&◌, List, [], ◌∷◌, ◌++◌, length, map, take, drop, get_or, refl, sym, ap, ◌∙◌, subst, inl, inr, arith, length-append, append_assoc}
-use Rattle.std.specs.Prelude.{All, filter, Contains}
+use Rattle.std.proofs.Common.{◌≡◌, ℕ, ◌+◌, ◌<◌, ◌≤◌, ◌^◌, Bool, true, false, cond, ◌&&◌, List, [], ◌∷◌, ◌++◌, length, take, drop, get_or, refl, sym, ap, ◌∙◌, subst, inl, inr, arith, length-append, append_assoc}
+use Rattle.std.specs.Prelude.{filter, Contains}
 use Rattle.std.specs.Int.{w32, w64, to_be_bytes}
 use Rattle.std.specs.List.{AllByRecursion, AllZip, concat, list_any}
 use Rattle.std.specs.List.Sorted.{IsStrictlySortedBy}
 use Rattle.std.specs.Ordering.{eq_by_cmp, ordering_then}
-use Rattle.std.specs.Str.{bytes_eq}
 use Rattle.std.specs.Cmp.{tied_itself}
 use Rattle.std.specs.Cmp.Lexicographic.{nat_list_cmp_total}
 use Rattle.std.specs.declared.cmp.Ordering.{Ordering}
 use Rattle.std.specs.declared.cmp.Ordering.TheVariants.{Less, Equal}
 use Rattle.std.specs.FinSet as set
-use Rattle.std.specs.FinSet.{contains-from_list, contains-retain, same_set}
+use Rattle.std.specs.FinSet.{contains-from_list, same_set}
 use Rattle.std.proofs.Math.Seq.{take-append_seam}
 use Rattle.std.proofs.lemmas.Slice.Eq.{bytes_eq-Decides}
 use Rattle.std.proofs.lemmas.List.Elements.{All-cons}
@@ -24,8 +23,8 @@ use Rattle.join_core.specs.Listing.{listing}
 use Rattle.join_core.proofs.Listing.{any_listing, listed}
 use Rattle.join_core.proofs.Retain.{listing_retain}
 use Rattle.archive_core.specs.Key.{IsKey, key_bytes}
-use Rattle.archive_core.specs.Valid.{IsValid, key_of}
-use Rattle.archive_core.specs.Record.{IsRecord, IsOperation, admission, admission_record, record_bytes, retirement_record}
+use Rattle.archive_core.specs.Valid.{key_of}
+use Rattle.archive_core.specs.Record.{IsRecord, IsOperation, admission, admission_record, retirement_record}
 use Rattle.archive_core.specs.Content.{Operations, IsContent}
 use Rattle.archive_core.specs.Find.{IsFinds, IsFoundUnder, find_cmp, key_in, row_of}
 use Rattle.archive_core.specs.Lists.{IsList, list_cmp}
@@ -39,13 +38,12 @@ use Rattle.archive_core.specs.declared.operations.Operation.{Operation}
 use Rattle.archive_core.specs.declared.operations.Operation.TheVariants.{Admit, Retire}
 use Rattle.archive_core.proofs.Compare.{length_key_bytes}
 use Rattle.archive_core.proofs.Entries.{admission_entry, retirement_entry, slice_of}
-use Rattle.archive_core.proofs.Made.{bytes_same, and_left, and_right}
+use Rattle.archive_core.proofs.Made.{bytes_same, and_right}
 use Rattle.archive_core.proofs.Picked.{contains_part, finds_alike, part_alike, part_content}
 use Rattle.archive_core.proofs.Records.{length-key_of, one_operation}
 use Rattle.archive_core.proofs.Told.{found_under}
-use Rattle.archive_records.specs.declared.format.Format.TheVariants.{Archive}
-use Rattle.archive_records.specs.Text.{InOrder, written}
-use Rattle.archive_records.proofs.Contents.{order, along, InOrder-listing}
+use Rattle.archive_records.specs.Text.{written}
+use Rattle.archive_records.proofs.Contents.{order, along}
 use Rattle.archive_reading.specs.InnerRows.{AreRowsOf, IsRowOf}
 use Rattle.archive_reading.proofs.RowsTold.{list_of}
 use Rattle.archive_index.specs.Entry.{kind_byte, offset_in, placed_entry, dsym_byte, tag_byte}

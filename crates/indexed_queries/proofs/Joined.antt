@@ -1,18 +1,15 @@
 -- Parts that are joined one after another.
 use Rattle.std.proofs.Common.{◌≡◌, ℕ, ◌+◌, ◌<◌, List, [], ◌∷◌, ◌++◌, length, map, take, get_or, Option, Some, None, Result, Ok, Err, refl, sym, ap, ◌∙◌, subst, inl, inr, arith, add-one}
-use Rattle.std.specs.Prelude.{IfErr, IfSome, OnOk, MatchResult}
-use Rattle.std.specs.List.{AllZip}
+use Rattle.std.specs.Prelude.{IfErr, IfSome, OnOk}
 use Rattle.std.proofs.Math.ListN.{length-map}
 use Rattle.std.proofs.Math.Seq.{take-suc}
 use Rattle.std.proofs.lemmas.List.{get_or-map}
 use Rattle.std.proofs.lemmas.List.Sums.{fold-append}
 use Rattle.archive_core.specs.Content.{Operations, joined}
 use Rattle.archive_core.specs.Summary.{Entries}
-use Rattle.archive_index.specs.Places.{AreNamed, BlamesPlaced, HasIndexedLength, IsPlaceFault}
+use Rattle.archive_index.specs.Places.{AreNamed, BlamesPlaced, IsPlaceFault}
 use Rattle.archive_index.specs.declared.fault.PlaceFault.{PlaceFault}
 use Rattle.archive_index.specs.declared.fault.PlaceFault.TheVariants.{Stale, Device, OutOfMemory}
-use Rattle.byte_device.specs.declared.disks.CannotOpen.{CannotOpen}
-use Rattle.command_ends.specs.Archives.{merged}
 use Rattle.command_ends.specs.Indexes.{HoldsIndex, IsRefusedBehindIndex, IsRefusedByIndex}
 use Rattle.command_ends.specs.Inputs.{Reader, IsRefusal, Unfailed, reader}
 use Rattle.command_ends.specs.declared.faults.CommandFault.{CommandFault}
@@ -57,13 +54,6 @@ joined_more whole now fronts i front entries o mid new lt is keeps before one =
 pub joined_all : (whole : Option (List ℕ)) (some fronts : List (List ℕ)) (entries : Entries) (o new : Operations) → some ≡ fronts → HasJoinedNamed whole some entries o new → HasJoinedNamed whole fronts entries o new
 joined_all whole some fronts entries o new is h = subst (λ (fs : List (List ℕ)). HasJoinedNamed whole fs entries o new) is h
 
--- from the archive as it stands
-pub joined_there : (whole now : Option (List ℕ)) (fronts : List (List ℕ)) (entries : Entries) (o new : Operations) → now ≡ whole → HasJoinedNamed now fronts entries o new → HasJoinedNamed whole fronts entries o new
-joined_there whole now fronts entries o new keeps h = subst (λ (w : Option (List ℕ)). HasJoinedNamed w fronts entries o new) keeps h
-
-pub fault_there : (whole now : Option (List ℕ)) (fronts : List (List ℕ)) (entries : Entries) (r : Result (Unit {0}) PlaceFault) → now ≡ whole → IfErr r (λ fault. IfSome now (λ text. IsFaultUnder fronts entries text fault)) → IfErr r (λ fault. IfSome whole (λ text. IsFaultUnder fronts entries text fault))
-fault_there whole now fronts entries r keeps h = subst (λ (w : Option (List ℕ)). IfErr r (λ fault. IfSome w (λ text. IsFaultUnder fronts entries text fault))) keeps h
-
 -- a fault at a front
 pub fault_at : (whole now : Option (List ℕ)) (fronts : List Front) (i : ℕ) (front : Front) (entries : Entries) (o mid : Operations) (fault : PlaceFault) → i < length fronts → front ≡ get_or fronts i front → now ≡ whole
     → HasJoinedNamed whole (take i (map front_bytes fronts)) entries o mid → IfSome now (λ text. IsPlaceFault (front_bytes front) entries text fault) → IfSome whole (λ text. IsFaultUnder (map front_bytes fronts) entries text fault)
@@ -86,11 +76,6 @@ blamed_from failures old mid new Device same b = rw (← same) b
 blamed_from failures old mid new OutOfMemory same b = b ∙ same
 
 -- ---- of an input
-
--- the archive has another length
-pub other_length : (whole : Option (List ℕ)) (fronts : List (List ℕ)) (entries : Entries) → IfSome whole (λ text. HasIndexedLength entries text → ⊥) → IfSome whole (λ text. IsFaultUnder fronts entries text (Stale None))
-other_length None fronts entries h = tt
-other_length (Some text) fronts entries h = h
 
 -- what is told where this fault came of an archive that was opened
 pub told_refused : {S : Type 0} (whole : S → Option (List ℕ)) (failures : S → ℕ) (source after : S) (number : ℕ) (fronts : List (List ℕ)) (entries : Entries) (fault : PlaceFault)

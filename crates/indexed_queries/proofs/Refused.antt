@@ -1,5 +1,5 @@
 -- What is refused, from what reading an index and its archive came to.
-use Rattle.std.proofs.Common.{◌≡◌, ◌≢◌, ℕ, List, [], Option, Some, None, Result, Ok, Err, true, false, refl, ap, sym, inl, inr, ◌⊎◌}
+use Rattle.std.proofs.Common.{◌≡◌, ◌≢◌, ℕ, List, [], Option, Some, None, Result, Ok, Err, true, refl, ap, sym, inr}
 use Rattle.std.specs.Prelude.{IfSome, IsTrue, MatchResult, ◌↔◌}
 use Rattle.archive_core.specs.Summary.{Entries}
 use Rattle.archive_index.specs.Places.{HasIndexedLength}
@@ -8,10 +8,10 @@ use Rattle.archive_index.specs.declared.fault.IndexFault.{IndexFault}
 use Rattle.archive_index.specs.declared.fault.IndexFaultKind.{IndexFaultKind}
 use Rattle.archive_index.specs.declared.fault.IndexFaultKind.TheVariants.{Device as IndexDevice, OutOfMemory as IndexOutOfMemory}
 use Rattle.byte_device.specs.declared.disks.CannotOpen.{CannotOpen}
-use Rattle.command_ends.specs.Ends.{Ends, EndsReport}
+use Rattle.command_ends.specs.Ends.{EndsReport}
 use Rattle.command_ends.specs.Indexes.{HoldsIndex, IsRefusedBehindIndex, IsRefusedByIndex, IsUnreadIndex}
-use Rattle.command_ends.specs.Inputs.{Reader, IsRefusal, IsUntouched, Unfailed, reader}
-use Rattle.command_ends.specs.Outputs.{IsKept, Out, Takes, Writer}
+use Rattle.command_ends.specs.Inputs.{Reader, IsRefusal, Unfailed, reader}
+use Rattle.command_ends.specs.Outputs.{Takes, Writer}
 use Rattle.command_ends.specs.declared.faults.CommandFault.{CommandFault}
 use Rattle.command_ends.specs.declared.faults.CommandFault.TheVariants.{Input, Output, Report, OutOfMemory}
 use Rattle.command_ends.specs.declared.faults.Place.{Place}
@@ -46,25 +46,11 @@ pub has_yes : (whole : Option (List ℕ)) (s : Entries) → IfSome whole (λ tex
 has_yes None s h = tt
 has_yes (Some text) s h = h.0 refl
 
-pub has_no : (whole : Option (List ℕ)) (s : Entries) → IfSome whole (λ text. IsTrue false ↔ HasIndexedLength s text) → IfSome whole (λ text. HasIndexedLength s text → ⊥)
-has_no None s h = tt
-has_no (Some text) s h = λ has. no_truth (h.1 has)
-  where
-    no_truth : false ≡ true → ⊥
-    no_truth e = cc
-
 -- ---- INDEX and its archive
 
 module _ {R S : Type 0} (number : ℕ) (index : Reader R) (archive : Reader S) (IsStaleFor : Entries → Option ℕ → Type 0) where
   abbrev RefusedSo : CommandFault → Type 0
   RefusedSo fault = IsRefusal (IsRefusedByIndex number index archive IsStaleFor) (Unfailed index × Unfailed archive) fault
-
-  -- INDEX is refused
-  pub index_first : (fault : CommandFault) → IsRefusal (λ at why. (at ≡ Index number) × IsUnreadIndex index why) (Unfailed index) fault → IsUntouched archive → Unfailed archive → RefusedSo fault
-  index_first (Input at why) r untouched unfailed = inl (r.0, r.1, untouched)
-  index_first (Output n) r untouched unfailed = absurd r
-  index_first (Report n) r untouched unfailed = absurd r
-  index_first OutOfMemory r untouched unfailed = (r, unfailed)
 
   -- the archive behind it is
   pub archive_behind : (fault : CommandFault) (entries : Entries) → HoldsIndex index entries → Unfailed index → IsRefusal (IsRefusedBehindIndex number archive (IsStaleFor entries)) (Unfailed archive) fault → RefusedSo fault
@@ -81,10 +67,3 @@ query_refused Makes Refuses NoneFailed report (Input at why) r t = (r, t)
 query_refused Makes Refuses NoneFailed report (Output n) r t = r
 query_refused Makes Refuses NoneFailed report (Report n) r t = absurd r
 query_refused Makes Refuses NoneFailed report OutOfMemory r t = (r, t)
-
-pub command_refused : (Makes : List ℕ → List ℕ → Type 0) (Refuses : Place → Why → Type 0) (NoneFailed : Type 0) (out : Out) (report : Writer) (fault : CommandFault) → IsRefusal Refuses NoneFailed fault → IsKept out → Takes report []
-    → Ends (record { Makes = Makes; Refuses = Refuses; Unfailed = NoneFailed }) out report (Err fault)
-command_refused Makes Refuses NoneFailed out report (Input at why) r kept t = (r, kept, t)
-command_refused Makes Refuses NoneFailed out report (Output n) r kept t = absurd r
-command_refused Makes Refuses NoneFailed out report (Report n) r kept t = absurd r
-command_refused Makes Refuses NoneFailed out report OutOfMemory r kept t = (r, inl (kept, t))

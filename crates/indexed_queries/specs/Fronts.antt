@@ -1,5 +1,5 @@
 -- What an index names under several fronts of keys.
-use Rattle.std.specs.Prelude.{◌≡◌, ◌<◌, ℕ, List, [], Option, Some, None, length, take, slice_index_or}
+use Rattle.std.specs.Prelude.{◌<◌, ℕ, List, [], Option, Some, None, length, take, slice_index_or}
 use Rattle.std.specs.List.{AllZip}
 use Rattle.archive_core.specs.Content.{Operations}
 use Rattle.archive_core.specs.Key.{key_bytes}

@@ -1,5 +1,4 @@
 use Rattle.std.proofs.Common.{refl, List, ℕ, ap, ◌∙◌, subst}
-use Rattle.archive_core.specs.declared.find.FindRow.{FindRow}
 use Rattle.report_text.specs.Finds.{find_lines}
 use Rattle.archive_queries.specs.Find.{find_status}
 use Rattle.std.proofs.lemmas.Result.{err_from_is_err_and}

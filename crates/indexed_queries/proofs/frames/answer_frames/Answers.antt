@@ -1,8 +1,6 @@
-use Rattle.std.proofs.Common.{string_bytes, subst, arith, length}
-use Rattle.std.proofs.lemmas.List.{take_all}
+use Rattle.std.proofs.Common.{string_bytes, subst}
 use Rattle.archive_core.specs.Lookup.{IsAnswer, answer_view}
-use Rattle.archive_queries.specs.Frames.{TellsFrames}
-use Rattle.indexed_queries.proofs.Framed.{more_framed, none_framed}
+use Rattle.indexed_queries.proofs.Framed.{more_framed}
 use Rattle.indexed_queries.proofs.frames.answer_frames.Goals as goal
 
 pub frames-preserved : goal.frames-preserved

@@ -1,4 +1,4 @@
-use Rattle.std.proofs.Common.{List, ℕ, [], ◌∷◌, ap, ◌∙◌, map, subst, sym, arith}
+use Rattle.std.proofs.Common.{[], ◌∷◌, ap, ◌∙◌, map, subst, sym, arith}
 use Rattle.std.proofs.Math.ListN.{length-map}
 use Rattle.std.proofs.lemmas.List.{map-append, take_all}
 use Rattle.archive_core.specs.Content.{HaveSameMembers}

@@ -1,7 +1,6 @@
-use Rattle.std.proofs.Common.{List, ℕ, map, subst, sym}
+use Rattle.std.proofs.Common.{List, map, subst, sym}
 use Rattle.std.proofs.lemmas.Result.{err_from_is_err_and}
 use Rattle.archive_core.specs.Content.{HaveSameMembers}
-use Rattle.command_ends.specs.Inputs.{readers}
 use Rattle.command_ends.proofs.Readers.{none_failed}
 use Rattle.indexed_queries.specs.Frames.{keys_of}
 use Rattle.indexed_queries.specs.Fronts.{front_bytes}

@@ -1,4 +1,4 @@
-use Rattle.std.proofs.Common.{◌≡◌, ◌∙◌, length, map, sym, subst, arith}
+use Rattle.std.proofs.Common.{◌≡◌, length, map, subst, arith}
 use Rattle.std.proofs.lemmas.Result.{err_from_is_err_and}
 use Rattle.archive_core.specs.Content.{Operations}
 use Rattle.command_ends.specs.Inputs.{readers}
