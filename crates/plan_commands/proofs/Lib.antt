@@ -7,3 +7,4 @@ pub mod Noting
 pub mod Reasons
 pub mod Numbers
 pub mod Numbered
+mod Asked
