@@ -17,7 +17,7 @@ import time
 from . import upgrading
 from .archive_file import INDEX, INDEX_SUM, NEXT_INDEX, ArchiveFile
 from .archive_file import append_synced, note_of, size_of, sync_folder, write_synced
-from .contents import EMPTY, Content, kept_text, words_of
+from .contents import EMPTY, Content, heads_in, kept_text, words_of
 from .indexes import held_against, index_by, index_in, index_of
 from .screen import Failed, shown
 
@@ -198,19 +198,17 @@ class Archive:
     def join(self, room, program, file, news, lines, screen, slices=(), more=None):
         """Puts the join of a file with news in its place."""
         self.merge(room, program, file, b"new", screen, slices, more)
-        index, changed = self.new_index(room, program, file, file.content.joined(news), screen)
-        self.tell_lost(changed, screen)
-        self.replace(room, file, index, lines, screen)
+        self.replace(room, file, self.new_index(room, file, file.content.joined(news)), lines, screen)
 
     @staticmethod
-    def new_index(room, program, file, content, screen):
+    def new_index(room, file, content):
         """The index of the new file of a room, which has a content but for slices that changed in the files of which it
-        was made: these keep their entries, so that `check` finds them. And the lines of these."""
-        made = index_made(os.path.join(room, b"new"), room, program, screen)
-        index, changed, _ = held_against(content, made)
-        if index.content() != content:
-            raise Failed(f"something in {shown(file.path)} changed; `symarch-keep check` says what", 4)
-        return index, [changed_line(row, file.path) for row in changed]
+        was made: these keep their entries, so that `check` finds them. No other slice is read for it."""
+        new = os.path.join(room, b"new")
+        with open(new, "rb") as written:
+            if heads_in(written) != content.heads():
+                raise Failed(f"something in {shown(file.path)} changed; `symarch-keep check` says what", 4)
+        return index_by(content, new)
 
     def merge(self, room, program, file, name, screen, slices, more):
         """Has the program write the join of a file with slices, or with another archive, into the room. No command
