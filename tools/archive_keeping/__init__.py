@@ -2,8 +2,10 @@
 
 - screen            what is said, and the faults
 - contents          what an archive has, and the bytes of archives, summaries and the files beside an archive
+- indexes           the index of an archive: its bytes, and what changed by it
 - slices            what files and folders have
 - program           the program symarch
+- upgrading         what was kept before there were indexes
 - archive_file      an archive file, and what is known of it
 - archive           an archive in its folder, with what came in lately, and how a new one takes its place
 - adding            `add`

@@ -2,9 +2,10 @@
 kept beside them; and how a new archive takes the place of one.
 
 What comes in goes into ARCHIVE.today, and `fold` joins that into ARCHIVE. A new archive goes in by four steps:
-FILE.sum.next and ARCHIVE.log.next are written, the archive is renamed, the lines are added to ARCHIVE.log, and
-FILE.sum.next becomes FILE.sum. Whoever comes after a kill sees by the file which of these were done, and does the
-others. ARCHIVE.today is emptied after ARCHIVE has all of it, so at any moment both have together what they had."""
+ARCHIVE.log.next, FILE.idx.sum and FILE.idx.next are written, the archive is renamed, the lines are added to
+ARCHIVE.log, and FILE.idx.next becomes FILE.idx. Whoever comes after a kill sees by the file which of these were done,
+and does the others. ARCHIVE.today is emptied after ARCHIVE has all of it, so at any moment both have together what they
+had."""
 import contextlib
 import fcntl
 import os
@@ -13,9 +14,11 @@ import stat
 import tempfile
 import time
 
-from .archive_file import NEXT_SUM, SUM, ArchiveFile
-from .archive_file import append_synced, file_note, size_of, sync_folder, write_synced
-from .contents import EMPTY, KEY, Content, heads_in, kept_text, words_of
+from . import upgrading
+from .archive_file import INDEX, INDEX_SUM, NEXT_INDEX, ArchiveFile
+from .archive_file import append_synced, note_of, size_of, sync_folder, write_synced
+from .contents import EMPTY, Content, heads_in, kept_text, words_of
+from .indexes import held_against, index_by, index_in, index_of
 from .screen import Failed, shown
 
 TODAY, LOG, NEXT_LOG, ASKED = b".today", b".log", b".log.next", b".asked"
@@ -33,7 +36,7 @@ class Archive:
         self.path = os.path.realpath(path)
         self.folder, self.name = os.path.split(self.path)
         self.writes, self.lock, self.rooms_made = writes, None, 0
-        self.main, self.today = ArchiveFile(self.path), ArchiveFile(self.beside(TODAY))
+        self.main, self.today = ArchiveFile(self.path, b"main"), ArchiveFile(self.beside(TODAY), b"today")
         self.files = self.main, self.today
         if not is_made:
             os.stat(self.path)
@@ -96,42 +99,75 @@ class Archive:
     # ---- what it has
 
     def content(self, program, screen):
-        """What both files have together, as the last word left them. What is another file since is read."""
-        came = [self.came(file, *file.known(screen), program, screen) for file in self.files]
-        content = self.main.content.joined(self.today.content)
-        if self.writes:
-            changed = [entry for _, some, _ in came for entry in some]
-            lost = Content().joined(came[0][2]).joined(came[1][2]).beyond(content)
-            self.tell_lost(changed, lost, screen)
-            self.keep([file for file, (is_another, _, _) in zip(self.files, came) if is_another], screen)
-        return content
+        """What both files have together, as the last word left them. What is another file since is seen anew."""
+        others = [file for file in self.files if not file.recall(screen)]
+        if not self.writes:
+            for file in others:
+                file.read(program, screen)
+            return self.joined()
+        self.see_anew(others, program, screen)
+        # Where a fold was killed before it did that.
+        if len(self.today.content) and not len(self.today.content.beyond(self.main.content)):
+            with self.room() as room:
+                self.empty_today(room, screen)
+        return self.joined()
+
+    def joined(self):
+        return self.main.content.joined(self.today.content)
+
+    def see_anew(self, others, program, screen, tells=True):
+        """Indexes files that are others since the last word, and returns the lines of what changed or is lost. Without
+        `tells` they are left untold, and then the files stay others."""
+        if not others:
+            return []
+        with self.room() as room:
+            lines = self.compare(others, room, program, screen)
+            if tells:
+                self.tell_lost(lines, screen)
+            if tells or not lines:
+                self.keep(others, room, screen)
+        return lines
+
+    def compare(self, others, room, program, screen):
+        """Holds files against what is known of them, and takes what they have. A slice that changed keeps its entry."""
+        lines, lost = [], Content()
+        for file in others:
+            made = self.indexed(file, room, program, screen)
+            file.index, changed, more = held_against(file.content or Content(), made)
+            file.content, lost = file.index.content(), lost.joined(more)
+            lines += [changed_line(row, file.path) for row in changed]
+        return lines + lost_lines(lost.beyond(self.joined()))
 
     @staticmethod
-    def came(file, known, is_same, program, screen):
-        """Sees what a file has: whether it is another one than the last word left, what changed in it, and what it has
-        lost."""
-        if is_same:
-            file.content = known
-            return False, [], Content()
-        came = file.read(program, screen)
-        file.content, changed, lost = held_against(known or Content(), came)
-        return bool(known) or file.exists(), changed, lost
+    def indexed(file, room, program, screen):
+        """The index of a file; of one of version 1 that of version 2 of it, which is made in the room."""
+        if not file.exists():
+            return index_of([])
+        path = file.path
+        if file.is_of_version_1():
+            screen.begin("migrating the archive")
+            program.run_over(path, "migrate", os.fsdecode(file.name), folder=room)
+            path = os.path.join(room, file.name)
+        return index_made(path, room, program, screen)
 
-    def keep(self, others, screen):
-        """Keeps what files have that are others since the last word; and empties ARCHIVE.today where a fold was killed
-        before it did."""
-        is_left = len(self.today.content) and not len(self.today.content.beyond(self.main.content))
-        if others or is_left:
-            with self.room() as room:
-                for file in others:
-                    self.lay(room, file.beside(SUM), kept_text(file.content))
-                if is_left:
-                    self.empty_today(room, screen)
+    def keep(self, others, room, screen):
+        """Keeps the indexes of files, and puts version 2 of those of version 1 in their place."""
+        for file in others:
+            new = os.path.join(room, file.name)
+            if os.path.exists(new):
+                os.replace(new, os.path.join(room, b"new"))
+                self.replace(room, file, file.index, [], screen)
+                screen.line(f"{shown(file.path)}: was of version 1, and is of version 2 now")
+            elif file.exists():
+                self.lay_index(room, file, INDEX, file.index, file.path)
+            else:
+                file.drop(INDEX, INDEX_SUM)
+            file.drop(upgrading.SUM)
 
-    def tell_lost(self, changed, lost, screen):
-        lines = lost_lines(changed, lost)
+    def tell_lost(self, lines, screen):
         if lines:
-            told = f"slices {len(changed) + len(lost.held)}, retirements {len(lost.retired)}"
+            retired = sum(line.startswith("lost retired ") for line in lines)
+            told = f"slices {len(lines) - retired}, retirements {retired}"
             screen.line(f"{shown(self.path)}: changed or lost: {told}; its log names them")
             self.note(lines, screen)
 
@@ -150,8 +186,8 @@ class Archive:
         self.empty_today(room, screen)
 
     def is_to_be_folded(self):
-        """Whether ARCHIVE.today has grown; or there is no ARCHIVE, or one of version 1, whose heads say little."""
-        return PARTS * self.today.size() >= self.main.size() or self.main.is_of_version_1()
+        """Whether ARCHIVE.today has grown, or there is no ARCHIVE."""
+        return PARTS * self.today.size() >= self.main.size()
 
     def fold(self, room, program, screen):
         """Joins ARCHIVE.today into ARCHIVE, and empties it."""
@@ -162,7 +198,17 @@ class Archive:
     def join(self, room, program, file, news, lines, screen, slices=(), more=None):
         """Puts the join of a file with news in its place."""
         self.merge(room, program, file, b"new", screen, slices, more)
-        self.replace(room, file, file.content.joined(news), lines, screen)
+        self.replace(room, file, self.new_index(room, file, file.content.joined(news)), lines, screen)
+
+    @staticmethod
+    def new_index(room, file, content):
+        """The index of the new file of a room, which has a content but for slices that changed in the files of which it
+        was made: these keep their entries, so that `check` finds them. No other slice is read for it."""
+        new = os.path.join(room, b"new")
+        with open(new, "rb") as written:
+            if heads_in(written) != content.heads():
+                raise Failed(f"something in {shown(file.path)} changed; `symarch-keep check` says what", 4)
+        return index_by(content, new)
 
     def merge(self, room, program, file, name, screen, slices, more):
         """Has the program write the join of a file with slices, or with another archive, into the room. No command
@@ -190,33 +236,30 @@ class Archive:
             return
         try:
             write_synced(os.path.join(room, b"new"), [EMPTY])
-            self.replace(room, self.today, Content(), [], screen)
+            self.replace(room, self.today, index_of([]), [], screen)
         except OSError as error:
             told = f"{error.strerror}; the archive has all, and the next call goes on"
             screen.fail(f"{shown(self.today.path)}: {told}")
 
     # ---- what takes the place of a file
 
-    def replace(self, room, file, content, lines, screen):
+    def replace(self, room, file, index, lines, screen):
         """Gives the new file of a room, which is synced, the name of a file, and what it may have of the archive's
         owner and rights. Syncs the name."""
         new = os.path.join(room, b"new")
-        with open(new, "rb") as written:
-            if heads_in(written) != content.heads():
-                raise Failed(f"something in {shown(file.path)} changed; `symarch-keep check` says what", 4)
         try:
             self.lay(room, self.beside(NEXT_LOG), self.pending() + dated(lines))
-            self.lay(room, file.beside(NEXT_SUM), kept_text(content, file_note(new)))
+            self.lay_index(room, file, NEXT_INDEX, index, new)
             self.give_rights(new)
             # What is known of the new archive is there before it.
             sync_folder(self.folder)
             os.replace(new, file.path)
         except OSError:
-            file.drop(NEXT_SUM)
+            file.drop(NEXT_INDEX)
             self.drop(NEXT_LOG)
             raise
         sync_folder(self.folder)
-        file.content = content
+        file.index, file.content = index, index.content()
         self.finish(file, screen)
 
     def give_rights(self, path):
@@ -227,27 +270,46 @@ class Archive:
                     os.chown(path, owner, group)
             os.chmod(path, stat.S_IMODE(status.st_mode))
 
-    def finish(self, file, screen):
+    def finish(self, file, screen, following=NEXT_INDEX, last=INDEX):
         """The steps after the rename. The archive has all, also where one of them fails."""
         try:
             text = self.pending()
             if not self.log_ends_with(text):
                 self.append(text)
             self.drop(NEXT_LOG)
-            os.replace(file.beside(NEXT_SUM), file.beside(SUM))
+            os.replace(file.beside(following), file.beside(last))
         except OSError as error:
             screen.fail(f"{shown(self.beside(LOG))}: {error.strerror}; the archive has all, and the next call goes on")
 
     def go_on(self, screen):
         """Does the steps that a kill left to do, and drops what is of a file that was not put in place."""
-        in_place = [file for file in self.files if file.following() is not None]
+        following = [file for file in self.files if file.following() is not None]
+        before = [file for file in self.files if upgrading.is_in_place(file)]
         for file in self.files:
-            if file in in_place:
+            if file in following:
                 self.finish(file, screen)
+            elif file in before:
+                self.finish(file, screen, upgrading.NEXT_SUM, upgrading.SUM)
             else:
-                file.drop(NEXT_SUM)
-        if not in_place:
+                file.drop(NEXT_INDEX, upgrading.NEXT_SUM)
+        if not following and not before:
             self.drop(NEXT_LOG)
+        self.upgrade(screen)
+
+    def upgrade(self, screen):
+        """Makes the indexes of files of which symarch-keep kept sums. Version 1 has none."""
+        for file in self.files:
+            if upgrading.has_sum(file) and not file.is_of_version_1():
+                if file.kept_index(INDEX) is None:
+                    self.index_by_sum(file, screen)
+                file.drop(upgrading.SUM)
+
+    def index_by_sum(self, file, screen):
+        content = upgrading.old_content(file, screen)
+        if content is not None:
+            with self.room() as room:
+                # Nothing says whether the file is still that of its sum, so its heads are compared.
+                self.lay_index(room, file, INDEX, index_by(content, file.path))
 
     def pending(self):
         """The lines that are still to be added to the log."""
@@ -292,30 +354,34 @@ class Archive:
         self.give_rights(kept)
         os.replace(kept, path)
 
+    def lay_index(self, room, file, ending, index, path=None):
+        """Makes an index beside a file, after what is noted of it and of the index before it: its SHA-256, and of which
+        file it was made."""
+        notes = [*file.notes_of_index(), note_of(index.text, path)]
+        self.lay(room, file.beside(INDEX_SUM), kept_text(Content(), notes))
+        self.lay(room, file.beside(ending), index.text)
+
     def drop(self, *endings):
         for ending in endings:
             with contextlib.suppress(FileNotFoundError):
                 os.unlink(self.beside(ending))
 
 
-def held_against(known, came):
-    """What an archive that has `came` is taken to have, where it was `known` before: also what changed in its place;
-    and what changed, by its known entries, and what is lost."""
-    lost, new = known.beyond(came), came.beyond(known)
-    content, changed, others = Content(came.retired, came.held), [], {}
-    for entry, length in new.held.items():
-        others.setdefault((entry[:KEY], length), []).append(entry)
-    for entry, length in sorted(lost.held.items()):
-        if others.get((entry[:KEY], length)):
-            del content.held[others[entry[:KEY], length].pop()], lost.held[entry]
-            content.held[entry] = length
-            changed.append(entry)
-    return content, changed, lost
+def index_made(path, room, program, screen):
+    """The index of an archive, by the program."""
+    screen.begin("indexing the archive")
+    program.run_over(path, "index", "index", folder=room)
+    with open(os.path.join(room, b"index"), "rb") as file:
+        return index_in(file.read())
 
 
-def lost_lines(changed, lost):
-    lines = [f"changed {words_of(entry)}" for entry in changed]
-    lines += [f"lost {words_of(entry)}" for entry in sorted(lost.held)]
+def changed_line(row, path, word="changed"):
+    """The line of a record that changed: what it was, and where in which file it stands."""
+    return f"{word} {row.words()} {row.at} {shown(path)}"
+
+
+def lost_lines(lost):
+    lines = [f"lost {words_of(entry)}" for entry in sorted(lost.held)]
     return lines + [f"lost retired {words_of(entry)}" for entry in sorted(lost.retired)]
 
 

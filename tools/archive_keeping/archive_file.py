@@ -1,23 +1,26 @@
-"""An archive file, and what is known of it: FILE.sum beside it has the content that the last word left there, and
-FILE.sum.next that of a new one which takes its place, by the steps of `Archive.replace`."""
+"""An archive file, and what is known of it: FILE.idx beside it is the index that the last word left, FILE.idx.next that
+of a new file which takes its place, by the steps of `Archive.replace`, and FILE.idx.sum has the SHA-256 of each."""
 import contextlib
+import hashlib
 import os
 
 from .contents import MAGIC, MAGICS, Content, Malformed
-from .contents import content_in, heads_in, kept_in
+from .contents import Kept, content_in, heads_in
+from .indexes import Index, changes, index_in
 from .screen import Failed, shown, write
+from .upgrading import old_content
 
-SUM, NEXT_SUM = b".sum", b".sum.next"
+INDEX, NEXT_INDEX, INDEX_SUM = b".idx", b".idx.next", b".idx.sum"
 NO_UUID = "00000000-0000-0000-0000-000000000000"
 
 
 class ArchiveFile:
-    """The file of a path, which need not be there: it has nothing then."""
+    """The file of a path, which need not be there: it has nothing then. It has a name of its own in a room."""
 
-    def __init__(self, path):
-        self.path = path
-        # As the last word left it; None until that is asked for.
-        self.content = None
+    def __init__(self, path, name):
+        self.path, self.name = path, name
+        # As the last word left it; None until that is asked for, and where nothing says it.
+        self.index = self.content = None
 
     def beside(self, ending):
         return self.path + ending
@@ -52,30 +55,79 @@ class ArchiveFile:
     # ---- what is known of it
 
     def kept(self, ending, screen=None):
-        """The content and the notes of a file beside it; None where it is not there, or is damaged."""
+        """What a file beside it has; None where it is not there, or is damaged."""
         try:
             with open(self.beside(ending), "rb") as file:
-                return kept_in(file.read())
+                return Kept(file.read())
         except FileNotFoundError:
             return None
-        except (Malformed, ValueError) as fault:
+        except Malformed as fault:
             if screen:
                 screen.line(f"{shown(self.beside(ending))}: {fault}, and is passed over")
             return None
 
+    def notes(self, screen=None):
+        """What FILE.idx.sum has of each index: its SHA-256, and which file it is of."""
+        kept = self.kept(INDEX_SUM, screen)
+        return kept.notes if kept else []
+
+    def kept_index(self, ending, screen=None):
+        """The index that a file beside it is; None where it is not there, or is damaged."""
+        try:
+            with open(self.beside(ending), "rb") as file:
+                text = file.read()
+            notes = self.notes(screen)
+            if not notes:
+                return index_in(text)
+            begins = note_of(text)
+            if not any(note.startswith(begins) for note in notes):
+                raise Malformed("is damaged")
+            return Index(text)
+        except FileNotFoundError:
+            return None
+        except Malformed as fault:
+            if screen:
+                screen.line(f"{shown(self.beside(ending))}: {fault}, and is passed over")
+            return None
+
+    def notes_of_index(self):
+        """The notes of FILE.idx as it is."""
+        with contextlib.suppress(FileNotFoundError), open(self.beside(INDEX), "rb") as file:
+            begins = note_of(file.read())
+            return [note for note in self.notes() if note.startswith(begins)]
+        return []
+
     def following(self):
-        """The content that FILE.sum.next has, where the file is the one of which that was written; else None."""
-        found = self.kept(NEXT_SUM)
-        is_of_this = found and found[1] == file_note(self.path) and found[0].heads() == self.heads()
-        return found[0] if is_of_this else None
+        """The index that FILE.idx.next is, where the file is the one of which that was made; else None."""
+        index = self.kept_index(NEXT_INDEX)
+        is_of_this = index and self.exists() and note_of(index.text, self.path) in self.notes()
+        return index if is_of_this and index.size() == self.size() else None
 
     def known(self, screen):
-        """The content that the last word left, or None; and whether the file has the heads of that one."""
+        """The index that the last word left, or None; and whether the file is the one that it is of."""
         following = self.following()
         if following is not None:
             return following, True
-        known = self.kept(SUM, screen)
-        return (known[0], known[0].heads() == self.heads()) if known else (None, False)
+        index = self.kept_index(INDEX, screen)
+        return index, index is not None and self.is_of(index)
+
+    def is_of(self, index):
+        """Whether it is the archive of its index: by its length if it is the file of which that was made, and nobody
+        wrote to it since; else by its heads too."""
+        if not self.exists() or self.size() != index.size():
+            return False
+        is_that = note_of(index.text, self.path) in self.notes() and time_of(self.path) <= time_of(self.beside(INDEX))
+        return is_that or self.heads() == index.heads()
+
+    def recall(self, screen):
+        """Takes what the last word left, and returns whether the file has that still."""
+        self.index, is_same = self.known(screen)
+        self.content = self.index.content() if self.index else old_content(self, screen)
+        if self.content is None and not self.exists():
+            self.content = Content()
+        if self.index is None:
+            is_same = self.content is not None and self.content.heads() == self.heads()
+        return is_same
 
     def drop(self, *endings):
         for ending in endings:
@@ -85,29 +137,30 @@ class ArchiveFile:
     # ---- what it has by its bytes
 
     def read(self, program, screen):
-        """What it has by its bytes. The program says why it is no archive."""
+        """Takes what it has by its bytes; a slice that changed is what it was. The program says why it is no
+        archive."""
         try:
             with open(self.path, "rb") as file:
                 screen.begin("reading the archive", os.fstat(file.fileno()).st_size)
-                return content_in(file, screen.moved)
+                came = content_in(file, screen.moved)
         except FileNotFoundError:
-            return Content()
+            came = Content()
         except Malformed as fault:
             self.look_through(program)
             raise Failed(f"{shown(self.path)}: {fault}", 4) from None
+        for entry, before in changes(self.content or Content(), came)[0].items():
+            came.held[before] = came.held.pop(entry)
+        self.content = came
 
     def look_through(self, program):
         """Has the program read it, which says whether it is an archive."""
-        with open(self.path, "rb") as file:
-            words = ["find", f"/dev/fd/{file.fileno()}", NO_UUID]
-            program.run(words, open_files=(file.fileno(),), names={words[1]: shown(self.path)})
+        program.run_over(self.path, "find", NO_UUID)
 
 
-def file_note(path):
-    """Which file it is, so that a new archive is told from one with the same heads."""
-    with contextlib.suppress(FileNotFoundError):
-        return [f"file {os.stat(path).st_ino}"]
-    return []
+def note_of(text, path=None):
+    """What is noted of an index, and of the file that it is of, so that a new archive is told from one that is the
+    same but for bytes that changed."""
+    return f"index {hashlib.sha256(text).hexdigest()} file {os.stat(path).st_ino if path else ''}"
 
 
 def write_synced(path, chunks):
@@ -138,3 +191,7 @@ def size_of(path):
         return os.stat(path).st_size
     except FileNotFoundError:
         return 0
+
+
+def time_of(path):
+    return os.stat(path).st_mtime_ns

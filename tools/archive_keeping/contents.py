@@ -214,18 +214,22 @@ def kept_text(content, notes=()):
     return f"{text}{LAST}{hashlib.sha256(text.encode()).hexdigest()}\n".encode()
 
 
-def kept_in(data):
-    """The content that such a file has, and its other lines."""
-    text, last, digest = data.decode(errors="replace").rpartition(LAST)
-    if not last or not text.startswith(FIRST) or digest != f"{hashlib.sha256(text.encode()).hexdigest()}\n":
-        raise Malformed("is damaged")
-    content, notes = Content(), []
-    for line in text[len(FIRST) :].splitlines():
-        word, *more = line.split(" ")
-        if word == "retired":
-            content.retired.add(entry_in(*more))
-        elif word == "slice":
-            content.held[entry_in(*more[:3])] = int(more[3])
-        else:
-            notes.append(line)
-    return content, notes
+class Kept:
+    """What a file has that is kept beside an archive: the lines of a content, and notes, which are its other lines."""
+
+    def __init__(self, data):
+        text, last, digest = data.decode(errors="replace").rpartition(LAST)
+        if not last or not text.startswith(FIRST) or digest != f"{hashlib.sha256(text.encode()).hexdigest()}\n":
+            raise Malformed("is damaged")
+        self.lines = text[len(FIRST) :].splitlines()
+        self.notes = [line for line in self.lines if not line.startswith(("retired ", "slice "))]
+
+    def content(self):
+        content = Content()
+        for line in self.lines:
+            word, *more = line.split(" ")
+            if word == "retired":
+                content.retired.add(entry_in(*more))
+            elif word == "slice":
+                content.held[entry_in(*more[:3])] = int(more[3])
+        return content

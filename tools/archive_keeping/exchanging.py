@@ -10,9 +10,10 @@ FOLDER copied between, all have the same, and after `symarch-keep fold` the same
 FOLDER has the questions and the answers of all sites. Their names say from whom to whom, and carry the SHA-256 of their
 bytes, so a file that is not copied to its end is told, and passed over. No file is ever rewritten.
 
-ARCHIVE.asked has what this site asked with. An answer is joined only if the site still has all of it, or its
-retirement: so one that was restored from a backup asks anew, and is never short of what the lost one had. A slice that
-changed is not sent. ARCHIVE is made if it does not exist; FOLDER is not, so a disk that is not mounted is told.
+A question is made of ARCHIVE.idx and ARCHIVE.today.idx, and ARCHIVE.asked has what this site asked with. An answer is
+joined only if the site still has all of it, or its retirement: so one that was restored from a backup asks anew, and is
+never short of what the lost one had. A slice that changed is not sent. ARCHIVE is made if it does not exist; FOLDER is
+not, so a disk that is not mounted is told.
 
 The lines, which are kept in ARCHIVE.log with the date:
 
@@ -56,15 +57,31 @@ class Asked:
     the others; and the dates of what was done with each other site."""
 
     def __init__(self, archive):
-        content, notes = archive.main.kept(ASKED) or (Content(), [])
-        self.archive, self.content = archive, content
+        self.archive, self.kept, self.last = archive, archive.main.kept(ASKED), None
+        notes = self.kept.notes if self.kept else []
         self.questions = [tuple(note.split(" ")[1:]) for note in notes if note.startswith("asked ")]
         self.sites = {}
         for note in notes:
             if note.startswith("site "):
                 _, site, *words = note.split(" ")
                 self.sites[site] = dict(zip(words[::2], words[1::2]))
-        self.written = content, self.notes()
+        self.written = self.notes()
+
+    def content(self):
+        """What the last question had."""
+        if self.last is None:
+            self.last = self.kept.content() if self.kept else Content()
+        return self.last
+
+    def may_be_answered(self, content):
+        """Whether an archive with a content has all that was asked with."""
+        if self.questions and self.questions[-1][1] == digest_of(content.summary()):
+            self.last = content
+        return not len(self.content().beyond(content))
+
+    def ask(self, question, content):
+        self.questions.append(question)
+        self.last = content
 
     def notes(self):
         notes = [f"asked {at} {digest}" for at, digest in self.questions[-MOST_ASKED:]]
@@ -76,9 +93,9 @@ class Asked:
         self.sites.setdefault(site, {})[word] = time.strftime(DATE, date)
 
     def save(self, room):
-        if (self.content, self.notes()) != self.written:
-            self.written = self.content, self.notes()
-            self.archive.lay(room, self.archive.beside(ASKED), kept_text(*self.written))
+        if self.notes() != self.written:
+            self.written = self.notes()
+            self.archive.lay(room, self.archive.beside(ASKED), kept_text(self.content(), self.written))
 
 
 class Exchange:
@@ -95,7 +112,7 @@ class Exchange:
 
     def join(self, room):
         """Joins the answers to what was asked, where the archive has all that it was asked with."""
-        if len(self.asked.content.beyond(self.content)):
+        if not self.asked.may_be_answered(self.content):
             self.asked.questions = []
         prefixes = {digest[:SHORT] for _, digest in self.asked.questions}
         origins = {}
@@ -166,8 +183,7 @@ class Exchange:
         last = self.asked.questions[-1] if self.asked.questions else (None, None)
         if last[1] != digest or last[0] < max(times):
             last = (time_after(times), digest)
-            self.asked.questions.append(last)
-            self.asked.content = self.content
+            self.asked.ask(last, self.content)
         # What is asked with is kept before it is asked.
         self.asked.save(room)
         name = question_name(self.folder.site, *last)
@@ -226,7 +242,7 @@ class Exchange:
         names = []
         for name, file in (("answer", self.archive.main), ("more", self.archive.today)):
             if len(file.content.beyond(theirs)):
-                self.make_delta(room, file, name)
+                self.program.run_over(file.path, "delta", "theirs", name, folder=room)
                 names.append(name)
         if len(names) == 2:
             self.program.run(["merge", *names[:1], "both", *names[1:]], folder=room)
@@ -235,12 +251,6 @@ class Exchange:
         with open(os.path.join(room, b"answer"), "rb") as file:
             if content_in(file) != lacking:
                 raise Failed(f"a slice of {shown(self.archive.path)} changed; `symarch-keep check` says which")
-
-    def make_delta(self, room, file, name):
-        with open(file.path, "rb") as opened:
-            words = ["delta", f"/dev/fd/{opened.fileno()}", "theirs", name]
-            names = {words[1]: shown(file.path)}
-            self.program.run(words, folder=room, open_files=(opened.fileno(),), names=names)
 
     # ---- what is done with
 

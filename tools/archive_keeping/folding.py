@@ -2,8 +2,9 @@
 same, and the bytes of retired slices go out of ARCHIVE.
 
 ARCHIVE is written anew, so the disk needs room for a second one. It is read and written once, in the memory of its
-largest slice twice. Call it where nobody waits for it, as from cron at night. If it is never called, the first word
-that finds more than a tenth of ARCHIVE in ARCHIVE.today does the same.
+largest slice twice, and `symarch-keep check` finds in the new one too what changed before. Call it where nobody waits
+for it, as from cron at night. If it is never called, the first word that finds more than a tenth of ARCHIVE in
+ARCHIVE.today does the same.
 
 Killed at any moment, it leaves the old ARCHIVE and ARCHIVE.today, or the new ARCHIVE and an ARCHIVE.today of which
 that has all; the next word empties this one then.

@@ -51,6 +51,15 @@ class Program:
             raise fault(words[1], said.decode(errors="replace").strip(), process.returncode, slices, names)
         return printed
 
+    def run_over(self, path, command, *more, folder=None):
+        """Runs a command over the archive of a path. Words that are no UTF-8 are refused, so it gets another word."""
+        with open(path, "rb") as file:
+            words = [command, f"/dev/fd/{file.fileno()}", *more]
+            names = {words[1]: shown(path)}
+            if folder:
+                names.update((name, shown(os.path.join(folder, os.fsencode(name)))) for name in more)
+            return self.run(words, folder=folder, open_files=(file.fileno(),), names=names)
+
 
 def give(descriptor, slices, moved, retirements=()):
     """Writes the archive of retirements and slices, which are in the order of their records."""

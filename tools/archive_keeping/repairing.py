@@ -2,7 +2,7 @@
 changed slice out of the archive FROM, as another site has it. Both are then what they were, byte for byte.
 
 FROM may also be an archive that you made of the dSYM by `symarch-keep add`. Of retirements, of heads, and of the first
-and last bytes the .sum of each has all, so FROM need not have them. FROM is only read, and what else it has is left
+and last bytes the index of each has all, so FROM need not have them. FROM is only read, and what else it has is left
 there. A slice that it does not have stays as it is; another FROM may have it.
 
 The lines, which are kept in ARCHIVE.log with the date, are those of `check` with `repaired` in the place of `changed`;
@@ -12,16 +12,17 @@ Status:
   0    all is as it was
   2    something is still changed, or some line could not be printed or kept
   3    the words have another form
-  4    something could not be read or written, or there is no ARCHIVE.sum: ARCHIVE and ARCHIVE.today are as they were
+  4    something could not be read or written, or there is no ARCHIVE.idx: ARCHIVE and ARCHIVE.today are as they were
   126  there is no program"""
 import functools
 import os
 
-from .archive import Archive
-from .archive_file import SUM, ArchiveFile, size_of
-from .checking import Findings, lines_of, seen_anew, told_apart
+from .archive import Archive, index_made
+from .archive_file import INDEX, ArchiveFile, size_of
+from .checking import Findings, told_apart
 from .contents import KEY, RETIREMENT, Malformed
 from .contents import digest_in, head_of, record_size, records_in
+from .indexes import HEAD, Row, index_by
 from .program import Program, give
 from .screen import Failed, Refused, Screen, shown
 from .slices import Slice, compared
@@ -60,54 +61,52 @@ def slice_at(path, entry, at, length):
 def mended(path, findings, other, found):
     """The slices of an archive in their order, each where its bytes are good. One that is nowhere has the bytes that
     stand in its place."""
-    slices, lacking = [], dict(findings.bad)
-    for entry, length in findings.content.held.items():
-        head = head_of(entry[:KEY], length)
-        if entry in findings.good:
-            slices.append(slice_at(path, entry, findings.good[entry], length))
+    slices = []
+    for row in filter(Row.is_slice, findings.rows):
+        entry, length = row.entry[1:], row.length - HEAD
+        if row.entry in findings.good:
+            slices.append(slice_at(path, entry, row.at + HEAD, length))
         elif entry in found:
             slices.append(slice_at(other, entry, found[entry], length))
         else:
-            slices.append(slice_at(path, entry[:KEY], lacking[head].pop(), length))
+            slices.append(slice_at(path, entry[:KEY], row.at + HEAD, length))
     return sorted(slices, key=functools.cmp_to_key(compared))
 
 
-def put(archive, file, program, findings, slices, lines, is_whole, screen):
+def put(archive, file, program, slices, lines, is_whole, screen):
     """Writes the archive of the slices in a room, and puts it in place. If all are good, the program has to find in it
     what is known of it."""
-    content = findings.content
-    retirements = sorted(RETIREMENT + entry for entry in content.retired)
+    retirements = sorted(RETIREMENT + entry for entry in file.content.retired)
     with archive.room() as room:
         screen.begin(f"writing: {{}} of {len(slices)} slices")
-        with open(os.path.join(room, b"new"), "wb", buffering=0) as new:
-            give(new.fileno(), slices, screen.progress, retirements)
-            os.fsync(new.fileno())
-        if is_whole:
-            program.run(["summary", "new", "sum"], folder=room, names={"new": "what was to be written"})
-            with open(os.path.join(room, b"sum"), "rb") as summary:
-                if summary.read() != content.summary():
-                    raise Failed(f"{program.path} finds something else in what was to be written", 4)
-        archive.replace(room, file, content, lines, screen)
+        new = os.path.join(room, b"new")
+        with open(new, "wb", buffering=0) as written:
+            give(written.fileno(), slices, screen.progress, retirements)
+            os.fsync(written.fileno())
+        index = index_by(file.content, new)
+        if is_whole and index_made(new, room, program, screen).text != index.text:
+            raise Failed(f"{program.path} finds something else in what was to be written", 4)
+        archive.replace(room, file, index, lines, screen)
 
 
 def repair(archive, file, program, other, screen):
     """Mends what can be of a file, and returns the lines."""
-    known, findings = file.content, Findings(file.content)
+    findings = Findings(file)
     with open(file.path, "rb") as opened:
         screen.begin("reading", os.fstat(opened.fileno()).st_size)
         findings.look_through(opened, screen.moved)
     if not findings.lines():
         return []
-    wanted = {entry: known.held[entry] for entry in findings.changed if entry not in findings.good}
-    found = found_in(other, wanted, screen)
-    lacking = wanted.keys() - found.keys()
-    if lacking and file.size() < known.size():
+    bad = [row for row in findings.changed if row.is_slice() and row.entry not in findings.good]
+    found = found_in(other, {row.entry[1:]: row.length - HEAD for row in bad}, screen)
+    lacking = [row for row in bad if row.entry[1:] not in found]
+    if lacking and file.size() < findings.size:
         raise Failed(f"{shown(file.path)} ends early, and {shown(other)} does not have all that it lacks", 4)
     slices = mended(file.path, findings, other, found)
-    lines = lines_of("repaired", findings.changed - lacking, findings.changed_retirements, findings.has_ends)
+    lines = findings.lines_of("repaired", set(findings.changed).difference(lacking), findings.has_ends)
     if lines:
-        put(archive, file, program, findings, slices, lines, not lacking, screen)
-    return lines + lines_of("changed", lacking)
+        put(archive, file, program, slices, lines, not lacking, screen)
+    return lines + findings.lines_of("changed", lacking)
 
 
 def tried(archive, file, program, other, screen, is_first):
@@ -131,14 +130,11 @@ def carry_out(words):
     os.stat(other)
     archive.take_lock(screen)
     same, others = told_apart(archive, program, screen)
-    if archive.main in others and others[archive.main] is None:
-        raise Failed(f"there is no {shown(archive.main.beside(SUM))}, so nothing says what changed", 4)
-    archive.tell_lost(*seen_anew(archive, others, program, screen), screen)
-    archive.keep(others, screen)
+    if archive.main in others and archive.main.content is None:
+        raise Failed(f"there is no {shown(archive.main.beside(INDEX))}, so nothing says what changed", 4)
+    archive.see_anew(others, program, screen)
     lines = []
     for file in filter(ArchiveFile.exists, [*same, *others]):
-        if file in others and file.content.heads() != file.heads():
-            raise Failed(f"{shown(file.path)} is of version 1, of which `symarch migrate` makes version 2", 4)
         lines += tried(archive, file, program, other, screen, is_first=not lines)
     screen.show(lines)
     still = sum(line.startswith("changed ") for line in lines)

@@ -1,6 +1,6 @@
 """Prints what ARCHIVE and ARCHIVE.today have together, in numbers, and what is known of the sites with which they
-exchange. It reads the heads of the slices, and few of their bytes, so it takes little time; `symarch-keep check` reads
-all.
+exchange. It reads the indexes, so it takes little time; `symarch-keep check` reads all. Of an archive that is not the
+one of its index it reads the heads of the slices, and few of their bytes.
 
   images N          slices that are no companions
   companions N      slices of dSYMs
@@ -22,15 +22,14 @@ import os
 from typing import NamedTuple
 
 from .archive import ASKED, NEXT_LOG, TODAY, Archive
-from .archive_file import NEXT_SUM
-from .contents import KEY, RETIREMENT, Malformed, digest_in, record_size, records_in
+from .archive_file import NEXT_INDEX
+from .contents import DIGEST, KEY, RETIREMENT, Malformed, digest_in, record_size, records_in
+from .indexes import HEAD, is_companion
 from .program import Program
 from .screen import Failed, Screen, shown
 
 USAGE = "symarch-keep status ARCHIVE"
 ABOUT = "print what it has, in numbers"
-# mach-o/loader.h: the file type of a companion, and where it stands.
-MH_DSYM, FILETYPE = b"\x0a\0\0\0", 12
 
 
 def define(parser):
@@ -40,7 +39,7 @@ def define(parser):
 def carry_out(words):
     screen = Screen()
     archive = Archive(os.fsencode(words.archive), writes=False)
-    records = [record for file in archive.files if file.exists() for record in read(file)]
+    records = [record for file in archive.files if file.exists() for record in records_of(file, screen)]
     lines = numbers_of(records)
     lines += [f"bytes {archive.main.size()}"] + [f"today {archive.today.size()}"] * archive.today.exists()
     screen.show(lines + sites_of(archive) + left_of(archive))
@@ -48,31 +47,44 @@ def carry_out(words):
 
 
 class Record(NamedTuple):
-    """A record: its head, whether its slice is a companion, and in which file its slice stands where."""
+    """A record: its head, whether its slice is a companion, in which file it stands where, and its digest, if that is
+    known."""
 
     head: bytes
     is_companion: bool
     path: bytes
     at: int
+    digest: bytes = b""
 
     def key(self):
         return self.head[1 : 1 + KEY]
 
     def entry(self):
-        """The key and the digest of a slice, which is read."""
+        """The key and the digest of a slice, which is read if it has to be."""
+        if self.digest:
+            return self.key() + self.digest
         with open(self.path, "rb") as file:
-            return self.key() + digest_in(file, self.at, record_size(self.head) - len(self.head))
+            return self.key() + digest_in(file, self.at + HEAD, record_size(self.head) - HEAD)
+
+
+def records_of(archive_file, screen):
+    """The records of an archive file: those of its index, if that is of it."""
+    index, is_same = archive_file.known(screen)
+    if is_same:
+        path = archive_file.path
+        return [Record(row.head(), row.is_companion, path, row.at, row.entry[-DIGEST:]) for row in index.rows()]
+    return read(archive_file)
 
 
 def read(archive_file):
-    """The records of an archive file."""
+    """The records that an archive file has by its bytes."""
     records = []
     try:
         with open(archive_file.path, "rb") as file:
-            for head, at in records_in(file):
-                file.seek(at + FILETYPE)
-                is_companion = head[:1] != RETIREMENT and file.read(len(MH_DSYM)) == MH_DSYM
-                records.append(Record(head, is_companion, archive_file.path, at))
+            for head, after in records_in(file):
+                at = after - len(head)
+                is_slice = head[:1] != RETIREMENT
+                records.append(Record(head, is_slice and is_companion(file, at), archive_file.path, at))
     except Malformed as fault:
         archive_file.look_through(Program())
         raise Failed(f"{shown(archive_file.path)}: {fault}", 4) from None
@@ -101,13 +113,13 @@ def numbers_of(records):
 def sites_of(archive):
     """What `exchange` noted of each site."""
     kept = archive.main.kept(ASKED)
-    return [note for note in kept[1] if note.startswith("site ")] if kept else []
+    return [note for note in kept.notes if note.startswith("site ")] if kept else []
 
 
 def left_of(archive):
     """What a kill left. What belongs to one that works now is not."""
     if archive.lock is None or not archive.is_free():
         return []
-    paths = [archive.beside(ending) for ending in (NEXT_SUM, TODAY + NEXT_SUM, NEXT_LOG)]
+    paths = [archive.beside(ending) for ending in (NEXT_INDEX, TODAY + NEXT_INDEX, NEXT_LOG)]
     paths += [os.path.join(archive.folder, name) for name in archive.rooms()]
     return [f"left {shown(path)}" for path in paths if os.path.exists(path)]

@@ -100,11 +100,18 @@ def summary(images):
 
 
 def index(images):
-    """The index of the archive of these images, none of which is a companion."""
+    """The index of the archive of these images."""
+    return index_of(archive(images))
+
+
+def index_of(text):
+    """The index of an archive."""
     entries, place = [], 8
-    for record in sorted(map(admission, images)):
-        entry = b"\x02" + record[1:25] + hashlib.sha256(record[33:]).digest()
-        entries.append(entry + b"\0" + struct.pack(">QQ", place, len(record)))
+    for record in records_in(text):
+        is_slice = record[0] == 2
+        entry = b"\x02" + record[1:25] + hashlib.sha256(record[33:]).digest() if is_slice else record
+        is_companion = is_slice and record[45:49] == b"\x0a\0\0\0"
+        entries.append(entry + struct.pack(">BQQ", is_companion, place, len(record)))
         place += len(record)
     return b"MSYMIDX1" + b"".join(sorted(entries)) + b"\x03" + struct.pack(">Q", len(entries))
 
@@ -113,3 +120,8 @@ def line(word, made, path):
     """The line of a slice, by its path as it has to be printed."""
     arch = WORDS[struct.unpack_from("<II", made, 4)]
     return f"{word} {uuid.UUID(bytes=made[40:56])} {arch} {hashlib.sha256(made).hexdigest()} {path}"
+
+
+def slice_words(made):
+    """UUID, ARCH and DIGEST of an image."""
+    return line("", made, "").split()

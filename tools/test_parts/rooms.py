@@ -9,7 +9,7 @@ from .made_images import image, join_of
 
 keep = os.environ.get("KEEP") or str(pathlib.Path(__file__).resolve().parent.parent / "symarch-keep")
 # What stays beside an archive.
-BESIDE = ("lock", "log", "sum", "today", "today.sum", "asked")
+BESIDE = ("lock", "log", "idx", "idx.sum", "today", "today.idx", "today.idx.sum", "asked")
 
 
 def today_of(archive):
@@ -17,11 +17,25 @@ def today_of(archive):
     return pathlib.Path(f"{os.fspath(archive)}.today")
 
 
+def kept_index(path):
+    """The index that is kept of an archive file."""
+    return pathlib.Path(f"{os.fspath(path)}.idx").read_bytes()
+
+
 def bytes_of(archive):
     """What an archive has, with what came in since its last fold."""
     files = [path for path in (pathlib.Path(archive), today_of(archive)) if path.exists()]
     texts = [path.read_bytes() for path in files]
     return texts[0] if len(texts) == 1 else join_of(*texts)
+
+
+def change(path, at):
+    """Changes a byte of a file in place."""
+    with open(path, "r+b") as file:
+        file.seek(at)
+        byte = file.read(1)
+        file.seek(at)
+        file.write(bytes([byte[0] ^ 1]))
 
 
 class Room:
