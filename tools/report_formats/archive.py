@@ -23,6 +23,8 @@ MOST_LINES = 10_000
 # The program begins its first line on standard error so; more than this of all is not read.
 OWN_WORDS = b"symarch: "
 MOST_SAID = 100_000
+# What it says where it does not read an archive by its index.
+OF_AN_INDEX = re.compile(rb"symarch: index ([0-9]{1,9}): ([^\n]*)")
 # What a program begins with that runs by itself. A script might begin a build.
 ELF = b"\x7fELF"
 
@@ -107,6 +109,11 @@ def two_words(line):
     return first, rest
 
 
+def index_of(path):
+    """The path of the index that `symarch-keep` keeps beside an archive."""
+    return f"{path}.idx"
+
+
 class Archive:
     """The archives, as the program reads them: as their join."""
 
@@ -130,7 +137,25 @@ class Archive:
             image.take({arch: one for arch, one in found.items() if one.is_there})
 
     def ask(self, answers):
-        words = [self.program, "frames", "/dev/stdin", *self.paths]
+        """Asks the archives, by the index beside each that has one. An archive of which that is not the index is asked
+        without it."""
+        plain = [path for path in self.paths if not os.path.exists(index_of(path))]
+        indexed = [path for path in self.paths if path not in plain]
+        while True:
+            said, status, is_answered = self.ask_by(answers, indexed, plain)
+            refused = OF_AN_INDEX.match(said) if status == 2 else None
+            if not refused or int(refused[1]) >= len(indexed):
+                break
+            path = indexed.pop(int(refused[1]))
+            say(f"symbolicate-report: {index_of(path)} is not used: {refused[2].decode(errors='replace')}\n")
+            plain.append(path)
+        say(said.decode(errors="surrogateescape"))
+        self.judge(status, is_answered, said)
+
+    def ask_by(self, answers, indexed, plain):
+        """What the program says on standard error, its status, and whether it answers as `frames` does."""
+        indexes = [word for path in indexed for word in ("--index", index_of(path))]
+        words = [self.program, "frames", "/dev/stdin", *indexes, *indexed, *plain]
         with tempfile.TemporaryFile() as errors:
             try:
                 run = subprocess.Popen(words, stdin=subprocess.PIPE, stdout=subprocess.PIPE, stderr=errors)
@@ -142,9 +167,7 @@ class Archive:
                 is_answered = self.take(answers, run)
                 asking.join()
             errors.seek(0)
-            said = errors.read(MOST_SAID)
-        say(said.decode(errors="surrogateescape"))
-        self.judge(run.returncode, is_answered, said)
+            return errors.read(MOST_SAID), run.returncode, is_answered
 
     def judge(self, status, is_answered, said):
         """Refuses what is not all answers, after what the program said on standard error."""
