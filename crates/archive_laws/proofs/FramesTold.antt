@@ -17,7 +17,7 @@ use Rattle.command_ends.specs.declared.faults.Place.{Place}
 use Rattle.command_ends.specs.declared.faults.Status.{Status}
 use Rattle.command_ends.specs.declared.faults.Status.TheVariants.{Done, Partial}
 use Rattle.command_ends.specs.declared.faults.Why.{Why}
-use Rattle.command_ends.specs.declared.faults.Why.TheVariants.{Device as CannotRead, Record, Take, Script as Faulty, BadFrame, CannotOpen as NotOpened, OldArchive, TooLong, Index as IndexFaulty, Stale}
+use Rattle.command_ends.specs.declared.faults.Why.TheVariants.{Device as CannotRead, Record, Take, Script as Faulty, BadFrame, CannotOpen as NotOpened, OldArchive, TooLong, Index as IndexFaulty, NoArchive, Stale}
 use Rattle.archive_queries.specs.Frames.{IsFrameAnswered, TellsFrames, MakesFramed, RefusesFrames, Told, IsToldAlone, SymbolicatesEach, is_done}
 use Rattle.command_ends.specs.Inputs.{Reader, reader, Gives, HoldsContent, IsDeviceFault, IsFramesRefused, IsGiven}
 use Rattle.archive_queries.specs.Symbolicate.{Answered, IsAnswered, TellsAddresses, asked_of, is_symbol, answers_status, answers_text}
@@ -197,6 +197,7 @@ frames_alone left failures old new bytes said OldArchive is says refused = absur
 frames_alone left failures old new bytes said TooLong is says refused = absurd refused
 frames_alone left failures old new bytes said (IndexFaulty fault) is says refused = absurd refused
 frames_alone left failures old new bytes said (Stale entry) is says refused = absurd refused
+frames_alone left failures old new bytes said NoArchive is says refused = absurd refused
 frames_alone left failures old new bytes said (BadFrame line flaw) is says refused =
     absurd (no_fault (frames_of bytes) said line says (given left failures old new bytes
     (λ b. (frames_of b ≡ Err line) × (flaw ≡ frame_flaw (line_at b line))) is refused.1).0)

@@ -24,7 +24,7 @@ use Rattle.byte_device.specs.declared.disks.CannotOpen.{CannotOpen}
 use Rattle.command_ends.specs.declared.faults.Place.{Place}
 use Rattle.command_ends.specs.declared.faults.Status.{Status}
 use Rattle.command_ends.specs.declared.faults.Why.{Why}
-use Rattle.command_ends.specs.declared.faults.Why.TheVariants.{Device as CannotRead, Record, Take as TakeRefused, Script as Faulty, BadFrame, CannotOpen as NotOpened, OldArchive, TooLong, Index as IndexFaulty, Stale}
+use Rattle.command_ends.specs.declared.faults.Why.TheVariants.{Device as CannotRead, Record, Take as TakeRefused, Script as Faulty, BadFrame, CannotOpen as NotOpened, OldArchive, TooLong, Index as IndexFaulty, NoArchive, Stale}
 use Rattle.command_ends.specs.Inputs.{Reader, reader, Gives, IsDeviceFault, IsGiven, IsRefusedScript, IsScriptRefused}
 use Rattle.rehearse.specs.Rehearse.{MakesRehearsed, TellsEvents, rehearsal_lines, site_lines}
 
@@ -53,6 +53,7 @@ refused_so left failures old new bytes said OldArchive is says refused = absurd 
 refused_so left failures old new bytes said TooLong is says refused = absurd refused
 refused_so left failures old new bytes said (IndexFaulty fault) is says refused = absurd refused
 refused_so left failures old new bytes said (Stale entry) is says refused = absurd refused
+refused_so left failures old new bytes said NoArchive is says refused = absurd refused
 refused_so left failures old new bytes said (Faulty fault line flaw) is says refused =
     absurd (no_fault (script_of bytes) said (fault, line) says (given left failures old new bytes
     (λ b. (script_of b ≡ Err (fault, line)) × (flaw ≡ script_flaw fault (line_at b line))) is refused.1).0)
