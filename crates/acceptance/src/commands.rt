@@ -21,6 +21,7 @@ impl<'a> Disk for Desk<'a> {
     ghost use Rattle.byte_device.specs.Disks.{Unknown, file_of};
 
     type Input = StrictSource<'a>;
+
     type Places = LaidPieces<'a>;
 
     // Of files nothing is known where one of them is cut.

@@ -1,14 +1,20 @@
 -- Archives and indexes that are handed on, and the query that they make.
-use Rattle.std.proofs.Common.{◌≡◌, ℕ, ◌<◌, suc, zero, List, [], ◌∷◌, ◌++◌, length, map, take, drop, Option, Result}
-use Rattle.std.proofs.Common.{refl, ap, arith}
-use Rattle.std.specs.Prelude.{nat_lt, ⊥}
+use Rattle.std.proofs.Common.{◌≡◌, ◌∙◌, ℕ, ◌<◌, ◌≤◌, suc, zero, List, [], ◌∷◌, ◌++◌, length, take, drop, Option, Result}
+use Rattle.std.proofs.Common.{Bool, true, false, Err, refl, ap, sym, subst, arith, length-append, true≢false}
+use Rattle.std.proofs.KnownBytes.{Appends-nil}
+use Rattle.std.proofs.lemmas.Bool.{lt-ltb, ltb-true}
+use Rattle.std.specs.Prelude.{◌==◌, nat_lt}
+use Rattle.command_ends.specs.Ends.{EndsReport, Query}
+use Rattle.command_ends.specs.Outputs.{Writer, writer}
+use Rattle.command_ends.specs.declared.faults.CommandFault.{CommandFault}
+use Rattle.command_ends.specs.declared.faults.Status.{Status}
 use Rattle.byte_device.specs.declared.disks.CannotOpen.{CannotOpen}
 use Rattle.archive_core.specs.declared.keys.SliceKey.{SliceKey}
 use Rattle.command_ends.specs.Inputs.{Reader, reader, readers}
 use Rattle.indexed_queries.specs.Find.{find_together}
 use Rattle.indexed_queries.specs.Frames.{frames_at}
 use Rattle.indexed_queries.specs.Symbolicate.{symbolicate_at}
-use Rattle.plan_commands.specs.Asking.{find_of, frames_of, symbolicate_of, unless_more}
+use Rattle.plan_commands.specs.Asking.{extra_index, find_of, frames_of, no_archive, symbolicate_of, unless_more}
 
 -- ---- inputs in two parts
 
@@ -46,6 +52,11 @@ as_many_readers left failures (x ∷ a) (y ∷ c) is = ap suc (as_many_readers l
 
 -- ---- queries by indexes
 
+-- there is one
+pub not_none : {A : Type 0} (xs : List A) → false ≡ (length xs == 0) → 0 < length xs
+not_none [] is = absurd (true≢false (sym is))
+not_none (x ∷ xs) is = omega arith
+
 pub symbolicate_by : {S : Type 0} (archives places indexes : List (Reader S)) (key : SliceKey) (load : Option ℕ)
     (addresses : List ℕ) → 0 < length indexes
     → symbolicate_of archives places indexes key load addresses
@@ -76,3 +87,76 @@ find_by (a ∷ []) [] (i ∷ indexes) uuid some several = refl
 find_by (a ∷ []) (p ∷ q ∷ places) (i ∷ indexes) uuid some several = refl
 find_by (a ∷ []) (p ∷ []) (i ∷ j ∷ indexes) uuid some several = refl
 find_by (a ∷ []) (p ∷ []) (i ∷ []) uuid some several = absurd (several refl refl)
+
+-- ---- how they end
+
+-- more indexes than archives
+refused_by : {W : Type 0} (held : W → Option (List ℕ)) (failures : W → ℕ) (report : W) (archives indexes : ℕ)
+    (query : Query) (fault : CommandFault) → archives < indexes → fault ≡ no_archive archives
+    → EndsReport (unless_more (nat_lt archives indexes) archives query) (writer held failures report report) (Err fault)
+refused_by held failures report archives indexes query fault more is =
+    subst (λ (e : CommandFault). EndsReport (unless_more (nat_lt archives indexes) archives query)
+    (writer held failures report report) (Err e)) (sym is)
+    (subst (λ (b : Bool). EndsReport (unless_more b archives query) (writer held failures report report)
+    (Err (no_archive archives))) (sym (lt-ltb archives indexes more)) ((refl, refl), (Appends-nil (held report), refl)))
+
+-- no more than archives
+kept_by : (archives indexes : ℕ) (query : Query) (report : Writer) (result : Result Status CommandFault)
+    → indexes ≤ archives → EndsReport query report result
+    → EndsReport (unless_more (nat_lt archives indexes) archives query) report result
+kept_by archives indexes query report result few ends = by (nat_lt archives indexes) refl
+  where
+    by : (b : Bool) → nat_lt archives indexes ≡ b → EndsReport (unless_more b archives query) report result
+    by false is = ends
+    by true is = absurd (omega (arith, few, ltb-true archives indexes is))
+
+-- of any query that is made of indexes and archives so
+module _ {S W : Type 0} (left whole : S → Option (List ℕ)) (failures place_failures : S → ℕ)
+    (held : W → Option (List ℕ)) (write_failures : W → ℕ)
+    (make : List (Reader S) → List (Reader S) → List (Reader S) → Query) where
+  -- there are more indexes than archives
+  pub more_refused : (archives ix : List (Result S CannotOpen)) (query : Query) (report : W) (fault : CommandFault) (n : ℕ)
+      → n ≡ length archives → n < length ix → fault ≡ no_archive n
+      → query ≡ unless_more
+      (nat_lt (length (readers left failures archives archives)) (length (readers left failures ix ix)))
+      (length (readers left failures archives archives))
+      (make (readers left failures ix ix)
+      (take (length (readers left failures ix ix)) (readers whole place_failures archives archives))
+      (drop (length (readers left failures ix ix)) (readers left failures archives archives)))
+      → EndsReport query (writer held write_failures report report) (Err fault)
+  more_refused archives ix query report fault n is more fault_is by =
+      let many = as_many_readers left failures archives archives refl in
+      let numbered = as_many_readers left failures ix ix refl in
+      subst (λ (q : Query). EndsReport q (writer held write_failures report report) (Err fault)) (sym by)
+      (refused_by held write_failures report (length (readers left failures archives archives))
+      (length (readers left failures ix ix)) _ fault (omega (arith, many, numbered, is, more))
+      (fault_is ∙ ap no_archive (is ∙ sym many)))
+
+  -- or no more, and those of so many archives, which are handed on first
+  pub few_kept : (a b c d ix iy : List (Result S CannotOpen)) (query : Query) (report : Writer)
+      (result : Result Status CommandFault) → length a ≡ length ix → length c ≡ length a → length d ≡ length b
+      → length iy ≡ length ix
+      → query ≡ unless_more
+      (nat_lt (length (readers left failures (a ++ b) (c ++ d))) (length (readers left failures ix iy)))
+      (length (readers left failures (a ++ b) (c ++ d)))
+      (make (readers left failures ix iy)
+      (take (length (readers left failures ix iy)) (readers whole place_failures (a ++ b) (c ++ d)))
+      (drop (length (readers left failures ix iy)) (readers left failures (a ++ b) (c ++ d))))
+      → EndsReport (make (readers left failures ix iy) (readers whole place_failures a c) (readers left failures b d))
+      report result
+      → EndsReport query report result
+  few_kept a b c d ix iy query report result as_many same others indexes by ends =
+      let number = length (readers left failures ix iy) in
+      let numbered : number ≡ length ix = as_many_readers left failures ix iy indexes in
+      let long : length (c ++ d) ≡ length (a ++ b) =
+      omega (arith, same, others, length-append a b, length-append c d) in
+      let many = as_many_readers left failures (a ++ b) (c ++ d) long in
+      let first = taken whole place_failures number a b c d (as_many ∙ sym numbered) same in
+      let last = dropped left failures number a b c d (as_many ∙ sym numbered) same in
+      subst (λ (q : Query). EndsReport q report result) (sym by)
+      (kept_by (length (readers left failures (a ++ b) (c ++ d))) number _ report result
+      (omega (arith, many, numbered, as_many, length-append a b))
+      (subst (λ (p : List (Reader S)). EndsReport (make (readers left failures ix iy) p
+      (drop number (readers left failures (a ++ b) (c ++ d)))) report result) (sym first)
+      (subst (λ (o : List (Reader S)). EndsReport (make (readers left failures ix iy) (readers whole place_failures a c)
+      o) report result) (sym last) ends)))

@@ -1,5 +1,5 @@
 -- Queries of archives, the first of which are read by their indexes, and the others whole.
-use Rattle.std.specs.Prelude.{◌≡◌, ℕ, List, [], ◌∷◌, Bool, true, false, nat_lt, length, take, drop, Option, ⊥}
+use Rattle.std.specs.Prelude.{◌≡◌, ℕ, List, [], ◌∷◌, Bool, true, false, nat_lt, length, take, drop, Option}
 use Rattle.archive_core.specs.declared.keys.SliceKey.{SliceKey}
 use Rattle.command_ends.specs.declared.faults.CommandFault.{CommandFault}
 use Rattle.command_ends.specs.declared.faults.CommandFault.TheVariants.{Input}

@@ -114,12 +114,12 @@ pub data Deed : Type 1 where
 -- start, and as they are read from any place: an archive and the further ones are asked as their join
 abbrev pub answer_of : {S : Type 0} → Plan → List (Reader S) → List (Reader S) → Deed
 answer_of (plan.Find _ uuid others _) inputs places =
-    let number = 1 + length others.now in
+    let number = length others.now + 1 in
     answers (find_of (take number inputs) (take number places) (drop number inputs) uuid)
 answer_of (plan.List _ _) (archive ∷ indexes) (place ∷ _) = answers (list_of archive place indexes)
 answer_of (plan.Name _ sought _) (archive ∷ others) _ = answers (name archive others sought.now)
 answer_of (plan.Symbolicate _ uuid arch load others _ addresses) inputs places =
-    let number = 1 + length others.now in
+    let number = length others.now + 1 in
     answers (symbolicate_of (take number inputs) (take number places) (drop number inputs) (key_of uuid arch) load
     addresses.now)
 answer_of (plan.Frames _ indexes _ _) (crash ∷ inputs) (_ ∷ places) =

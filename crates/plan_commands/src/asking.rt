@@ -51,8 +51,11 @@ pub fn find<A: Archive + Drop, S: Source + Placed, P: Sink>(
     if indexes.len() > archives.len() {
         return Err(no_archive(archives.len()));
     }
-    if let ([index], [archive]) = (&mut *indexes, &mut *archives) {
-        return run_find_at(heap, index, archive, uuid, report);
+    if archives.len() == 1 {
+        return match (indexes, archives) {
+            ([index], [archive]) => run_find_at(heap, index, archive, uuid, report),
+            _ => unreachable!(),
+        };
     }
     let (archives, others) = archives.split_at_mut(indexes.len());
     run_find_together::<A, _, _, _, _>(heap, indexes, archives, others, uuid, report)
@@ -71,9 +74,9 @@ pub fn list<S: Source + Placed, P: Sink>(
         (readers ⟦<S as Source>⟧.left ⟦<S as Source>⟧.failures indexes.old indexes.new))
         (writer P.held P.failures report.old report.new) result }
 {
-    match indexes.first_mut() {
-        None => run_list(heap, archive, report),
-        Some(index) => run_list_at(heap, index, archive, report),
+    match indexes {
+        [] => run_list(heap, archive, report),
+        [index, ..] => run_list_at(heap, index, archive, report),
     }
 }
 

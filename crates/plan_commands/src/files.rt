@@ -14,8 +14,9 @@ ghost use Rattle.plan_commands.specs.Files.{IsDone, calls_of, command_fault_of, 
 use crate::execute_on;
 use crate::hints::Seen;
 use crate::plans::Plan;
-use archive_files::{Disk, OpenedFile, OutFault, OutFile, OutPath, PlacedFile};
-use archive_files::{SystemDisk, SystemFiles, SystemInput};
+use archive_files::{
+    Disk, OpenedFile, OutFault, OutFile, OutPath, PlacedFile, SystemDisk, SystemFiles, SystemInput,
+};
 use archive_updates::Note;
 use byte_device::{CannotCreate, Sink, Source};
 use command_ends::{CommandFault, Failure, Status, Target};

@@ -360,7 +360,11 @@ fn summary<'l>(values: &'l [Values]) -> Plan<'l>
     let [Texts(One(archive)), Texts(One(out)), Texts(Perhaps(index))] = values else {
         unreachable!();
     };
-    Plan::Summary { archive, out, index }
+    Plan::Summary {
+        archive,
+        out,
+        index,
+    }
 }
 
 fn index<'l>(values: &'l [Values]) -> Plan<'l>
@@ -482,9 +486,7 @@ fn answer<A: Archive + Drop, L: Archive + Drop, S: Source + Placed, P: Sink>(
         } => {
             let (archives, indexes) = inputs.split_at_mut(others.len() + 1);
             let key = key(uuid, arch);
-            asking::symbolicate::<L, _, _>(
-                heap, archives, indexes, &key, *load, addresses, report,
-            )
+            asking::symbolicate::<L, _, _>(heap, archives, indexes, &key, *load, addresses, report)
         }
         _ => {
             let Some((first, rest)) = inputs.split_first_mut() else {

@@ -1,0 +1,52 @@
+use Rattle.std.proofs.Common.{◌<◌, ◌∙◌, ◌++◌, ap, arith, length, length-append, refl, sym}
+use Rattle.command_ends.specs.Inputs.{readers}
+use Rattle.indexed_queries.specs.Find.{find_together}
+use Rattle.plan_commands.proofs.Asked.{as_many_readers, few_kept, more_refused, not_none, find_by}
+use Rattle.plan_commands.proofs.asking.find.Goals as goal
+
+pub returns-then-indexes-archives : goal.returns-then-indexes-archives
+returns-then-indexes-archives g c =
+    let left = g.S.Source.left in
+    let failures = g.S.Source.failures in
+    let some : 0 < length (readers left failures c.args.indexes.now c.args.indexes.now) =
+    omega (arith, as_many_readers left failures c.args.indexes.now c.args.indexes.now refl, c.if-indexes-archives.true) in
+    more_refused left g.S.Placed.whole failures g.S.Placed.failures g.P.Sink.held g.P.Sink.failures
+    (λ i p o. find_together i p o c.args.uuid.now) c.args.archives.now
+    c.args.indexes.now _ _ _ (length c.args.archives.now) refl c.if-indexes-archives.true c.no_archive.ensures
+    (find_by _ _ _ _ some (λ one single. omega (
+      arith,
+      one,
+      single,
+      c.if-indexes-archives.true,
+      as_many_readers left failures c.args.archives.now c.args.archives.now refl,
+      as_many_readers left failures c.args.indexes.now c.args.indexes.now refl,
+    )))
+
+pub returns : goal.returns
+returns g c =
+    let left = g.S.Source.left in
+    let failures = g.S.Source.failures in
+    let some : 0 < length (readers left failures c.args.indexes.now c.run_find_together.new.indexes) =
+    omega (
+      arith,
+      as_many_readers left failures c.args.indexes.now c.run_find_together.new.indexes
+          c.run_find_together.auto.indexes,
+      not_none c.args.indexes.now c.if-is_empty.ensures,
+    ) in
+    rw (c.split_at_mut-archives.ensures.value)
+    (few_kept left g.S.Placed.whole failures g.S.Placed.failures g.P.Sink.held g.P.Sink.failures
+    (λ i p o. find_together i p o c.args.uuid.now)
+    c.split_at_mut-archives.result.0.now c.split_at_mut-archives.result.1.now c.run_find_together.new.archives
+    c.run_find_together.new.others c.args.indexes.now c.run_find_together.new.indexes _ _ _
+    c.split_at_mut-archives.ensures.front_len c.run_find_together.auto.archives c.run_find_together.auto.others
+    c.run_find_together.auto.indexes (find_by _ _ _ _ some (λ one single. c.if-archives-eq1.false
+    (ap length c.split_at_mut-archives.ensures.value ∙ sym (as_many_readers left failures
+    (c.split_at_mut-archives.result.0.now ++ c.split_at_mut-archives.result.1.now)
+    (c.run_find_together.new.archives ++ c.run_find_together.new.others)
+    (omega (
+      arith,
+      c.run_find_together.auto.archives,
+      c.run_find_together.auto.others,
+      length-append c.split_at_mut-archives.result.0.now c.split_at_mut-archives.result.1.now,
+      length-append c.run_find_together.new.archives c.run_find_together.new.others,
+    ))) ∙ one))) c.run_find_together.ensures)
