@@ -310,8 +310,10 @@ fn symbolicate<'l>(values: &'l [Values]) -> Plan<'l>
     else {
         unreachable!();
     };
+    let [Numbers(Perhaps(load)), rest @ ..] = rest else {
+        unreachable!();
+    };
     let [
-        Numbers(Perhaps(load)),
         Texts(Several(others)),
         Texts(Several(indexes)),
         Numbers(Several(addresses)),
