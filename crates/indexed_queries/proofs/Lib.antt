@@ -6,4 +6,3 @@ pub mod Joined
 pub mod Framed
 pub mod ByIndex
 pub mod Groups
-pub mod Accepted
