@@ -14,7 +14,7 @@ mod testing;
 mod writing;
 
 pub use buffers::{Bytes, Grown};
-pub use disks::{CannotCreate, CannotOpen, Disk};
+pub use disks::{CannotCreate, CannotOpen};
 pub use reading::{ReadFault, is_at_end, read_to_end};
 pub use streams::{Reading, Writing};
 pub use testing::{Pieces, Short};

@@ -6,3 +6,4 @@ pub mod Joined
 pub mod Framed
 pub mod ByIndex
 pub mod Groups
+pub mod Accepted

@@ -19,12 +19,16 @@ ghost use Rattle.archive_queries.specs.Frames.{TellsFrames};
 ghost use Rattle.archive_queries.specs.Symbolicate.{TellsAddresses};
 ghost use Rattle.crash_frames.specs.declared.frame.Frame.{Frame};
 ghost use Rattle.command_ends.specs.Archives.{merged};
-ghost use Rattle.command_ends.specs.Inputs.{IsGiven, Reader};
+ghost use Rattle.command_ends.specs.Indexes.{HasOtherLength, IsRefusedByIndex};
+ghost use Rattle.command_ends.specs.Inputs.{IsDeviceFault, IsGiven, Reader};
 ghost use Rattle.command_ends.specs.Outputs.{summary_report_of};
+ghost use Rattle.command_ends.specs.declared.faults.Place.{Place};
 ghost use Rattle.command_ends.specs.declared.faults.Status.{Status};
+ghost use Rattle.command_ends.specs.declared.faults.Why.{Why};
 ghost use Rattle.report_text.specs.Finds.{list_lines};
 ghost use Rattle.indexed_queries.specs.Find.{MakesFoundAt};
 ghost use Rattle.indexed_queries.specs.Frames.{AreToldAt, keys_of};
+ghost use Rattle.indexed_queries.specs.Fronts.{IsStaleFor};
 ghost use Rattle.indexed_queries.specs.List.{MakesListedAt};
 ghost use Rattle.indexed_queries.specs.Rows.{AreIndexRows, HaveKeys};
 ghost use Rattle.indexed_queries.specs.Summary.{MakesSummaryAt};
@@ -63,6 +67,18 @@ pub fn summarized_by_index<R: Source, S: Placed>()
     ensures { (input : Reader R) (archive : Reader S) (o : Operations) (text told : List ℕ) → IsContent o
         → IsGiven input (index_text (index o)) → MakesSummaryAt input archive text told
         → (text ≡ summary_text (summary o)) × (told ≡ summary_report_of (summary o)) }
+{}
+
+/// With the index of this very archive a command is refused but for a device: no index of its own content is stale.
+pub fn right_index_is_accepted<I: Source, P: Placed>()
+    ensures rows { (number : ℕ) (input : Reader I) (archive : Reader P) (o : Operations) (at : Place) (why : Why)
+        → IsContent o → length (written o) < 2 ^ 64 → IsGiven input (index_text (index o))
+        → IsGiven archive (written o) → IsRefusedByIndex number input archive (HasOtherLength archive) at why
+        → IsDeviceFault why }
+    ensures slices { (number : ℕ) (input : Reader I) (archive : Reader P) (o : Operations)
+        (fronts : List (List ℕ)) (at : Place) (why : Why) → IsContent o → length (written o) < 2 ^ 64
+        → IsGiven input (index_text (index o)) → IsGiven archive (written o)
+        → IsRefusedByIndex number input archive (IsStaleFor fronts archive) at why → IsDeviceFault why }
 {}
 
 /// Where each INDEX is that of a content, what is held under fronts of keys has what the join of these contents, and of
