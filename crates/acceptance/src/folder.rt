@@ -75,8 +75,8 @@ impl<'a, R: Files + AllocGlobal> Folder<'a, R> {
         store.keep(self.rt.alloc(), name, bytes)
     }
 
-    /// Carries out the words of a command line over files of the folder, with a report that takes so many bytes, and tells
-    /// the report, what was said on standard error, and the status.
+    /// Carries out the words of a command line over files of the folder, with a report that takes so many bytes, and
+    /// tells the report, what was said on standard error, and the status.
     pub fn run(&self, words: &str, most: usize, told: &mut String) -> Result<(), CaseFault> {
         self.tell_run(Ok(self.line_of(words)?), most, told)
     }

@@ -1,8 +1,8 @@
 -- What is called of the system for an output.
 use Rattle.std.specs.Prelude.{ℕ, ◌==◌, if◌then◌else◌, List, [], ◌∷◌, ◌++◌, map}
 
--- A call. A file is created that was not there, or what is there is opened and emptied; it takes bytes, which are synced
--- to the disk; it is renamed, and the folder synced; or it is removed.
+-- A call. A file is created that was not there, or what is there is opened and emptied; it takes bytes, which are
+-- synced to the disk; it is renamed, and the folder synced; or it is removed.
 pub data FileCall : Type 0 where
   Creates : (path : List ℕ) → FileCall
   Opens : (path : List ℕ) → FileCall

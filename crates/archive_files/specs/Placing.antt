@@ -59,8 +59,8 @@ pub record IsDraftRemoved (calls : List FileCall) : Type 0 where
   pub is_drafted : IsDrafted draft target drafted
   pub calls_are : (calls ≡ drafted ++ Removes draft ∷ []) ⊎ (calls ≡ drafted ++ Syncs ∷ Removes draft ∷ [])
 
--- Nothing was called for OUT; or it has this path, and had a draft, which was removed; or, at this path, it is no regular
--- file, and bytes went to it.
+-- Nothing was called for OUT; or it has this path, and had a draft, which was removed; or, at this path, it is no
+-- regular file, and bytes went to it.
 abbrev pub IsRemoved : Option (List ℕ) → List FileCall → Type 0
 IsRemoved path calls =
     (calls ≡ []) ⊎ ((p : List ℕ) × (path ≡ Some p) × IsDraftRemoved calls)

@@ -59,7 +59,8 @@ places_in (turn.Unopened reason) = None
 
 -- It has the bytes of the file, where these are known.
 abbrev pub HoldsFile : {I P : Type 0} → (P → Option (List ℕ)) → FileAt → Turn I P → Type 0
-HoldsFile whole file turn = IfSome (places_in turn) (λ places. IfSome (bytes_at file) (λ bytes. whole places ≡ Some bytes))
+HoldsFile whole file turn =
+    IfSome (places_in turn) (λ places. IfSome (bytes_at file) (λ bytes. whole places ≡ Some bytes))
 
 -- The input is what opening such a file gives, or there was no memory to open it.
 abbrev pub GivesTurn : {I P : Type 0} → (I → Option (List ℕ)) → (I → ℕ) → (I → List Path) → FileAt → Turn I P → Type 0
@@ -87,8 +88,8 @@ IsTurnOf (Holding bytes) (Unopened (why.Refused refused)) = ⊥
 IsTurnOf (At path) (Unopened (why.Refused refused)) = error_kind refused.reason ≢ OutOfMemory
 IsTurnOf _ _ = ⊤
 
--- What is told of inputs: what each has left, all its bytes, and how often it failed, its path, what is known of its file, how far it
--- is, and which paths were opened for it, where that is known.
+-- What is told of inputs: what each has left, all its bytes, and how often it failed, its path, what is known of its
+-- file, how far it is, and which paths were opened for it, where that is known.
 pub record Told (S : Type 0) : Type 0 where
   pub left : S → Option (List ℕ)
   pub whole : S → Option (List ℕ)

@@ -13,8 +13,8 @@ use std::rt::Files;
 /// How many bytes of a file are read at a time.
 const PIECE: usize = 64 * 1024;
 
-/// Why a draft does not take the place of what is at its target: an archive there has records that the draft, which is an
-/// archive too, neither has nor covers.
+/// Why a draft does not take the place of what is at its target: an archive there has records that the draft, which is
+/// an archive too, neither has nor covers.
 pub fn test_losses<F: Files>(
     alloc: Global,
     files: &F,

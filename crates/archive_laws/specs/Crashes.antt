@@ -1,5 +1,5 @@
--- What a crash leaves at the path of an output, behind some of the calls that were made for it: a rename replaces what is
--- there in one step, and what was synced stays.
+-- What a crash leaves at the path of an output, behind some of the calls that were made for it: a rename replaces what
+-- is there in one step, and what was synced stays.
 use Rattle.std.specs.Prelude.{◌≡◌, ℕ, Bool, true, false, ◌||◌, List, [], ◌∷◌, ◌++◌, fold, Option, Some}
 use Rattle.std.specs.Str.{bytes_eq}
 use Rattle.archive_files.specs.FileCalls.{FileCall, Creates, Opens, Writes, Syncs, Renames, SyncsFolder, Removes}
@@ -31,9 +31,9 @@ behind target d (Removes path) = record d { touched = d.touched || bytes_eq path
 abbrev pub replay : List ℕ → List FileCall → DraftState
 replay target calls = fold (behind target) no_draft calls
 
--- What a crash may leave at the target: what was there, unless the renaming is on the disk; what the draft has, where it
--- was renamed and its bytes are on the disk; and anything, where it was renamed and they are not, or where the target
--- itself was touched.
+-- What a crash may leave at the target: what was there, unless the renaming is on the disk; what the draft has, where
+-- it was renamed and its bytes are on the disk; and anything, where it was renamed and they are not, or where the
+-- target itself was touched.
 pub data MayBeAt (before : Option (List ℕ)) (d : DraftState) : Option (List ℕ) → Type 0 where
   Old : d.kept ≡ false → MayBeAt before d before
   New : d.renamed ≡ true → d.synced ≡ true → MayBeAt before d (Some d.bytes)

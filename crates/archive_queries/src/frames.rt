@@ -14,8 +14,8 @@ use command_ends::{CommandFault, Status, publish_bytes, read_crash};
 use crash_frames::Frame;
 use memory::Heap;
 
-/// Reads the archives, and gives the lines of the answers of their join to the frames, in the order of these, with how a
-/// command ends that prints them.
+/// Reads the archives, and gives the lines of the answers of their join to the frames, in the order of these, with how
+/// a command ends that prints them.
 fn tell_frames<A: Archive + Drop, R: Source>(
     heap: &Heap,
     frames: &[Frame],
@@ -47,9 +47,9 @@ fn tell_frames<A: Archive + Drop, R: Source>(
 }
 
 /// Writes for each frame of FRAMES what `symbolicate` writes for its address to the report, in the order of the lines.
-/// FRAMES is read to its end first, and then the archives one after another, each in one pass. Of one archive the slices
-/// under one key are held at a time; of several all slices under the keys of the frames. Where FRAMES has no frame the
-/// archives are read and tested all the same.
+/// FRAMES is read to its end first, and then the archives one after another, each in one pass. Of one archive the
+/// slices under one key are held at a time; of several all slices under the keys of the frames. Where FRAMES has no
+/// frame the archives are read and tested all the same.
 ///
 /// The status is `Done` where each answer is one symbol, and else `Partial`.
 ///

@@ -142,8 +142,8 @@ fn answer_parts<A: Archive + Drop, Q: Questions + Drop, S: Selects, R: Source>(
     Ok(told)
 }
 
-/// Answers questions by the join of the archives. Of one archive the slices under one key are held at a time; of several
-/// all records that are picked, which are those under the keys of the questions at least.
+/// Answers questions by the join of the archives. Of one archive the slices under one key are held at a time; of
+/// several all records that are picked, which are those under the keys of the questions at least.
 pub(crate) fn answer_archives<A: Archive + Drop, Q: Questions + Drop, S: Selects, R: Source>(
     heap: Heap,
     questions: Q,

@@ -2,8 +2,8 @@
 //!
 //! - `reading`, `part`: [`read_archive`], [`read_front`] and [`read_part`], of which a part is kept;
 //! - `keyed`: [`answer_by_key`], questions under keys, in the memory of the slices under one of them;
-//! - `names`: [`read_names`], where symbols of a name stand, and [`gather_names`], the same of several archives, of which
-//!   no slice is kept;
+//! - `names`: [`read_names`], where symbols of a name stand, and [`gather_names`], the same of several archives, of
+//!   which no slice is kept;
 //! - `operations`: [`read_ops`];
 //! - `rows`, `summarizing`: [`list_rows`] and [`summarize`], what an archive tells record by record, of which no slice
 //!   is kept, and [`entry_of`] one;

@@ -1,5 +1,6 @@
 -- Files by their paths.
-use Rattle.std.specs.Prelude.{◌≡◌, ◌≢◌, ℕ, List, [], ◌∷◌, ◌++◌, Option, Some, None, Result, IsErr, MatchResult, ⊤, option_map, codes}
+use Rattle.std.specs.Prelude.{◌≡◌, ◌≢◌, ℕ, List, [], ◌∷◌, ◌++◌, Option, Some, None, Result, IsErr, MatchResult, ⊤}
+use Rattle.std.specs.Prelude.{option_map, codes}
 use Rattle.std.specs.IoError.{error_kind}
 use Rattle.std.specs.declared.io.ErrorKind.TheVariants.{OutOfMemory}
 use Rattle.byte_device.specs.declared.disks.CannotOpen.{CannotOpen}
@@ -20,8 +21,8 @@ abbrev pub file_of : Option (List ℕ) → FileAt
 file_of None = Missing
 file_of (Some bytes) = Holding bytes
 
--- The input is what opening a file gives, of which this is known. Of the system's it is the file that was opened at this
--- path, or none, and then not for want of memory.
+-- The input is what opening a file gives, of which this is known. Of the system's it is the file that was opened at
+-- this path, or none, and then not for want of memory.
 abbrev pub IsOpened : {S : Type 0} → (S → Option (List ℕ)) → (S → ℕ) → (S → List Path) → FileAt → Result S CannotOpen
     → Type 0
 IsOpened left failures path_of Unknown input = ⊤

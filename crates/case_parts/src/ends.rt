@@ -80,8 +80,8 @@ impl Left {
     }
 
     /// Whether this may be left where memory is wanting, beside what is left where it is not: of a command no report
-    /// and nothing in place, and in OUT's draft nothing or the whole text, or any beginning where it writes as it reads;
-    /// of a call the first of its lines.
+    /// and nothing in place, and in OUT's draft nothing or the whole text, or any beginning where it writes as it
+    /// reads; of a call the first of its lines.
     pub fn may_want_memory(&self, whole: &Left, writes_as_it_reads: bool) -> bool {
         match self.end {
             End::Given | End::Fault(_) => whole.report.starts_with(&self.report),

@@ -8,7 +8,8 @@ use Rattle.command_ends.specs.declared.faults.Place.TheVariants.{Archive, File, 
 use Rattle.command_ends.specs.declared.faults.Place.TheVariants.{Frames, Index}
 use Rattle.command_ends.specs.declared.faults.Why.{Why}
 use Rattle.command_ends.specs.declared.faults.Why.TheVariants.{CannotOpen, Device, Record, Take, Script, BadFrame}
-use Rattle.command_ends.specs.declared.faults.Why.TheVariants.{OldArchive, TooLong, Index as IndexFaulty, NoArchive, Stale}
+use Rattle.command_ends.specs.declared.faults.Why.TheVariants.{OldArchive, TooLong, Index as IndexFaulty, NoArchive}
+use Rattle.command_ends.specs.declared.faults.Why.TheVariants.{Stale}
 use Rattle.archive_index.specs.declared.fault.IndexFault.{IndexFault}
 use Rattle.archive_index.specs.declared.fault.IndexFaultKind.{IndexFaultKind}
 use Rattle.archive_index.specs.declared.fault.IndexFaultKind.TheVariants as index_is

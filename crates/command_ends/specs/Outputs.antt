@@ -65,8 +65,8 @@ outs held draft_failures placed failures old new = record {
 abbrev pub draft_of : {D T : Type 0} → Outs D T → Stream D
 draft_of out = stream out.held out.draft_failures out.old.draft out.new.draft
 
--- What is known of OUT in a call: its draft, what was put in place before the call and after it, where that is known, and
--- how often putting it in place had failed.
+-- What is known of OUT in a call: its draft, what was put in place before the call and after it, where that is known,
+-- and how often putting it in place had failed.
 pub record Out : Type 0 where
   pub draft : Writer
   pub placed_old : Option (List ℕ)
@@ -104,8 +104,8 @@ pub record FailsToPlace (out : Out) (text : List ℕ) : Type 0 where
   pub kept : out.placed_new ≡ out.placed_old
   pub failed : FailedIn out.failures_old out.failures_new
 
--- OUT failed behind exactly the first n bytes of the text, of which none is in place: its draft took no more, or took the
--- text, which could not be put in place.
+-- OUT failed behind exactly the first n bytes of the text, of which none is in place: its draft took no more, or took
+-- the text, which could not be put in place.
 abbrev pub FailsAt : Out → List ℕ → ℕ → Type 0
 FailsAt out text n =
     (FailsBehind out.draft text n × PlacesNothing out) ⊎ ((n ≡ length text) × FailsToPlace out text)

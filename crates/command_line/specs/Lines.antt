@@ -13,7 +13,8 @@ use Rattle.command_line.specs.declared.commands.Form.TheVariants as forms
 use Rattle.command_line.specs.declared.commands.Kind.{Kind}
 use Rattle.command_line.specs.declared.commands.Role.{Role}
 use Rattle.command_line.specs.Arguments.{Amount, Argument, Count, Often, Once, Perhaps, Several, Values, archs, digests}
-use Rattle.command_line.specs.Arguments.{form_of, numbers, one, perhaps, reads, reads_kind, several, texts, uuids, writes}
+use Rattle.command_line.specs.Arguments.{form_of, numbers, one, perhaps, reads, reads_kind, several, texts, uuids}
+use Rattle.command_line.specs.Arguments.{writes}
 use Rattle.command_line.specs.Commands.{symarch_command}
 use Rattle.command_line.specs.Table.{Signature, arguments_named, signature_named}
 

@@ -72,8 +72,8 @@ samples =
     (line_with symbolicate_command (text (codes "a") ∷ uuids (one uuid_bytes) ∷ archs (one (arch_key 0x0100_0007 8))
     ∷ numbers (perhaps (Some 255)) ∷ texts (several (codes "b" ∷ [])) ∷ texts (several [])
     ∷ numbers (several (0x10 ∷ 0x20 ∷ [])) ∷ []))
-    ∷ sample (codes "frames" ∷ codes "f" ∷ codes "a" ∷ codes "b" ∷ codes "--index" ∷ codes "i" ∷ codes "--index" ∷ codes "j"
-    ∷ [])
+    ∷ sample (codes "frames" ∷ codes "f" ∷ codes "a" ∷ codes "b" ∷ codes "--index" ∷ codes "i" ∷ codes "--index"
+    ∷ codes "j" ∷ [])
     (line_with frames_command (text (codes "f") ∷ texts (several (codes "i" ∷ codes "j" ∷ []))
     ∷ texts (several (codes "a" ∷ codes "b" ∷ [])) ∷ []))
     ∷ sample (codes "summary" ∷ codes "a" ∷ codes "o" ∷ [])

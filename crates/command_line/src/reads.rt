@@ -3,7 +3,8 @@
 ghost use Rattle.std.specs.Prelude.{◌≡◌, ◌⊎◌, IfErr, IfOk, IsErrAnd, IsSome, IsSomeAnd, OnOk, Some, [], ◌∷◌};
 ghost use Rattle.std.specs.Prelude.{false, map, option_map, true};
 ghost use Rattle.clap.specs.Words.{IsAmong, found_of, rows_of, subcommand_rows_of};
-ghost use Rattle.command_line.specs.Lines.{KeepsInputs, are_accepted, error_kinds, is_in_order, is_path_among, line_in, line_of};
+ghost use Rattle.command_line.specs.Lines.{KeepsInputs, are_accepted, error_kinds, is_in_order, is_path_among, line_in};
+ghost use Rattle.command_line.specs.Lines.{line_of};
 ghost use Rattle.command_line.specs.Lines.{named_command, out_of, overwrites_input};
 ghost use Rattle.command_line.specs.LineView.{line_view};
 ghost use Rattle.command_line.specs.LineFaults.{IsHelpUnlessMemory, IsRefusalUnlessMemory, IsRefusedAs, IsToldFor};

@@ -1,5 +1,6 @@
 -- The search in an address table and its building: the words of inner functions. No contract of a public one has them.
-use Rattle.std.specs.Prelude.{ℕ, Bool, true, List, ◌≡◌, ◌+◌, ◌%◌, ◌^◌, ◌≤◌, ◌<◌, ◌==◌, ◌&&◌, ◌||◌, nat_lt, nat_le, cond, bit_and}
+use Rattle.std.specs.Prelude.{ℕ, Bool, true, List, ◌≡◌, ◌+◌, ◌%◌, ◌^◌, ◌≤◌, ◌<◌, ◌==◌, ◌&&◌, ◌||◌, nat_lt, nat_le, cond}
+use Rattle.std.specs.Prelude.{bit_and}
 use Rattle.std.specs.Prelude.{length, slice_get, slice_index_or, Option, Some, None, MatchOption, Contains, ◌⊎◌}
 use Rattle.std.specs.Option.{option_map_or}
 use Rattle.std.specs.Ordering.{ordering_then, nat_cmp, is_lt}

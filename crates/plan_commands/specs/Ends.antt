@@ -22,7 +22,8 @@ pub record IsIdle {S D T : Type 0} (calls : Calls S D T) : Type 0 where
 
 -- The words are accepted and ask for this line, it was carried out over files of the system, unless there was no memory
 -- to begin it, its notes were said, or why it failed, and the exit status is that of how it ended.
-pub record Ran {S D T : Type 0} (calls : Calls S D T) (words : List Text) (told said : Writer) (status : ℕ) : Type 0 where
+pub record Ran {S D T : Type 0} (calls : Calls S D T) (words : List Text) (told said : Writer) (status : ℕ)
+    : Type 0 where
   pub line : Line
   pub ended : Result Status Failure
   pub notes : List Note
@@ -42,7 +43,8 @@ pub record Refuses (told said : Writer) (reason : Text) (status : ℕ) : Type 0 
   pub says : SaysRefused said reason
   pub status_is : status ≡ 3
 
--- The words are refused, and why is said: words that are accepted have one of the reasons of the command that they name.
+-- The words are refused, and why is said: words that are accepted have one of the reasons of the command that they
+-- name.
 pub record IsRefused (words : List Text) (told said : Writer) (status : ℕ) : Type 0 where
   pub no_plan : HasNoPlan words
   pub no_help : error_kinds words ≢ DisplayHelp ∷ []
@@ -73,7 +75,8 @@ pub record WantsMemory (told said : Writer) (status : ℕ) : Type 0 where
 abbrev pub EndsWords : {S D T : Type 0} → Calls S D T → List Text → Writer → Writer → ℕ → Type 0
 EndsWords calls words told said status =
     Ran calls words told said status
-    ⊎ (IsIdle calls × (IsRefused words told said status ⊎ IsHelped words told said status ⊎ WantsMemory told said status))
+    ⊎ (IsIdle calls
+    × (IsRefused words told said status ⊎ IsHelped words told said status ⊎ WantsMemory told said status))
 
 -- It ends so where the words could not be read, for another reason than want of memory.
 abbrev pub IsUnreadable : Writer → Writer → ℕ → Type 0

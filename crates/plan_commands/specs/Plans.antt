@@ -42,7 +42,8 @@ plan_view (plan.New out) =
 plan_view (plan.Admit input out files) =
     line_with admit_command (text input.now ∷ text out.now ∷ texts (several (map string_bytes files.now)) ∷ [])
 plan_view (plan.Retire input out uuid arch digest) =
-    line_with retire_command (text input.now ∷ text out.now ∷ uuids (one uuid) ∷ archs (one arch) ∷ digests (one digest) ∷ [])
+    line_with retire_command (text input.now ∷ text out.now ∷ uuids (one uuid) ∷ archs (one arch)
+    ∷ digests (one digest) ∷ [])
 plan_view (plan.Merge input out files) =
     line_with merge_command (text input.now ∷ text out.now ∷ texts (several (map string_bytes files.now)) ∷ [])
 plan_view (plan.Migrate input out) =
@@ -64,7 +65,8 @@ plan_view (plan.Frames frames indexes archive others) =
     line_with frames_command (text frames.now ∷ texts (several (map string_bytes indexes.now))
     ∷ texts (several (archive.now ∷ map string_bytes others.now)) ∷ [])
 plan_view (plan.Summary archive out index) =
-    line_with summary_command (text archive.now ∷ text out.now ∷ texts (perhaps (option_map string_bytes index.now)) ∷ [])
+    line_with summary_command
+    (text archive.now ∷ text out.now ∷ texts (perhaps (option_map string_bytes index.now)) ∷ [])
 plan_view (plan.Index archive out) =
     line_with index_command (text archive.now ∷ text out.now ∷ [])
 plan_view (plan.Delta archive summary out) =

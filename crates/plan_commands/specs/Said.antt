@@ -1,5 +1,6 @@
 -- What is said on standard error.
-use Rattle.std.specs.Prelude.{◌⊎◌, ℕ, Bool, true, false, List, [], ◌∷◌, ◌++◌, ◌-◌, codes, drop, length, take, if◌then◌else◌, nat_eq, Result, Ok, Err}
+use Rattle.std.specs.Prelude.{◌⊎◌, ℕ, Bool, true, false, List, [], ◌∷◌, ◌++◌, ◌-◌, codes, drop, length, take}
+use Rattle.std.specs.Prelude.{if◌then◌else◌, nat_eq, Result, Ok, Err}
 use Rattle.std.specs.Io.KnownBytes.{Appends}
 use Rattle.std.specs.List.{ends_with, flat_map, starts_with}
 use Rattle.clap.specs.Words.{Text}

@@ -162,8 +162,8 @@ impl<'l> Plan<'l> {
         }
     }
 
-    /// Which files its OUT replaces: a message to another site or an index each of symarch's own, an archive those below
-    /// it.
+    /// Which files its OUT replaces: a message to another site or an index each of symarch's own, an archive those
+    /// below it.
     pub fn replaces(&self) -> Replaces
         ensures { result ≡ replaces_of self.now }
     {
@@ -428,8 +428,8 @@ fn only_reports(plan: &Plan) -> bool
     )
 }
 
-/// Carries out a plan that only reports, and asks no archives by a UUID, over its first input and the rest. An archive of
-/// the type `L` is asked for frames, and one of `A` for all else.
+/// Carries out a plan that only reports, and asks no archives by a UUID, over its first input and the rest. An archive
+/// of the type `L` is asked for frames, and one of `A` for all else.
 fn answer_first<A: Archive + Drop, L: Archive + Drop, S: Source + Placed, P: Sink>(
     heap: Heap,
     plan: &Plan,
@@ -528,7 +528,6 @@ pub fn execute<A: Archive + Drop, L: Archive + Drop, S: Source + Placed, T: Targ
         unreachable!();
     };
     match plan {
-        Plan::New { .. } => unreachable!(),
         Plan::Admit { .. } => run_admit(heap, first, others, notes, out, report),
         Plan::Retire {
             uuid,
@@ -552,11 +551,6 @@ pub fn execute<A: Archive + Drop, L: Archive + Drop, S: Source + Placed, T: Targ
             [summary] => run_delta(heap, first, summary, out, report),
             _ => unreachable!(),
         },
-        Plan::Find { .. }
-        | Plan::List { .. }
-        | Plan::Name { .. }
-        | Plan::Symbolicate { .. }
-        | Plan::Frames { .. }
-        | Plan::Rehearse { .. } => unreachable!(),
+        _ => unreachable!(),
     }
 }

@@ -74,8 +74,8 @@ pub fn say_wanting<E: Sink>(errors: &mut E) -> bool
     push_whole(errors, b"symarch: out of memory\n")
 }
 
-/// Says a line; or, where there is no memory for it, that memory is wanting. Whether the line itself was said to its end
-/// is handed back.
+/// Says a line; or, where there is no memory for it, that memory is wanting. Whether the line itself was said to its
+/// end is handed back.
 pub fn say<E: Sink, T: Display>(alloc: Global, told: &T, errors: &mut E) -> bool
     ensures { IfSome (T.output told.now)
         (λ text. IsSaid (writer E.held E.failures errors.old errors.new) text result) }

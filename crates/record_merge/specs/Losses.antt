@@ -8,8 +8,8 @@ use Rattle.archive_records.specs.Reading.{IsReadWhole}
 use Rattle.archive_records.specs.Text.{AreOperations}
 use Rattle.record_merge.specs.Telling.{HasOperations}
 
--- Both inputs are texts of archives, and of the operations of the old one so many are lost in the new one, which neither
--- has them nor covers them.
+-- Both inputs are texts of archives, and of the operations of the old one so many are lost in the new one, which
+-- neither has them nor covers them.
 pub record Loses {R S : Type 0} (new : Stream R) (old : Stream S) (lost : ℕ) : Type 0 where
   pub content : Operations
   pub operations : Operations

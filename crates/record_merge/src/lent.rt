@@ -1,6 +1,7 @@
 //! The text of operations that stand in memory.
 
-ghost use Rattle.std.specs.Prelude.{◌≡◌, ◌-◌, ◌≤◌, ◌↔◌, ◌++◌, ℕ, List, Some, [], IsTrue, false, length, map, min, drop, take};
+ghost use Rattle.std.specs.Prelude.{◌≡◌, ◌-◌, ◌≤◌, ◌↔◌, ◌++◌, ℕ, List, Some, [], IsTrue, false, length, map, min, drop};
+ghost use Rattle.std.specs.Prelude.{take};
 ghost use Rattle.std.specs.Prelude.{IfOk, IsOk, ◌≢◌};
 ghost use Rattle.std.specs.Io.KnownBytes.{ReadConsumes};
 ghost use Rattle.byte_device.specs.Devices.{CountsFailure};
@@ -14,8 +15,8 @@ use archive_core::Operation;
 use archive_records::{Format, admission_head, end_bytes, retirement_bytes};
 use byte_device::{Failed, Source};
 
-/// The text of an archive of version 1 that has these operations, in which slices may stand that are covered. It is told
-/// and never written down, and it never fails.
+/// The text of an archive of version 1 that has these operations, in which slices may stand that are covered. It is
+/// told and never written down, and it never fails.
 #[derive(Drop)]
 pub struct LentText<'a> {
     front: Front,

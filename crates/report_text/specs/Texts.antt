@@ -2,18 +2,26 @@
 use Rattle.std.specs.Prelude.{List, ℕ, ◌++◌, codes, ◌+◌}
 use Rattle.std.specs.Fmt.{decimal}
 use Rattle.macho_image.specs.declared.fault.ImageFault.{ImageFault}
-use Rattle.macho_image.specs.declared.fault.ImageFault.TheVariants.{NotMachO64, HeaderTruncated, CommandsOutside, BadCommand, BadSegment, BadUuid, SecondUuid, BadSymtab, SecondSymtab, NoUuid, TooLarge}
+use Rattle.macho_image.specs.declared.fault.ImageFault.TheVariants.{NotMachO64, HeaderTruncated, CommandsOutside}
+use Rattle.macho_image.specs.declared.fault.ImageFault.TheVariants.{BadCommand, BadSegment, BadUuid, SecondUuid}
+use Rattle.macho_image.specs.declared.fault.ImageFault.TheVariants.{BadSymtab, SecondSymtab, NoUuid, TooLarge}
 use Rattle.macho_symbols.specs.declared.fault.SymbolFault.{SymbolFault}
 use Rattle.macho_symbols.specs.declared.fault.SymbolFault.TheVariants.{SymbolsOutside, StringsOutside}
 use Rattle.archive_core.specs.declared.faults.SliceFault.{SliceFault}
 use Rattle.archive_core.specs.declared.faults.SliceFault.TheVariants.{Image, Symbols}
 use Rattle.archive_records.specs.declared.fault.RecordFaultKind.{RecordFaultKind}
-use Rattle.archive_records.specs.declared.fault.RecordFaultKind.TheVariants.{BadMagic, Truncated, BadTag, TooLarge as RecordTooLarge, NotAscending, BadSlice, KeyMismatch, BadCount, Trailing, Device, OutOfMemory, Covered}
+use Rattle.archive_records.specs.declared.fault.RecordFaultKind.TheVariants.{BadMagic, Truncated, BadTag}
+use Rattle.archive_records.specs.declared.fault.RecordFaultKind.TheVariants.{TooLarge as RecordTooLarge, NotAscending}
+use Rattle.archive_records.specs.declared.fault.RecordFaultKind.TheVariants.{BadSlice, KeyMismatch, BadCount, Trailing}
+use Rattle.archive_records.specs.declared.fault.RecordFaultKind.TheVariants.{Device, OutOfMemory, Covered}
 use Rattle.archive_records.specs.declared.fault.RecordFault.{RecordFault}
 use Rattle.admission.specs.declared.fault.TakeFault.{TakeFault}
-use Rattle.admission.specs.declared.fault.TakeFault.TheVariants.{Unrecognised, Fat, Slice, NothingToAdmit, OutOfMemory as TakeOutOfMemory}
+use Rattle.admission.specs.declared.fault.TakeFault.TheVariants.{Unrecognised, Fat, Slice, NothingToAdmit}
+use Rattle.admission.specs.declared.fault.TakeFault.TheVariants.{OutOfMemory as TakeOutOfMemory}
 use Rattle.fat_slices.specs.declared.fault.FatFault.{FatFault}
-use Rattle.fat_slices.specs.declared.fault.FatFault.TheVariants.{NotUniversal, HeaderTruncated as FatHeaderTruncated, TooManyArches, TableTruncated, SliceOutside, TooLarge as FatTooLarge}
+use Rattle.fat_slices.specs.declared.fault.FatFault.TheVariants.{NotUniversal, HeaderTruncated as FatHeaderTruncated}
+use Rattle.fat_slices.specs.declared.fault.FatFault.TheVariants.{TooManyArches, TableTruncated, SliceOutside}
+use Rattle.fat_slices.specs.declared.fault.FatFault.TheVariants.{TooLarge as FatTooLarge}
 use Rattle.rehearsal.specs.declared.script.ScriptFault.{ScriptFault}
 use Rattle.rehearsal.specs.declared.script.ScriptFault.TheVariants.{NoSites, BadEvent, TooManyEvents}
 
