@@ -1,1 +1,2 @@
 pub mod InnerPlaces
+pub mod InnerRuns
