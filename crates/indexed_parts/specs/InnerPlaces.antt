@@ -1,27 +1,27 @@
 -- Records that are gathered one after another at the places that an index names: the words of the inner functions. No
 -- contract of a public one has them.
 use Rattle.std.specs.Prelude.{◌≡◌, ◌<◌, ◌^◌, ℕ, Bool, true, List, [], ◌∷◌, ◌++◌, length, take, filter}
-use Rattle.std.specs.Prelude.{slice_index_or, Some, None}
+use Rattle.std.specs.Prelude.{slice_index_or, Option, Some, None, IfSome}
 use Rattle.std.specs.List.{AllZip}
 use Rattle.byte_device.specs.declared.reading.ReadFault.{ReadFault}
 use Rattle.byte_device.specs.declared.reading.ReadFault.TheVariants.{Device as Read_device, OutOfMemory as Read_memory}
 use Rattle.archive_index.specs.declared.fault.PlaceFault.{PlaceFault}
 use Rattle.archive_index.specs.declared.fault.PlaceFault.TheVariants.{Stale, Device, OutOfMemory}
 use Rattle.archive_core.specs.Summary.{Entries}
-use Rattle.archive_index.specs.Places.{IsNamedBy, HasIndexedLength, IsStale}
+use Rattle.archive_index.specs.Places.{IsNamedBy, IsStale}
 
 -- the record that this entry names stands behind what was gathered
-pub record IsGathered (text entry : List ℕ) (old new : List (List ℕ)) : Type 0 where
+pub record IsGathered (whole : Option (List ℕ)) (entry : List ℕ) (old new : List (List ℕ)) : Type 0 where
   pub record_bytes : List ℕ
-  pub named : IsNamedBy text entry record_bytes
+  pub named : IfSome whole (λ text. IsNamedBy text entry record_bytes)
   pub behind : new ≡ old ++ (record_bytes ∷ [])
 
 -- the records that those of the first n entries name that pass, one each and in their order, stand behind what was
 -- gathered
-pub record AreGathered (passes : List ℕ → Bool) (entries : List (List ℕ)) (text : List ℕ) (n : ℕ)
+pub record AreGathered (whole : Option (List ℕ)) (passes : List ℕ → Bool) (entries : List (List ℕ)) (n : ℕ)
     (old new : List (List ℕ)) : Type 0 where
   pub records : List (List ℕ)
-  pub named : AllZip (IsNamedBy text) (filter passes (take n entries)) records
+  pub named : IfSome whole (λ text. AllZip (IsNamedBy text) (filter passes (take n entries)) records)
   pub behind : new ≡ old ++ records
 
 -- why bytes were not read
@@ -39,13 +39,6 @@ IsStaleAmong passes entries text (Stale (Some k)) =
     → (r : List ℕ) × IsNamedBy text (slice_index_or entries j []) r)
 IsStaleAmong passes entries text Device = Unit {0}
 IsStaleAmong passes entries text OutOfMemory = Unit {0}
-
--- why the size of an archive is refused: it is another than the index tells
-abbrev pub IsLengthStale : Entries → List ℕ → PlaceFault → Type 0
-IsLengthStale entries text (Stale None) = (HasIndexedLength entries text → ⊥) × (length text < 2 ^ 64)
-IsLengthStale entries text (Stale (Some k)) = ⊥
-IsLengthStale entries text Device = Unit {0}
-IsLengthStale entries text OutOfMemory = Unit {0}
 
 -- why a part is refused, of a text whose length is known then
 abbrev pub IsPartRefused : List ℕ → Entries → List ℕ → PlaceFault → Type 0

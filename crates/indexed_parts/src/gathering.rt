@@ -11,11 +11,12 @@ ghost use Rattle.archive_index.specs.Index.{AreIndexed};
 ghost use Rattle.archive_index.specs.Places.{BlamesPlaced, IsNamedBy};
 ghost use Rattle.indexed_parts.specs.InnerPlaces.{AreGathered, IsGathered, IsStaleAmong, place_fault};
 ghost use Rattle.indexed_parts.specs.InnerRuns.{is_tagged};
+ghost use Rattle.indexed_parts.specs.Places.{AreGatheredUnder, IsEntryFault};
 
 use crate::records::{ADMISSION, RETIREMENT, operation_at};
 use crate::runs::run_under;
 use archive_core::Operation;
-use archive_index::{PlaceFault, PlacedEntry};
+use archive_index::{Index, PlaceFault, PlacedEntry};
 use byte_device::ReadFault;
 use memory::Heap;
 use placed_bytes::Placed;
@@ -30,9 +31,8 @@ fn gather_entry<P: Placed>(
 ) -> Result<bool, ReadFault>
     requires size { HasSize (P.whole archive.old) size }
     requires entry { IsPlacedEntry (placed_bytes entry.now) }
-    ensures gathered { IfOk result (λ named. IfSome (P.whole archive.old) (λ text. named ≡ true
-        → IsGathered text (placed_bytes entry.now) (map record_bytes gathered.old.items)
-        (map record_bytes gathered.new.items))) }
+    ensures gathered { IfOk result (λ named. named ≡ true → IsGathered (P.whole archive.old) (placed_bytes entry.now)
+        (map record_bytes gathered.old.items) (map record_bytes gathered.new.items)) }
     ensures none { IfOk result (λ named. IfSome (P.whole archive.old) (λ text. named ≡ false
         → (r : List ℕ) → IsNamedBy text (placed_bytes entry.now) r → ⊥)) }
     ensures keeps { P.whole archive.new ≡ P.whole archive.old }
@@ -43,9 +43,9 @@ fn gather_entry<P: Placed>(
     let Some(operation) = operation_at(heap, archive, size, entry)? else {
         return Ok(false);
     };
-    if gathered.push(operation).is_err() {
+    let Ok(()) = gathered.push(operation) else {
         return Err(ReadFault::OutOfMemory);
-    }
+    };
     Ok(true)
 }
 
@@ -72,9 +72,9 @@ fn gather_run<P: Placed>(
     requires size { HasSize (P.whole archive.old) size }
     requires indexed { AreIndexed (map placed_bytes entries.now) }
     requires short { length front.now ≤ 24 }
-    ensures gathered { OnOk result (IfSome (P.whole archive.old) (λ text. AreGathered (is_tagged tag front.now)
-        (map placed_bytes entries.now) text (length entries.now) (map record_bytes gathered.old.items)
-        (map record_bytes gathered.new.items))) }
+    ensures gathered { OnOk result (AreGathered (P.whole archive.old) (is_tagged tag front.now)
+        (map placed_bytes entries.now) (length entries.now) (map record_bytes gathered.old.items)
+        (map record_bytes gathered.new.items)) }
     ensures stale { IfErr result (λ fault. IfSome (P.whole archive.old) (λ text.
         IsStaleAmong (is_tagged tag front.now) (map placed_bytes entries.now) text fault)) }
     ensures keeps { P.whole archive.new ≡ P.whole archive.old }
@@ -95,7 +95,7 @@ fn gather_run<P: Placed>(
 
 /// Gathers the operations that the entries under a front name, in the order of these: the retirements, then the
 /// admissions.
-pub(crate) fn gather_under<P: Placed>(
+fn gather_under<P: Placed>(
     heap: &Heap,
     gathered: &mut Vec<Operation, Heap>,
     front: &[u8],
@@ -106,9 +106,9 @@ pub(crate) fn gather_under<P: Placed>(
     requires size { HasSize (P.whole archive.old) size }
     requires indexed { AreIndexed (map placed_bytes entries.now) }
     requires short { length front.now ≤ 24 }
-    ensures gathered { OnOk result (IfSome (P.whole archive.old) (λ text. AreGathered (is_under front.now)
-        (map placed_bytes entries.now) text (length entries.now) (map record_bytes gathered.old.items)
-        (map record_bytes gathered.new.items))) }
+    ensures gathered { OnOk result (AreGathered (P.whole archive.old) (is_under front.now)
+        (map placed_bytes entries.now) (length entries.now) (map record_bytes gathered.old.items)
+        (map record_bytes gathered.new.items)) }
     ensures stale { IfErr result (λ fault. IfSome (P.whole archive.old) (λ text.
         IsStaleAmong (is_under front.now) (map placed_bytes entries.now) text fault)) }
     ensures keeps { P.whole archive.new ≡ P.whole archive.old }
@@ -117,4 +117,33 @@ pub(crate) fn gather_under<P: Placed>(
 {
     gather_run(heap, gathered, RETIREMENT, front, entries, archive, size)?;
     gather_run(heap, gathered, ADMISSION, front, entries, archive, size)
+}
+
+/// Gathers the records under a UUID or a key at the places that an index names, behind those that were gathered: each
+/// admission is tested as a record of an archive is, and its slice hashed and compared with its entry. The entries are
+/// found by halving, and no other is looked at. Where it fails, some of the records may have been gathered.
+///
+/// # Errors
+///
+/// `Stale` at the first entry at whose place stands no record that it names; `Device`; `OutOfMemory`.
+pub fn gather_at<P: Placed>(
+    heap: &Heap,
+    gathered: &mut Vec<Operation, Heap>,
+    front: &[u8],
+    entries: &Index,
+    archive: &mut P,
+    size: u64,
+) -> Result<(), PlaceFault>
+    requires front { length front.now ≤ 24 }
+    requires size { HasSize (P.whole archive.old) size }
+    ensures gathered { OnOk result (AreGatheredUnder (P.whole archive.old) front.now entries.now
+        (map record_bytes gathered.old.items) (map record_bytes gathered.new.items)) }
+    ensures refused { IfErr result (λ fault. IfSome (P.whole archive.old) (λ text.
+        IsEntryFault front.now entries.now text fault)) }
+    ensures keeps { P.whole archive.new ≡ P.whole archive.old }
+    ensures unfailed { OnOk result (P.failures archive.new ≡ P.failures archive.old) }
+    ensures blames { IfErr result (λ fault. BlamesPlaced P.failures archive.old archive.new fault) }
+{
+    let _count = entries.len();
+    gather_under(heap, gathered, front, entries.entries(), archive, size)
 }

@@ -13,9 +13,10 @@ ghost use Rattle.archive_index.specs.Entry.{placed_bytes};
 ghost use Rattle.archive_index.specs.Index.{index, lengths_of};
 ghost use Rattle.archive_index.specs.Places.{AreNamed, BlamesPlaced, HasIndexedLength};
 ghost use Rattle.archive_index.specs.Places.{IsOfPlaceMachine, IsPlaceFault};
-ghost use Rattle.indexed_parts.specs.InnerPlaces.{IsLengthStale, IsPartRefused};
+ghost use Rattle.indexed_parts.specs.InnerPlaces.{IsPartRefused};
+ghost use Rattle.indexed_parts.specs.Places.{IsLengthFault};
 
-use crate::gathering::gather_under;
+use crate::gathering::gather_at;
 use archive_core::{Archive, Operation};
 use archive_index::{Index, PlaceFault, PlacedEntry};
 use byte_device::Failed;
@@ -59,12 +60,16 @@ pub fn has_length<P: Placed>(entries: &Index, archive: &mut P) -> Result<bool, F
     Ok(tells_size(entries, size))
 }
 
-/// The size of an archive, which is the length that the index tells.
-fn size_of<P: Placed>(entries: &Index, archive: &mut P) -> Result<u64, PlaceFault>
+/// The size of an archive, where it is the length that the index tells. No byte of it is read.
+///
+/// # Errors
+///
+/// `Stale` where the archive has another length; `Device`.
+pub fn indexed_size<P: Placed>(entries: &Index, archive: &mut P) -> Result<u64, PlaceFault>
     ensures size { IfOk result (λ size. HasSize (P.whole archive.old) size) }
     ensures right { OnOk result (IfSome (P.whole archive.old) (HasIndexedLength entries.now)) }
-    ensures stale { IfErr result (λ fault. IfSome (P.whole archive.old) (λ text.
-        IsLengthStale entries.now text fault)) }
+    ensures refused { IfErr result (λ fault. IfSome (P.whole archive.old) (λ text.
+        IsLengthFault entries.now text fault)) }
     ensures keeps { P.whole archive.new ≡ P.whole archive.old }
     ensures unfailed { OnOk result (P.failures archive.new ≡ P.failures archive.old) }
     ensures blames { IfErr result (λ fault. BlamesPlaced P.failures archive.old archive.new fault) }
@@ -108,20 +113,12 @@ fn part_named<A: Archive + Drop, P: Placed>(
     ensures unfailed { OnOk result (P.failures archive.new ≡ P.failures archive.old) }
     ensures blames { IfErr result (λ fault. BlamesPlaced P.failures archive.old archive.new fault) }
 {
-    let _count = entries.len();
-    let size = size_of(entries, archive)?;
+    let size = indexed_size(entries, archive)?;
     let Ok(kept) = heap.clone() else {
         return Err(PlaceFault::OutOfMemory);
     };
     let mut gathered = Vec::new(kept);
-    gather_under(
-        &heap,
-        &mut gathered,
-        front,
-        entries.entries(),
-        archive,
-        size,
-    )?;
+    gather_at(&heap, &mut gathered, front, entries, archive, size)?;
     part_of(heap, gathered)
 }
 

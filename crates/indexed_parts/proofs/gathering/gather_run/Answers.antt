@@ -1,13 +1,12 @@
-use Rattle.std.proofs.Common.{◌≡◌, ℕ, ◌+◌, ◌<◌, [], length, map, sym, ap, ◌∙◌, subst, refl, arith}
-use Rattle.std.specs.Prelude.{IfSome}
+use Rattle.std.proofs.Common.{◌≡◌, ℕ, ◌+◌, ◌<◌, List, [], Option, length, map, sym, ap, ◌∙◌, subst, refl, arith}
 use Rattle.std.proofs.Math.ListN.{length-map}
 use Rattle.archive_core.specs.Record.{record_bytes}
 use Rattle.archive_index.specs.Entry.{IsPlacedEntry, placed_bytes}
 use Rattle.archive_index.proofs.Entries.{each_of}
 use Rattle.archive_index.proofs.Texts.{bytes_at}
-use Rattle.indexed_parts.specs.InnerPlaces.{AreGathered}
+use Rattle.indexed_parts.specs.InnerPlaces.{AreGathered, IsGathered}
 use Rattle.indexed_parts.specs.InnerRuns.{is_tagged}
-use Rattle.indexed_parts.proofs.Gathered.{gathered_more, gathered_none, gathered_rest, gathered_there, stale_at}
+use Rattle.indexed_parts.proofs.Gathered.{gathered_more, gathered_none, gathered_rest, stale_at}
 use Rattle.indexed_parts.proofs.Ordered.{in_run, length_run}
 use Rattle.indexed_parts.proofs.gathering.gather_run.Goals as goal
 
@@ -51,10 +50,10 @@ run-preserved g c =
     let one = rw c.in-Ok-true.field-0-test at c.in-Ok-true.ensures.gathered in
     let next : k + 1 ≡ run.result.0 + (c.run.place + 1) = omega arith in
     record {
-      gathered = subst (λ (n : ℕ). IfSome (g.P.Placed.whole c.args.archive.now) (λ text. AreGathered (is_tagged c.args.tag c.args.front.now) (map placed_bytes entries) text n (map record_bytes c.args.gathered.now.items) (map record_bytes c.gather_entry.new.gathered.items))) next
+      gathered = subst (λ (n : ℕ). AreGathered (g.P.Placed.whole c.args.archive.now) (is_tagged c.args.tag c.args.front.now) (map placed_bytes entries) n (map record_bytes c.args.gathered.now.items) (map record_bytes c.gather_entry.new.gathered.items)) next
           (gathered_more (g.P.Placed.whole c.args.archive.now) (is_tagged c.args.tag c.args.front.now) (map placed_bytes entries) k (placed_bytes e) (map record_bytes c.args.gathered.now.items) (map record_bytes c.run.gathered.items) (map record_bytes c.gather_entry.new.gathered.items)
           (omega (arith, length-map entries placed_bytes, there.1)) at passes c.run.invariant.gathered
-          (gathered_there (g.P.Placed.whole c.args.archive.now) (g.P.Placed.whole c.run.archive) (placed_bytes e) (map record_bytes c.run.gathered.items) (map record_bytes c.gather_entry.new.gathered.items) c.run.invariant.keeps one));
+          (subst (λ (w : Option (List ℕ)). IsGathered w (placed_bytes e) (map record_bytes c.run.gathered.items) (map record_bytes c.gather_entry.new.gathered.items)) c.run.invariant.keeps (one refl)));
       keeps = c.in-Ok-true.ensures.keeps ∙ c.run.invariant.keeps;
       unfailed = c.in-Ok-true.ensures.unfailed ∙ c.run.invariant.unfailed;
     }
