@@ -9,7 +9,7 @@ use Rattle.std.specs.FinSet as set
 use Rattle.std.proofs.lemmas.List.{take_all}
 use Rattle.join_core.specs.Listing.{listing}
 use Rattle.join_core.proofs.Listing.{any_listing}
-use Rattle.archive_core.specs.Content.{Operations, IsContent}
+use Rattle.archive_core.specs.Content.{Operations, IsContent, content_of}
 use Rattle.archive_core.specs.Part.{is_under, part}
 use Rattle.archive_core.specs.Summary.{Entries}
 use Rattle.archive_core.proofs.Made.{or_left, or_right}
@@ -18,34 +18,39 @@ use Rattle.archive_records.proofs.Puts.{length_written}
 use Rattle.archive_records.proofs.Contents.{order}
 use Rattle.placed_bytes.specs.Places.{HasSize}
 use Rattle.archive_index.specs.Index.{index}
-use Rattle.archive_index.specs.Places.{AreNamed, HasIndexedLength, IsNamedBy, IsOfPlaceMachine, IsPlaceFault}
+use Rattle.archive_index.specs.Places.{AreNamed, HasIndexedLength, IsNamedBy, IsOfPlaceMachine, IsPlaceFault, entries_under}
 use Rattle.archive_index.specs.declared.fault.PlaceFault.{PlaceFault}
 use Rattle.archive_index.specs.declared.fault.PlaceFault.TheVariants.{Stale, Device, OutOfMemory}
 use Rattle.archive_index.proofs.Named.{named_there, right}
 use Rattle.archive_index.proofs.Sums.{right_length}
-use Rattle.indexed_parts.specs.InnerPlaces.{IsLengthStale, IsPartRefused, IsStaleAmong, IsTakenTo}
-use Rattle.indexed_parts.proofs.Found.{made_together}
+use Rattle.indexed_parts.specs.InnerPlaces.{IsPartRefused}
+use Rattle.indexed_parts.specs.Places.{AreGatheredUnder, IsEntryFault, IsLengthFault}
 
--- all entries were gone through
-pub named_of : (whole now : Option (List ℕ)) (front : List ℕ) (s : Entries) (xs : List (List ℕ)) (n size : ℕ) (held : Operations) → size < 2 ^ 64 → now ≡ whole → HasSize whole size → IfSome whole (HasIndexedLength s) → xs ≡ listing s → n ≡ length xs
-    → IfSome now (λ text. IsTakenTo front xs text n held) → IfSome whole (λ text. HasIndexedLength s text × AreNamed front s text held × (length text < 2 ^ 64))
-named_of whole now front s xs n size held fits keeps sized long are all taken =
-    there whole sized long (subst (λ (w : Option (List ℕ)). IfSome w (λ text. IsTakenTo front xs text n held)) keeps taken)
+-- all entries under the front name the records of a part
+named_of : (whole now : Option (List ℕ)) (front : List ℕ) (s : Entries) (gathered : List (List ℕ)) (size : ℕ) (held : Operations) → size < 2 ^ 64 → now ≡ whole → HasSize whole size → IfSome whole (HasIndexedLength s)
+    → held ≡ content_of (set.from_list gathered) → AreGatheredUnder now front s [] gathered → IfSome whole (λ text. HasIndexedLength s text × AreNamed front s text held × (length text < 2 ^ 64))
+named_of whole now front s gathered size held fits keeps sized long made taken =
+    there whole sized long (subst (λ (w : Option (List ℕ)). IfSome w (λ text. AllZip (IsNamedBy text) (entries_under front s) taken.records)) keeps taken.named)
   where
-    there : (w : Option (List ℕ)) → HasSize w size → IfSome w (HasIndexedLength s) → IfSome w (λ text. IsTakenTo front xs text n held) → IfSome w (λ text. HasIndexedLength s text × AreNamed front s text held × (length text < 2 ^ 64))
-    there None a b t = tt
-    there (Some text) a b t = (
+    there : (w : Option (List ℕ)) → HasSize w size → IfSome w (HasIndexedLength s) → IfSome w (λ text. AllZip (IsNamedBy text) (entries_under front s) taken.records) → IfSome w (λ text. HasIndexedLength s text × AreNamed front s text held × (length text < 2 ^ 64))
+    there None a b zip = tt
+    there (Some text) a b zip = (
       b,
       record {
-        records = t.records;
-        named = subst (λ (ys : List (List ℕ)). AllZip (IsNamedBy text) (filter (is_under front) ys) t.records) (take_all n xs (omega (arith, all)) ∙ are) t.named;
-        made = made_together held t.records t.held_is;
+        records = taken.records;
+        named = zip;
+        made = made ∙ ap (λ (rs : List (List ℕ)). content_of (set.from_list rs)) taken.behind;
       },
       omega (arith, a, fits),
     )
 
+pub named_any : {V : Type 0} (content : V → Operations) (whole now : Option (List ℕ)) (front : List ℕ) (s : Entries) (gathered : List (List ℕ)) (size : ℕ) (r : Result V PlaceFault) → size < 2 ^ 64 → now ≡ whole → HasSize whole size → IfSome whole (HasIndexedLength s)
+    → IfOk r (λ part. content part ≡ content_of (set.from_list gathered)) → AreGatheredUnder now front s [] gathered → IfOk r (λ part. IfSome whole (λ text. HasIndexedLength s text × AreNamed front s text (content part) × (length text < 2 ^ 64)))
+named_any content whole now front s gathered size (Ok part) fits keeps sized long made taken = named_of whole now front s gathered size (content part) fits keeps sized long made taken
+named_any content whole now front s gathered size (Err fault) fits keeps sized long made taken = tt
+
 -- another length
-pub refused_length : (whole : Option (List ℕ)) (front : List ℕ) (s : Entries) (fault : PlaceFault) → IfSome whole (λ text. IsLengthStale s text fault) → IfSome whole (λ text. IsPartRefused front s text fault)
+pub refused_length : (whole : Option (List ℕ)) (front : List ℕ) (s : Entries) (fault : PlaceFault) → IfSome whole (λ text. IsLengthFault s text fault) → IfSome whole (λ text. IsPartRefused front s text fault)
 refused_length None front s fault h = tt
 refused_length (Some text) front s (Stale None) h = h
 refused_length (Some text) front s (Stale (Some k)) h = absurd h
@@ -53,15 +58,14 @@ refused_length (Some text) front s Device h = tt
 refused_length (Some text) front s OutOfMemory h = tt
 
 -- another record at a place
-pub refused_among : (whole now : Option (List ℕ)) (front : List ℕ) (s : Entries) (xs : List (List ℕ)) (size : ℕ) (fault : PlaceFault) → size < 2 ^ 64 → now ≡ whole → HasSize whole size → xs ≡ listing s
-    → IfSome now (λ text. IsStaleAmong front xs text fault) → IfSome whole (λ text. IsPartRefused front s text fault)
-refused_among whole now front s xs size fault fits keeps sized are h =
-    there whole fault sized (subst (λ (ys : List (List ℕ)). IfSome whole (λ text. IsStaleAmong front ys text fault)) are (subst (λ (w : Option (List ℕ)). IfSome w (λ text. IsStaleAmong front xs text fault)) keeps h))
+pub refused_entry : (whole now : Option (List ℕ)) (front : List ℕ) (s : Entries) (size : ℕ) (fault : PlaceFault) → size < 2 ^ 64 → now ≡ whole → HasSize whole size → IfSome now (λ text. IsEntryFault front s text fault) → IfSome whole (λ text. IsPartRefused front s text fault)
+refused_entry whole now front s size fault fits keeps sized h =
+    there whole fault sized (subst (λ (w : Option (List ℕ)). IfSome w (λ text. IsEntryFault front s text fault)) keeps h)
   where
-    there : (w : Option (List ℕ)) (f : PlaceFault) → HasSize w size → IfSome w (λ text. IsStaleAmong front (listing s) text f) → IfSome w (λ text. IsPartRefused front s text f)
+    there : (w : Option (List ℕ)) (f : PlaceFault) → HasSize w size → IfSome w (λ text. IsEntryFault front s text f) → IfSome w (λ text. IsPartRefused front s text f)
     there None f a t = tt
     there (Some text) (Stale None) a t = absurd t
-    there (Some text) (Stale (Some k)) a t = ((omega (arith, t.0, length_written s), t.1, t.2, t.3), omega (arith, a, fits))
+    there (Some text) (Stale (Some k)) a t = (t, omega (arith, a, fits))
     there (Some text) Device a t = tt
     there (Some text) OutOfMemory a t = tt
 

@@ -1,3 +1,4 @@
 pub mod Named
-pub mod Found
+pub mod Ordered
+pub mod Gathered
 pub mod Answered

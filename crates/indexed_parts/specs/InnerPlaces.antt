@@ -1,50 +1,44 @@
--- Records that are taken one after another at the places that an index names: the words of the inner functions. No
+-- Records that are gathered one after another at the places that an index names: the words of the inner functions. No
 -- contract of a public one has them.
-use Rattle.std.specs.Prelude.{◌≡◌, ◌<◌, ◌^◌, ℕ, true, List, [], length, take, filter, slice_index_or, Some, None}
+use Rattle.std.specs.Prelude.{◌≡◌, ◌<◌, ◌^◌, ℕ, Bool, true, List, [], ◌∷◌, ◌++◌, length, take, filter}
+use Rattle.std.specs.Prelude.{slice_index_or, Option, Some, None, IfSome}
 use Rattle.std.specs.List.{AllZip}
-use Rattle.std.specs.FinSet as set
 use Rattle.byte_device.specs.declared.reading.ReadFault.{ReadFault}
 use Rattle.byte_device.specs.declared.reading.ReadFault.TheVariants.{Device as Read_device, OutOfMemory as Read_memory}
-use Rattle.archive_core.specs.Content.{Operations, with_record, with_records}
-use Rattle.archive_core.specs.Part.{is_under}
 use Rattle.archive_index.specs.declared.fault.PlaceFault.{PlaceFault}
 use Rattle.archive_index.specs.declared.fault.PlaceFault.TheVariants.{Stale, Device, OutOfMemory}
 use Rattle.archive_core.specs.Summary.{Entries}
-use Rattle.archive_index.specs.Places.{AreNamedBefore, IsNamedBy, HasIndexedLength, IsStale}
+use Rattle.archive_index.specs.Places.{IsNamedBy, IsStale}
 
--- the record that this entry names was taken
-pub record IsTakenOf (text entry : List ℕ) (old new : Operations) : Type 0 where
+-- the record that this entry names stands behind what was gathered
+pub record IsGathered (whole : Option (List ℕ)) (entry : List ℕ) (old new : List (List ℕ)) : Type 0 where
   pub record_bytes : List ℕ
-  pub named : IsNamedBy text entry record_bytes
-  pub taken : new ≡ with_record old record_bytes
+  pub named : IfSome whole (λ text. IsNamedBy text entry record_bytes)
+  pub behind : new ≡ old ++ (record_bytes ∷ [])
 
--- of the first n entries those under the front were taken
-pub record IsTakenTo (front : List ℕ) (entries : List (List ℕ)) (text : List ℕ) (n : ℕ) (held : Operations)
-    : Type 0 where
+-- the records that those of the first n entries name that pass, one each and in their order, stand behind what was
+-- gathered
+pub record AreGathered (whole : Option (List ℕ)) (passes : List ℕ → Bool) (entries : List (List ℕ)) (n : ℕ)
+    (old new : List (List ℕ)) : Type 0 where
   pub records : List (List ℕ)
-  pub named : AllZip (IsNamedBy text) (filter (is_under front) (take n entries)) records
-  pub held_is : held ≡ with_records set.empty records
+  pub named : IfSome whole (λ text. AllZip (IsNamedBy text) (filter passes (take n entries)) records)
+  pub behind : new ≡ old ++ records
 
 -- why bytes were not read
 abbrev pub place_fault : ReadFault → PlaceFault
 place_fault Read_device = Device
 place_fault Read_memory = OutOfMemory
 
--- at the place of this entry, which is under the front, stands no record that it names, and it is the first such
-abbrev pub IsStaleAmong : List ℕ → List (List ℕ) → List ℕ → PlaceFault → Type 0
-IsStaleAmong front entries text (Stale None) = ⊥
-IsStaleAmong front entries text (Stale (Some k)) =
-    (k < length entries) × (is_under front (slice_index_or entries k []) ≡ true)
-    × ((r : List ℕ) → IsNamedBy text (slice_index_or entries k []) r → ⊥) × AreNamedBefore front entries text k
-IsStaleAmong front entries text Device = Unit {0}
-IsStaleAmong front entries text OutOfMemory = Unit {0}
-
--- why the size of an archive is refused: it is another than the index tells
-abbrev pub IsLengthStale : Entries → List ℕ → PlaceFault → Type 0
-IsLengthStale entries text (Stale None) = (HasIndexedLength entries text → ⊥) × (length text < 2 ^ 64)
-IsLengthStale entries text (Stale (Some k)) = ⊥
-IsLengthStale entries text Device = Unit {0}
-IsLengthStale entries text OutOfMemory = Unit {0}
+-- at the place of this entry, which passes, stands no record that it names, and it is the first such
+abbrev pub IsStaleAmong : (List ℕ → Bool) → List (List ℕ) → List ℕ → PlaceFault → Type 0
+IsStaleAmong passes entries text (Stale None) = ⊥
+IsStaleAmong passes entries text (Stale (Some k)) =
+    (k < length entries) × (passes (slice_index_or entries k []) ≡ true)
+    × ((r : List ℕ) → IsNamedBy text (slice_index_or entries k []) r → ⊥)
+    × ((j : ℕ) → j < k → passes (slice_index_or entries j []) ≡ true
+    → (r : List ℕ) × IsNamedBy text (slice_index_or entries j []) r)
+IsStaleAmong passes entries text Device = Unit {0}
+IsStaleAmong passes entries text OutOfMemory = Unit {0}
 
 -- why a part is refused, of a text whose length is known then
 abbrev pub IsPartRefused : List ℕ → Entries → List ℕ → PlaceFault → Type 0

@@ -1,1 +1,3 @@
+pub mod Places
 pub mod InnerPlaces
+pub mod InnerRuns

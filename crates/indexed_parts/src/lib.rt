@@ -1,11 +1,16 @@
 //! Parts of archives, read at the places that an index names.
 //!
 //! - `records`: the record at the place of an entry, tested and hashed;
-//! - `parts`: [`part_at`], the records under a UUID or a key; [`has_length`], whether an archive has the length that
-//!   the index tells; [`is_under`], whether an entry is under a front.
+//! - `runs`: the entries of one tag under a front, which stand together;
+//! - `gathering`: [`gather_at`], the records under a UUID or a key;
+//! - `parts`: [`part_at`], a part that they make; [`has_length`], whether an archive has the length that the index tells,
+//!   and [`indexed_size`], the same with the size; [`is_under`], whether an entry is under a front.
 #![tactic(auto)]
 
+mod gathering;
 mod parts;
 mod records;
+mod runs;
 
-pub use parts::{has_length, is_under, part_at};
+pub use gathering::gather_at;
+pub use parts::{has_length, indexed_size, is_under, part_at};

@@ -1,58 +1,31 @@
 //! The records under a UUID or a key.
 
-ghost use Rattle.std.specs.Prelude.{◌≡◌, ◌+◌, ◌≤◌, ◌<◌, ◌^◌, ◌↔◌, ℕ, List, Some, Err, true, false, length, map};
+ghost use Rattle.std.specs.Prelude.{◌≡◌, ◌+◌, ◌≤◌, ◌<◌, ◌^◌, ◌↔◌, Some, length, map};
 ghost use Rattle.std.specs.Prelude.{IfOk, IfErr, IfSome, IsTrue, MatchResult, OnOk};
 ghost use Rattle.std.specs.FinSet as set;
-ghost use Rattle.std.specs.List.{AllByRecursion};
-ghost use Rattle.archive_core.specs.Content.{Operations, IsContent};
+ghost use Rattle.archive_core.specs.Content.{Operations, IsContent, content_of};
 ghost use Rattle.archive_core.specs.Part.{is_under, part};
+ghost use Rattle.archive_core.specs.Record.{record_bytes};
 ghost use Rattle.archive_records.specs.Text.{written};
-ghost use Rattle.byte_device.specs.Devices.{CountsFailure, FailedIn};
+ghost use Rattle.byte_device.specs.Devices.{CountsFailure};
 ghost use Rattle.placed_bytes.specs.Places.{HasSize};
-ghost use Rattle.archive_index.specs.Entry.{IsPlacedEntry, placed_bytes};
+ghost use Rattle.archive_index.specs.Entry.{placed_bytes};
 ghost use Rattle.archive_index.specs.Index.{index, lengths_of};
-ghost use Rattle.archive_index.specs.Places.{AreNamed, BlamesPlaced, HasIndexedLength, IsNamedBy};
+ghost use Rattle.archive_index.specs.Places.{AreNamed, BlamesPlaced, HasIndexedLength};
 ghost use Rattle.archive_index.specs.Places.{IsOfPlaceMachine, IsPlaceFault};
-ghost use Rattle.indexed_parts.specs.InnerPlaces.{IsLengthStale, IsPartRefused, IsStaleAmong};
-ghost use Rattle.indexed_parts.specs.InnerPlaces.{IsTakenOf, IsTakenTo, place_fault};
+ghost use Rattle.indexed_parts.specs.InnerPlaces.{IsPartRefused};
+ghost use Rattle.indexed_parts.specs.Places.{IsLengthFault};
 
-use crate::records::operation_at;
-use archive_core::Archive;
+use crate::gathering::gather_at;
+use archive_core::{Archive, Operation};
 use archive_index::{Index, PlaceFault, PlacedEntry};
-use byte_device::{Failed, ReadFault};
+use byte_device::Failed;
 use memory::{Heap, NoMemory};
 use placed_bytes::Placed;
+use sorted_archive::take_each;
 
 /// How many bytes the magic and the end record of an archive have together.
 const FRAME_LEN: u64 = 17;
-
-/// Takes the record that an entry names into a part, and says whether there is one.
-fn take_entry<A: Archive, P: Placed>(
-    part: &mut A,
-    heap: &Heap,
-    archive: &mut P,
-    size: u64,
-    entry: &PlacedEntry,
-) -> Result<bool, ReadFault>
-    requires size { HasSize (P.whole archive.old) size }
-    requires entry { IsPlacedEntry (placed_bytes entry.now) }
-    ensures taken { IfOk result (λ named. IfSome (P.whole archive.old) (λ text. named ≡ true
-        → IsTakenOf text (placed_bytes entry.now) (A.content part.old) (A.content part.new))) }
-    ensures none { IfOk result (λ named. IfSome (P.whole archive.old) (λ text. named ≡ false
-        → (r : List ℕ) → IsNamedBy text (placed_bytes entry.now) r → ⊥)) }
-    ensures keeps { P.whole archive.new ≡ P.whole archive.old }
-    ensures unfailed { OnOk result (P.failures archive.new ≡ P.failures archive.old) }
-    ensures device { result ≡ Err ReadFault.Device → FailedIn (P.failures archive.old) (P.failures archive.new) }
-    ensures memory { result ≡ Err ReadFault.OutOfMemory → P.failures archive.new ≡ P.failures archive.old }
-{
-    let Some(operation) = operation_at(heap, archive, size, entry)? else {
-        return Ok(false);
-    };
-    match part.take(operation) {
-        Ok(_) => Ok(true),
-        Err(NoMemory) => Err(ReadFault::OutOfMemory),
-    }
-}
 
 /// Whether the key of an entry begins with these bytes.
 pub fn is_under(front: &[u8], entry: &PlacedEntry) -> bool
@@ -67,49 +40,6 @@ fn begins(bytes: &[u8], front: &[u8]) -> bool
     ensures { result ≡ is_under front.now bytes.now }
 {
     bytes[1..].starts_with(front)
-}
-
-/// Why bytes were not read, as a fault of a part.
-fn unread(fault: ReadFault) -> PlaceFault
-    ensures { result ≡ place_fault fault }
-{
-    match fault {
-        ReadFault::Device => PlaceFault::Device,
-        ReadFault::OutOfMemory => PlaceFault::OutOfMemory,
-    }
-}
-
-/// Takes the records that the entries under a front name into an empty part.
-fn take_entries<A: Archive, P: Placed>(
-    part: &mut A,
-    heap: &Heap,
-    front: &[u8],
-    entries: &[PlacedEntry],
-    archive: &mut P,
-    size: u64,
-) -> Result<(), PlaceFault>
-    requires size { HasSize (P.whole archive.old) size }
-    requires entries { AllByRecursion IsPlacedEntry (map placed_bytes entries.now) }
-    requires empty { A.content part.old ≡ set.empty }
-    ensures taken { OnOk result (IfSome (P.whole archive.old) (λ text.
-        IsTakenTo front.now (map placed_bytes entries.now) text (length entries.now) (A.content part.new))) }
-    ensures stale { IfErr result (λ fault. IfSome (P.whole archive.old) (λ text.
-        IsStaleAmong front.now (map placed_bytes entries.now) text fault)) }
-    ensures keeps { P.whole archive.new ≡ P.whole archive.old }
-    ensures unfailed { OnOk result (P.failures archive.new ≡ P.failures archive.old) }
-    ensures blames { IfErr result (λ fault. BlamesPlaced P.failures archive.old archive.new fault) }
-{
-    'taking: for (number, entry) in entries.iter().enumerate() {
-        if !is_under(front, entry) {
-            continue 'taking;
-        }
-        match take_entry(part, heap, archive, size, entry) {
-            Ok(true) => {}
-            Ok(false) => return Err(PlaceFault::Stale(Some(number as u64))),
-            Err(fault) => return Err(unread(fault)),
-        }
-    }
-    Ok(())
 }
 
 /// Whether an archive of this size has the length that the index tells.
@@ -130,12 +60,16 @@ pub fn has_length<P: Placed>(entries: &Index, archive: &mut P) -> Result<bool, F
     Ok(tells_size(entries, size))
 }
 
-/// The size of an archive, which is the length that the index tells.
-fn size_of<P: Placed>(entries: &Index, archive: &mut P) -> Result<u64, PlaceFault>
+/// The size of an archive, where it is the length that the index tells. No byte of it is read.
+///
+/// # Errors
+///
+/// `Stale` where the archive has another length; `Device`.
+pub fn indexed_size<P: Placed>(entries: &Index, archive: &mut P) -> Result<u64, PlaceFault>
     ensures size { IfOk result (λ size. HasSize (P.whole archive.old) size) }
     ensures right { OnOk result (IfSome (P.whole archive.old) (HasIndexedLength entries.now)) }
-    ensures stale { IfErr result (λ fault. IfSome (P.whole archive.old) (λ text.
-        IsLengthStale entries.now text fault)) }
+    ensures refused { IfErr result (λ fault. IfSome (P.whole archive.old) (λ text.
+        IsLengthFault entries.now text fault)) }
     ensures keeps { P.whole archive.new ≡ P.whole archive.old }
     ensures unfailed { OnOk result (P.failures archive.new ≡ P.failures archive.old) }
     ensures blames { IfErr result (λ fault. BlamesPlaced P.failures archive.old archive.new fault) }
@@ -150,6 +84,19 @@ fn size_of<P: Placed>(entries: &Index, archive: &mut P) -> Result<u64, PlaceFaul
     }
 }
 
+/// The part that these operations make, in whatever order they come.
+fn part_of<A: Archive + Drop>(heap: Heap, operations: Vec<Operation, Heap>) -> Result<A, PlaceFault>
+    ensures part { IfOk result (λ part.
+        A.content part ≡ content_of (set.from_list (map record_bytes operations.items))) }
+    ensures memory { IfErr result (λ fault. fault ≡ PlaceFault.OutOfMemory) }
+{
+    let mut part = A::empty(heap);
+    match take_each(&mut part, operations) {
+        Ok(_) => Ok(part),
+        Err(NoMemory) => Err(PlaceFault::OutOfMemory),
+    }
+}
+
 /// Reads what `part_at` reads. What is said is of a text that is known.
 fn part_named<A: Archive + Drop, P: Placed>(
     heap: Heap,
@@ -157,6 +104,7 @@ fn part_named<A: Archive + Drop, P: Placed>(
     entries: &Index,
     archive: &mut P,
 ) -> Result<A, PlaceFault>
+    requires { length front.now ≤ 24 }
     ensures named { IfOk result (λ part. IfSome (P.whole archive.old) (λ text. HasIndexedLength entries.now text
         × AreNamed front.now entries.now text (A.content part) × (length text < 2 ^ 64))) }
     ensures refused { IfErr result (λ fault. IfSome (P.whole archive.old) (λ text.
@@ -165,14 +113,13 @@ fn part_named<A: Archive + Drop, P: Placed>(
     ensures unfailed { OnOk result (P.failures archive.new ≡ P.failures archive.old) }
     ensures blames { IfErr result (λ fault. BlamesPlaced P.failures archive.old archive.new fault) }
 {
-    let _count = entries.len();
-    let size = size_of(entries, archive)?;
+    let size = indexed_size(entries, archive)?;
     let Ok(kept) = heap.clone() else {
         return Err(PlaceFault::OutOfMemory);
     };
-    let mut part = A::empty(kept);
-    take_entries(&mut part, &heap, front, entries.entries(), archive, size)?;
-    Ok(part)
+    let mut gathered = Vec::new(kept);
+    gather_at(&heap, &mut gathered, front, entries, archive, size)?;
+    part_of(heap, gathered)
 }
 
 /// Reads the records under a UUID or a key at the places that an index names: each admission is tested as a record of

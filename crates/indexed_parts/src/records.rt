@@ -19,8 +19,11 @@ use byteorder::{BigEndian, ByteOrder};
 use memory::{Heap, NoMemory};
 use placed_bytes::{Placed, read_at};
 
+/// The tag of a retirement. Those stand before the admissions.
+pub(crate) const RETIREMENT: u8 = 1;
+
 /// The tag of an admission.
-const ADMISSION: u8 = 2;
+pub(crate) const ADMISSION: u8 = 2;
 
 /// The number in eight bytes at a place.
 fn number_at(bytes: &[u8], at: usize) -> u64

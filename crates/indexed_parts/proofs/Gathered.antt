@@ -1,0 +1,239 @@
+-- Records that are gathered one after another, by the entries that name them.
+use Rattle.std.proofs.Common.{◌≡◌, ℕ, ◌+◌, ◌<◌, ◌≤◌, zero, suc, Bool, true, false, cond, ◌||◌, ◌&&◌, not, List, [], ◌∷◌, ◌++◌, length, take, get_or, Option, Some, None, refl, sym, ap, ◌∙◌, subst, append_assoc, arith}
+use Rattle.std.specs.Prelude.{filter, IfErr, IfSome, OnOk, Result, Ok, Err}
+use Rattle.std.specs.List.{AllWithin, AllZip}
+use Rattle.std.proofs.lemmas.List.{append-nil, take_all}
+use Rattle.std.proofs.lemmas.List.Elements.{All-from_recursion, filter_more}
+use Rattle.std.specs.Cmp.Lexicographic.{nat_list_cmp_total}
+use Rattle.std.specs.FinSet as set
+use Rattle.std.specs.FinSet.{contains-union, contains-empty, same_set}
+use Rattle.archive_core.specs.Content.{Operations, IsMade, is_covered, content_of, with_records}
+use Rattle.archive_core.specs.Part.{is_under}
+use Rattle.archive_core.proofs.Made.{and_right, bytes_same}
+use Rattle.archive_core.proofs.Taken.{taken_are_joined}
+use Rattle.archive_core.specs.Order.{made_again, contains_made}
+use Rattle.archive_index.specs.Entry.{IsPlacedEntry}
+use Rattle.archive_index.specs.Index.{AreIndexed}
+use Rattle.archive_index.specs.Places.{IsNamedBy}
+use Rattle.archive_index.specs.declared.fault.PlaceFault.{PlaceFault}
+use Rattle.archive_index.specs.declared.fault.PlaceFault.TheVariants.{Stale, Device, OutOfMemory}
+use Rattle.archive_index.specs.Places.{entries_under}
+use Rattle.archive_core.specs.Summary.{Entries}
+use Rattle.archive_records.proofs.Puts.{length_written}
+use Rattle.join_core.specs.Listing.{listing}
+use Rattle.indexed_parts.specs.InnerPlaces.{AreGathered, IsGathered, IsStaleAmong}
+use Rattle.indexed_parts.specs.Places.{AreGatheredUnder, IsEntryFault}
+use Rattle.indexed_parts.specs.InnerRuns.{is_tagged}
+use Rattle.indexed_parts.proofs.Ordered.{not_second, one_of_two, two_runs}
+
+module _ (R : List ℕ → List ℕ → Type 0) where
+  push : (xs ys : List (List ℕ)) (x y : List ℕ) → AllZip R xs ys → R x y → AllZip R (xs ++ x ∷ []) (ys ++ y ∷ [])
+  push [] [] x y zip r = (r, tt)
+  push [] (z ∷ ys) x y zip r = absurd zip
+  push (w ∷ xs) [] x y zip r = absurd zip
+  push (w ∷ xs) (z ∷ ys) x y zip r = (zip.0, push xs ys x y zip.1 r)
+
+  picked : (p : List ℕ → Bool) (xs : List (List ℕ)) (i : ℕ) (x : List ℕ) (ys : List (List ℕ)) (y : List ℕ) → i < length xs → x ≡ get_or xs i [] → p x ≡ true → AllZip R (filter p (take i xs)) ys → R x y → AllZip R (filter p (take (i + 1) xs)) (ys ++ y ∷ [])
+  picked p xs i x ys y lt is passes zip r =
+      let one : cond (p (get_or xs i [])) (get_or xs i [] ∷ []) [] ≡ x ∷ [] = ap (λ (z : List ℕ). cond (p z) (z ∷ []) []) (sym is) ∙ ap (λ (b : Bool). cond b (x ∷ []) []) passes in
+      subst (λ (zs : List (List ℕ)). AllZip R zs (ys ++ y ∷ [])) (sym (filter_more p xs i [] lt ∙ ap (λ (zs : List (List ℕ)). filter p (take i xs) ++ zs) one)) (push (filter p (take i xs)) ys x y zip r)
+
+-- where none passes from one place up to another, none more is kept
+past : (p : List ℕ → Bool) (xs : List (List ℕ)) (n m : ℕ) → n ≤ m → AllWithin (λ x. p x ≡ false) xs n m → filter p (take m xs) ≡ filter p (take n xs)
+past p [] zero zero le none = refl
+past p [] zero (suc m) le none = refl
+past p [] (suc n) zero le none = absurd (omega arith)
+past p [] (suc n) (suc m) le none = refl
+past p (x ∷ xs) zero zero le none = refl
+past p (x ∷ xs) zero (suc m) le none = rw (none 0 x (omega arith) (omega arith)) (past p xs 0 m (omega arith) (λ k d low high. none (suc k) d (omega arith) (omega arith)))
+past p (x ∷ xs) (suc n) zero le none = absurd (omega arith)
+past p (x ∷ xs) (suc n) (suc m) le none = ap (λ (l : List (List ℕ)). cond (p x) (x ∷ l) l) (past p xs n m (omega arith) (λ k d low high. none (suc k) d (omega arith) (omega arith)))
+
+-- what follows of each text that is known
+known : (P : List ℕ → Type 0) (whole : Option (List ℕ)) → ((text : List ℕ) → P text) → IfSome whole P
+known P None f = tt
+known P (Some text) f = f text
+
+along : (P Q : List ℕ → Type 0) (whole : Option (List ℕ)) → ((text : List ℕ) → P text → Q text) → IfSome whole P → IfSome whole Q
+along P Q None f a = tt
+along P Q (Some text) f a = f text a
+
+along_both : (P Q R : List ℕ → Type 0) (whole : Option (List ℕ)) → ((text : List ℕ) → P text → Q text → R text) → IfSome whole P → IfSome whole Q → IfSome whole R
+along_both P Q R None f a b = tt
+along_both P Q R (Some text) f a b = f text a b
+
+module _ (whole : Option (List ℕ)) (p : List ℕ → Bool) (entries : List (List ℕ)) where
+  abbrev Named : ℕ → List (List ℕ) → List ℕ → Type 0
+  Named n records text = AllZip (IsNamedBy text) (filter p (take n entries)) records
+
+  -- none yet, up to the first that passes
+  pub gathered_none : (n : ℕ) (old : List (List ℕ)) → AllWithin (λ x. p x ≡ false) entries 0 n → AreGathered whole p entries n old old
+  gathered_none n old none = record {
+    records = [];
+    named = known (Named n []) whole (λ text. subst (λ (xs : List (List ℕ)). AllZip (IsNamedBy text) xs []) (sym (past p entries 0 n (omega arith) none)) tt);
+    behind = sym (append-nil old);
+  }
+
+  -- one that passes more
+  pub gathered_more : (i : ℕ) (x : List ℕ) (old mid new : List (List ℕ)) → i < length entries → x ≡ get_or entries i [] → p x ≡ true → AreGathered whole p entries i old mid → IsGathered whole x mid new → AreGathered whole p entries (i + 1) old new
+  gathered_more i x old mid new lt is passes before one =
+      let r = one.record_bytes in
+      record {
+        records = before.records ++ r ∷ [];
+        named = along_both (Named i before.records) (λ text. IsNamedBy text x r) (Named (i + 1) (before.records ++ r ∷ [])) whole
+            (λ text zip named. picked (IsNamedBy text) p entries i x before.records r lt is passes zip named) before.named one.named;
+        behind = one.behind ∙ ap (λ (l : List (List ℕ)). l ++ (r ∷ [])) before.behind ∙ append_assoc old before.records (r ∷ []);
+      }
+
+  -- and behind the last that passes none
+  pub gathered_rest : (n m : ℕ) (old new : List (List ℕ)) → n ≤ m → AllWithin (λ x. p x ≡ false) entries n m → AreGathered whole p entries n old new → AreGathered whole p entries m old new
+  gathered_rest n m old new le none before = record {
+    records = before.records;
+    named = along (Named n before.records) (Named m before.records) whole (λ text zip. subst (λ (xs : List (List ℕ)). AllZip (IsNamedBy text) xs before.records) (sym (past p entries n m le none)) zip) before.named;
+    behind = before.behind;
+  }
+
+-- each entry before a place that passes has a partner among those up to it
+partner : (R : List ℕ → List ℕ → Type 0) (p : List ℕ → Bool) (xs ys : List (List ℕ)) (n j : ℕ) → AllZip R (filter p (take n xs)) ys → j < n → j < length xs → p (get_or xs j []) ≡ true → (y : List ℕ) × R (get_or xs j []) y
+partner R p xs ys zero j zip below lt passes = absurd (omega arith)
+partner R p [] ys (suc n) j zip below lt passes = absurd (omega arith)
+partner R p (x ∷ xs) ys (suc n) zero zip below lt passes =
+    first ys (subst (λ (b : Bool). AllZip R (cond b (x ∷ filter p (take n xs)) (filter p (take n xs))) ys) passes zip)
+  where
+    first : (zs : List (List ℕ)) → AllZip R (x ∷ filter p (take n xs)) zs → (y : List ℕ) × R x y
+    first [] z = absurd z
+    first (z ∷ zs) both = (z, both.0)
+partner R p (x ∷ xs) ys (suc n) (suc j) zip below lt passes =
+    by (λ zs z. partner R p xs zs n j z (omega arith) (omega arith) passes) (p x) ys zip
+  where
+    by : ((zs : List (List ℕ)) → AllZip R (filter p (take n xs)) zs → (y : List ℕ) × R (get_or xs j []) y) → (b : Bool) (zs : List (List ℕ)) → AllZip R (cond b (x ∷ filter p (take n xs)) (filter p (take n xs))) zs → (y : List ℕ) × R (get_or xs j []) y
+    by rest true [] z = absurd z
+    by rest true (z ∷ zs) both = rest zs both.1
+    by rest false zs z = rest zs z
+
+abbrev Unnamed : List ℕ → List ℕ → Type 0
+Unnamed x text = false ≡ false → (r : List ℕ) → IsNamedBy text x r → ⊥
+
+-- where no record is that an entry names, and each before it that passes names one
+pub stale_at : (whole now : Option (List ℕ)) (p : List ℕ → Bool) (entries : List (List ℕ)) (i : ℕ) (x : List ℕ) (old new : List (List ℕ)) → i < length entries → x ≡ get_or entries i [] → p x ≡ true → now ≡ whole
+    → AreGathered whole p entries i old new → IfSome now (λ text. false ≡ false → (r : List ℕ) → IsNamedBy text x r → ⊥) → IfSome whole (λ text. IsStaleAmong p entries text (Stale (Some i)))
+stale_at whole now p entries i x old new lt is passes keeps before none =
+    along_both (Named whole p entries i before.records) (Unnamed x) (λ text. IsStaleAmong p entries text (Stale (Some i))) whole
+    (λ text zip h. (
+      lt,
+      ap p (sym is) ∙ passes,
+      λ r n. h refl r (subst (λ (y : List ℕ). IsNamedBy text y r) (sym is) n),
+      λ j below there. partner (IsNamedBy text) p entries before.records i j zip below (omega arith) there,
+    ))
+    before.named (subst (λ (w : Option (List ℕ)). IfSome w (Unnamed x)) keeps none)
+
+-- ---- the retirements under a front, and then the admissions
+
+join : (R : List ℕ → List ℕ → Type 0) (xs ys us vs : List (List ℕ)) → AllZip R xs us → AllZip R ys vs → AllZip R (xs ++ ys) (us ++ vs)
+join R [] ys [] vs a b = b
+join R [] ys (u ∷ us) vs a b = absurd a
+join R (x ∷ xs) ys [] vs a b = absurd a
+join R (x ∷ xs) ys (u ∷ us) vs a b = (a.0, join R xs ys us vs a.1 b)
+
+module _ (whole : Option (List ℕ)) (front : List ℕ) (entries : List (List ℕ)) (are : AreIndexed entries) (n : ℕ) (all : length entries ≤ n) where
+  -- together those under it
+  gathered_both : (old mid new : List (List ℕ)) → AreGathered whole (is_tagged 1 front) entries n old mid → AreGathered whole (is_tagged 2 front) entries n mid new → AreGathered whole (is_under front) entries n old new
+  gathered_both old mid new first second =
+      let both : filter (is_tagged 1 front) (take n entries) ++ filter (is_tagged 2 front) (take n entries) ≡ filter (is_under front) (take n entries) =
+      subst (λ (xs : List (List ℕ)). filter (is_tagged 1 front) xs ++ filter (is_tagged 2 front) xs ≡ filter (is_under front) xs) (sym (take_all n entries all)) (two_runs front entries are.ascending are.are) in
+      record {
+        records = first.records ++ second.records;
+        named = along_both (Named whole (is_tagged 1 front) entries n first.records) (Named whole (is_tagged 2 front) entries n second.records) (Named whole (is_under front) entries n (first.records ++ second.records)) whole
+            (λ text a b. subst (λ (xs : List (List ℕ)). AllZip (IsNamedBy text) xs (first.records ++ second.records)) both
+            (join (IsNamedBy text) (filter (is_tagged 1 front) (take n entries)) (filter (is_tagged 2 front) (take n entries)) first.records second.records a b))
+            first.named second.named;
+        behind = second.behind ∙ ap (λ (l : List (List ℕ)). l ++ second.records) first.behind ∙ append_assoc old first.records second.records;
+      }
+
+  entry_at : (k : ℕ) → k < length entries → IsPlacedEntry (get_or entries k [])
+  entry_at k lt = All-from_recursion IsPlacedEntry entries are.are k [] lt
+
+  -- the first that names no record, among the retirements
+  pub stale_first : (fault : PlaceFault) → IfSome whole (λ text. IsStaleAmong (is_tagged 1 front) entries text fault) → IfSome whole (λ text. IsStaleAmong (is_under front) entries text fault)
+  stale_first fault h = along (λ text. IsStaleAmong (is_tagged 1 front) entries text fault) (λ text. IsStaleAmong (is_under front) entries text fault) whole (by fault) h
+    where
+      by : (f : PlaceFault) (text : List ℕ) → IsStaleAmong (is_tagged 1 front) entries text f → IsStaleAmong (is_under front) entries text f
+      by (Stale None) text t = t
+      by (Stale (Some k)) text t = (
+        t.0,
+        and_right _ _ t.1,
+        t.2,
+        λ j below under. one_of_two front _ (get_or entries j []) (entry_at j (omega (arith, t.0, below))) under (t.3 j below) (λ two. absurd (not_second front entries j k are below t.0 two t.1)),
+      )
+      by Device text t = tt
+      by OutOfMemory text t = tt
+
+  -- and among the admissions, where each retirement names one
+  stale_second : (now : Option (List ℕ)) (old mid : List (List ℕ)) (fault : PlaceFault) → now ≡ whole → AreGathered whole (is_tagged 1 front) entries n old mid
+      → IfSome now (λ text. IsStaleAmong (is_tagged 2 front) entries text fault) → IfSome whole (λ text. IsStaleAmong (is_under front) entries text fault)
+  stale_second now old mid fault keeps first h =
+      along_both (Named whole (is_tagged 1 front) entries n first.records) (λ text. IsStaleAmong (is_tagged 2 front) entries text fault) (λ text. IsStaleAmong (is_under front) entries text fault) whole (by fault)
+      first.named (subst (λ (w : Option (List ℕ)). IfSome w (λ text. IsStaleAmong (is_tagged 2 front) entries text fault)) keeps h)
+    where
+      by : (f : PlaceFault) (text : List ℕ) → Named whole (is_tagged 1 front) entries n first.records text → IsStaleAmong (is_tagged 2 front) entries text f → IsStaleAmong (is_under front) entries text f
+      by (Stale None) text zip t = t
+      by (Stale (Some k)) text zip t = (
+        t.0,
+        and_right _ _ t.1,
+        t.2,
+        λ j below under. one_of_two front _ (get_or entries j []) (entry_at j (omega (arith, t.0, below))) under
+            (λ one. partner (IsNamedBy text) (is_tagged 1 front) entries first.records n j zip (omega (arith, t.0, below, all)) (omega (arith, t.0, below)) one)
+            (t.3 j below),
+      )
+      by Device text zip t = tt
+      by OutOfMemory text zip t = tt
+
+  -- the same of what came of the admissions
+  pub both_any : {E : Type 0} (now : Option (List ℕ)) (old mid new : List (List ℕ)) (r : Result (Unit {0}) E) → now ≡ whole → AreGathered whole (is_tagged 1 front) entries n old mid
+      → OnOk r (AreGathered now (is_tagged 2 front) entries n mid new) → OnOk r (AreGathered whole (is_under front) entries n old new)
+  both_any now old mid new (Ok _) keeps first second = gathered_both old mid new first (subst (λ (w : Option (List ℕ)). AreGathered w (is_tagged 2 front) entries n mid new) keeps second)
+  both_any now old mid new (Err _) keeps first second = tt
+
+  pub stale_any : {V : Type 0} (now : Option (List ℕ)) (old mid : List (List ℕ)) (r : Result V PlaceFault) → now ≡ whole → AreGathered whole (is_tagged 1 front) entries n old mid
+      → IfErr r (λ fault. IfSome now (λ text. IsStaleAmong (is_tagged 2 front) entries text fault)) → IfErr r (λ fault. IfSome whole (λ text. IsStaleAmong (is_under front) entries text fault))
+  stale_any now old mid (Ok _) keeps first h = tt
+  stale_any now old mid (Err fault) keeps first h = stale_second now old mid fault keeps first h
+
+  -- ---- under a front of an index
+
+  pub under_any : {E : Type 0} (s : Entries) (old new : List (List ℕ)) (r : Result (Unit {0}) E) → entries ≡ listing s → OnOk r (AreGathered whole (is_under front) entries n old new) → OnOk r (AreGatheredUnder whole front s old new)
+  under_any s old new (Ok _) is h = record {
+    records = h.records;
+    named = along (Named whole (is_under front) entries n h.records) (λ text. AllZip (IsNamedBy text) (entries_under front s) h.records) whole
+        (λ text zip. subst (λ (xs : List (List ℕ)). AllZip (IsNamedBy text) (filter (is_under front) xs) h.records) (take_all n entries all ∙ is) zip) h.named;
+    behind = h.behind;
+  }
+  under_any s old new (Err _) is h = tt
+
+  fault_under : (s : Entries) (fault : PlaceFault) → entries ≡ listing s → IfSome whole (λ text. IsStaleAmong (is_under front) entries text fault) → IfSome whole (λ text. IsEntryFault front s text fault)
+  fault_under s fault is h =
+      along (λ text. IsStaleAmong (is_under front) (listing s) text fault) (λ text. IsEntryFault front s text fault) whole (by fault)
+      (subst (λ (xs : List (List ℕ)). IfSome whole (λ text. IsStaleAmong (is_under front) xs text fault)) is h)
+    where
+      by : (f : PlaceFault) (text : List ℕ) → IsStaleAmong (is_under front) (listing s) text f → IsEntryFault front s text f
+      by (Stale None) text t = t
+      by (Stale (Some k)) text t = (omega (arith, t.0, length_written s), t.1, t.2, t.3)
+      by Device text t = tt
+      by OutOfMemory text t = tt
+
+  pub fault_any : {V : Type 0} (s : Entries) (r : Result V PlaceFault) → entries ≡ listing s → IfErr r (λ fault. IfSome whole (λ text. IsStaleAmong (is_under front) entries text fault)) → IfErr r (λ fault. IfSome whole (λ text. IsEntryFault front s text fault))
+  fault_any s (Ok _) is h = tt
+  fault_any s (Err fault) is h = fault_under s fault is h
+
+-- ---- what was taken together
+
+empty_made : IsMade set.empty
+empty_made = same_set nat_list_cmp_total bytes_same (content_of set.empty) set.empty (λ q. contains_made set.empty q ∙ ap (λ b. b && not (is_covered set.empty q)) (contains-empty _ q) ∙ sym (contains-empty _ q))
+
+none_union : (s : Operations) → set.union set.empty s ≡ s
+none_union s = same_set nat_list_cmp_total bytes_same (set.union set.empty s) s (λ q. contains-union nat_list_cmp_total set.empty s q ∙ ap (λ b. b || set.contains s q) (contains-empty _ q))
+
+pub made_together : (held : Operations) (records : List (List ℕ)) → held ≡ with_records set.empty records → held ≡ content_of (set.from_list records)
+made_together held records is =
+    let s = content_of (set.from_list records) in
+    is ∙ taken_are_joined set.empty records empty_made ∙ ap content_of (none_union s) ∙ made_again (set.from_list records)

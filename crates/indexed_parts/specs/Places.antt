@@ -1,0 +1,28 @@
+-- What is gathered at the places that an index names.
+use Rattle.std.specs.Prelude.{◌≡◌, ◌<◌, ◌^◌, ℕ, List, ◌++◌, length, Option, Some, None, IfSome}
+use Rattle.std.specs.List.{AllZip}
+use Rattle.archive_core.specs.Summary.{Entries}
+use Rattle.archive_index.specs.declared.fault.PlaceFault.{PlaceFault}
+use Rattle.archive_index.specs.declared.fault.PlaceFault.TheVariants.{Stale, Device, OutOfMemory}
+use Rattle.archive_index.specs.Places.{IsNamedBy, HasIndexedLength, IsStale, entries_under}
+
+-- Each entry under the front names one of these records, in their order, and they stand behind what was gathered.
+pub record AreGatheredUnder (whole : Option (List ℕ)) (front : List ℕ) (entries : Entries) (old new : List (List ℕ))
+    : Type 0 where
+  pub records : List (List ℕ)
+  pub named : IfSome whole (λ text. AllZip (IsNamedBy text) (entries_under front entries) records)
+  pub behind : new ≡ old ++ records
+
+-- why nothing is gathered under a front: an entry names no record of the text
+abbrev pub IsEntryFault : List ℕ → Entries → List ℕ → PlaceFault → Type 0
+IsEntryFault front entries text (Stale None) = ⊥
+IsEntryFault front entries text (Stale (Some k)) = IsStale front entries text (Some k)
+IsEntryFault front entries text Device = Unit {0}
+IsEntryFault front entries text OutOfMemory = Unit {0}
+
+-- why the size of an archive is refused: it is another than the index tells
+abbrev pub IsLengthFault : Entries → List ℕ → PlaceFault → Type 0
+IsLengthFault entries text (Stale None) = (HasIndexedLength entries text → ⊥) × (length text < 2 ^ 64)
+IsLengthFault entries text (Stale (Some k)) = ⊥
+IsLengthFault entries text Device = Unit {0}
+IsLengthFault entries text OutOfMemory = Unit {0}
