@@ -14,7 +14,6 @@ use Rattle.archive_core.specs.declared.slices.SliceFacts.{SliceFacts}
 use Rattle.archive_core.specs.Valid.{IsCheckedOf}
 use Rattle.archive_core.specs.Record.{IsOperation, record_bytes, IsRecord, Admits, Retires}
 use Rattle.archive_core.specs.Content.{Operations, IsMade, is_covered}
-use Rattle.archive_core.specs.Part.{part}
 use Rattle.archive_records.specs.declared.format.Format.{Format}
 use Rattle.archive_records.specs.declared.format.Format.TheVariants.{Archive, OldArchive, Operations as Operations_file}
 use Rattle.archive_records.specs.declared.format.Format.TheVariants.{Summary as Summary_file}
@@ -345,9 +344,3 @@ pub record IsGathered {T : Type 0} (file : TextKind) (Makes : List (List ℕ) �
   pub ordered : InOrder format [] records
   pub apart : AreApart format records
   pub makes : Makes (taken_of format records) value
-
--- The text of an archive was read, and this is the part of its content that is picked.
-pub record IsPartReadTo (a b : Option (List ℕ)) (picks : List ℕ → Bool) (o : Operations) : Type 0 where
-  pub whole : Operations
-  pub read : IsReadTo Archive_text a b whole
-  pub kept : o ≡ part whole picks
