@@ -17,7 +17,6 @@ use Rattle.archive_records.specs.declared.writing.Sizes.{Sizes}
 use Rattle.archive_records.specs.Kind.{kind_of, magic, magic_of}
 use Rattle.archive_records.specs.Reader.{IsGathered, set_of}
 use Rattle.archive_records.specs.Text.{end_record, ending, missing, written, taken_of, InOrder, IsArchiveOf}
-use Rattle.archive_records.specs.Writing.{IsWrittenWhole}
 use Rattle.byte_device.specs.Devices.{stream}
 use Rattle.byte_device.specs.Writes.{WritesFirst}
 use Rattle.archive_records.proofs.Ends.{length-end_record}
