@@ -16,12 +16,12 @@ use Rattle.archive_records.specs.declared.kind.TextKind.TheVariants.{Archive as 
 use Rattle.archive_records.specs.Kind.{kind_of, magic, magic_of, archive_format}
 use Rattle.archive_records.specs.Text.{written, text_of}
 use Rattle.archive_records.specs.Reading.{IsReadWhole}
-use Rattle.archive_records.specs.Reader.{Position, HasRead, HasStopped, IsReadTo, set_of}
+use Rattle.archive_records.specs.Reader.{Position, HasRead, HasStopped, set_of}
 use Rattle.archive_records.proofs.Puts.{bytes_same}
 use Rattle.archive_records.proofs.Apart.{apart_none}
 use Rattle.archive_records.proofs.Contents.{sorted-InOrder, written-records}
 use Rattle.archive_records.proofs.Formats.{format_magic}
-use Rattle.archive_records.proofs.Inputs.{read_whole, refused as record_refused}
+use Rattle.archive_records.proofs.Inputs.{IsReadTo, read_whole, refused as record_refused}
 use Rattle.archive_records.proofs.Undecided.{cut_off}
 use Rattle.archive_records.specs.Fault.{next}
 use Rattle.archive_records.specs.Layout.{framed}
@@ -107,7 +107,7 @@ module _ {R : Type 0} (left : R → Option (List ℕ)) (failures : R → ℕ) (o
   unfolding index
   indexed entries made p end unfailed is =
       let content = set_of p.records in
-      let read : IsReadTo Archive_text (left old) (left new) content = record { format = Archive; kind_is = refl; records = p.records; few = p.few; taken = p.taken; ordered = p.ordered; apart = p.apart; content = refl } in
+      let read : IsReadTo Archive_text (left old) (left new) content = record { format = Archive; kind_is = refl; records = p.records; few = p.few; taken = p.taken; ordered = p.ordered; apart = p.apart; makes = refl } in
       let whole : IsReadWhole Archive_text content left failures old new = read_whole Archive_text content left failures old new read end unfailed in
       record {
         content = content;

@@ -21,7 +21,7 @@ use Rattle.archive_records.specs.Text.{ending, text_of, InOrder, AreApart, last_
 use Rattle.archive_records.specs.Fault.{is_end, FailsBehind, Fails, IsMagicFault, IsFaultBehind, IsUnended, IsOperationsFault, IsSummaryFault, IsFaultOf, IsCutAtMost, IsOfText}
 use Rattle.archive_records.specs.Front.{IsGoodFront, IsFrontLengthOf, IsLongestLengthOf, IsFrontLength, IsLongestLength, front_length}
 use Rattle.archive_records.specs.Reading.{Blames, StandsBehind, DecidesNoFault, HoldsOfTaken, IsMeaning, IsOfMachine, IsReadFront, IsReadWhole, IsRefused, IsTextOf, Meaning, ReadsFront, ReadsWhole}
-use Rattle.archive_records.specs.Reader.{seen_as, StopsInMagic, Stops, Stopped, HasStopped, IsReadTo, AreRead}
+use Rattle.archive_records.specs.Reader.{seen_as, StopsInMagic, Stops, Stopped, HasStopped, IsGathered}
 use Rattle.archive_records.proofs.Grown.{Fails-grows, IsTrailing-grows}
 use Rattle.archive_records.proofs.Longest.{Goes, end-stops, is_longest}
 use Rattle.archive_records.proofs.Puts.{bytes_same, length_written}
@@ -38,6 +38,17 @@ use Rattle.std.specs.Ordering.{nat_cmp}
 use Rattle.std.specs.Cmp.Lexicographic.{slice_cmp}
 use Rattle.archive_records.specs.declared.format.Format.{Format}
 use Rattle.archive_records.specs.declared.format.Format.TheVariants.{Archive, OldArchive, Operations as Operations_file, Summary as Summary_file}
+
+-- the text of such a file was read, and those of its records or entries that are taken make the set
+abbrev pub IsReadTo : TextKind → Option (List ℕ) → Option (List ℕ) → Operations → Type 0
+IsReadTo file a b o = IsGathered file (λ (records : List (List ℕ)) (made : Operations). made ≡ set.from_list records) a b o
+
+-- The text of these operations was read, to the end of the input.
+pub record AreRead (a b : Option (List ℕ)) (operations : List Operation) : Type 0 where
+  pub few : length operations < 2 ^ 63
+  pub taken : Consumes a b (text_of Operations_file (map record_bytes operations))
+  pub at_end : IsAtEnd b
+  pub are : All IsOperation operations
 
 of_text : (kind : RecordFaultKind) → IsOfText kind ⊎ ((kind ≡ Device) ⊎ (kind ≡ OutOfMemory))
 of_text Device = inr (inl refl)
@@ -71,7 +82,7 @@ part_or_not Covered = inr (λ e. cc)
 
 -- what was read is a text of the content
 read_form : (a b : Option (List ℕ)) (o : Operations) (r : IsReadTo Archive_text a b o) → Formed o (text_of r.format r.records)
-read_form a b o r = record { format = r.format; archive = r.kind_is; records = r.records; ordered = r.ordered; apart = r.apart; whole = refl; content = r.content }
+read_form a b o r = record { format = r.format; archive = r.kind_is; records = r.records; ordered = r.ordered; apart = r.apart; whole = refl; content = r.makes }
 
 pub IsReadTo-taken : (a b : Option (List ℕ)) (o : Operations) → IsReadTo Archive_text a b o → (text : List ℕ) × IsArchiveOf o text × Consumes a b text
 IsReadTo-taken a b o r = (text_of r.format r.records, formed_text o (text_of r.format r.records) (read_form a b o r), r.taken)
@@ -94,7 +105,7 @@ few_in Summary_file is xs a = absurd (no_summary_text is)
 pub IsReadTo-few : (a b : Option (List ℕ)) (o : Operations) → IsReadTo Archive_text a b o → set.len o < 2 ^ 63
 IsReadTo-few a b o r =
     let few = r.few in
-    let long : set.len o ≤ length r.records = subst (λ (c : Operations). set.len c ≤ length r.records) (sym r.content) (few_in r.format r.kind_is r.records r.ordered) in
+    let long : set.len o ≤ length r.records = subst (λ (c : Operations). set.len c ≤ length r.records) (sym r.makes) (few_in r.format r.kind_is r.records r.ordered) in
     omega arith
 
 all_taken : (a b : Option (List ℕ)) (text : List ℕ) → Consumes a b text → IsAtEnd b → IfSome a (λ t. t ≡ text)
@@ -417,7 +428,7 @@ pub summary_read : (a b : Option (List ℕ)) (s : Entries) → (r : IsReadTo Sum
 summary_read a b s r =
     let is = summary_form r.format r.kind_is in (
       subst (λ (f : Format). InOrder f [] r.records) is r.ordered,
-      r.content ∙ ap (λ (f : Format). set.from_list (taken_of f r.records)) is,
+      r.makes ∙ ap (λ (f : Format). set.from_list (taken_of f r.records)) is,
       subst (λ (f : Format). Consumes a b (text_of f r.records)) is r.taken,
     )
 

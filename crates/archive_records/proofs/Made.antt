@@ -16,14 +16,14 @@ use Rattle.archive_records.specs.declared.kind.TextKind.TheVariants.{Archive as 
 use Rattle.archive_records.specs.Kind.{kind_of}
 use Rattle.archive_records.specs.Text.{ending, text_of, InOrder, taken_of}
 use Rattle.archive_records.specs.Reading.{IsMeaning, IsReadInPart, IsReadWhole, Meaning, ReadsInPart, ReadsWhole, records_in}
-use Rattle.archive_records.specs.Reader.{set_of, IsGathered, IsReadTo}
+use Rattle.archive_records.specs.Reader.{set_of, IsGathered}
 use Rattle.archive_records.proofs.Puts.{bytes_same}
 use Rattle.archive_records.proofs.Apart.{apart_none}
 use Rattle.archive_records.proofs.FaultKinds.{memory_blames}
 use Rattle.archive_records.proofs.Undecided.{cut_text}
 use Rattle.archive_records.proofs.Contents.{sorted-InOrder, sorted-entries, AreEntries-entries}
 use Rattle.archive_records.proofs.Formats.{in_order_old, no_operations_text, no_summary_text, operations_form, summary_form}
-use Rattle.archive_records.proofs.Inputs.{IsReadTo-content, IsSaid, read_whole, refused}
+use Rattle.archive_records.proofs.Inputs.{IsReadTo, IsReadTo-content, IsSaid, read_whole, refused}
 use Rattle.archive_records.proofs.Listed.{operations_in}
 use Rattle.archive_records.proofs.Versions.{kept_set, kept_records}
 
@@ -43,7 +43,7 @@ pub record Says {T : Type 0} (file : TextKind) (Makes : List (List ℕ) → T �
 
 -- the set of the records that are taken was read
 pub read_to : {T : Type 0} {Makes : List (List ℕ) → T → Type 0} {a b : Option (List ℕ)} {value : T} {file : TextKind} (m : IsGathered file Makes a b value) → IsReadTo file a b (set_of (taken_of m.format m.records))
-read_to m = record { format = m.format; kind_is = m.kind_is; records = m.records; few = m.few; taken = m.taken; ordered = m.ordered; apart = m.apart; content = refl }
+read_to m = record { format = m.format; kind_is = m.kind_is; records = m.records; few = m.few; taken = m.taken; ordered = m.ordered; apart = m.apart; makes = refl }
 
 module _ {T : Type 0} (Makes : List (List ℕ) → T → Type 0) (a b : Option (List ℕ)) (value : T) (end : IsAtEnd b) where
   made_by : (rs ss : List (List ℕ)) → ss ≡ rs → Makes rs value → Makes ss value

@@ -13,4 +13,4 @@ returns g c =
     let read = c.in_ok-whole.ensures in
     let m = read.read.2 in
     front_read _ g.R.Source.left g.R.Source.failures c.args.r.now c.read_text.new.r
-    (record { format = read.read.0; kind_is = read.read.1; records = m.records; few = m.read.few; taken = m.read.taken; ordered = m.read.ordered; apart = m.read.apart; content = m.makes }) read.reader
+    (record { format = read.read.0; kind_is = read.read.1; records = m.records; few = m.read.few; taken = m.read.taken; ordered = m.read.ordered; apart = m.read.apart; makes = m.makes }) read.reader
