@@ -1,5 +1,5 @@
 -- An index that is made of the records of an archive that was read.
-use Rattle.std.proofs.Common.{◌≡◌, ℕ, ◌≤◌, List, [], ◌++◌, length, take, map, Option, Some, None, Ok, Err, refl, sym, ap, ◌∙◌, subst, inl, inr, arith, length-take}
+use Rattle.std.proofs.Common.{◌≡◌, ℕ, ◌≤◌, List, [], ◌++◌, length, take, map, Option, Some, None, Err, refl, sym, ap, ◌∙◌, subst, inl, inr, arith, length-take}
 use Rattle.std.specs.Prelude.{IfSome}
 use Rattle.std.specs.List.{concat, AllByRecursion}
 use Rattle.std.specs.FinSet as set
@@ -16,12 +16,12 @@ use Rattle.archive_records.specs.declared.kind.TextKind.TheVariants.{Archive as 
 use Rattle.archive_records.specs.Kind.{kind_of, magic, magic_of, archive_format}
 use Rattle.archive_records.specs.Text.{written, text_of}
 use Rattle.archive_records.specs.Reading.{IsReadWhole}
-use Rattle.archive_records.specs.Reader.{Position, HasRead, HasStopped, IsReadTo, set_of}
+use Rattle.archive_records.specs.Reader.{Position, HasRead, HasStopped, set_of}
 use Rattle.archive_records.proofs.Puts.{bytes_same}
 use Rattle.archive_records.proofs.Apart.{apart_none}
 use Rattle.archive_records.proofs.Contents.{sorted-InOrder, written-records}
 use Rattle.archive_records.proofs.Formats.{format_magic}
-use Rattle.archive_records.proofs.Inputs.{archive_whole}
+use Rattle.archive_records.proofs.Inputs.{IsReadTo, read_whole, refused as record_refused}
 use Rattle.archive_records.proofs.Undecided.{cut_off}
 use Rattle.archive_records.specs.Fault.{next}
 use Rattle.archive_records.specs.Layout.{framed}
@@ -107,8 +107,8 @@ module _ {R : Type 0} (left : R → Option (List ℕ)) (failures : R → ℕ) (o
   unfolding index
   indexed entries made p end unfailed is =
       let content = set_of p.records in
-      let read : IsReadTo Archive_text (left old) (left new) content = record { format = Archive; kind_is = refl; records = p.records; few = p.few; taken = p.taken; ordered = p.ordered; apart = p.apart; content = refl } in
-      let whole : IsReadWhole Archive_text content left failures old new = archive_whole {X = Operations} (λ o. o) left failures old new (Ok content) read end tt unfailed in
+      let read : IsReadTo Archive_text (left old) (left new) content = record { format = Archive; kind_is = refl; records = p.records; few = p.few; taken = p.taken; ordered = p.ordered; apart = p.apart; makes = refl } in
+      let whole : IsReadWhole Archive_text content left failures old new = read_whole Archive_text content left failures old new read end unfailed in
       record {
         content = content;
         whole = whole;
@@ -118,6 +118,6 @@ module _ {R : Type 0} (left : R → Option (List ℕ)) (failures : R → ℕ) (o
 
   -- or why there is none
   pub refused : (fault : IndexingFault) → HasStoppedIndexing (left old) (left new) fault → BlamesIndexing left failures old new fault → RefusesToIndex left failures old new fault
-  refused (Archive_fault fault) stopped blames = archive_whole {X = Operations} (λ o. o) left failures old new (Err fault) tt tt stopped blames
+  refused (Archive_fault fault) stopped blames = record_refused Archive_text left failures old new fault stopped blames
   refused OldArchive stopped blames = (stopped, blames)
   refused TooLong stopped blames = (stopped, blames)

@@ -1,7 +1,5 @@
 -- An archive of which a part is kept.
-use Rattle.std.proofs.Common.{◌≡◌, ℕ, Bool, true, false, ◌&&◌, ◌||◌, List, [], ◌∷◌, ◌++◌, Option, Result, Ok, Err, refl, sym, ap, ◌∙◌}
-use Rattle.std.specs.Prelude.{IfOk, IfErr, OnOk}
-use Rattle.std.specs.Io.KnownBytes.{IsAtEnd}
+use Rattle.std.proofs.Common.{◌≡◌, ℕ, Bool, true, false, ◌&&◌, ◌||◌, List, [], ◌∷◌, ◌++◌, refl, sym, ap, ◌∙◌}
 use Rattle.std.specs.Ordering.{nat_cmp, eq_by_cmp}
 use Rattle.std.specs.Cmp.{Equal-is}
 use Rattle.std.specs.Cmp.Lexicographic.{slice_cmp, nat_list_cmp_total}
@@ -10,13 +8,10 @@ use Rattle.std.specs.FinSet.{same_set, contains-insert, contains-empty}
 use Rattle.archive_core.specs.Content.{Operations, with_record}
 use Rattle.archive_core.specs.Part.{part}
 use Rattle.archive_core.proofs.Picked.{contains_part}
-use Rattle.archive_records.specs.declared.fault.RecordFault.{RecordFault}
 use Rattle.archive_records.specs.declared.kind.TextKind.TheVariants.{Archive as Archive_text}
-use Rattle.archive_records.specs.Reading.{ReadsInPart}
-use Rattle.archive_records.specs.Reader.{FaultBlamesReader, HasStopped, IsPartReadTo, MakeThemselves}
+use Rattle.archive_records.specs.Reader.{MakeThemselves}
 use Rattle.archive_records.proofs.Puts.{bytes_same}
 use Rattle.archive_records.proofs.Apart.{contains-push, part-push}
-use Rattle.archive_records.proofs.Inputs.{archive_whole}
 
 -- ---- one record more
 
@@ -63,15 +58,3 @@ module _ (picks : List ℕ → Bool) (records : List (List ℕ)) (x : List ℕ) 
 pub part_start : (picks : List ℕ → Bool) (o : Operations) → o ≡ set.empty → o ≡ part (set.from_list []) picks
 part_start picks o e = e ∙ same_set nat_list_cmp_total bytes_same set.empty (part (set.from_list []) picks) (λ q.
     contains-empty (slice_cmp nat_cmp) q ∙ sym (contains_part set.empty picks q ∙ ap (λ b. b && picks q) (contains-empty (slice_cmp nat_cmp) q)))
-
--- ---- the whole input
-
-pub part_whole : {R X : Type 0} (content : X → Operations) (picks : List ℕ → Bool) (left : R → Option (List ℕ)) (failures : R → ℕ) (old new : R) (r : Result X RecordFault)
-    → IfOk r (λ x. IsPartReadTo (left old) (left new) picks (content x)) → OnOk r (IsAtEnd (left new)) → IfErr r (λ fault. HasStopped Archive_text (left old) (left new) fault) → FaultBlamesReader left failures old new r
-    → ReadsInPart Archive_text (λ x o. content x ≡ part o picks) left failures old new r
-part_whole content picks left failures old new (Ok x) h end stopped blames = record {
-  meaning = h.whole;
-  whole = archive_whole {X = Operations} (λ o. o) left failures old new (Ok h.whole) h.read end tt blames;
-  kept = h.kept;
-}
-part_whole content picks left failures old new (Err fault) h end stopped blames = archive_whole {X = Operations} (λ o. o) left failures old new (Err fault) tt tt stopped blames

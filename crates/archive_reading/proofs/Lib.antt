@@ -4,5 +4,4 @@ pub mod Questioned
 pub mod Sought
 pub mod Stable
 pub mod RowsTold
-pub mod Made
 pub mod Gatherings

@@ -1,5 +1,5 @@
 -- The rows of a name, told record by record.
-use Rattle.std.proofs.Common.{◌≡◌, ◌↔◌, ℕ, ◌<◌, ◌≤◌, ◌^◌, Bool, true, false, cond, ◌==◌, List, [], ◌∷◌, ◌++◌, length, map, drop, Option, Result, Ok, Err, refl, sym, ap, ◌∙◌, subst, arith, inl, inr}
+use Rattle.std.proofs.Common.{◌≡◌, ◌↔◌, ℕ, ◌≤◌, Bool, true, false, cond, ◌==◌, List, [], ◌∷◌, ◌++◌, length, map, drop, refl, sym, ap, ◌∙◌, subst, arith, inl, inr}
 use Rattle.std.specs.Ordering.{on, eq_by_cmp}
 use Rattle.std.specs.declared.cmp.Ordering.TheVariants.{Equal}
 use Rattle.std.specs.Cmp.{IsTotalOrder, Equal-is, on_total}
@@ -19,17 +19,8 @@ use Rattle.archive_core.specs.Record.{admission_record, Admits, Retires, IsRecor
 use Rattle.archive_core.proofs.NameOrder.{name_total, rows_same}
 use Rattle.archive_core.proofs.Members.{in_map, to_map, in_flat_map, to_flat_map, ascending_map}
 use Rattle.archive_core.proofs.Words.{live_in_content}
-use Rattle.std.specs.Prelude.{IfOk, IfErr, OnOk, nat_lt}
-use Rattle.std.specs.Io.KnownBytes.{Consumes, IsAtEnd}
-use Rattle.archive_records.specs.declared.format.Format.{Format}
-use Rattle.archive_records.specs.Kind.{kind_of}
-use Rattle.archive_records.specs.Text.{text_of, InOrder, AreApart, taken_of}
-use Rattle.archive_records.specs.declared.fault.RecordFault.{RecordFault}
-use Rattle.archive_records.specs.declared.kind.TextKind.TheVariants.{Archive as Archive_text}
-use Rattle.archive_records.specs.Reading.{ReadsInPart}
-use Rattle.archive_records.specs.Reader.{FaultBlamesReader, HasStopped, IsReadTo}
-use Rattle.archive_reading.specs.InnerNames.{names_of, names_among, AreNamesReadTo}
-use Rattle.archive_records.proofs.Inputs.{archive_whole, IsReadTo-content}
+use Rattle.std.specs.Prelude.{nat_lt}
+use Rattle.archive_reading.specs.InnerNames.{names_of, names_among}
 use Rattle.archive_records.proofs.Apart.{in_set, from_set}
 use Rattle.archive_records.proofs.Forms.{parts-of, tag-retirement}
 
@@ -137,31 +128,7 @@ module _ (o : Operations) (name : List ℕ) (records : List (List ℕ)) (content
     );
   }
 
--- ---- the whole input
-
 -- the rows of no record
 pub names_start : (name : List ℕ) → [] ≡ names_among name []
 unfolding names_among
 names_start name = refl
-
--- what was read of the text, and the rows of its records, put in order
-pub names_read : (a b : Option (List ℕ)) (name : List ℕ) (format : Format) (records : List (List ℕ)) → kind_of format ≡ Archive_text → length records < 2 ^ 63 → Consumes a b (text_of format records) → InOrder format [] records → AreApart format records
-    → (gathered rows : List NameRecord) → gathered ≡ names_among name (taken_of format records) → IsStrictlySortedBy name_cmp rows → ((row : NameRecord) → Contains rows row ↔ Contains gathered row) → AreNamesReadTo a b name rows
-names_read a b name format records kind_is few taken ordered apart gathered rows are ascending same =
-    let o : Operations = set.from_list (taken_of format records) in
-    let read : IsReadTo Archive_text a b o = record { format = format; kind_is = kind_is; records = records; few = few; taken = taken; ordered = ordered; apart = apart; content = refl } in
-    record {
-      content = o;
-      read = read;
-      names = names_put o name (taken_of format records) (IsReadTo-content a b o read) refl gathered rows are ascending same;
-    }
-
-pub names_whole : {R X : Type 0} (rows : X → List NameRecord) (name : List ℕ) (left : R → Option (List ℕ)) (failures : R → ℕ) (old new : R) (r : Result X RecordFault)
-    → IfOk r (λ x. AreNamesReadTo (left old) (left new) name (rows x)) → OnOk r (IsAtEnd (left new)) → IfErr r (λ fault. HasStopped Archive_text (left old) (left new) fault) → FaultBlamesReader left failures old new r
-    → ReadsInPart Archive_text (λ x o. IsNames o name (rows x)) left failures old new r
-names_whole rows name left failures old new (Ok x) h end stopped blames = record {
-  meaning = h.content;
-  whole = archive_whole {X = Operations} (λ o. o) left failures old new (Ok h.content) h.read end tt blames;
-  kept = h.names;
-}
-names_whole rows name left failures old new (Err fault) h end stopped blames = archive_whole {X = Operations} (λ o. o) left failures old new (Err fault) tt tt stopped blames

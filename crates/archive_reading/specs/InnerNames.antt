@@ -1,10 +1,8 @@
 -- What is told of a name as records are read: the words of inner functions. No contract of a public one has them.
-use Rattle.std.specs.Prelude.{ℕ, List, [], drop, filter, not, Option, if◌then◌else◌}
+use Rattle.std.specs.Prelude.{ℕ, List, [], drop, filter, not, if◌then◌else◌}
 use Rattle.std.specs.List.{flat_map}
-use Rattle.archive_core.specs.Content.{Operations, is_admission}
-use Rattle.archive_core.specs.Names.{IsNames, NameRecord, names_in}
-use Rattle.archive_records.specs.declared.kind.TextKind.TheVariants.{Archive}
-use Rattle.archive_records.specs.Reader.{IsReadTo}
+use Rattle.archive_core.specs.Content.{is_admission}
+use Rattle.archive_core.specs.Names.{NameRecord, names_in}
 
 -- the rows of a name in what a record admits: a slice stands behind 33 bytes of an admission
 unfoldable pub names_of : List ℕ → List ℕ → List NameRecord
@@ -17,9 +15,3 @@ names_among name records = flat_map (names_of name) records
 -- the retirements among records, in their order
 unfoldable pub retirements_among : List (List ℕ) → List (List ℕ)
 retirements_among records = filter (λ r. not (is_admission r)) records
-
--- The text of an archive was read, and these are the rows of the name in its content.
-pub record AreNamesReadTo (a b : Option (List ℕ)) (name : List ℕ) (rows : List NameRecord) : Type 0 where
-  pub content : Operations
-  pub read : IsReadTo Archive a b content
-  pub names : IsNames content name rows

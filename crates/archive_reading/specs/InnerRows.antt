@@ -1,14 +1,11 @@
 -- What is made of the records of an archive one by one: the words of the inner functions. No contract of a public one
 -- has them.
-use Rattle.std.specs.Prelude.{◌≡◌, ℕ, List, Option, map, All}
+use Rattle.std.specs.Prelude.{◌≡◌, ℕ, List, map, All}
 use Rattle.archive_core.specs.Key.{IsKey}
 use Rattle.archive_core.specs.Record.{record_bytes, IsOperation}
-use Rattle.archive_core.specs.Content.{Operations}
 use Rattle.archive_core.specs.Find.{key_in, row_of}
 use Rattle.archive_core.specs.declared.find.FindRow.{FindRow}
 use Rattle.archive_core.specs.declared.operations.Operation.{Operation}
-use Rattle.archive_records.specs.declared.kind.TextKind.TheVariants.{Archive}
-use Rattle.archive_records.specs.Reader.{IsReadTo}
 
 -- the row of the operation whose record these bytes are
 pub record IsRowOf (bytes : List ℕ) (row : FindRow) : Type 0 where
@@ -25,9 +22,3 @@ pub record AreRowsOf (records : List (List ℕ)) (rows : List FindRow) : Type 0 
   pub keys_are : All (λ operation. IsKey (key_in operation)) operations
   pub records_are : map record_bytes operations ≡ records
   pub rows_are : rows ≡ map row_of operations
-
--- The text of an archive was read, and this holds of its content.
-pub record HasReadContent (a b : Option (List ℕ)) (Holds : Operations → Type 0) : Type 0 where
-  pub content : Operations
-  pub read : IsReadTo Archive a b content
-  pub holds : Holds content

@@ -1,23 +1,20 @@
 //! Questions under keys, answered in one pass over an archive.
 
-ghost use Rattle.std.specs.Prelude.{◌≡◌, ◌++◌, ◌∷◌, [], ℕ, List, Option, Some, IfOk, IfErr, OnOk, drop, false, length};
+ghost use Rattle.std.specs.Prelude.{◌≡◌, [], ℕ, List, Option, Some, OnOk, drop, false, length};
 ghost use Rattle.std.specs.Prelude.{if◌then◌else◌, option_map};
 ghost use Rattle.std.specs.FinSet as set;
 ghost use Rattle.std.specs.Option.{ForSome};
-ghost use Rattle.std.specs.Io.KnownBytes.{IsAtEnd};
 ghost use Rattle.archive_core.specs.Content.{Operations};
 ghost use Rattle.archive_core.specs.Key.{key_bytes};
 ghost use Rattle.archive_core.specs.declared.keys.SliceKey.{SliceKey};
 ghost use Rattle.archive_records.specs.declared.kind.TextKind.TheVariants.{Archive};
 ghost use Rattle.archive_reading.specs.InnerKeys.{AreAsked, Begins, is_first, is_passed};
-ghost use Rattle.archive_reading.specs.InnerRows.{HasReadContent};
 ghost use Rattle.archive_reading.specs.Keys.{AnswersAs, AreInOrder, first_key};
-ghost use Rattle.archive_records.specs.Reader.{FaultBlamesReader, HasStopped};
 ghost use Rattle.archive_records.specs.Reading.{ReadsInPart};
 
 use crate::reading::take_record;
 use archive_core::{Archive, SliceFacts, SliceKey};
-use archive_records::{FromRecords, MAGIC_LEN, RecordFault, TextKind, key_front, read_records};
+use archive_records::{FromRecords, RecordFault, TextKind, key_front, tell_text};
 use byte_device::Source;
 use memory::{Heap, NoMemory};
 
@@ -115,18 +112,30 @@ fn answer_passed<A: Archive + Drop, Q: Questions>(
     Ok(())
 }
 
-impl<A: Archive + Drop, Q: Questions> FromRecords for Asked<A, Q> {
-    ghost use Rattle.std.specs.Prelude.{⊤};
+impl<A: Archive + Drop, Q: Questions + Drop> FromRecords for Asked<A, Q> {
+    ghost use Rattle.std.specs.Prelude.{⊤, ◌≡◌, []};
+    ghost use Rattle.archive_core.specs.Content.{Operations};
     ghost use Rattle.archive_records.specs.declared.kind.TextKind.TheVariants.{Archive};
     ghost use Rattle.archive_reading.specs.InnerKeys.{AreAsked};
+    ghost use Rattle.archive_reading.specs.Keys.{AreInOrder};
+
+    type Question = Q;
+
+    type Told = Q;
 
     ghost file = { Archive };
 
-    ghost makes = { λ start records now. AreAsked (λ _. ⊤) (Q.left now.questions)
-        (λ o. Q.answered start.questions o now.questions) (A.content now.held) records };
+    ghost may_ask = { λ questions. AreInOrder (Q.left questions)
+        × ((o : Operations) → Q.answered questions o questions) };
 
-    fn kind() -> TextKind {
-        TextKind::Archive
+    ghost makes = { λ questions records now. AreAsked (λ _. ⊤) (Q.left now.questions)
+        (λ o. Q.answered questions o now.questions) (A.content now.held) records };
+
+    ghost tells = { λ questions told o. (Q.left told ≡ []) × Q.answered questions o told };
+
+    fn begin(heap: Heap, questions: Q) -> Asked<A, Q> {
+        let held = A::empty(heap);
+        Asked { held, questions }
     }
 
     fn take(
@@ -145,34 +154,11 @@ impl<A: Archive + Drop, Q: Questions> FromRecords for Asked<A, Q> {
         }
         take_record(&mut self.held, heap, bytes, found)
     }
-}
 
-/// Reads a whole input as the text of an archive, and answers the questions. What is said is of the bytes that were
-/// taken.
-fn answer_taken<A: Archive + Drop, Q: Questions + Drop, R: Source>(
-    heap: Heap,
-    questions: Q,
-    r: &mut R,
-) -> Result<Q, RecordFault>
-    requires order { AreInOrder (Q.left questions) }
-    requires start { (o : Operations) → Q.answered questions o questions }
-    ensures read { IfOk result (λ told. HasReadContent (R.left r.old) (R.left r.new)
-        (λ o. (Q.left told ≡ []) × Q.answered questions o told)) }
-    ensures at_end { OnOk result (IsAtEnd (R.left r.new)) }
-    ensures stopped { IfErr result (λ fault. HasStopped Archive (R.left r.old) (R.left r.new) fault) }
-    ensures reader { FaultBlamesReader R.left R.failures r.old r.new result }
-{
-    let Ok(kept) = heap.clone() else {
-        return Err(RecordFault::out_of_memory(0));
-    };
-    let Ok(further) = heap.clone() else {
-        return Err(RecordFault::out_of_memory(0));
-    };
-    let held = A::empty(kept);
-    let mut asked: Asked<A, Q> = read_records(heap, Asked { held, questions }, r)?;
-    match answer_passed(&mut asked, &further, None) {
-        Ok(()) => Ok(asked.questions),
-        Err(NoMemory) => Err(RecordFault::out_of_memory(MAGIC_LEN)),
+    fn finish(self, heap: &Heap) -> Result<Q, NoMemory> {
+        let mut asked = self;
+        answer_passed(&mut asked, heap, None)?;
+        Ok(asked.questions)
     }
 }
 
@@ -195,5 +181,5 @@ pub fn answer_by_key<A: Archive + Drop, Q: Questions + Drop, R: Source>(
     ensures { ReadsInPart Archive (λ told o. (Q.left told ≡ []) × Q.answered questions o told)
         R.left R.failures r.old r.new result }
 {
-    answer_taken::<A, Q, R>(heap, questions, r)
+    tell_text::<Asked<A, Q>, R>(&heap, TextKind::Archive, questions, r)
 }

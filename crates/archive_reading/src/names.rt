@@ -1,26 +1,24 @@
 //! Where symbols of a name stand, told record by record.
 
-ghost use Rattle.std.specs.Prelude.{◌≡◌, ◌↔◌, ◌++◌, map, Contains, IfOk, IfErr, OnOk, false, length, nat_lt};
+ghost use Rattle.std.specs.Prelude.{◌≡◌, ◌↔◌, ◌++◌, map, Contains, OnOk, false, length, nat_lt};
 ghost use Rattle.std.specs.FinSet as set;
 ghost use Rattle.std.specs.List.{AllByRecursion};
 ghost use Rattle.archive_core.specs.Record.{retirement_record};
 ghost use Rattle.archive_records.specs.Entry.{IsEntry, entry_bytes};
-ghost use Rattle.archive_reading.specs.InnerRows.{HasReadContent};
 ghost use Rattle.archive_reading.specs.Names.{AddsNames};
-ghost use Rattle.std.specs.Io.KnownBytes.{IsAtEnd};
 ghost use Rattle.std.specs.List.Sorted.{IsStrictlySortedBy};
 ghost use Rattle.macho_symbols.specs.Found.{named};
 ghost use Rattle.archive_core.specs.Names.{IsNames, NameRecord, name_cmp, names_in};
 ghost use Rattle.archive_records.specs.declared.kind.TextKind.TheVariants.{Archive};
-ghost use Rattle.archive_reading.specs.InnerNames.{AreNamesReadTo, names_of};
+ghost use Rattle.archive_reading.specs.InnerNames.{names_of};
 ghost use Rattle.archive_core.specs.Names.{owned_name_view};
-ghost use Rattle.archive_records.specs.Reader.{FaultBlamesReader, HasStopped, IsFound, set_of};
+ghost use Rattle.archive_records.specs.Reader.{IsFound, set_of};
 ghost use Rattle.archive_records.specs.Reading.{ReadsInPart};
 
 use crate::summarizing::entry_of;
 use archive_core::{CheckedSlice, OwnedNameRow, SliceFacts};
 use archive_records::{
-    ADMISSION_HEAD_LEN, Entry, FromRecords, RecordFault, Summary, TextKind, read_records,
+    ADMISSION_HEAD_LEN, Entry, FromRecords, RecordFault, Summary, TextKind, tell_text,
 };
 use byte_device::Source;
 use memory::{Heap, NoMemory};
@@ -77,40 +75,6 @@ fn push_names(
     push_rows(rows, heap, &slice, name)
 }
 
-/// The rows of a name, as the records come that tell them.
-#[derive(Drop)]
-struct Told<'n> {
-    rows: Vec<OwnedNameRow, Heap>,
-    name: &'n [u8],
-}
-
-impl<'n> FromRecords for Told<'n> {
-    ghost use Rattle.std.specs.Prelude.{◌≡◌, map};
-    ghost use Rattle.archive_core.specs.Names.{owned_name_view};
-    ghost use Rattle.archive_reading.specs.InnerNames.{names_among};
-    ghost use Rattle.archive_records.specs.declared.kind.TextKind.TheVariants.{Archive};
-
-    ghost file = { Archive };
-
-    ghost makes = { λ start records now. (now.name.now ≡ start.name.now)
-        × (map owned_name_view now.rows.items ≡ names_among start.name.now records) };
-
-    fn kind() -> TextKind
-        ensures { result ≡ Archive }
-    {
-        TextKind::Archive
-    }
-
-    fn take(
-        &mut self,
-        heap: &Heap,
-        bytes: &[u8],
-        found: Option<SliceFacts>,
-    ) -> Result<(), NoMemory> {
-        push_names(&mut self.rows, heap, bytes, found, self.name)
-    }
-}
-
 /// Puts rows in order, and leaves each once.
 fn put_names_in_order(rows: &mut Vec<OwnedNameRow, Heap>)
     ensures ascending { IsStrictlySortedBy name_cmp (map owned_name_view rows.new.items) }
@@ -121,27 +85,49 @@ fn put_names_in_order(rows: &mut Vec<OwnedNameRow, Heap>)
     rows.dedup_by(|a, b| a.lend().compare(&b.lend()).is_eq());
 }
 
-/// Reads a whole input as the text of an archive, of which the rows of a name are kept. What is said is of the bytes
-/// that were taken.
-fn tell_taken<R: Source>(
-    heap: Heap,
-    name: &[u8],
-    r: &mut R,
-) -> Result<Vec<OwnedNameRow, Heap>, RecordFault>
-    ensures read { IfOk result (λ rows.
-        AreNamesReadTo (R.left r.old) (R.left r.new) name.now (map owned_name_view rows.items)) }
-    ensures at_end { OnOk result (IsAtEnd (R.left r.new)) }
-    ensures stopped { IfErr result (λ fault. HasStopped Archive (R.left r.old) (R.left r.new) fault) }
-    ensures reader { FaultBlamesReader R.left R.failures r.old r.new result }
-{
-    let Ok(kept) = heap.clone() else {
-        return Err(RecordFault::out_of_memory(0));
-    };
-    let rows = Vec::new(kept);
-    let told = read_records(heap, Told { rows, name }, r)?;
-    let mut rows = told.rows;
-    put_names_in_order(&mut rows);
-    Ok(rows)
+/// The rows of a name, as the records come that tell them.
+#[derive(Drop)]
+struct NameRows<'n> {
+    rows: Vec<OwnedNameRow, Heap>,
+    name: &'n [u8],
+}
+
+impl<'n> FromRecords for NameRows<'n> {
+    ghost use Rattle.std.specs.Prelude.{◌≡◌, map};
+    ghost use Rattle.archive_core.specs.Names.{IsNames, owned_name_view};
+    ghost use Rattle.archive_reading.specs.InnerNames.{names_among};
+    ghost use Rattle.archive_records.specs.declared.kind.TextKind.TheVariants.{Archive};
+
+    type Question = &'n [u8];
+
+    type Told = Vec<OwnedNameRow, Heap>;
+
+    ghost file = { Archive };
+
+    ghost makes = { λ name records now. (now.name.now ≡ name.now)
+        × (map owned_name_view now.rows.items ≡ names_among name.now records) };
+
+    ghost tells = { λ name rows o. IsNames o name.now (map owned_name_view rows.items) };
+
+    fn begin(heap: Heap, name: &'n [u8]) -> NameRows<'n> {
+        let rows = Vec::new(heap);
+        NameRows { rows, name }
+    }
+
+    fn take(
+        &mut self,
+        heap: &Heap,
+        bytes: &[u8],
+        found: Option<SliceFacts>,
+    ) -> Result<(), NoMemory> {
+        push_names(&mut self.rows, heap, bytes, found, self.name)
+    }
+
+    fn finish(self, _heap: &Heap) -> Result<Vec<OwnedNameRow, Heap>, NoMemory> {
+        let mut rows = self.rows;
+        put_names_in_order(&mut rows);
+        Ok(rows)
+    }
 }
 
 /// Reads an archive, and gives a row for each place where a symbol of the name stands in a live slice, as
@@ -160,7 +146,7 @@ pub fn read_names<R: Source>(
     ensures { ReadsInPart Archive (λ rows o. IsNames o sought.now (map owned_name_view rows.items))
         R.left R.failures r.old r.new result }
 {
-    tell_taken(heap, sought, r)
+    tell_text::<NameRows<'_>, R>(&heap, TextKind::Archive, sought, r)
 }
 
 /// What is told of a name in archives so far, of which none is kept.
@@ -184,7 +170,12 @@ impl<'n> FromRecords for Gathering<'n> {
     ghost use Rattle.archive_core.specs.Names.{owned_name_view};
     ghost use Rattle.archive_records.specs.Entry.{entry_bytes};
     ghost use Rattle.archive_reading.specs.InnerNames.{names_among, retirements_among};
+    ghost use Rattle.archive_reading.specs.Names.{AddsNames};
     ghost use Rattle.archive_records.specs.declared.kind.TextKind.TheVariants.{Archive};
+
+    type Question = Gathering<'n>;
+
+    type Told = NamesFound;
 
     ghost file = { Archive };
 
@@ -194,10 +185,10 @@ impl<'n> FromRecords for Gathering<'n> {
         × (map entry_bytes now.found.retired.items
         ≡ map entry_bytes start.found.retired.items ++ retirements_among records) };
 
-    fn kind() -> TextKind
-        ensures { result ≡ Archive }
-    {
-        TextKind::Archive
+    ghost tells = { λ start now o. AddsNames o start.name.now start.found now };
+
+    fn begin(_heap: Heap, question: Gathering<'n>) -> Gathering<'n> {
+        question
     }
 
     fn take(
@@ -212,24 +203,10 @@ impl<'n> FromRecords for Gathering<'n> {
         }
         push_names(&mut self.found.rows, heap, bytes, found, self.name)
     }
-}
 
-/// Reads a whole input as the text of an archive, and adds what it tells of a name. What is said is of the bytes that
-/// were taken.
-fn gather_taken<R: Source>(
-    heap: Heap,
-    found: NamesFound,
-    name: &[u8],
-    r: &mut R,
-) -> Result<NamesFound, RecordFault>
-    ensures read { IfOk result (λ now.
-        HasReadContent (R.left r.old) (R.left r.new) (λ o. AddsNames o name.now found now)) }
-    ensures at_end { OnOk result (IsAtEnd (R.left r.new)) }
-    ensures stopped { IfErr result (λ fault. HasStopped Archive (R.left r.old) (R.left r.new) fault) }
-    ensures reader { FaultBlamesReader R.left R.failures r.old r.new result }
-{
-    let gathered = read_records(heap, Gathering { found, name }, r)?;
-    Ok(gathered.found)
+    fn finish(self, _heap: &Heap) -> Result<NamesFound, NoMemory> {
+        Ok(self.found)
+    }
 }
 
 /// Reads an archive, and adds what its join with others needs of it to tell a name: its rows of the name, and what it
@@ -248,7 +225,11 @@ pub fn gather_names<R: Source>(
 ) -> Result<NamesFound, RecordFault>
     ensures { ReadsInPart Archive (λ now o. AddsNames o sought.now found now) R.left R.failures r.old r.new result }
 {
-    gather_taken(heap, found, sought, r)
+    let start = Gathering {
+        found,
+        name: sought,
+    };
+    tell_text::<Gathering<'_>, R>(&heap, TextKind::Archive, start, r)
 }
 
 /// The rows whose slices are not retired, in the order of [`read_names`], each once.

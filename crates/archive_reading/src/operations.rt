@@ -1,33 +1,13 @@
 //! Operations files that are read from a source.
 
-ghost use Rattle.std.specs.Prelude.{◌≡◌, ◌∷◌, ◌++◌, [], OnOk, IfOk, IfErr};
-ghost use Rattle.archive_core.specs.declared.operations.Operation.{Operation};
-ghost use Rattle.archive_core.specs.Record.{record_bytes, IsOperation};
 ghost use Rattle.archive_records.specs.declared.kind.TextKind.TheVariants.{Operations};
 ghost use Rattle.archive_records.specs.Reading.{ReadsWhole};
-ghost use Rattle.archive_records.specs.Reader.{FaultBlamesReader, HasStopped, IsFound, AreRead};
 
 use crate::reading::operation_of;
 use archive_core::{Operation, SliceFacts};
-use archive_records::{FromRecords, RecordFault, TextKind, read_records};
+use archive_records::{FromRecords, RecordFault, TextKind, tell_text};
 use byte_device::Source;
 use memory::{Heap, NoMemory};
-
-/// Adds the operation of a record to the list.
-fn push_record(
-    operations: &mut Vec<Operation, Heap>,
-    heap: &Heap,
-    bytes: &[u8],
-    found: Option<SliceFacts>,
-) -> Result<(), NoMemory>
-    requires { IsFound bytes.now found }
-    ensures { OnOk result ((operation : Operation) × (operations.new.items ≡ operations.old.items ++ operation ∷ [])
-        × IsOperation operation × (record_bytes operation ≡ bytes.now)) }
-{
-    let operation = operation_of(heap.clone()?, bytes, found)?;
-    operations.push(operation)?;
-    Ok(())
-}
 
 /// Operations, one after another.
 #[derive(Drop)]
@@ -38,12 +18,18 @@ impl FromRecords for Listed {
     ghost use Rattle.archive_core.specs.Record.{record_bytes, IsOperation};
     ghost use Rattle.archive_records.specs.declared.kind.TextKind.TheVariants.{Operations};
 
+    type Question = ();
+
+    type Told = Vec<Operation, Heap>;
+
     ghost file = { Operations };
 
-    ghost makes = { λ start records now. All IsOperation now.0.items × (map record_bytes now.0.items ≡ records) };
+    ghost makes = { λ _ records now. All IsOperation now.0.items × (map record_bytes now.0.items ≡ records) };
 
-    fn kind() -> TextKind {
-        TextKind::Operations
+    ghost tells = { λ _ told operations. told.items ≡ operations };
+
+    fn begin(heap: Heap, _question: ()) -> Listed {
+        Listed(Vec::new(heap))
     }
 
     fn take(
@@ -52,21 +38,14 @@ impl FromRecords for Listed {
         bytes: &[u8],
         found: Option<SliceFacts>,
     ) -> Result<(), NoMemory> {
-        push_record(&mut self.0, heap, bytes, found)
+        let operation = operation_of(heap.clone()?, bytes, found)?;
+        self.0.push(operation)?;
+        Ok(())
     }
-}
 
-/// Reads a whole input as operations. What is said is of the bytes that were taken.
-fn operations_taken<R: Source>(heap: Heap, r: &mut R) -> Result<Vec<Operation, Heap>, RecordFault>
-    ensures read { IfOk result (λ operations. AreRead (R.left r.old) (R.left r.new) operations.items) }
-    ensures stopped { IfErr result (λ fault. HasStopped Operations (R.left r.old) (R.left r.new) fault) }
-    ensures reader { FaultBlamesReader R.left R.failures r.old r.new result }
-{
-    let Ok(kept) = heap.clone() else {
-        return Err(RecordFault::out_of_memory(0));
-    };
-    let listed = read_records(heap, Listed(Vec::new(kept)), r)?;
-    Ok(listed.0)
+    fn finish(self, _heap: &Heap) -> Result<Vec<Operation, Heap>, NoMemory> {
+        Ok(self.0)
+    }
 }
 
 /// Reads an operations file: the magic `MSYMOPS1`, and retirements and admissions in any order and with repeats up to
@@ -81,5 +60,5 @@ fn operations_taken<R: Source>(heap: Heap, r: &mut R) -> Result<Vec<Operation, H
 pub fn read_ops<R: Source>(heap: Heap, r: &mut R) -> Result<Vec<Operation, Heap>, RecordFault>
     ensures { ReadsWhole Operations (λ operations. operations.items) R.left R.failures r.old r.new result }
 {
-    operations_taken(heap, r)
+    tell_text::<Listed, R>(&heap, TextKind::Operations, (), r)
 }

@@ -1,17 +1,15 @@
 //! Archives of which a part is kept.
 
-ghost use Rattle.std.specs.Prelude.{◌≡◌, ℕ, List, Bool, OnOk, IfOk, IfErr};
+ghost use Rattle.std.specs.Prelude.{◌≡◌, ℕ, List, Bool};
 ghost use Rattle.std.specs.FinSet as set;
-ghost use Rattle.std.specs.Io.KnownBytes.{IsAtEnd};
 ghost use Rattle.archive_core.specs.Record.{IsRecord};
 ghost use Rattle.archive_core.specs.Part.{is_under, part};
 ghost use Rattle.archive_records.specs.declared.kind.TextKind.TheVariants.{Archive};
 ghost use Rattle.archive_records.specs.Reading.{ReadsInPart};
-ghost use Rattle.archive_records.specs.Reader.{FaultBlamesReader, HasStopped, IsPartReadTo};
 
 use crate::reading::take_record;
 use archive_core::{Archive, SliceFacts};
-use archive_records::{FromRecords, RecordFault, TextKind, read_records};
+use archive_records::{FromRecords, RecordFault, TextKind, tell_text};
 use byte_device::Source;
 use memory::{Heap, NoMemory};
 
@@ -46,19 +44,26 @@ struct Part<'a, A, S> {
     select: &'a S,
 }
 
-impl<'a, A: Archive, S: Selects> FromRecords for Part<'a, A, S> {
+impl<'a, A: Archive + Drop, S: Selects> FromRecords for Part<'a, A, S> {
     ghost use Rattle.std.specs.Prelude.{◌≡◌};
     ghost use Rattle.std.specs.FinSet as set;
     ghost use Rattle.archive_core.specs.Part.{part};
     ghost use Rattle.archive_records.specs.declared.kind.TextKind.TheVariants.{Archive};
 
+    type Question = &'a S;
+
+    type Told = A;
+
     ghost file = { Archive };
 
-    ghost makes = { λ start records now. (S.picked now.select.now ≡ S.picked start.select.now)
-        × (A.content now.archive ≡ part (set.from_list records) (S.picked start.select.now)) };
+    ghost makes = { λ select records now. (S.picked now.select.now ≡ S.picked select.now)
+        × (A.content now.archive ≡ part (set.from_list records) (S.picked select.now)) };
 
-    fn kind() -> TextKind {
-        TextKind::Archive
+    ghost tells = { λ select archive o. A.content archive ≡ part o (S.picked select.now) };
+
+    fn begin(heap: Heap, select: &'a S) -> Part<'a, A, S> {
+        let archive = A::empty(heap);
+        Part { archive, select }
     }
 
     fn take(
@@ -72,27 +77,10 @@ impl<'a, A: Archive, S: Selects> FromRecords for Part<'a, A, S> {
         }
         take_record(&mut self.archive, heap, bytes, found)
     }
-}
 
-/// Reads a whole input as the text of an archive, of which a part is kept. What is said is of the bytes that were
-/// taken.
-fn read_picked<A: Archive + Drop, S: Selects, R: Source>(
-    heap: Heap,
-    select: &S,
-    r: &mut R,
-) -> Result<A, RecordFault>
-    ensures read { IfOk result (λ archive.
-        IsPartReadTo (R.left r.old) (R.left r.new) (S.picked select.now) (A.content archive)) }
-    ensures at_end { OnOk result (IsAtEnd (R.left r.new)) }
-    ensures stopped { IfErr result (λ fault. HasStopped Archive (R.left r.old) (R.left r.new) fault) }
-    ensures reader { FaultBlamesReader R.left R.failures r.old r.new result }
-{
-    let Ok(kept) = heap.clone() else {
-        return Err(RecordFault::out_of_memory(0));
-    };
-    let archive = A::empty(kept);
-    let part = read_records(heap, Part { archive, select }, r)?;
-    Ok(part.archive)
+    fn finish(self, _heap: &Heap) -> Result<A, NoMemory> {
+        Ok(self.archive)
+    }
 }
 
 /// Reads an archive, and keeps the records that are picked: the whole input is read and tested as by
@@ -110,5 +98,5 @@ pub fn read_part<A: Archive + Drop, S: Selects, R: Source>(
     ensures { ReadsInPart Archive (λ archive o. A.content archive ≡ part o (S.picked select.now))
         R.left R.failures r.old r.new result }
 {
-    read_picked(heap, select, r)
+    tell_text::<Part<'_, A, S>, R>(&heap, TextKind::Archive, select, r)
 }

@@ -1,18 +1,15 @@
 //! Archives that are read from a source.
 
-ghost use Rattle.std.specs.Prelude.{◌≡◌, ◌≢◌, OnOk, IfOk, IfErr};
-ghost use Rattle.std.specs.Io.KnownBytes.{IsAtEnd};
+ghost use Rattle.std.specs.Prelude.{◌≡◌, OnOk, IfOk};
 ghost use Rattle.archive_core.specs.Record.{record_bytes, IsOperation};
 ghost use Rattle.archive_core.specs.Content.{with_record};
-ghost use Rattle.archive_records.specs.declared.fault.RecordFaultKind.TheVariants.{Trailing};
 ghost use Rattle.archive_records.specs.declared.kind.TextKind.TheVariants.{Archive};
 ghost use Rattle.archive_records.specs.Reading.{ReadsWhole, ReadsFront};
-ghost use Rattle.archive_records.specs.Reader.{FaultBlamesReader, HasStopped, IsFound, IsReadTo};
+ghost use Rattle.archive_records.specs.Reader.{IsFound};
 
 use archive_core::{Archive, Operation, Slice, SliceFacts};
 use archive_records::{
-    ADMISSION_HEAD_LEN, FromRecords, RecordFault, TextKind, digest_in, key_in, read_records,
-    read_text,
+    ADMISSION_HEAD_LEN, FromRecords, RecordFault, TextKind, digest_in, key_in, read_text, tell_text,
 };
 use byte_device::Source;
 use memory::{Heap, NoMemory};
@@ -58,12 +55,18 @@ impl<A: Archive> FromRecords for Whole<A> {
     ghost use Rattle.std.specs.FinSet as set;
     ghost use Rattle.archive_records.specs.declared.kind.TextKind.TheVariants.{Archive};
 
+    type Question = ();
+
+    type Told = A;
+
     ghost file = { Archive };
 
-    ghost makes = { λ start records now. A.content now.0 ≡ set.from_list records };
+    ghost makes = { λ _ records now. A.content now.0 ≡ set.from_list records };
 
-    fn kind() -> TextKind {
-        TextKind::Archive
+    ghost tells = { λ _ archive o. A.content archive ≡ o };
+
+    fn begin(heap: Heap, _question: ()) -> Whole<A> {
+        Whole(A::empty(heap))
     }
 
     fn take(
@@ -74,34 +77,10 @@ impl<A: Archive> FromRecords for Whole<A> {
     ) -> Result<(), NoMemory> {
         take_record(&mut self.0, heap, bytes, found)
     }
-}
 
-/// Reads a whole input as the text of an archive. What is said is of the bytes that were taken.
-fn read_whole_archive<A: Archive + Drop, R: Source>(heap: Heap, r: &mut R) -> Result<A, RecordFault>
-    ensures read { IfOk result (λ archive. IsReadTo Archive (R.left r.old) (R.left r.new) (A.content archive)) }
-    ensures at_end { OnOk result (IsAtEnd (R.left r.new)) }
-    ensures stopped { IfErr result (λ fault. HasStopped Archive (R.left r.old) (R.left r.new) fault) }
-    ensures reader { FaultBlamesReader R.left R.failures r.old r.new result }
-{
-    let Ok(kept) = heap.clone() else {
-        return Err(RecordFault::out_of_memory(0));
-    };
-    let whole = read_records(heap, Whole(A::empty(kept)), r)?;
-    Ok(whole.0)
-}
-
-/// Reads the text of an archive from the front of the input. What is said is of the bytes that were taken.
-fn read_first<A: Archive + Drop, R: Source>(heap: Heap, r: &mut R) -> Result<A, RecordFault>
-    ensures read { IfOk result (λ archive. IsReadTo Archive (R.left r.old) (R.left r.new) (A.content archive)) }
-    ensures stopped { IfErr result (λ fault. HasStopped Archive (R.left r.old) (R.left r.new) fault) }
-    ensures no_trailing { IfErr result (λ fault. fault.kind ≢ Trailing) }
-    ensures reader { FaultBlamesReader R.left R.failures r.old r.new result }
-{
-    let Ok(kept) = heap.clone() else {
-        return Err(RecordFault::out_of_memory(0));
-    };
-    let (whole, _) = read_text(heap, Whole(A::empty(kept)), r)?;
-    Ok(whole.0)
+    fn finish(self, _heap: &Heap) -> Result<A, NoMemory> {
+        Ok(self.0)
+    }
 }
 
 /// Reads an archive: the whole input is the one text of its content, or one of version 1 whose operations make this
@@ -120,7 +99,7 @@ fn read_first<A: Archive + Drop, R: Source>(heap: Heap, r: &mut R) -> Result<A, 
 pub fn read_archive<A: Archive + Drop, R: Source>(heap: Heap, r: &mut R) -> Result<A, RecordFault>
     ensures { ReadsWhole Archive A.content R.left R.failures r.old r.new result }
 {
-    read_whole_archive(heap, r)
+    tell_text::<Whole<A>, R>(&heap, TextKind::Archive, (), r)
 }
 
 /// Reads an archive from the front of the input: exactly the bytes of a text that gives it, of either version, and
@@ -133,5 +112,6 @@ pub fn read_archive<A: Archive + Drop, R: Source>(heap: Heap, r: &mut R) -> Resu
 pub fn read_front<A: Archive + Drop, R: Source>(heap: Heap, r: &mut R) -> Result<A, RecordFault>
     ensures { ReadsFront Archive A.content R.left R.failures r.old r.new result }
 {
-    read_first(heap, r)
+    let (whole, _) = read_text::<Whole<A>, R>(&heap, TextKind::Archive, (), r)?;
+    Ok(whole.0)
 }

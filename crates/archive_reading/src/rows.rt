@@ -1,7 +1,6 @@
 //! What a list of an archive tells, record by record.
 
-ghost use Rattle.std.specs.Prelude.{◌≡◌, None, OnOk, IfOk, IfErr};
-ghost use Rattle.std.specs.Io.KnownBytes.{IsAtEnd};
+ghost use Rattle.std.specs.Prelude.{◌≡◌, None, OnOk};
 ghost use Rattle.join_core.specs.Listing.{listing};
 ghost use Rattle.archive_core.specs.Key.{IsKey};
 ghost use Rattle.archive_core.specs.Content.{Operations, IsContent};
@@ -10,13 +9,12 @@ ghost use Rattle.archive_core.specs.Lists.{IsList};
 ghost use Rattle.archive_core.specs.declared.operations.Operation.TheVariants.{Admit};
 ghost use Rattle.archive_records.specs.declared.kind.TextKind.TheVariants.{Archive};
 ghost use Rattle.archive_records.specs.Reading.{ReadsInPart};
-ghost use Rattle.archive_records.specs.Reader.{FaultBlamesReader, HasStopped, IsFound};
-ghost use Rattle.archive_reading.specs.InnerRows.{AreRowsOf, HasReadContent, IsRowOf};
+ghost use Rattle.archive_records.specs.Reader.{IsFound};
+ghost use Rattle.archive_reading.specs.InnerRows.{AreRowsOf, IsRowOf};
 
 use archive_core::{CheckedSlice, FindRow, FindState, SliceFacts, compare_keys};
 use archive_records::{
-    ADMISSION_HEAD_LEN, FromRecords, MAGIC_LEN, RecordFault, TextKind, digest_in, key_in,
-    read_records,
+    ADMISSION_HEAD_LEN, FromRecords, RecordFault, TextKind, digest_in, key_in, tell_text,
 };
 use byte_device::Source;
 use memory::{Heap, NoMemory};
@@ -58,20 +56,36 @@ fn row_in(bytes: &[u8], found: Option<SliceFacts>) -> FindRow
     }
 }
 
+/// Puts rows that come in the order of their records in that of a list: by key, and those of a key as they came.
+fn put_rows_in_order(rows: &mut Vec<FindRow, Heap>) -> Result<(), NoMemory>
+    ensures { OnOk result ((o : Operations) → IsContent o → AreRowsOf (listing o) rows.old.items
+        → IsList o rows.new.items) }
+{
+    rows.sort_by(|a, b| compare_keys(&a.key, &b.key))?;
+    Ok(())
+}
+
 /// Rows, one after another.
 #[derive(Drop)]
 struct Rows(Vec<FindRow, Heap>);
 
 impl FromRecords for Rows {
+    ghost use Rattle.archive_core.specs.Lists.{IsList};
     ghost use Rattle.archive_records.specs.declared.kind.TextKind.TheVariants.{Archive};
     ghost use Rattle.archive_reading.specs.InnerRows.{AreRowsOf};
 
+    type Question = ();
+
+    type Told = Vec<FindRow, Heap>;
+
     ghost file = { Archive };
 
-    ghost makes = { λ start records now. AreRowsOf records now.0.items };
+    ghost makes = { λ _ records now. AreRowsOf records now.0.items };
 
-    fn kind() -> TextKind {
-        TextKind::Archive
+    ghost tells = { λ _ rows o. IsList o rows.items };
+
+    fn begin(heap: Heap, _question: ()) -> Rows {
+        Rows(Vec::new(heap))
     }
 
     fn take(
@@ -83,33 +97,11 @@ impl FromRecords for Rows {
         self.0.push(row_in(bytes, found))?;
         Ok(())
     }
-}
 
-/// Puts rows that come in the order of their records in that of a list: by key, and those of a key as they came.
-fn put_rows_in_order(rows: &mut Vec<FindRow, Heap>) -> Result<(), NoMemory>
-    ensures { OnOk result ((o : Operations) → IsContent o → AreRowsOf (listing o) rows.old.items
-        → IsList o rows.new.items) }
-{
-    rows.sort_by(|a, b| compare_keys(&a.key, &b.key))?;
-    Ok(())
-}
-
-/// Reads a whole input as the text of an archive, of which the rows are kept. What is said is of the bytes that were
-/// taken.
-fn rows_taken<R: Source>(heap: Heap, r: &mut R) -> Result<Vec<FindRow, Heap>, RecordFault>
-    ensures read { IfOk result (λ rows. HasReadContent (R.left r.old) (R.left r.new) (λ o. IsList o rows.items)) }
-    ensures at_end { OnOk result (IsAtEnd (R.left r.new)) }
-    ensures stopped { IfErr result (λ fault. HasStopped Archive (R.left r.old) (R.left r.new) fault) }
-    ensures reader { FaultBlamesReader R.left R.failures r.old r.new result }
-{
-    let Ok(kept) = heap.clone() else {
-        return Err(RecordFault::out_of_memory(0));
-    };
-    let gathered = read_records(heap, Rows(Vec::new(kept)), r)?;
-    let mut rows = gathered.0;
-    match put_rows_in_order(&mut rows) {
-        Ok(()) => Ok(rows),
-        Err(NoMemory) => Err(RecordFault::out_of_memory(MAGIC_LEN)),
+    fn finish(self, _heap: &Heap) -> Result<Vec<FindRow, Heap>, NoMemory> {
+        let mut rows = self.0;
+        put_rows_in_order(&mut rows)?;
+        Ok(rows)
     }
 }
 
@@ -123,5 +115,5 @@ fn rows_taken<R: Source>(heap: Heap, r: &mut R) -> Result<Vec<FindRow, Heap>, Re
 pub fn list_rows<R: Source>(heap: Heap, r: &mut R) -> Result<Vec<FindRow, Heap>, RecordFault>
     ensures { ReadsInPart Archive (λ rows o. IsList o rows.items) R.left R.failures r.old r.new result }
 {
-    rows_taken(heap, r)
+    tell_text::<Rows, R>(&heap, TextKind::Archive, (), r)
 }

@@ -1,18 +1,16 @@
 //! The summary of an archive, record by record.
 
-ghost use Rattle.std.specs.Prelude.{◌≡◌, OnOk, IfOk, IfErr};
-ghost use Rattle.std.specs.Io.KnownBytes.{IsAtEnd};
+ghost use Rattle.std.specs.Prelude.{◌≡◌};
 ghost use Rattle.archive_core.specs.Summary.{entry, summary};
 ghost use Rattle.archive_records.specs.Entry.{entry_bytes};
 ghost use Rattle.archive_records.specs.declared.kind.TextKind.TheVariants.{Archive};
 ghost use Rattle.archive_records.specs.Reading.{ReadsInPart};
-ghost use Rattle.archive_records.specs.Reader.{FaultBlamesReader, HasStopped, IsFound};
-ghost use Rattle.archive_reading.specs.InnerRows.{HasReadContent};
+ghost use Rattle.archive_records.specs.Reader.{IsFound};
 
 use archive_core::SliceFacts;
 use archive_records::{
-    Entry, FromRecords, RecordFault, Summary, TextKind, digest_in, key_in, read_records,
-    slice_digest_in,
+    Entry, FromRecords, RecordFault, Summary, TextKind, digest_in, key_in, slice_digest_in,
+    tell_text,
 };
 use byte_device::Source;
 use memory::{Heap, NoMemory};
@@ -34,16 +32,22 @@ struct Entries(Vec<Entry, Heap>);
 
 impl FromRecords for Entries {
     ghost use Rattle.std.specs.Prelude.{◌≡◌, map};
-    ghost use Rattle.archive_core.specs.Summary.{entry};
+    ghost use Rattle.archive_core.specs.Summary.{entry, summary};
     ghost use Rattle.archive_records.specs.Entry.{entry_bytes};
     ghost use Rattle.archive_records.specs.declared.kind.TextKind.TheVariants.{Archive};
 
+    type Question = ();
+
+    type Told = Summary;
+
     ghost file = { Archive };
 
-    ghost makes = { λ start records now. map entry_bytes now.0.items ≡ map entry records };
+    ghost makes = { λ _ records now. map entry_bytes now.0.items ≡ map entry records };
 
-    fn kind() -> TextKind {
-        TextKind::Archive
+    ghost tells = { λ _ made o. made ≡ summary o };
+
+    fn begin(heap: Heap, _question: ()) -> Entries {
+        Entries(Vec::new(heap))
     }
 
     fn take(
@@ -55,21 +59,10 @@ impl FromRecords for Entries {
         self.0.push(entry_of(bytes, found))?;
         Ok(())
     }
-}
 
-/// Reads a whole input as the text of an archive, of which the entries are kept. What is said is of the bytes that were
-/// taken.
-fn summarize_taken<R: Source>(heap: Heap, r: &mut R) -> Result<Summary, RecordFault>
-    ensures read { IfOk result (λ made. HasReadContent (R.left r.old) (R.left r.new) (λ o. made ≡ summary o)) }
-    ensures at_end { OnOk result (IsAtEnd (R.left r.new)) }
-    ensures stopped { IfErr result (λ fault. HasStopped Archive (R.left r.old) (R.left r.new) fault) }
-    ensures reader { FaultBlamesReader R.left R.failures r.old r.new result }
-{
-    let Ok(kept) = heap.clone() else {
-        return Err(RecordFault::out_of_memory(0));
-    };
-    let gathered = read_records(heap, Entries(Vec::new(kept)), r)?;
-    Ok(Summary::of_entries(gathered.0))
+    fn finish(self, _heap: &Heap) -> Result<Summary, NoMemory> {
+        Ok(Summary::of_entries(self.0))
+    }
 }
 
 /// Reads an archive, and gives the summary of its content. The whole input is read and tested as by
@@ -82,5 +75,5 @@ fn summarize_taken<R: Source>(heap: Heap, r: &mut R) -> Result<Summary, RecordFa
 pub fn summarize<R: Source>(heap: Heap, r: &mut R) -> Result<Summary, RecordFault>
     ensures { ReadsInPart Archive (λ made o. made ≡ summary o) R.left R.failures r.old r.new result }
 {
-    summarize_taken(heap, r)
+    tell_text::<Entries, R>(&heap, TextKind::Archive, (), r)
 }

@@ -1,7 +1,7 @@
 -- From the bytes that were read to the whole input.
-use Rattle.std.proofs.Common.{◌≡◌, ◌≢◌, ℕ, ◌<◌, ◌≤◌, ◌^◌, true, List, [], ◌∷◌, ◌++◌, length, Option, Some, None, Result, Ok, Err, refl, sym, ap, ◌∙◌, subst, arith, inl, inr, ◌⊎◌, append_assoc, length-append}
+use Rattle.std.proofs.Common.{◌≡◌, ◌≢◌, ℕ, ◌<◌, ◌≤◌, ◌^◌, true, List, [], ◌∷◌, ◌++◌, length, Option, Some, None, Err, refl, sym, ap, ◌∙◌, subst, arith, inl, inr, ◌⊎◌, append_assoc, length-append}
 use Rattle.std.proofs.lemmas.List.{append-nil, take-append-le}
-use Rattle.std.specs.Prelude.{IfOk, IfErr, IfSome, OnOk, All, map}
+use Rattle.std.specs.Prelude.{IfSome, All, map}
 use Rattle.std.specs.List.{concat}
 use Rattle.std.specs.Io.KnownBytes.{Consumes, IsAtEnd}
 use Rattle.std.specs.Cmp.Lexicographic.{nat_list_cmp_total}
@@ -20,8 +20,8 @@ use Rattle.archive_records.specs.Kind.{magic_of, kind_of, archive_format, format
 use Rattle.archive_records.specs.Text.{ending, text_of, InOrder, AreApart, last_of, kept, taken_of, IsArchiveOf, summary_text, IsOperationsText}
 use Rattle.archive_records.specs.Fault.{is_end, FailsBehind, Fails, IsMagicFault, IsFaultBehind, IsUnended, IsOperationsFault, IsSummaryFault, IsFaultOf, IsCutAtMost, IsOfText}
 use Rattle.archive_records.specs.Front.{IsGoodFront, IsFrontLengthOf, IsLongestLengthOf, IsFrontLength, IsLongestLength, front_length}
-use Rattle.archive_records.specs.Reading.{Blames, StandsBehind, DecidesNoFault, HoldsOfTaken, IsRefused, IsOfMachine, ReadsWhole, ReadsFront}
-use Rattle.archive_records.specs.Reader.{FaultBlamesReader, seen_as, StopsInMagic, Stops, Stopped, HasStopped, IsReadTo, AreRead}
+use Rattle.archive_records.specs.Reading.{Blames, StandsBehind, DecidesNoFault, HoldsOfTaken, IsMeaning, IsOfMachine, IsReadFront, IsReadWhole, IsRefused, IsTextOf, Meaning, ReadsFront, ReadsWhole}
+use Rattle.archive_records.specs.Reader.{seen_as, StopsInMagic, Stops, Stopped, HasStopped, IsGathered}
 use Rattle.archive_records.proofs.Grown.{Fails-grows, IsTrailing-grows}
 use Rattle.archive_records.proofs.Longest.{Goes, end-stops, is_longest}
 use Rattle.archive_records.proofs.Puts.{bytes_same, length_written}
@@ -38,6 +38,17 @@ use Rattle.std.specs.Ordering.{nat_cmp}
 use Rattle.std.specs.Cmp.Lexicographic.{slice_cmp}
 use Rattle.archive_records.specs.declared.format.Format.{Format}
 use Rattle.archive_records.specs.declared.format.Format.TheVariants.{Archive, OldArchive, Operations as Operations_file, Summary as Summary_file}
+
+-- the text of such a file was read, and those of its records or entries that are taken make the set
+abbrev pub IsReadTo : TextKind → Option (List ℕ) → Option (List ℕ) → Operations → Type 0
+IsReadTo file a b o = IsGathered file (λ (records : List (List ℕ)) (made : Operations). made ≡ set.from_list records) a b o
+
+-- The text of these operations was read, to the end of the input.
+pub record AreRead (a b : Option (List ℕ)) (operations : List Operation) : Type 0 where
+  pub few : length operations < 2 ^ 63
+  pub taken : Consumes a b (text_of Operations_file (map record_bytes operations))
+  pub at_end : IsAtEnd b
+  pub are : All IsOperation operations
 
 of_text : (kind : RecordFaultKind) → IsOfText kind ⊎ ((kind ≡ Device) ⊎ (kind ≡ OutOfMemory))
 of_text Device = inr (inl refl)
@@ -71,7 +82,7 @@ part_or_not Covered = inr (λ e. cc)
 
 -- what was read is a text of the content
 read_form : (a b : Option (List ℕ)) (o : Operations) (r : IsReadTo Archive_text a b o) → Formed o (text_of r.format r.records)
-read_form a b o r = record { format = r.format; archive = r.kind_is; records = r.records; ordered = r.ordered; apart = r.apart; whole = refl; content = r.content }
+read_form a b o r = record { format = r.format; archive = r.kind_is; records = r.records; ordered = r.ordered; apart = r.apart; whole = refl; content = r.makes }
 
 pub IsReadTo-taken : (a b : Option (List ℕ)) (o : Operations) → IsReadTo Archive_text a b o → (text : List ℕ) × IsArchiveOf o text × Consumes a b text
 IsReadTo-taken a b o r = (text_of r.format r.records, formed_text o (text_of r.format r.records) (read_form a b o r), r.taken)
@@ -94,7 +105,7 @@ few_in Summary_file is xs a = absurd (no_summary_text is)
 pub IsReadTo-few : (a b : Option (List ℕ)) (o : Operations) → IsReadTo Archive_text a b o → set.len o < 2 ^ 63
 IsReadTo-few a b o r =
     let few = r.few in
-    let long : set.len o ≤ length r.records = subst (λ (c : Operations). set.len c ≤ length r.records) (sym r.content) (few_in r.format r.kind_is r.records r.ordered) in
+    let long : set.len o ≤ length r.records = subst (λ (c : Operations). set.len c ≤ length r.records) (sym r.makes) (few_in r.format r.kind_is r.records r.ordered) in
     omega arith
 
 all_taken : (a b : Option (List ℕ)) (text : List ℕ) → Consumes a b text → IsAtEnd b → IfSome a (λ t. t ≡ text)
@@ -357,19 +368,6 @@ whole_machine : (a b : Option (List ℕ)) (fault : RecordFault) → HasStopped A
 whole_machine None b fault stopped ended = tt
 whole_machine (Some t) b fault stopped ended = λ p content is. front_machine t b fault p t [] stopped ended (λ _. refl) content is (sym (append-nil t))
 
-pub archive_whole : {R X : Type 0} (content : X → Operations) (left : R → Option (List ℕ)) (failures : R → ℕ) (old new : R) (r : Result X RecordFault)
-    → IfOk r (λ x. IsReadTo Archive_text (left old) (left new) (content x)) → OnOk r (IsAtEnd (left new)) → IfErr r (λ fault. HasStopped Archive_text (left old) (left new) fault) → FaultBlamesReader left failures old new r
-    → ReadsWhole Archive_text content left failures old new r
-archive_whole content left failures old new (Ok x) h end stopped blames = record {
-  is = IsReadTo-content (left old) (left new) (content x) h;
-  few = IsReadTo-few (left old) (left new) (content x) h;
-  text = IsReadTo-text (left old) (left new) (content x) h end;
-  alone = whole_alone (left old) (left new) (content x) h;
-  at_end = end;
-  unfailed = blames;
-}
-archive_whole content left failures old new (Err fault) h end stopped blames = (is_refused Archive_text left failures old new fault stopped blames, whole_machine (left old) (left new) fault stopped blames.2)
-
 front_of : (a b : Option (List ℕ)) (o : Operations) → IsReadTo Archive_text a b o → IfSome a (λ input. (p : Operations) (text rest : List ℕ) → IsContent p → IsArchiveOf p text → input ≡ text ++ rest → (o ≡ p) × (b ≡ Some rest))
 front_of None b o h = tt
 front_of (Some t) b o h = λ p text rest content is input. front_alone t b o p text rest h content is input
@@ -378,17 +376,18 @@ fronts_machine : (a b : Option (List ℕ)) (fault : RecordFault) → HasStopped 
 fronts_machine None b fault stopped ended other = tt
 fronts_machine (Some t) b fault stopped ended other = λ p text rest content is input. front_machine t b fault p text rest stopped ended (λ trailing. absurd (other trailing)) content is input
 
-pub archive_front : {R X : Type 0} (content : X → Operations) (left : R → Option (List ℕ)) (failures : R → ℕ) (old new : R) (r : Result X RecordFault)
-    → IfOk r (λ x. IsReadTo Archive_text (left old) (left new) (content x)) → IfErr r (λ fault. HasStopped Archive_text (left old) (left new) fault) → IfErr r (λ fault. fault.kind ≢ Trailing) → FaultBlamesReader left failures old new r
-    → ReadsFront Archive_text content left failures old new r
-archive_front content left failures old new (Ok x) h stopped other blames = record {
-  is = IsReadTo-content (left old) (left new) (content x) h;
-  few = IsReadTo-few (left old) (left new) (content x) h;
-  taken = IsReadTo-taken (left old) (left new) (content x) h;
-  alone = front_of (left old) (left new) (content x) h;
-  unfailed = blames;
+pub front_read : {R : Type 0} (o : Operations) (left : R → Option (List ℕ)) (failures : R → ℕ) (old new : R) → IsReadTo Archive_text (left old) (left new) o → failures new ≡ failures old → IsReadFront Archive_text o left failures old new
+front_read o left failures old new h unfailed = record {
+  is = IsReadTo-content (left old) (left new) o h;
+  few = IsReadTo-few (left old) (left new) o h;
+  taken = IsReadTo-taken (left old) (left new) o h;
+  alone = front_of (left old) (left new) o h;
+  unfailed = unfailed;
 }
-archive_front content left failures old new (Err fault) h stopped other blames =
+
+pub front_refused : {R X : Type 0} (content : X → Operations) (left : R → Option (List ℕ)) (failures : R → ℕ) (old new : R) (fault : RecordFault) → HasStopped Archive_text (left old) (left new) fault → fault.kind ≢ Trailing → Blames left failures old new fault.kind
+    → ReadsFront Archive_text content left failures old new (Err fault)
+front_refused content left failures old new fault stopped other blames =
     (is_refused Archive_text left failures old new fault stopped blames, other, fronts_machine (left old) (left new) fault stopped blames.2 other)
 
 -- ---- operations that are read
@@ -416,19 +415,6 @@ operations_machine None b fault stopped ended = tt
 operations_machine (Some t) b fault stopped ended = λ ys _ text.
     machine_alone Operations_file t b (map record_bytes ys) [] fault (stopped_in Operations_text t b fault stopped) ended (InOrder-operations [] ys text.are) tt (text_is t ys text ∙ sym (append-nil (text_of Operations_file (map record_bytes ys)))) (λ _. refl) (λ _. refl)
 
-pub operations_whole : {R X : Type 0} (items : X → List Operation) (left : R → Option (List ℕ)) (failures : R → ℕ) (old new : R) (r : Result X RecordFault)
-    → IfOk r (λ x. AreRead (left old) (left new) (items x)) → IfErr r (λ fault. HasStopped Operations_text (left old) (left new) fault) → FaultBlamesReader left failures old new r
-    → ReadsWhole Operations_text items left failures old new r
-operations_whole items left failures old new (Ok x) h stopped blames = record {
-  is = h.are;
-  few = h.few;
-  text = operations_text (left old) (left new) (items x) h;
-  alone = operations_alone (left old) (left new) (items x) h;
-  at_end = h.at_end;
-  unfailed = blames;
-}
-operations_whole items left failures old new (Err fault) h stopped blames = (is_refused Operations_text left failures old new fault stopped blames, operations_machine (left old) (left new) fault stopped blames.2)
-
 -- and it has no fault: behind it nothing is left
 pub operations_no_fault : (t : List ℕ) (xs : List Operation) (fault : RecordFault) → IsOperationsText t xs → IsOperationsFault t fault → ⊥
 operations_no_fault t xs fault p (inl m) = no_magic_fault Operations_file t (concat (map record_bytes xs)) fault.kind p.whole m.0
@@ -442,7 +428,7 @@ pub summary_read : (a b : Option (List ℕ)) (s : Entries) → (r : IsReadTo Sum
 summary_read a b s r =
     let is = summary_form r.format r.kind_is in (
       subst (λ (f : Format). InOrder f [] r.records) is r.ordered,
-      r.content ∙ ap (λ (f : Format). set.from_list (taken_of f r.records)) is,
+      r.makes ∙ ap (λ (f : Format). set.from_list (taken_of f r.records)) is,
       subst (λ (f : Format). Consumes a b (text_of f r.records)) is r.taken,
     )
 
@@ -483,19 +469,49 @@ summary_machine None b fault stopped ended = tt
 summary_machine (Some text) b fault stopped ended = λ t q is.
     machine_alone Summary_file text b (listing t) [] fault (stopped_in Summary_text text b fault stopped) ended (InOrder-entries t q) tt (is ∙ summary_text_is t ∙ sym (append-nil (text_of Summary_file (listing t)))) (λ _. refl) (λ _. refl)
 
-pub summary_whole : {R X : Type 0} (content : X → Entries) (left : R → Option (List ℕ)) (failures : R → ℕ) (old new : R) (r : Result X RecordFault)
-    → IfOk r (λ x. IsReadTo Summary_text (left old) (left new) (content x)) → OnOk r (IsAtEnd (left new)) → IfErr r (λ fault. HasStopped Summary_text (left old) (left new) fault) → FaultBlamesReader left failures old new r
-    → ReadsWhole Summary_text content left failures old new r
-summary_whole content left failures old new (Ok x) h end stopped blames = record {
-  is = IsReadTo-entries (left old) (left new) (content x) h;
-  few = IsReadTo-few_entries (left old) (left new) (content x) h;
-  text = all_taken (left old) (left new) (summary_text (content x)) (IsReadTo-summary (left old) (left new) (content x) h) end;
-  alone = summary_alone (left old) (left new) (content x) h end;
-  at_end = end;
-  unfailed = blames;
-}
-summary_whole content left failures old new (Err fault) h end stopped blames = (is_refused Summary_text left failures old new fault stopped blames, summary_machine (left old) (left new) fault stopped blames.2)
-
 -- and it has no fault
 pub summary_no_fault : (s : Entries) (fault : RecordFault) → AreEntries s → set.len s < 2 ^ 64 → IsSummaryFault (summary_text s) fault → ⊥
 summary_no_fault s fault are few f = no_fault Summary_file (summary_text s) (listing s) (InOrder-entries s are) tt (summary_text_is s) fault (omega (arith, length_written s)) f
+
+-- ---- the whole input
+
+-- a text of this kind was read, and says this
+abbrev pub IsSaid : (file : TextKind) → Option (List ℕ) → Option (List ℕ) → Meaning file → Type 0
+IsSaid Archive_text a b o = IsReadTo Archive_text a b o
+IsSaid Operations_text a b operations = AreRead a b operations
+IsSaid Summary_text a b s = IsReadTo Summary_text a b s
+
+pub read_whole : {R : Type 0} (file : TextKind) (m : Meaning file) (left : R → Option (List ℕ)) (failures : R → ℕ) (old new : R) → IsSaid file (left old) (left new) m → IsAtEnd (left new) → failures new ≡ failures old → IsReadWhole file m left failures old new
+read_whole Archive_text o left failures old new h end unfailed = record {
+  is = IsReadTo-content (left old) (left new) o h;
+  few = IsReadTo-few (left old) (left new) o h;
+  text = IsReadTo-text (left old) (left new) o h end;
+  alone = whole_alone (left old) (left new) o h;
+  at_end = end;
+  unfailed = unfailed;
+}
+read_whole Operations_text operations left failures old new h end unfailed = record {
+  is = h.are;
+  few = h.few;
+  text = operations_text (left old) (left new) operations h;
+  alone = operations_alone (left old) (left new) operations h;
+  at_end = end;
+  unfailed = unfailed;
+}
+read_whole Summary_text s left failures old new h end unfailed = record {
+  is = IsReadTo-entries (left old) (left new) s h;
+  few = IsReadTo-few_entries (left old) (left new) s h;
+  text = all_taken (left old) (left new) (summary_text s) (IsReadTo-summary (left old) (left new) s h) end;
+  alone = summary_alone (left old) (left new) s h end;
+  at_end = end;
+  unfailed = unfailed;
+}
+
+machine_of : (file : TextKind) (a b : Option (List ℕ)) (fault : RecordFault) → HasStopped file a b fault → (fault.kind ≡ Truncated → IsAtEnd b) → IfSome a (λ t. (m : Meaning file) → IsMeaning file m → IsTextOf file m t → IsOfMachine fault.kind)
+machine_of Archive_text = whole_machine
+machine_of Operations_text = operations_machine
+machine_of Summary_text = summary_machine
+
+pub refused : {R : Type 0} (file : TextKind) (left : R → Option (List ℕ)) (failures : R → ℕ) (old new : R) (fault : RecordFault) → HasStopped file (left old) (left new) fault → Blames left failures old new fault.kind
+    → ReadsWhole file (λ (m : Meaning file). m) left failures old new (Err fault)
+refused file left failures old new fault stopped blames = (is_refused file left failures old new fault stopped blames, machine_of file (left old) (left new) fault stopped blames.2)

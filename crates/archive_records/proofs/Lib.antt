@@ -21,6 +21,7 @@ pub mod Contents
 pub mod Summarised
 pub mod Named
 pub mod Magics
+pub mod Made
 pub mod Exact
 pub mod Versions
 pub mod Inputs

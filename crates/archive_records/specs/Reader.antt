@@ -1,7 +1,7 @@
 -- Records that are read from a source one over the other: the words of the inner functions. No contract of a public one
 -- has them.
 use Rattle.std.specs.Prelude.{◌≡◌, ◌≢◌, ℕ, ◌+◌, ◌*◌, ◌^◌, ◌<◌, ◌≤◌, Bool, true, false, List, [], ◌∷◌, ◌++◌, length}
-use Rattle.std.specs.Prelude.{take, drop, map, All, Option, Some, None, Result, Ok, Err, MatchResult, ◌⊎◌}
+use Rattle.std.specs.Prelude.{take, drop, Option, Some, None, Result, Ok, Err, MatchResult, ◌⊎◌}
 use Rattle.std.specs.List.{concat, AllByRecursion}
 use Rattle.std.specs.List.Sorted.{IsStrictlySortedBy}
 use Rattle.std.specs.declared.cmp.Ordering.TheVariants.{Equal}
@@ -9,12 +9,10 @@ use Rattle.std.specs.Ordering.{nat_cmp}
 use Rattle.std.specs.Cmp.Lexicographic.{slice_cmp}
 use Rattle.std.specs.FinSet as set
 use Rattle.std.specs.Io.KnownBytes.{Consumes, IsAtEnd}
-use Rattle.archive_core.specs.declared.operations.Operation.{Operation}
 use Rattle.archive_core.specs.declared.slices.SliceFacts.{SliceFacts}
 use Rattle.archive_core.specs.Valid.{IsCheckedOf}
-use Rattle.archive_core.specs.Record.{IsOperation, record_bytes, IsRecord, Admits, Retires}
+use Rattle.archive_core.specs.Record.{IsRecord, Admits, Retires}
 use Rattle.archive_core.specs.Content.{Operations, IsMade, is_covered}
-use Rattle.archive_core.specs.Part.{part}
 use Rattle.archive_records.specs.declared.format.Format.{Format}
 use Rattle.archive_records.specs.declared.format.Format.TheVariants.{Archive, OldArchive, Operations as Operations_file}
 use Rattle.archive_records.specs.declared.format.Format.TheVariants.{Summary as Summary_file}
@@ -296,24 +294,6 @@ HasStopped file a b fault =
     ((bytes : List ℕ) × Consumes a b bytes × StopsInMagicOf file bytes fault.kind × (fault.offset ≡ 0))
     ⊎ ((format : Format) × (kind_of format ≡ file) × (records : List (List ℕ)) × Stopped format a b records fault)
 
--- The text of such a file was read, and of its records or entries those that are taken make the set.
-pub record IsReadTo (file : TextKind) (a b : Option (List ℕ)) (o : Operations) : Type 0 where
-  pub format : Format
-  pub kind_is : kind_of format ≡ file
-  pub records : List (List ℕ)
-  pub few : length records < 2 ^ 63
-  pub taken : Consumes a b (text_of format records)
-  pub ordered : InOrder format [] records
-  pub apart : AreApart format records
-  pub content : o ≡ set.from_list (taken_of format records)
-
--- The text of these operations was read, to the end of the input.
-pub record AreRead (a b : Option (List ℕ)) (operations : List Operation) : Type 0 where
-  pub few : length operations < 2 ^ 63
-  pub taken : Consumes a b (text_of Operations_file (map record_bytes operations))
-  pub at_end : IsAtEnd b
-  pub are : All IsOperation operations
-
 -- of an archive the records that are taken make themselves, and each is above the one before it
 abbrev pub MakeThemselves : TextKind → List (List ℕ) → Type 0
 MakeThemselves Archive_text records = IsMade (set.from_list records) × InOrder Archive [] records
@@ -345,9 +325,3 @@ pub record IsGathered {T : Type 0} (file : TextKind) (Makes : List (List ℕ) �
   pub ordered : InOrder format [] records
   pub apart : AreApart format records
   pub makes : Makes (taken_of format records) value
-
--- The text of an archive was read, and this is the part of its content that is picked.
-pub record IsPartReadTo (a b : Option (List ℕ)) (picks : List ℕ → Bool) (o : Operations) : Type 0 where
-  pub whole : Operations
-  pub read : IsReadTo Archive_text a b whole
-  pub kept : o ≡ part whole picks

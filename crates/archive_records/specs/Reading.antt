@@ -1,11 +1,12 @@
 -- What a reader of a whole input, or of its front, gives, and why it is refused.
-use Rattle.std.specs.Prelude.{◌≡◌, ◌≢◌, ℕ, ◌^◌, ◌<◌, List, ◌++◌, length, All}
+use Rattle.std.specs.Prelude.{◌≡◌, ◌≢◌, ℕ, ◌^◌, ◌<◌, List, ◌++◌, length, map, All}
 use Rattle.std.specs.Prelude.{Option, Some, IfSome, Result, Ok, Err, ◌⊎◌}
 use Rattle.std.specs.FinSet as set
 use Rattle.std.specs.Io.KnownBytes.{Consumes, IsAtEnd}
 use Rattle.byte_device.specs.Devices.{FailedIn}
+use Rattle.join_core.specs.Listing.{listing}
 use Rattle.archive_core.specs.declared.operations.Operation.{Operation}
-use Rattle.archive_core.specs.Record.{IsOperation}
+use Rattle.archive_core.specs.Record.{IsOperation, record_bytes}
 use Rattle.archive_core.specs.Content.{Operations, IsContent}
 use Rattle.archive_core.specs.Summary.{Entries}
 use Rattle.archive_records.specs.Entry.{AreEntries}
@@ -38,6 +39,12 @@ abbrev pub records_of : (file : TextKind) → Meaning file → ℕ
 records_of Archive o = set.len o
 records_of Operations_file operations = length operations
 records_of Summary_file s = set.len s
+
+-- these, in their order
+abbrev pub records_in : (file : TextKind) → Meaning file → List (List ℕ)
+records_in Archive o = listing o
+records_in Operations_file operations = map record_bytes operations
+records_in Summary_file s = listing s
 
 -- a text that says it: a content has one that is written, and some of version 1
 abbrev pub IsTextOf : (file : TextKind) → Meaning file → List ℕ → Type 0

@@ -22,7 +22,7 @@
 //! - `kind`: what a file is; `format`: what it begins with, how its records follow one another and how it ends;
 //! - `buffer`, `frame`, `next`, `retired`, `reader`: one record after another, each read over the last and compared
 //!   with it, and with the retirements before it;
-//! - `records`: one pass over them, and what is made of those that are taken.
+//! - `records`: one pass over them, and what is told of those that are taken.
 #![tactic(auto)]
 
 mod buffer;
@@ -49,6 +49,6 @@ pub use head::{
 pub use kind::TextKind;
 pub use next::NextRecord;
 pub use reader::{MOST, RecordReader};
-pub use records::{FromRecords, read_records, read_text};
+pub use records::{FromRecords, read_text, tell_text};
 pub use summary::{Summary, read_summary};
 pub use writing::{Sizes, put_end, write_archive, write_delta, write_summary};

@@ -1,15 +1,17 @@
-//! One pass over the records of a file, for what is made of them.
+//! One pass over the records of a file, for what is told of them.
 
-ghost use Rattle.std.specs.Prelude.{◌≡◌, ◌≢◌, ◌∷◌, ◌++◌, ℕ, List, Option, [], OnOk, IfOk, IfErr};
+ghost use Rattle.std.specs.Prelude.{◌≡◌, ◌≢◌, ◌∷◌, ◌++◌, ⊤, ℕ, List, Option, [], OnOk, IfOk, IfErr};
 ghost use Rattle.std.specs.Io.KnownBytes.{IsAtEnd};
 ghost use Rattle.archive_records.specs.declared.kind.TextKind.{TextKind};
 ghost use Rattle.archive_records.specs.declared.fault.RecordFaultKind.TheVariants.{Trailing};
 ghost use Rattle.archive_records.specs.Reader.{FaultBlamesReader, HasStopped, HasRead, IsFoundIn};
 ghost use Rattle.archive_records.specs.Reader.{GathersAll, IsGathered, MakeThemselves};
+ghost use Rattle.archive_records.specs.Reading.{IsMeaning, Meaning, ReadsInPart, records_in};
 ghost use Rattle.archive_records.specs.Kind.{kind_of};
 ghost use Rattle.archive_records.specs.declared.format.Format.{Format};
 
 use crate::fault::RecordFault;
+use crate::head::MAGIC_LEN;
 use crate::kind::TextKind;
 use crate::next::NextRecord;
 use crate::reader::RecordReader;
@@ -17,24 +19,44 @@ use archive_core::SliceFacts;
 use byte_device::Source;
 use memory::{Heap, NoMemory};
 
-/// What is made of the records of a file, one after another.
+/// What is made of the records of a file, one after another, and what is told of it in the end.
 pub trait FromRecords {
+    /// What is asked.
+    type Question: Drop;
+
+    /// What is told.
+    type Told;
+
     // In which kind of file the records stand.
     ghost file: { TextKind };
 
-    // The first value became the second by these records, in their order.
-    ghost makes: { Self → List (List ℕ) → Self → Type 0 };
+    // What may be asked.
+    ghost may_ask: { Self.Question → Type 0 } = { λ _. ⊤ };
 
-    /// In which kind of file the records stand.
-    fn kind() -> TextKind
-        ensures { result ≡ file };
+    // By what was asked these records made the value, in their order.
+    ghost makes: { Self.Question → List (List ℕ) → Self → Type 0 };
+
+    // This is told of what was asked, where this is what the file says.
+    ghost tells: { Self.Question → Self.Told → Meaning file → Type 0 };
+
+    /// What is made of no record.
+    fn begin(heap: Heap, question: Self::Question) -> Self
+        requires { may_ask question }
+        ensures { makes question [] result };
 
     /// Takes one record more, of which this was found out. Refused for want of memory alone.
     fn take(&mut self, heap: &Heap, bytes: &[u8], found: Option<SliceFacts>) -> Result<(), NoMemory>
         requires { IsFoundIn file bytes.now found }
-        ensures { OnOk result ((start : Self) (records : List (List ℕ))
+        ensures { OnOk result ((question : Self.Question) (records : List (List ℕ))
             → MakeThemselves file (records ++ bytes.now ∷ [])
-            → makes start records self.old → makes start (records ++ bytes.now ∷ []) self.new) };
+            → makes question records self.old → makes question (records ++ bytes.now ∷ []) self.new) };
+
+    /// What is told, behind the last of them. Refused for want of memory alone.
+    fn finish(self, heap: &Heap) -> Result<Self::Told, NoMemory>
+        requires { (question : Self.Question) × (m : Meaning file) × IsMeaning file m
+            × makes question (records_in file m) self }
+        ensures { IfOk result (λ told. (question : Self.Question) (m : Meaning file) → IsMeaning file m
+            → makes question (records_in file m) self → tells question told m) };
 }
 
 /// Takes the records of a file up to what ends it, but for those that are dropped.
@@ -45,9 +67,9 @@ fn take_records<T: FromRecords, R: Source>(
     r: &mut R,
 ) -> Result<(), RecordFault>
     requires file { kind_of reader.old.file ≡ T.file }
-    requires start { T.makes taker.old [] taker.old }
-    ensures all { OnOk result ((a : Option (List ℕ)) → HasRead reader.old.file a (R.left r.old) [] reader.old
-        → GathersAll reader.old.file (T.makes taker.old) a (R.left r.new) taker.new reader.new) }
+    ensures all { OnOk result ((a : Option (List ℕ)) (question : T.Question) → T.makes question [] taker.old
+        → HasRead reader.old.file a (R.left r.old) [] reader.old
+        → GathersAll reader.old.file (T.makes question) a (R.left r.new) taker.new reader.new) }
     ensures stopped { IfErr result (λ fault. (a : Option (List ℕ))
         → HasRead reader.old.file a (R.left r.old) [] reader.old → HasStopped T.file a (R.left r.new) fault) }
     ensures no_trailing { IfErr result (λ fault. fault.kind ≢ Trailing) }
@@ -72,41 +94,68 @@ fn take_records<T: FromRecords, R: Source>(
 /// Reads the text of a file from the front of the input, with the reader that did so. What is said is of the bytes that
 /// were taken.
 pub fn read_text<T: FromRecords + Drop, R: Source>(
-    heap: Heap,
-    mut taker: T,
+    heap: &Heap,
+    file: TextKind,
+    question: T::Question,
     r: &mut R,
 ) -> Result<(T, RecordReader), RecordFault>
-    requires { T.makes taker [] taker }
+    requires file { file ≡ T.file }
+    requires may { T.may_ask question }
     ensures read { IfOk result (λ read. (format : Format) × (kind_of format ≡ T.file)
-        × GathersAll format (T.makes taker) (R.left r.old) (R.left r.new) read.0 read.1) }
+        × GathersAll format (T.makes question) (R.left r.old) (R.left r.new) read.0 read.1) }
     ensures stopped { IfErr result (λ fault. HasStopped T.file (R.left r.old) (R.left r.new) fault) }
     ensures no_trailing { IfErr result (λ fault. fault.kind ≢ Trailing) }
     ensures reader { FaultBlamesReader R.left R.failures r.old r.new result }
 {
+    let Ok(kept) = heap.clone() else {
+        return Err(RecordFault::out_of_memory(0));
+    };
     let Ok(buffers) = heap.clone() else {
         return Err(RecordFault::out_of_memory(0));
     };
-    let mut reader = RecordReader::begin(buffers, T::kind(), r)?;
-    take_records(&mut taker, &heap, &mut reader, r)?;
+    let mut taker = T::begin(kept, question);
+    let mut reader = RecordReader::begin(buffers, file, r)?;
+    take_records(&mut taker, heap, &mut reader, r)?;
     Ok((taker, reader))
 }
 
 /// Reads a whole input as the text of a file. What is said is of the bytes that were taken.
-pub fn read_records<T: FromRecords + Drop, R: Source>(
-    heap: Heap,
-    taker: T,
+fn read_records<T: FromRecords + Drop, R: Source>(
+    heap: &Heap,
+    file: TextKind,
+    question: T::Question,
     r: &mut R,
 ) -> Result<T, RecordFault>
-    requires { T.makes taker [] taker }
-    ensures read { IfOk result (λ made. IsGathered T.file (T.makes taker) (R.left r.old) (R.left r.new) made) }
+    requires file { file ≡ T.file }
+    requires may { T.may_ask question }
+    ensures read { IfOk result (λ made. IsGathered T.file (T.makes question) (R.left r.old) (R.left r.new) made) }
     ensures at_end { OnOk result (IsAtEnd (R.left r.new)) }
     ensures stopped { IfErr result (λ fault. HasStopped T.file (R.left r.old) (R.left r.new) fault) }
     ensures reader { FaultBlamesReader R.left R.failures r.old r.new result }
 {
-    let (taker, reader) = read_text(heap, taker, r)?;
-    if T::kind().is_open() {
+    let (taker, reader) = read_text::<T, R>(heap, file, question, r)?;
+    if file.is_open() {
         return Ok(taker);
     }
     reader.finish(r)?;
     Ok(taker)
+}
+
+/// Reads a whole input as the text of a file, and tells what is asked of it. Memory that is wanted behind the last record
+/// is reported after the magic, a good front of every text.
+pub fn tell_text<T: FromRecords + Drop, R: Source>(
+    heap: &Heap,
+    file: TextKind,
+    question: T::Question,
+    r: &mut R,
+) -> Result<T::Told, RecordFault>
+    requires file { file ≡ T.file }
+    requires may { T.may_ask question }
+    ensures { ReadsInPart T.file (T.tells question) R.left R.failures r.old r.new result }
+{
+    let taker = read_records::<T, R>(heap, file, question, r)?;
+    match taker.finish(heap) {
+        Ok(told) => Ok(told),
+        Err(NoMemory) => Err(RecordFault::out_of_memory(MAGIC_LEN)),
+    }
 }

@@ -1,6 +1,6 @@
 //! What an archive has, without its slices.
 
-ghost use Rattle.std.specs.Prelude.{◌≡◌, map, IfOk, IfErr, OnOk};
+ghost use Rattle.std.specs.Prelude.{◌≡◌, map, IfOk};
 ghost use Rattle.std.specs.FinSet as set;
 ghost use Rattle.std.specs.List.{AllByRecursion};
 ghost use Rattle.join_core.specs.Listing.{listing};
@@ -8,14 +8,12 @@ ghost use Rattle.archive_core.specs.Content.{IsContent};
 ghost use Rattle.archive_core.specs.Summary.{entry, summary};
 ghost use Rattle.archive_records.specs.Entry.{entry_bytes, IsEntry, AreEntries};
 ghost use Rattle.archive_records.specs.declared.kind.TextKind.TheVariants.{Summary as SummaryFile};
-ghost use Rattle.std.specs.Io.KnownBytes.{IsAtEnd};
 ghost use Rattle.archive_records.specs.Reading.{ReadsWhole};
-ghost use Rattle.archive_records.specs.Reader.{FaultBlamesReader, HasStopped, IsReadTo};
 
 use crate::entry::{Entry, entry_in};
 use crate::fault::RecordFault;
 use crate::kind::TextKind;
-use crate::records::{FromRecords, read_records};
+use crate::records::{FromRecords, tell_text};
 use archive_core::{Archive, SliceFacts};
 use byte_device::Source;
 use memory::{Heap, NoMemory};
@@ -111,14 +109,20 @@ struct Named(Vec<Entry, Heap>);
 impl FromRecords for Named {
     ghost use Rattle.std.specs.Prelude.{◌≡◌, map};
     ghost use Rattle.archive_records.specs.Entry.{entry_bytes};
-    ghost use Rattle.archive_records.specs.declared.kind.TextKind.TheVariants.{Summary};
+    ghost use Rattle.archive_records.specs.declared.kind.TextKind.TheVariants.{Summary as SummaryFile};
 
-    ghost file = { Summary };
+    type Question = ();
 
-    ghost makes = { λ start records now. map entry_bytes now.0.items ≡ records };
+    type Told = Summary;
 
-    fn kind() -> TextKind {
-        TextKind::Summary
+    ghost file = { SummaryFile };
+
+    ghost makes = { λ _ records now. map entry_bytes now.0.items ≡ records };
+
+    ghost tells = { λ _ summary s. summary ≡ s };
+
+    fn begin(heap: Heap, _question: ()) -> Named {
+        Named(Vec::new(heap))
     }
 
     fn take(
@@ -130,20 +134,10 @@ impl FromRecords for Named {
         self.0.push(entry_in(bytes))?;
         Ok(())
     }
-}
 
-/// Reads a whole input as the text of a summary. What is said is of the bytes that were taken.
-fn read_whole_summary<R: Source>(heap: Heap, r: &mut R) -> Result<Summary, RecordFault>
-    ensures read { IfOk result (λ summary. IsReadTo SummaryFile (R.left r.old) (R.left r.new) summary) }
-    ensures at_end { OnOk result (IsAtEnd (R.left r.new)) }
-    ensures stopped { IfErr result (λ fault. HasStopped SummaryFile (R.left r.old) (R.left r.new) fault) }
-    ensures reader { FaultBlamesReader R.left R.failures r.old r.new result }
-{
-    let Ok(kept) = heap.clone() else {
-        return Err(RecordFault::out_of_memory(0));
-    };
-    let named = read_records(heap, Named(Vec::new(kept)), r)?;
-    Ok(Summary { entries: named.0 })
+    fn finish(self, _heap: &Heap) -> Result<Summary, NoMemory> {
+        Ok(Summary { entries: self.0 })
+    }
 }
 
 /// Reads a summary: the whole input is the text of one, and this is it. The pieces in which the reader gives its
@@ -156,5 +150,5 @@ fn read_whole_summary<R: Source>(heap: Heap, r: &mut R) -> Result<Summary, Recor
 pub fn read_summary<R: Source>(heap: Heap, r: &mut R) -> Result<Summary, RecordFault>
     ensures { ReadsWhole SummaryFile (λ summary. summary) R.left R.failures r.old r.new result }
 {
-    read_whole_summary(heap, r)
+    tell_text::<Named, R>(&heap, TextKind::Summary, (), r)
 }

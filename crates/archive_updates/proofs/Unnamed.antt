@@ -17,16 +17,15 @@ use Rattle.archive_records.specs.declared.writing.Sizes.{Sizes}
 use Rattle.archive_records.specs.Kind.{kind_of, magic, magic_of}
 use Rattle.archive_records.specs.Reader.{IsGathered, set_of}
 use Rattle.archive_records.specs.Text.{end_record, ending, missing, written, taken_of, InOrder, IsArchiveOf}
-use Rattle.archive_records.specs.Writing.{IsWrittenWhole}
 use Rattle.byte_device.specs.Devices.{stream}
 use Rattle.byte_device.specs.Writes.{WritesFirst}
 use Rattle.archive_records.proofs.Ends.{length-end_record}
 use Rattle.archive_records.proofs.Formats.{format_magic, in_order_old, no_operations_text, no_summary_text}
-use Rattle.archive_records.proofs.Inputs.{archive_whole}
+use Rattle.archive_records.proofs.Inputs.{read_whole, refused}
 use Rattle.archive_records.proofs.KeptRecords.{behind, kept_more}
+use Rattle.archive_records.proofs.Made.{read_to, taken_listing}
 use Rattle.archive_records.proofs.Puts.{delta_count, delta_parts}
 use Rattle.archive_records.proofs.Versions.{Formed, formed, formed_content, formed_text, one_content}
-use Rattle.archive_reading.proofs.Made.{content_of, content_read, content_whole, taken_listing}
 use Rattle.record_merge.proofs.Fronts.{before, front_of, taken_rest, text_whole}
 use Rattle.archive_updates.specs.Copying.{BlamesDevices, CopiesUnnamed, HasDraft, IsCause, IsCopiedToEnd, IsCopiedUpTo, IsCopiedWhole, StopsCopy, StopsCopyBy, copy_of}
 use Rattle.archive_updates.proofs.Beginnings.{good_formed}
@@ -142,7 +141,7 @@ drafted s a b w0 w1 n (inr (file, kind, inr u)) =
 module _ {R W : Type 0} (left : R → Option (List ℕ)) (failures : R → ℕ) (old new : R) (held : W → Option (List ℕ)) (write_failures : W → ℕ) (w w' : W) (s : Entries) where
   stops_by : (cause : MergeCause) → IsCause (left old) (left new) cause → (e : MergeFault) → e.cause ≡ cause → BlamesDevices {T = Sizes} left failures old new (write_failures w) (write_failures w') (Err (record { cause = cause; written = e.written }))
       → StopsCopyBy (stream left failures old new) (stream held write_failures w w') cause
-  stops_by (Left fault) st e is blames = (archive_whole {X = Operations} (λ o. o) left failures old new (Err fault) tt tt st blames.0, blames.1)
+  stops_by (Left fault) st e is blames = (refused Archive_text left failures old new fault st blames.0, blames.1)
   stops_by (Right fault) st e is blames = absurd st
   stops_by Write st e is blames = blames
 
@@ -153,17 +152,18 @@ module _ {R W : Type 0} (left : R → Option (List ℕ)) (failures : R → ℕ) 
   unnamed (Ok sizes) g end cause draft blames =
       let Makes = IsCopiedWhole s (held w) (held w') in
       let c = g.makes in
-      let o = content_of Makes (left old) (left new) sizes g in
+      let o = set_of (taken_of g.format g.records) in
       let text = delta_text s g.format g.kind_is g.records g.ordered in
-      let Whole : Operations → Type 0 = λ p. IsWrittenWhole held write_failures w w' (set.len (delta p s)) (written (delta p s)) sizes in
-      let holds : Whole o = record {
-        written = subst (Appends (held w) (held w')) (sym text) c.written_is;
-        records_are = c.records_are ∙ delta_number s g.format g.kind_is g.records g.ordered;
-        bytes_are = c.bytes_are ∙ ap length (sym text);
-        unfailed = blames.1;
-      } in
-      let read = content_whole {X = Sizes} (λ _ p. Whole p) left failures old new (Ok sizes) (content_read Makes (left old) (left new) sizes g Whole holds) end tt blames.0 in
-      record { content = read.meaning; read = read.whole; written_is = read.kept }
+      record {
+        content = o;
+        read = read_whole Archive_text o left failures old new (read_to g) end blames.0;
+        written_is = record {
+          written = subst (Appends (held w) (held w')) (sym text) c.written_is;
+          records_are = c.records_are ∙ delta_number s g.format g.kind_is g.records g.ordered;
+          bytes_are = c.bytes_are ∙ ap length (sym text);
+          unfailed = blames.1;
+        };
+      }
   unnamed (Err e) g end cause draft blames = record {
     by = stops_by e.cause cause e refl blames;
     first = λ o text content is given. first_of s text o content is (left new) (held w) (held w') e.written (left old) given draft;

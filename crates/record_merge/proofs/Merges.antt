@@ -23,7 +23,7 @@ use Rattle.archive_records.specs.Kind.{magic_of, kind_of}
 use Rattle.archive_records.specs.Text.{text_of, last_of, written, kept, taken_of, InOrder, IsArchiveOf}
 use Rattle.archive_records.specs.Fault.{IsOfText}
 use Rattle.archive_records.specs.Reading.{Blames, IsOfMachine, IsReadWhole}
-use Rattle.archive_records.specs.Reader.{HasReadAll, HasStopped, Stopped, IsReadTo, Position}
+use Rattle.archive_records.specs.Reader.{HasReadAll, HasStopped, Stopped, Position}
 use Rattle.record_merge.specs.Merging.{IsArchiveText, AreGoodRecords, LeftStops, RightStops, of_both, IsWrittenBefore, GainsNoText, IsMerged, IsRefusedAlone, IsUnfailed, StopsBy, Merges}
 use Rattle.byte_device.specs.Devices.{Stream, stream}
 use Rattle.byte_device.proofs.Known.{Appends-none, Consumes-none}
@@ -36,25 +36,22 @@ use Rattle.archive_records.proofs.Undecided.{cut_behind}
 use Rattle.record_merge.proofs.Unread.{begun_none, stopped_none, within_none, text_none}
 use Rattle.record_merge.proofs.Orders.{left_order, right_order}
 use Rattle.archive_records.proofs.Contents.{written_text}
-use Rattle.archive_records.proofs.Inputs.{archive_whole}
+use Rattle.archive_records.proofs.Inputs.{IsReadTo, read_whole as text_read, refused}
 use Rattle.record_merge.proofs.Fronts.{taken_rest, both_taken}
 use Rattle.record_merge.proofs.Places.{kept_listing, begun_nothing, no_magic, left_begun, left_place, left_first, right_begun, right_place, right_first, write_begun, left_later, right_later, full_begun}
 
 -- ---- one input
 
-abbrev itself : Operations → Operations
-itself o = o
-
 read_to : (f : Format) → kind_of f ≡ Archive_text → (a b : Option (List ℕ)) (records : List (List ℕ)) (position : Position) → HasReadAll f a b records position → IsReadTo Archive_text a b (set.from_list (taken_of f records))
-read_to f k a b records position h = record { format = f; kind_is = k; records = records; few = h.few; taken = h.taken; ordered = h.ordered; apart = h.apart; content = refl }
+read_to f k a b records position h = record { format = f; kind_is = k; records = records; few = h.few; taken = h.taken; ordered = h.ordered; apart = h.apart; makes = refl }
 
 pub read_whole : {R : Type 0} (input : Stream R) (f : Format) → kind_of f ≡ Archive_text → (records : List (List ℕ)) (position : Position) → HasReadAll f (input.bytes input.old) (input.bytes input.new) records position → IsAtEnd (input.bytes input.new) → input.failures input.new ≡ input.failures input.old
     → IsReadWhole Archive_text (set.from_list (taken_of f records)) input.bytes input.failures input.old input.new
 read_whole input f k records position h end unfailed =
-    archive_whole itself input.bytes input.failures input.old input.new (Ok (set.from_list (taken_of f records))) (read_to f k (input.bytes input.old) (input.bytes input.new) records position h) end tt unfailed
+    text_read Archive_text (set.from_list (taken_of f records)) input.bytes input.failures input.old input.new (read_to f k (input.bytes input.old) (input.bytes input.new) records position h) end unfailed
 
 refused_alone : {R : Type 0} (input : Stream R) (fault : RecordFault) → HasStopped Archive_text (input.bytes input.old) (input.bytes input.new) fault → Blames input.bytes input.failures input.old input.new fault.kind → IsRefusedAlone input fault
-refused_alone input fault stopped blames = archive_whole itself input.bytes input.failures input.old input.new (Err fault) tt tt stopped blames
+refused_alone input fault stopped blames = refused Archive_text input.bytes input.failures input.old input.new fault stopped blames
 
 before_records : (a b : Option (List ℕ)) (fault : RecordFault) → StopsBeforeRecords a b fault → HasStopped Archive_text a b fault
 before_records a b fault s = inl (s.bytes, s.taken, s.stops, s.start)

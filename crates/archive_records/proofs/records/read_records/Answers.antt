@@ -20,7 +20,7 @@ returns-in_err-taker-clause-reader g c = rw (failed c.from_residual.result c.in_
 pub returns-then-is_open-clause-read : goal.returns-then-is_open-clause-read
 returns-then-is_open-clause-read g c =
     let all = c.in_ok-taker.ensures.read in
-    gathered g.T.FromRecords.file (g.T.FromRecords.makes c.args.taker) (g.R.Source.left c.args.r.now) (g.R.Source.left c.read_text.new.r) (g.R.Source.left c.read_text.new.r) c.in_ok-taker.taker c.in_ok-taker.reader all.0 all.1 all.2 (Consumes-none (g.R.Source.left c.read_text.new.r))
+    gathered g.T.FromRecords.file (g.T.FromRecords.makes c.args.question) (g.R.Source.left c.args.r.now) (g.R.Source.left c.read_text.new.r) (g.R.Source.left c.read_text.new.r) c.in_ok-taker.taker c.in_ok-taker.reader all.0 all.1 all.2 (Consumes-none (g.R.Source.left c.read_text.new.r))
 
 pub returns-then-is_open-clause-reader : goal.returns-then-is_open-clause-reader
 returns-then-is_open-clause-reader g c = c.in_ok-taker.ensures.reader
@@ -34,7 +34,7 @@ returns-in_err-finish-clause-at_end g c = rw (failed c.from_residual-in_err-fini
 pub returns-in_err-finish-clause-stopped : goal.returns-in_err-finish-clause-stopped
 returns-in_err-finish-clause-stopped g c =
     let all = c.in_ok-taker.ensures.read in
-    let ends = closed_end all.0 (λ e. false≢true (c.if-is_open.ensures.1 (c.kind.ensures ∙ sym all.1 ∙ e))) in
+    let ends = closed_end all.0 (λ e. false≢true (c.if-is_open.ensures.1 (c.requires.file ∙ sym all.1 ∙ e))) in
     rw (failed c.from_residual-in_err-finish.result c.in_err-finish.field-0.0 c.from_residual-in_err-finish.ensures.1)
     (inr (all.0, all.1, all.2.records, c.in_err-finish.ensures.stopped all.0 (g.R.Source.left c.args.r.now) all.2.records ends all.2.read))
 
@@ -46,7 +46,7 @@ returns-in_err-finish-clause-reader g c =
 pub returns-clause-read : goal.returns-clause-read
 returns-clause-read g c =
     let all = c.in_ok-taker.ensures.read in
-    gathered g.T.FromRecords.file (g.T.FromRecords.makes c.args.taker) (g.R.Source.left c.args.r.now) (g.R.Source.left c.read_text.new.r) (g.R.Source.left c.finish.new.r) c.in_ok-taker.taker c.in_ok-taker.reader all.0 all.1 all.2 c.in_ok-finish.ensures.at_end.1
+    gathered g.T.FromRecords.file (g.T.FromRecords.makes c.args.question) (g.R.Source.left c.args.r.now) (g.R.Source.left c.read_text.new.r) (g.R.Source.left c.finish.new.r) c.in_ok-taker.taker c.in_ok-taker.reader all.0 all.1 all.2 c.in_ok-finish.ensures.at_end.1
 
 pub returns-clause-at_end : goal.returns-clause-at_end
 returns-clause-at_end g c = c.in_ok-finish.ensures.at_end.0

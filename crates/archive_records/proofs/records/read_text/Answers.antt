@@ -1,4 +1,4 @@
-use Rattle.std.proofs.Common.{[], inl, inr, refl, arith}
+use Rattle.std.proofs.Common.{[], inl, inr, refl, arith, ◌∙◌}
 use Rattle.std.proofs.lemmas.Result.{err_from_is_err_and}
 use Rattle.byte_device.proofs.Known.{Consumes-none}
 use Rattle.archive_records.proofs.Blamed.{failed}
@@ -23,8 +23,13 @@ returns-in_err-reader-clause-read g c = rw (failed c.from_residual.result c.in_e
 
 pub returns-in_err-reader-clause-stopped : goal.returns-in_err-reader-clause-stopped
 returns-in_err-reader-clause-stopped g c =
-    let stops = rw c.kind.ensures at c.in_err-reader.ensures.stops in
+    let stops = rw c.requires.file at c.in_err-reader.ensures.stops in
     rw (failed c.from_residual.result c.in_err-reader.field-0.0 c.from_residual.ensures.1) (inl (stops.0, stops.1, stops.2, c.in_err-reader.ensures.start))
 
 pub returns-in_err-reader-clause-reader : goal.returns-in_err-reader-clause-reader
 returns-in_err-reader-clause-reader g c = rw (failed c.from_residual.result c.in_err-reader.field-0.0 c.from_residual.ensures.1) c.in_err-reader.ensures.reader
+
+pub returns-clause-read : goal.returns-clause-read
+returns-clause-read g c =
+    let begun = c.in_ok-reader.ensures in
+    (c.in_ok-reader.reader.file, begun.kind ∙ c.requires.file, c.in_ok-take_records.ensures.all (g.R.Source.left c.args.r.now) c.args.question c.begin-taker.ensures begun.read)

@@ -7,7 +7,7 @@ use Rattle.archive_records.proofs.Steps.{HasRead-grows, HasReadAll-grows, Stoppe
 use Rattle.archive_records.proofs.records.take_records.Goals as goal
 
 pub taking-init : goal.taking-init
-taking-init g c = record { gathers = λ a start. record { records = []; read = start; makes = rw (taken_none c.args.reader.now.file) c.requires.start }; file = refl; unfailed = refl }
+taking-init g c = record { gathers = λ a start. record { records = []; read = start; makes = λ question made. rw (taken_none c.args.reader.now.file) made }; file = refl; unfailed = refl }
 
 pub take-requires : goal.take-requires
 take-requires g c =
@@ -15,10 +15,10 @@ take-requires g c =
     rw c.last.ensures (subst (λ k. IsFoundIn k c.advance.new.self.last c.in-Ok-Item.found) (ap kind_of c.taking.invariant.file ∙ c.requires.file) step.2)
 
 pub returns-in-Ok-End-clause-all : goal.returns-in-Ok-End-clause-all
-returns-in-Ok-End-clause-all g c = λ a start.
+returns-in-Ok-End-clause-all g c = λ a question made start.
     let step = rw c.in-Ok-End.field-0-is at c.in-Ok-End.ensures in
     let m = c.taking.invariant.gathers a start in
-    record { records = m.records; read = HasReadAll-grows c.args.reader.now.file a _ _ m.records c.taking.reader c.advance.new.self m.read step.0; makes = m.makes }
+    record { records = m.records; read = HasReadAll-grows c.args.reader.now.file a _ _ m.records c.taking.reader c.advance.new.self m.read step.0; makes = m.makes question made }
 
 pub returns-in-Err-clause-stopped : goal.returns-in-Err-clause-stopped
 returns-in-Err-clause-stopped g c = λ a start.
@@ -53,7 +53,7 @@ taking-preserved-then-dropped g c =
           record {
             records = m.records ++ c.advance.new.self.last ∷ [];
             read = read;
-            makes = rw (taken_pass m.records c.advance.new.self.last file read.ordered read.apart drops) m.makes;
+            makes = λ question made. rw (taken_pass m.records c.advance.new.self.last file read.ordered read.apart drops) (m.makes question made);
           };
       file = step.0.file_is ∙ c.taking.invariant.file;
       unfailed = step.1 ∙ c.taking.invariant.unfailed;
@@ -74,7 +74,7 @@ taking-preserved g c =
           record {
             records = m.records ++ c.advance.new.self.last ∷ [];
             read = read;
-            makes = rw grown (taken _ (taken_of file m.records) (rw grown at made) m.makes);
+            makes = λ question began. rw grown (taken question (taken_of file m.records) (rw grown at made) (m.makes question began));
           };
       file = step.0.file_is ∙ c.taking.invariant.file;
       unfailed = step.1 ∙ c.taking.invariant.unfailed;

@@ -4,11 +4,11 @@ use Rattle.archive_reading.proofs.Kept.{picked_more, unpicked_more}
 use Rattle.archive_reading.proofs.part.PartFromRecords.take.Goals as goal
 
 pub returns-then-not-picks : goal.returns-then-not-picks
-returns-then-not-picks g c = λ start records apart is.
+returns-then-not-picks g c = λ select records apart is.
     let fails = ap (λ (f : List ℕ → Bool). f c.args.bytes.now) (sym is.0) ∙ sym c.picks.ensures ∙ c.if-not-picks.true in
-    (is.0, unpicked_more (g.S.Selects.picked start.select.now) records c.args.bytes.now (g.A.Join.content c.args.self.now.archive) is.1 fails)
+    (is.0, unpicked_more (g.S.Selects.picked select.now) records c.args.bytes.now (g.A.Join.content c.args.self.now.archive) is.1 fails)
 
 pub returns : goal.returns
-returns g c = OnOk-then c.take_record.result c.take_record.ensures (λ taken start records apart is.
+returns g c = OnOk-then c.take_record.result c.take_record.ensures (λ taken select records apart is.
     let passes = ap (λ (f : List ℕ → Bool). f c.args.bytes.now) (sym is.0) ∙ sym c.picks.ensures ∙ c.if-not-picks.false in
-    (is.0, picked_more (g.S.Selects.picked start.select.now) records c.args.bytes.now (g.A.Join.content c.args.self.now.archive) is.1 passes apart (g.A.Join.content c.take_record.new.archive) taken))
+    (is.0, picked_more (g.S.Selects.picked select.now) records c.args.bytes.now (g.A.Join.content c.args.self.now.archive) is.1 passes apart (g.A.Join.content c.take_record.new.archive) taken))

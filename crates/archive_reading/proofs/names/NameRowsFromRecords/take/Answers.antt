@@ -1,0 +1,11 @@
+use Rattle.std.proofs.Common.{ℕ, List, ◌++◌, ◌∙◌, ap, map}
+use Rattle.archive_reading.specs.InnerNames.{names_of}
+use Rattle.archive_core.specs.Names.{owned_name_view}
+use Rattle.archive_reading.proofs.Gathered.{OnOk-then}
+use Rattle.archive_reading.proofs.Sought.{names_more}
+use Rattle.archive_reading.proofs.names.NameRowsFromRecords.take.Goals as goal
+
+pub returns : goal.returns
+returns c = OnOk-then c.push_names.result c.push_names.ensures (λ grown name records apart is.
+    let before = map owned_name_view c.args.self.now.rows.items in
+    (is.0, names_more name.now records c.args.bytes.now before _ (grown ∙ ap (λ (n : List ℕ). before ++ names_of n c.args.bytes.now) is.0) is.1))
