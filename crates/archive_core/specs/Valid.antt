@@ -1,8 +1,10 @@
 -- Which bytes are a slice, why others are none, and the key of a slice.
-use Rattle.std.specs.Prelude.{◌≡◌, ℕ, List}
+use Rattle.std.specs.Prelude.{◌≡◌, ℕ, List, Option, MatchOption}
 use Rattle.macho_image.specs.Fault.{IsImage, IsImageFault}
 use Rattle.macho_image.specs.Contents.{uuid_of, arch_of, IsRead}
 use Rattle.macho_symbols.specs.Fault.{HasSymbols, IsSymbolFault}
+use Rattle.sha2.specs.Sha256.{sha256}
+use Rattle.archive_core.specs.declared.keys.Digest.{Digest}
 use Rattle.archive_core.specs.declared.keys.SliceKey.{SliceKey}
 use Rattle.archive_core.specs.declared.slices.SliceFacts.{SliceFacts}
 use Rattle.archive_core.specs.declared.faults.SliceFault.{SliceFault}
@@ -34,8 +36,14 @@ key_of bytes = record {
   arch = record { cputype = (arch_of bytes).0; cpusubtype = (arch_of bytes).1 };
 }
 
--- what a check finds out of a slice: the bytes are valid, and this is their key, and where their symbols lie
+-- the digest, where there is one, is the SHA-256 of the slice
+abbrev pub IsDigestOf : List ℕ → Option Digest → Type 0
+IsDigestOf slice digest = MatchOption digest (Unit {0}) (λ d. d.0 ≡ sha256 slice)
+
+-- what is found out of a slice: the bytes are valid, this is their key, and where their symbols lie, and their digest
+-- where it was asked for
 pub record IsCheckedOf (bytes : List ℕ) (facts : SliceFacts) : Type 0 where
   pub image : IsRead bytes facts.key.uuid facts.symtab
   pub symbols : HasSymbols bytes
   pub key_is : facts.key ≡ key_of bytes
+  pub digest : IsDigestOf bytes facts.digest

@@ -61,7 +61,7 @@ impl Operation {
         }
     }
 
-    /// Keeps the digest of the slice that it admits beside its table, where it has one.
+    /// Keeps the digest of the slice that it admits, so that it is computed once.
     pub fn keep_digest(&mut self)
         ensures { self.new ≡ self.old }
     {

@@ -5,7 +5,6 @@ ghost use Rattle.std.specs.Option.{option_map};
 ghost use Rattle.macho_symbols.specs.Fault.{HasSymbols};
 ghost use Rattle.macho_symbols.specs.Found.{FindsNearest};
 ghost use Rattle.macho_symbols.specs.Views.{found_view};
-ghost use Rattle.archive_core.specs.Beside.{IsBesideOf};
 ghost use Rattle.archive_core.specs.Valid.{IsValid, IsSliceFault, IsAdmitFault, IsCheckedOf, key_of};
 
 use crate::{AdmitFault, ArchKey, Digest, SliceFault, SliceKey};
@@ -15,15 +14,17 @@ use memory::{Heap, NoMemory};
 use sha2::{Digest as _, Sha256};
 use std::marker::Model;
 
-/// What a check finds out of a slice, so that its bytes are read once: its key, and where its symbols lie.
+/// What is found out of a slice, so that its bytes are read once: its key and where its symbols lie, by its check, and
+/// its digest, once that was asked for and kept.
 #[derive(Clone, Copy, Debug)]
 pub struct SliceFacts {
     key: SliceKey,
     symtab: Option<Symtab>,
+    digest: Option<Digest>,
 }
 
-/// A slice whose bytes are borrowed: the bytes of a valid image with valid symbols, with what their check found
-/// out. A contract sees it as its bytes.
+/// A slice whose bytes are borrowed: the bytes of a valid image with valid symbols, with what was found out of them. A
+/// contract sees it as its bytes.
 ///
 /// No call reads the load commands again, but for what it is asked of them.
 #[derive(Drop)]
@@ -46,21 +47,14 @@ impl<'a> Model for CheckedSlice<'a> {
 /// A slice that an archive keeps: the bytes of a valid image with valid symbols, owned. A contract sees it as its
 /// bytes.
 ///
-/// What its check found out is kept beside the bytes: every comparison of records begins with the key, and every
-/// lookup reads the symbols.
+/// What was found out of it is kept beside the bytes: every comparison of records begins with the key, and every
+/// lookup reads the symbols. A slice that is asked often may have its table of addresses beside it, in a box of its own,
+/// so that a slice without one is small.
 #[derive(Drop)]
 pub struct Slice {
     bytes: Vec<u8, Heap>,
     facts: SliceFacts,
-    beside: Option<Box<Beside, Heap>>,
-}
-
-// What may be kept beside a slice that is asked often: its table of addresses, and then its digest. In a box of its
-// own, so that a slice without it is small.
-#[derive(Drop)]
-struct Beside {
-    table: AddressTable,
-    digest: Option<Digest>,
+    table: Option<Box<AddressTable, Heap>>,
 }
 
 impl Model for Slice {
@@ -70,25 +64,13 @@ impl Model for Slice {
     ghost Value = { List ℕ };
 
     ghost use Rattle.std.specs.Prelude.{MatchOption};
-    ghost use Rattle.archive_core.specs.Beside.{IsBesideOf};
+    ghost use Rattle.macho_symbols.specs.Table.{IsTableOf};
 
     ghost view = { λ slice. slice.bytes.items };
 
     ghost invariant = { λ slice.
         IsCheckedOf slice.bytes.items slice.facts
-        × MatchOption slice.beside (Unit {0}) (λ beside. IsBesideOf slice.bytes.items beside.value) };
-}
-
-impl Beside {
-    // Keeps the digest of the slice that it is beside, where none is kept.
-    fn keep_digest(&mut self, slice: &[u8])
-        requires { IsBesideOf slice.now self.old }
-        ensures { IsBesideOf slice.now self.new }
-    {
-        if self.digest.is_none() {
-            self.digest = Some(Digest(Sha256::digest(slice)));
-        }
-    }
+        × MatchOption slice.table (Unit {0}) (λ table. IsTableOf table.value slice.bytes.items) };
 }
 
 impl<'a> CheckedSlice<'a> {
@@ -108,7 +90,7 @@ impl<'a> CheckedSlice<'a> {
         self.bytes
     }
 
-    /// What the check found out, for who takes the bytes over: [`Slice::of_checked`].
+    /// What was found out, for who takes the bytes over: [`Slice::of_checked`].
     pub fn facts(&self) -> SliceFacts
         ensures { IsCheckedOf self.now result }
     {
@@ -122,11 +104,21 @@ impl<'a> CheckedSlice<'a> {
         self.facts.key
     }
 
-    /// The SHA-256 of the bytes, computed anew by each call.
+    /// The SHA-256 of the bytes, computed anew where it is not kept.
     pub fn digest(&self) -> Digest
         ensures { result.0 ≡ sha256 self.now }
     {
-        Digest(Sha256::digest(self.bytes))
+        match self.facts.digest {
+            Some(digest) => digest,
+            None => Digest(Sha256::digest(self.bytes)),
+        }
+    }
+
+    /// Keeps the digest among what was found out. Nothing that is asked of the slice depends on it.
+    pub fn keep_digest(&mut self)
+        ensures { self.new ≡ self.old }
+    {
+        self.facts.digest = Some(self.digest());
     }
 
     /// The image.
@@ -199,7 +191,7 @@ impl Slice {
         Slice {
             bytes,
             facts,
-            beside: None,
+            table: None,
         }
     }
 
@@ -240,11 +232,6 @@ impl Slice {
         ensures digest { result.0 ≡ sha256 self.now }
         ensures valid { IsValid self.now }
     {
-        if let Some(beside) = &self.beside {
-            if let Some(digest) = beside.digest {
-                return digest;
-            }
-        }
         self.lend().digest()
     }
 
@@ -252,34 +239,27 @@ impl Slice {
     pub fn keep_table(&mut self, heap: &Heap) -> Result<(), NoMemory>
         ensures { self.new ≡ self.old }
     {
-        if self.beside.is_some() {
+        if self.table.is_some() {
             return Ok(());
         }
         let table = AddressTable::build(heap.clone()?, &self.symbols())?;
-        let beside = Beside {
-            table,
-            digest: None,
-        };
-        self.beside = Some(Box::new(heap.clone()?, beside)?);
+        self.table = Some(Box::new(heap.clone()?, table)?);
         Ok(())
     }
 
-    /// Keeps the digest, where there is a table and no digest is kept.
+    /// Keeps the digest, so that it is computed once. Nothing that is asked of the slice depends on it.
     pub fn keep_digest(&mut self)
         ensures { self.new ≡ self.old }
     {
-        let Some(beside) = &mut self.beside else {
-            return;
-        };
-        beside.keep_digest(&self.bytes);
+        self.facts.digest = Some(self.digest());
     }
 
     /// The nearest symbol of an address in the slice's file: out of the table, or by a scan where there is none.
     pub fn nearest(&self, address: u64) -> Option<Found<'_>>
         ensures { FindsNearest self.now address (option_map found_view result) }
     {
-        match &self.beside {
-            Some(beside) => beside.table.nearest(address, &self.bytes),
+        match &self.table {
+            Some(table) => table.nearest(address, &self.bytes),
             None => self.symbols().nearest_plain(address),
         }
     }
@@ -316,5 +296,6 @@ fn facts_in(image: &Image<'_>) -> SliceFacts
             },
         },
         symtab,
+        digest: None,
     }
 }

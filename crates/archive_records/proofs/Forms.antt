@@ -139,7 +139,7 @@ pub item-found : (file : Format) (item : List ℕ) (found : Option SliceFacts) �
 item-found Archive item found is = record-found item found is
 item-found OldArchive item found is = record-found item found is
 item-found Operations item found is = record-found item found is
-item-found Summary item found is = is
+item-found Summary item found is = is.0
 
 pub long-retirement : (bytes : List ℕ) → Retires bytes → length bytes ≡ 57
 long-retirement bytes t = (parts-retires bytes t).long

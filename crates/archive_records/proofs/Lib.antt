@@ -11,6 +11,7 @@ pub mod Tested
 pub mod Ends
 pub mod Apart
 pub mod Longest
+pub mod KeptRecords
 pub mod Fronted
 pub mod Grown
 pub mod FaultKinds
@@ -27,7 +28,6 @@ pub mod Versions
 pub mod Inputs
 pub mod Ascending
 pub mod Taken
-pub mod KeptRecords
 pub mod Blamed
 pub mod Together
 pub mod Gathered

@@ -94,11 +94,16 @@ abbrev pub IsFound : List ℕ → Option SliceFacts → Type 0
 IsFound bytes None = Retires bytes
 IsFound bytes (Some facts) = Admits bytes × IsCheckedOf (drop 33 bytes) facts
 
+-- the same of what was read last, where that is a record
+abbrev pub IsFoundOfLast : List ℕ → Option SliceFacts → Type 0
+IsFoundOfLast last None = IsRecord last → Retires last
+IsFoundOfLast last (Some facts) = IsFound last (Some facts)
+
 -- the same of an item of such a file; an entry has no slice
 abbrev pub IsFoundIn : TextKind → List ℕ → Option SliceFacts → Type 0
 IsFoundIn Archive_text item found = IsFound item found
 IsFoundIn Operations_text item found = IsFound item found
-IsFoundIn Summary_text item found = IsEntry item
+IsFoundIn Summary_text item found = IsEntry item × (found ≡ None)
 
 -- what holds where the file ends
 abbrev pub IfEnd : NextRecord → Type 0 → Type 0

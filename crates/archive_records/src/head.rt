@@ -3,7 +3,6 @@
 ghost use Rattle.std.specs.Prelude.{◌≡◌, ◌+◌, ◌<◌, ◌≤◌, ◌^◌, ◌↔◌, ◌∷◌, ◌++◌, IsTrue};
 ghost use Rattle.std.specs.Prelude.{IfSome, length, slice_index, take, drop};
 ghost use Rattle.std.specs.Int.{w32, w64, from_be_bytes, to_be_bytes};
-ghost use Rattle.sha2.specs.Sha256.{sha256};
 ghost use Rattle.archive_core.specs.Key.{IsKey, key_bytes};
 ghost use Rattle.archive_core.specs.Valid.{key_of};
 ghost use Rattle.archive_core.specs.Record.{retirement_record};
@@ -14,7 +13,6 @@ ghost use Rattle.archive_records.specs.Text.{end_record};
 use crate::format::Format;
 use archive_core::{ArchKey, Digest, Slice, SliceKey};
 use byteorder::{BigEndian, ByteOrder};
-use sha2::{Digest as _, Sha256};
 use uuid::Uuid;
 
 /// How many bytes stand before the first record.
@@ -224,12 +222,4 @@ pub fn digest_in(bytes: &[u8]) -> Digest
     let mut digest = [0; 32];
     digest.copy_from_slice(&bytes[25..57]);
     Digest(digest)
-}
-
-/// The digest of the slice in the record of an admission, which is hashed.
-pub fn slice_digest_in(bytes: &[u8]) -> Digest
-    requires { 33 ≤ length bytes.now }
-    ensures { result.0 ≡ sha256 (drop 33 bytes.now) }
-{
-    Digest(Sha256::digest(&bytes[ADMISSION_HEAD_LEN..]))
 }

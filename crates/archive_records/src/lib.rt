@@ -44,7 +44,7 @@ pub use fault::{MergeCause, MergeFault, RecordFault, RecordFaultKind};
 pub use format::Format;
 pub use head::{
     ADMISSION_HEAD_LEN, MAGIC_LEN, admission_head, digest_in, end_bytes, key_front, key_in,
-    retirement_bytes, slice_digest_in,
+    retirement_bytes,
 };
 pub use kind::TextKind;
 pub use next::NextRecord;

@@ -4,13 +4,14 @@ ghost use Rattle.std.specs.Prelude.{◌≡◌, ◌≢◌, ◌-◌, ◌<◌, ◌�
 ghost use Rattle.std.specs.Prelude.{false};
 ghost use Rattle.std.specs.Prelude.{OnOk, IfOk, IfErr};
 ghost use Rattle.archive_core.specs.Content.{is_covered};
+ghost use Rattle.archive_core.specs.Record.{IsRecord};
 ghost use Rattle.std.specs.Io.KnownBytes.{Consumes, IsAtEnd};
 ghost use Rattle.archive_records.specs.declared.format.Format.{Format};
 ghost use Rattle.archive_records.specs.declared.format.Format.TheVariants.{Archive};
 ghost use Rattle.archive_records.specs.declared.fault.RecordFaultKind.TheVariants.{Covered, OutOfMemory};
-ghost use Rattle.archive_records.specs.Kind.{magic_of, kind_of, end_length, IsItem};
+ghost use Rattle.archive_records.specs.Kind.{magic_of, kind_of, end_length};
 ghost use Rattle.archive_records.specs.Reader.{Position, Bounds, Advances, BlamesReader, FaultBlamesReader, KeepsIn};
-ghost use Rattle.archive_records.specs.Reader.{set_of};
+ghost use Rattle.archive_records.specs.Reader.{IsFoundIn, IsFoundOfLast, set_of};
 ghost use Rattle.archive_records.specs.Reader.{bytes_so_far, StopsInMagicOf, HasRead, HasReadAll, Stopped};
 
 use crate::buffer::{Buffer, fill};
@@ -19,6 +20,7 @@ use crate::format::Format;
 use crate::kind::TextKind;
 use crate::next::{NextRecord, read_next};
 use crate::retired::Retired;
+use archive_core::SliceFacts;
 use byte_device::{Failed, Source, is_at_end};
 use memory::{Heap, NoMemory};
 use std::cmp::Ordering;
@@ -36,6 +38,8 @@ pub struct RecordReader {
     file: Format,
     /// The last record.
     buffer: Buffer,
+    /// What was found out of its slice, if it has one.
+    found: Option<SliceFacts>,
     /// Where the next piece of a record is pulled to.
     chunk: Vec<u8, Heap>,
     count: u64,
@@ -59,7 +63,8 @@ impl Model for RecordReader {
       dropped = r.dropped;
     } };
 
-    ghost invariant = { λ r. Bounds (length r.chunk.items) r.count r.offset };
+    ghost invariant = { λ r. Bounds (length r.chunk.items) r.count r.offset
+        × IsFoundOfLast r.buffer.bytes.items r.found };
 }
 
 // A place for pieces of this many bytes.
@@ -103,8 +108,14 @@ fn read_magic<R: Source>(
 
 /// What the retirements of an archive say of one item more: whether it is dropped, and one more is kept. In an archive
 /// of version 1 what is covered is dropped, and no fault.
-fn keep(file: Format, retired: &mut Retired, bytes: &[u8]) -> Result<bool, RecordFaultKind>
-    requires { IsItem file bytes.now }
+fn keep(
+    file: Format,
+    retired: &mut Retired,
+    bytes: &[u8],
+    found: &mut Option<SliceFacts>,
+) -> Result<bool, RecordFaultKind>
+    requires { IsFoundIn (kind_of file) bytes.now found.old }
+    ensures found { IsFoundIn (kind_of file) bytes.now found.new }
     ensures kept { IfOk result (λ dropped. KeepsIn file retired.old retired.new dropped bytes.now) }
     ensures refused { IfErr result (λ kind.
         ((kind ≡ OutOfMemory) × (is_covered (set_of retired.old) bytes.now ≡ false))
@@ -112,8 +123,8 @@ fn keep(file: Format, retired: &mut Retired, bytes: &[u8]) -> Result<bool, Recor
 {
     match file {
         Format::Operations | Format::Summary => Ok(false),
-        Format::OldArchive => retired.take(bytes),
-        Format::Archive => match retired.take(bytes) {
+        Format::OldArchive => retired.take(bytes, found),
+        Format::Archive => match retired.take(bytes, found) {
             Ok(true) => Err(RecordFaultKind::Covered),
             kept => kept,
         },
@@ -153,6 +164,7 @@ impl RecordReader {
         Ok(RecordReader {
             file,
             buffer,
+            found: None,
             chunk,
             count: 0,
             offset: 8,
@@ -189,11 +201,14 @@ impl RecordReader {
         self.offset.saturating_sub(self.buffer.bytes.len() as u128)
     }
 
-    /// Whether one of the retirements that were read covers the whole record.
-    pub fn retires(&self, bytes: &[u8]) -> bool
-        ensures { 33 ≤ length bytes.now → result ≡ is_covered (set_of self.now.retired) bytes.now }
+    /// Whether one of the retirements that were read covers the last record of another reader. The slice of that is
+    /// hashed where a retirement of its key was read, and no reader has hashed it.
+    pub fn retires(&self, other: &mut RecordReader) -> bool
+        ensures retires { IsRecord other.old.last
+            → result ≡ is_covered (set_of self.now.retired) other.old.last }
+        ensures same { other.new ≡ other.old }
     {
-        self.retired.retires(bytes)
+        self.retired.retires(&other.buffer.bytes, &mut other.found)
     }
 
     /// Reads the next record over the last, or else what ends the file. Where memory is wanted for a record that came
@@ -201,10 +216,20 @@ impl RecordReader {
     pub fn advance<R: Source>(&mut self, r: &mut R) -> Result<NextRecord, RecordFault>
         ensures { Advances R.left R.failures r.old r.new self.old self.new result }
     {
+        self.found = None;
         match read_next(self.file, r, &mut self.chunk, &mut self.buffer, self.count) {
-            Ok(NextRecord::End) => Ok(NextRecord::End),
+            Ok(NextRecord::End) => {
+                self.buffer.bytes.clear();
+                Ok(NextRecord::End)
+            }
             Ok(NextRecord::Item(found)) => {
-                match keep(self.file, &mut self.retired, &self.buffer.bytes) {
+                self.found = found;
+                match keep(
+                    self.file,
+                    &mut self.retired,
+                    &self.buffer.bytes,
+                    &mut self.found,
+                ) {
                     Ok(dropped) => self.dropped = dropped,
                     Err(kind) => {
                         return Err(RecordFault {
@@ -219,7 +244,7 @@ impl RecordReader {
                 }
                 self.count += 1;
                 self.offset += self.buffer.bytes.len() as u128;
-                Ok(NextRecord::Item(found))
+                Ok(NextRecord::Item(self.found))
             }
             Err(kind) => {
                 self.buffer.bytes.clear();

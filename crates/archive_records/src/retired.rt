@@ -5,17 +5,18 @@ ghost use Rattle.std.specs.FinSet as set;
 ghost use Rattle.std.specs.Ordering.{nat_cmp};
 ghost use Rattle.std.specs.Cmp.Lexicographic.{slice_cmp};
 ghost use Rattle.std.specs.List.Sorted.{IsStrictlySortedBy, IsSearchInRange};
-ghost use Rattle.join_core.specs.InnerSearch.{IsFound};
-ghost use Rattle.archive_core.specs.Record.{IsRecord};
-ghost use Rattle.archive_core.specs.Content.{is_covered, covering};
+ghost use Rattle.join_core.specs.InnerSearch.{IsFound as IsFoundAt};
+ghost use Rattle.sha2.specs.Sha256.{sha256};
+ghost use Rattle.archive_core.specs.Key.{key_bytes};
+ghost use Rattle.archive_core.specs.Valid.{key_of};
+ghost use Rattle.archive_core.specs.Record.{IsRecord, retirement_record};
+ghost use Rattle.archive_core.specs.Content.{is_covered};
 ghost use Rattle.archive_records.specs.declared.fault.RecordFaultKind.TheVariants.{OutOfMemory};
-ghost use Rattle.archive_records.specs.Reader.{Keeps, set_of};
+ghost use Rattle.archive_records.specs.Reader.{IsFound, IsFoundOfLast, Keeps, set_of};
 
 use crate::fault::RecordFaultKind;
-use crate::head::{
-    ADMISSION, ADMISSION_HEAD_LEN, RETIREMENT, RETIREMENT_LEN, key_in, slice_digest_in,
-    tagged_bytes,
-};
+use crate::head::{ADMISSION_HEAD_LEN, RETIREMENT, RETIREMENT_LEN, key_front, retirement_bytes};
+use archive_core::{CheckedSlice, SliceFacts, SliceKey};
 use memory::{Heap, NoMemory};
 use std::cmp::Ordering;
 use std::marker::Model;
@@ -59,29 +60,21 @@ fn compare_whole(a: &[u8; 57], b: &[u8; 57]) -> Ordering
 /// Whether the retirement is among these, which ascend.
 fn search(records: &[[u8; 57]], retirement: &[u8; 57]) -> Result<usize, usize>
     requires { IsStrictlySortedBy (slice_cmp nat_cmp) records.now }
-    ensures found { IsFound (slice_cmp nat_cmp) records.now retirement.now result }
+    ensures found { IsFoundAt (slice_cmp nat_cmp) records.now retirement.now result }
     ensures within { IsSearchInRange result (length records.now) }
 {
     records.binary_search_by(|kept| compare_whole(kept, retirement))
 }
 
-/// The tag and the key of the retirement that would cover an admission.
-fn front_of(bytes: &[u8]) -> [u8; 25]
-    requires { 25 ≤ length bytes.now }
-    ensures { result ≡ 1 ∷ take 24 (drop 1 bytes.now) }
+/// The tag and the key of the retirements of a key.
+fn front_of(key: &SliceKey) -> [u8; 25]
+    ensures front { result ≡ 1 ∷ key_bytes key.now }
+    ensures long { length (key_bytes key.now) ≡ 24 }
 {
     let mut front = [0; FRONT];
     front[0] = RETIREMENT;
-    front[1..].copy_from_slice(&bytes[1..FRONT]);
+    front[1..].copy_from_slice(&key_front(key));
     front
-}
-
-/// The record of the retirement that would cover an admission. Its slice is hashed.
-fn covering_of(bytes: &[u8]) -> [u8; 57]
-    requires { 33 ≤ length bytes.now }
-    ensures { result ≡ covering bytes.now }
-{
-    tagged_bytes(RETIREMENT, &key_in(bytes), &slice_digest_in(bytes))
 }
 
 /// The record of a retirement.
@@ -94,7 +87,7 @@ fn record_of(bytes: &[u8]) -> [u8; 57]
     record
 }
 
-/// Whether a retirement of the admission's key is among these, which ascend.
+/// Whether a retirement that begins so is among these, which ascend.
 fn has_front(records: &[[u8; 57]], front: &[u8; 25]) -> bool
     requires { IsStrictlySortedBy (slice_cmp nat_cmp) records.now }
     ensures { (r : List ℕ) → take 25 r ≡ front.now
@@ -115,23 +108,35 @@ impl Retired {
         }
     }
 
-    /// Whether the retirement is there that covers the admission. The slice is hashed only where a retirement of its
-    /// key is there.
-    fn covers_admission(&self, bytes: &[u8]) -> bool
-        requires { 33 ≤ length bytes.now }
-        ensures { result ≡ set.contains (set_of self.now) (covering bytes.now) }
+    /// Whether the retirement is there that covers the slice. Its digest is kept where a retirement of its key is there,
+    /// and not asked for elsewhere.
+    fn covers(&self, slice: &mut CheckedSlice<'_>) -> bool
+        ensures covers { result
+            ≡ set.contains (set_of self.now) (retirement_record (key_of slice.old) (sha256 slice.old)) }
+        ensures same { slice.new ≡ slice.old }
     {
-        if !has_front(&self.records, &front_of(bytes)) {
+        let key = slice.key();
+        if !has_front(&self.records, &front_of(&key)) {
             return false;
         }
-        search(&self.records, &covering_of(bytes)).is_ok()
+        slice.keep_digest();
+        search(&self.records, &retirement_bytes(&key, &slice.digest())).is_ok()
     }
 
-    /// Whether one of them covers the whole record.
-    pub fn retires(&self, bytes: &[u8]) -> bool
-        ensures { 33 ≤ length bytes.now → result ≡ is_covered (set_of self.now) bytes.now }
+    /// Whether one of them covers the whole record, by what was found out of its slice. A digest that is asked for is
+    /// found out for whoever asks next.
+    pub fn retires(&self, bytes: &[u8], found: &mut Option<SliceFacts>) -> bool
+        requires { IsFoundOfLast bytes.now found.old }
+        ensures retires { IsRecord bytes.now → result ≡ is_covered (set_of self.now) bytes.now }
+        ensures found { IsFoundOfLast bytes.now found.new }
     {
-        bytes.len() >= ADMISSION_HEAD_LEN && bytes[0] == ADMISSION && self.covers_admission(bytes)
+        let Some(facts) = found else {
+            return false;
+        };
+        let mut slice = CheckedSlice::of_checked(&bytes[ADMISSION_HEAD_LEN..], *facts);
+        let covered = self.covers(&mut slice);
+        *facts = slice.facts();
+        covered
     }
 
     /// Keeps one more. Refused for want of memory alone.
@@ -146,16 +151,21 @@ impl Retired {
         Ok(())
     }
 
-    /// Keeps the record if it is a retirement, and answers whether one of them covers it. Refused for want of memory
-    /// alone.
-    pub fn take(&mut self, bytes: &[u8]) -> Result<bool, RecordFaultKind>
-        requires { IsRecord bytes.now }
+    /// Keeps the record if it is a retirement, and answers whether one of them covers it, by what was found out of its
+    /// slice. Refused for want of memory alone.
+    pub fn take(
+        &mut self,
+        bytes: &[u8],
+        found: &mut Option<SliceFacts>,
+    ) -> Result<bool, RecordFaultKind>
+        requires { IsFound bytes.now found.old }
+        ensures found { IsFound bytes.now found.new }
         ensures kept { IfOk result (λ covered. Keeps self.old self.new covered bytes.now) }
         ensures refused { IfErr result (λ kind. (kind ≡ OutOfMemory)
             × (is_covered (set_of self.old) bytes.now ≡ false)) }
     {
-        if bytes[0] != RETIREMENT {
-            return Ok(self.retires(bytes));
+        if found.is_some() {
+            return Ok(self.retires(bytes, found));
         }
         match self.keep(bytes) {
             Ok(()) => Ok(false),
