@@ -246,9 +246,9 @@ class Archive:
     def replace(self, room, file, index, lines, screen):
         """Gives the new file of a room, which is synced, the name of a file, and what it may have of the archive's
         owner and rights. Syncs the name."""
-        new = os.path.join(room, b"new")
+        new, before = os.path.join(room, b"new"), self.pending()
         try:
-            self.lay(room, self.beside(NEXT_LOG), self.pending() + dated(lines))
+            self.lay(room, self.beside(NEXT_LOG), before + dated(lines))
             self.lay_index(room, file, NEXT_INDEX, index, new)
             self.give_rights(new)
             # What is known of the new archive is there before it.
@@ -256,7 +256,7 @@ class Archive:
             os.replace(new, file.path)
         except OSError:
             file.drop(NEXT_INDEX)
-            self.drop(NEXT_LOG)
+            self.leave_pending(len(before))
             raise
         sync_folder(self.folder)
         file.index, file.content = index, index.content()
@@ -318,6 +318,13 @@ class Archive:
                 return file.read()
         except FileNotFoundError:
             return b""
+
+    def leave_pending(self, size):
+        """Drops the lines after so many bytes. It needs no room on the disk."""
+        if size:
+            os.truncate(self.beside(NEXT_LOG), size)
+        else:
+            self.drop(NEXT_LOG)
 
     def log_ends_with(self, text):
         try:

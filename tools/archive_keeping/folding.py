@@ -11,7 +11,7 @@ that has all; the next word empties this one then.
 
 Status:
   0    ARCHIVE has all, and ARCHIVE.today nothing
-  2    ARCHIVE has all, and some line could not be kept
+  2    ARCHIVE has all, and some line could not be kept or ARCHIVE.today not be emptied; the next call does that
   3    the words have another form
   4    ARCHIVE could not be read or written, or memory ran out: both are as they were
   126  there is no program"""

@@ -10,7 +10,7 @@ what could not be mended is printed with `changed`.
 
 Status:
   0    all is as it was
-  2    something is still changed, or some line could not be printed or kept
+  2    something is still changed, or some line could not be printed or kept, or one of two files not be mended
   3    the words have another form
   4    something could not be read or written, or there is no ARCHIVE.idx: ARCHIVE and ARCHIVE.today are as they were
   126  there is no program"""
@@ -115,6 +115,8 @@ def tried(archive, file, program, other, screen, is_first):
         return repair(archive, file, program, other, screen)
     except Refused as refused:
         failed = Failed(f"{shown(refused.one.path)}: {refused}", 4)
+    except OSError as error:
+        failed = Failed(f"{shown(file.path)}: {error.strerror}", 4)
     except Failed as fault:
         failed = fault
     if is_first:

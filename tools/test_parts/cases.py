@@ -10,6 +10,8 @@ import tempfile
 
 TOP = pathlib.Path(__file__).resolve().parent.parent.parent
 symarch = os.path.abspath(os.environ.get("SYMARCH") or TOP / "crates" / "symarch" / "out" / "symarch")
+# How root runs a command that may not read each file.
+NOT_ROOT = ["setpriv", "--bounding-set=-dac_override,-dac_read_search"]
 
 
 class Wrong(Exception):
@@ -34,6 +36,14 @@ def is_done(words):
     with contextlib.suppress(OSError):
         return subprocess.run(words, capture_output=True, check=False).returncode == 0
     return False
+
+
+def powerless_over(path):
+    """The words before a command that may not read a file without rights."""
+    before = NOT_ROOT if os.getuid() == 0 else []
+    if not is_done([*before, "true"]) or is_done([*before, "cat", path]):
+        raise Without("root's rights cannot be given up")
+    return before
 
 
 def pieces_in(path):

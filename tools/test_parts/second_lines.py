@@ -9,7 +9,8 @@ ARCHIVE = ", an archive, which `merge` takes"
 # What is at OUT that a command does not replace.
 FOREIGN = ", there, and neither empty nor one of symarch's files"
 DAMAGED = ", there, and an archive that is damaged"
-# Which word an input is that is not the first one, and OUT that is not the second one. FILEs begin behind OUT.
+# Which word an input is that is not the first one, and OUT that is not the second one. FILEs begin behind OUT, and an
+# INDEX stands after its option.
 PLACES = {"frames": {"archive": 2}, "delta": {"summary": 2}, "apply": {"ops": 3}}
 OUT_PLACES = {"new": 1, "delta": 3}
 
@@ -30,6 +31,8 @@ def path_in(words, line):
     place, number = re.match(r"([a-z]+)(?: ([0-9]+))?: ", line).groups()
     if place == "output":
         return words[OUT_PLACES.get(words[0], 2)]
+    if place == "index":
+        return [word for option, word in zip(words, words[1:]) if option == "--index"][int(number)]
     if place == "file" or (place == "archive" and int(number) > 0):
         return words[3 + int(number) - (place == "archive")]
     return words[PLACES.get(words[0], {}).get(place, 1)]

@@ -2,8 +2,8 @@
 import os
 
 from .cases import same
-from .made_images import EMPTY, slice_words
-from .rooms import bytes_of, today_of
+from .made_images import EMPTY, index_of, slice_words
+from .rooms import bytes_of, kept_index, today_of
 
 DATE = r"[0-9]{4}-[0-9]{2}-[0-9]{2}T[0-9]{2}:[0-9]{2}:[0-9]{2}Z"
 
@@ -52,6 +52,15 @@ def until_same(sites, wanted, between=lambda: None, most=4):
     for site in sites:
         site.exchange()
     same("archives that were written again", [path.stat().st_ino for path in files], before)
+
+
+def folded(sites, wanted):
+    """After a fold the archive of each site alone has all, with its index."""
+    for site in sites:
+        site.room.call("fold", site.archive)
+        same(f"archive of {site.name} after a fold", site.archive.read_bytes(), wanted)
+        same(f"archive of today of {site.name}", today_of(site.archive).read_bytes(), EMPTY)
+        same(f"index of {site.name}", kept_index(site.archive), index_of(wanted))
 
 
 def state_of(folder):
