@@ -141,8 +141,8 @@ fn read_records<T: FromRecords + Drop, R: Source>(
     Ok(taker)
 }
 
-/// Reads a whole input as the text of a file, and tells what is asked of it. Memory that is wanted behind the last record
-/// is reported after the magic, a good front of every text.
+/// Reads a whole input as the text of a file, and tells what is asked of it. Memory that is wanted behind the last
+/// record is reported after the magic, a good front of every text.
 pub fn tell_text<T: FromRecords + Drop, R: Source>(
     heap: &Heap,
     file: TextKind,
