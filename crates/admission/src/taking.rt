@@ -25,12 +25,13 @@ fn taken_if(changed: bool, key: SliceKey, digest: Digest) -> Taken
 }
 
 /// Takes a slice, and tells what became of it.
-fn take_slice<A: Archive>(archive: &mut A, slice: Slice) -> Result<Taken, NoMemory>
+fn take_slice<A: Archive>(archive: &mut A, mut slice: Slice) -> Result<Taken, NoMemory>
     ensures content { OnOk result (A.content archive.new ≡ admitted (A.content archive.old) (slice ∷ [])) }
     ensures row { IfOk result (λ row. row ≡ taken_of (A.content archive.old) slice) }
     ensures refused { OnErr result (A.content archive.new ≡ A.content archive.old) }
 {
     let key = slice.key();
+    slice.keep_digest();
     let digest = slice.digest();
     let changed = archive.take(Operation::Admit(slice))?;
     Ok(taken_if(changed, key, digest))

@@ -7,22 +7,25 @@ ghost use Rattle.archive_records.specs.declared.kind.TextKind.TheVariants.{Archi
 ghost use Rattle.archive_records.specs.Reading.{ReadsInPart};
 ghost use Rattle.archive_records.specs.Reader.{IsFound};
 
-use archive_core::SliceFacts;
+use archive_core::{CheckedSlice, SliceFacts};
 use archive_records::{
-    Entry, FromRecords, RecordFault, Summary, TextKind, digest_in, key_in, slice_digest_in,
+    ADMISSION_HEAD_LEN, Entry, FromRecords, RecordFault, Summary, TextKind, digest_in, key_in,
     tell_text,
 };
 use byte_device::Source;
 use memory::{Heap, NoMemory};
 
-/// The entry of a record, by what was found out of its slice, which is hashed.
+/// The entry of a record, by what was found out of its slice, which is hashed where its digest was not.
 pub fn entry_of(bytes: &[u8], found: Option<SliceFacts>) -> Entry
     requires { IsFound bytes.now found }
     ensures { entry_bytes result ≡ entry bytes.now }
 {
     match found {
         None => Entry::Retirement(key_in(bytes), digest_in(bytes)),
-        Some(_) => Entry::Admission(key_in(bytes), slice_digest_in(bytes)),
+        Some(facts) => {
+            let slice = CheckedSlice::of_checked(&bytes[ADMISSION_HEAD_LEN..], facts);
+            Entry::Admission(slice.key(), slice.digest())
+        }
     }
 }
 

@@ -41,7 +41,7 @@ impl Arrivals {
     }
 
     /// Takes a slice, whose row is to come next, and tells what became of it.
-    fn take_slice(&mut self, slice: Slice) -> Result<Taken, NoMemory>
+    fn take_slice(&mut self, mut slice: Slice) -> Result<Taken, NoMemory>
         ensures came { OnOk result (self.new.came ≡ admitted self.old.came (slice ∷ [])) }
         ensures taken { IfOk result (λ taken. taken ≡ taken_of self.old.came slice) }
         ensures rows { OnOk result (self.new.rows.items ≡ self.old.rows.items) }
@@ -51,6 +51,7 @@ impl Arrivals {
             (records ++ admission_record slice ∷ [])) }
     {
         let key = slice.key();
+        slice.keep_digest();
         let digest = slice.digest();
         let row = self.rows.len() as u64;
         let place = self.came.admit_at(slice)?;

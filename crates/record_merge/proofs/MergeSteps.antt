@@ -29,7 +29,7 @@ use Rattle.archive_records.proofs.Apart.{covered_push, last_of-push}
 use Rattle.archive_records.proofs.Ascending.{below-less, below-greater, last_is_record, last_under}
 use Rattle.archive_core.specs.Content.{is_covered}
 use Rattle.archive_records.specs.Reader.{set_of}
-use Rattle.archive_records.proofs.KeptRecords.{kept_push, kept_pass, long_record}
+use Rattle.archive_records.proofs.KeptRecords.{kept_push, kept_pass}
 use Rattle.record_merge.proofs.Covered.{dropped_own, by_both, by_other}
 use Rattle.archive_records.proofs.Formats.{in_order_of}
 use Rattle.record_merge.proofs.Unions.{Joins-left, Joins-right, Joins-both, Joins-swap}
@@ -153,7 +153,7 @@ module _ (a1 b1 a2 b2 w0 w1 w2 : Option (List ℕ)) (m : Merge) (p : Merging a1 
       let told : TellsBy Less m.left m.right b = subst (λ (o : Ordering). TellsBy o m.left m.right b) first tells in
       by_other p.out p.lefts p.rights x p.joins a2 b2 (last_of [] p.out) m.right p.right read (λ t. below-less _ _ (f.1 t))
       ∙ ap (λ (c : Bool). c || is_covered (set_of m.right.reader.retired) x) (sym (held_dropped a1 b1 p.lefts (last_of [] p.out) m.left p.left f.0))
-      ∙ sym (told (long_record x (held_record a1 b1 p.lefts (last_of [] p.out) m.left p.left f.0)))
+      ∙ sym (told (held_record a1 b1 p.lefts (last_of [] p.out) m.left p.left f.0))
 
   pub greater_covered : m.left.ahead ≢ Unread → (m.left.ahead ≡ Ended → m.right.ahead ≡ Held) → first_of m.left m.right ≡ Greater → (b : Bool) → TellsCovered m.left m.right b → is_covered (set_of (p.out ++ m.right.reader.last ∷ [])) m.right.reader.last ≡ b
   greater_covered read some first b tells =
@@ -162,7 +162,7 @@ module _ (a1 b1 a2 b2 w0 w1 w2 : Option (List ℕ)) (m : Merge) (p : Merging a1 
       let told : TellsBy Greater m.left m.right b = subst (λ (o : Ordering). TellsBy o m.left m.right b) first tells in
       by_other p.out p.rights p.lefts x (Joins-swap p.out p.lefts p.rights p.joins) a1 b1 (last_of [] p.out) m.left p.left read (λ t. below-greater _ _ (f.1 t))
       ∙ ap (λ (c : Bool). c || is_covered (set_of m.left.reader.retired) x) (sym (held_dropped a2 b2 p.rights (last_of [] p.out) m.right p.right f.0))
-      ∙ sym (told (long_record x (held_record a2 b2 p.rights (last_of [] p.out) m.right p.right f.0)))
+      ∙ sym (told (held_record a2 b2 p.rights (last_of [] p.out) m.right p.right f.0))
 
   pub both_covered : first_of m.left m.right ≡ Equal → (b : Bool) → TellsCovered m.left m.right b → is_covered (set_of (p.out ++ m.left.reader.last ∷ [])) m.left.reader.last ≡ b
   both_covered first b tells =

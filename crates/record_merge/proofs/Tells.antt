@@ -173,10 +173,10 @@ module _ (a1 b1 a2 b2 w0 w1 w2 : Option (List ℕ)) (m : Merge) (told : List Tur
       let x = m.right.reader.last in
       let f = first_greater m.left.ahead m.right.ahead _ read some first in
       let above = (p.right.held f.0).1 in
-      let long = long_record x (held_record a2 b2 p.rights (last_of [] p.out) m.right p.right f.0) in
+      let whole = held_record a2 b2 p.rights (last_of [] p.out) m.right p.right f.0 in
       let covers : is_covered (set_of m.left.reader.retired) x ≡ is_covered (set_of p.lefts) x = covered_by a1 b1 p.lefts (last_of [] p.out) m.left x p.left read (λ held. below-greater _ _ (f.1 held)) in
       let here : turn_by (is_covered (set_of m.left.reader.retired) x) false ≡ turn_of (set_of p.lefts) x = ap (λ b. turn_by b false) covers ∙ sym (turn_alone p.out p.lefts p.rights x p.joins above) in
-      ap (told_with told) (tells_by Greater first long) ∙ (λ i. t.turns_are i ++ here i ∷ []) ∙ sym (map-append (turn_of (set_of p.lefts)) p.rights (x ∷ []))
+      ap (told_with told) (tells_by Greater first whole) ∙ (λ i. t.turns_are i ++ here i ∷ []) ∙ sym (map-append (turn_of (set_of p.lefts)) p.rights (x ∷ []))
 
   -- whether the record that is passed over or written is one that the right side retires
   module _ (passed : Bool) (covers : TellsCovered m.left m.right passed) where
@@ -192,7 +192,7 @@ module _ (a1 b1 a2 b2 w0 w1 w2 : Option (List ℕ)) (m : Merge) (told : List Tur
         let test = is_withdrawn (set_of all) (set_of p.rights) in
         let d = m.left.reader.dropped in
         let c = is_covered (set_of m.right.reader.retired) x in
-        let is : passed ≡ (d || c) = covers_by Less first (long_record x (held_record a1 b1 p.lefts (last_of [] p.out) m.left p.left f.0)) in
+        let is : passed ≡ (d || c) = covers_by Less first (held_record a1 b1 p.lefts (last_of [] p.out) m.left p.left f.0) in
         let next : has_next m ≡ not d = ap (λ (o : Ordering). has_next_by o m.left) first in
         let own : d ≡ is_covered (set_of all) x = held_dropped a1 b1 p.lefts (last_of [] p.out) m.left p.left f.0 ∙ sym (covered_push p.lefts x) in
         let others : c ≡ is_covered (set_of p.rights) x = covered_by a2 b2 p.rights (last_of [] p.out) m.right x p.right read (λ held. below-less _ _ (f.1 held)) in

@@ -9,6 +9,7 @@ use Rattle.std.specs.List.{concat, Contains}
 use Rattle.std.specs.Io.KnownBytes.{Appends, Consumes, IsAtEnd}
 use Rattle.byte_device.specs.Devices.{FailedIn}
 use Rattle.archive_core.specs.Content.{is_covered}
+use Rattle.archive_core.specs.Record.{IsRecord}
 use Rattle.archive_records.specs.declared.fault.RecordFault.{RecordFault}
 use Rattle.archive_records.specs.declared.fault.RecordFaultKind.TheVariants.{OutOfMemory}
 use Rattle.archive_records.specs.Front.{front_length}
@@ -83,10 +84,10 @@ first_of left right = first_by left.ahead right.ahead (slice_cmp nat_cmp left.re
 
 -- whether the record that is next was dropped by a side that has it, or a retirement of the other side covers it
 abbrev pub TellsBy : Ordering → MergeInput → MergeInput → Bool → Type 0
-TellsBy Less left right b = 33 ≤ length left.reader.last
+TellsBy Less left right b = IsRecord left.reader.last
     → b ≡ (left.reader.dropped || is_covered (set_of right.reader.retired) left.reader.last)
 TellsBy Equal left right b = b ≡ (left.reader.dropped || right.reader.dropped)
-TellsBy Greater left right b = 33 ≤ length right.reader.last
+TellsBy Greater left right b = IsRecord right.reader.last
     → b ≡ (right.reader.dropped || is_covered (set_of left.reader.retired) right.reader.last)
 
 -- the same of two sides

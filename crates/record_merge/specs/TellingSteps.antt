@@ -1,11 +1,12 @@
 -- What a merge tells of its sides, turn by turn: the words of the inner functions. No contract of a public one has
 -- them.
-use Rattle.std.specs.Prelude.{◌≡◌, ℕ, ◌≤◌, List, [], ◌∷◌, ◌++◌, length, map, Bool, true, false, not, ◌&&◌}
+use Rattle.std.specs.Prelude.{◌≡◌, ℕ, List, [], ◌∷◌, ◌++◌, length, map, Bool, true, false, not, ◌&&◌}
 use Rattle.std.specs.Prelude.{Option, Some, None}
 use Rattle.std.specs.declared.cmp.Ordering.{Ordering}
 use Rattle.std.specs.declared.cmp.Ordering.TheVariants.{Less, Equal, Greater}
 use Rattle.std.specs.List.{list_any}
 use Rattle.archive_core.specs.Content.{Operations, is_covered}
+use Rattle.archive_core.specs.Record.{IsRecord}
 use Rattle.archive_records.specs.declared.writing.Sizes.{Sizes}
 use Rattle.archive_records.specs.Reader.{set_of}
 use Rattle.record_merge.specs.declared.merging.Merge.{Merge}
@@ -18,7 +19,7 @@ use Rattle.record_merge.specs.Turns.{turn_by, turn_of}
 abbrev pub TellsNextBy : Ordering → MergeInput → MergeInput → Option Turn → Type 0
 TellsNextBy Less left right turn = turn ≡ None
 TellsNextBy Equal left right turn = turn ≡ Some (turn_by left.reader.dropped true)
-TellsNextBy Greater left right turn = 33 ≤ length right.reader.last
+TellsNextBy Greater left right turn = IsRecord right.reader.last
     → turn ≡ Some (turn_by (is_covered (set_of left.reader.retired) right.reader.last) false)
 
 abbrev pub TellsNext : Merge → Option Turn → Type 0

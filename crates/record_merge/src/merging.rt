@@ -101,13 +101,14 @@ pub fn first(left: &MergeInput, right: &MergeInput) -> Ordering
 /// Whether a retirement of either side covers the record that is next. One of its own side does so in version 1 alone,
 /// where the reader tells it. All retirements stand before the admissions, so both sides' were read where an admission
 /// is next.
-fn is_covered(left: &MergeInput, right: &MergeInput) -> bool
-    ensures { TellsCovered left.now right.now result }
+fn is_covered(m: &mut Merge) -> bool
+    ensures covered { TellsCovered m.old.left m.old.right result }
+    ensures same { m.new ≡ m.old }
 {
-    match first(left, right) {
-        Ordering::Less => left.reader.dropped() || right.reader.retires(left.reader.last()),
-        Ordering::Equal => left.reader.dropped() || right.reader.dropped(),
-        Ordering::Greater => right.reader.dropped() || left.reader.retires(right.reader.last()),
+    match first(&m.left, &m.right) {
+        Ordering::Less => m.left.reader.dropped() || m.right.reader.retires(&mut m.left.reader),
+        Ordering::Equal => m.left.reader.dropped() || m.right.reader.dropped(),
+        Ordering::Greater => m.right.reader.dropped() || m.left.reader.retires(&mut m.right.reader),
     }
 }
 
@@ -207,7 +208,7 @@ pub fn take_turn<W: Sink>(w: &mut W, m: &mut Merge) -> Result<bool, MergeFault>
     ensures unfailed { OnOk result (W.failures w.new ≡ W.failures w.old) }
     ensures blames { IfErr result (λ e. BlamesWriter (W.failures w.old) (W.failures w.new) e.cause) }
 {
-    if is_covered(&m.left, &m.right) {
+    if is_covered(m) {
         pass_over(m);
         return Ok(true);
     }

@@ -29,14 +29,15 @@ use std::cmp::Ordering;
 
 /// What the record that is next is to the left side: none where it is that side's alone. All of the left side that are
 /// not above it were read, and so were its retirements where it is an admission.
-fn next_turn(m: &Merge) -> Option<Turn>
-    ensures tells { TellsNext m.now result }
-    ensures right { IsSome result → first_of m.now.left m.now.right ≢ Less }
+fn next_turn(m: &mut Merge) -> Option<Turn>
+    ensures tells { TellsNext m.old result }
+    ensures right { IsSome result → first_of m.old.left m.old.right ≢ Less }
+    ensures same { m.new ≡ m.old }
 {
     match first(&m.left, &m.right) {
         Ordering::Less => None,
         Ordering::Equal => Some(turn_by(m.left.reader.dropped(), true)),
-        Ordering::Greater => Some(turn_by(m.left.reader.retires(m.right.reader.last()), false)),
+        Ordering::Greater => Some(turn_by(m.left.reader.retires(&mut m.right.reader), false)),
     }
 }
 

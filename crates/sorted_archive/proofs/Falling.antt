@@ -3,7 +3,7 @@ use Rattle.std.proofs.Common.{◌≡◌, ℕ, zero, suc, ◌+◌, ◌-◌, ◌<�
 use Rattle.std.proofs.lemmas.Bool.Decides.{Decides-eqb}
 use Rattle.std.specs.List.{AllByRecursion, AllWithin, All}
 use Rattle.std.specs.List.Sorted.{IsPartitionedBy}
-use Rattle.std.proofs.lemmas.List.{append-nil, take-append-drop, length-append, length-take-le}
+use Rattle.std.proofs.lemmas.List.{append-nil, drop_all, take_all, take-append-drop, length-append, length-take-le}
 use Rattle.std.proofs.lemmas.List.Elements.{filter-append, filter_passes, All-from_recursion, recursion_from_All}
 use Rattle.join_core.proofs.Place.{along_take, along_drop}
 
@@ -12,6 +12,10 @@ module _ {X : Type 0} where
   pub empty_of : (xs : List X) → (length xs == 0) ≡ true → xs ≡ []
   empty_of [] h = refl
   empty_of (x ∷ xs) h = let none : length (x ∷ xs) ≡ 0 = (Decides-eqb (length (x ∷ xs)) 0).0 h in absurd (omega arith)
+
+  -- what is written back to the front of a list, as it was there, leaves it as it was
+  pub written_back : (old new : List X) (n : ℕ) → new ≡ old → length old ≤ n → take n (new ++ drop (length new) old) ≡ old
+  written_back old new n same long = rw same (ap (λ rest. take n (old ++ rest)) (drop_all (length old) old (omega arith)) ∙ ap (take n) (append-nil old) ∙ take_all n old long)
 
   -- where none passes a test, none is kept
   pub filter_none : (f : X → Bool) (xs : List X) → AllByRecursion (λ x. f x ≡ false) xs → filter f xs ≡ []

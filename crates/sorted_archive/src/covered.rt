@@ -15,7 +15,7 @@ ghost use Rattle.archive_core.specs.InnerHeld.{IsHeld};
 ghost use Rattle.archive_core.specs.declared.operations.Operation.TheVariants.{Retire};
 
 use crate::plain::search;
-use crate::range::{RecordKind, Scope, has_retirement, range_of};
+use crate::range::{RecordKind, Scope, has_retirement, keep_digests_under, range_of};
 use archive_core::{Digest, Operation, Slice, SliceKey};
 use memory::Heap;
 use std::marker::Model;
@@ -89,6 +89,25 @@ impl<'a> Lent<'a> {
         retires(self.operations, slice, near)
     }
 
+    // Keeps the digest of a slice where a retirement of its key stands: whoever asks whether that covers the slice asks
+    // for it.
+    pub(crate) fn keep_digest(&self, slice: &mut Slice, near: &mut usize)
+        ensures { slice.new ≡ slice.old }
+    {
+        if has_retirement(self.operations, near, slice.key()) {
+            slice.keep_digest();
+        }
+    }
+
+    // The same of what an operation admits.
+    pub(crate) fn keep_digest_of(&self, operation: &mut Operation, near: &mut usize)
+        ensures { operation.new ≡ operation.old }
+    {
+        if let Operation::Admit(slice) = operation {
+            self.keep_digest(slice, near);
+        }
+    }
+
     // Whether a retirement covers the operation.
     pub(crate) fn retires_operation(&self, operation: &Operation, near: &mut usize) -> bool
         ensures { result ≡ is_covered self.now (record_bytes operation.now) }
@@ -110,6 +129,16 @@ impl<'a> Lent<'a> {
     }
 }
 
+// Keeps the digests of those operations whose keys have a retirement.
+fn keep_digests(operations: &mut [Operation], by: &Lent<'_>)
+    ensures { operations.new ≡ operations.old }
+{
+    let mut near = 0;
+    'operations: for operation in operations {
+        by.keep_digest_of(operation, &mut near);
+    }
+}
+
 // Drops the operations that are covered. Where no retirement is lent, none is asked for.
 pub(crate) fn drop_covered(operations: &mut Vec<Operation, Heap>, by: &Lent<'_>)
     ensures items { operations.new.items
@@ -120,6 +149,7 @@ pub(crate) fn drop_covered(operations: &mut Vec<Operation, Heap>, by: &Lent<'_>)
     if !by.has_retirements() {
         return;
     }
+    keep_digests(operations, by);
     let mut near = 0;
     operations.retain(|operation| !by.retires_operation(operation, &mut near));
 }
@@ -151,6 +181,7 @@ pub(crate) fn drop_retired(operations: &mut Vec<Operation, Heap>, key: &SliceKey
 {
     let only = [retirement(*key, *digest)];
     let by = Lent::of(&only);
+    keep_digests_under(operations, *key);
     let (start, count) = range_of(operations, RecordKind::Admission, Scope::OfKey(*key));
     let mut index = start + count;
     while index > start {

@@ -88,6 +88,7 @@ impl Archive for IndexedArchive {
     }
 
     fn take(&mut self, mut operation: Operation) -> Result<bool, NoMemory> {
+        self.held.keep_asked(&mut operation);
         if self.held.knows(&operation) {
             return Ok(false);
         }

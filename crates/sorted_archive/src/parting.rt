@@ -30,13 +30,13 @@ impl Parts {
     }
 
     // Puts an admission behind the others, where none of the retirements before it covers it.
-    fn admit(&mut self, seen: &SeenRetirements, slice: Slice) -> Result<(), NoMemory>
+    fn admit(&mut self, seen: &SeenRetirements, mut slice: Slice) -> Result<(), NoMemory>
         ensures { OnOk result (IsPut (Admit slice)
             self.old.admissions.items self.old.retirements.items seen.now
             self.new.admissions.items self.new.retirements.items seen.now) }
     {
         let _bytes = slice.bytes();
-        if seen.retires(&slice) {
+        if seen.retires(&mut slice) {
             return Ok(());
         }
         self.admissions.push(Operation::Admit(slice))?;

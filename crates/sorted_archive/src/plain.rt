@@ -41,7 +41,7 @@ use uuid::Uuid;
 /// It is searched by halving. A `take` above the last operation only appends; any other shifts what
 /// stands behind. A join copies what is missing, before it changes anything, and merges it with what is there. What is
 /// absorbed is merged, too, or put in at its place where it is little. A slice is hashed only where a retirement of its
-/// key is there or comes, and dropped where that covers it.
+/// key is there or comes, once, and dropped where that covers it.
 #[derive(Drop)]
 pub struct PlainArchive {
     operations: Vec<Operation, Heap>,
@@ -137,7 +137,7 @@ impl PlainArchive {
         self.has_several(key)
     }
 
-    /// Keeps the digests beside the slices under a key that have tables, where a lookup of the key may tell them.
+    /// Keeps the digests of the slices under a key, where a lookup of the key may tell them.
     pub fn keep_digests(&mut self, key: &SliceKey)
         ensures { self.new ≡ self.old }
     {
@@ -185,6 +185,14 @@ impl PlainArchive {
         }
     }
 
+    /// Keeps the digest of the slice that an operation admits, where a retirement of its key stands: taking it asks for
+    /// that.
+    pub fn keep_asked(&self, operation: &mut Operation)
+        ensures { operation.new ≡ operation.old }
+    {
+        self.lend().keep_digest_of(operation, &mut 0);
+    }
+
     // The operations, lent.
     fn lend(&self) -> Lent<'_>
         ensures lent { result ≡ self.now }
@@ -226,13 +234,15 @@ impl PlainArchive {
     }
 
     /// Takes an admission, and gives its place among the operations, or none where it changes nothing.
-    pub fn admit_at(&mut self, slice: Slice) -> Result<Option<usize>, NoMemory>
+    pub fn admit_at(&mut self, mut slice: Slice) -> Result<Option<usize>, NoMemory>
         ensures taken { OnOk result (self.new ≡ with_record self.old (admission_record slice)) }
         ensures place { IfOk result (λ place. IsPutAt self.old self.new (admission_record slice) place) }
         ensures valid { IsValid slice }
         ensures refused { OnErr result (self.new ≡ self.old) }
     {
-        if Lent::of(&self.operations).retires(&slice, &mut self.near) {
+        let lent = Lent::of(&self.operations);
+        lent.keep_digest(&mut slice, &mut self.near);
+        if lent.retires(&slice, &mut self.near) {
             return Ok(None);
         }
         let admission = Operation::Admit(slice);

@@ -126,9 +126,10 @@ pub(crate) fn under_uuid(operations: &[Operation], kind: RecordKind, uuid: Uuid)
     within(operations, kind, Scope::OfUuid(uuid))
 }
 
-// Keeps the digests of the slices under a key that have tables.
+// Keeps the digests of the slices under a key.
 pub(crate) fn keep_digests_under(operations: &mut [Operation], key: SliceKey)
-    requires { IsHeld operations.old }
+    requires ascending { IsStrictlySortedBy (slice_cmp nat_cmp) (map record_bytes operations.old) }
+    requires are { AllByRecursion IsOperation operations.old }
     ensures { operations.new ≡ operations.old }
 {
     let (start, count) = range_of(operations, RecordKind::Admission, Scope::OfKey(key));
@@ -137,7 +138,7 @@ pub(crate) fn keep_digests_under(operations: &mut [Operation], key: SliceKey)
     keep_each_digest(under);
 }
 
-// Keeps the digests of the slices that operations admit and that have tables.
+// Keeps the digests of the slices that operations admit.
 fn keep_each_digest(operations: &mut [Operation])
     ensures { operations.new ≡ operations.old }
 {

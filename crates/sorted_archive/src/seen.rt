@@ -191,15 +191,18 @@ impl SeenRetirements {
         Ok(first)
     }
 
-    // Whether a retirement that was seen covers the slice. Its digest is asked for only where one of its key was seen.
-    pub(crate) fn retires(&self, slice: &Slice) -> bool
-        ensures { result
-            ≡ set.contains self.now (retirement_record (key_of slice.now) (sha256 slice.now)) }
+    // Whether a retirement that was seen covers the slice. Its digest is kept where one of its key was seen, and not asked
+    // for elsewhere.
+    pub(crate) fn retires(&self, slice: &mut Slice) -> bool
+        ensures retires { result
+            ≡ set.contains self.now (retirement_record (key_of slice.old) (sha256 slice.old)) }
+        ensures same { slice.new ≡ slice.old }
     {
         let asked = OrderedKey::of(slice.key());
         if !self.keys.contains(&asked) {
             return false;
         }
+        slice.keep_digest();
         self.retired
             .contains(&OrderedRetirement::of(slice.key(), slice.digest()))
     }

@@ -8,6 +8,7 @@ use Rattle.archive_core.specs.declared.operations.Operation.{Operation}
 use Rattle.sorted_archive.specs.contracts.covered.fn.drop_covered.retain as closure
 use Rattle.archive_core.specs.Content.{is_covered}
 use Rattle.archive_core.specs.Record.{record_bytes}
+use Rattle.sorted_archive.proofs.Falling.{written_back}
 use Rattle.sorted_archive.proofs.Uncovered.{none_dropped}
 use Rattle.sorted_archive.proofs.covered.drop_covered.Goals as goal
 
@@ -31,10 +32,12 @@ module _ {X F : Type 0} (R : F → X → Bool → F → Type 0) (I : F → Type 
 pub returns-clause-items : goal.returns-clause-items
 returns-clause-items c =
     let test = λ (operation : Operation). not (is_covered c.args.by.now (record_bytes operation)) in
+    let same = written_back c.args.operations.now.items c.keep_digests.new.operations c.args.operations.now.len (c.keep_digests.ensures ∙ c.deref_mut.ensures.value) (omega (arith, c.args.operations.now.ok.0)) in
     kept _ (λ f. (closure.captures f).by ≡ c.args.by) test (λ f x b f' i k.
     let told : b ≡ not (is_covered (closure.captures f).by.now (record_bytes x)) = search rules in
     let same : (closure.captures f').by ≡ (closure.captures f).by = search rules in
     (told ∙ ap (λ (by : Bor Lent). not (is_covered by.now (record_bytes x))) i, same ∙ i)) _ refl _ _ c.retain.ensures.filtered
+    ∙ ap (filter test) same
 
 pub returns-then-not-has_retirements-clause-items : goal.returns-then-not-has_retirements-clause-items
 returns-then-not-has_retirements-clause-items c = sym (none_dropped c.args.by.now c.args.operations.now.items (c.has_retirements.ensures.none c.if-not-has_retirements.true))

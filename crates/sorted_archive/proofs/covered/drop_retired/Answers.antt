@@ -6,7 +6,7 @@ use Rattle.archive_core.specs.Content.{is_covered}
 use Rattle.archive_core.specs.Record.{record_bytes}
 use Rattle.archive_core.specs.declared.operations.Operation.{Operation}
 use Rattle.archive_core.specs.declared.operations.Operation.TheVariants.{Retire}
-use Rattle.sorted_archive.proofs.Falling.{no_shorter, stays, goes}
+use Rattle.sorted_archive.proofs.Falling.{no_shorter, stays, goes, written_back}
 use Rattle.sorted_archive.proofs.Put.{held_alone}
 use Rattle.sorted_archive.proofs.Uncovered.{left_by, front_left, back_left}
 use Rattle.sorted_archive.proofs.covered.drop_retired.Goals as goal
@@ -19,12 +19,13 @@ loop-index-init c =
     let old = c.args.operations.now.items in
     let start = c.range_of-start.result.0 in
     let count = c.range_of-start.result.1 in
-    let run = rw c.deref.ensures.value at c.range_of-start.ensures.range in
+    let same = written_back old c.keep_digests_under.new.operations c.args.operations.now.len (c.keep_digests_under.ensures ∙ c.deref_mut.ensures.value) (omega (arith, c.args.operations.now.ok.0)) in
+    let run = rw (c.deref.ensures.value, same) at c.range_of-start.ensures.range in
     let behind = back_left c.args.key.now c.args.digest.now old start count c.retirement.ensures.operation.0 c.requires.are run in
     record {
       from = omega arith;
-      old = rw c.deref.ensures.value at c.range_of-start.ensures.within;
-      items = sym (ap (λ l. take (start + count) old ++ l) (rw (drop-drop count start old) at behind) ∙ take-append-drop (start + count) old);
+      old = rw (c.deref.ensures.value, same) at c.range_of-start.ensures.within;
+      items = same ∙ sym (ap (λ l. take (start + count) old ++ l) (rw (drop-drop count start old) at behind) ∙ take-append-drop (start + count) old);
     }
 
 pub index-requires : goal.index-requires
@@ -59,7 +60,8 @@ pub returns : goal.returns
 returns c =
     let old = c.args.operations.now.items in
     let start = c.range_of-start.result.0 in
-    let run = rw c.deref.ensures.value at c.range_of-start.ensures.range in
+    let same = written_back old c.keep_digests_under.new.operations c.args.operations.now.len (c.keep_digests_under.ensures ∙ c.deref_mut.ensures.value) (omega (arith, c.args.operations.now.ok.0)) in
+    let run = rw (c.deref.ensures.value, same) at c.range_of-start.ensures.range in
     let kept = left_by c.args.key.now c.args.digest.now in
     let at : c.loop-index.index ≡ start = omega (arith, c.loop-index.invariant.from) in
     c.loop-index.invariant.items

@@ -36,62 +36,62 @@ placed_listing items o new index slice held is held_new new_is =
 pub returns-then-retires-clause-taken : goal.returns-then-retires-clause-taken
 returns-then-retires-clause-taken c =
     let o = c.args.self.now in
-    let slice = c.args.slice in
-    let covered : is_covered o (admission_record slice) ≡ true = covered_slice o slice c.retires.ensures.valid ∙ rw (c.of.ensures, c.deref.ensures.value, c.self.view_is) at (sym c.retires.ensures.retires ∙ c.if-retires.true) in
-    c.self.view_is ∙ sym (with_known o (admission_record slice) (subst IsMade c.self.view_is c.self.invariant.itself) (or_right (set.contains o (admission_record slice)) (is_covered o (admission_record slice)) covered))
+    let slice = c.keep_digest.new.slice in
+    let covered : is_covered o (admission_record slice) ≡ true = covered_slice o slice c.retires.ensures.valid ∙ rw (c.of-lent.ensures, c.deref.ensures.value, c.self.view_is) at (sym c.retires.ensures.retires ∙ c.if-retires.true) in
+    rw (← c.keep_digest.ensures) (c.self.view_is ∙ sym (with_known o (admission_record slice) (subst IsMade c.self.view_is c.self.invariant.itself) (or_right (set.contains o (admission_record slice)) (is_covered o (admission_record slice)) covered)))
 
 pub returns-then-retires-clause-place : goal.returns-then-retires-clause-place
 returns-then-retires-clause-place c =
     let o = c.args.self.now in
-    let slice = c.args.slice in
-    let covered : is_covered o (admission_record slice) ≡ true = covered_slice o slice c.retires.ensures.valid ∙ rw (c.of.ensures, c.deref.ensures.value, c.self.view_is) at (sym c.retires.ensures.retires ∙ c.if-retires.true) in
-    (known_changes o (admission_record slice) (or_right (set.contains o (admission_record slice)) (is_covered o (admission_record slice)) covered), c.self.view_is)
+    let slice = c.keep_digest.new.slice in
+    let covered : is_covered o (admission_record slice) ≡ true = covered_slice o slice c.retires.ensures.valid ∙ rw (c.of-lent.ensures, c.deref.ensures.value, c.self.view_is) at (sym c.retires.ensures.retires ∙ c.if-retires.true) in
+    rw (← c.keep_digest.ensures) ((known_changes o (admission_record slice) (or_right (set.contains o (admission_record slice)) (is_covered o (admission_record slice)) covered), c.self.view_is))
 
 pub invariant_of-self-in-Err : goal.invariant_of-self-in-Err
 invariant_of-self-in-Err c =
     let o = c.args.self.now in
-    let slice = c.args.slice in
-    let free : is_covered o (admission_record slice) ≡ false = covered_slice o slice c.retires.ensures.valid ∙ rw (c.of.ensures, c.deref.ensures.value, c.self.view_is) at (sym c.retires.ensures.retires ∙ c.if-retires.false) in
+    let slice = c.keep_digest.new.slice in
+    let free : is_covered o (admission_record slice) ≡ false = covered_slice o slice c.retires.ensures.valid ∙ rw (c.of-lent.ensures, c.deref.ensures.value, c.self.view_is) at (sym c.retires.ensures.retires ∙ c.if-retires.false) in
     rw c.in_ok-insert-in-Err.ensures.items
     (held_admission c.self.inside.operations.items c.in-Err.index slice c.self.invariant c.retires.ensures.valid (rw (← c.deref-2.ensures.value) c.in-Err.ensures.found.absent) (rw c.self.view_is free))
 
 pub returns-in-Ok-clause-taken : goal.returns-in-Ok-clause-taken
 returns-in-Ok-clause-taken c =
     let o = c.args.self.now in
-    let r = admission_record c.args.slice in
+    let r = admission_record c.keep_digest.new.slice in
     let same : c.match-admission.self ≡ o = search rules in
-    same ∙ sym (with_known o r (subst IsMade c.self.view_is c.self.invariant.itself) (or_left (set.contains o r) (is_covered o r) (rw (← c.self.view_is, ← c.deref-2.ensures.value) c.in-Ok.ensures.found.present)))
+    rw (← c.keep_digest.ensures) (same ∙ sym (with_known o r (subst IsMade c.self.view_is c.self.invariant.itself) (or_left (set.contains o r) (is_covered o r) (rw (← c.self.view_is, ← c.deref-2.ensures.value) c.in-Ok.ensures.found.present))))
 
 pub returns-in-Ok-clause-place : goal.returns-in-Ok-clause-place
 returns-in-Ok-clause-place c =
     let o = c.args.self.now in
-    let r = admission_record c.args.slice in
+    let r = admission_record c.keep_digest.new.slice in
     let same : c.match-admission.self ≡ o = search rules in
-    (known_changes o r (or_left (set.contains o r) (is_covered o r) (rw (← c.self.view_is, ← c.deref-2.ensures.value) c.in-Ok.ensures.found.present)), same)
+    rw (← c.keep_digest.ensures) ((known_changes o r (or_left (set.contains o r) (is_covered o r) (rw (← c.self.view_is, ← c.deref-2.ensures.value) c.in-Ok.ensures.found.present)), same))
 
 pub returns-in_ok-insert-in-Err-clause-taken : goal.returns-in_ok-insert-in-Err-clause-taken
 returns-in_ok-insert-in-Err-clause-taken c =
     let o = c.args.self.now in
-    let slice = c.args.slice in
-    let free : is_covered o (admission_record slice) ≡ false = covered_slice o slice c.retires.ensures.valid ∙ rw (c.of.ensures, c.deref.ensures.value, c.self.view_is) at (sym c.retires.ensures.retires ∙ c.if-retires.false) in
-    ap (λ items. set.from_list {R = slice_cmp nat_cmp} (map record_bytes items)) c.in_ok-insert-in-Err.ensures.items
+    let slice = c.keep_digest.new.slice in
+    let free : is_covered o (admission_record slice) ≡ false = covered_slice o slice c.retires.ensures.valid ∙ rw (c.of-lent.ensures, c.deref.ensures.value, c.self.view_is) at (sym c.retires.ensures.retires ∙ c.if-retires.false) in
+    rw (← c.keep_digest.ensures) (ap (λ items. set.from_list {R = slice_cmp nat_cmp} (map record_bytes items)) c.in_ok-insert-in-Err.ensures.items
     ∙ records_insert c.self.inside.operations.items c.in-Err.index (Admit slice)
     ∙ ap (λ s. set.insert s (admission_record slice)) c.self.view_is
-    ∙ sym (made_with_admission o (admission_record slice) (subst IsMade c.self.view_is c.self.invariant.itself) refl free)
+    ∙ sym (made_with_admission o (admission_record slice) (subst IsMade c.self.view_is c.self.invariant.itself) refl free))
 
 pub returns-in_ok-insert-in-Err-clause-place : goal.returns-in_ok-insert-in-Err-clause-place
 returns-in_ok-insert-in-Err-clause-place c =
     let o = c.args.self.now in
-    let slice = c.args.slice in
+    let slice = c.keep_digest.new.slice in
     let items = c.self.inside.operations.items in
     let index = c.in-Err.index in
-    let free : is_covered o (admission_record slice) ≡ false = covered_slice o slice c.retires.ensures.valid ∙ rw (c.of.ensures, c.deref.ensures.value, c.self.view_is) at (sym c.retires.ensures.retires ∙ c.if-retires.false) in
+    let free : is_covered o (admission_record slice) ≡ false = covered_slice o slice c.retires.ensures.valid ∙ rw (c.of-lent.ensures, c.deref.ensures.value, c.self.view_is) at (sym c.retires.ensures.retires ∙ c.if-retires.false) in
     let absent : IsPlaceFor (slice_cmp nat_cmp) (map record_bytes items) (admission_record slice) index = rw (← c.deref-2.ensures.value) c.in-Err.ensures.found.absent in
     let covered : is_covered (set.from_list {R = slice_cmp nat_cmp} (map record_bytes items)) (admission_record slice) ≡ false = rw c.self.view_is free in
     let held = held_admission items index slice c.self.invariant c.retires.ensures.valid absent covered in
     let more = c.in_ok-insert-in-Err.ensures.items in
     let within : index ≤ length items = rw (← c.deref-2.ensures.value) c.in-Err.ensures.bound in
-    let missing : set.contains o (admission_record slice) ≡ false = rw (← c.self.view_is, ← c.deref-2.ensures.value) c.in-Err.ensures.found.absent.absent in (
+    let missing : set.contains o (admission_record slice) ≡ false = rw (← c.self.view_is, ← c.deref-2.ensures.value) c.in-Err.ensures.found.absent.absent in rw (← c.keep_digest.ensures) (
       new_changes o (admission_record slice) missing free,
       placed_within items o index c.self.invariant c.self.view_is within,
       placed_listing items o _ index slice c.self.invariant c.self.view_is held (ap (λ xs. set.from_list {R = slice_cmp nat_cmp} (map record_bytes xs)) more),

@@ -11,8 +11,8 @@ use Rattle.archive_core.specs.Content.{Operations}
 use Rattle.sorted_archive.proofs.Keyed.{held_by, unkeyed}
 use Rattle.sorted_archive.proofs.seen.SeenRetirements.retires.Goals as goal
 
-pub returns-then-not-contains : goal.returns-then-not-contains
-returns-then-not-contains c =
+pub returns-then-not-contains-clause-retires : goal.returns-then-not-contains-clause-retires
+returns-then-not-contains-clause-retires c =
     let keys : List (List ℕ) = c.self.inside.keys.keys in
     let retired : List (List ℕ) = c.self.inside.retired.keys in
     let digest : List ℕ = sha256 c.args.slice.now in
@@ -23,10 +23,10 @@ returns-then-not-contains c =
     ∙ ap (λ k. contains (from_list {R = slice_cmp nat_cmp} retired) (retirement_record k digest)) (sym c.key.ensures)
     ∙ none)
 
-pub returns : goal.returns
-returns c =
+pub returns-clause-retires : goal.returns-clause-retires
+returns-clause-retires c =
     let retired : List (List ℕ) = c.self.inside.retired.keys in
-    let is = c.of.ensures ∙ ap (λ k. retirement_record k c.digest.result.0) c.key-2.ensures ∙ ap (retirement_record (key_of c.args.slice.now)) c.digest.ensures.digest in
+    let is = c.of.ensures ∙ ap (λ k. retirement_record k c.digest.result.0) (c.key-2.ensures ∙ ap key_of c.keep_digest.ensures) ∙ ap (retirement_record (key_of c.args.slice.now)) (c.digest.ensures.digest ∙ ap sha256 c.keep_digest.ensures) in
     c.contains-2.ensures
     ∙ held_by retired c.of.result
     ∙ ap (λ (r : List ℕ). contains (from_list {R = slice_cmp nat_cmp} retired) r) is
