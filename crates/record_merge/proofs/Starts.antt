@@ -11,7 +11,7 @@ use Rattle.archive_records.specs.declared.kind.TextKind.TheVariants.{Archive as 
 use Rattle.record_merge.specs.declared.merging.Merge.{Merge}
 use Rattle.record_merge.specs.declared.side.Lookahead.TheVariants.{Unread, Held, Ended}
 use Rattle.record_merge.specs.declared.side.MergeInput.{MergeInput}
-use Rattle.archive_records.specs.Kind.{magic, kind_of, may_follow, IsItem, end_length}
+use Rattle.archive_records.specs.Kind.{magic, magic_of, kind_of, may_follow, IsItem, end_length}
 use Rattle.archive_records.specs.Text.{end_record, text_of, last_of, kept}
 use Rattle.archive_records.specs.Reader.{HasRead, Passes, Position, Stopped, HasWhole, StoppedWith}
 use Rattle.archive_records.specs.declared.fault.RecordFault.{RecordFault}
@@ -21,6 +21,7 @@ use Rattle.archive_records.proofs.KeptRecords.{kept_none}
 use Rattle.record_merge.specs.MergeSteps.{Stands, Joins, Merging, StopsBeforeRecords, HasMagicRead, RightStopped, WriteStopped, LeftRefused, RightRefused, ByCause, BlamesBy, BlamesLeft, BlamesRight, BlamesWriter, IsToldOfRight, memory_behind, HasStoppedMerge, StopsMerge as MergeStops}
 use Rattle.record_merge.proofs.MergeSteps.{held_record, before_last}
 use Rattle.archive_records.proofs.KeptRecords.{long_record}
+use Rattle.archive_records.proofs.Blamed.{blames_behind}
 use Rattle.archive_records.proofs.FaultKinds.{memory_blames}
 use Rattle.archive_records.proofs.Forms.{item-framed, item-no_end}
 use Rattle.archive_records.proofs.Ends.{framed_end, end-is_end}
@@ -31,7 +32,7 @@ use Rattle.archive_records.specs.declared.fault.RecordFaultKind.TheVariants.{Tru
 use Rattle.archive_records.specs.Fault.{is_end}
 use Rattle.archive_records.specs.Layout.{framed}
 use Rattle.archive_records.specs.Reading.{Blames}
-use Rattle.byte_device.specs.Devices.{Stream}
+use Rattle.byte_device.specs.Devices.{FailedIn, Stream, stream}
 use Rattle.record_merge.specs.Merging.{IsUnfailed}
 use Rattle.archive_records.specs.declared.fault.MergeCause.{MergeCause}
 use Rattle.archive_records.specs.declared.fault.MergeCause.TheVariants.{Left, Right, Write}
@@ -162,6 +163,13 @@ module _ {R S : Type 0} (left : Stream R) (right : Stream S) where
   writer_blamed w0 w1 (Left fault) a b blames = (no_device left fault blames.0 a, b, blames.1)
   writer_blamed w0 w1 (Right fault) a b blames = (a, no_device right fault blames.0 b, blames.1)
   writer_blamed w0 w1 Write a b blames = (a, b, blames)
+
+-- who is blamed after no device failed is blamed for all
+pub blamed_later : {R S : Type 0} (a : R → Option (List ℕ)) (f : R → ℕ) (bytes : S → Option (List ℕ)) (h : S → ℕ) (r0 r1 r2 : R) (s0 s1 s2 : S) (w0 w1 w2 : ℕ) (cause : MergeCause) → f r1 ≡ f r0 → h s1 ≡ h s0 → w1 ≡ w0
+    → BlamesBy (stream a f r1 r2) (stream bytes h s1 s2) w1 w2 cause → BlamesBy (stream a f r0 r2) (stream bytes h s0 s2) w0 w2 cause
+blamed_later a f bytes h r0 r1 r2 s0 s1 s2 w0 w1 w2 (Left fault) r s w blames = (blames_behind a f r0 r1 r2 r fault.kind blames.0, blames.1 ∙ s, blames.2 ∙ w)
+blamed_later a f bytes h r0 r1 r2 s0 s1 s2 w0 w1 w2 (Right fault) r s w blames = (blames.0 ∙ r, blames_behind bytes h s0 s1 s2 s fault.kind blames.1, blames.2 ∙ w)
+blamed_later a f bytes h r0 r1 r2 s0 s1 s2 w0 w1 w2 Write r s w blames = (blames.0 ∙ r, blames.1 ∙ s, subst (λ n. FailedIn n w2) w blames.2)
 
 -- ---- both sides are read on
 
@@ -297,3 +305,7 @@ end_stops a1 b1 a2 b2 w0 w1 w2 m p left_end right_end written k is q =
       within = inr (left_end, right_end, omega (arith, is, s.within));
       gained = rw is s.gained;
     }
+
+-- the magic was read where no record was
+pub magic_read : (a b : Option (List ℕ)) (file : Format) (position : Position) → kind_of file ≡ Archive_text → HasRead file a b [] position → HasMagicRead a b
+magic_read a b file position archive read = (file, archive, subst (Consumes a b) (append-nil (magic_of file)) read.taken)

@@ -1,6 +1,6 @@
 use Rattle.std.proofs.Common.{[], false}
 use Rattle.std.proofs.lemmas.Result.{err_from_is_err_and}
-use Rattle.record_merge.proofs.Starts.{stops_later}
+use Rattle.record_merge.proofs.Starts.{blamed_later, stops_later}
 use Rattle.record_merge.proofs.Tells.{tells_as}
 use Rattle.record_merge.proofs.telling.tell_taken.Goals as goal
 
@@ -15,3 +15,9 @@ returns-clause-leaves g c =
     let begun = tells_as _ _ _ _ _ _ c.in_ok-m.m [] c.args.told.now.turns.items false c.args.told.now.withdraws c.requires.turns c.requires.withdraws c.in_ok-m.ensures.telling in
     let told = c.in_ok-tell_records.ensures.telling _ _ _ begun in
     c.finish.ensures.leaves _ _ _ _ _ told.merging
+
+pub returns-in_err-tell_records-clause-devices : goal.returns-in_err-tell_records-clause-devices
+returns-in_err-tell_records-clause-devices g c =
+    let e = err_from_is_err_and c.from_residual-in_err-tell_records.result c.from_residual-in_err-tell_records.ensures.1 in
+    let begun = c.in_ok-m.ensures.devices in
+    rw (e.1, e.2) (blamed_later g.R.Source.left g.R.Source.failures g.S.Source.left g.S.Source.failures _ _ _ _ _ _ _ _ _ _ begun.0 begun.1 begun.2 c.in_err-tell_records.ensures.devices)
