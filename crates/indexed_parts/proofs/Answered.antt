@@ -1,12 +1,11 @@
 -- Parts that were read at the places of an index.
 use Rattle.std.proofs.Common.{◌≡◌, ℕ, ◌<◌, ◌≤◌, ◌^◌, zero, suc, true, List, [], ◌∷◌, length, get_or, Option, Some, None, sym, ap, ◌∙◌, subst, arith}
-use Rattle.std.specs.Prelude.{IfSome, IfOk, IfErr, Result, Ok, Err, filter}
+use Rattle.std.specs.Prelude.{IfSome, IfOk, IfErr, Result, Ok, Err}
 use Rattle.std.specs.List.{AllZip, list_any}
 use Rattle.std.specs.Ordering.{eq_by_cmp, is_eq}
 use Rattle.std.specs.Cmp.{tied_itself}
 use Rattle.std.specs.Cmp.Lexicographic.{nat_list_cmp_total}
 use Rattle.std.specs.FinSet as set
-use Rattle.std.proofs.lemmas.List.{take_all}
 use Rattle.join_core.specs.Listing.{listing}
 use Rattle.join_core.proofs.Listing.{any_listing}
 use Rattle.archive_core.specs.Content.{Operations, IsContent, content_of}

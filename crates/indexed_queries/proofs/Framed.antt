@@ -1,10 +1,9 @@
 -- Frames, and the keys that they have.
-use Rattle.std.proofs.Common.{◌≡◌, ℕ, ◌+◌, ◌<◌, List, [], ◌∷◌, ◌++◌, length, map, take, get_or, Contains, Ok, Err, refl, sym, ap, ◌∙◌, subst, inl, inr, arith, add-one, if◌then◌else◌}
+use Rattle.std.proofs.Common.{◌≡◌, ℕ, ◌+◌, ◌<◌, List, [], ◌∷◌, ◌++◌, length, map, take, get_or, Ok, Err, refl, sym, ap, ◌∙◌, subst, inl, inr, arith, add-one, if◌then◌else◌}
 use Rattle.std.specs.List.{AllZip}
 use Rattle.std.proofs.Math.ListN.{length-map}
 use Rattle.std.proofs.Math.Seq.{take-suc}
 use Rattle.std.proofs.lemmas.List.{get_or-map, flat_map_more}
-use Rattle.std.proofs.lemmas.List.Elements.{Contains-append_left, Contains-push, Contains-push_cases}
 use Rattle.archive_core.specs.Content.{Operations, HaveSameMembers}
 use Rattle.archive_core.specs.Key.{key_bytes}
 use Rattle.archive_core.specs.Lookup.{IsAnswer, answer_view}
@@ -30,52 +29,15 @@ use Rattle.indexed_queries.specs.Together.{AreRefusedTogether, AreUnfailedTogeth
 
 -- ---- keys
 
-pub among : (fronts : List Front) (i : ℕ) (front : Front) (key : List ℕ) → i < length fronts → front ≡ get_or fronts i front → front_bytes front ≡ key → Contains (map front_bytes fronts) key
-among fronts i front key lt is same =
-    let there : get_or (map front_bytes fronts) i key ≡ key = get_or-map front_bytes fronts i front key lt ∙ ap front_bytes (sym is) ∙ same in
-    (i, omega (arith, lt, length-map fronts front_bytes), there)
-
-take_key : (frames : List Frame) (i : ℕ) (frame : Frame) → i < length frames → frame ≡ get_or frames i frame → take (i + 1) (keys_of frames) ≡ take i (keys_of frames) ++ key_bytes frame.key ∷ []
-take_key frames i frame lt is =
+-- the key of one more frame
+pub keys_more : (fronts after : List Front) (frames : List Frame) (i : ℕ) (frame : Frame) → i < length frames → frame ≡ get_or frames i frame → map front_bytes after ≡ map front_bytes fronts ++ key_bytes frame.key ∷ [] → map front_bytes fronts ≡ take i (keys_of frames)
+    → map front_bytes after ≡ take (i + 1) (keys_of frames)
+keys_more fronts after frames i frame lt is grown same =
     let key_of : Frame → List ℕ = λ (f : Frame). key_bytes f.key in
     let within : i < length (keys_of frames) = omega (arith, lt, length-map frames key_of) in
-    ap (λ (n : ℕ). take n (keys_of frames)) (add-one i) ∙ take-suc (keys_of frames) i [] within
-    ∙ ap (λ (k : List ℕ). take i (keys_of frames) ++ k ∷ []) (get_or-map key_of frames i frame [] lt ∙ ap key_of (sym is))
-
-same_passed : (xs ys : List (List ℕ)) (y : List ℕ) → HaveSameMembers xs ys → Contains xs y → HaveSameMembers xs (ys ++ y ∷ [])
-same_passed xs ys y same there = λ q. (
-  λ h. Contains-append_left ys (y ∷ []) q ((same q).0 h),
-  λ h. elim (Contains-push_cases ys y q h) [
-    | inl before ↦ (same q).1 before
-    | inr e ↦ subst (Contains xs) e there
-  ],
-)
-
-same_pushed : (xs ys : List (List ℕ)) (y : List ℕ) → HaveSameMembers xs ys → HaveSameMembers (xs ++ y ∷ []) (ys ++ y ∷ [])
-same_pushed xs ys y same = λ q. (
-  λ h. elim (Contains-push_cases xs y q h) [
-    | inl before ↦ Contains-append_left ys (y ∷ []) q ((same q).0 before)
-    | inr e ↦ subst (Contains (ys ++ y ∷ [])) e (Contains-push ys y)
-  ],
-  λ h. elim (Contains-push_cases ys y q h) [
-    | inl before ↦ Contains-append_left xs (y ∷ []) q ((same q).1 before)
-    | inr e ↦ subst (Contains (xs ++ y ∷ [])) e (Contains-push xs y)
-  ],
-)
-
-pub keys_passed : (fronts : List Front) (frames : List Frame) (i : ℕ) (frame : Frame) → i < length frames → frame ≡ get_or frames i frame → HaveSameMembers (map front_bytes fronts) (take i (keys_of frames)) → Contains (map front_bytes fronts) (key_bytes frame.key)
-    → HaveSameMembers (map front_bytes fronts) (take (i + 1) (keys_of frames))
-keys_passed fronts frames i frame lt is same there =
-    subst (HaveSameMembers (map front_bytes fronts)) (sym (take_key frames i frame lt is)) (same_passed (map front_bytes fronts) (take i (keys_of frames)) (key_bytes frame.key) same there)
-
-pub keys_pushed : (fronts after : List Front) (frames : List Frame) (i : ℕ) (frame : Frame) → i < length frames → frame ≡ get_or frames i frame → map front_bytes after ≡ map front_bytes fronts ++ key_bytes frame.key ∷ [] → HaveSameMembers (map front_bytes fronts) (take i (keys_of frames))
-    → HaveSameMembers (map front_bytes after) (take (i + 1) (keys_of frames))
-keys_pushed fronts after frames i frame lt is grown same =
-    subst (λ (xs : List (List ℕ)). HaveSameMembers xs (take (i + 1) (keys_of frames))) (sym grown)
-    (subst (HaveSameMembers (map front_bytes fronts ++ key_bytes frame.key ∷ [])) (sym (take_key frames i frame lt is)) (same_pushed (map front_bytes fronts) (take i (keys_of frames)) (key_bytes frame.key) same))
-
-pub no_keys : HaveSameMembers [] []
-no_keys = λ q. (λ h. h, λ h. h)
+    grown ∙ ap (λ (l : List (List ℕ)). l ++ key_bytes frame.key ∷ []) same
+    ∙ ap (λ (k : List ℕ). take i (keys_of frames) ++ k ∷ []) (sym (get_or-map key_of frames i frame [] lt ∙ ap key_of (sym is)))
+    ∙ sym (ap (λ (n : ℕ). take n (keys_of frames)) (add-one i) ∙ take-suc (keys_of frames) i [] within)
 
 -- ---- answers
 

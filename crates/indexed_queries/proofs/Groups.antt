@@ -1,15 +1,13 @@
 -- Archives with indexes, one more of which was read.
-use Rattle.std.proofs.Common.{◌≡◌, ℕ, zero, suc, ◌+◌, ◌<◌, Bool, true, false, ◌||◌, List, [], ◌∷◌, ◌++◌, length, map, take, drop, get_or, set, Option, Some, Result, refl, sym, ap, ◌∙◌, subst, inl, inr, arith, add-one}
+use Rattle.std.proofs.Common.{◌≡◌, ℕ, zero, suc, ◌+◌, ◌<◌, List, [], ◌∷◌, ◌++◌, length, map, take, drop, get_or, set, Option, Some, Result, refl, sym, ap, ◌∙◌, subst, inl, inr}
 use Rattle.std.specs.Prelude.{slice_get}
 use Rattle.std.specs.FinSet as sets
-use Rattle.std.proofs.Math.ListN.{length-map, length-set}
-use Rattle.std.proofs.Math.Seq.{take-suc}
-use Rattle.std.proofs.lemmas.List.{get_or-map, get_or-set_same}
-use Rattle.std.proofs.lemmas.List.Folds.{list_any-append}
+use Rattle.std.proofs.Math.ListN.{length-set}
+use Rattle.std.proofs.lemmas.List.{get_or-set_same}
 use Rattle.std.proofs.lemmas.List.Sums.{fold-append}
 use Rattle.std.proofs.lemmas.Option.{slice_get-get_or}
 use Rattle.archive_core.specs.Content.{Operations}
-use Rattle.archive_core.specs.Part.{is_under, part}
+use Rattle.archive_core.specs.Part.{part}
 use Rattle.archive_queries.specs.InnerTogether.{HasJoinedParts as HaveJoinedPicked}
 use Rattle.byte_device.specs.declared.disks.CannotOpen.{CannotOpen}
 use Rattle.command_ends.specs.Archives.{merged}
@@ -19,8 +17,7 @@ use Rattle.command_ends.specs.declared.faults.CommandFault.{CommandFault}
 use Rattle.command_ends.specs.declared.faults.CommandFault.TheVariants.{Input, Output, Report, OutOfMemory}
 use Rattle.command_ends.specs.declared.faults.Place.TheVariants.{Archive}
 use Rattle.command_ends.proofs.Readers.{all_take, readers_long, rest_kept, set_one, unfailed_more, untouched_behind}
-use Rattle.indexed_queries.specs.declared.fronts.Front.{Front}
-use Rattle.indexed_queries.specs.Fronts.{HoldsNamed, IsStaleFor, front_bytes}
+use Rattle.indexed_queries.specs.Fronts.{HoldsNamed, IsStaleFor}
 use Rattle.indexed_queries.specs.InnerParts.{HasJoinedParts, HaveJoinedGroups}
 use Rattle.indexed_queries.specs.Together.{AllThree, AreNamedBy, AreRefusedTogether, AreUnfailedTogether, HoldNamedTogether, IsFirstRefusedByIndex, IsOneOf, is_under_any}
 
@@ -33,29 +30,6 @@ three_more R (_ ∷ _) [] [] x y z all one = absurd all
 three_more R (_ ∷ _) [] (_ ∷ _) x y z all one = absurd all
 three_more R (_ ∷ _) (_ ∷ _) [] x y z all one = absurd all
 three_more R (a ∷ xs) (b ∷ ys) (c ∷ zs) x y z all one = (all.0, three_more R xs ys zs x y z all.1 one)
-
--- ---- fronts
-
-pub any_none : (fronts : List Front) (i : ℕ) (front : Front) (bytes : List ℕ) → i < length fronts → front ≡ get_or fronts i front → is_under (front_bytes front) bytes ≡ false → is_under_any (take i (map front_bytes fronts)) bytes ≡ false
-    → is_under_any (take (i + 1) (map front_bytes fronts)) bytes ≡ false
-any_none fronts i front bytes lt is other none = by_front fronts i front bytes lt is ∙ ap (λ (b : Bool). is_under_any (take i (map front_bytes fronts)) bytes || (b || false)) other ∙ ap (λ (b : Bool). b || false) none
-  where
-    by_front : (fs : List Front) (k : ℕ) (f : Front) (bs : List ℕ) → k < length fs → f ≡ get_or fs k f → is_under_any (take (k + 1) (map front_bytes fs)) bs ≡ (is_under_any (take k (map front_bytes fs)) bs || (is_under (front_bytes f) bs || false))
-    by_front fs k f bs lt is =
-        let all = map front_bytes fs in
-        let within : k < length all = omega (arith, lt, length-map fs front_bytes) in
-        ap (λ (ys : List (List ℕ)). is_under_any ys bs)
-        (ap (λ (n : ℕ). take n all) (add-one k) ∙ take-suc all k [] within ∙ ap (λ (g : List ℕ). take k all ++ g ∷ []) (get_or-map front_bytes fs k f [] lt ∙ ap front_bytes (sym is)))
-        ∙ list_any-append (λ (g : List ℕ). is_under g bs) (take k all) (front_bytes f ∷ [])
-
-pub any_some : (fronts : List Front) (i : ℕ) (front : Front) (bytes : List ℕ) → i < length fronts → front ≡ get_or fronts i front → is_under (front_bytes front) bytes ≡ true → is_under_any (map front_bytes fronts) bytes ≡ true
-any_some [] i front bytes lt is under = absurd (omega arith)
-any_some (f ∷ fs) zero front bytes lt is under = ap (λ (b : Bool). b || is_under_any (map front_bytes fs) bytes) (ap (λ (g : Front). is_under (front_bytes g) bytes) (sym is) ∙ under)
-any_some (f ∷ fs) (suc i) front bytes lt is under = or_true (is_under (front_bytes f) bytes) (any_some fs i front bytes (omega arith) is under)
-  where
-    or_true : (a : Bool) {b : Bool} → b ≡ true → (a || b) ≡ true
-    or_true true e = refl
-    or_true false e = e
 
 -- ---- groups
 

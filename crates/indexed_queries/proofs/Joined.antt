@@ -1,22 +1,27 @@
 -- Parts that are joined one after another.
 use Rattle.std.proofs.Common.{◌≡◌, ℕ, ◌+◌, ◌<◌, List, [], ◌∷◌, ◌++◌, length, map, take, get_or, Option, Some, None, Result, Ok, Err, refl, sym, ap, ◌∙◌, subst, inl, inr, arith, add-one}
-use Rattle.std.specs.Prelude.{IfErr, IfSome, OnOk}
+use Rattle.std.specs.Prelude.{IfErr, IfSome, OnOk, flat_map}
+use Rattle.std.specs.List.{AllZip}
+use Rattle.std.specs.FinSet as set
 use Rattle.std.proofs.Math.ListN.{length-map}
 use Rattle.std.proofs.Math.Seq.{take-suc}
-use Rattle.std.proofs.lemmas.List.{get_or-map}
+use Rattle.std.proofs.lemmas.List.{append-nil, flat_map_more, get_or-map}
 use Rattle.std.proofs.lemmas.List.Sums.{fold-append}
-use Rattle.archive_core.specs.Content.{Operations, joined}
+use Rattle.archive_core.specs.Content.{Operations, IsMade, content_of, with_record, with_records}
+use Rattle.archive_core.proofs.Taken.{made_taken, taken_are_joined}
 use Rattle.archive_core.specs.Summary.{Entries}
-use Rattle.archive_index.specs.Places.{AreNamed, BlamesPlaced, IsPlaceFault}
+use Rattle.archive_index.specs.Places.{BlamesPlaced, IsNamedBy, IsStale, entries_under}
 use Rattle.archive_index.specs.declared.fault.PlaceFault.{PlaceFault}
 use Rattle.archive_index.specs.declared.fault.PlaceFault.TheVariants.{Stale, Device, OutOfMemory}
+use Rattle.command_ends.specs.Archives.{merged}
 use Rattle.command_ends.specs.Indexes.{HoldsIndex, IsRefusedBehindIndex, IsRefusedByIndex}
 use Rattle.command_ends.specs.Inputs.{Reader, IsRefusal, Unfailed, reader}
 use Rattle.command_ends.specs.declared.faults.CommandFault.{CommandFault}
 use Rattle.command_ends.proofs.Readers.{pairs_more}
+use Rattle.indexed_parts.specs.Places.{AreGatheredUnder, IsEntryFault}
 use Rattle.indexed_queries.specs.declared.fronts.Front.{Front}
 use Rattle.indexed_queries.specs.Fronts.{AreNamedUnder, IsStaleFor, front_bytes}
-use Rattle.indexed_queries.specs.InnerParts.{HasJoinedNamed, HasJoinedParts, IsFaultUnder, IsJoinedFrom, IsNamedIn, told_fault}
+use Rattle.indexed_queries.specs.InnerParts.{HasJoinedNamed, HasJoinedParts, HaveGathered, IsFaultUnder, IsNamedIn, told_fault}
 use Rattle.indexed_queries.proofs.Refused.{archive_behind}
 
 take_one : (xs : List (List ℕ)) (i : ℕ) → i < length xs → take (i + 1) xs ≡ take i xs ++ get_or xs i [] ∷ []
@@ -24,51 +29,82 @@ take_one xs i lt = ap (λ (n : ℕ). take n xs) (add-one i) ∙ take-suc xs i []
 
 -- ---- under each front
 
-pub joined_none : (whole : Option (List ℕ)) (entries : Entries) (o : Operations) → HasJoinedNamed whole [] entries o o
-joined_none None entries o = record { parts = []; content = refl; named = tt }
-joined_none (Some text) entries o = record { parts = []; content = refl; named = tt }
+abbrev made : List (List ℕ) → Operations
+made records = content_of (set.from_list records)
 
-named_more : (whole now : Option (List ℕ)) (fronts : List (List ℕ)) (front : List ℕ) (entries : Entries) (parts : List Operations) (part : Operations) → now ≡ whole
-    → IfSome whole (λ text. AreNamedUnder fronts entries text parts) → IfSome now (λ text. AreNamed front entries text part) → IfSome whole (λ text. AreNamedUnder (fronts ++ front ∷ []) entries text (parts ++ part ∷ []))
-named_more whole now fronts front entries parts part keeps all one = there whole all (subst (λ (w : Option (List ℕ)). IfSome w (λ text. AreNamed front entries text part)) keeps one)
-  where
-    there : (w : Option (List ℕ)) → IfSome w (λ text. AreNamedUnder fronts entries text parts) → IfSome w (λ text. AreNamed front entries text part) → IfSome w (λ text. AreNamedUnder (fronts ++ front ∷ []) entries text (parts ++ part ∷ []))
-    there None a b = tt
-    there (Some text) a b = pairs_more (λ (f : List ℕ) (q : Operations). AreNamed f entries text q) fronts parts front part a b
+-- a group for each front, of records that its entries name
+abbrev AreGroups : List (List ℕ) → Entries → List (List (List ℕ)) → List ℕ → Type 0
+AreGroups fronts entries groups text = AllZip (λ (front : List ℕ) (records : List (List ℕ)). AllZip (IsNamedBy text) (entries_under front entries) records) fronts groups
 
-pub joined_more : (whole now : Option (List ℕ)) (fronts : List Front) (i : ℕ) (front : Front) (entries : Entries) (o mid new : Operations) → i < length fronts → front ≡ get_or fronts i front → now ≡ whole
-    → HasJoinedNamed whole (take i (map front_bytes fronts)) entries o mid → IsJoinedFrom now (front_bytes front) entries mid new → HasJoinedNamed whole (take (i + 1) (map front_bytes fronts)) entries o new
-joined_more whole now fronts i front entries o mid new lt is keeps before one =
-    let all = map front_bytes fronts in
-    let at : front_bytes front ≡ get_or all i [] = ap front_bytes is ∙ sym (get_or-map front_bytes fronts i front [] lt) in
-    let seen : take (i + 1) all ≡ take i all ++ front_bytes front ∷ [] = take_one all i (within fronts lt) ∙ ap (λ (f : List ℕ). take i all ++ f ∷ []) (sym at) in
-    record {
-      parts = before.parts ++ one.part ∷ [];
-      content = one.content ∙ ap (λ (m : Operations). joined m one.part) before.content ∙ sym (fold-append joined o before.parts (one.part ∷ []));
-      named = subst (λ (fs : List (List ℕ)). IfSome whole (λ text. AreNamedUnder fs entries text (before.parts ++ one.part ∷ []))) (sym seen) (named_more whole now (take i all) (front_bytes front) entries before.parts one.part keeps before.named one.named);
-    }
-  where
-    within : (fs : List Front) → i < length fs → i < length (map front_bytes fs)
-    within fs h = omega (arith, h, length-map fs front_bytes)
+along : (P Q : List ℕ → Type 0) (whole : Option (List ℕ)) → ((text : List ℕ) → P text → Q text) → IfSome whole P → IfSome whole Q
+along P Q None f a = tt
+along P Q (Some text) f a = f text a
 
-pub joined_all : (whole : Option (List ℕ)) (some fronts : List (List ℕ)) (entries : Entries) (o new : Operations) → some ≡ fronts → HasJoinedNamed whole some entries o new → HasJoinedNamed whole fronts entries o new
-joined_all whole some fronts entries o new is h = subst (λ (fs : List (List ℕ)). HasJoinedNamed whole fs entries o new) is h
+along_both : (P Q R : List ℕ → Type 0) (whole : Option (List ℕ)) → ((text : List ℕ) → P text → Q text → R text) → IfSome whole P → IfSome whole Q → IfSome whole R
+along_both P Q R None f a b = tt
+along_both P Q R (Some text) f a b = f text a b
 
--- a fault at a front
-pub fault_at : (whole now : Option (List ℕ)) (fronts : List Front) (i : ℕ) (front : Front) (entries : Entries) (o mid : Operations) (fault : PlaceFault) → i < length fronts → front ≡ get_or fronts i front → now ≡ whole
-    → HasJoinedNamed whole (take i (map front_bytes fronts)) entries o mid → IfSome now (λ text. IsPlaceFault (front_bytes front) entries text fault) → IfSome whole (λ text. IsFaultUnder (map front_bytes fronts) entries text fault)
-fault_at whole now fronts i front entries o mid fault lt is keeps before h =
-    there whole fault before.named (subst (λ (w : Option (List ℕ)). IfSome w (λ text. IsPlaceFault (front_bytes front) entries text fault)) keeps h)
-  where
-    at : front_bytes front ≡ get_or (map front_bytes fronts) i []
-    at = ap front_bytes is ∙ sym (get_or-map front_bytes fronts i front [] lt)
+named_groups : (text : List ℕ) (fronts : List (List ℕ)) (entries : Entries) (groups : List (List (List ℕ))) → AreGroups fronts entries groups text → AreNamedUnder fronts entries text (map made groups)
+named_groups text [] entries [] a = tt
+named_groups text [] entries (g ∷ gs) a = absurd a
+named_groups text (f ∷ fs) entries [] a = absurd a
+named_groups text (f ∷ fs) entries (g ∷ gs) a = (record { records = g; named = a.0; made = refl }, named_groups text fs entries gs a.1)
 
-    there : (w : Option (List ℕ)) (f : PlaceFault) → IfSome w (λ text. AreNamedUnder (take i (map front_bytes fronts)) entries text before.parts) → IfSome w (λ text. IsPlaceFault (front_bytes front) entries text f) → IfSome w (λ text. IsFaultUnder (map front_bytes fronts) entries text f)
-    there None f a b = tt
-    there (Some text) (Stale None) a b = b
-    there (Some text) (Stale (Some k)) a b = (i, omega (arith, lt, length-map fronts front_bytes), (before.parts, a), subst (λ (f : List ℕ). IsPlaceFault f entries text (Stale (Some k))) at b)
-    there (Some text) Device a b = tt
-    there (Some text) OutOfMemory a b = tt
+pub gathered_none : (whole : Option (List ℕ)) (entries : Entries) (old : List (List ℕ)) → HaveGathered whole [] entries old old
+gathered_none None entries old = record { groups = []; named = tt; behind = sym (append-nil old) }
+gathered_none (Some text) entries old = record { groups = []; named = tt; behind = sym (append-nil old) }
+
+module _ (whole now : Option (List ℕ)) (fronts : List Front) (i : ℕ) (front : Front) (entries : Entries) (lt : i < length fronts) (is : front ≡ get_or fronts i front) (keeps : now ≡ whole) where
+  at : front_bytes front ≡ get_or (map front_bytes fronts) i []
+  at = ap front_bytes is ∙ sym (get_or-map front_bytes fronts i front [] lt)
+
+  pub gathered_more : (old mid new : List (List ℕ)) → HaveGathered whole (take i (map front_bytes fronts)) entries old mid → AreGatheredUnder now (front_bytes front) entries mid new → HaveGathered whole (take (i + 1) (map front_bytes fronts)) entries old new
+  gathered_more old mid new before one =
+      let bytes = map front_bytes fronts in
+      let groups = before.groups ++ one.records ∷ [] in
+      let seen : take (i + 1) bytes ≡ take i bytes ++ front_bytes front ∷ [] = take_one bytes i (omega (arith, lt, length-map fronts front_bytes)) ∙ ap (λ (f : List ℕ). take i bytes ++ f ∷ []) (sym at) in
+      record {
+        groups = groups;
+        named = along_both (AreGroups (take i bytes) entries before.groups) (λ text. AllZip (IsNamedBy text) (entries_under (front_bytes front) entries) one.records) (AreGroups (take (i + 1) bytes) entries groups) whole
+            (λ text a b. subst (λ (fs : List (List ℕ)). AreGroups fs entries groups text) (sym seen) (pairs_more (λ (f : List ℕ) (records : List (List ℕ)). AllZip (IsNamedBy text) (entries_under f entries) records) (take i bytes) before.groups (front_bytes front) one.records a b))
+            before.named (subst (λ (w : Option (List ℕ)). IfSome w (λ text. AllZip (IsNamedBy text) (entries_under (front_bytes front) entries) one.records)) keeps one.named);
+        behind = one.behind ∙ ap (λ (l : List (List ℕ)). l ++ one.records) before.behind ∙ flat_map_more (λ (records : List (List ℕ)). records) old before.groups one.records;
+      }
+
+  -- a fault at a front
+  pub fault_at : (old mid : List (List ℕ)) (fault : PlaceFault) → HaveGathered whole (take i (map front_bytes fronts)) entries old mid → IfSome now (λ text. IsEntryFault (front_bytes front) entries text fault) → IfSome whole (λ text. IsFaultUnder (map front_bytes fronts) entries text fault)
+  fault_at old mid fault before h =
+      along_both (AreGroups (take i (map front_bytes fronts)) entries before.groups) (λ text. IsEntryFault (front_bytes front) entries text fault) (λ text. IsFaultUnder (map front_bytes fronts) entries text fault) whole (by fault)
+      before.named (subst (λ (w : Option (List ℕ)). IfSome w (λ text. IsEntryFault (front_bytes front) entries text fault)) keeps h)
+    where
+      by : (f : PlaceFault) (text : List ℕ) → AreGroups (take i (map front_bytes fronts)) entries before.groups text → IsEntryFault (front_bytes front) entries text f → IsFaultUnder (map front_bytes fronts) entries text f
+      by (Stale None) text a b = absurd b
+      by (Stale (Some k)) text a b = (
+        i,
+        omega (arith, lt, length-map fronts front_bytes),
+        (map made before.groups, named_groups text (take i (map front_bytes fronts)) entries before.groups a),
+        subst (λ (f : List ℕ). IsStale f entries text (Some k)) at b,
+      )
+      by Device text a b = tt
+      by OutOfMemory text a b = tt
+
+pub gathered_all : (whole : Option (List ℕ)) (some fronts : List (List ℕ)) (entries : Entries) (old new : List (List ℕ)) → some ≡ fronts → HaveGathered whole some entries old new → HaveGathered whole fronts entries old new
+gathered_all whole some fronts entries old new is h = subst (λ (fs : List (List ℕ)). HaveGathered whole fs entries old new) is h
+
+-- what was gathered is taken together, as its groups one after another
+taken_groups : (o : Operations) (groups : List (List (List ℕ))) → IsMade o → with_records o (flat_map (λ (records : List (List ℕ)). records) groups) ≡ merged o (map made groups)
+taken_groups o [] is = refl
+taken_groups o (g ∷ gs) is =
+    fold-append with_record o g (flat_map (λ (records : List (List ℕ)). records) gs)
+    ∙ taken_groups (with_records o g) gs (made_taken o g is)
+    ∙ ap (λ (s : Operations). merged s (map made gs)) (taken_are_joined o g is)
+
+pub joined_together : (whole : Option (List ℕ)) (fronts : List (List ℕ)) (entries : Entries) (old gathered : List (List ℕ)) (o new : Operations) → IsMade o → old ≡ [] → HaveGathered whole fronts entries old gathered → new ≡ with_records o gathered → HasJoinedNamed whole fronts entries o new
+joined_together whole fronts entries old gathered o new is none h taken = record {
+  parts = map made h.groups;
+  content = taken ∙ ap (with_records o) (h.behind ∙ ap (λ (l : List (List ℕ)). l ++ flat_map (λ (records : List (List ℕ)). records) h.groups) none) ∙ taken_groups o h.groups is;
+  named = along (AreGroups fronts entries h.groups) (λ text. AreNamedUnder fronts entries text (map made h.groups)) whole (λ text a. named_groups text fronts entries h.groups a) h.named;
+}
 
 pub blamed_from : {P : Type 0} (failures : P → ℕ) (old mid new : P) (fault : PlaceFault) → failures mid ≡ failures old → BlamesPlaced failures mid new fault → BlamesPlaced failures old new fault
 blamed_from failures old mid new (Stale entry) same b = b ∙ same

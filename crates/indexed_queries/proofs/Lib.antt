@@ -7,3 +7,4 @@ pub mod Framed
 pub mod ByIndex
 pub mod Groups
 pub mod Accepted
+pub mod Sought

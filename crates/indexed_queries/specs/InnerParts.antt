@@ -1,18 +1,29 @@
 -- Parts that are joined one after another: the words of inner functions. No contract of a public one has them.
-use Rattle.std.specs.Prelude.{◌≡◌, ℕ, List, Option, IfSome}
-use Rattle.archive_core.specs.Content.{Operations, joined}
+use Rattle.std.specs.Prelude.{◌≡◌, ℕ, List, ◌++◌, Bool, ◌||◌, ◌==◌, Option, IfSome, flat_map, length}
+use Rattle.std.specs.List.{AllZip}
+use Rattle.archive_core.specs.Content.{Operations}
 use Rattle.archive_core.specs.Summary.{Entries}
 use Rattle.archive_index.specs.declared.fault.PlaceFault.{PlaceFault}
 use Rattle.archive_index.specs.declared.fault.PlaceFault.TheVariants.{Stale, Device, OutOfMemory}
-use Rattle.archive_index.specs.Places.{AreNamed, HasIndexedLength}
+use Rattle.archive_index.specs.Places.{HasIndexedLength, IsNamedBy, entries_under}
 use Rattle.command_ends.specs.Archives.{merged}
 use Rattle.command_ends.specs.Inputs.{Reader, Gives}
 use Rattle.command_ends.specs.declared.faults.CommandFault.{CommandFault}
 use Rattle.command_ends.specs.declared.faults.CommandFault.TheVariants as command
 use Rattle.command_ends.specs.declared.faults.Place.TheVariants as place
 use Rattle.command_ends.specs.declared.faults.Why.TheVariants as why
-use Rattle.indexed_queries.specs.Fronts.{AreNamedUnder, HoldsNamed, IsStaleUnder}
+use Rattle.indexed_queries.specs.declared.fronts.Front.{Front}
+use Rattle.indexed_queries.specs.Fronts.{AreNamedUnder, HoldsNamed, IsStaleUnder, front_bytes}
 use Rattle.indexed_queries.specs.Together.{AreNamedBy, merged_each}
+
+-- each entry under each of these fronts names one of the records of its group, in their order, and the groups stand
+-- behind what was gathered
+pub record HaveGathered (whole : Option (List ℕ)) (fronts : List (List ℕ)) (entries : Entries)
+    (old new : List (List ℕ)) : Type 0 where
+  pub groups : List (List (List ℕ))
+  pub named : IfSome whole (λ text. AllZip (λ front records.
+      AllZip (IsNamedBy text) (entries_under front entries) records) fronts groups)
+  pub behind : new ≡ old ++ flat_map (λ records. records) groups
 
 -- what the entries under these fronts name was joined to the content
 pub record HasJoinedNamed (whole : Option (List ℕ)) (fronts : List (List ℕ)) (entries : Entries) (old new : Operations)
@@ -20,13 +31,6 @@ pub record HasJoinedNamed (whole : Option (List ℕ)) (fronts : List (List ℕ))
   pub parts : List Operations
   pub content : new ≡ merged old parts
   pub named : IfSome whole (λ text. AreNamedUnder fronts entries text parts)
-
--- the same of one front
-pub record IsJoinedFrom (whole : Option (List ℕ)) (front : List ℕ) (entries : Entries) (old new : Operations)
-    : Type 0 where
-  pub part : Operations
-  pub content : new ≡ joined old part
-  pub named : IfSome whole (λ text. AreNamed front entries text part)
 
 -- the same of an input, which was opened and has the length that the index tells
 pub record IsNamedIn {S : Type 0} (archive : Reader S) (fronts : List (List ℕ)) (entries : Entries)
@@ -61,3 +65,7 @@ pub record HaveJoinedGroups {I P : Type 0} (fronts : List (List ℕ)) (indexes :
   pub groups : List (List Operations)
   pub named : AreNamedBy fronts indexes archives groups
   pub content : new ≡ merged_each old groups
+
+-- the bytes of a front are as many as those of a UUID, or of a key
+abbrev pub is_sized : Front → Bool
+is_sized front = (length (front_bytes front) == 16) || (length (front_bytes front) == 24)

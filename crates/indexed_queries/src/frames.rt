@@ -1,7 +1,6 @@
 //! `frames FRAMES ARCHIVE... --index INDEX`, over one archive or several.
-ghost use Rattle.std.specs.Prelude.{◌≡◌, ◌<◌, ◌+◌, ◌^◌, true, Contains, IfErr, IfOk, OnOk, length, map, string_bytes};
+ghost use Rattle.std.specs.Prelude.{◌≡◌, ◌<◌, ◌+◌, ◌^◌, IfErr, IfOk, OnOk, length, map, string_bytes};
 ghost use Rattle.archive_core.specs.Content.{HaveSameMembers};
-ghost use Rattle.archive_core.specs.Key.{key_bytes};
 ghost use Rattle.archive_queries.specs.Frames.{TellsFrames};
 ghost use Rattle.command_ends.specs.Ends.{EndsReport};
 ghost use Rattle.command_ends.specs.Inputs.{IsRefusal, reader, readers};
@@ -10,9 +9,9 @@ ghost use Rattle.indexed_queries.specs.Frames.{AreRefusedAt, AreToldAt, frames_a
 ghost use Rattle.indexed_queries.specs.Fronts.{front_bytes};
 ghost use Rattle.indexed_queries.specs.Together.{AreUnfailedTogether};
 
-use crate::fronts::Front;
+use crate::fronts::{Front, compare_fronts};
 use crate::together::read_fronts;
-use archive_core::{Archive, SliceKey};
+use archive_core::Archive;
 use archive_queries::{asked_of, status_behind};
 use byte_device::{CannotOpen, Sink, Source};
 use command_ends::{CommandFault, Status, publish_report, read_crash};
@@ -21,39 +20,24 @@ use memory::{Heap, NoMemory};
 use placed_bytes::Placed;
 use report_text::push_answer;
 
-/// Whether a front is this key.
-fn is_key(front: &Front, key: &SliceKey) -> bool
-    ensures { result ≡ true → front_bytes front.now ≡ key_bytes key.now }
-{
-    match front {
-        Front::Uuid(_) => false,
-        Front::Key(other) => other == key,
-    }
-}
-
-/// Whether a key is among fronts.
-fn has_key(fronts: &[Front], key: &SliceKey) -> bool
-    ensures { result ≡ true → Contains (map front_bytes fronts.now) (key_bytes key.now) }
-{
-    'fronts: for front in fronts {
-        if is_key(front, key) {
-            return true;
-        }
-    }
-    false
-}
-
-/// The keys of frames, each once, as they come.
-fn fronts_of(heap: Heap, frames: &[Frame]) -> Result<Vec<Front, Heap>, NoMemory>
-    ensures { IfOk result (λ fronts. HaveSameMembers (map front_bytes fronts.items) (keys_of frames.now)) }
+/// The key of each frame.
+fn each_key(heap: Heap, frames: &[Frame]) -> Result<Vec<Front, Heap>, NoMemory>
+    ensures { IfOk result (λ fronts. map front_bytes fronts.items ≡ keys_of frames.now) }
 {
     let mut fronts = Vec::new(heap);
     'frames: for frame in frames {
-        if has_key(&fronts, &frame.key) {
-            continue 'frames;
-        }
         fronts.push(Front::Key(frame.key))?;
     }
+    Ok(fronts)
+}
+
+/// The keys of frames, each once, in the order of their bytes.
+fn fronts_of(heap: Heap, frames: &[Frame]) -> Result<Vec<Front, Heap>, NoMemory>
+    ensures { IfOk result (λ fronts. HaveSameMembers (map front_bytes fronts.items) (keys_of frames.now)) }
+{
+    let mut fronts = each_key(heap, frames)?;
+    fronts.sort_unstable_by(|a, b| compare_fronts(a, b));
+    fronts.dedup_by(|a, b| compare_fronts(a, b).is_eq());
     Ok(fronts)
 }
 

@@ -1,118 +1,88 @@
 //! What an index names in its archive, read and joined.
 
-ghost use Rattle.std.specs.Prelude.{◌≡◌, IfErr, IfOk, IfSome, MatchResult, OnOk, map};
-ghost use Rattle.archive_core.specs.Key.{key_bytes};
-ghost use Rattle.archive_index.specs.Places.{AreNamed, BlamesPlaced, HasIndexedLength, IsPlaceFault};
+ghost use Rattle.std.specs.Prelude.{◌≡◌, IfErr, IfSome, OnOk, map};
+ghost use Rattle.archive_core.specs.Record.{record_bytes};
+ghost use Rattle.placed_bytes.specs.Places.{HasSize};
+ghost use Rattle.archive_index.specs.Places.{BlamesPlaced, HasIndexedLength};
 ghost use Rattle.command_ends.specs.Indexes.{IsRefusedBehindIndex, IsRefusedByIndex};
 ghost use Rattle.command_ends.specs.Inputs.{IsRefusal, Unfailed, reader};
+ghost use Rattle.indexed_parts.specs.Places.{AreGatheredUnder, IsEntryFault};
 ghost use Rattle.indexed_queries.specs.Fronts.{IsStaleFor, front_bytes};
-ghost use Rattle.indexed_queries.specs.InnerParts.{HasJoinedNamed, HasJoinedParts, IsFaultUnder, IsJoinedFrom};
+ghost use Rattle.indexed_queries.specs.InnerParts.{HasJoinedNamed, HasJoinedParts, HaveGathered, IsFaultUnder};
 ghost use Rattle.indexed_queries.specs.InnerParts.{IsNamedIn, told_fault};
 
 use crate::fronts::{Front, key_of, uuid_bytes};
 use crate::inputs::read_entries;
-use archive_core::{Archive, SliceKey, take_all};
+use archive_core::{Archive, Operation};
 use archive_index::{Index, PlaceFault};
-use byte_device::{CannotOpen, Failed, Source};
+use byte_device::{CannotOpen, Source};
 use command_ends::{CommandFault, Place, Why, opened};
-use indexed_parts::{has_length, part_at};
+use indexed_parts::{gather_at, indexed_size};
 use memory::{Heap, NoMemory};
 use placed_bytes::Placed;
-use uuid::Uuid;
+use sorted_archive::take_each;
 
-/// Reads the records under a UUID at the places that an index names.
-fn part_of_uuid<A: Archive + Drop, P: Placed>(
-    heap: Heap,
-    uuid: Uuid,
-    entries: &Index,
-    device: &mut P,
-) -> Result<A, PlaceFault>
-    ensures named { IfOk result (λ part. IfSome (P.whole device.old) (λ text.
-        AreNamed uuid entries.now text (A.content part))) }
-    ensures refused { IfErr result (λ fault. IfSome (P.whole device.old) (λ text.
-        IsPlaceFault uuid entries.now text fault)) }
-    ensures keeps { P.whole device.new ≡ P.whole device.old }
-    ensures blames { MatchResult result (λ _. P.failures device.new ≡ P.failures device.old)
-        (λ fault. BlamesPlaced P.failures device.old device.new fault) }
-{
-    let front = uuid_bytes(uuid);
-    part_at(heap, &front, entries, device)
-}
-
-/// Reads the records under a key at the places that an index names.
-fn part_of_key<A: Archive + Drop, P: Placed>(
-    heap: Heap,
-    key: SliceKey,
-    entries: &Index,
-    device: &mut P,
-) -> Result<A, PlaceFault>
-    ensures named { IfOk result (λ part. IfSome (P.whole device.old) (λ text.
-        AreNamed (key_bytes key) entries.now text (A.content part))) }
-    ensures refused { IfErr result (λ fault. IfSome (P.whole device.old) (λ text.
-        IsPlaceFault (key_bytes key) entries.now text fault)) }
-    ensures keeps { P.whole device.new ≡ P.whole device.old }
-    ensures blames { MatchResult result (λ _. P.failures device.new ≡ P.failures device.old)
-        (λ fault. BlamesPlaced P.failures device.old device.new fault) }
-{
-    let front = key_of(key);
-    part_at(heap, &front, entries, device)
-}
-
-/// Reads the records under a front at the places that an index names.
-fn part_under<A: Archive + Drop, P: Placed>(
-    heap: Heap,
-    front: &Front,
-    entries: &Index,
-    device: &mut P,
-) -> Result<A, PlaceFault>
-    ensures named { IfOk result (λ part. IfSome (P.whole device.old) (λ text.
-        AreNamed (front_bytes front.now) entries.now text (A.content part))) }
-    ensures refused { IfErr result (λ fault. IfSome (P.whole device.old) (λ text.
-        IsPlaceFault (front_bytes front.now) entries.now text fault)) }
-    ensures keeps { P.whole device.new ≡ P.whole device.old }
-    ensures blames { MatchResult result (λ _. P.failures device.new ≡ P.failures device.old)
-        (λ fault. BlamesPlaced P.failures device.old device.new fault) }
-{
-    match front {
-        Front::Uuid(uuid) => part_of_uuid(heap, *uuid, entries, device),
-        Front::Key(key) => part_of_key(heap, *key, entries, device),
-    }
-}
-
-/// Joins the records under a front, at the places that an index names.
-fn join_front<A: Archive + Drop, P: Placed>(
+/// Gathers the records under a front, at the places that an index names, behind those that were gathered.
+fn gather_front<P: Placed>(
     heap: &Heap,
-    kept: &mut A,
+    gathered: &mut Vec<Operation, Heap>,
     front: &Front,
     entries: &Index,
     device: &mut P,
+    size: u64,
 ) -> Result<(), PlaceFault>
-    ensures joined { OnOk result (IsJoinedFrom (P.whole device.old) (front_bytes front.now) entries.now
-        (A.content kept.old) (A.content kept.new)) }
+    requires { HasSize (P.whole device.old) size }
+    ensures gathered { OnOk result (AreGatheredUnder (P.whole device.old) (front_bytes front.now) entries.now
+        (map record_bytes gathered.old.items) (map record_bytes gathered.new.items)) }
     ensures refused { IfErr result (λ fault. IfSome (P.whole device.old) (λ text.
-        IsPlaceFault (front_bytes front.now) entries.now text fault)) }
+        IsEntryFault (front_bytes front.now) entries.now text fault)) }
     ensures keeps { P.whole device.new ≡ P.whole device.old }
     ensures unfailed { OnOk result (P.failures device.new ≡ P.failures device.old) }
     ensures blames { IfErr result (λ fault. BlamesPlaced P.failures device.old device.new fault) }
 {
-    let Ok(own) = heap.clone() else {
-        return Err(PlaceFault::OutOfMemory);
-    };
-    let part: A = part_under(own, front, entries, device)?;
-    match take_all(kept, part) {
-        Ok(()) => Ok(()),
-        Err(NoMemory) => Err(PlaceFault::OutOfMemory),
+    match front {
+        Front::Uuid(uuid) => {
+            gather_at(heap, gathered, &uuid_bytes(*uuid), entries, device, size)
+        }
+        Front::Key(key) => gather_at(heap, gathered, &key_of(*key), entries, device, size),
     }
 }
 
-/// Joins the records under each of these fronts, at the places that an index names.
+/// Gathers the records under each of these fronts, at the places that an index names.
+fn gather_fronts<P: Placed>(
+    heap: &Heap,
+    gathered: &mut Vec<Operation, Heap>,
+    fronts: &[Front],
+    entries: &Index,
+    device: &mut P,
+    size: u64,
+) -> Result<(), PlaceFault>
+    requires { HasSize (P.whole device.old) size }
+    ensures gathered { OnOk result (HaveGathered (P.whole device.old) (map front_bytes fronts.now) entries.now
+        (map record_bytes gathered.old.items) (map record_bytes gathered.new.items)) }
+    ensures refused { IfErr result (λ fault. IfSome (P.whole device.old) (λ text.
+        IsFaultUnder (map front_bytes fronts.now) entries.now text fault)) }
+    ensures keeps { P.whole device.new ≡ P.whole device.old }
+    ensures unfailed { OnOk result (P.failures device.new ≡ P.failures device.old) }
+    ensures blames { IfErr result (λ fault. BlamesPlaced P.failures device.old device.new fault) }
+{
+    'fronts: for front in fronts {
+        gather_front(heap, gathered, front, entries, device, size)?;
+    }
+    Ok(())
+}
+
+/// Joins the records under these fronts, at the places that an index names, together: so that none shifts what is there
+/// for each front.
 fn join_fronts<A: Archive + Drop, P: Placed>(
     heap: &Heap,
     kept: &mut A,
     fronts: &[Front],
     entries: &Index,
     device: &mut P,
+    size: u64,
 ) -> Result<(), PlaceFault>
+    requires { HasSize (P.whole device.old) size }
     ensures joined { OnOk result (HasJoinedNamed (P.whole device.old) (map front_bytes fronts.now) entries.now
         (A.content kept.old) (A.content kept.new)) }
     ensures refused { IfErr result (λ fault. IfSome (P.whole device.old) (λ text.
@@ -121,10 +91,16 @@ fn join_fronts<A: Archive + Drop, P: Placed>(
     ensures unfailed { OnOk result (P.failures device.new ≡ P.failures device.old) }
     ensures blames { IfErr result (λ fault. BlamesPlaced P.failures device.old device.new fault) }
 {
-    'fronts: for front in fronts {
-        join_front(heap, kept, front, entries, device)?;
+    let _held = kept.len();
+    let Ok(own) = heap.clone() else {
+        return Err(PlaceFault::OutOfMemory);
+    };
+    let mut gathered = Vec::new(own);
+    gather_fronts(heap, &mut gathered, fronts, entries, device, size)?;
+    match take_each(kept, gathered) {
+        Ok(_) => Ok(()),
+        Err(NoMemory) => Err(PlaceFault::OutOfMemory),
     }
-    Ok(())
 }
 
 /// The same, of an archive that has the length that its index tells.
@@ -143,11 +119,8 @@ fn join_tested<A: Archive + Drop, P: Placed>(
     ensures unfailed { OnOk result (P.failures device.new ≡ P.failures device.old) }
     ensures blames { IfErr result (λ fault. BlamesPlaced P.failures device.old device.new fault) }
 {
-    match has_length(entries, device) {
-        Ok(true) => join_fronts(heap, kept, fronts, entries, device),
-        Ok(false) => Err(PlaceFault::Stale(None)),
-        Err(Failed) => Err(PlaceFault::Device),
-    }
+    let size = indexed_size(entries, device)?;
+    join_fronts(heap, kept, fronts, entries, device, size)
 }
 
 /// A fault of the archive with this number, as a command tells it.

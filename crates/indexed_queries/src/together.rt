@@ -1,63 +1,98 @@
 //! Archives that are asked together, of which the first have indexes.
 
-ghost use Rattle.std.specs.Prelude.{◌≡◌, ◌<◌, ◌+◌, ◌^◌, IfErr, IfOk, OnOk, length, map};
+ghost use Rattle.std.specs.Prelude.{◌≡◌, ◌<◌, ◌≤◌, ◌+◌, ◌^◌, true, IfErr, IfOk, OnOk, length, map};
 ghost use Rattle.std.specs.FinSet as set;
-ghost use Rattle.archive_core.specs.Part.{is_under};
+ghost use Rattle.std.specs.List.{All, list_any};
+ghost use Rattle.std.specs.List.Sorted.{IsSortedByKey};
+ghost use Rattle.std.specs.Ordering.{nat_cmp};
+ghost use Rattle.std.specs.Cmp.Lexicographic.{slice_cmp};
+ghost use Rattle.std.specs.Str.{bytes_eq};
 ghost use Rattle.archive_queries.specs.InnerTogether.{HasJoinedParts as HaveJoinedPicked};
 ghost use Rattle.command_ends.specs.Inputs.{EachUnfailed, IsArchive, IsArchiveRefused, IsFirstRefused, IsRefusal};
 ghost use Rattle.command_ends.specs.Inputs.{readers};
 ghost use Rattle.command_ends.specs.declared.faults.Place.TheVariants.{Archive as ArchivePlace};
 ghost use Rattle.indexed_queries.specs.Fronts.{front_bytes};
-ghost use Rattle.indexed_queries.specs.InnerParts.{HaveJoinedGroups};
+ghost use Rattle.indexed_queries.specs.InnerParts.{HaveJoinedGroups, is_sized};
 ghost use Rattle.indexed_queries.specs.Together.{AreRefusedTogether, AreUnfailedTogether, HoldNamedTogether};
 ghost use Rattle.indexed_queries.specs.Together.{IsFirstRefusedByIndex, is_under_any};
 
-use crate::fronts::{Front, key_of, uuid_bytes};
+use crate::fronts::{Front, compare_bytes, compare_fronts, key_of, uuid_bytes};
 use crate::parts::join_named;
 use archive_core::Archive;
 use archive_queries::join_part;
 use archive_reading::Selects;
 use byte_device::{CannotOpen, Source};
 use command_ends::CommandFault;
-use memory::Heap;
+use memory::{Heap, NoMemory};
 use placed_bytes::Placed;
 
-/// Whether bytes behind a tag begin with these.
-fn begins(bytes: &[u8], front: &[u8]) -> bool
-    requires { 0 < length bytes.now }
-    ensures { result ≡ is_under front.now bytes.now }
-{
-    bytes[1..].starts_with(front)
-}
-
-/// Whether the bytes behind the tag of a record begin with a front.
-fn is_over(front: &Front, bytes: &[u8]) -> bool
-    requires { 0 < length bytes.now }
-    ensures { result ≡ is_under (front_bytes front.now) bytes.now }
+/// The same front, whose bytes are as many as those of a UUID or of a key.
+fn sized(front: &Front) -> Front
+    ensures same { result ≡ front.now }
+    ensures long { is_sized result ≡ true }
 {
     match front {
-        Front::Uuid(uuid) => begins(bytes, &uuid_bytes(*uuid)),
-        Front::Key(key) => begins(bytes, &key_of(*key)),
-    }
-}
-
-/// Whether the bytes behind the tag of a record begin with one of these fronts.
-fn any_over(fronts: &[Front], bytes: &[u8]) -> bool
-    requires { 0 < length bytes.now }
-    ensures { result ≡ is_under_any (map front_bytes fronts.now) bytes.now }
-{
-    'fronts: for front in fronts {
-        if is_over(front, bytes) {
-            return true;
+        Front::Uuid(uuid) => {
+            let _bytes = uuid_bytes(*uuid);
+            Front::Uuid(*uuid)
+        }
+        Front::Key(key) => {
+            let _bytes = key_of(*key);
+            Front::Key(*key)
         }
     }
-    false
 }
 
-/// The records under one of these fronts.
+/// The same fronts.
+fn copied(heap: Heap, fronts: &[Front]) -> Result<Vec<Front, Heap>, NoMemory>
+    ensures items { IfOk result (λ copies. copies.items ≡ fronts.now) }
+    ensures long { IfOk result (λ copies. All (λ front. is_sized front ≡ true) copies.items) }
+{
+    let mut copies = Vec::new(heap);
+    'fronts: for front in fronts {
+        copies.push(sized(front))?;
+    }
+    Ok(copies)
+}
+
+/// The same fronts in the order of their bytes.
+fn in_order(heap: Heap, fronts: &[Front]) -> Result<Vec<Front, Heap>, NoMemory>
+    ensures same { IfOk result (λ sorted.
+        is_under_any (map front_bytes sorted.items) ≡ is_under_any (map front_bytes fronts.now)) }
+    ensures sorted { IfOk result (λ sorted. IsSortedByKey front_bytes (slice_cmp nat_cmp) sorted.items) }
+    ensures long { IfOk result (λ sorted. All (λ front. is_sized front ≡ true) sorted.items) }
+{
+    let mut sorted = copied(heap, fronts)?;
+    sorted.sort_unstable_by(|a, b| compare_fronts(a, b));
+    Ok(sorted)
+}
+
+/// Whether these are the bytes of one of the fronts. They are found by halving.
+fn has_front(fronts: &[Front], bytes: &[u8]) -> bool
+    requires { IsSortedByKey front_bytes (slice_cmp nat_cmp) fronts.now }
+    ensures { result ≡ list_any (λ front. bytes_eq (front_bytes front) bytes.now) fronts.now }
+{
+    fronts
+        .binary_search_by(|front| compare_bytes(front, bytes))
+        .is_ok()
+}
+
+/// Whether the bytes behind the tag of a record begin with one of these fronts: with a UUID, or with a key.
+fn any_over(fronts: &[Front], bytes: &[u8]) -> bool
+    requires sorted { IsSortedByKey front_bytes (slice_cmp nat_cmp) fronts.now }
+    requires sized { All (λ front. is_sized front ≡ true) fronts.now }
+    requires long { 25 ≤ length bytes.now }
+    ensures { result ≡ is_under_any (map front_bytes fronts.now) bytes.now }
+{
+    has_front(fronts, &bytes[1..17]) || has_front(fronts, &bytes[1..25])
+}
+
+/// The records under one of these fronts, which stand in the order of their bytes.
 #[derive(Drop)]
 struct UnderAny<'f> {
     fronts: &'f [Front],
+    ghost in_order: { IsSortedByKey front_bytes (slice_cmp nat_cmp) fronts.now },
+    ghost sized: { All (λ front. is_sized front ≡ true) fronts.now },
 }
 
 impl<'f> Selects for UnderAny<'f> {
@@ -123,7 +158,8 @@ fn join_others<A: Archive + Drop, R: Source>(
         (readers R.left R.failures others.old others.new))
         (EachUnfailed (readers R.left R.failures others.old others.new))) }
 {
-    let select = UnderAny { fronts };
+    let sorted = in_order(heap.clone()?, fronts)?;
+    let select = UnderAny { fronts: &sorted };
     'others: for (index, other) in others.iter_mut().enumerate() {
         join_part(heap.clone()?, kept, (before + index) as u64, &select, other)?;
     }

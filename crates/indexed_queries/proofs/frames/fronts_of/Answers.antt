@@ -1,29 +1,12 @@
-use Rattle.std.proofs.Common.{[], ◌∷◌, ap, ◌∙◌, map, subst, sym, arith}
-use Rattle.std.proofs.Math.ListN.{length-map}
-use Rattle.std.proofs.lemmas.List.{map-append, take_all}
-use Rattle.archive_core.specs.Content.{HaveSameMembers}
-use Rattle.archive_core.specs.Key.{key_bytes}
-use Rattle.crash_frames.specs.declared.frame.Frame.{Frame}
-use Rattle.indexed_queries.specs.Frames.{keys_of}
+use Rattle.std.proofs.Common.{rules}
+use Rattle.std.specs.Ordering.{nat_cmp, eq_by_cmp}
+use Rattle.std.specs.Cmp.Lexicographic.{slice_cmp}
+use Rattle.std.proofs.lemmas.Fn.{dedup_same}
 use Rattle.indexed_queries.specs.Fronts.{front_bytes}
-use Rattle.indexed_queries.specs.declared.fronts.Front.TheVariants.{Key}
-use Rattle.indexed_queries.proofs.Framed.{keys_passed, keys_pushed, no_keys}
+use Rattle.indexed_queries.proofs.Sought.{members_kept}
 use Rattle.indexed_queries.proofs.frames.fronts_of.Goals as goal
-
-pub frames-init : goal.frames-init
-frames-init c = subst (λ fs. HaveSameMembers (map front_bytes fs) []) (sym c.new-fronts.ensures.items) no_keys
-
-pub frames-preserved-then-has_key : goal.frames-preserved-then-has_key
-frames-preserved-then-has_key c =
-    let there = c.has_key.ensures c.if-has_key.true in
-    keys_passed c.frames.fronts.items c.args.frames.now c.frames.frame-index c.frame-item.result c.frames-test.true c.frame-item.is c.frames.invariant (rw c.deref.ensures.value at there)
-
-pub frames-preserved : goal.frames-preserved
-frames-preserved c =
-    keys_pushed c.frames.fronts.items c.push.new.self.items c.args.frames.now c.frames.frame-index c.frame-item.result c.frames-test.true c.frame-item.is
-    (ap (map front_bytes) c.in_ok-push.ensures.items ∙ map-append front_bytes c.frames.fronts.items (Key c.frame-item.result.key ∷ [])) c.frames.invariant
 
 pub returns : goal.returns
 returns c =
-    let all = keys_of c.args.frames.now in
-    subst (HaveSameMembers (map front_bytes c.frames.fronts.items)) (take_all c.frames.frame-index all (omega (arith, length-map c.args.frames.now (λ (f : Frame). key_bytes f.key), c.frames-test.false))) c.frames.invariant
+    let once = dedup_same _ (λ x y. eq_by_cmp (slice_cmp nat_cmp) (front_bytes x) (front_bytes y)) _ (λ x y b f x' y' called. search rules) _ _ c.dedup_by.ensures.filtered in
+    members_kept _ _ _ _ c.in_ok-fronts.ensures c.sort_unstable_by.ensures.permutation once

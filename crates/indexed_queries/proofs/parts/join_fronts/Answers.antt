@@ -1,37 +1,10 @@
-use Rattle.std.proofs.Common.{◌∙◌, map, refl, arith}
-use Rattle.std.proofs.Math.ListN.{length-map}
-use Rattle.std.proofs.lemmas.List.{take_all}
-use Rattle.archive_records.proofs.Blamed.{failed}
+use Rattle.std.proofs.Common.{ap, map}
+use Rattle.archive_core.specs.Record.{record_bytes}
 use Rattle.indexed_queries.specs.Fronts.{front_bytes}
-use Rattle.indexed_queries.proofs.Joined.{blamed_from, fault_at, joined_all, joined_more, joined_none}
+use Rattle.indexed_queries.proofs.Joined.{joined_together}
 use Rattle.indexed_queries.proofs.parts.join_fronts.Goals as goal
 
-pub fronts-init : goal.fronts-init
-fronts-init g c = record { joined = joined_none _ _ _; keeps = refl; unfailed = refl }
-
-pub fronts-preserved : goal.fronts-preserved
-fronts-preserved g c =
-    let one = c.in_ok-join_front.ensures in
-    record {
-      joined = joined_more _ _ c.args.fronts.now c.fronts.front-index c.front-item.result c.args.entries.now _ _ _ c.fronts-test.true c.front-item.is c.fronts.invariant.keeps c.fronts.invariant.joined one.joined;
-      keeps = one.keeps ∙ c.fronts.invariant.keeps;
-      unfailed = one.unfailed ∙ c.fronts.invariant.unfailed;
-    }
-
-pub returns-in_err-join_front-clause-refused : goal.returns-in_err-join_front-clause-refused
-returns-in_err-join_front-clause-refused g c =
-    rw (failed c.from_residual.result c.in_err-join_front.field-0.0 c.from_residual.ensures.1)
-    (fault_at _ _ c.args.fronts.now c.fronts.front-index c.front-item.result c.args.entries.now _ _ c.in_err-join_front.field-0.0 c.fronts-test.true c.front-item.is c.fronts.invariant.keeps c.fronts.invariant.joined c.in_err-join_front.ensures.refused)
-
-pub returns-in_err-join_front-clause-keeps : goal.returns-in_err-join_front-clause-keeps
-returns-in_err-join_front-clause-keeps g c = c.in_err-join_front.ensures.keeps ∙ c.fronts.invariant.keeps
-
-pub returns-in_err-join_front-clause-blames : goal.returns-in_err-join_front-clause-blames
-returns-in_err-join_front-clause-blames g c =
-    rw (failed c.from_residual.result c.in_err-join_front.field-0.0 c.from_residual.ensures.1)
-    (blamed_from g.P.Placed.failures c.args.device.now c.fronts.device _ c.in_err-join_front.field-0.0 c.fronts.invariant.unfailed c.in_err-join_front.ensures.blames)
-
-pub returns-clause-joined : goal.returns-clause-joined
-returns-clause-joined g c =
-    let all = map front_bytes c.args.fronts.now in
-    joined_all _ _ all c.args.entries.now _ _ (take_all c.fronts.front-index all (omega (arith, length-map c.args.fronts.now front_bytes, c.fronts-test.false))) c.fronts.invariant.joined
+pub returns-in-Ok-take_each-clause-joined : goal.returns-in-Ok-take_each-clause-joined
+returns-in-Ok-take_each-clause-joined g c =
+    joined_together (g.P.Placed.whole c.args.device.now) (map front_bytes c.args.fronts.now) c.args.entries.now (map record_bytes c.new-gathered.result.items) (map record_bytes c.gather_fronts.new.gathered.items) (g.A.Join.content c.args.kept.now) (g.A.Join.content c.take_each.new.archive)
+    c.len-held.ensures.content.itself (ap (map record_bytes) c.new-gathered.ensures.items) c.in_ok-gather_fronts.ensures.gathered c.in-Ok-take_each.ensures.taken

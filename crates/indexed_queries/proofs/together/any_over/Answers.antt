@@ -1,20 +1,18 @@
-use Rattle.std.proofs.Common.{List, ℕ, ap, sym, ◌∙◌, map, arith}
-use Rattle.std.proofs.Math.ListN.{length-map}
-use Rattle.std.proofs.lemmas.List.{take_all}
+use Rattle.std.proofs.Common.{◌∙◌, ◌||◌, Bool, ap, drop, refl, sym, take}
+use Rattle.std.specs.List.{list_any}
+use Rattle.std.specs.Str.{bytes_eq}
 use Rattle.indexed_queries.specs.Fronts.{front_bytes}
-use Rattle.indexed_queries.specs.Together.{is_under_any}
-use Rattle.indexed_queries.proofs.Groups.{any_none, any_some}
+use Rattle.indexed_queries.proofs.Sought.{any_sized}
 use Rattle.indexed_queries.proofs.together.any_over.Goals as goal
 
-pub returns-then-is_over : goal.returns-then-is_over
-returns-then-is_over c =
-    sym (any_some c.args.fronts.now c.fronts.front-index c.front-item.result c.args.bytes.now c.fronts-test.true c.front-item.is (sym c.is_over.ensures ∙ c.if-is_over.true))
+pub returns-then-has_front : goal.returns-then-has_front
+returns-then-has_front c =
+    let r = c.args.bytes.now in
+    let yes = c.if-has_front.true in
+    let key = list_any (λ front. bytes_eq (front_bytes front) (take 24 (drop 1 r))) c.args.fronts.now in
+    yes ∙ sym (ap (λ (b : Bool). b || key) yes) ∙ any_sized r c.requires.long c.args.fronts.now c.has_front.result key c.requires.sized c.has_front.ensures refl
 
-pub fronts-preserved : goal.fronts-preserved
-fronts-preserved c =
-    any_none c.args.fronts.now c.fronts.front-index c.front-item.result c.args.bytes.now c.fronts-test.true c.front-item.is (sym c.is_over.ensures ∙ c.if-is_over.false) c.fronts.invariant
-
-pub returns : goal.returns
-returns c =
-    let all = map front_bytes c.args.fronts.now in
-    sym c.fronts.invariant ∙ ap (λ (fs : List (List ℕ)). is_under_any fs c.args.bytes.now) (take_all c.fronts.front-index all (omega (arith, length-map c.args.fronts.now front_bytes, c.fronts-test.false)))
+pub returns-else-has_front : goal.returns-else-has_front
+returns-else-has_front c =
+    let key = c.has_front-else-has_front.result in
+    sym (ap (λ (b : Bool). b || key) c.if-has_front.false) ∙ any_sized c.args.bytes.now c.requires.long c.args.fronts.now c.has_front.result key c.requires.sized c.has_front.ensures c.has_front-else-has_front.ensures

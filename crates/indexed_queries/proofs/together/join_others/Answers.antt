@@ -1,10 +1,13 @@
-use Rattle.std.proofs.Common.{◌≡◌, ◌<◌, ◌+◌, ℕ, length, map, take, arith, refl, subst, ap, ◌∙◌}
+use Rattle.std.proofs.Common.{◌≡◌, ◌<◌, ◌+◌, ℕ, Bool, List, length, map, take, arith, refl, subst, ap, ◌∙◌}
 use Rattle.std.proofs.lemmas.Result.{err_from_is_err_and}
 use Rattle.command_ends.specs.Inputs.{IsArchive, IsArchiveRefused, reader, readers}
 use Rattle.command_ends.specs.declared.faults.Place.TheVariants.{Archive}
 use Rattle.command_ends.proofs.Readers.{all_read, none_failed, one_more, refused_at, rest_kept, same_at, unfailed_more}
 use Rattle.archive_queries.specs.InnerTogether.{HasJoinedParts}
 use Rattle.archive_queries.proofs.Parts.{parts_archives, parts_more, parts_none}
+use Rattle.archive_core.specs.Content.{joined}
+use Rattle.archive_core.specs.Part.{part}
+use Rattle.indexed_queries.specs.declared.fronts.Front.{Front}
 use Rattle.indexed_queries.specs.Fronts.{front_bytes}
 use Rattle.indexed_queries.specs.Together.{is_under_any}
 use Rattle.indexed_queries.proofs.together.join_others.Goals as goal
@@ -24,9 +27,11 @@ others-preserved g c =
     let got = c.in_ok-join_part.ensures.joined in
     let lt : index < length others = omega arith in
     let is = same_at now others index other c.others.invariant.rest c.index-others-index.is in
+    let same = ap (λ (fs : List Front). is_under_any (map front_bytes fs)) c.deref.ensures.value ∙ c.in_ok-sorted.ensures.same in
     record {
       joined = parts_more (take index (readers left failures others now)) _ (is_under_any (map front_bytes c.args.fronts.now)) (reader left failures other after) (g.A.Join.content c.args.kept.now) (g.A.Join.content c.others.kept) (g.A.Join.content c.join_part.new.kept) got.0
-          (one_more left failures others now index other after lt c.others.auto.others is) c.others.invariant.joined got.1 (rw (← c.index-others-index.is) at got.2) got.3;
+          (one_more left failures others now index other after lt c.others.auto.others is) c.others.invariant.joined got.1 (rw (← c.index-others-index.is) at got.2)
+          (got.3 ∙ ap (λ (picks : List ℕ → Bool). joined (g.A.Join.content c.others.kept) (part got.0 picks)) same);
       unfailed = unfailed_more left failures others now index other after lt c.others.auto.others is c.others.invariant.unfailed (rw (← c.index-others-index.is) at c.in_ok-join_part.ensures.unfailed);
       rest = rest_kept now others index after c.others.invariant.rest;
     }
@@ -51,3 +56,13 @@ returns-clause-joined g c =
     subst (λ seen. HasJoinedParts seen (is_under_any (map front_bytes c.args.fronts.now)) (g.A.Join.content c.args.kept.now) (g.A.Join.content c.others.kept))
     (ap (λ n. take n (readers g.R.Source.left g.R.Source.failures others now)) end ∙ all_read g.R.Source.left g.R.Source.failures others now c.others.auto.others)
     c.others.invariant.joined
+
+pub returns-in_err-clone-clause-refused : goal.returns-in_err-clone-clause-refused
+returns-in_err-clone-clause-refused g c =
+    let p = err_from_is_err_and c.from_residual.result c.from_residual.ensures.1 in
+    rw (p.1, p.2) (none_failed g.R.Source.left g.R.Source.failures c.args.others.now)
+
+pub returns-in_err-sorted-clause-refused : goal.returns-in_err-sorted-clause-refused
+returns-in_err-sorted-clause-refused g c =
+    let p = err_from_is_err_and c.from_residual-in_err-sorted.result c.from_residual-in_err-sorted.ensures.1 in
+    rw (p.1, p.2) (none_failed g.R.Source.left g.R.Source.failures c.args.others.now)
