@@ -11,11 +11,11 @@ use Rattle.archive_reading.proofs.summarizing.entry_of.Goals as goal
 pub digest_in-requires : goal.digest_in-requires
 digest_in-requires c = omega (arith, long-retirement c.args.bytes.now (rw c.in-None.is at c.requires))
 
-pub slice_bounds-of_checked-slice-count : goal.slice_bounds-of_checked-slice-count
-slice_bounds-of_checked-slice-count c = long-admission c.args.bytes.now (rw c.in-Some.is at c.requires).0
+pub slice_bounds-of_checked-count : goal.slice_bounds-of_checked-count
+slice_bounds-of_checked-count c = long-admission c.args.bytes.now (rw c.in-Some.is at c.requires).0
 
-pub slice_bounds-of_checked-slice-start : goal.slice_bounds-of_checked-slice-start
-slice_bounds-of_checked-slice-start c = long-admission c.args.bytes.now (rw c.in-Some.is at c.requires).0
+pub slice_bounds-of_checked-start : goal.slice_bounds-of_checked-start
+slice_bounds-of_checked-start c = long-admission c.args.bytes.now (rw c.in-Some.is at c.requires).0
 
 pub of_checked-slice-requires : goal.of_checked-slice-requires
 of_checked-slice-requires c = rw take_rest (rw c.in-Some.is at c.requires).1
