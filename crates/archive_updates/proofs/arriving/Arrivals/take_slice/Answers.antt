@@ -1,5 +1,6 @@
 use Rattle.std.proofs.Common.{◌≡◌, ◌++◌, ◌∷◌, ◌∙◌, ℕ, [], None, Some, ap, arith, length, subst, sym}
 use Rattle.std.specs.List.{insert}
+use Rattle.sha2.specs.Sha256.{sha256}
 use Rattle.join_core.specs.Listing.{listing}
 use Rattle.archive_core.specs.Content.{Operations}
 use Rattle.archive_core.specs.Record.{admission_record}
@@ -12,12 +13,12 @@ use Rattle.archive_updates.proofs.arriving.Arrivals.take_slice.Goals as goal
 
 pub returns-in_ok-insert-in-Some-clause-taken : goal.returns-in_ok-insert-in-Some-clause-taken
 returns-in_ok-insert-in-Some-clause-taken c =
-    let put : IsPutAt c.args.self.now.came c.admit_at.new.self (admission_record c.args.slice) (Some c.in-Some.place) = rw c.in-Some.is at c.in_ok-place.ensures.place in
-    taken_added c.args.self.now.came c.args.slice c.key-key.result c.digest-digest.result c.key-key.ensures c.digest-digest.ensures.digest put.0
+    let put : IsPutAt c.args.self.now.came c.admit_at.new.self (admission_record c.args.slice) (Some c.in-Some.place) = rw (c.in-Some.is, c.keep_digest.ensures) at c.in_ok-place.ensures.place in
+    taken_added c.args.self.now.came c.args.slice c.key-key.result c.digest-digest.result c.key-key.ensures (c.digest-digest.ensures.digest ∙ ap sha256 c.keep_digest.ensures) put.0
 
 pub returns-in_ok-insert-in-Some-clause-placed : goal.returns-in_ok-insert-in-Some-clause-placed
 returns-in_ok-insert-in-Some-clause-placed c records row is placed =
-    let put : IsPutAt c.args.self.now.came c.admit_at.new.self (admission_record c.args.slice) (Some c.in-Some.place) = rw c.in-Some.is at c.in_ok-place.ensures.place in
+    let put : IsPutAt c.args.self.now.came c.admit_at.new.self (admission_record c.args.slice) (Some c.in-Some.place) = rw (c.in-Some.is, c.keep_digest.ensures) at c.in_ok-place.ensures.place in
     let places = c.args.self.now.places.items in
     let many = as_many (listing c.args.self.now.came) places c.args.self.now.rows.items records placed in
     let same : c.min-at.result ≡ c.in-Some.place = omega (arith, c.min-at.ensures, put.1, many, c.args.self.now.places.ok.0) in
@@ -27,11 +28,11 @@ returns-in_ok-insert-in-Some-clause-placed c records row is placed =
 
 pub returns-in-None-clause-taken : goal.returns-in-None-clause-taken
 returns-in-None-clause-taken c =
-    let put : IsPutAt c.args.self.now.came c.admit_at.new.self (admission_record c.args.slice) None = rw c.in-None.is at c.in_ok-place.ensures.place in
-    taken_known c.args.self.now.came c.args.slice c.key-key.result c.digest-digest.result c.key-key.ensures c.digest-digest.ensures.digest put.0
+    let put : IsPutAt c.args.self.now.came c.admit_at.new.self (admission_record c.args.slice) None = rw (c.in-None.is, c.keep_digest.ensures) at c.in_ok-place.ensures.place in
+    taken_known c.args.self.now.came c.args.slice c.key-key.result c.digest-digest.result c.key-key.ensures (c.digest-digest.ensures.digest ∙ ap sha256 c.keep_digest.ensures) put.0
 
 pub returns-in-None-clause-placed : goal.returns-in-None-clause-placed
 returns-in-None-clause-placed c records row is placed =
-    let put : IsPutAt c.args.self.now.came c.admit_at.new.self (admission_record c.args.slice) None = rw c.in-None.is at c.in_ok-place.ensures.place in
+    let put : IsPutAt c.args.self.now.came c.admit_at.new.self (admission_record c.args.slice) None = rw (c.in-None.is, c.keep_digest.ensures) at c.in_ok-place.ensures.place in
     subst (λ (o : Operations). ArePlaced (listing o) c.args.self.now.places.items (c.args.self.now.rows.items ++ row ∷ []) (records ++ admission_record c.args.slice ∷ [])) (sym put.1)
     (placed_known (listing c.args.self.now.came) c.args.self.now.places.items c.args.self.now.rows.items records row (admission_record c.args.slice) placed (known_row row c.key-key.result c.digest-digest.result is))
