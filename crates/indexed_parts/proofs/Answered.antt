@@ -26,7 +26,7 @@ use Rattle.indexed_parts.specs.InnerPlaces.{IsPartRefused}
 use Rattle.indexed_parts.specs.Places.{AreGatheredUnder, IsEntryFault, IsLengthFault}
 
 -- all entries under the front name the records of a part
-named_of : (whole now : Option (List ℕ)) (front : List ℕ) (s : Entries) (gathered : List (List ℕ)) (size : ℕ) (held : Operations) → size < 2 ^ 64 → now ≡ whole → HasSize whole size → IfSome whole (HasIndexedLength s)
+pub named_of : (whole now : Option (List ℕ)) (front : List ℕ) (s : Entries) (gathered : List (List ℕ)) (size : ℕ) (held : Operations) → size < 2 ^ 64 → now ≡ whole → HasSize whole size → IfSome whole (HasIndexedLength s)
     → held ≡ content_of (set.from_list gathered) → AreGatheredUnder now front s [] gathered → IfSome whole (λ text. HasIndexedLength s text × AreNamed front s text held × (length text < 2 ^ 64))
 named_of whole now front s gathered size held fits keeps sized long made taken =
     there whole sized long (subst (λ (w : Option (List ℕ)). IfSome w (λ text. AllZip (IsNamedBy text) (entries_under front s) taken.records)) keeps taken.named)
@@ -42,11 +42,6 @@ named_of whole now front s gathered size held fits keeps sized long made taken =
       },
       omega (arith, a, fits),
     )
-
-pub named_any : {V : Type 0} (content : V → Operations) (whole now : Option (List ℕ)) (front : List ℕ) (s : Entries) (gathered : List (List ℕ)) (size : ℕ) (r : Result V PlaceFault) → size < 2 ^ 64 → now ≡ whole → HasSize whole size → IfSome whole (HasIndexedLength s)
-    → IfOk r (λ part. content part ≡ content_of (set.from_list gathered)) → AreGatheredUnder now front s [] gathered → IfOk r (λ part. IfSome whole (λ text. HasIndexedLength s text × AreNamed front s text (content part) × (length text < 2 ^ 64)))
-named_any content whole now front s gathered size (Ok part) fits keeps sized long made taken = named_of whole now front s gathered size (content part) fits keeps sized long made taken
-named_any content whole now front s gathered size (Err fault) fits keeps sized long made taken = tt
 
 -- another length
 pub refused_length : (whole : Option (List ℕ)) (front : List ℕ) (s : Entries) (fault : PlaceFault) → IfSome whole (λ text. IsLengthFault s text fault) → IfSome whole (λ text. IsPartRefused front s text fault)

@@ -1,16 +1,21 @@
 -- Records that are gathered one after another, by the entries that name them.
-use Rattle.std.proofs.Common.{◌≡◌, ℕ, ◌+◌, ◌<◌, ◌≤◌, zero, suc, Bool, true, false, cond, ◌||◌, ◌&&◌, not, List, [], ◌∷◌, ◌++◌, length, take, get_or, Option, Some, None, refl, sym, ap, ◌∙◌, subst, append_assoc, arith}
+use Rattle.std.proofs.Common.{◌≡◌, ℕ, ◌+◌, ◌<◌, ◌≤◌, zero, suc, Bool, true, false, cond, ◌||◌, ◌&&◌, not, List, [], ◌∷◌, ◌++◌, length, map, take, get_or, Option, Some, None, refl, sym, ap, ◌∙◌, subst, append_assoc, arith}
 use Rattle.std.specs.Prelude.{filter, IfErr, IfSome, OnOk, Result, Ok, Err}
 use Rattle.std.specs.List.{AllWithin, AllZip}
 use Rattle.std.proofs.lemmas.List.{append-nil, take_all}
 use Rattle.std.proofs.lemmas.List.Elements.{All-from_recursion, filter_more}
-use Rattle.std.specs.Cmp.Lexicographic.{nat_list_cmp_total}
+use Rattle.std.specs.Ordering.{nat_cmp, eq_by_cmp}
+use Rattle.std.specs.Cmp.Lexicographic.{slice_cmp, nat_list_cmp_total}
+use Rattle.std.specs.List.Sorted.{IsPermutation}
+use Rattle.std.proofs.lemmas.List.Sorted.{IsPermutation-map, list_any-IsPermutation}
 use Rattle.std.specs.FinSet as set
-use Rattle.std.specs.FinSet.{contains-union, contains-empty, same_set}
+use Rattle.std.specs.FinSet.{contains-from_list, contains-union, contains-empty, same_set}
 use Rattle.archive_core.specs.Content.{Operations, IsMade, is_covered, content_of, with_records}
 use Rattle.archive_core.specs.Part.{is_under}
 use Rattle.archive_core.proofs.Made.{and_right, bytes_same}
-use Rattle.archive_core.proofs.Taken.{taken_are_joined}
+use Rattle.archive_core.specs.Record.{record_bytes}
+use Rattle.archive_core.specs.declared.operations.Operation.{Operation}
+use Rattle.archive_core.proofs.Taken.{IsUnderWay, taken_are_joined}
 use Rattle.archive_core.specs.Order.{made_again, contains_made}
 use Rattle.archive_index.specs.Entry.{IsPlacedEntry}
 use Rattle.archive_index.specs.Index.{AreIndexed}
@@ -233,7 +238,19 @@ empty_made = same_set nat_list_cmp_total bytes_same (content_of set.empty) set.e
 none_union : (s : Operations) → set.union set.empty s ≡ s
 none_union s = same_set nat_list_cmp_total bytes_same (set.union set.empty s) s (λ q. contains-union nat_list_cmp_total set.empty s q ∙ ap (λ b. b || set.contains s q) (contains-empty _ q))
 
-pub made_together : (held : Operations) (records : List (List ℕ)) → held ≡ with_records set.empty records → held ≡ content_of (set.from_list records)
-made_together held records is =
-    let s = content_of (set.from_list records) in
-    is ∙ taken_are_joined set.empty records empty_made ∙ ap content_of (none_union s) ∙ made_again (set.from_list records)
+-- neither their order counts
+moved : (xs ys : List Operation) → IsPermutation xs ys → set.from_list {R = slice_cmp nat_cmp} (map record_bytes ys) ≡ set.from_list (map record_bytes xs)
+moved xs ys permuted = same_set nat_list_cmp_total bytes_same _ _ (λ q.
+    contains-from_list nat_list_cmp_total (map record_bytes ys) q
+    ∙ sym (list_any-IsPermutation (eq_by_cmp (slice_cmp nat_cmp) q) (map record_bytes xs) (map record_bytes ys) (IsPermutation-map record_bytes xs ys permuted))
+    ∙ sym (contains-from_list nat_list_cmp_total (map record_bytes xs) q))
+
+pub made_together : (held : Operations) (operations sorted : List Operation) → IsPermutation operations sorted → held ≡ with_records set.empty (map record_bytes sorted) → held ≡ content_of (set.from_list (map record_bytes operations))
+made_together held operations sorted permuted is =
+    let s = content_of (set.from_list (map record_bytes sorted)) in
+    is ∙ taken_are_joined set.empty (map record_bytes sorted) empty_made ∙ ap content_of (none_union s) ∙ made_again (set.from_list (map record_bytes sorted)) ∙ ap content_of (moved operations sorted permuted)
+
+-- all were taken
+pub all_taken : (old now : Operations) (all left : List Operation) → IsUnderWay old now all left → length left ≡ 0 → now ≡ with_records old (map record_bytes all)
+all_taken old now all [] way none = way.content
+all_taken old now all (x ∷ left) way none = absurd (omega (arith, none))

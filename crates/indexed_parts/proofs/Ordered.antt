@@ -23,7 +23,6 @@ use Rattle.archive_core.proofs.Made.{and_left, and_right, bytes_same, by_test, e
 use Rattle.archive_index.specs.declared.entry.PlacedEntry.{PlacedEntry}
 use Rattle.archive_index.specs.Entry.{IsPlacedEntry, placed_bytes}
 use Rattle.archive_index.specs.Index.{AreIndexed}
-use Rattle.sorted_archive.proofs.Ranges.{eq_of_lt, eq_of_gt, eq_of_both}
 use Rattle.indexed_parts.specs.InnerRuns.{IsRun, is_tagged}
 
 abbrev order : List ℕ → List ℕ → Ordering
@@ -82,6 +81,22 @@ tagged tag front (x ∷ xs) some =
 along : (P : List ℕ → Type 0) (xs : List PlacedEntry) (low high : ℕ) → high ≤ length xs → AllWithin (λ x. P (placed_bytes x)) xs low high → AllWithin P (map placed_bytes xs) low high
 along P [] low high within h k d le lt = absurd (omega arith)
 along P (x ∷ xs) low high within h k d le lt = subst P (sym (get_or-map_at placed_bytes (x ∷ xs) k x d (omega (arith, within, lt)))) (h k x le lt)
+
+-- the three tests of a comparison
+eq_of_lt : (r : Ordering) → is_lt r ≡ true → is_eq r ≡ false
+eq_of_lt Less h = refl
+eq_of_lt Equal h = absurd (true≢false (sym h))
+eq_of_lt Greater h = refl
+
+eq_of_gt : (r : Ordering) → is_le r ≡ false → is_eq r ≡ false
+eq_of_gt Less h = refl
+eq_of_gt Equal h = absurd (true≢false h)
+eq_of_gt Greater h = refl
+
+eq_of_both : (r : Ordering) → is_lt r ≡ false → is_le r ≡ true → is_eq r ≡ true
+eq_of_both Less h g = absurd (true≢false h)
+eq_of_both Equal h g = refl
+eq_of_both Greater h g = absurd (true≢false (sym g))
 
 le_of_lt : (r : Ordering) → is_lt r ≡ true → is_le r ≡ true
 le_of_lt Less h = refl

@@ -3,7 +3,7 @@
 ghost use Rattle.std.specs.Prelude.{◌≡◌, ◌+◌, ◌≤◌, ◌<◌, ◌^◌, ◌↔◌, Some, length, map};
 ghost use Rattle.std.specs.Prelude.{IfOk, IfErr, IfSome, IsTrue, MatchResult, OnOk};
 ghost use Rattle.std.specs.FinSet as set;
-ghost use Rattle.archive_core.specs.Content.{Operations, IsContent, content_of};
+ghost use Rattle.archive_core.specs.Content.{Operations, IsContent, content_of, with_records};
 ghost use Rattle.archive_core.specs.Part.{is_under, part};
 ghost use Rattle.archive_core.specs.Record.{record_bytes};
 ghost use Rattle.archive_records.specs.Text.{written};
@@ -22,7 +22,6 @@ use archive_index::{Index, PlaceFault, PlacedEntry};
 use byte_device::Failed;
 use memory::{Heap, NoMemory};
 use placed_bytes::Placed;
-use sorted_archive::take_each;
 
 /// How many bytes the magic and the end record of an archive have together.
 const FRAME_LEN: u64 = 17;
@@ -84,17 +83,31 @@ pub fn indexed_size<P: Placed>(entries: &Index, archive: &mut P) -> Result<u64, 
     }
 }
 
-/// The part that these operations make, in whatever order they come.
-fn part_of<A: Archive + Drop>(heap: Heap, operations: Vec<Operation, Heap>) -> Result<A, PlaceFault>
-    ensures part { IfOk result (λ part.
-        A.content part ≡ content_of (set.from_list (map record_bytes operations.items))) }
-    ensures memory { IfErr result (λ fault. fault ≡ PlaceFault.OutOfMemory) }
+/// Takes operations one after another.
+fn take_in_turn<A: Archive>(part: &mut A, operations: Vec<Operation, Heap>) -> Result<(), NoMemory>
+    ensures { OnOk result
+        (A.content part.new ≡ with_records (A.content part.old) (map record_bytes operations.items)) }
 {
-    let mut part = A::empty(heap);
-    match take_each(&mut part, operations) {
-        Ok(_) => Ok(part),
-        Err(NoMemory) => Err(PlaceFault::OutOfMemory),
+    'operations: for operation in operations {
+        part.take(operation)?;
     }
+    Ok(())
+}
+
+/// An archive of these operations, in whatever order they come. They are sorted first: so none shifts another, and each
+/// slice comes behind the retirements of its key. Refused for want of memory alone.
+pub fn archive_of<A: Archive + Drop>(
+    heap: Heap,
+    operations: Vec<Operation, Heap>,
+) -> Result<A, NoMemory>
+    ensures { IfOk result (λ made.
+        A.content made ≡ content_of (set.from_list (map record_bytes operations.items))) }
+{
+    let mut sorted = operations;
+    sorted.sort_unstable_by(|a, b| a.compare(b));
+    let mut made = A::empty(heap);
+    take_in_turn(&mut made, sorted)?;
+    Ok(made)
 }
 
 /// Reads what `part_at` reads. What is said is of a text that is known.
@@ -119,7 +132,10 @@ fn part_named<A: Archive + Drop, P: Placed>(
     };
     let mut gathered = Vec::new(kept);
     gather_at(&heap, &mut gathered, front, entries, archive, size)?;
-    part_of(heap, gathered)
+    match archive_of(heap, gathered) {
+        Ok(part) => Ok(part),
+        Err(NoMemory) => Err(PlaceFault::OutOfMemory),
+    }
 }
 
 /// Reads the records under a UUID or a key at the places that an index names: each admission is tested as a record of

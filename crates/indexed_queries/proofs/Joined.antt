@@ -7,7 +7,7 @@ use Rattle.std.proofs.Math.ListN.{length-map}
 use Rattle.std.proofs.Math.Seq.{take-suc}
 use Rattle.std.proofs.lemmas.List.{append-nil, flat_map_more, get_or-map}
 use Rattle.std.proofs.lemmas.List.Sums.{fold-append}
-use Rattle.archive_core.specs.Content.{Operations, IsMade, content_of, with_record, with_records}
+use Rattle.archive_core.specs.Content.{Operations, IsMade, content_of, joined, with_record, with_records}
 use Rattle.archive_core.proofs.Taken.{made_taken, taken_are_joined}
 use Rattle.archive_core.specs.Summary.{Entries}
 use Rattle.archive_index.specs.Places.{BlamesPlaced, IsNamedBy, IsStale, entries_under}
@@ -99,10 +99,10 @@ taken_groups o (g ∷ gs) is =
     ∙ taken_groups (with_records o g) gs (made_taken o g is)
     ∙ ap (λ (s : Operations). merged s (map made gs)) (taken_are_joined o g is)
 
-pub joined_together : (whole : Option (List ℕ)) (fronts : List (List ℕ)) (entries : Entries) (old gathered : List (List ℕ)) (o new : Operations) → IsMade o → old ≡ [] → HaveGathered whole fronts entries old gathered → new ≡ with_records o gathered → HasJoinedNamed whole fronts entries o new
+pub joined_together : (whole : Option (List ℕ)) (fronts : List (List ℕ)) (entries : Entries) (old gathered : List (List ℕ)) (o new : Operations) → IsMade o → old ≡ [] → HaveGathered whole fronts entries old gathered → new ≡ joined o (content_of (set.from_list gathered)) → HasJoinedNamed whole fronts entries o new
 joined_together whole fronts entries old gathered o new is none h taken = record {
   parts = map made h.groups;
-  content = taken ∙ ap (with_records o) (h.behind ∙ ap (λ (l : List (List ℕ)). l ++ flat_map (λ (records : List (List ℕ)). records) h.groups) none) ∙ taken_groups o h.groups is;
+  content = taken ∙ sym (taken_are_joined o gathered is) ∙ ap (with_records o) (h.behind ∙ ap (λ (l : List (List ℕ)). l ++ flat_map (λ (records : List (List ℕ)). records) h.groups) none) ∙ taken_groups o h.groups is;
   named = along (AreGroups fronts entries h.groups) (λ text. AreNamedUnder fronts entries text (map made h.groups)) whole (λ text a. named_groups text fronts entries h.groups a) h.named;
 }
 

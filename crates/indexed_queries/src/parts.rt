@@ -1,6 +1,8 @@
 //! What an index names in its archive, read and joined.
 
 ghost use Rattle.std.specs.Prelude.{◌≡◌, IfErr, IfSome, OnOk, map};
+ghost use Rattle.std.specs.FinSet as set;
+ghost use Rattle.archive_core.specs.Content.{content_of, joined};
 ghost use Rattle.archive_core.specs.Record.{record_bytes};
 ghost use Rattle.placed_bytes.specs.Places.{HasSize};
 ghost use Rattle.archive_index.specs.Places.{BlamesPlaced, HasIndexedLength};
@@ -13,14 +15,13 @@ ghost use Rattle.indexed_queries.specs.InnerParts.{IsNamedIn, told_fault};
 
 use crate::fronts::{Front, key_of, uuid_bytes};
 use crate::inputs::read_entries;
-use archive_core::{Archive, Operation};
+use archive_core::{Archive, Operation, take_all};
 use archive_index::{Index, PlaceFault};
 use byte_device::{CannotOpen, Source};
 use command_ends::{CommandFault, Place, Why, opened};
-use indexed_parts::{gather_at, indexed_size};
+use indexed_parts::{archive_of, gather_at, indexed_size};
 use memory::{Heap, NoMemory};
 use placed_bytes::Placed;
-use sorted_archive::take_each;
 
 /// Gathers the records under a front, at the places that an index names, behind those that were gathered.
 fn gather_front<P: Placed>(
@@ -72,8 +73,21 @@ fn gather_fronts<P: Placed>(
     Ok(())
 }
 
-/// Joins the records under these fronts, at the places that an index names, together: so that none shifts what is there
-/// for each front.
+/// Joins operations that were gathered, together: a join for each front would go through what is there for each.
+fn join_gathered<A: Archive + Drop>(
+    heap: &Heap,
+    kept: &mut A,
+    gathered: Vec<Operation, Heap>,
+) -> Result<(), NoMemory>
+    ensures { OnOk result (A.content kept.new
+        ≡ joined (A.content kept.old) (content_of (set.from_list (map record_bytes gathered.items)))) }
+{
+    let part: A = archive_of(heap.clone()?, gathered)?;
+    take_all(kept, part)?;
+    Ok(())
+}
+
+/// Joins the records under these fronts, at the places that an index names.
 fn join_fronts<A: Archive + Drop, P: Placed>(
     heap: &Heap,
     kept: &mut A,
@@ -97,8 +111,8 @@ fn join_fronts<A: Archive + Drop, P: Placed>(
     };
     let mut gathered = Vec::new(own);
     gather_fronts(heap, &mut gathered, fronts, entries, device, size)?;
-    match take_each(kept, gathered) {
-        Ok(_) => Ok(()),
+    match join_gathered(heap, kept, gathered) {
+        Ok(()) => Ok(()),
         Err(NoMemory) => Err(PlaceFault::OutOfMemory),
     }
 }

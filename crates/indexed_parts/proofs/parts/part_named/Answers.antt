@@ -2,7 +2,7 @@ use Rattle.std.proofs.Common.{◌<◌, ◌^◌, ℕ, List, ap, subst, map, arith
 use Rattle.archive_core.specs.Record.{record_bytes}
 use Rattle.archive_records.proofs.Blamed.{failed}
 use Rattle.indexed_parts.specs.Places.{AreGatheredUnder}
-use Rattle.indexed_parts.proofs.Answered.{named_any, refused_entry, refused_length}
+use Rattle.indexed_parts.proofs.Answered.{named_of, refused_entry, refused_length}
 use Rattle.indexed_parts.proofs.parts.part_named.Goals as goal
 
 pub returns-in_err-size-clause-refused : goal.returns-in_err-size-clause-refused
@@ -16,9 +16,9 @@ returns-in_err-gather_at-clause-refused g c =
     rw (failed c.from_residual-in_err-gather_at.result c.in_err-gather_at.field-0.0 c.from_residual-in_err-gather_at.ensures.1)
     (refused_entry (g.P.Placed.whole c.args.archive.now) (g.P.Placed.whole c.indexed_size.new.archive) c.args.front.now c.args.entries.now c.in_ok-size.size c.in_err-gather_at.field-0.0 fits c.in_ok-size.ensures.keeps c.in_ok-size.ensures.size c.in_err-gather_at.ensures.refused)
 
-pub returns-clause-named : goal.returns-clause-named
-returns-clause-named g c =
+pub returns-in-Ok-archive_of-clause-named : goal.returns-in-Ok-archive_of-clause-named
+returns-in-Ok-archive_of-clause-named g c =
     let fits : c.in_ok-size.size < 2 ^ 64 = omega arith in
     let records = map record_bytes c.gather_at.new.gathered.items in
-    named_any g.A.Join.content (g.P.Placed.whole c.args.archive.now) (g.P.Placed.whole c.indexed_size.new.archive) c.args.front.now c.args.entries.now records c.in_ok-size.size c.part_of.result fits c.in_ok-size.ensures.keeps c.in_ok-size.ensures.size c.in_ok-size.ensures.right c.part_of.ensures.part
+    named_of (g.P.Placed.whole c.args.archive.now) (g.P.Placed.whole c.indexed_size.new.archive) c.args.front.now c.args.entries.now records c.in_ok-size.size (g.A.Join.content c.in-Ok-archive_of.part) fits c.in_ok-size.ensures.keeps c.in_ok-size.ensures.size c.in_ok-size.ensures.right c.in-Ok-archive_of.ensures
     (subst (λ (old : List (List ℕ)). AreGatheredUnder (g.P.Placed.whole c.indexed_size.new.archive) c.args.front.now c.args.entries.now old records) (ap (map record_bytes) c.new-gathered.ensures.items) c.in_ok-gather_at.ensures.gathered)
