@@ -273,9 +273,7 @@ class Archive:
     def finish(self, file, screen, following=NEXT_INDEX, last=INDEX):
         """The steps after the rename. The archive has all, also where one of them fails."""
         try:
-            text = self.pending()
-            if not self.log_ends_with(text):
-                self.append(text)
+            self.append(self.left_of(self.pending()))
             self.drop(NEXT_LOG)
             os.replace(file.beside(following), file.beside(last))
         except OSError as error:
@@ -326,16 +324,22 @@ class Archive:
         else:
             self.drop(NEXT_LOG)
 
-    def log_ends_with(self, text):
+    def left_of(self, text):
+        """What the log lacks of lines. Who wrote them to it may have been killed meanwhile."""
         try:
             with open(self.beside(LOG), "rb") as file:
                 file.seek(max(size_of(self.beside(LOG)) - len(text), 0))
-                return file.read() == text
+                end, at = file.read(), 0
         except FileNotFoundError:
-            return not text
+            return text
+        while not text.startswith(end[at:]):
+            at = end.find(b"\n", at) + 1 or len(end)
+        return text[len(end) - at :]
 
     def append(self, text):
         """Adds lines to the log."""
+        if not text:
+            return
         try:
             append_synced(self.beside(LOG), text)
         except PermissionError:

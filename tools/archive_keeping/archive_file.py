@@ -171,9 +171,15 @@ def write_synced(path, chunks):
 
 
 def append_synced(path, text):
+    """Adds all of a text to a file, or nothing."""
     with open(path, "ab", buffering=0) as file:
-        write(file.fileno(), text)
-        os.fsync(file.fileno())
+        size = os.fstat(file.fileno()).st_size
+        try:
+            write(file.fileno(), text)
+            os.fsync(file.fileno())
+        except OSError:
+            os.ftruncate(file.fileno(), size)
+            raise
 
 
 def sync_folder(path):
