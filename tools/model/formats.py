@@ -548,8 +548,7 @@ def record_at(e, placed):
 
 
 def part_at(entries, placed, front):
-    """the content of the records under a front, at the places that the entries name"""
-    placed.size()
+    """the content of the records under a front, at the places that the entries name, where the length was compared"""
     c = Content()
     for number, e in enumerate(entries):
         if e[1:1 + len(front)] == front:
