@@ -549,7 +549,6 @@ def record_at(e, placed):
 
 def part_at(entries, placed, front):
     """the content of the records under a front, at the places that the entries name"""
-    placed.size()
     c = Content()
     for number, e in enumerate(entries):
         if e[1:1 + len(front)] == front:
