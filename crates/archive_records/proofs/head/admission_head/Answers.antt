@@ -1,7 +1,7 @@
 use Rattle.std.proofs.Common.{ℕ, List, length, ◌∙◌, ap, refl}
 use Rattle.std.specs.Int.{w64, to_be_bytes}
 use Rattle.archive_core.specs.Key.{key_bytes}
-use Rattle.archive_records.proofs.Heads.{laid_behind, two}
+use Rattle.archive_core.proofs.Heads.{laid_behind, two}
 use Rattle.archive_records.proofs.head.admission_head.Goals as goal
 
 pub returns-clause-head : goal.returns-clause-head
