@@ -160,15 +160,16 @@ impl Retirements {
         ensures first { IfOk result (λ first.
             first ≡ not (set.contains (set.from_list {R = slice_cmp nat_cmp} self.old) retirement)) }
     {
-        if self.contains(&retirement) {
+        let Err(at) = search(&self.ascending, &retirement) else {
+            return Ok(false);
+        };
+        if at < self.ascending.len() {
+            return Ok(self.others.insert(retirement)?);
+        }
+        if self.others.contains(&retirement) {
             return Ok(false);
         }
-        match search(&self.ascending, &retirement) {
-            Err(at) if at == self.ascending.len() => self.ascending.push(retirement)?,
-            _ => {
-                self.others.insert(retirement)?;
-            }
-        }
+        self.ascending.push(retirement)?;
         Ok(true)
     }
 }
