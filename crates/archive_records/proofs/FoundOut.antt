@@ -1,27 +1,13 @@
 -- What the retirements that were read say of a record, and what was found out of it.
-use Rattle.std.proofs.Common.{◌≡◌, ℕ, zero, suc, ◌+◌, Bool, true, false, ◌&&◌, ◌||◌, List, [], ◌∷◌, length, get_or, take, drop, Result, Ok, Err, refl, sym, ap, subst, ◌∙◌, arith, inl, inr}
-use Rattle.std.proofs.lemmas.Bool.{false≢true, cases_lt, eqb-true}
-use Rattle.std.proofs.lemmas.List.{take_at}
+use Rattle.std.proofs.Common.{◌≡◌, ℕ, Bool, true, false, ◌&&◌, ◌||◌, List, [], ◌∷◌, length, get_or, drop, sym, ap, subst, ◌∙◌, arith, inl, inr}
+use Rattle.std.proofs.lemmas.Bool.{false≢true, eqb-true}
 use Rattle.sha2.specs.Sha256.{sha256}
-use Rattle.std.specs.Prelude.{is_ok, is_some}
-use Rattle.std.specs.declared.cmp.Ordering.{Ordering}
-use Rattle.std.specs.declared.cmp.Ordering.TheVariants.{Less, Equal, Greater}
-use Rattle.std.specs.Ordering.{nat_cmp, is_lt, ordering_reverse}
-use Rattle.std.specs.Cmp.{tied_itself, nat_cmp_total}
+use Rattle.std.specs.Prelude.{is_some}
 use Rattle.std.specs.Cmp.Lexicographic.{nat_list_cmp_total}
-use Rattle.std.specs.FinSet as set
 use Rattle.std.specs.FinSet.{contains, contains-insert}
 use Rattle.std.specs.Prelude.{Option, None, Some}
-use Rattle.std.specs.List.{insert as insert_at}
-use Rattle.std.specs.List.Sorted.{IsStrictlySortedBy, IsBinarySearchResult, IsSearchInRange, IsSortedBy}
-use Rattle.std.proofs.lemmas.List.Sorted.{searchable_from_sorted}
-use Rattle.std.proofs.lemmas.Map.Keys.{Less-from_sorted}
-use Rattle.join_core.specs.InnerSearch.{IsFound}
-use Rattle.join_core.proofs.Place.{from_list_insert, insert_present}
 use Rattle.macho_image.proofs.Told.{has_header}
 use Rattle.archive_core.specs.declared.slices.SliceFacts.{SliceFacts}
-use Rattle.archive_core.specs.declared.keys.SliceKey.{SliceKey}
-use Rattle.archive_core.specs.Key.{key_bytes}
 use Rattle.archive_core.specs.Valid.{IsValid, key_of}
 use Rattle.archive_core.specs.Content.{is_admission, covering, is_covered}
 use Rattle.archive_core.specs.Record.{IsRecord, Admits, Retires, retirement_record}
@@ -31,11 +17,10 @@ use Rattle.archive_records.specs.declared.format.Format.TheVariants.{Archive, Ol
 use Rattle.archive_records.specs.Entry.{IsEntry}
 use Rattle.archive_records.specs.Kind.{kind_of}
 use Rattle.archive_records.specs.Reader.{set_of, Keeps, IsFound as IsFoundOf, IsFoundIn, IsFoundOfLast}
-use Rattle.archive_records.proofs.Puts.{bytes_same}
-use Rattle.archive_records.proofs.Forms.{long-retirement, parts-of, admitted_is, admitted_valid}
-use Rattle.archive_records.proofs.Contents.{order, same_bytes}
+use Rattle.archive_records.proofs.Forms.{parts-of, admitted_is, admitted_valid}
+use Rattle.archive_records.proofs.Contents.{same_bytes}
 use Rattle.archive_records.proofs.KeptRecords.{long_record}
-use Rattle.archive_records.proofs.Apart.{from_set, is_false, same_as}
+use Rattle.archive_records.proofs.Apart.{is_false, same_as}
 
 no_admission : (x : List ℕ) → get_or x 0 0 ≡ 1 → is_admission x ≡ false
 no_admission x e = is_false (is_admission x) (λ a. absurd (omega (arith, e, eqb-true (get_or x 0 0) 2 a)))

@@ -7,8 +7,8 @@ use Rattle.archive_records.proofs.retired.take.Goals as goal
 pub retires-requires : goal.retires-requires
 retires-requires c = found_last Archive c.args.bytes.now c.args.found.now c.requires
 
-pub keep-requires : goal.keep-requires
-keep-requires c = long-retirement c.args.bytes.now (none_retires c.args.bytes.now c.args.found.now (sym c.is_some.ensures ∙ c.if-is_some.false) c.requires)
+pub record_of-requires : goal.record_of-requires
+record_of-requires c = long-retirement c.args.bytes.now (none_retires c.args.bytes.now c.args.found.now (sym c.is_some.ensures ∙ c.if-is_some.false) c.requires)
 
 pub returns-then-is_some-clause-found : goal.returns-then-is_some-clause-found
 returns-then-is_some-clause-found c = found_record c.args.bytes.now c.retires.new.found (inl (some_admits c.args.bytes.now c.args.found.now (sym c.is_some.ensures ∙ c.if-is_some.true) c.requires)) c.retires.ensures.found
