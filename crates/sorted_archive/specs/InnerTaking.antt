@@ -1,6 +1,6 @@
 -- A list of operations in two parts, and the retirements that came so far: the words of inner functions. No contract of
 -- a public one has them.
-use Rattle.std.specs.Prelude.{◌≡◌, ℕ, ◌+◌, List, ◌∷◌, true, false, not, ◌||◌, map, take, drop}
+use Rattle.std.specs.Prelude.{◌≡◌, ℕ, ◌+◌, List, ◌∷◌, true, false, not, ◌||◌, map}
 use Rattle.std.specs.List.{AllByRecursion, list_all}
 use Rattle.std.specs.FinSet.{contains}
 use Rattle.archive_core.specs.Record.{IsOperation, record_bytes}
