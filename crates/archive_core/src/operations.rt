@@ -115,13 +115,8 @@ impl<'a> Record<'a> {
     }
 }
 
-/// Compares the records of two retirements.
-pub fn compare_retirements(
-    key: &SliceKey,
-    digest: &Digest,
-    that: &SliceKey,
-    other: &Digest,
-) -> Ordering
+// Compares the records of two retirements.
+fn compare_retirements(key: &SliceKey, digest: &Digest, that: &SliceKey, other: &Digest) -> Ordering
     ensures { result
         ≡ slice_cmp nat_cmp (retirement_record key.now digest.now.0) (retirement_record that.now other.now.0) }
 {

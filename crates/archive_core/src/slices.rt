@@ -235,6 +235,14 @@ impl Slice {
         self.lend().digest()
     }
 
+    /// Keeps what was found out of the slice. Nothing that is asked of it depends on that.
+    pub fn keep(&mut self, facts: SliceFacts)
+        requires { IsCheckedOf self.old facts }
+        ensures { self.new ≡ self.old }
+    {
+        self.facts = facts;
+    }
+
     /// Builds the table of addresses, where there is none. Nothing that is asked of the slice depends on it.
     pub fn keep_table(&mut self, heap: &Heap) -> Result<(), NoMemory>
         ensures { self.new ≡ self.old }

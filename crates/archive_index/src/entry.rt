@@ -92,7 +92,7 @@ fn row_of_retirement(bytes: &[u8]) -> FindRow
     }
 }
 
-// The row of a slice, which is hashed.
+// The row of a slice, which is hashed where its digest was not found out.
 fn row_of_slice(slice: &CheckedSlice<'_>) -> FindRow
     ensures row { result ≡ row_of (Admit slice.now) }
     ensures key { IsKey result.key }
@@ -104,7 +104,7 @@ fn row_of_slice(slice: &CheckedSlice<'_>) -> FindRow
     }
 }
 
-// The row of a record, by what was found out of its slice, which is hashed.
+// The row of a record, by what was found out of its slice.
 fn row_in(bytes: &[u8], found: Option<SliceFacts>) -> FindRow
     requires { IsFound bytes.now found }
     ensures { IsRowOf bytes.now result }
@@ -129,7 +129,8 @@ fn lay_place(part: &mut [u8], entry: &PlacedEntry)
 }
 
 impl PlacedEntry {
-    /// The entry of a record that stands at this offset, by what was found out of its slice, which is hashed.
+    /// The entry of a record that stands at this offset, by what was found out of its slice, which is hashed where its
+    /// digest was not.
     pub fn of_record(bytes: &[u8], found: Option<SliceFacts>, offset: u64) -> PlacedEntry
         requires { IsFound bytes.now found }
         ensures bytes { placed_bytes result ≡ placed_entry offset bytes.now }

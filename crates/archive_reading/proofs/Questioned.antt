@@ -37,7 +37,7 @@ use Rattle.archive_records.proofs.Puts.{bytes_same}
 use Rattle.archive_records.proofs.Apart.{and_first, and_second, both_true, from_set, in_set, is_false}
 use Rattle.archive_records.proofs.Ascending.{InOrder-behind, all_above, cons_cases, less_of}
 use Rattle.archive_records.proofs.Contents.{order}
-use Rattle.archive_records.proofs.Fronted.{begins_below}
+use Rattle.archive_core.proofs.Retired.{begins_below}
 use Rattle.archive_reading.proofs.Kept.{part_start, picked_more, unpicked_more}
 
 -- ---- the order of bytes

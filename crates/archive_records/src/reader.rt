@@ -19,8 +19,8 @@ use crate::fault::{RecordFault, RecordFaultKind};
 use crate::format::Format;
 use crate::kind::TextKind;
 use crate::next::{NextRecord, read_next};
-use crate::retired::Retired;
-use archive_core::SliceFacts;
+use crate::retired::{retires, take};
+use archive_core::{Retirements, SliceFacts};
 use byte_device::{Failed, Source, is_at_end};
 use memory::{Heap, NoMemory};
 use std::cmp::Ordering;
@@ -46,7 +46,7 @@ pub struct RecordReader {
     /// How many bytes were read of the magic and the records.
     offset: u128,
     /// The retirements of an archive's text.
-    retired: Retired,
+    retired: Retirements,
     /// Whether the last record is dropped.
     dropped: bool,
 }
@@ -110,7 +110,7 @@ fn read_magic<R: Source>(
 /// of version 1 what is covered is dropped, and no fault.
 fn keep(
     file: Format,
-    retired: &mut Retired,
+    retired: &mut Retirements,
     bytes: &[u8],
     found: &mut Option<SliceFacts>,
 ) -> Result<bool, RecordFaultKind>
@@ -123,8 +123,8 @@ fn keep(
 {
     match file {
         Format::Operations | Format::Summary => Ok(false),
-        Format::OldArchive => retired.take(bytes, found),
-        Format::Archive => match retired.take(bytes, found) {
+        Format::OldArchive => take(retired, bytes, found),
+        Format::Archive => match take(retired, bytes, found) {
             Ok(true) => Err(RecordFaultKind::Covered),
             kept => kept,
         },
@@ -148,7 +148,7 @@ impl RecordReader {
         let Ok(mut chunk) = chunk_of(CHUNK, &heap) else {
             return Err(RecordFault::out_of_memory(0));
         };
-        let Ok(kept) = heap.clone() else {
+        let Ok(retired) = Retirements::none(&heap) else {
             return Err(RecordFault::out_of_memory(0));
         };
         let mut buffer = Buffer {
@@ -168,7 +168,7 @@ impl RecordReader {
             chunk,
             count: 0,
             offset: 8,
-            retired: Retired::none(kept),
+            retired,
             dropped: false,
         })
     }
@@ -208,7 +208,7 @@ impl RecordReader {
             → result ≡ is_covered (set_of self.now.retired) other.old.last }
         ensures same { other.new ≡ other.old }
     {
-        self.retired.retires(&other.buffer.bytes, &mut other.found)
+        retires(&self.retired, &other.buffer.bytes, &mut other.found)
     }
 
     /// Reads the next record over the last, or else what ends the file. Where memory is wanted for a record that came

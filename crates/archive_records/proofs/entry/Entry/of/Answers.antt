@@ -3,7 +3,7 @@ use Rattle.archive_core.specs.Key.{key_bytes}
 use Rattle.archive_core.specs.Record.{lent_bytes}
 use Rattle.archive_core.specs.Summary.{entry}
 use Rattle.archive_core.proofs.Entries.{admission_entry, retirement_entry}
-use Rattle.archive_records.proofs.Heads.{two}
+use Rattle.archive_core.proofs.Heads.{two}
 use Rattle.archive_records.proofs.entry.Entry.of.Goals as goal
 
 pub returns-in-Admit : goal.returns-in-Admit

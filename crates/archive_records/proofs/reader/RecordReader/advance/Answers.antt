@@ -5,7 +5,7 @@ use Rattle.archive_records.specs.Reader.{bytes_so_far, IsFoundIn, KeepsIn, Posit
 use Rattle.archive_records.proofs.Blamed.{bounds_kept}
 use Rattle.archive_records.proofs.FaultKinds.{cut_off, memory_blames}
 use Rattle.archive_records.proofs.Forms.{item-found}
-use Rattle.archive_records.proofs.Fronted.{found_last, nothing_last}
+use Rattle.archive_records.proofs.FoundOut.{found_last, nothing_last}
 use Rattle.archive_records.proofs.Steps.{step_passes, step_refused, refused_blames}
 use Rattle.archive_records.proofs.Undecided.{memory_seen, kept_uncovered}
 use Rattle.archive_records.proofs.reader.RecordReader.advance.Goals as goal

@@ -1,7 +1,7 @@
 use Rattle.std.proofs.Common.{length, ◌∙◌, ap, refl}
 use Rattle.archive_core.specs.Key.{key_bytes}
-use Rattle.archive_records.proofs.Heads.{laid_key, three}
-use Rattle.archive_records.proofs.head.lay_key.Goals as goal
+use Rattle.archive_core.proofs.Heads.{laid_key, three}
+use Rattle.archive_core.proofs.layout.lay_key.Goals as goal
 
 pub returns : goal.returns
 unfolding key_bytes

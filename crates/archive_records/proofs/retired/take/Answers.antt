@@ -1,14 +1,14 @@
 use Rattle.std.proofs.Common.{◌≡◌, get_or, arith, inl, refl, sym, ◌∙◌}
 use Rattle.archive_records.specs.declared.format.Format.TheVariants.{Archive}
 use Rattle.archive_records.proofs.Forms.{long-retirement, tag-retirement, parts-of}
-use Rattle.archive_records.proofs.Fronted.{found_last, found_record, keeps_admission, none_retires, some_admits, uncovered_retirement}
-use Rattle.archive_records.proofs.retired.Retired.take.Goals as goal
+use Rattle.archive_records.proofs.FoundOut.{found_last, found_record, keeps_admission, none_retires, some_admits, uncovered_retirement}
+use Rattle.archive_records.proofs.retired.take.Goals as goal
 
 pub retires-requires : goal.retires-requires
 retires-requires c = found_last Archive c.args.bytes.now c.args.found.now c.requires
 
-pub keep-requires : goal.keep-requires
-keep-requires c = long-retirement c.args.bytes.now (none_retires c.args.bytes.now c.args.found.now (sym c.is_some.ensures ∙ c.if-is_some.false) c.requires)
+pub record_of-requires : goal.record_of-requires
+record_of-requires c = long-retirement c.args.bytes.now (none_retires c.args.bytes.now c.args.found.now (sym c.is_some.ensures ∙ c.if-is_some.false) c.requires)
 
 pub returns-then-is_some-clause-found : goal.returns-then-is_some-clause-found
 returns-then-is_some-clause-found c = found_record c.args.bytes.now c.retires.new.found (inl (some_admits c.args.bytes.now c.args.found.now (sym c.is_some.ensures ∙ c.if-is_some.true) c.requires)) c.retires.ensures.found
@@ -17,8 +17,8 @@ pub returns-then-is_some-clause-kept : goal.returns-then-is_some-clause-kept
 returns-then-is_some-clause-kept c =
     let admits = some_admits c.args.bytes.now c.args.found.now (sym c.is_some.ensures ∙ c.if-is_some.true) c.requires in
     let tag : get_or c.args.bytes.now 0 0 ≡ 2 = (parts-of c.args.bytes.now admits).tag in
-    keeps_admission c.args.self.now c.retires.result c.args.bytes.now (λ one. omega (arith, one, tag)) (c.retires.ensures.retires (inl admits))
+    keeps_admission c.args.retired.now c.retires.result c.args.bytes.now (λ one. omega (arith, one, tag)) (c.retires.ensures.retires (inl admits))
 
 pub returns-in-Err-clause-refused : goal.returns-in-Err-clause-refused
 returns-in-Err-clause-refused c =
-    (refl, uncovered_retirement c.args.self.now c.args.bytes.now (tag-retirement c.args.bytes.now (none_retires c.args.bytes.now c.args.found.now (sym c.is_some.ensures ∙ c.if-is_some.false) c.requires)))
+    (refl, uncovered_retirement c.args.retired.now c.args.bytes.now (tag-retirement c.args.bytes.now (none_retires c.args.bytes.now c.args.found.now (sym c.is_some.ensures ∙ c.if-is_some.false) c.requires)))

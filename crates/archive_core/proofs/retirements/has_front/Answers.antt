@@ -2,8 +2,8 @@ use Rattle.std.proofs.Common.{rules, take, ◌∙◌}
 use Rattle.std.proofs.lemmas.Fn.{always_returns_same}
 use Rattle.std.specs.Ordering.{nat_cmp}
 use Rattle.std.specs.Cmp.Lexicographic.{slice_cmp}
-use Rattle.archive_records.proofs.Fronted.{front_there}
-use Rattle.archive_records.proofs.retired.has_front.Goals as goal
+use Rattle.archive_core.proofs.Retired.{front_there}
+use Rattle.archive_core.proofs.retirements.has_front.Goals as goal
 
 pub returns : goal.returns
 returns c =
