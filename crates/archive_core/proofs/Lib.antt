@@ -1,9 +1,11 @@
+pub mod Heads
 pub mod Compare
 pub mod Digits
 pub mod Records
 pub mod Made
 pub mod Joined
 pub mod Taken
+pub mod Retired
 pub mod Answering
 pub mod Entries
 pub mod Words

@@ -104,10 +104,6 @@ joined_made o p =
 pub joined_made_right : (o p : Operations) → joined o (content_of p) ≡ content_of (union o p)
 joined_made_right o p = made_alike (union o (content_of p)) (union o p) (alike_union_right o (content_of p) p (made_is_alike p))
 
--- what a set makes is below what a greater one makes
-pub made_below_made : (o u : Operations) → ((r : List ℕ) → contains o r ≡ true → contains u r ≡ true) → IsBelow (content_of o) (content_of u)
-made_below_made o u into = below_made (content_of o) u (λ r h. into r (from_made o r h))
-
 pub below_subset : (o p : Operations) → ((r : List ℕ) → contains o r ≡ true → contains p r ≡ true) → IsBelow o p
 below_subset o p into = record { retirements = λ r _ h. into r h; live = λ r _ h _. or_left _ _ (into r h) }
 

@@ -22,7 +22,6 @@ use Rattle.archive_core.specs.declared.operations.Operation.{Operation}
 use Rattle.archive_core.specs.declared.operations.Operation.TheVariants.{Admit, Retire}
 use Rattle.archive_core.proofs.Records.{one_operation}
 use Rattle.archive_core.proofs.Words.{live_in_content}
-use Rattle.join_core.proofs.Listing.{listed}
 use Rattle.archive_core.specs.Lists.{list_cmp, IsListed, IsList}
 use Rattle.archive_core.proofs.Made.{bytes_same}
 use Rattle.archive_core.proofs.Members.{in_cons, in_front, in_rest, in_filter, to_filter, ascending_by, distinct_finer, ascending_from_distinct}

@@ -51,7 +51,7 @@ record_bytes (Retire key digest) = retirement_record key digest.0
 
 -- the operation that is lent
 abbrev pub operation_lent : Record → Operation
-operation_lent (Lent_Admit slice) = Admit slice.now
+operation_lent (Lent_Admit slice) = Admit slice
 operation_lent (Lent_Retire key digest) = Retire key digest
 
 -- the record of an operation that is lent

@@ -1,5 +1,5 @@
 //! What a search for a UUID tells, and what a list of all tells.
-use crate::{Digest, SliceKey};
+use crate::{Digest, Record, SliceKey};
 use macho_image::Image;
 
 /// A retirement, or a live slice.
@@ -22,6 +22,43 @@ pub enum FindState {
     Image,
     /// A live slice that is a companion with debug information: its `filetype` is MH_DSYM.
     Dsym,
+}
+
+impl FindRow {
+    ghost use Rattle.std.specs.Prelude.{◌≡◌};
+    ghost use Rattle.archive_core.specs.Key.{IsKey};
+    ghost use Rattle.archive_core.specs.Find.{row_of};
+    ghost use Rattle.archive_core.specs.Record.{IsOperation, operation_lent};
+    ghost use Rattle.archive_core.specs.declared.operations.Operation.TheVariants.{Retire};
+
+    /// The row of a record. Its slice is hashed where that was not done before.
+    pub fn of(record: &Record<'_>) -> FindRow
+        ensures row { result ≡ row_of (operation_lent record.now) }
+        ensures operation { IsOperation (operation_lent record.now) }
+        ensures key { IsKey result.key }
+    {
+        match record {
+            Record::Admit(slice) => FindRow {
+                key: slice.key(),
+                digest: slice.digest(),
+                state: FindState::of_image(&slice.image()),
+            },
+            Record::Retire(key, digest) => FindRow::of_retirement(*key, *digest),
+        }
+    }
+
+    // The row of a retirement.
+    fn of_retirement(key: SliceKey, digest: Digest) -> FindRow
+        ensures row { result ≡ row_of (Retire key digest) }
+        ensures operation { IsOperation (Retire key digest) }
+        ensures key { IsKey result.key }
+    {
+        FindRow {
+            key,
+            digest,
+            state: FindState::Retired,
+        }
+    }
 }
 
 impl FindState {

@@ -28,6 +28,35 @@ pub struct NameRow<'a> {
 }
 
 impl<'a> NameRow<'a> {
+    /// The row of a symbol that was found in a slice of this key and digest.
+    pub fn of(key: SliceKey, digest: Digest, found: Found<'a>) -> NameRow<'a>
+        ensures { (slice : List ℕ) → key ≡ key_of slice → digest.0 ≡ sha256 slice
+            → name_view result ≡ name_row slice (found_view found.entry) }
+    {
+        NameRow {
+            key,
+            digest,
+            address: found.address,
+            sect: found.sect,
+            segment: found.segment,
+            section: found.section,
+        }
+    }
+
+    /// The row, of which the names are copied.
+    pub fn own(&self, heap: &Heap) -> Result<OwnedNameRow, NoMemory>
+        ensures { IfOk result (λ row. owned_name_view row ≡ name_view self.now) }
+    {
+        Ok(OwnedNameRow {
+            key: self.key,
+            digest: self.digest,
+            address: self.address,
+            sect: self.sect,
+            segment: Vec::from_slice(heap.clone()?, self.segment)?,
+            section: Vec::from_slice(heap.clone()?, self.section)?,
+        })
+    }
+
     /// Compares by key, then by digest, then by where the symbol stands in its slice.
     pub fn compare(&self, other: &NameRow<'_>) -> Ordering
         ensures { result ≡ name_cmp (name_view self.now) (name_view other.now) }
@@ -99,25 +128,5 @@ impl OwnedNameRow {
             segment: &self.segment,
             section: &self.section,
         }
-    }
-
-    /// The row of a symbol that was found in a slice of this key and digest.
-    pub fn of(
-        heap: &Heap,
-        key: SliceKey,
-        digest: Digest,
-        found: &Found<'_>,
-    ) -> Result<OwnedNameRow, NoMemory>
-        ensures { IfOk result (λ row. (slice : List ℕ) → key ≡ key_of slice → digest.0 ≡ sha256 slice
-            → owned_name_view row ≡ name_row slice (found_view found.now)) }
-    {
-        Ok(OwnedNameRow {
-            key,
-            digest,
-            address: found.address,
-            sect: found.sect,
-            segment: Vec::from_slice(heap.clone()?, found.segment)?,
-            section: Vec::from_slice(heap.clone()?, found.section)?,
-        })
     }
 }

@@ -4,9 +4,10 @@ ghost use Rattle.std.specs.Ordering.{nat_cmp};
 ghost use Rattle.std.specs.Cmp.Lexicographic.{slice_cmp};
 ghost use Rattle.archive_core.specs.Record.{record_bytes, lent_bytes, operation_lent, admission, retirement_record};
 ghost use Rattle.archive_core.specs.Find.{key_in};
+ghost use Rattle.archive_core.specs.Valid.{key_of};
 
 use crate::keys::compare_keys;
-use crate::{Digest, Slice, SliceKey};
+use crate::{CheckedSlice, Digest, Slice, SliceKey};
 use memory::{Heap, NoMemory};
 use std::cmp::Ordering;
 
@@ -20,11 +21,11 @@ pub enum Operation {
     Retire(SliceKey, Digest),
 }
 
-/// An operation that an archive lends.
-#[derive(Clone, Copy)]
+/// An operation that is lent, by an archive that holds it or a text that it is read from.
+#[derive(Drop)]
 pub enum Record<'a> {
     /// The slice is kept, under its own key.
-    Admit(&'a Slice),
+    Admit(CheckedSlice<'a>),
     /// The slices under that key whose bytes have that digest are retired.
     Retire(SliceKey, Digest),
 }
@@ -34,10 +35,7 @@ impl Operation {
     pub fn copy(&self, heap: Heap) -> Result<Operation, NoMemory>
         ensures { IfOk result (λ operation. operation ≡ self.now) }
     {
-        match self {
-            Operation::Admit(slice) => Ok(Operation::Admit(slice.copy(heap)?)),
-            Operation::Retire(key, digest) => Ok(Operation::Retire(*key, *digest)),
-        }
+        self.lend().copy(heap)
     }
 
     /// The operation, lent.
@@ -46,7 +44,7 @@ impl Operation {
         ensures operation { operation_lent result ≡ self.now }
     {
         match self {
-            Operation::Admit(slice) => Record::Admit(slice),
+            Operation::Admit(slice) => Record::Admit(slice.lend()),
             Operation::Retire(key, digest) => Record::Retire(*key, *digest),
         }
     }
@@ -76,7 +74,9 @@ impl Operation {
     {
         match self {
             Operation::Admit(slice) => match other {
-                Operation::Admit(that) => compare_admissions(slice, that),
+                Operation::Admit(that) => {
+                    compare_admissions(&slice.key(), slice.bytes(), &that.key(), that.bytes())
+                }
                 Operation::Retire(_, _) => Ordering::Greater,
             },
             Operation::Retire(key, digest) => match other {
@@ -98,13 +98,25 @@ impl Operation {
 }
 
 impl<'a> Record<'a> {
+    /// The same operation, kept: its slice is copied, and not checked again.
+    pub fn copy(&self, heap: Heap) -> Result<Operation, NoMemory>
+        ensures { IfOk result (λ operation. operation ≡ operation_lent self.now) }
+    {
+        match self {
+            Record::Admit(slice) => Ok(Operation::Admit(slice.admit(heap)?)),
+            Record::Retire(key, digest) => Ok(Operation::Retire(*key, *digest)),
+        }
+    }
+
     /// Compares two records, byte by byte, without building them.
     pub fn compare(&self, other: &Record<'_>) -> Ordering
         ensures { result ≡ slice_cmp nat_cmp (lent_bytes self.now) (lent_bytes other.now) }
     {
         match self {
             Record::Admit(slice) => match other {
-                Record::Admit(that) => compare_admissions(slice, that),
+                Record::Admit(that) => {
+                    compare_admissions(&slice.key(), slice.bytes(), &that.key(), that.bytes())
+                }
                 Record::Retire(_, _) => Ordering::Greater,
             },
             Record::Retire(key, digest) => match other {
@@ -115,13 +127,8 @@ impl<'a> Record<'a> {
     }
 }
 
-/// Compares the records of two retirements.
-pub fn compare_retirements(
-    key: &SliceKey,
-    digest: &Digest,
-    that: &SliceKey,
-    other: &Digest,
-) -> Ordering
+// Compares the records of two retirements.
+fn compare_retirements(key: &SliceKey, digest: &Digest, that: &SliceKey, other: &Digest) -> Ordering
     ensures { result
         ≡ slice_cmp nat_cmp (retirement_record key.now digest.now.0) (retirement_record that.now other.now.0) }
 {
@@ -133,18 +140,18 @@ pub fn compare_retirements(
 }
 
 // Compares two admissions by what their records hold behind the tag: key, length, bytes.
-fn compare_admissions(a: &Slice, b: &Slice) -> Ordering
-    ensures { result ≡ slice_cmp nat_cmp (admission a.now) (admission b.now) }
+fn compare_admissions(key: &SliceKey, bytes: &[u8], that: &SliceKey, other: &[u8]) -> Ordering
+    requires key { key.now ≡ key_of bytes.now }
+    requires that { that.now ≡ key_of other.now }
+    ensures { result ≡ slice_cmp nat_cmp (admission bytes.now) (admission other.now) }
 {
-    let keys = compare_keys(&a.key(), &b.key());
+    let keys = compare_keys(key, that);
     if keys.is_ne() {
         return keys;
     }
-    let first = a.bytes();
-    let second = b.bytes();
-    let lengths = first.len().cmp(&second.len());
+    let lengths = bytes.len().cmp(&other.len());
     if lengths.is_ne() {
         return lengths;
     }
-    first.cmp(second)
+    bytes.cmp(other)
 }

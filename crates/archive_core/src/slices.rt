@@ -1,9 +1,9 @@
 //! Slices: bytes that were checked, borrowed or owned.
-ghost use Rattle.std.specs.Prelude.{◌≡◌, IfOk, IfErr, OnOk};
+ghost use Rattle.std.specs.Prelude.{◌≡◌, IfOk, IfErr, OnOk, length, nat_lt};
 ghost use Rattle.sha2.specs.Sha256.{sha256};
 ghost use Rattle.std.specs.Option.{option_map};
 ghost use Rattle.macho_symbols.specs.Fault.{HasSymbols};
-ghost use Rattle.macho_symbols.specs.Found.{FindsNearest};
+ghost use Rattle.macho_symbols.specs.Found.{FindsNearest, named};
 ghost use Rattle.macho_symbols.specs.Views.{found_view};
 ghost use Rattle.archive_core.specs.Valid.{IsValid, IsSliceFault, IsAdmitFault, IsCheckedOf, key_of};
 
@@ -48,8 +48,8 @@ impl<'a> Model for CheckedSlice<'a> {
 /// bytes.
 ///
 /// What was found out of it is kept beside the bytes: every comparison of records begins with the key, and every
-/// lookup reads the symbols. A slice that is asked often may have its table of addresses beside it, in a box of its own,
-/// so that a slice without one is small.
+/// lookup reads the symbols. A slice that is asked often may have its table of addresses beside it, in a box of its
+/// own, so that a slice without one is small.
 #[derive(Drop)]
 pub struct Slice {
     bytes: Vec<u8, Heap>,
@@ -106,7 +106,8 @@ impl<'a> CheckedSlice<'a> {
 
     /// The SHA-256 of the bytes, computed anew where it is not kept.
     pub fn digest(&self) -> Digest
-        ensures { result.0 ≡ sha256 self.now }
+        ensures digest { result.0 ≡ sha256 self.now }
+        ensures valid { IsValid self.now }
     {
         match self.facts.digest {
             Some(digest) => digest,
@@ -134,6 +135,16 @@ impl<'a> CheckedSlice<'a> {
     {
         let image = Image::of_parts(self.bytes, self.facts.key.uuid, self.facts.symtab);
         Symbols::of_read(&image)
+    }
+
+    /// Whether a symbol of the slice has the name. Not inlined: a scan has 16 KiB on the stack, and where there is no
+    /// memory for a stack that grows, the program is ended and cannot tell it.
+    #[inline(never)]
+    pub fn has_name(&self, name: &[u8]) -> bool
+        ensures { result ≡ nat_lt 0 (length (named self.now name.now)) }
+    {
+        let mut names = self.symbols().named(name);
+        names.next().is_some()
     }
 
     /// The slice, whose bytes are copied.
@@ -233,6 +244,14 @@ impl Slice {
         ensures valid { IsValid self.now }
     {
         self.lend().digest()
+    }
+
+    /// Keeps what was found out of the slice. Nothing that is asked of it depends on that.
+    pub fn keep(&mut self, facts: SliceFacts)
+        requires { IsCheckedOf self.old facts }
+        ensures { self.new ≡ self.old }
+    {
+        self.facts = facts;
     }
 
     /// Builds the table of addresses, where there is none. Nothing that is asked of the slice depends on it.

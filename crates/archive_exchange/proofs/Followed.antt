@@ -1,10 +1,10 @@
 -- What happens at a site is what the definitions say of its event.
-use Rattle.std.proofs.Common.{◌≡◌, ◌≢◌, inl, ℕ, ◌<◌, ◌≤◌, Bool, List, [], ◌∷◌, ◌++◌, map, length, slice_get, refl, sym, ap, ◌∙◌, subst, if◌then◌else◌, get_or}
+use Rattle.std.proofs.Common.{◌≡◌, ◌≢◌, inl, ℕ, ◌<◌, Bool, List, [], ◌∷◌, ◌++◌, map, length, slice_get, refl, sym, ap, ◌∙◌, subst, if◌then◌else◌, get_or}
 use Rattle.std.specs.Prelude.{slice_set}
 use Rattle.std.specs.declared.option.Option.{Option}
 use Rattle.std.specs.declared.option.Option.TheVariants.{None, Some}
 use Rattle.std.specs.declared.result.Result.TheVariants.{Ok, Err}
-use Rattle.std.proofs.lemmas.Bool.{lt-ltb, le-ltb}
+use Rattle.std.proofs.lemmas.Bool.{lt-ltb}
 use Rattle.std.proofs.lemmas.Option.{slice_get_within, slice_get_read}
 use Rattle.std.proofs.lemmas.List.{length-map}
 use Rattle.archive_core.specs.Content.{with_record, with_records, changes, joined}
@@ -23,7 +23,7 @@ use Rattle.admission.specs.Take.{admitted}
 use Rattle.archive_exchange.specs.SiteState.{SiteState, IsArchiveTextOf, HasJoined, IsDeliverFault, IsReplyFault, RepliesTo}
 use Rattle.archive_exchange.specs.ModelEvent.{IsFile, OutcomeIs, fault_told, part_record}
 use Rattle.archive_exchange.specs.Rehearsal.{message_text, IsSound, Represents}
-use Rattle.archive_exchange.specs.InnerEvents.{Follows, Happens}
+use Rattle.archive_exchange.specs.InnerEvents.{Follows}
 use Rattle.admission.specs.declared.fault.TakeFault.{TakeFault}
 use Rattle.admission.specs.declared.fault.TakeFault.TheVariants.{OutOfMemory}
 use Rattle.archive_exchange.specs.declared.fault.DeliverFault.{DeliverFault}
@@ -32,7 +32,7 @@ use Rattle.archive_exchange.specs.declared.fault.ReplyFault.TheVariants as reply
 use Rattle.archive_exchange.specs.declared.outcome.EventFault.TheVariants as fault
 use Rattle.archive_exchange.specs.declared.outcome.Outcome.{Outcome}
 use Rattle.archive_exchange.specs.declared.outcome.Outcome.TheVariants as told
-use Rattle.archive_exchange.proofs.RunStates.{set_same, shows_held, shows_saved, shows_sent, message_at, no_message_at, IsMessage}
+use Rattle.archive_exchange.proofs.RunStates.{set_same, shows_held, shows_saved, shows_sent, message_at, IsMessage}
 use Rattle.archive_exchange.proofs.Gained.{content_gain, content_joined, recorded_take, recorded_retire, content_seen}
 use Rattle.archive_exchange.proofs.Magics.{gives_no_summary, not_an_archive, not_a_summary}
 
@@ -189,15 +189,6 @@ not_replied i m old texts text f got refused = refuse_by (model.Reply i m) old t
     let x : IsMessage w m text = message_at sites texts w m text sh got in
     not_replied_to w i m text f refused x.message x.is x.text_is x.sound)
 
--- no such message
-pub no_reply : (i m : ℕ) (old : SiteState) (texts : List (List ℕ)) → slice_get texts m ≡ None → Follows (model.Reply i m) old old texts texts (told.Refused fault.NoMessage)
-no_reply i m old texts none = refuse_by (model.Reply i m) old texts (told.Refused fault.NoMessage) (λ sites w at sh.
-    record { why = model.NoMessage; told = refl; is = ap (λ x. model.reply_fault {F = TakeFault} x) (no_message_at sites texts w m sh none) })
-
-pub no_delivery : (i m : ℕ) (old : SiteState) (texts : List (List ℕ)) → slice_get texts m ≡ None → Follows (model.Deliver i m) old old texts texts (told.Refused fault.NoMessage)
-no_delivery i m old texts none = refuse_by (model.Deliver i m) old texts (told.Refused fault.NoMessage) (λ sites w at sh.
-    record { why = model.NoMessage; told = refl; is = ap (λ x. model.deliver_fault {F = TakeFault} x) (no_message_at sites texts w m sh none) })
-
 -- a delivery of a message that is there
 delivered_at : (i m : ℕ) (old new : SiteState) (texts : List (List ℕ)) (text : List ℕ) (sites : List SiteState) (w : World)
     → slice_get sites i ≡ Some old → Represents sites texts w → HasJoined text old new
@@ -248,25 +239,6 @@ stops i old new texts says saved = follow_by (model.Stop i) old new texts texts 
       shows = shows_held sites texts w i old new (w.saved i) at sh (one_content old.saved new.held (w.saved i) says.content (sh.saved i) (inl says.is) (inl (sh.each i old at).saved)) saved (sh.saved i);
       tells = refl;
     })
-
--- among sites
-pub happens_at : (e : Event TakeFault) (old new : SiteState) (texts later : List (List ℕ)) (a : Outcome) (sites others : List SiteState)
-    → Follows e old new texts later a → slice_get sites (site_of e) ≡ Some old → others ≡ slice_set sites (site_of e) new → Happens e sites others texts later a
-happens_at e old new texts later a sites others follows at is =
-    let P : List SiteState → Type 0 = λ s. Happens e sites s texts later a in
-    subst P (sym is) (record {
-      shows = λ w sh. follows.shows sites w at sh;
-      tells = λ w sh. follows.tells sites w at sh;
-    })
-
-pub happens_nowhere : (e : Event TakeFault) (texts : List (List ℕ)) (sites : List SiteState) → length sites ≤ site_of e → Happens e sites sites texts texts (told.Refused fault.NoSite)
-happens_nowhere e texts sites out = record {
-  shows = λ w sh. let P : World → Type 0 = λ v. Represents sites texts v in subst P (sym (ap (λ g. unless g w (effect w e)) (no_site w))) sh;
-  tells = λ w sh. (model.NoSite, refl, ap (λ g. refused_or g (answer w e)) (no_site w));
-}
-  where
-    no_site : (w : World) → fault_of (length sites) w e ≡ Some model.NoSite
-    no_site w = ap (λ b. if b then fault_at_site w.messages e else Some model.NoSite) (le-ltb (site_of e) (length sites) out)
 
 -- the same, told by an equal outcome
 pub follows_as : (e : Event TakeFault) (old new : SiteState) (texts later : List (List ℕ)) (a b : Outcome) → b ≡ a → Follows e old new texts later a → Follows e old new texts later b

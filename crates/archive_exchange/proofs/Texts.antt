@@ -15,7 +15,7 @@ use Rattle.archive_records.specs.Fault.{IsFault, IsSummaryFault, IsOfText}
 use Rattle.archive_records.specs.Reading.{IsOfMachine}
 use Rattle.archive_records.specs.declared.fault.RecordFault.{RecordFault}
 use Rattle.archive_records.specs.declared.fault.RecordFaultKind.TheVariants.{Device, OutOfMemory}
-use Rattle.archive_exchange.specs.SiteState.{SiteState, Gives, IsArchiveText, IsBetween, Names, IsSummaryText, HasJoinedInPart}
+use Rattle.archive_exchange.specs.SiteState.{SiteState, Gives, IsArchiveText, IsBetween, IsSummaryText, HasJoinedInPart}
 
 never : FailedIn 0 0 → ⊥
 never f = absurd cc
@@ -50,10 +50,6 @@ refused_summary rest text fault is device memory faulty machine =
         | inr e ↦ memory e
       ],
     )
-
--- the one summary of a text
-pub alone_by : (rest text : List ℕ) (s : Entries) → Some rest ≡ Some text → ((other : Entries) → AreEntries other → rest ≡ summary_text other → s ≡ other) → (other : Entries) → Names text other → s ≡ other
-alone_by rest text s is all other names = let same : rest ≡ text = cc in all other names.entries (same ∙ names.is)
 
 pub on_err : {T E : Type 0} (P : Type 0) (r : Result T E) → P → OnErr r P
 on_err P (Ok x) p = tt

@@ -19,7 +19,7 @@ use Rattle.archive_core.specs.declared.find.FindState.TheVariants.{Image, Dsym}
 use Rattle.archive_core.specs.declared.operations.Operation.{Operation}
 use Rattle.archive_core.specs.declared.operations.Operation.TheVariants.{Admit, Retire}
 use Rattle.archive_core.proofs.Entries.{admission_entry, retirement_entry, slice_of}
-use Rattle.archive_records.proofs.Heads.{laid_last}
+use Rattle.archive_core.proofs.Heads.{laid_last}
 use Rattle.archive_reading.specs.InnerRows.{IsRowOf}
 use Rattle.archive_index.specs.declared.entry.PlacedEntry.{PlacedEntry}
 use Rattle.archive_index.specs.Entry.{kind_byte, placed_entry, placed_bytes, tag_byte, dsym_byte, length_in, offset_in}

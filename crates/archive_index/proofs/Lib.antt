@@ -11,3 +11,4 @@ pub mod Entries
 pub mod Steps
 pub mod Made
 pub mod Read
+pub mod Blamed

@@ -1,19 +1,17 @@
 //! What a record is, and where it stands.
 
-ghost use Rattle.std.specs.Prelude.{◌≡◌, ◌+◌, ◌≤◌, ◌∷◌, ◌++◌, None, true, length, slice_index, take, drop};
+ghost use Rattle.std.specs.Prelude.{◌≡◌, ◌+◌, ◌≤◌, ◌∷◌, ◌++◌, true, length, slice_index, take, drop};
 ghost use Rattle.std.specs.Int.{w64, to_be_bytes, from_be_bytes};
 ghost use Rattle.std.specs.Ordering.{nat_cmp};
 ghost use Rattle.std.specs.Cmp.Lexicographic.{slice_cmp};
-ghost use Rattle.archive_core.specs.Key.{IsKey, key_bytes};
-ghost use Rattle.archive_core.specs.Find.{row_of};
-ghost use Rattle.archive_core.specs.declared.operations.Operation.TheVariants.{Admit};
-ghost use Rattle.archive_records.specs.Reader.{IsFound};
+ghost use Rattle.archive_core.specs.Key.{key_bytes};
+ghost use Rattle.archive_core.specs.Record.{lent_bytes};
 ghost use Rattle.archive_reading.specs.InnerRows.{IsRowOf};
 ghost use Rattle.archive_index.specs.Entry.{IsPlacedEntry, dsym_byte, has_kind, has_tag};
 ghost use Rattle.archive_index.specs.Entry.{placed_bytes, placed_entry, tag_byte};
 
-use archive_core::{CheckedSlice, FindRow, FindState, SliceFacts};
-use archive_records::{ADMISSION_HEAD_LEN, Entry, digest_in, key_in};
+use archive_core::{FindRow, FindState, Record};
+use archive_records::{Entry, digest_in, key_in};
 use byteorder::{BigEndian, ByteOrder};
 use std::cmp::Ordering;
 
@@ -80,43 +78,6 @@ fn kind_of(state: FindState) -> u8
     }
 }
 
-// The row of a retirement.
-fn row_of_retirement(bytes: &[u8]) -> FindRow
-    requires { IsFound bytes.now None }
-    ensures { IsRowOf bytes.now result }
-{
-    FindRow {
-        key: key_in(bytes),
-        digest: digest_in(bytes),
-        state: FindState::Retired,
-    }
-}
-
-// The row of a slice, which is hashed.
-fn row_of_slice(slice: &CheckedSlice<'_>) -> FindRow
-    ensures row { result ≡ row_of (Admit slice.now) }
-    ensures key { IsKey result.key }
-{
-    FindRow {
-        key: slice.key(),
-        digest: slice.digest(),
-        state: FindState::of_image(&slice.image()),
-    }
-}
-
-// The row of a record, by what was found out of its slice, which is hashed.
-fn row_in(bytes: &[u8], found: Option<SliceFacts>) -> FindRow
-    requires { IsFound bytes.now found }
-    ensures { IsRowOf bytes.now result }
-{
-    match found {
-        None => row_of_retirement(bytes),
-        Some(facts) => {
-            row_of_slice(&CheckedSlice::of_checked(&bytes[ADMISSION_HEAD_LEN..], facts))
-        }
-    }
-}
-
 // Lays where a record stands, after the entry of its row.
 fn lay_place(part: &mut [u8], entry: &PlacedEntry)
     requires { length part.old ≡ 17 }
@@ -129,16 +90,17 @@ fn lay_place(part: &mut [u8], entry: &PlacedEntry)
 }
 
 impl PlacedEntry {
-    /// The entry of a record that stands at this offset, by what was found out of its slice, which is hashed.
-    pub fn of_record(bytes: &[u8], found: Option<SliceFacts>, offset: u64) -> PlacedEntry
-        requires { IsFound bytes.now found }
-        ensures bytes { placed_bytes result ≡ placed_entry offset bytes.now }
-        ensures row { IsRowOf bytes.now result.row }
+    /// The entry of a record that stands at this offset and is so long. Its slice is hashed where that was not done
+    /// before.
+    pub fn of_record(record: &Record<'_>, offset: u64, size: u64) -> PlacedEntry
+        requires { size ≡ length (lent_bytes record.now) }
+        ensures bytes { placed_bytes result ≡ placed_entry offset (lent_bytes record.now) }
+        ensures row { IsRowOf (lent_bytes record.now) result.row }
     {
         PlacedEntry {
-            row: row_in(bytes, found),
+            row: FindRow::of(record),
             offset,
-            length: bytes.len() as u64,
+            length: size,
         }
     }
 

@@ -105,15 +105,16 @@ fn take_entries<R: Source>(
     let mut entries = Vec::new(heap);
     'taking: loop {
         let before = reader.offset();
-        let found = match reader.advance(r) {
+        match reader.advance(r) {
             Ok(NextRecord::End) => return Ok(entries),
-            Ok(NextRecord::Item(found)) => found,
+            Ok(NextRecord::Item(_)) => {}
             Err(fault) => return Err(IndexingFault::Archive(fault)),
-        };
+        }
         let Ok(offset) = u64::try_from(before) else {
             return Err(IndexingFault::TooLong);
         };
-        if let Err(_) = entries.push(PlacedEntry::of_record(reader.last(), found, offset)) {
+        let size = reader.last().len() as u64;
+        if let Err(_) = entries.push(PlacedEntry::of_record(&reader.record(), offset, size)) {
             return Err(IndexingFault::Archive(RecordFault::out_of_memory(before)));
         }
     }

@@ -13,7 +13,7 @@ use Rattle.std.proofs.lemmas.Cmp.{nat_cmp_total, on_total, then_total}
 use Rattle.std.proofs.lemmas.Bool.{cases_lt, false≢true}
 use Rattle.std.proofs.lemmas.List.Folds.{Any-from_list_any, list_any-from_Any, list_any_at}
 use Rattle.std.proofs.lemmas.Slice.Eq.{bytes_eq-Decides}
-use Rattle.std.proofs.lemmas.List.{get_or-map, get_or_append_left, get_or_default, get_or_push, get_or-set_same, get_or-set_other, length-map, length-set, take_all, drop_at, take-append-le, drop-append-le, length-drop}
+use Rattle.std.proofs.lemmas.List.{get_or-map, get_or-set_same, get_or-set_other, length-map, length-set, take_all, drop_at, take-append-le, drop-append-le, length-drop}
 use Rattle.std.proofs.lemmas.List.Sorted.{Contains-permutation, IsPermutation-sym, searchable_from_sorted}
 use Rattle.std.proofs.lemmas.Option.{get_or_from_slice_get, slice_get-get_or, slice_get_within}
 use Rattle.archive_core.specs.Content.{Operations}
@@ -54,24 +54,6 @@ key_of_asked one = one.frame.key
 
 abbrev numbered : ℕ → Frame → AskedFrame
 numbered i frame = record { line = i; frame = frame }
-
--- one more, behind those before it
-pub numbered_more : (frames : List Frame) (i : ℕ) (frame : Frame) (asked grown : List AskedFrame) → i < length frames → frame ≡ get_or frames i frame → grown ≡ asked ++ numbered i frame ∷ []
-    → (length asked ≡ i) × ((j : ℕ) (d : AskedFrame) → j < i → get_or asked j d ≡ numbered j (get_or frames j d.frame))
-    → (length grown ≡ i + 1) × ((j : ℕ) (d : AskedFrame) → j < i + 1 → get_or grown j d ≡ numbered j (get_or frames j d.frame))
-numbered_more frames i frame asked grown lt at more before = (
-  ap length more ∙ length-append asked (numbered i frame ∷ []) ∙ omega (arith, before.0),
-  λ j d within. ap (λ (l : List AskedFrame). get_or l j d) more ∙ elim (cases_lt j i) [
-    | inl below ↦ get_or_append_left asked (numbered i frame ∷ []) d j (omega (arith, before.0, below)) ∙ before.1 j d below
-    | inr above ↦ last j d (omega (arith, within, above))
-  ],
-)
-  where
-    last : (j : ℕ) (d : AskedFrame) → j ≡ i → get_or (asked ++ numbered i frame ∷ []) j d ≡ numbered j (get_or frames j d.frame)
-    last j d same =
-        get_or_push asked (numbered i frame) d j (before.0 ∙ sym same)
-        ∙ ap (numbered i) (at ∙ get_or_default frames i frame d.frame lt)
-        ∙ ap (λ (n : ℕ). numbered n (get_or frames n d.frame)) (sym same)
 
 -- and all of them are the frames with their numbers
 pub lines_of : (frames : List Frame) (asked moved : List AskedFrame) → AreNumbered frames asked → IsPermutation asked moved → AreLines frames moved

@@ -1,5 +1,5 @@
 -- Questions under keys, answered by what is held of the records.
-use Rattle.std.proofs.Common.{◌≡◌, ℕ, ◌+◌, Bool, true, false, ◌&&◌, if◌then◌else◌, List, [], ◌∷◌, ◌++◌, append_assoc, length, take, drop, get_or, Option, Some, None, is_some, not, refl, sym, ap, ◌∙◌, subst, arith, inl, inr}
+use Rattle.std.proofs.Common.{◌≡◌, ℕ, ◌+◌, Bool, true, false, ◌&&◌, if◌then◌else◌, List, [], ◌∷◌, ◌++◌, append_assoc, length, take, drop, get_or, Option, Some, None, refl, sym, ap, ◌∙◌, subst, arith, inl, inr}
 use Rattle.std.specs.Prelude.{⊤}
 use Rattle.std.specs.Option.{ForSome}
 use Rattle.std.specs.Int.{w64, to_be_bytes}
@@ -19,12 +19,13 @@ use Rattle.std.proofs.lemmas.List.Sorted.{ranks_by}
 use Rattle.std.proofs.lemmas.Slice.Eq.{bytes_eq-Decides}
 use Rattle.sha2.specs.Sha256.{sha256}
 use Rattle.archive_core.specs.Key.{key_bytes}
-use Rattle.archive_core.specs.Valid.{key_of}
-use Rattle.archive_core.specs.Record.{admission, admission_record, retirement_record, Admits, Retires}
+use Rattle.archive_core.specs.Valid.{IsValid, key_of}
+use Rattle.archive_core.specs.Record.{admission, admission_record, retirement_record, Admits, IsOperation, Retires}
 use Rattle.archive_core.specs.Content.{Operations, IsMade, IsLive, IsAnswering, is_admission, covering, key_and_digest, with_record}
 use Rattle.archive_core.specs.Part.{part}
 use Rattle.archive_core.specs.declared.keys.SliceKey.{SliceKey}
-use Rattle.archive_core.specs.declared.slices.SliceFacts.{SliceFacts}
+use Rattle.archive_core.specs.declared.keys.Digest.{Digest}
+use Rattle.archive_core.specs.declared.operations.Operation.TheVariants.{Retire}
 use Rattle.archive_core.proofs.Made.{uncovered_of_made}
 use Rattle.archive_core.proofs.Picked.{contains_part}
 use Rattle.archive_records.specs.declared.format.Format.TheVariants.{Archive}
@@ -32,12 +33,12 @@ use Rattle.archive_records.specs.declared.kind.TextKind.TheVariants.{Archive as 
 use Rattle.archive_records.specs.Text.{InOrder}
 use Rattle.archive_reading.specs.InnerKeys.{AreAsked, Begins, IsHeldUnder, admits_under, front_of, is_first, is_passed}
 use Rattle.archive_reading.specs.Keys.{AnswersAs, AreInOrder, first_key}
-use Rattle.archive_records.specs.Reader.{IsFound, MakeThemselves, set_of}
+use Rattle.archive_records.specs.Reader.{MakeThemselves, set_of}
 use Rattle.archive_records.proofs.Puts.{bytes_same}
 use Rattle.archive_records.proofs.Apart.{and_first, and_second, both_true, from_set, in_set, is_false}
 use Rattle.archive_records.proofs.Ascending.{InOrder-behind, all_above, cons_cases, less_of}
 use Rattle.archive_records.proofs.Contents.{order}
-use Rattle.archive_records.proofs.Fronted.{begins_below}
+use Rattle.archive_core.proofs.Retired.{begins_below}
 use Rattle.archive_reading.proofs.Kept.{part_start, picked_more, unpicked_more}
 
 -- ---- the order of bytes
@@ -270,14 +271,12 @@ answered_next front (k ∷ keys) new Answered Next held now records key first be
 
 -- ---- one record more
 
--- what was found out tells which it is
-pub found_retires : (x : List ℕ) (found : Option SliceFacts) (none : Bool) → is_some found ≡ not none → none ≡ true → IsFound x found → Retires x
-found_retires x None none is e found = found
-found_retires x (Some facts) none is e found = absurd (false≢true (sym (is ∙ ap not e)))
+-- a record that is lent tells which it is
+pub lent_retires : (x : List ℕ) (key : SliceKey) (digest : Digest) → IsOperation (Retire key digest) → retirement_record key digest.0 ≡ x → Retires x
+lent_retires x key digest is bytes = record { key = key; digest = digest.0; is_key = is.0; long = is.1; is = sym bytes }
 
-pub found_admits : (x : List ℕ) (found : Option SliceFacts) (none : Bool) → is_some found ≡ not none → none ≡ false → IsFound x found → Admits x
-found_admits x None none is e found = absurd (false≢true (is ∙ ap not e))
-found_admits x (Some facts) none is e found = found.0
+pub lent_admits : (x slice : List ℕ) → IsValid slice → admission_record slice ≡ x → Admits x
+lent_admits x slice valid bytes = record { slice = slice; valid = valid; is = sym bytes }
 
 -- what may come behind the record
 behind_one : (MayCome : List (List ℕ) → Type 0) (Answered : Operations → Type 0) (records : List (List ℕ)) (x : List ℕ)

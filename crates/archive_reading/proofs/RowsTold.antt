@@ -1,5 +1,5 @@
 -- Rows that are made record by record, and put in the order of a list.
-use Rattle.std.proofs.Common.{◌≡◌, ℕ, ◌+◌, ◌<◌, zero, suc, Bool, true, false, not, ◌&&◌, List, [], ◌∷◌, ◌++◌, length, map, take, drop, get_or, length-take, length-drop, w32, refl, sym, ap, ◌∙◌, subst, arith, add-one}
+use Rattle.std.proofs.Common.{◌≡◌, ℕ, ◌+◌, ◌<◌, zero, suc, Bool, true, false, not, ◌&&◌, List, [], ◌∷◌, ◌++◌, length, map, get_or, w32, refl, sym, ap, ◌∙◌, subst, arith, add-one}
 use Rattle.std.proofs.Math.ListN.{length-map}
 use Rattle.std.specs.Prelude.{All}
 use Rattle.std.specs.Int.{to_be_bytes}
@@ -15,17 +15,15 @@ use Rattle.std.proofs.lemmas.List.Sorted.{All-permutation, ties_stay_sorted, ran
 use Rattle.join_core.specs.Listing.{listing}
 use Rattle.join_core.proofs.Listing.{listed}
 use Rattle.archive_core.specs.Key.{IsKey, key_bytes}
-use Rattle.archive_core.specs.Record.{record_bytes, IsOperation, Admits, Retires}
-use Rattle.archive_core.specs.Valid.{IsValid}
+use Rattle.archive_core.specs.Record.{record_bytes, IsOperation, lent_bytes, operation_lent}
 use Rattle.archive_core.specs.Content.{Operations, IsContent, IsMade}
 use Rattle.archive_core.specs.Find.{key_in, arch_cmp, row_of}
 use Rattle.archive_core.specs.Lists.{list_cmp, IsList}
 use Rattle.archive_core.specs.InnerHeld.{IsHeld}
 use Rattle.archive_core.specs.declared.find.FindRow.{FindRow}
 use Rattle.archive_core.specs.declared.keys.SliceKey.{SliceKey}
-use Rattle.archive_core.specs.declared.keys.Digest.{Digest}
 use Rattle.archive_core.specs.declared.operations.Operation.{Operation}
-use Rattle.archive_core.specs.declared.operations.Operation.TheVariants.{Admit, Retire}
+use Rattle.archive_core.specs.declared.operations.Record.{Record}
 use Rattle.archive_core.proofs.Compare.{then_assoc, three_parts}
 use Rattle.archive_core.proofs.Digits.{cmp_four}
 use Rattle.archive_core.proofs.Told.{list_sorted}
@@ -33,7 +31,6 @@ use Rattle.archive_reading.specs.InnerRows.{IsRowOf, AreRowsOf}
 use Rattle.archive_records.specs.Reader.{set_of}
 use Rattle.archive_records.proofs.Puts.{bytes_same}
 use Rattle.archive_records.proofs.Contents.{order, content_is}
-use Rattle.archive_records.proofs.Forms.{long-retirement, tag-retirement, retired_is, admitted_valid, admitted_is}
 use Rattle.archive_reading.proofs.Stable.{lifted}
 
 -- ---- one row more
@@ -50,25 +47,13 @@ rows_more records bytes rows grown row more one all = record {
   rows_are = more ∙ (λ i. all.rows_are i ++ one.row_is i ∷ []) ∙ sym (map-append row_of all.operations (one.operation ∷ []));
 }
 
--- the row of a retirement
-pub row_of_retired : (bytes : List ℕ) (key : SliceKey) (digest : Digest) → Retires bytes → IsKey key → key_bytes key ≡ take 24 (drop 1 bytes) → digest.0 ≡ take 32 (drop 25 bytes) → IsRowOf bytes (row_of (Retire key digest))
-row_of_retired bytes key digest t is_key k d =
-    let long = long-retirement bytes t in
-    record {
-      operation = Retire key digest;
-      is_operation = (is_key, ap length d ∙ omega (arith, length-take 32 (drop 25 bytes), length-drop 25 bytes, long));
-      is_key = is_key;
-      bytes_are = retired_is bytes key digest.0 long (tag-retirement bytes t) k d;
-      row_is = refl;
-    }
-
--- the row of an admission
-pub row_of_admitted : (bytes slice : List ℕ) (row : FindRow) → Admits bytes → slice ≡ drop 33 bytes → row ≡ row_of (Admit slice) → IsKey row.key → IsRowOf bytes row
-row_of_admitted bytes slice row a e is key = record {
-  operation = Admit slice;
-  is_operation = subst IsValid (sym e) (admitted_valid bytes a);
+-- the row of a record that is lent
+pub row_of_lent : (lent : Record) (row : FindRow) → row ≡ row_of (operation_lent lent) → IsOperation (operation_lent lent) → IsKey row.key → IsRowOf (lent_bytes lent) row
+row_of_lent lent row is valid key = record {
+  operation = operation_lent lent;
+  is_operation = valid;
   is_key = subst IsKey (ap (λ (r : FindRow). r.key) is) key;
-  bytes_are = admitted_is bytes slice a e;
+  bytes_are = refl;
   row_is = is;
 }
 

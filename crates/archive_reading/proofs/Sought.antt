@@ -14,6 +14,7 @@ use Rattle.std.proofs.lemmas.List.Kept.{IsStrictlySortedBy-dedup, Contains-from_
 use Rattle.std.proofs.lemmas.List.Sorted.{Contains-permutation, IsPermutation-sym}
 use Rattle.macho_symbols.specs.Found.{FoundRecord, named}
 use Rattle.archive_core.specs.Content.{Operations, IsContent}
+use Rattle.archive_core.specs.Valid.{IsValid}
 use Rattle.archive_core.specs.Names.{NameRecord, name_cmp, name_row, names_in, IsNameRow, IsNames}
 use Rattle.archive_core.specs.Record.{admission_record, Admits, Retires, IsRecord}
 use Rattle.archive_core.proofs.NameOrder.{name_total, rows_same}
@@ -40,17 +41,19 @@ pub names_retired : (name r : List ℕ) → Retires r → names_of name r ≡ []
 unfolding names_of
 names_retired name r t = ap (λ (tag : ℕ). cond (tag == 2) (names_in name (drop 33 r)) []) (tag-retirement r t)
 
+-- those of a slice
+pub names_of_slice : (name slice : List ℕ) → IsValid slice → names_of name (admission_record slice) ≡ names_in name slice
+names_of_slice name slice valid =
+    let a : Admits (admission_record slice) = record { slice = slice; valid = valid; is = refl } in
+    names_admitted name (admission_record slice) a ∙ ap (names_in name) (parts-of (admission_record slice) a).slice_is
+
 -- those of a slice that was asked whether it has the name
-pub names_none : (name r slice : List ℕ) (has : Bool) → Admits r → slice ≡ drop 33 r → has ≡ nat_lt 0 (length (named slice name)) → has ≡ false → names_of name r ≡ []
-names_none name r slice has a is tells not =
-    names_admitted name r a ∙ ap (names_in name) (sym is) ∙ empty (named slice name) (ltb-false 0 (length (named slice name)) (sym tells ∙ not))
+pub names_none : (name slice : List ℕ) (has : Bool) → has ≡ nat_lt 0 (length (named slice name)) → has ≡ false → names_in name slice ≡ []
+names_none name slice has tells not = empty (named slice name) (ltb-false 0 (length (named slice name)) (sym tells ∙ not))
   where
     empty : (found : List FoundRecord) → length found ≤ 0 → map (name_row slice) found ≡ []
     empty [] h = refl
     empty (x ∷ xs) h = absurd (omega arith)
-
-pub names_of_slice : (name r slice : List ℕ) → Admits r → slice ≡ drop 33 r → names_in name slice ≡ names_of name r
-names_of_slice name r slice a is = ap (names_in name) is ∙ sym (names_admitted name r a)
 
 -- ---- rows in order, each once
 
@@ -105,11 +108,10 @@ module _ (o : Operations) (name : List ℕ) (records : List (List ℕ)) (content
   unfolding names_among
   among row h =
       let r : List ℕ = admission_record h.slice in
-      let a : Admits r = record { slice = h.slice; valid = h.valid; is = refl } in
       let held = from_set records r (ap (λ (s : Operations). set.contains s r) (sym is) ∙ h.live.admitted) in
       let rows = subst (Contains (names_in name h.slice)) (sym h.row_is) (to_map (name_row h.slice) (named h.slice name) h.found h.candidate) in
       to_flat_map (names_of name) records r row held
-      (subst (λ (l : List NameRecord). Contains l row) (sym (names_admitted name r a ∙ ap (names_in name) (parts-of r a).slice_is)) rows)
+      (subst (λ (l : List NameRecord). Contains l row) (sym (names_of_slice name h.slice h.valid)) rows)
 
   pub names_told : (row : NameRecord) → Contains (names_among name records) row ↔ IsNameRow o name row
   unfolding names_among

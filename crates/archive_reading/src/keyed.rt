@@ -13,8 +13,8 @@ ghost use Rattle.archive_reading.specs.Keys.{AnswersAs, AreInOrder, first_key};
 ghost use Rattle.archive_records.specs.Reading.{ReadsInPart};
 
 use crate::reading::take_record;
-use archive_core::{Archive, SliceFacts, SliceKey};
-use archive_records::{FromRecords, RecordFault, TextKind, key_front, tell_text};
+use archive_core::{Archive, Record, SliceKey};
+use archive_records::{FromRecords, RecordFault, RecordReader, TextKind, key_front, tell_text};
 use byte_device::Source;
 use memory::{Heap, NoMemory};
 
@@ -138,21 +138,17 @@ impl<A: Archive + Drop, Q: Questions + Drop> FromRecords for Asked<A, Q> {
         Asked { held, questions }
     }
 
-    fn take(
-        &mut self,
-        heap: &Heap,
-        bytes: &[u8],
-        found: Option<SliceFacts>,
-    ) -> Result<(), NoMemory> {
-        if found.is_none() {
+    fn take(&mut self, heap: &Heap, reader: &RecordReader) -> Result<(), NoMemory> {
+        let record = reader.record();
+        let Record::Admit(_) = &record else {
             return Ok(());
-        }
-        let front = &bytes[1..25];
+        };
+        let front = &reader.last()[1..25];
         answer_passed(self, heap, Some(front))?;
         if !is_next(&self.questions, front) {
             return Ok(());
         }
-        take_record(&mut self.held, heap, bytes, found)
+        take_record(&mut self.held, heap, &record)
     }
 
     fn finish(self, heap: &Heap) -> Result<Q, NoMemory> {

@@ -6,7 +6,7 @@
 //!   which no slice is kept;
 //! - `operations`: [`read_ops`];
 //! - `rows`, `summarizing`: [`list_rows`] and [`summarize`], what an archive tells record by record, of which no slice
-//!   is kept, and [`entry_of`] one;
+//!   is kept;
 //! - `testing`: [`test_archive`], of which nothing is kept.
 #![tactic(auto)]
 
@@ -25,5 +25,5 @@ pub use operations::read_ops;
 pub use part::{Selects, Under, read_part};
 pub use reading::{read_archive, read_front};
 pub use rows::list_rows;
-pub use summarizing::{entry_of, summarize};
+pub use summarizing::summarize;
 pub use testing::test_archive;

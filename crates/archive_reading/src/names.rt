@@ -1,39 +1,28 @@
 //! Where symbols of a name stand, told record by record.
 
-ghost use Rattle.std.specs.Prelude.{◌≡◌, ◌↔◌, ◌++◌, map, Contains, OnOk, false, length, nat_lt};
+ghost use Rattle.std.specs.Prelude.{◌≡◌, ◌↔◌, ◌++◌, map, Contains, OnOk, false};
 ghost use Rattle.std.specs.FinSet as set;
 ghost use Rattle.std.specs.List.{AllByRecursion};
-ghost use Rattle.archive_core.specs.Record.{retirement_record};
+ghost use Rattle.archive_core.specs.Record.{IsOperation, lent_bytes, operation_lent, retirement_record};
 ghost use Rattle.archive_records.specs.Entry.{IsEntry, entry_bytes};
 ghost use Rattle.archive_reading.specs.Names.{AddsNames};
 ghost use Rattle.std.specs.List.Sorted.{IsStrictlySortedBy};
-ghost use Rattle.macho_symbols.specs.Found.{named};
 ghost use Rattle.archive_core.specs.Names.{IsNames, NameRecord, name_cmp, names_in};
 ghost use Rattle.archive_records.specs.declared.kind.TextKind.TheVariants.{Archive};
 ghost use Rattle.archive_reading.specs.InnerNames.{names_of};
 ghost use Rattle.archive_core.specs.Names.{owned_name_view};
-ghost use Rattle.archive_records.specs.Reader.{IsFound, set_of};
+ghost use Rattle.archive_records.specs.Reader.{set_of};
 ghost use Rattle.archive_records.specs.Reading.{ReadsInPart};
 
-use crate::summarizing::entry_of;
-use archive_core::{CheckedSlice, OwnedNameRow, SliceFacts};
+use archive_core::{CheckedSlice, NameRow, OwnedNameRow, Record};
 use archive_records::{
-    ADMISSION_HEAD_LEN, Entry, FromRecords, RecordFault, Summary, TextKind, tell_text,
+    Entry, FromRecords, RecordFault, RecordReader, Summary, TextKind, tell_text,
 };
 use byte_device::Source;
 use memory::{Heap, NoMemory};
 
-/// Whether a symbol of the slice has the name. Not inlined, nor is `push_rows`: a scan has 16 KiB on the stack, and
-/// where there is no memory for a stack that grows, the program is ended and cannot tell it.
-#[inline(never)]
-fn has_name(slice: &CheckedSlice<'_>, name: &[u8]) -> bool
-    ensures { result ≡ nat_lt 0 (length (named slice.now name.now)) }
-{
-    let mut names = slice.symbols().named(name);
-    names.next().is_some()
-}
-
-/// Adds the rows of a name in a slice, in the order of its symbol table. The slice is hashed.
+/// Adds the rows of a name in a slice, in the order of its symbol table. The slice is hashed. Not inlined: see
+/// [`CheckedSlice::has_name`].
 #[inline(never)]
 fn push_rows(
     rows: &mut Vec<OwnedNameRow, Heap>,
@@ -47,32 +36,29 @@ fn push_rows(
     let key = slice.key();
     let digest = slice.digest();
     'names: for found in slice.symbols().named(name) {
-        rows.push(OwnedNameRow::of(heap, key, digest, &found)?)?;
+        rows.push(NameRow::of(key, digest, found).own(heap)?)?;
     }
     Ok(())
 }
 
-/// Adds the rows of a name in what a record admits, by what was found out of its slice. A slice without the name is not
-/// hashed.
+/// Adds the rows of a name in what a record admits. A slice without the name is not hashed.
 fn push_names(
     rows: &mut Vec<OwnedNameRow, Heap>,
     heap: &Heap,
-    bytes: &[u8],
-    found: Option<SliceFacts>,
+    record: &Record<'_>,
     name: &[u8],
 ) -> Result<(), NoMemory>
-    requires { IsFound bytes.now found }
+    requires { IsOperation (operation_lent record.now) }
     ensures { OnOk result (map owned_name_view rows.new.items
-        ≡ map owned_name_view rows.old.items ++ names_of name.now bytes.now) }
+        ≡ map owned_name_view rows.old.items ++ names_of name.now (lent_bytes record.now)) }
 {
-    let Some(facts) = found else {
+    let Record::Admit(slice) = record else {
         return Ok(());
     };
-    let slice = CheckedSlice::of_checked(&bytes[ADMISSION_HEAD_LEN..], facts);
-    if !has_name(&slice, name) {
+    if !slice.has_name(name) {
         return Ok(());
     }
-    push_rows(rows, heap, &slice, name)
+    push_rows(rows, heap, slice, name)
 }
 
 /// Puts rows in order, and leaves each once.
@@ -114,13 +100,8 @@ impl<'n> FromRecords for NameRows<'n> {
         NameRows { rows, name }
     }
 
-    fn take(
-        &mut self,
-        heap: &Heap,
-        bytes: &[u8],
-        found: Option<SliceFacts>,
-    ) -> Result<(), NoMemory> {
-        push_names(&mut self.rows, heap, bytes, found, self.name)
+    fn take(&mut self, heap: &Heap, reader: &RecordReader) -> Result<(), NoMemory> {
+        push_names(&mut self.rows, heap, &reader.record(), self.name)
     }
 
     fn finish(self, _heap: &Heap) -> Result<Vec<OwnedNameRow, Heap>, NoMemory> {
@@ -191,17 +172,13 @@ impl<'n> FromRecords for Gathering<'n> {
         question
     }
 
-    fn take(
-        &mut self,
-        heap: &Heap,
-        bytes: &[u8],
-        found: Option<SliceFacts>,
-    ) -> Result<(), NoMemory> {
-        if found.is_none() {
-            self.found.retired.push(entry_of(bytes, found))?;
+    fn take(&mut self, heap: &Heap, reader: &RecordReader) -> Result<(), NoMemory> {
+        let record = reader.record();
+        if let Record::Retire(key, digest) = record {
+            self.found.retired.push(Entry::Retirement(key, digest))?;
             return Ok(());
         }
-        push_names(&mut self.found.rows, heap, bytes, found, self.name)
+        push_names(&mut self.found.rows, heap, &record, self.name)
     }
 
     fn finish(self, _heap: &Heap) -> Result<NamesFound, NoMemory> {

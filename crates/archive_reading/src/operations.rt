@@ -3,9 +3,8 @@
 ghost use Rattle.archive_records.specs.declared.kind.TextKind.TheVariants.{Operations};
 ghost use Rattle.archive_records.specs.Reading.{ReadsWhole};
 
-use crate::reading::operation_of;
-use archive_core::{Operation, SliceFacts};
-use archive_records::{FromRecords, RecordFault, TextKind, tell_text};
+use archive_core::Operation;
+use archive_records::{FromRecords, RecordFault, RecordReader, TextKind, tell_text};
 use byte_device::Source;
 use memory::{Heap, NoMemory};
 
@@ -32,13 +31,8 @@ impl FromRecords for Listed {
         Listed(Vec::new(heap))
     }
 
-    fn take(
-        &mut self,
-        heap: &Heap,
-        bytes: &[u8],
-        found: Option<SliceFacts>,
-    ) -> Result<(), NoMemory> {
-        let operation = operation_of(heap.clone()?, bytes, found)?;
+    fn take(&mut self, heap: &Heap, reader: &RecordReader) -> Result<(), NoMemory> {
+        let operation = reader.record().copy(heap.clone()?)?;
         self.0.push(operation)?;
         Ok(())
     }

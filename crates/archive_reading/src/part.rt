@@ -8,8 +8,8 @@ ghost use Rattle.archive_records.specs.declared.kind.TextKind.TheVariants.{Archi
 ghost use Rattle.archive_records.specs.Reading.{ReadsInPart};
 
 use crate::reading::take_record;
-use archive_core::{Archive, SliceFacts};
-use archive_records::{FromRecords, RecordFault, TextKind, tell_text};
+use archive_core::Archive;
+use archive_records::{FromRecords, RecordFault, RecordReader, TextKind, tell_text};
 use byte_device::Source;
 use memory::{Heap, NoMemory};
 
@@ -66,16 +66,11 @@ impl<'a, A: Archive + Drop, S: Selects> FromRecords for Part<'a, A, S> {
         Part { archive, select }
     }
 
-    fn take(
-        &mut self,
-        heap: &Heap,
-        bytes: &[u8],
-        found: Option<SliceFacts>,
-    ) -> Result<(), NoMemory> {
-        if !self.select.picks(bytes) {
+    fn take(&mut self, heap: &Heap, reader: &RecordReader) -> Result<(), NoMemory> {
+        if !self.select.picks(reader.last()) {
             return Ok(());
         }
-        take_record(&mut self.archive, heap, bytes, found)
+        take_record(&mut self.archive, heap, &reader.record())
     }
 
     fn finish(self, _heap: &Heap) -> Result<A, NoMemory> {

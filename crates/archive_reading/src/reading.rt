@@ -1,47 +1,25 @@
 //! Archives that are read from a source.
 
-ghost use Rattle.std.specs.Prelude.{◌≡◌, OnOk, IfOk};
-ghost use Rattle.archive_core.specs.Record.{record_bytes, IsOperation};
+ghost use Rattle.std.specs.Prelude.{◌≡◌, OnOk};
+ghost use Rattle.archive_core.specs.Record.{lent_bytes};
 ghost use Rattle.archive_core.specs.Content.{with_record};
 ghost use Rattle.archive_records.specs.declared.kind.TextKind.TheVariants.{Archive};
 ghost use Rattle.archive_records.specs.Reading.{ReadsWhole, ReadsFront};
-ghost use Rattle.archive_records.specs.Reader.{IsFound};
 
-use archive_core::{Archive, Operation, Slice, SliceFacts};
-use archive_records::{
-    ADMISSION_HEAD_LEN, FromRecords, RecordFault, TextKind, digest_in, key_in, read_text, tell_text,
-};
+use archive_core::{Archive, Record};
+use archive_records::{FromRecords, RecordFault, RecordReader, TextKind, read_text, tell_text};
 use byte_device::Source;
 use memory::{Heap, NoMemory};
-
-/// The operation of a record, by what was found out of its slice. The slice is copied, and not checked again.
-pub fn operation_of(
-    heap: Heap,
-    bytes: &[u8],
-    found: Option<SliceFacts>,
-) -> Result<Operation, NoMemory>
-    requires { IsFound bytes.now found }
-    ensures valid { IfOk result (λ operation. IsOperation operation) }
-    ensures bytes { IfOk result (λ operation. record_bytes operation ≡ bytes.now) }
-{
-    let Some(facts) = found else {
-        return Ok(Operation::Retire(key_in(bytes), digest_in(bytes)));
-    };
-    let slice = Vec::from_slice(heap, &bytes[ADMISSION_HEAD_LEN..])?;
-    Ok(Operation::Admit(Slice::of_checked(slice, facts)))
-}
 
 /// Takes the operation of a record.
 pub(crate) fn take_record<A: Archive>(
     archive: &mut A,
     heap: &Heap,
-    bytes: &[u8],
-    found: Option<SliceFacts>,
+    record: &Record<'_>,
 ) -> Result<(), NoMemory>
-    requires { IsFound bytes.now found }
-    ensures { OnOk result (A.content archive.new ≡ with_record (A.content archive.old) bytes.now) }
+    ensures { OnOk result (A.content archive.new ≡ with_record (A.content archive.old) (lent_bytes record.now)) }
 {
-    let operation = operation_of(heap.clone()?, bytes, found)?;
+    let operation = record.copy(heap.clone()?)?;
     archive.take(operation)?;
     Ok(())
 }
@@ -69,13 +47,8 @@ impl<A: Archive> FromRecords for Whole<A> {
         Whole(A::empty(heap))
     }
 
-    fn take(
-        &mut self,
-        heap: &Heap,
-        bytes: &[u8],
-        found: Option<SliceFacts>,
-    ) -> Result<(), NoMemory> {
-        take_record(&mut self.0, heap, bytes, found)
+    fn take(&mut self, heap: &Heap, reader: &RecordReader) -> Result<(), NoMemory> {
+        take_record(&mut self.0, heap, &reader.record())
     }
 
     fn finish(self, _heap: &Heap) -> Result<A, NoMemory> {

@@ -1,60 +1,17 @@
 //! What a list of an archive tells, record by record.
 
-ghost use Rattle.std.specs.Prelude.{◌≡◌, None, OnOk};
+ghost use Rattle.std.specs.Prelude.{OnOk};
 ghost use Rattle.join_core.specs.Listing.{listing};
-ghost use Rattle.archive_core.specs.Key.{IsKey};
 ghost use Rattle.archive_core.specs.Content.{Operations, IsContent};
-ghost use Rattle.archive_core.specs.Find.{row_of};
 ghost use Rattle.archive_core.specs.Lists.{IsList};
-ghost use Rattle.archive_core.specs.declared.operations.Operation.TheVariants.{Admit};
 ghost use Rattle.archive_records.specs.declared.kind.TextKind.TheVariants.{Archive};
 ghost use Rattle.archive_records.specs.Reading.{ReadsInPart};
-ghost use Rattle.archive_records.specs.Reader.{IsFound};
-ghost use Rattle.archive_reading.specs.InnerRows.{AreRowsOf, IsRowOf};
+ghost use Rattle.archive_reading.specs.InnerRows.{AreRowsOf};
 
-use archive_core::{CheckedSlice, FindRow, FindState, SliceFacts, compare_keys};
-use archive_records::{
-    ADMISSION_HEAD_LEN, FromRecords, RecordFault, TextKind, digest_in, key_in, tell_text,
-};
+use archive_core::{FindRow, compare_keys};
+use archive_records::{FromRecords, RecordFault, RecordReader, TextKind, tell_text};
 use byte_device::Source;
 use memory::{Heap, NoMemory};
-
-/// The row of a retirement.
-fn row_of_retirement(bytes: &[u8]) -> FindRow
-    requires { IsFound bytes.now None }
-    ensures { IsRowOf bytes.now result }
-{
-    FindRow {
-        key: key_in(bytes),
-        digest: digest_in(bytes),
-        state: FindState::Retired,
-    }
-}
-
-/// The row of a slice, which is hashed.
-fn row_of_slice(slice: &CheckedSlice<'_>) -> FindRow
-    ensures row { result ≡ row_of (Admit slice.now) }
-    ensures key { IsKey result.key }
-{
-    FindRow {
-        key: slice.key(),
-        digest: slice.digest(),
-        state: FindState::of_image(&slice.image()),
-    }
-}
-
-/// The row of a record, by what was found out of its slice.
-fn row_in(bytes: &[u8], found: Option<SliceFacts>) -> FindRow
-    requires { IsFound bytes.now found }
-    ensures { IsRowOf bytes.now result }
-{
-    match found {
-        None => row_of_retirement(bytes),
-        Some(facts) => {
-            row_of_slice(&CheckedSlice::of_checked(&bytes[ADMISSION_HEAD_LEN..], facts))
-        }
-    }
-}
 
 /// Puts rows that come in the order of their records in that of a list: by key, and those of a key as they came.
 fn put_rows_in_order(rows: &mut Vec<FindRow, Heap>) -> Result<(), NoMemory>
@@ -88,13 +45,8 @@ impl FromRecords for Rows {
         Rows(Vec::new(heap))
     }
 
-    fn take(
-        &mut self,
-        _heap: &Heap,
-        bytes: &[u8],
-        found: Option<SliceFacts>,
-    ) -> Result<(), NoMemory> {
-        self.0.push(row_in(bytes, found))?;
+    fn take(&mut self, _heap: &Heap, reader: &RecordReader) -> Result<(), NoMemory> {
+        self.0.push(FindRow::of(&reader.record()))?;
         Ok(())
     }
 

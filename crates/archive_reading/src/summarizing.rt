@@ -1,33 +1,15 @@
 //! The summary of an archive, record by record.
 
 ghost use Rattle.std.specs.Prelude.{◌≡◌};
-ghost use Rattle.archive_core.specs.Summary.{entry, summary};
-ghost use Rattle.archive_records.specs.Entry.{entry_bytes};
+ghost use Rattle.archive_core.specs.Summary.{summary};
 ghost use Rattle.archive_records.specs.declared.kind.TextKind.TheVariants.{Archive};
 ghost use Rattle.archive_records.specs.Reading.{ReadsInPart};
-ghost use Rattle.archive_records.specs.Reader.{IsFound};
 
-use archive_core::{CheckedSlice, SliceFacts};
 use archive_records::{
-    ADMISSION_HEAD_LEN, Entry, FromRecords, RecordFault, Summary, TextKind, digest_in, key_in,
-    tell_text,
+    Entry, FromRecords, RecordFault, RecordReader, Summary, TextKind, tell_text,
 };
 use byte_device::Source;
 use memory::{Heap, NoMemory};
-
-/// The entry of a record, by what was found out of its slice, which is hashed where its digest was not.
-pub fn entry_of(bytes: &[u8], found: Option<SliceFacts>) -> Entry
-    requires { IsFound bytes.now found }
-    ensures { entry_bytes result ≡ entry bytes.now }
-{
-    match found {
-        None => Entry::Retirement(key_in(bytes), digest_in(bytes)),
-        Some(facts) => {
-            let slice = CheckedSlice::of_checked(&bytes[ADMISSION_HEAD_LEN..], facts);
-            Entry::Admission(slice.key(), slice.digest())
-        }
-    }
-}
 
 /// Entries, one after another.
 #[derive(Drop)]
@@ -53,13 +35,8 @@ impl FromRecords for Entries {
         Entries(Vec::new(heap))
     }
 
-    fn take(
-        &mut self,
-        _heap: &Heap,
-        bytes: &[u8],
-        found: Option<SliceFacts>,
-    ) -> Result<(), NoMemory> {
-        self.0.push(entry_of(bytes, found))?;
+    fn take(&mut self, _heap: &Heap, reader: &RecordReader) -> Result<(), NoMemory> {
+        self.0.push(Entry::of(&reader.record()))?;
         Ok(())
     }
 

@@ -3,8 +3,7 @@
 ghost use Rattle.archive_records.specs.declared.kind.TextKind.TheVariants.{Archive};
 ghost use Rattle.archive_records.specs.Reading.{ReadsInPart};
 
-use archive_core::SliceFacts;
-use archive_records::{FromRecords, RecordFault, TextKind, tell_text};
+use archive_records::{FromRecords, RecordFault, RecordReader, TextKind, tell_text};
 use byte_device::Source;
 use memory::{Heap, NoMemory};
 
@@ -29,12 +28,7 @@ impl FromRecords for Nothing {
         Nothing
     }
 
-    fn take(
-        &mut self,
-        _heap: &Heap,
-        _bytes: &[u8],
-        _found: Option<SliceFacts>,
-    ) -> Result<(), NoMemory> {
+    fn take(&mut self, _heap: &Heap, _reader: &RecordReader) -> Result<(), NoMemory> {
         Ok(())
     }
 

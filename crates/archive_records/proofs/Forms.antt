@@ -20,7 +20,7 @@ use Rattle.archive_records.specs.Fault.{is_end, RefusesSlice, Refuses}
 use Rattle.archive_records.specs.Reader.{IsFound, IsFoundIn}
 use Rattle.archive_records.proofs.Formats.{framed_old}
 use Rattle.archive_records.proofs.Framed.{framed-whole}
-use Rattle.archive_records.proofs.Heads.{read_key}
+use Rattle.archive_core.proofs.Heads.{read_key}
 use Rattle.archive_records.proofs.Holds.{holds, done, body_one, body_two, whole-retirement, whole-admission}
 use Rattle.archive_records.proofs.SliceFacts.{short_slice, no_slice_fault}
 use Rattle.archive_records.specs.declared.format.Format.{Format}

@@ -1,4 +1,3 @@
-pub mod Heads
 pub mod Puts
 pub mod Formats
 pub mod Framed
@@ -12,7 +11,8 @@ pub mod Ends
 pub mod Apart
 pub mod Longest
 pub mod KeptRecords
-pub mod Fronted
+pub mod FoundOut
+pub mod Shared
 pub mod Grown
 pub mod FaultKinds
 pub mod Undecided

@@ -1,5 +1,5 @@
 -- The entries that a summary keeps.
-use Rattle.std.proofs.Common.{◌≡◌, ℕ, ◌+◌, ◌<◌, Bool, true, false, cond, ◌||◌, List, [], ◌∷◌, ◌++◌, length, map, take, drop, get_or, ◌==◌, if◌then◌else◌, refl, sym, ap, ◌∙◌, subst, inl, inr, ◌⊎◌, Result, Ok, Err}
+use Rattle.std.proofs.Common.{◌≡◌, ℕ, ◌+◌, ◌<◌, Bool, true, false, cond, ◌||◌, List, [], ◌∷◌, ◌++◌, length, map, take, get_or, refl, sym, ap, ◌∙◌, subst, inl, inr, ◌⊎◌, Result, Ok, Err}
 use Rattle.std.specs.Ordering.{eq_by_cmp, is_lt}
 use Rattle.std.specs.declared.cmp.Ordering.TheVariants.{Less}
 use Rattle.std.specs.Cmp.{Equal-is, on_total}
@@ -15,8 +15,7 @@ use Rattle.std.specs.Prelude.{Result, Ok, Err, is_ok, map}
 use Rattle.join_core.specs.Listing.{listing}
 use Rattle.join_core.specs.InnerSearch.{IsFound}
 use Rattle.archive_core.specs.Record.{IsRecord}
-use Rattle.sha2.specs.Sha256.{sha256}
-use Rattle.archive_core.specs.Content.{Operations, IsContent, key_and_digest}
+use Rattle.archive_core.specs.Content.{Operations, IsContent}
 use Rattle.archive_core.specs.Summary.{entry, summary}
 use Rattle.archive_core.proofs.Entries.{admission_entry, retirement_entry, length-entry}
 use Rattle.archive_core.proofs.Summaries.{member_of_entry}
@@ -138,11 +137,6 @@ summary_of_entries o entries are = ap set.from_list are
 pub entries_more : (before after : List Entry) (e : Entry) (records : List (List ℕ)) (r : List ℕ) → after ≡ before ++ e ∷ [] → entry_bytes e ≡ entry r → map entry_bytes before ≡ map entry records → map entry_bytes after ≡ map entry (records ++ r ∷ [])
 entries_more before after e records r grown of are =
     ap (map entry_bytes) grown ∙ map-append entry_bytes before (e ∷ []) ∙ (λ i. are i ++ of i ∷ []) ∙ sym (map-append entry records (r ∷ []))
-
--- the entry of an admission, by its key and the digest of its slice
-pub entry_of_admission : (bytes key digest : List ℕ) → get_or bytes 0 0 ≡ 2 → key ≡ take 24 (drop 1 bytes) → digest ≡ sha256 (drop 33 bytes) → 2 ∷ (key ++ digest) ≡ entry bytes
-unfolding entry key_and_digest
-entry_of_admission bytes key digest tag k d = (λ i. 2 ∷ (k i ++ d i)) ∙ sym (ap (λ n. if n == 2 then 2 ∷ (take 24 (drop 1 bytes) ++ sha256 (drop 33 bytes)) else bytes) tag)
 
 -- one entry more
 pub named_more : (xs grown : List Entry) (e : Entry) (records : List (List ℕ)) (bytes : List ℕ) → grown ≡ xs ++ e ∷ [] → entry_bytes e ≡ bytes → map entry_bytes xs ≡ records → map entry_bytes grown ≡ records ++ bytes ∷ []

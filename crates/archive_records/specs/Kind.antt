@@ -34,13 +34,6 @@ magic_of OldArchive = old_magic
 magic_of Operations = operations_magic
 magic_of Summary = summary_magic
 
--- what stands between the magic and what ends the file: records of operations, or entries
-abbrev pub IsItem : Format → List ℕ → Type 0
-IsItem Archive item = IsRecord item
-IsItem OldArchive item = IsRecord item
-IsItem Operations item = IsRecord item
-IsItem Summary item = IsEntry item
-
 -- how long the head of an admission is; an entry is a head alone
 abbrev pub admission_length : Format → ℕ
 admission_length Archive = 33
@@ -73,6 +66,16 @@ kind_of Archive = Archive_text
 kind_of OldArchive = Archive_text
 kind_of Operations = Operations_text
 kind_of Summary = Summary_text
+
+-- what stands between the magic and what ends such a file: records of operations, or entries
+abbrev pub IsItemOf : TextKind → List ℕ → Type 0
+IsItemOf Archive_text item = IsRecord item
+IsItemOf Operations_text item = IsRecord item
+IsItemOf Summary_text item = IsEntry item
+
+-- the same of a file of this format
+abbrev pub IsItem : Format → List ℕ → Type 0
+IsItem file item = IsItemOf (kind_of file) item
 
 -- the format in which bytes are read that should be an archive's: the eighth of them tells its version, and where it is
 -- not that of the first, the second is meant

@@ -1,7 +1,8 @@
 -- Records that are read from a source one over the other: the words of the inner functions. No contract of a public one
 -- has them.
 use Rattle.std.specs.Prelude.{◌≡◌, ◌≢◌, ℕ, ◌+◌, ◌*◌, ◌^◌, ◌<◌, ◌≤◌, Bool, true, false, List, [], ◌∷◌, ◌++◌, length}
-use Rattle.std.specs.Prelude.{take, drop, Option, Some, None, Result, Ok, Err, MatchResult, ◌⊎◌}
+use Rattle.std.specs.Prelude.{take, drop, Option, Some, None, Result, Ok, Err, MatchResult, ◌⊎◌, ◌==◌, ◌&&◌}
+use Rattle.std.specs.Prelude.{if◌then◌else◌, slice_index}
 use Rattle.std.specs.List.{concat, AllByRecursion}
 use Rattle.std.specs.List.Sorted.{IsStrictlySortedBy}
 use Rattle.std.specs.declared.cmp.Ordering.TheVariants.{Equal}
@@ -128,6 +129,19 @@ pub record Position : Type 0 where
 -- the set of these records
 abbrev pub set_of : List (List ℕ) → Operations
 set_of records = set.from_list records
+
+-- Of several readers that share retirements: those that are shared, if any are, and those that one keeps itself.
+abbrev pub with_shared : Option (List (List ℕ)) → List (List ℕ) → List (List ℕ)
+with_shared None own = own
+with_shared (Some shared) own = shared ++ own
+
+-- where a reader stands if what it shares counts as its own
+abbrev pub beside : Option (List (List ℕ)) → Position → Position
+beside shared position = record position { retired = with_shared shared position.retired }
+
+-- these bytes, where they are as long as a retirement and have its tag
+abbrev pub retirement_in : List ℕ → Option (List ℕ)
+retirement_in bytes = if length bytes == 57 && slice_index bytes 0 == 1 then Some bytes else None
 
 -- The same retirements are in both sets: their tag is 1.
 abbrev pub RetireAlike : Operations → Operations → Type 0

@@ -7,8 +7,8 @@ ghost use Rattle.archive_core.specs.Record.{lent_bytes};
 ghost use Rattle.archive_core.specs.Summary.{entry};
 ghost use Rattle.archive_records.specs.Entry.{entry_bytes, IsEntry};
 
-use crate::head::{ADMISSION, RETIREMENT, digest_in, key_in, tagged_bytes};
-use archive_core::{Digest, Record, SliceKey};
+use crate::head::{ADMISSION, digest_in, key_in};
+use archive_core::{Digest, RETIREMENT, Record, SliceKey, tagged_bytes};
 use std::cmp::Ordering;
 
 /// An operation without the bytes of its slice.

@@ -5,20 +5,21 @@ ghost use Rattle.std.specs.Prelude.{IfSome, length, slice_index, take, drop};
 ghost use Rattle.std.specs.Int.{w32, w64, from_be_bytes, to_be_bytes};
 ghost use Rattle.archive_core.specs.Key.{IsKey, key_bytes};
 ghost use Rattle.archive_core.specs.Valid.{key_of};
-ghost use Rattle.archive_core.specs.Record.{retirement_record};
+ghost use Rattle.archive_core.specs.Record.{IsOperation, lent_bytes, operation_lent};
 ghost use Rattle.archive_records.specs.Kind.{admission_length, end_length};
 ghost use Rattle.archive_records.specs.Layout.{head_length, admission_body, body_length, record_count};
+ghost use Rattle.archive_records.specs.Reader.{IsFound};
 ghost use Rattle.archive_records.specs.Text.{end_record};
 
 use crate::format::Format;
-use archive_core::{ArchKey, Digest, Slice, SliceKey};
+use archive_core::{
+    ArchKey, CheckedSlice, Digest, RETIREMENT, Record, SliceFacts, SliceKey, key_front,
+};
 use byteorder::{BigEndian, ByteOrder};
 use uuid::Uuid;
 
 /// How many bytes stand before the first record.
 pub const MAGIC_LEN: u128 = 8;
-
-pub const RETIREMENT: u8 = 1;
 
 pub const ADMISSION: u8 = 2;
 
@@ -111,33 +112,6 @@ pub fn record_count_of(end: &[u8]) -> u64
     length_at(end, 1)
 }
 
-// A UUID has sixteen bytes.
-fn uuid_bytes(uuid: &Uuid) -> &[u8]
-    ensures bytes { result.now ≡ uuid.now }
-    ensures sixteen { length result.now ≡ 16 }
-{
-    uuid.as_bytes()
-}
-
-/// Lays the bytes of a key.
-fn lay_key(part: &mut [u8], key: &SliceKey)
-    requires { length part.old ≡ 24 }
-    ensures { part.new ≡ key_bytes key.now }
-{
-    part[..16].copy_from_slice(uuid_bytes(&key.uuid));
-    part[16..20].copy_from_slice(&key.arch.cputype.to_be_bytes());
-    part[20..].copy_from_slice(&key.arch.cpusubtype.to_be_bytes());
-}
-
-/// The bytes of a key, as they stand behind a record's tag.
-pub fn key_front(key: &SliceKey) -> [u8; 24]
-    ensures { result ≡ key_bytes key.now }
-{
-    let mut whole = [0; 24];
-    lay_key(&mut whole, key);
-    whole
-}
-
 /// Whether a whole record has the key.
 pub fn has_key(bytes: &[u8], key: &SliceKey) -> bool
     requires { 25 ≤ length bytes.now }
@@ -148,34 +122,16 @@ pub fn has_key(bytes: &[u8], key: &SliceKey) -> bool
 }
 
 /// What stands before the slice in its admission's record.
-pub fn admission_head(slice: &Slice) -> [u8; 33]
+pub fn admission_head(slice: &CheckedSlice<'_>) -> [u8; 33]
     ensures head { result ≡ 2 ∷ (key_bytes (key_of slice.now) ++ to_be_bytes w64 (length slice.now)) }
     ensures short { length slice.now < 2 ^ 32 }
 {
     let mut head = [0; ADMISSION_HEAD_LEN];
     head[0] = ADMISSION;
-    lay_key(&mut head[1..25], &slice.key());
+    head[1..25].copy_from_slice(&key_front(&slice.key()));
     let length = slice.bytes().len() as u64;
     head[25..].copy_from_slice(&length.to_be_bytes());
     head
-}
-
-/// A tag, a key and a digest.
-pub fn tagged_bytes(tag: u8, key: &SliceKey, digest: &Digest) -> [u8; 57]
-    ensures { result ≡ tag ∷ (key_bytes key.now ++ digest.now.0) }
-{
-    let mut bytes = [0; ENTRY_LEN];
-    bytes[0] = tag;
-    lay_key(&mut bytes[1..25], key);
-    bytes[25..].copy_from_slice(&digest.0);
-    bytes
-}
-
-/// The record of a retirement.
-pub fn retirement_bytes(key: &SliceKey, digest: &Digest) -> [u8; 57]
-    ensures { result ≡ retirement_record key.now digest.now.0 }
-{
-    tagged_bytes(RETIREMENT, key, digest)
 }
 
 /// The end record of so many records.
@@ -222,4 +178,18 @@ pub fn digest_in(bytes: &[u8]) -> Digest
     let mut digest = [0; 32];
     digest.copy_from_slice(&bytes[25..57]);
     Digest(digest)
+}
+
+/// The record that these bytes are, by what was found out of its slice.
+pub fn record_in(bytes: &[u8], found: Option<SliceFacts>) -> Record<'_>
+    requires { IsFound bytes.now found }
+    ensures bytes { lent_bytes result ≡ bytes.now }
+    ensures operation { IsOperation (operation_lent result) }
+{
+    match found {
+        None => Record::Retire(key_in(bytes), digest_in(bytes)),
+        Some(facts) => {
+            Record::Admit(CheckedSlice::of_checked(&bytes[ADMISSION_HEAD_LEN..], facts))
+        }
+    }
 }

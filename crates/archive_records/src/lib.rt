@@ -39,13 +39,11 @@ mod retired;
 mod summary;
 mod writing;
 
+pub use archive_core::{key_front, retirement_bytes};
 pub use entry::Entry;
 pub use fault::{MergeCause, MergeFault, RecordFault, RecordFaultKind};
 pub use format::Format;
-pub use head::{
-    ADMISSION_HEAD_LEN, MAGIC_LEN, admission_head, digest_in, end_bytes, key_front, key_in,
-    retirement_bytes,
-};
+pub use head::{ADMISSION_HEAD_LEN, MAGIC_LEN, admission_head, digest_in, end_bytes, key_in};
 pub use kind::TextKind;
 pub use next::NextRecord;
 pub use reader::{MOST, RecordReader};

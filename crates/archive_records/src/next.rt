@@ -17,8 +17,8 @@ use crate::buffer::Buffer;
 use crate::fault::RecordFaultKind;
 use crate::format::Format;
 use crate::frame::read_record;
-use crate::head::{ADMISSION_HEAD_LEN, END, RETIREMENT, has_key, record_count_of};
-use archive_core::{Slice, SliceFacts};
+use crate::head::{ADMISSION_HEAD_LEN, END, has_key, record_count_of};
+use archive_core::{RETIREMENT, Slice, SliceFacts};
 use byte_device::Source;
 
 /// What the reader came to.

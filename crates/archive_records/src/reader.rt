@@ -2,25 +2,27 @@
 
 ghost use Rattle.std.specs.Prelude.{◌≡◌, ◌≢◌, ◌-◌, ◌<◌, ◌≤◌, ℕ, List, Option, Some, [], length, ◌⊎◌, true};
 ghost use Rattle.std.specs.Prelude.{false};
-ghost use Rattle.std.specs.Prelude.{OnOk, IfOk, IfErr};
+ghost use Rattle.std.specs.Prelude.{OnOk, IfOk, IfErr, ◌++◌, option_map};
+ghost use Rattle.std.specs.FinSet as set;
 ghost use Rattle.archive_core.specs.Content.{is_covered};
-ghost use Rattle.archive_core.specs.Record.{IsRecord};
+ghost use Rattle.archive_core.specs.Record.{IsOperation, IsRecord, lent_bytes, operation_lent};
 ghost use Rattle.std.specs.Io.KnownBytes.{Consumes, IsAtEnd};
 ghost use Rattle.archive_records.specs.declared.format.Format.{Format};
 ghost use Rattle.archive_records.specs.declared.format.Format.TheVariants.{Archive};
 ghost use Rattle.archive_records.specs.declared.fault.RecordFaultKind.TheVariants.{Covered, OutOfMemory};
 ghost use Rattle.archive_records.specs.Kind.{magic_of, kind_of, end_length};
 ghost use Rattle.archive_records.specs.Reader.{Position, Bounds, Advances, BlamesReader, FaultBlamesReader, KeepsIn};
-ghost use Rattle.archive_records.specs.Reader.{IsFoundIn, IsFoundOfLast, set_of};
+ghost use Rattle.archive_records.specs.Reader.{IsFoundIn, IsFoundOfLast, beside, retirement_in, set_of, with_shared};
 ghost use Rattle.archive_records.specs.Reader.{bytes_so_far, StopsInMagicOf, HasRead, HasReadAll, Stopped};
 
 use crate::buffer::{Buffer, fill};
 use crate::fault::{RecordFault, RecordFaultKind};
 use crate::format::Format;
+use crate::head::record_in;
 use crate::kind::TextKind;
 use crate::next::{NextRecord, read_next};
-use crate::retired::Retired;
-use archive_core::SliceFacts;
+use crate::retired::{retirement_in, retires_beside, take};
+use archive_core::{Record, Retirements, SliceFacts};
 use byte_device::{Failed, Source, is_at_end};
 use memory::{Heap, NoMemory};
 use std::cmp::Ordering;
@@ -46,7 +48,7 @@ pub struct RecordReader {
     /// How many bytes were read of the magic and the records.
     offset: u128,
     /// The retirements of an archive's text.
-    retired: Retired,
+    retired: Retirements,
     /// Whether the last record is dropped.
     dropped: bool,
 }
@@ -106,25 +108,27 @@ fn read_magic<R: Source>(
     }
 }
 
-/// What the retirements of an archive say of one item more: whether it is dropped, and one more is kept. In an archive
-/// of version 1 what is covered is dropped, and no fault.
+/// What the retirements of an archive, and those that it shares, say of one item more: whether it is dropped, and one
+/// more is kept. In an archive of version 1 what is covered is dropped, and no fault.
 fn keep(
     file: Format,
-    retired: &mut Retired,
+    shared: Option<&Retirements>,
+    retired: &mut Retirements,
     bytes: &[u8],
     found: &mut Option<SliceFacts>,
 ) -> Result<bool, RecordFaultKind>
     requires { IsFoundIn (kind_of file) bytes.now found.old }
     ensures found { IsFoundIn (kind_of file) bytes.now found.new }
-    ensures kept { IfOk result (λ dropped. KeepsIn file retired.old retired.new dropped bytes.now) }
+    ensures kept { IfOk result (λ dropped. KeepsIn file (with_shared (option_map (λ s. s.now) shared.entry) retired.old)
+        (with_shared (option_map (λ s. s.now) shared.entry) retired.new) dropped bytes.now) }
     ensures refused { IfErr result (λ kind.
-        ((kind ≡ OutOfMemory) × (is_covered (set_of retired.old) bytes.now ≡ false))
-        ⊎ ((kind ≡ Covered) × (file ≡ Archive) × (is_covered (set_of retired.old) bytes.now ≡ true))) }
+        let there = is_covered (set_of (with_shared (option_map (λ s. s.now) shared.entry) retired.old)) bytes.now in
+        ((kind ≡ OutOfMemory) × (there ≡ false)) ⊎ ((kind ≡ Covered) × (file ≡ Archive) × (there ≡ true))) }
 {
     match file {
         Format::Operations | Format::Summary => Ok(false),
-        Format::OldArchive => retired.take(bytes, found),
-        Format::Archive => match retired.take(bytes, found) {
+        Format::OldArchive => take(shared, retired, bytes, found),
+        Format::Archive => match take(shared, retired, bytes, found) {
             Ok(true) => Err(RecordFaultKind::Covered),
             kept => kept,
         },
@@ -148,7 +152,7 @@ impl RecordReader {
         let Ok(mut chunk) = chunk_of(CHUNK, &heap) else {
             return Err(RecordFault::out_of_memory(0));
         };
-        let Ok(kept) = heap.clone() else {
+        let Ok(retired) = Retirements::none(&heap) else {
             return Err(RecordFault::out_of_memory(0));
         };
         let mut buffer = Buffer {
@@ -168,7 +172,7 @@ impl RecordReader {
             chunk,
             count: 0,
             offset: 8,
-            retired: Retired::none(kept),
+            retired,
             dropped: false,
         })
     }
@@ -178,6 +182,15 @@ impl RecordReader {
         ensures { result.now ≡ self.now.last }
     {
         &self.buffer.bytes
+    }
+
+    /// The last record, lent. Its slice is not tested again.
+    pub fn record(&self) -> Record<'_>
+        requires { IsRecord self.now.last }
+        ensures bytes { lent_bytes result ≡ self.now.last }
+        ensures operation { IsOperation (operation_lent result) }
+    {
+        record_in(&self.buffer.bytes, self.found)
     }
 
     /// Whether the last record is dropped: a slice in an archive of version 1 that a retirement before it covers.
@@ -201,20 +214,54 @@ impl RecordReader {
         self.offset.saturating_sub(self.buffer.bytes.len() as u128)
     }
 
-    /// Whether one of the retirements that were read covers the last record of another reader. The slice of that is
-    /// hashed where a retirement of its key was read, and no reader has hashed it.
-    pub fn retires(&self, other: &mut RecordReader) -> bool
+    /// Whether one of the retirements that were read, or of those that the reader shares with another, covers the last
+    /// record of another reader. The slice of that is hashed where a retirement of its key is among them, and no reader
+    /// has hashed it.
+    pub fn retires_beside(&self, shared: &Retirements, other: &mut RecordReader) -> bool
         ensures retires { IsRecord other.old.last
-            → result ≡ is_covered (set_of self.now.retired) other.old.last }
+            → result ≡ is_covered (set_of (shared.now ++ self.now.retired)) other.old.last }
         ensures same { other.new ≡ other.old }
     {
-        self.retired.retires(&other.buffer.bytes, &mut other.found)
+        retires_beside(
+            Some(shared),
+            &self.retired,
+            &other.buffer.bytes,
+            &mut other.found,
+        )
+    }
+
+    /// The last record, where it is a retirement.
+    pub fn last_retirement(&self) -> Option<[u8; 57]>
+        ensures { result ≡ retirement_in self.now.last }
+    {
+        retirement_in(&self.buffer.bytes)
+    }
+
+    /// Forgets a retirement that is kept elsewhere, where it is the last that was read.
+    pub fn forget(&mut self, retirement: &[u8; 57])
+        ensures same { self.new ≡ record self.old { retired = self.new.retired } }
+        ensures others { set.insert (set_of self.new.retired) retirement.now
+            ≡ set.insert (set_of self.old.retired) retirement.now }
+    {
+        self.retired.forget(retirement);
     }
 
     /// Reads the next record over the last, or else what ends the file. Where memory is wanted for a record that came
     /// whole, it is the last one then, and otherwise there is none.
     pub fn advance<R: Source>(&mut self, r: &mut R) -> Result<NextRecord, RecordFault>
         ensures { Advances R.left R.failures r.old r.new self.old self.new result }
+    {
+        self.advance_beside(r, None)
+    }
+
+    /// The same where the reader shares retirements with another: they count as its own.
+    pub fn advance_beside<R: Source>(
+        &mut self,
+        r: &mut R,
+        shared: Option<&Retirements>,
+    ) -> Result<NextRecord, RecordFault>
+        ensures { Advances R.left R.failures r.old r.new (beside (option_map (λ s. s.now) shared.entry) self.old)
+            (beside (option_map (λ s. s.now) shared.entry) self.new) result }
     {
         self.found = None;
         match read_next(self.file, r, &mut self.chunk, &mut self.buffer, self.count) {
@@ -226,6 +273,7 @@ impl RecordReader {
                 self.found = found;
                 match keep(
                     self.file,
+                    shared,
                     &mut self.retired,
                     &self.buffer.bytes,
                     &mut self.found,
@@ -261,6 +309,10 @@ impl RecordReader {
         ensures at_end { OnOk result (IsAtEnd (R.left r.new) × Consumes (R.left r.old) (R.left r.new) []) }
         ensures stopped { IfErr result (λ fault. (file : Format) (a : Option (List ℕ)) (records : List (List ℕ))
             → end_length file ≡ Some 9 → HasReadAll file a (R.left r.old) records self.now
+            → Stopped file a (R.left r.new) records fault) }
+        ensures stopped_beside { IfErr result (λ fault. (shared : Option (List (List ℕ))) (file : Format)
+            (a : Option (List ℕ)) (records : List (List ℕ)) → end_length file ≡ Some 9
+            → HasReadAll file a (R.left r.old) records (beside shared self.now)
             → Stopped file a (R.left r.new) records fault) }
         ensures memory { IfErr result (λ fault. fault.kind ≢ OutOfMemory) }
         ensures reader { FaultBlamesReader R.left R.failures r.old r.new result }

@@ -4,10 +4,10 @@ ghost use Rattle.std.specs.Prelude.{◌≡◌, ◌≢◌, ◌∷◌, ◌++◌, �
 ghost use Rattle.std.specs.Io.KnownBytes.{IsAtEnd};
 ghost use Rattle.archive_records.specs.declared.kind.TextKind.{TextKind};
 ghost use Rattle.archive_records.specs.declared.fault.RecordFaultKind.TheVariants.{Trailing};
-ghost use Rattle.archive_records.specs.Reader.{FaultBlamesReader, HasStopped, HasRead, IsFoundIn};
+ghost use Rattle.archive_records.specs.Reader.{FaultBlamesReader, HasStopped, HasRead};
 ghost use Rattle.archive_records.specs.Reader.{GathersAll, IsGathered, MakeThemselves};
 ghost use Rattle.archive_records.specs.Reading.{IsMeaning, Meaning, ReadsInPart, records_in};
-ghost use Rattle.archive_records.specs.Kind.{kind_of};
+ghost use Rattle.archive_records.specs.Kind.{IsItemOf, kind_of};
 ghost use Rattle.archive_records.specs.declared.format.Format.{Format};
 
 use crate::fault::RecordFault;
@@ -15,7 +15,6 @@ use crate::head::MAGIC_LEN;
 use crate::kind::TextKind;
 use crate::next::NextRecord;
 use crate::reader::RecordReader;
-use archive_core::SliceFacts;
 use byte_device::Source;
 use memory::{Heap, NoMemory};
 
@@ -44,12 +43,12 @@ pub trait FromRecords {
         requires { may_ask question }
         ensures { makes question [] result };
 
-    /// Takes one record more, of which this was found out. Refused for want of memory alone.
-    fn take(&mut self, heap: &Heap, bytes: &[u8], found: Option<SliceFacts>) -> Result<(), NoMemory>
-        requires { IsFoundIn file bytes.now found }
+    /// Takes one record more: the one that was read last. Refused for want of memory alone.
+    fn take(&mut self, heap: &Heap, reader: &RecordReader) -> Result<(), NoMemory>
+        requires { IsItemOf file reader.now.last }
         ensures { OnOk result ((question : Self.Question) (records : List (List ℕ))
-            → MakeThemselves file (records ++ bytes.now ∷ [])
-            → makes question records self.old → makes question (records ++ bytes.now ∷ []) self.new) };
+            → MakeThemselves file (records ++ reader.now.last ∷ [])
+            → makes question records self.old → makes question (records ++ reader.now.last ∷ []) self.new) };
 
     /// What is told, behind the last of them. Refused for want of memory alone.
     fn finish(self, heap: &Heap) -> Result<Self::Told, NoMemory>
@@ -77,15 +76,15 @@ fn take_records<T: FromRecords, R: Source>(
 {
     'taking: loop {
         let offset = reader.offset();
-        let found = match reader.advance(r) {
+        match reader.advance(r) {
             Ok(NextRecord::End) => return Ok(()),
-            Ok(NextRecord::Item(found)) => found,
+            Ok(NextRecord::Item(_)) => {}
             Err(fault) => return Err(fault),
-        };
+        }
         if reader.dropped() {
             continue 'taking;
         }
-        if let Err(_) = taker.take(heap, reader.last(), found) {
+        if let Err(_) = taker.take(heap, reader) {
             return Err(RecordFault::out_of_memory(offset));
         }
     }

@@ -13,8 +13,9 @@ ghost use Rattle.archive_records.specs.Reading.{ReadsWhole};
 use crate::entry::{Entry, entry_in};
 use crate::fault::RecordFault;
 use crate::kind::TextKind;
+use crate::reader::RecordReader;
 use crate::records::{FromRecords, tell_text};
-use archive_core::{Archive, SliceFacts};
+use archive_core::Archive;
 use byte_device::Source;
 use memory::{Heap, NoMemory};
 use std::marker::Model;
@@ -125,13 +126,8 @@ impl FromRecords for Named {
         Named(Vec::new(heap))
     }
 
-    fn take(
-        &mut self,
-        _heap: &Heap,
-        bytes: &[u8],
-        _found: Option<SliceFacts>,
-    ) -> Result<(), NoMemory> {
-        self.0.push(entry_in(bytes))?;
+    fn take(&mut self, _heap: &Heap, reader: &RecordReader) -> Result<(), NoMemory> {
+        self.0.push(entry_in(reader.last()))?;
         Ok(())
     }
 

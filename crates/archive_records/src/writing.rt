@@ -17,9 +17,9 @@ ghost use Rattle.archive_records.specs.Writing.{Writes};
 
 use crate::entry::Entry;
 use crate::format::Format;
-use crate::head::{admission_head, end_bytes, retirement_bytes};
+use crate::head::{admission_head, end_bytes};
 use crate::summary::Summary;
-use archive_core::{Archive, Record};
+use archive_core::{Archive, Record, retirement_bytes};
 use byte_device::{Sink, WriteFault, put};
 
 /// How large a text is: its records, and its bytes from the magic to the end record.

@@ -1,11 +1,11 @@
 -- The archives of `merge`, one more at a time.
-use Rattle.std.proofs.Common.{◌≡◌, ℕ, List, [], ◌∷◌, ◌++◌, refl, sym, ap, ◌∙◌, subst}
+use Rattle.std.proofs.Common.{◌≡◌, List, [], ◌∷◌, ◌++◌, refl, sym, ap, ◌∙◌, subst}
 use Rattle.std.specs.List.{AllByRecursion, AllZip}
 use Rattle.std.proofs.lemmas.List.Sums.{fold-append}
 use Rattle.archive_core.specs.Content.{Operations, IsContent, joined}
 use Rattle.command_ends.specs.Inputs.{Reader, IsArchive, HoldsArchive}
 use Rattle.command_ends.proofs.Archives.{each_archive, hold_more}
-use Rattle.archive_updates.specs.Merge.{HasJoined, MakesMerged}
+use Rattle.archive_updates.specs.Merge.{HasJoined}
 use Rattle.command_ends.proofs.Readers.{all_more}
 
 module _ {S : Type 0} where
@@ -25,17 +25,3 @@ module _ {S : Type 0} where
   -- what was joined is an archive
   pub joined_archives : (files : List (Reader S)) (o mid : Operations) → HasJoined files o mid → AllByRecursion IsArchive files
   joined_archives files o mid joined = each_archive files joined.contents joined.files_are joined.are_contents
-
-pub makes_merged : {R S : Type 0} (input : Reader R) (files : List (Reader S)) (o new : Operations) (lines : List ℕ)
-    → IsContent o → HoldsArchive input o → HasJoined files o new → lines ≡ []
-    → MakesMerged input files new lines
-makes_merged input files o new lines content holds joined lines_are = record {
-  before = o;
-  contents = joined.contents;
-  is_content = content;
-  are_contents = joined.are_contents;
-  archive = holds;
-  files_are = joined.files_are;
-  content_is = joined.content;
-  lines_are = lines_are;
-}

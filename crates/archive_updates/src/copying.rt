@@ -5,8 +5,9 @@ ghost use Rattle.std.specs.Prelude.{MatchResult};
 ghost use Rattle.std.specs.List.{concat};
 ghost use Rattle.std.specs.Io.KnownBytes.{Appends, Consumes, IsAtEnd};
 ghost use Rattle.archive_records.specs.Kind.{kind_of, magic};
+ghost use Rattle.archive_core.specs.Record.{lent_bytes};
 ghost use Rattle.archive_core.specs.Summary.{Entries};
-ghost use Rattle.archive_records.specs.Reader.{GathersAll, HasRead, IsFound, IsGathered};
+ghost use Rattle.archive_records.specs.Reader.{GathersAll, HasRead, IsGathered};
 ghost use Rattle.archive_records.specs.Text.{end_record, missing};
 ghost use Rattle.archive_records.specs.declared.kind.TextKind.TheVariants.{Archive};
 ghost use Rattle.byte_device.specs.Devices.{FailedIn, stream};
@@ -14,10 +15,10 @@ ghost use Rattle.byte_device.specs.Writes.{WritesFirst};
 ghost use Rattle.archive_updates.specs.Copying.{BlamesDevices, CopiesUnnamed, HasDraft, IsCause, IsCopied};
 ghost use Rattle.archive_updates.specs.Copying.{IsCopiedUpTo, IsCopiedWhole, StopsCopy, StopsEnd, StopsRecords};
 
-use archive_core::SliceFacts;
-use archive_reading::entry_of;
+use archive_core::Record;
 use archive_records::{
-    Format, MergeCause, MergeFault, NextRecord, RecordReader, Sizes, Summary, TextKind, put_end,
+    Entry, Format, MergeCause, MergeFault, NextRecord, RecordReader, Sizes, Summary, TextKind,
+    put_end,
 };
 use byte_device::{Sink, Source, WriteFault, put};
 use memory::Heap;
@@ -29,9 +30,9 @@ fn put_unnamed<W: Sink>(
     written: Sizes,
     summary: &Summary,
     bytes: &[u8],
-    found: Option<SliceFacts>,
+    record: &Record<'_>,
 ) -> Result<Sizes, WriteFault>
-    requires found { IsFound bytes.now found }
+    requires record { lent_bytes record.now ≡ bytes.now }
     requires room { written.bytes + length bytes.now < 2 ^ 128 }
     requires few { written.records + 1 < 2 ^ 64 }
     ensures ok { IfOk result (λ n. (n.bytes
@@ -46,7 +47,7 @@ fn put_unnamed<W: Sink>(
         × WritesFirst (W.held w.old) (W.held w.new) (concat (missing summary.now (bytes.now ∷ []))) k) }
     ensures failed { IfErr result (λ _. FailedIn (W.failures w.old) (W.failures w.new)) }
 {
-    if summary.has(&entry_of(bytes, found)) {
+    if summary.has(&Entry::of(record)) {
         return Ok(written);
     }
     let end = put(w, written.bytes, bytes)?;
@@ -83,20 +84,20 @@ fn copy_records<R: Source, W: Sink>(
         bytes: begun,
     };
     'copying: loop {
-        let found = match reader.advance(r) {
+        match reader.advance(r) {
             Ok(NextRecord::End) => return Ok(written),
-            Ok(NextRecord::Item(found)) => found,
+            Ok(NextRecord::Item(_)) => {}
             Err(fault) => {
                 return Err(MergeFault {
                     cause: MergeCause::Left(fault),
                     written: written.bytes,
                 });
             }
-        };
+        }
         if reader.dropped() {
             continue 'copying;
         }
-        match put_unnamed(w, written, summary, reader.last(), found) {
+        match put_unnamed(w, written, summary, reader.last(), &reader.record()) {
             Ok(more) => written = more,
             Err(fault) => {
                 return Err(MergeFault {

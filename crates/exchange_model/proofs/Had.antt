@@ -16,10 +16,6 @@ abbrev AllBelow : ℕ → List ℕ → Type 0
 AllBelow n [] = Unit {0}
 AllBelow n (f ∷ fs) = (f < n) × AllBelow n fs
 
-weaker : (n : ℕ) (fs : List ℕ) → AllBelow n fs → AllBelow (suc n) fs
-weaker n [] h = tt
-weaker n (f ∷ fs) h = (omega (arith, h.0), weaker n fs h.1)
-
 pushed : (n : ℕ) (fs : List ℕ) (b : Bool) → AllBelow n fs → AllBelow (suc n) (fs ++ (if b then n ∷ [] else []))
 pushed n [] true h = (omega arith, tt)
 pushed n [] false h = tt

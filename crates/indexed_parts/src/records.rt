@@ -4,14 +4,14 @@ ghost use Rattle.std.specs.Prelude.{◌≡◌, ◌≢◌, ◌+◌, ◌≤◌, �
 ghost use Rattle.std.specs.Prelude.{slice_index, IfErr, IfNone, IfOk, IfSome, IsTrue, MatchOption, OnOk};
 ghost use Rattle.std.specs.Int.{w64, from_be_bytes};
 ghost use Rattle.archive_core.specs.Key.{IsKey, key_bytes};
-ghost use Rattle.archive_core.specs.Record.{Admits, record_bytes, retirement_record};
+ghost use Rattle.archive_core.specs.Record.{Admits, lent_bytes, record_bytes, retirement_record};
 ghost use Rattle.archive_core.specs.declared.find.FindState.TheVariants.{Retired};
 ghost use Rattle.byte_device.specs.Devices.{FailedIn};
 ghost use Rattle.placed_bytes.specs.Places.{EndsBefore, HasSize, Stands};
 ghost use Rattle.archive_index.specs.Entry.{IsPlacedEntry, placed_bytes, placed_entry};
 ghost use Rattle.archive_index.specs.Places.{IsNamedBy};
 
-use archive_core::{CheckedSlice, Digest, FindState, Operation, Slice, SliceKey};
+use archive_core::{Digest, FindState, Operation, Record, Slice, SliceKey};
 use archive_index::PlacedEntry;
 use archive_records::{ADMISSION_HEAD_LEN, key_front};
 use byte_device::ReadFault;
@@ -58,9 +58,9 @@ fn has_key(bytes: &[u8], key: &SliceKey) -> bool
     &bytes[1..25] == &whole[..]
 }
 
-/// The slice of an admission, if these bytes are the record of one.
-fn admission_in(bytes: &[u8]) -> Option<CheckedSlice<'_>>
-    ensures found { IfSome result (λ slice. slice ≡ drop 33 bytes.now) }
+/// The record of an admission, if these bytes are one.
+fn admission_in(bytes: &[u8]) -> Option<Record<'_>>
+    ensures found { IfSome result (λ lent. lent_bytes lent ≡ bytes.now) }
     ensures admits { IfSome result (λ _. Admits bytes.now) }
     ensures none { IfNone result (Admits bytes.now → ⊥) }
 {
@@ -70,7 +70,7 @@ fn admission_in(bytes: &[u8]) -> Option<CheckedSlice<'_>>
     match Slice::check(&bytes[ADMISSION_HEAD_LEN..]) {
         Ok(slice) => {
             if has_key(bytes, &slice.key()) {
-                Some(slice)
+                Some(Record::Admit(slice))
             } else {
                 None
             }
@@ -79,14 +79,12 @@ fn admission_in(bytes: &[u8]) -> Option<CheckedSlice<'_>>
     }
 }
 
-/// Whether the record of an admission, of which this is the slice, is the one that the entry is of. The slice is
-/// hashed.
-fn is_of(entry: &PlacedEntry, bytes: &[u8], slice: &CheckedSlice<'_>) -> bool
-    requires admits { Admits bytes.now }
-    requires slice { slice.now ≡ drop 33 bytes.now }
+/// Whether a record, which is these bytes, is the one that the entry is of. Its slice is hashed.
+fn is_of(entry: &PlacedEntry, bytes: &[u8], record: &Record<'_>) -> bool
+    requires { lent_bytes record.now ≡ bytes.now }
     ensures { IsTrue result ↔ (placed_bytes entry.now ≡ placed_entry entry.now.offset bytes.now) }
 {
-    let made = PlacedEntry::of_record(bytes, Some(slice.facts()), entry.offset);
+    let made = PlacedEntry::of_record(record, entry.offset, bytes.len() as u64);
     made.bytes() == entry.bytes()
 }
 
@@ -103,11 +101,11 @@ fn admission_of(
     ensures none { IfOk result (λ found. IfNone found (Admits bytes.now
         → placed_bytes entry.now ≡ placed_entry entry.now.offset bytes.now → ⊥)) }
 {
-    let Some(slice) = admission_in(bytes) else {
+    let Some(record) = admission_in(bytes) else {
         return Ok(None);
     };
-    if is_of(entry, bytes, &slice) {
-        Ok(Some(Operation::Admit(slice.admit(heap)?)))
+    if is_of(entry, bytes, &record) {
+        Ok(Some(record.copy(heap)?))
     } else {
         Ok(None)
     }

@@ -1,6 +1,6 @@
 -- Candidates told apart by the first bytes of their names, and by where these begin.
-use Rattle.std.proofs.Common.{◌≡◌, ◌≢◌, ◌+◌, ◌<◌, ◌≤◌, ◌==◌, ◌&&◌, ◌||◌, ◌⊎◌, inl, inr, ℕ, zero, suc, Bool, true, false, not, cond, nat_lt, nat_le, List, [], ◌∷◌, length, take, Option, Some, None, refl, sym, ap, ◌∙◌, arith, length-take, subst, Contains, slice_index_or}
-use Rattle.std.specs.List.{before_first, list_any}
+use Rattle.std.proofs.Common.{◌≡◌, ◌≢◌, ◌+◌, ◌<◌, ◌≤◌, ◌==◌, ◌&&◌, ◌||◌, ◌⊎◌, inl, inr, ℕ, zero, suc, Bool, true, false, not, cond, nat_lt, nat_le, List, [], ◌∷◌, length, take, Option, Some, None, refl, sym, ap, ◌∙◌, arith, length-take, subst}
+use Rattle.std.specs.List.{before_first}
 use Rattle.std.specs.Ordering.{ordering_then, nat_cmp, bool_cmp, is_lt, is_gt, is_eq, MatchOrdering}
 use Rattle.std.specs.declared.cmp.Ordering.{Ordering}
 use Rattle.std.specs.declared.cmp.Ordering.TheVariants.{Less, Equal, Greater}
@@ -9,18 +9,15 @@ use Rattle.std.specs.Cmp.Lexicographic.{slice_cmp}
 use Rattle.std.proofs.lemmas.Cmp.{upto, ranked, tied_itself, nat_cmp_total, on_total, then_total, back_total}
 use Rattle.std.proofs.lemmas.Bool.{cases_lt}
 use Rattle.std.proofs.lemmas.Bool.Decides.{nat_tests}
-use Rattle.std.proofs.lemmas.List.{take_all, drop_all, get_or_default}
-use Rattle.std.proofs.lemmas.List.Elements.{Contains-get_or}
-use Rattle.std.proofs.lemmas.List.Folds.{list_any_at}
+use Rattle.std.proofs.lemmas.List.{take_all, drop_all}
 use Rattle.std.proofs.lemmas.Map.Lookups.{exact_unsigned, exact_bytes}
 use Rattle.macho_symbols.specs.Symbols.{Tuple, name_of}
 use Rattle.macho_symbols.specs.Nearest.{tuple_cmp}
-use Rattle.macho_symbols.specs.Overlaps.{beginning_cmp, cut_cmp, first_row, IsFirstRow, IsFirstCut, IsFirstBelow, begins_in, is_tied, ties_elsewhere, stands_before, stands_behind, AreEndsOrNone, first_of_ends}
-use Rattle.macho_symbols.proofs.ScanLemmas.{UpTo, tuples_total, upto_itself, upto_from_less, upto_back, not_less}
+use Rattle.macho_symbols.specs.Overlaps.{beginning_cmp, cut_cmp, first_row, IsFirstRow, IsFirstBy, begins_before, IsFirstBelow, begins_in, is_tied, ties_elsewhere, stands_before, stands_behind, AreEndsOrNone, first_of_ends}
 use Rattle.macho_symbols.specs.Views.{tuple_of}
 use Rattle.macho_symbols.specs.declared.candidate.Candidate.{Candidate}
 use Rattle.macho_symbols.specs.declared.ends.Ends.{Ends}
-use Rattle.macho_symbols.proofs.Order.{both_equal, exact_flags}
+use Rattle.macho_symbols.proofs.Order.{UpTo, tuples_total, upto_itself, upto_less, upto_other, not_less, both_equal, exact_flags}
 use Rattle.macho_symbols.proofs.Orders.{upto_from_not_less}
 use Rattle.macho_symbols.proofs.Overlaps.{names_total, name_behind, three_names}
 
@@ -288,19 +285,8 @@ of_two : (strings : List ℕ) (c d : Candidate) → IsFirstOfTwo strings c d (fi
 of_two strings c d = by_test (is_lt (tuple_cmp (tuple_of strings d) (tuple_of strings c))) refl
   where
     by_test : (t : Bool) → is_lt (tuple_cmp (tuple_of strings d) (tuple_of strings c)) ≡ t → IsFirstOfTwo strings c d (cond t d c)
-    by_test true e = record { member = inr refl; first = upto_from_less (tuple_of strings d) (tuple_of strings c) e; second = upto_itself (tuple_of strings d) }
-    by_test false e = record { member = inl refl; first = upto_itself (tuple_of strings c); second = upto_back (tuple_of strings d) (tuple_of strings c) e }
-
--- the first of one
-pub one_row : (strings : List ℕ) (rows : List Candidate) (d : Candidate) → length rows ≡ 1 → IsFirstRow strings (Contains rows) (slice_index_or rows 0 d)
-one_row strings rows d one = record {
-  member = Contains-get_or rows 0 d (omega arith);
-  first = λ c h.
-      let start : 0 ≡ h.0 = omega (arith, one, h.1) in
-      let same : slice_index_or rows 0 d ≡ c = get_or_default rows 0 d c (omega arith) ∙ ap (λ i. slice_index_or rows i c) start ∙ h.2 in
-      let row = tuple_of strings (slice_index_or rows 0 d) in
-      subst (λ x. tuple_cmp (tuple_of strings x) row ≢ Less) same (not_less row row (upto_itself row));
-}
+    by_test true e = record { member = inr refl; first = upto_less tuple_cmp tuples_total (tuple_of strings d) (tuple_of strings c) e; second = upto_itself (tuple_of strings d) }
+    by_test false e = record { member = inl refl; first = upto_itself (tuple_of strings c); second = upto_other tuple_cmp tuples_total (tuple_of strings d) (tuple_of strings c) e }
 
 -- whether a name has that many bytes
 pub long_from : (n size : ℕ) → nat_lt n size ≡ false → size ≤ n
@@ -310,7 +296,7 @@ pub short_from : (n size : ℕ) → nat_lt n size ≡ true → n < size
 short_from n size h = grind (arith, nat_tests)
 
 -- before the first window
-pub below_start : (strings : List ℕ) (size : ℕ) (among : Candidate → Type 0) (best : Candidate) → IsFirstCut strings size among best
+pub below_start : (strings : List ℕ) (size : ℕ) (among : Candidate → Type 0) (best : Candidate) → IsFirstBy (begins_before strings size) among best
     → size ≤ length (tuple_of strings best).name → IsFirstBelow strings size 0 among best
 below_start strings size among best is long = record {
   member = is.member;
@@ -320,7 +306,7 @@ below_start strings size among best is long = record {
 }
 
 -- and where no window is needed
-pub short_row : (strings : List ℕ) (size : ℕ) (among : Candidate → Type 0) (best : Candidate) → IsFirstCut strings size among best
+pub short_row : (strings : List ℕ) (size : ℕ) (among : Candidate → Type 0) (best : Candidate) → IsFirstBy (begins_before strings size) among best
     → length (tuple_of strings best).name < size → IsFirstRow strings among best
 short_row strings size among best is short = record {
   member = is.member;
@@ -328,29 +314,24 @@ short_row strings size among best is short = record {
 }
 
 -- or where no other name ties
-pub no_other_row : (strings : List ℕ) (size : ℕ) (rows : List Candidate) (best : Candidate) → IsFirstCut strings size (Contains rows) best
-    → list_any (ties_elsewhere strings size best) rows ≡ false → IsFirstRow strings (Contains rows) best
+pub no_other_row : (strings : List ℕ) (size : ℕ) (among : Candidate → Type 0) (best : Candidate) → IsFirstBy (begins_before strings size) among best
+    → ((c : Candidate) × among c × (ties_elsewhere strings size best c ≡ true) → ⊥) → IsFirstRow strings among best
 unfolding tuple_of
-no_other_row strings size rows best is none = record {
+no_other_row strings size among best is none = record {
   member = is.member;
-  first = λ c h. same_first size (tuple_of strings c) (tuple_of strings best) (λ e. ap (name_of strings) (same_place c h e)) (is.first c h);
+  first = λ c a. same_first size (tuple_of strings c) (tuple_of strings best) (λ e. ap (name_of strings) (same_place c a e)) (is.first c a);
 }
   where
-    true_false : true ≡ false → ⊥
-    true_false i = cc
-
     place_from : (m n : ℕ) → (m == n) ≡ true → m ≡ n
     place_from m n h = grind (arith, nat_tests)
 
-    same_place : (c : Candidate) → Contains rows c → beginning_cmp size (tuple_of strings c) (tuple_of strings best) ≡ Equal → c.strx ≡ best.strx
-    same_place c h e = by_place (c.strx == best.strx) refl
+    same_place : (c : Candidate) → among c → beginning_cmp size (tuple_of strings c) (tuple_of strings best) ≡ Equal → c.strx ≡ best.strx
+    same_place c a e = by_place (c.strx == best.strx) refl
       where
         by_place : (t : Bool) → (c.strx == best.strx) ≡ t → c.strx ≡ best.strx
         by_place true p = place_from c.strx best.strx p
         by_place false p =
-            let told : ties_elsewhere strings size best c ≡ true =
-            ap (λ t. not t && is_eq (beginning_cmp size (tuple_of strings c) (tuple_of strings best))) p ∙ ap is_eq e in
-            absurd (true_false (sym (list_any_at (ties_elsewhere strings size best) rows h.0 c h.1 (ap (ties_elsewhere strings size best) h.2 ∙ told)) ∙ none))
+            absurd (none (c, a, ap (λ t. not t && is_eq (beginning_cmp size (tuple_of strings c) (tuple_of strings best))) p ∙ ap is_eq e))
 
 module _ (strings : List ℕ) (size start : ℕ) (among : Candidate → Type 0) (best : Candidate) (some : 0 < size) (is : IsFirstBelow strings size start among best) where
   -- what does not tie with the best comes behind it
@@ -415,10 +396,10 @@ module _ (strings : List ℕ) (size start : ℕ) (among : Candidate → Type 0) 
       found = first_row strings (first_row strings best e.first) e.last
 
       tied_first : IsTied strings start size best e.first
-      tied_first = tied_from strings start size best e.first are.first_member.1
+      tied_first = tied_from strings start size best e.first are.first.member.1
 
       tied_last : IsTied strings start size best e.last
-      tied_last = tied_from strings start size best e.last are.last_member.1
+      tied_last = tied_from strings start size best e.last are.last.member.1
 
       any : (P : Candidate → Type 0) → P best → P e.first → P e.last → P found
       any P b f k = elim two.member [
@@ -427,7 +408,7 @@ module _ (strings : List ℕ) (size start : ℕ) (among : Candidate → Type 0) 
       ]
 
       among_it : among found
-      among_it = any among is.member are.first_member.0 are.last_member.0
+      among_it = any among is.member are.first.member.0 are.last.member.0
 
       alike_it : IsAlike size (tuple_of strings found) (tuple_of strings best)
       alike_it = any (λ c. IsAlike size (tuple_of strings c) (tuple_of strings best)) (alike_itself size (tuple_of strings best)) tied_first.alike tied_last.alike
@@ -447,7 +428,7 @@ module _ (strings : List ℕ) (size start : ℕ) (among : Candidate → Type 0) 
       covered : (c : Candidate) → among c → c.strx < next → (c.strx < start) ⊎ (start ≤ c.strx) → UpTo (tuple_of strings found) (tuple_of strings c)
       covered c a h (inl k) = by_best c (is.first c a k)
       covered c a h (inr k) = elim (tied_or_not strings start size best c k (omega (arith, h, l))) [
-        | inl tied ↦ by_ends (between strings start size best e.first e.last c some is.long tied_first tied_last (tied_from strings start size best c tied) (are.first c (a, tied)) (are.last c (a, tied)))
+        | inl tied ↦ by_ends (between strings start size best e.first e.last c some is.long tied_first tied_last (tied_from strings start size best c tied) (are.first.first c (a, tied)) (are.last.first c (a, tied)))
         | inr apart ↦ by_best c (untied c a apart)
       ]
         where

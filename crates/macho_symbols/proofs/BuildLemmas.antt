@@ -1,17 +1,18 @@
 -- How the rows of a table come about.
-use Rattle.std.proofs.Common.{◌↔◌, false, ◌≡◌, ◌≢◌, ℕ, ◌+◌, ◌-◌, ◌<◌, ◌≤◌, ◌⊎◌, inl, inr, List, [], ◌∷◌, ◌++◌, length, take, drop, sym, ap, ◌∙◌, arith, subst, Option, Some, None, Contains, slice_index_or, append_assoc, length-take, length-drop, length-append, slice_set}
+use Rattle.std.proofs.Common.{◌↔◌, false, ◌≡◌, ◌≢◌, ℕ, ◌+◌, ◌-◌, ◌<◌, ◌≤◌, ◌⊎◌, inl, inr, List, [], ◌∷◌, ◌++◌, length, take, drop, sym, ap, ◌∙◌, arith, subst, Option, Some, None, Contains, slice_get, slice_index_or, unwrap_or, append_assoc, length-take, length-drop, length-append, slice_set}
 use Rattle.std.specs.List.{filter_map, cons_option}
 use Rattle.std.specs.List.Sorted.{IsPermutation}
 use Rattle.std.specs.Option.{option_to_list}
 use Rattle.std.specs.declared.cmp.Ordering.TheVariants.{Less}
 use Rattle.std.proofs.lemmas.Bool.{cases_lt}
+use Rattle.std.proofs.lemmas.Option.{slice_get-get_or, slice_get_within, get_or_from_slice_get}
 use Rattle.std.proofs.lemmas.List.{append-nil, at_drop_more, at_drop_all, get_or_append_left, get_or-take, get_or-drop, get_or_default, get_or_push, drop-set-lt, drop-drop, take_more_set}
 use Rattle.std.proofs.lemmas.List.Elements.{Contains-append_left, Contains-append_right, Contains-append_cases, Contains-push, Contains-push_cases, Contains-get_or}
 use Rattle.std.proofs.lemmas.List.Sorted.{IsPermutation-sym, Contains-permutation}
 use Rattle.std.proofs.Math.Seq.{take-add}
 use Rattle.macho_symbols.specs.Nearest.{tuple_cmp}
 use Rattle.macho_symbols.specs.Views.{tuple_of}
-use Rattle.macho_symbols.specs.Overlaps.{IsFirstRow}
+use Rattle.macho_symbols.specs.Overlaps.{IsAt, IsFirstRow, IsFirstRowOrNone}
 use Rattle.macho_symbols.specs.Rows.{Precedes, IsBeside, AreFirsts}
 use Rattle.macho_symbols.specs.Halving.{AreSorted}
 use Rattle.macho_symbols.specs.declared.candidate.Candidate.{Candidate}
@@ -147,6 +148,15 @@ firsts_next strings rows firsts index size row cut beside first are = record {
         let earlier : i < length firsts = omega (arith, l, at_end) in
         subst (λ x. Precedes x (slice_index_or (firsts ++ row ∷ []) j d)) (sym (get_or_append_left firsts (row ∷ []) d i earlier))
         (subst (Precedes (slice_index_or firsts i d)) (sym (get_or_push firsts row d j at_end)) (before_row (slice_index_or firsts i d) (Contains-get_or firsts i d earlier)))
+
+-- the first of some rows, of which there is one
+pub first_found : (strings : List ℕ) (rows : List Candidate) (o : Option Candidate) (d : Candidate) → 0 < length rows
+    → IsFirstRowOrNone strings (IsAt (slice_get rows)) o → IsFirstRow strings (Contains rows) (unwrap_or o d)
+first_found strings rows None d some none = absurd (none (slice_index_or rows 0 d) (0, slice_get-get_or rows 0 d some))
+first_found strings rows (Some f) d some h = record {
+  member = (h.member.0, slice_get_within rows h.member.0 f h.member.1, get_or_from_slice_get rows h.member.0 f f h.member.1);
+  first = λ c k. h.first c (k.0, slice_get-get_or rows k.0 c k.1 ∙ ap Some k.2);
+}
 
 -- what is left of the rows once those of a group are read and the first of them is written
 pub record Added (strings : List ℕ) (old items : List Candidate) (kept end : ℕ) (row : Candidate) : Type 0 where

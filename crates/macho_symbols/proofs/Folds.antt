@@ -1,205 +1,158 @@
 -- What one pass over some candidates keeps of them.
-use Rattle.std.proofs.Common.{◌≡◌, ◌+◌, ◌<◌, ◌≤◌, ◌==◌, ◌&&◌, ◌||◌, ◌⊎◌, inl, inr, ℕ, zero, suc, Bool, true, false, cond, nat_lt, List, [], ◌∷◌, length, drop, Option, Some, None, refl, sym, ap, ◌∙◌, arith, subst, Contains, slice_index_or}
-use Rattle.std.specs.List.{filter_map, cons_option}
-use Rattle.std.specs.Option.{option_map_or}
-use Rattle.std.specs.Ordering.{ordering_reverse, is_lt, is_gt}
-use Rattle.std.specs.declared.cmp.Ordering.{Ordering}
-use Rattle.std.specs.declared.cmp.Ordering.TheVariants.{Less, Equal, Greater}
-use Rattle.std.specs.Cmp.{IsTotalOrder}
-use Rattle.std.proofs.lemmas.Cmp.{upto, tied_itself}
+use Rattle.std.proofs.Common.{◌≡◌, ◌≢◌, ◌+◌, ◌<◌, ◌≤◌, ◌==◌, ◌&&◌, ◌||◌, ◌⊎◌, inl, inr, ℕ, Bool, true, false, cond, nat_lt, List, Option, Some, None, refl, sym, ap, ◌∙◌, arith, subst}
+use Rattle.std.specs.declared.cmp.Ordering.TheVariants.{Less}
+use Rattle.std.proofs.lemmas.Bool.{cases_lt}
 use Rattle.std.proofs.lemmas.Bool.Decides.{nat_tests}
-use Rattle.std.proofs.lemmas.List.{at_drop_more, at_drop_all}
-use Rattle.macho_symbols.specs.Overlaps.{cut_cmp, first_cut, IsFirstCut, IsFirstCutOrNone, is_tied, stands_before, stands_behind, widened, ends_with, AreEnds, AreEndsOrNone}
+use Rattle.macho_symbols.specs.Nearest.{tuple_cmp}
+use Rattle.macho_symbols.specs.Overlaps.{IsAt, IsFirstRowOrNone, cut_cmp, first_cut, IsFirstBy, begins_before, IsFirstCutOrNone, is_tied, stands_before, stands_behind, widened, ends_with, AreEnds, AreEndsOrNone}
 use Rattle.macho_symbols.specs.Views.{tuple_of}
 use Rattle.macho_symbols.specs.declared.candidate.Candidate.{Candidate}
 use Rattle.macho_symbols.specs.declared.ends.Ends.{Ends}
+use Rattle.macho_symbols.proofs.Order.{upto_itself, not_less, not_itself, earlier}
 use Rattle.macho_symbols.proofs.Beginnings.{cuts_total}
 
--- what is kept after some more
-abbrev pub fold : {S : Type 0} → (Option S → Candidate → Option S) → Option S → List Candidate → Option S
-fold step kept [] = kept
-fold step kept (c ∷ cs) = fold step (step kept c) cs
+-- one of the candidates that have numbers below one
+abbrev pub IsBelow : (ℕ → Option Candidate) → ℕ → Candidate → Type 0
+IsBelow at n c = (i : ℕ) × (i < n) × (at i ≡ Some c)
 
--- one entry more
-pub fold_entry : {S : Type 0} (step : Option S → Candidate → Option S) (pick : List ℕ → Option Candidate) (kept : Option S) (e : List ℕ) (es : List (List ℕ))
-    → fold step (option_map_or (step kept) (pick e) kept) (filter_map pick es) ≡ fold step kept (filter_map pick (e ∷ es))
-fold_entry step pick kept e es = by_entry (pick e)
-  where
-    by_entry : (o : Option Candidate) → fold step (option_map_or (step kept) o kept) (filter_map pick es) ≡ fold step kept (cons_option o (filter_map pick es))
-    by_entry None = refl
-    by_entry (Some c) = refl
+none_some : (c : Candidate) → None ≡ Some c → ⊥
+none_some c h = cc
 
--- after the last one
-pub fold_end : {S : Type 0} (step : Option S → Candidate → Option S) (pick : List ℕ → Option Candidate) (kept : Option S) (es : List (List ℕ))
-    → es ≡ [] → fold step kept (filter_map pick es) ≡ kept
-fold_end step pick kept es h = ap (λ xs. fold step kept (filter_map pick xs)) h
+some_same : (b c : Candidate) → Some b ≡ Some c → b ≡ c
+some_same b c h = cc
 
--- one row more
-pub fold_row : {S : Type 0} (step : Option S → Candidate → Option S) (kept next : Option S) (xs : List Candidate) (i : ℕ) (d : Candidate) (all : Option S) → i < length xs
-    → next ≡ step kept (slice_index_or xs i d) → fold step kept (drop i xs) ≡ all → fold step next (drop (i + 1) xs) ≡ all
-fold_row step kept next xs i d all h e told =
-    ap (λ s. fold step s (drop (i + 1) xs)) e ∙ sym (at_drop_more (fold step kept) xs i d h) ∙ told
+-- it has the last of these numbers or a lesser one
+pub below_or_last : (at : ℕ → Option Candidate) (n : ℕ) (c : Candidate) → IsBelow at (n + 1) c → IsBelow at n c ⊎ (at n ≡ Some c)
+below_or_last at n c h = elim (cases_lt h.0 n) [ inl l ↦ inl (h.0, l, h.2) | inr l ↦ inr (ap at (omega (arith, h.1, l)) ∙ h.2) ]
 
--- after the last row
-pub fold_rows_end : {S : Type 0} (step : Option S → Candidate → Option S) (kept : Option S) (xs : List Candidate) (i : ℕ) (all : Option S) → length xs ≤ i
-    → fold step kept (drop i xs) ≡ all → all ≡ kept
-fold_rows_end step kept xs i all h told = sym told ∙ at_drop_all (fold step kept) xs i h
+-- what has a number has the single one
+at_start : (at : ℕ → Option Candidate) → ((i : ℕ) → 1 ≤ i → at i ≡ None) → (c : Candidate) → IsAt at c → at 0 ≡ Some c
+at_start at none c h = elim (cases_lt h.0 1) [ inl l ↦ ap at (omega (arith, l)) ∙ h.1 | inr l ↦ absurd (none_some c (sym (none h.0 l) ∙ h.1)) ]
 
-contains_first : (x : Candidate) (xs : List Candidate) (c : Candidate) → (x ≡ c) ⊎ Contains xs c → Contains (x ∷ xs) c
-contains_first x xs c (inl e) = (0, omega arith, e)
-contains_first x xs c (inr h) = (suc h.0, omega (arith, h.1), h.2)
+-- the first of those of a single number
+pub one_number : (strings : List ℕ) (at : ℕ → Option Candidate) → ((i : ℕ) → 1 ≤ i → at i ≡ None) → (o : Option Candidate) → at 0 ≡ o
+    → IsFirstRowOrNone strings (IsAt at) o
+one_number strings at none None e = λ c h. none_some c (sym e ∙ at_start at none c h)
+one_number strings at none (Some r) e = record {
+  member = (0, e);
+  first = λ c h.
+      let row = tuple_of strings r in
+      subst (λ x. tuple_cmp (tuple_of strings x) row ≢ Less) (some_same r c (sym e ∙ at_start at none c h)) (not_less row row (upto_itself row));
+}
 
-first_or_rest : (x : Candidate) (xs : List Candidate) (c : Candidate) → Contains (x ∷ xs) c → (x ≡ c) ⊎ Contains xs c
-first_or_rest x xs c (zero, l, e) = inl e
-first_or_rest x xs c (suc k, l, e) = inr (k, omega (arith, l), e)
-
-none_in : (c : Candidate) → Contains [] c → ⊥
-none_in c h = omega (arith, h.1)
-
--- what is true of what is kept of none, and goes on from each to the next, is true at the end
+-- what is true of what is kept, and goes on from each to the next, is true at the end
 module _ {S : Type 0} (step : Option S → Candidate → Option S) (Good : (Candidate → Type 0) → Option S → Type 0)
     (same : (P Q : Candidate → Type 0) (s : Option S) → ((c : Candidate) → P c → Q c) → ((c : Candidate) → Q c → P c) → Good P s → Good Q s)
-    (more : (P : Candidate → Type 0) (s : Option S) (x : Candidate) → Good P s → Good (λ c. P c ⊎ (x ≡ c)) (step s x)) where
-  fold_more : (P : Candidate → Type 0) (s : Option S) (xs : List Candidate) → Good P s → Good (λ c. P c ⊎ Contains xs c) (fold step s xs)
-  fold_more P s [] h = same P (λ c. P c ⊎ Contains [] c) s (λ c p. inl p) (λ c q. elim q [ inl p ↦ p | inr k ↦ absurd (none_in c k) ]) h
-  fold_more P s (x ∷ xs) h =
-      same (λ c. (P c ⊎ (x ≡ c)) ⊎ Contains xs c) (λ c. P c ⊎ Contains (x ∷ xs) c) (fold step (step s x) xs) there back
-      (fold_more (λ c. P c ⊎ (x ≡ c)) (step s x) xs (more P s x h))
+    (more : (P : Candidate → Type 0) (s : Option S) (x : Candidate) → Good P s → Good (λ c. P c ⊎ (x ≡ c)) (step s x))
+    (at : ℕ → Option Candidate) (n : ℕ) (s : Option S) (h : Good (IsBelow at n) s) where
+  pub next_some : (r : Option S) (x : Candidate) → at n ≡ Some x → r ≡ step s x → Good (IsBelow at (n + 1)) r
+  next_some r x e told =
+      subst (Good (IsBelow at (n + 1))) (sym told) (same (λ c. IsBelow at n c ⊎ (x ≡ c)) (IsBelow at (n + 1)) (step s x) there back (more (IsBelow at n) s x h))
     where
-      there : (c : Candidate) → (P c ⊎ (x ≡ c)) ⊎ Contains xs c → P c ⊎ Contains (x ∷ xs) c
-      there c (inl (inl p)) = inl p
-      there c (inl (inr e)) = inr (contains_first x xs c (inl e))
-      there c (inr k) = inr (contains_first x xs c (inr k))
+      there : (c : Candidate) → IsBelow at n c ⊎ (x ≡ c) → IsBelow at (n + 1) c
+      there c (inl k) = (k.0, omega (arith, k.1), k.2)
+      there c (inr i) = (n, omega arith, e ∙ ap Some i)
 
-      back : (c : Candidate) → P c ⊎ Contains (x ∷ xs) c → (P c ⊎ (x ≡ c)) ⊎ Contains xs c
-      back c (inl p) = inl (inl p)
-      back c (inr k) = elim (first_or_rest x xs c k) [ inl e ↦ inl (inr e) | inr r ↦ inr r ]
+      back : (c : Candidate) → IsBelow at (n + 1) c → IsBelow at n c ⊎ (x ≡ c)
+      back c k = elim (below_or_last at n c k) [ inl l ↦ inl l | inr i ↦ inr (some_same x c (sym e ∙ i)) ]
 
-  fold_all : (xs : List Candidate) → Good (λ c. ⊥) None → Good (Contains xs) (fold step None xs)
-  fold_all xs none =
-      same (λ c. ⊥ ⊎ Contains xs c) (Contains xs) (fold step None xs) (λ c q. elim q [ inl n ↦ absurd n | inr k ↦ k ]) (λ c k. inr k) (fold_more (λ c. ⊥) None xs none)
+  pub next_none : (r : Option S) → at n ≡ None → r ≡ s → Good (IsBelow at (n + 1)) r
+  next_none r e told =
+      subst (Good (IsBelow at (n + 1))) (sym told)
+      (same (IsBelow at n) (IsBelow at (n + 1)) s (λ c k. (k.0, omega (arith, k.1), k.2))
+      (λ c k. elim (below_or_last at n c k) [ inl l ↦ l | inr i ↦ absurd (none_some c (sym e ∙ i)) ]) h)
 
-module _ {K : Type 0} (R : K → K → Ordering) (total : IsTotalOrder R) where
-  upto_other : (c d : K) → is_lt (R c d) ≡ false → is_gt (R d c) ≡ false
-  upto_other c d h = by_cases (R c d) (R d c) (total.antisymm d c) h
+  pub at_end : ((i : ℕ) → n ≤ i → at i ≡ None) → Good (IsAt at) s
+  at_end none =
+      same (IsBelow at n) (IsAt at) s (λ c k. (k.0, k.2))
+      (λ c k. elim (cases_lt k.0 n) [ inl l ↦ (k.0, l, k.1) | inr l ↦ absurd (none_some c (sym (none k.0 l) ∙ k.1)) ]) h
+
+-- the same ones have the same first
+first_same : (before : Candidate → Candidate → Bool) (P Q : Candidate → Type 0) (b : Candidate) → ((c : Candidate) → P c → Q c) → ((c : Candidate) → Q c → P c)
+    → IsFirstBy before P b → IsFirstBy before Q b
+first_same before P Q b there back h = record { member = there b h.member; first = λ c q. h.first c (back c q) }
+
+-- the first of some and one more
+module _ (before : Candidate → Candidate → Bool) (itself : (c : Candidate) → before c c ≡ false)
+    (earlier : (c b x : Candidate) → before c b ≡ false → before x b ≡ true → before c x ≡ false) (P : Candidate → Type 0) (x : Candidate) where
+  not_before_it : (c : Candidate) → x ≡ c → before c x ≡ false
+  not_before_it c e = subst (λ y. before y x ≡ false) e (itself x)
+
+  first_one : ((c : Candidate) → P c → ⊥) → IsFirstBy before (λ c. P c ⊎ (x ≡ c)) x
+  first_one none = record { member = inr refl; first = λ c q. elim q [ inl p ↦ absurd (none c p) | inr e ↦ not_before_it c e ] }
+
+  first_more : (b : Candidate) → IsFirstBy before P b → IsFirstBy before (λ c. P c ⊎ (x ≡ c)) (cond (before x b) x b)
+  first_more b h = by_test (before x b) refl
     where
-      by_cases : (o p : Ordering) → p ≡ ordering_reverse o → is_lt o ≡ false → is_gt p ≡ false
-      by_cases Less p e h = absurd (cc h)
-      by_cases Equal p e h = ap is_gt e
-      by_cases Greater p e h = ap is_gt e
-
-  not_before : (c d : K) → is_gt (R d c) ≡ false → is_lt (R c d) ≡ false
-  not_before c d h = by_cases (R d c) (R c d) (total.antisymm c d) h
-    where
-      by_cases : (o p : Ordering) → p ≡ ordering_reverse o → is_gt o ≡ false → is_lt p ≡ false
-      by_cases Less p e h = ap is_lt e
-      by_cases Equal p e h = ap is_lt e
-      by_cases Greater p e h = absurd (cc h)
-
-  upto_less : (c d : K) → is_lt (R c d) ≡ true → is_gt (R c d) ≡ false
-  upto_less c d h = by_cases (R c d) h
-    where
-      by_cases : (o : Ordering) → is_lt o ≡ true → is_gt o ≡ false
-      by_cases Less h = refl
-      by_cases Equal h = refl
-      by_cases Greater h = absurd (cc h)
-
-  not_itself : (c : K) → is_lt (R c c) ≡ false
-  not_itself c = ap is_lt (tied_itself total c)
-
-  -- what comes not before one comes not before what comes before that
-  earlier : (c b x : K) → is_lt (R c b) ≡ false → is_lt (R x b) ≡ true → is_lt (R c x) ≡ false
-  earlier c b x h l = not_before c x (upto total x b c (upto_less x b l) (upto_other c b h))
+      by_test : (t : Bool) → before x b ≡ t → IsFirstBy before (λ c. P c ⊎ (x ≡ c)) (cond t x b)
+      by_test true e = record { member = inr refl; first = λ c q. elim q [ inl p ↦ earlier c b x (h.first c p) e | inr i ↦ not_before_it c i ] }
+      by_test false e = record { member = inl h.member; first = λ c q. elim q [ inl p ↦ h.first c p | inr i ↦ subst (λ y. before y b ≡ false) i e ] }
 
 module _ (strings : List ℕ) (size : ℕ) where
-  abbrev before : Candidate → Candidate → Bool
-  before c d = is_lt (cut_cmp size (tuple_of strings c) (tuple_of strings d))
-
-  cut_same : (P Q : Candidate → Type 0) (s : Option Candidate) → ((c : Candidate) → P c → Q c) → ((c : Candidate) → Q c → P c)
+  pub cut_same : (P Q : Candidate → Type 0) (s : Option Candidate) → ((c : Candidate) → P c → Q c) → ((c : Candidate) → Q c → P c)
       → IsFirstCutOrNone strings size P s → IsFirstCutOrNone strings size Q s
   cut_same P Q None there back h = λ c q. h c (back c q)
-  cut_same P Q (Some b) there back h = record { member = there b h.member; first = λ c q. h.first c (back c q) }
+  cut_same P Q (Some b) there back h = first_same (begins_before strings size) P Q b there back h
 
-  cut_more : (P : Candidate → Type 0) (s : Option Candidate) (x : Candidate) → IsFirstCutOrNone strings size P s
+  before_itself : (c : Candidate) → begins_before strings size c c ≡ false
+  before_itself c = not_itself (cut_cmp size) (cuts_total size) (tuple_of strings c)
+
+  before_next : (c b x : Candidate) → begins_before strings size c b ≡ false → begins_before strings size x b ≡ true → begins_before strings size c x ≡ false
+  before_next c b x = earlier (cut_cmp size) (cuts_total size) (tuple_of strings c) (tuple_of strings b) (tuple_of strings x)
+
+  pub cut_more : (P : Candidate → Type 0) (s : Option Candidate) (x : Candidate) → IsFirstCutOrNone strings size P s
       → IsFirstCutOrNone strings size (λ c. P c ⊎ (x ≡ c)) (first_cut strings size s x)
-  cut_more P None x h = record {
-    member = inr refl;
-    first = λ c q. elim q [ inl p ↦ absurd (h c p) | inr e ↦ subst (λ y. before y x ≡ false) e (not_itself (cut_cmp size) (cuts_total size) (tuple_of strings x)) ];
-  }
-  cut_more P (Some b) x h = by_test (before x b) refl
-    where
-      by_test : (t : Bool) → before x b ≡ t → IsFirstCut strings size (λ c. P c ⊎ (x ≡ c)) (cond t x b)
-      by_test true e = record {
-        member = inr refl;
-        first = λ c q. elim q [
-          | inl p ↦ earlier (cut_cmp size) (cuts_total size) (tuple_of strings c) (tuple_of strings b) (tuple_of strings x) (h.first c p) e
-          | inr i ↦ subst (λ y. before y x ≡ false) i (not_itself (cut_cmp size) (cuts_total size) (tuple_of strings x))
-        ];
-      }
-      by_test false e = record {
-        member = inl h.member;
-        first = λ c q. elim q [ inl p ↦ h.first c p | inr i ↦ subst (λ y. before y b ≡ false) i e ];
-      }
-
-  -- the first by first bytes
-  pub fold_first : (xs : List Candidate) → IsFirstCutOrNone strings size (Contains xs) (fold (first_cut strings size) None xs)
-  fold_first xs = fold_all (first_cut strings size) (IsFirstCutOrNone strings size) cut_same cut_more xs (λ c n. n)
+  cut_more P None x h = first_one (begins_before strings size) before_itself before_next P x h
+  cut_more P (Some b) x h = first_more (begins_before strings size) before_itself before_next P x b h
 
 -- places in order
-before_itself : (p s : ℕ) → (nat_lt p p || ((p == p) && nat_lt s s)) ≡ false
-before_itself p s = grind (arith, nat_tests)
+same_place : (p s : ℕ) → (nat_lt p p || ((p == p) && nat_lt s s)) ≡ false
+same_place p s = grind (arith, nat_tests)
 
-before_next : (p q r s t u : ℕ) → (nat_lt p q || ((p == q) && nat_lt s t)) ≡ false → (nat_lt r q || ((r == q) && nat_lt u t)) ≡ true
+lesser_place : (p q r s t u : ℕ) → (nat_lt p q || ((p == q) && nat_lt s t)) ≡ false → (nat_lt r q || ((r == q) && nat_lt u t)) ≡ true
     → (nat_lt p r || ((p == r) && nat_lt s u)) ≡ false
-before_next p q r s t u h k = grind (arith, nat_tests)
+lesser_place p q r s t u h k = grind (arith, nat_tests)
 
-behind_next : (p q r s t u : ℕ) → (nat_lt q p || ((p == q) && nat_lt s t)) ≡ false → (nat_lt q r || ((r == q) && nat_lt u t)) ≡ true
+greater_place : (p q r s t u : ℕ) → (nat_lt q p || ((p == q) && nat_lt s t)) ≡ false → (nat_lt q r || ((r == q) && nat_lt u t)) ≡ true
     → (nat_lt r p || ((p == r) && nat_lt s u)) ≡ false
-behind_next p q r s t u h k = grind (arith, nat_tests)
+greater_place p q r s t u h k = grind (arith, nat_tests)
+
+stands_itself : (c : Candidate) → stands_before c c ≡ false
+stands_itself c = same_place c.strx c.sect
+
+stands_next : (c b x : Candidate) → stands_before c b ≡ false → stands_before x b ≡ true → stands_before c x ≡ false
+stands_next c b x = lesser_place c.strx b.strx x.strx c.sect b.sect x.sect
+
+stands_next_behind : (c b x : Candidate) → stands_behind c b ≡ false → stands_behind x b ≡ true → stands_behind c x ≡ false
+stands_next_behind c b x = greater_place c.strx b.strx x.strx c.sect b.sect x.sect
 
 -- the ends of some and one more
-widened_first : (P : Candidate → Type 0) (x b : Candidate) → P b → ((c : Candidate) → P c → stands_before c b ≡ false) → (t : Bool) → stands_before x b ≡ t
-    → (P (cond t x b) ⊎ (x ≡ cond t x b)) × ((c : Candidate) → P c ⊎ (x ≡ c) → stands_before c (cond t x b) ≡ false)
-widened_first P x b member first true e =
-    (inr refl, λ c q. elim q [ inl p ↦ before_next c.strx b.strx x.strx c.sect b.sect x.sect (first c p) e | inr i ↦ subst (λ y. stands_before y x ≡ false) i (before_itself x.strx x.sect) ])
-widened_first P x b member first false e = (inl member, λ c q. elim q [ inl p ↦ first c p | inr i ↦ subst (λ y. stands_before y b ≡ false) i e ])
-
-widened_last : (P : Candidate → Type 0) (x b : Candidate) → P b → ((c : Candidate) → P c → stands_behind c b ≡ false) → (t : Bool) → stands_behind x b ≡ t
-    → (P (cond t x b) ⊎ (x ≡ cond t x b)) × ((c : Candidate) → P c ⊎ (x ≡ c) → stands_behind c (cond t x b) ≡ false)
-widened_last P x b member last true e =
-    (inr refl, λ c q. elim q [ inl p ↦ behind_next c.strx b.strx x.strx c.sect b.sect x.sect (last c p) e | inr i ↦ subst (λ y. stands_behind y x ≡ false) i (before_itself x.strx x.sect) ])
-widened_last P x b member last false e = (inl member, λ c q. elim q [ inl p ↦ last c p | inr i ↦ subst (λ y. stands_behind y b ≡ false) i e ])
-
 ends_more : (P : Candidate → Type 0) (s : Option Ends) (x : Candidate) → AreEndsOrNone P s → AreEnds (λ c. P c ⊎ (x ≡ c)) (widened s x)
 ends_more P None x none = record {
-  first_member = inr refl;
-  last_member = inr refl;
-  first = λ c q. elim q [ inl p ↦ absurd (none c p) | inr i ↦ subst (λ y. stands_before y x ≡ false) i (before_itself x.strx x.sect) ];
-  last = λ c q. elim q [ inl p ↦ absurd (none c p) | inr i ↦ subst (λ y. stands_behind y x ≡ false) i (before_itself x.strx x.sect) ];
+  first = first_one stands_before stands_itself stands_next P x none;
+  last = first_one stands_behind stands_itself stands_next_behind P x none;
 }
-ends_more P (Some e) x are =
-    let first = widened_first P x e.first are.first_member are.first (stands_before x e.first) refl in
-    let last = widened_last P x e.last are.last_member are.last (stands_behind x e.last) refl in
-    record { first_member = first.0; last_member = last.0; first = first.1; last = last.1 }
+ends_more P (Some e) x are = record {
+  first = first_more stands_before stands_itself stands_next P x e.first are.first;
+  last = first_more stands_behind stands_itself stands_next_behind P x e.last are.last;
+}
 
 ends_same : (P Q : Candidate → Type 0) (s : Option Ends) → ((c : Candidate) → P c → Q c) → ((c : Candidate) → Q c → P c) → AreEndsOrNone P s → AreEndsOrNone Q s
 ends_same P Q None there back none = λ c q. none c (back c q)
 ends_same P Q (Some e) there back are = record {
-  first_member = there e.first are.first_member;
-  last_member = there e.last are.last_member;
-  first = λ c q. are.first c (back c q);
-  last = λ c q. are.last c (back c q);
+  first = first_same stands_before P Q e.first there back are.first;
+  last = first_same stands_behind P Q e.last there back are.last;
 }
 
 module _ (strings : List ℕ) (start size : ℕ) (best : Candidate) where
-  abbrev Tied : (Candidate → Type 0) → Candidate → Type 0
+  abbrev pub Tied : (Candidate → Type 0) → Candidate → Type 0
   Tied P c = P c × (is_tied strings start size best c ≡ true)
 
-  tied_same : (P Q : Candidate → Type 0) (s : Option Ends) → ((c : Candidate) → P c → Q c) → ((c : Candidate) → Q c → P c)
+  pub tied_same : (P Q : Candidate → Type 0) (s : Option Ends) → ((c : Candidate) → P c → Q c) → ((c : Candidate) → Q c → P c)
       → AreEndsOrNone (Tied P) s → AreEndsOrNone (Tied Q) s
   tied_same P Q s there back h = ends_same (Tied P) (Tied Q) s (λ c q. (there c q.0, q.1)) (λ c q. (back c q.0, q.1)) h
 
-  tied_more : (P : Candidate → Type 0) (s : Option Ends) (x : Candidate) → AreEndsOrNone (Tied P) s
+  pub tied_more : (P : Candidate → Type 0) (s : Option Ends) (x : Candidate) → AreEndsOrNone (Tied P) s
       → AreEndsOrNone (Tied (λ c. P c ⊎ (x ≡ c))) (ends_with strings start size best s x)
   tied_more P s x h = by_test (is_tied strings start size best x) refl
     where
@@ -215,7 +168,3 @@ module _ (strings : List ℕ) (start size : ℕ) (best : Candidate) where
           (λ c q. (inl q.0, q.1))
           (λ c q. elim q.0 [ inl p ↦ (p, q.1) | inr i ↦ absurd (true_false (sym q.1 ∙ ap (is_tied strings start size best) (sym i) ∙ e)) ])
           h
-
-  -- the ends of those that tie
-  pub fold_ends : (xs : List Candidate) → AreEndsOrNone (λ c. Contains xs c × (is_tied strings start size best c ≡ true)) (fold (ends_with strings start size best) None xs)
-  fold_ends xs = fold_all (ends_with strings start size best) (λ P s. AreEndsOrNone (Tied P) s) tied_same tied_more xs (λ c n. n.0)

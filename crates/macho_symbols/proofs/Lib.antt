@@ -5,7 +5,6 @@ pub mod Overlaps
 pub mod Nuls
 pub mod EntryLemmas
 pub mod Namesakes
-pub mod ScanLemmas
 pub mod FaultLemmas
 pub mod Order
 pub mod CandidateFacts

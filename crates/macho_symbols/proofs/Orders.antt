@@ -1,12 +1,12 @@
 -- Orders of several parts, and the first of some candidates.
-use Rattle.std.proofs.Common.{◌≡◌, ◌≢◌, ◌⊎◌, inl, inr, Bool, true, false, cond, Option, Some, None, refl, ap, sym, ◌∙◌}
+use Rattle.std.proofs.Common.{◌≡◌, ◌≢◌, ◌⊎◌, inl, inr, zero, suc, Bool, true, false, cond, List, [], ◌∷◌, Option, Some, None, Contains, arith, refl, ap, subst, sym, ◌∙◌}
 use Rattle.std.specs.Ordering.{ordering_then, is_ne, is_lt}
 use Rattle.std.specs.declared.cmp.Ordering.{Ordering}
 use Rattle.std.specs.declared.cmp.Ordering.TheVariants.{Less, Equal, Greater}
 use Rattle.std.proofs.lemmas.Cmp.{upto}
 use Rattle.macho_symbols.specs.Symbols.{Tuple}
 use Rattle.macho_symbols.specs.Nearest.{tuple_cmp, IsFirst}
-use Rattle.macho_symbols.proofs.ScanLemmas.{UpTo, tuples_total, not_less, upto_back, upto_from_less}
+use Rattle.macho_symbols.proofs.Order.{UpTo, tuples_total, upto_itself, not_less, upto_other, upto_less}
 use Rattle.macho_symbols.specs.Halving.{IsFirstOrNone, first_of_two}
 
 -- an order of several parts, told by its first two, where these differ
@@ -29,7 +29,7 @@ first_of_same P Q (Some f) there back h = record {
 }
 
 pub upto_from_not_less : (c d : Tuple) → tuple_cmp d c ≢ Less → UpTo c d
-upto_from_not_less c d h = upto_back d c (by_cases (tuple_cmp d c) h)
+upto_from_not_less c d h = upto_other tuple_cmp tuples_total d c (by_cases (tuple_cmp d c) h)
   where
     by_cases : (o : Ordering) → o ≢ Less → is_lt o ≡ false
     by_cases Less n = absurd (n refl)
@@ -56,9 +56,39 @@ first_of_both P Q (Some f) (Some g) h k = by_less (is_lt (tuple_cmp g f)) refl
     by_less : (l : Bool) → is_lt (tuple_cmp g f) ≡ l → IsFirstOrNone (λ c. P c ⊎ Q c) (cond l (Some g) (Some f))
     by_less true e = record {
       member = inr k.member;
-      first = λ c i. elim i [ inl a ↦ below_first P f g h (upto_from_less g f e) c a | inr b ↦ k.first c b ];
+      first = λ c i. elim i [ inl a ↦ below_first P f g h (upto_less tuple_cmp tuples_total g f e) c a | inr b ↦ k.first c b ];
     }
     by_less false e = record {
       member = inl h.member;
-      first = λ c i. elim i [ inl a ↦ h.first c a | inr b ↦ below_first Q g f k (upto_back g f e) c b ];
+      first = λ c i. elim i [ inl a ↦ h.first c a | inr b ↦ below_first Q g f k (upto_other tuple_cmp tuples_total g f e) c b ];
     }
+
+-- of the elements of a list that pass a test one is the first, or there is none
+pub first_passing : (passes : Tuple → Bool) (cs : List Tuple) → (found : Option Tuple) × IsFirstOrNone (λ c. Contains cs c × (passes c ≡ true)) found
+first_passing passes [] = (None, λ c h. omega (arith, h.0.1))
+first_passing passes (x ∷ xs) = by_test (passes x) refl (first_passing passes xs)
+  where
+    later : (c : Tuple) → Contains xs c × (passes c ≡ true) → Contains (x ∷ xs) c × (passes c ≡ true)
+    later c h = ((suc h.0.0, omega (arith, h.0.1), h.0.2), h.1)
+
+    head_or_rest : (c : Tuple) → Contains (x ∷ xs) c × (passes c ≡ true) → ((x ≡ c) × (passes x ≡ true)) ⊎ (Contains xs c × (passes c ≡ true))
+    head_or_rest c ((zero, l, e), p) = inl (e, ap passes e ∙ p)
+    head_or_rest c ((suc k, l, e), p) = inr ((k, omega (arith, l), e), p)
+
+    by_test : (t : Bool) → passes x ≡ t → (found : Option Tuple) × IsFirstOrNone (λ c. Contains xs c × (passes c ≡ true)) found
+        → (found : Option Tuple) × IsFirstOrNone (λ c. Contains (x ∷ xs) c × (passes c ≡ true)) found
+    by_test true e rest = (
+      first_of_two (Some x) rest.0,
+      first_of_same _ (λ c. Contains (x ∷ xs) c × (passes c ≡ true)) (first_of_two (Some x) rest.0)
+          (λ c h. elim h [ inl i ↦ ((0, omega arith, i.0), ap passes (sym i.0) ∙ e) | inr k ↦ later c k ]) head_or_rest
+          (first_of_both (λ c. (x ≡ c) × (passes x ≡ true)) (λ c. Contains xs c × (passes c ≡ true)) (Some x) rest.0
+          (record { member = (refl, e); first = λ c i. subst (λ y. tuple_cmp y x ≢ Less) i.0 (not_less x x (upto_itself x)) }) rest.1),
+    )
+    by_test false e rest = (
+      rest.0,
+      first_of_same (λ c. Contains xs c × (passes c ≡ true)) (λ c. Contains (x ∷ xs) c × (passes c ≡ true)) rest.0 later
+          (λ c h. elim (head_or_rest c h) [ inl i ↦ absurd (true_false (sym i.1 ∙ e)) | inr k ↦ k ]) rest.1,
+    )
+      where
+        true_false : true ≡ false → ⊥
+        true_false i = cc

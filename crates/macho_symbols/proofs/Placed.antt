@@ -43,7 +43,7 @@ row_placed image entry r h =
         none_some i = cc
 
 -- the entry of an index that gives a row
-at_index : (image : List ℕ) (i : ℕ) (r : Candidate) → row_at image i ≡ Some r → (entry : List ℕ) × (slice_get (entries_of image) i ≡ Some entry) × (row_in image entry ≡ Some r)
+pub at_index : (image : List ℕ) (i : ℕ) (r : Candidate) → row_at image i ≡ Some r → (entry : List ℕ) × (slice_get (entries_of image) i ≡ Some entry) × (row_in image entry ≡ Some r)
 at_index image i r h = by_entry (slice_get (entries_of image) i) refl
   where
     by_entry : (o : Option (List ℕ)) → slice_get (entries_of image) i ≡ o → (entry : List ℕ) × (slice_get (entries_of image) i ≡ Some entry) × (row_in image entry ≡ Some r)

@@ -28,6 +28,10 @@ stands_in image address c h = let p = both_true _ _ h in (below c.value address 
     below : (a b : ℕ) → nat_le a b ≡ true → a ≤ b
     below a b e = grind (arith, nat_tests)
 
+-- it is not above the address
+pub stands_below : (image : List ℕ) (address : ℕ) (c : Tuple) → StandsFor image address c → c.value ≤ address
+stands_below image address c h = (stands_in image address c h.1).0
+
 can_stand : (image : List ℕ) (address : ℕ) (c : Tuple) → c.value ≤ address → is_in_section image c.sect address ≡ true → can_stand_for image address c ≡ true
 unfolding can_stand_for
 can_stand image address c l h = both (nat_le c.value address) _ (at_most c.value address l) h

@@ -1,15 +1,16 @@
--- The search in an address table and its building: the words of inner functions. No contract of a public one has them.
+-- The searches by address, and the building of a table: the words of inner functions. No contract of a public one has
+-- them.
 use Rattle.std.specs.Prelude.{ℕ, Bool, true, List, ◌≡◌, ◌+◌, ◌%◌, ◌^◌, ◌≤◌, ◌<◌, ◌==◌, ◌&&◌, ◌||◌, nat_lt, nat_le, cond}
 use Rattle.std.specs.Prelude.{bit_and}
 use Rattle.std.specs.Prelude.{length, slice_get, slice_index_or, Option, Some, None, MatchOption, Contains, ◌⊎◌}
 use Rattle.std.specs.Option.{option_map_or}
 use Rattle.std.specs.Ordering.{ordering_then, nat_cmp, is_lt}
 use Rattle.std.specs.declared.cmp.Ordering.{Ordering}
-use Rattle.macho_symbols.specs.Symbols.{Tuple, candidates, entries_of, is_in_section}
+use Rattle.macho_symbols.specs.Symbols.{Tuple, candidates, entries_of, strings_of, is_in_section}
 use Rattle.macho_symbols.specs.Nlist.{n_type, n_sect, n_value}
-use Rattle.macho_symbols.specs.Nearest.{tuple_cmp, IsFirst, StandsFor}
+use Rattle.macho_symbols.specs.Nearest.{tuple_cmp, can_stand_for, IsFirst, StandsFor}
 use Rattle.macho_symbols.specs.Rows.{Precedes, IsBeside}
-use Rattle.macho_symbols.specs.Views.{row_in}
+use Rattle.macho_symbols.specs.Views.{tuple_of, row_in}
 use Rattle.macho_symbols.specs.declared.candidate.Candidate.{Candidate}
 use Rattle.macho_symbols.specs.declared.extents.Extent.{Extent}
 
@@ -31,6 +32,12 @@ HasEach image keys = (i : ℕ) (entry : List ℕ) → slice_get (entries_of imag
 -- the candidate that the entry of an index is, if there is such an entry and it is one
 abbrev pub row_at : List ℕ → ℕ → Option Candidate
 row_at image i = option_map_or (row_in image) (slice_get (entries_of image) i) None
+
+-- the candidate that the entry of an index is, if it can stand for an address
+abbrev pub standing_at : List ℕ → ℕ → ℕ → Option Candidate
+standing_at image address i =
+    option_map_or (λ c. cond (can_stand_for image address (tuple_of (strings_of image) c)) (Some c) None)
+    (row_at image i) None
 
 -- the order in which rows are sorted: by section, then by falling value
 abbrev pub place_cmp : Candidate → Candidate → Ordering

@@ -6,11 +6,9 @@ use Rattle.std.specs.Ordering.{ordering_then, nat_cmp, bool_cmp, is_lt, is_eq}
 use Rattle.std.specs.declared.cmp.Ordering.{Ordering}
 use Rattle.std.specs.declared.cmp.Ordering.TheVariants.{Less}
 use Rattle.std.specs.Cmp.Lexicographic.{slice_cmp}
-use Rattle.macho_symbols.specs.Nearest.{tuple_cmp, can_stand_for}
-use Rattle.std.specs.List.{filter_map}
-use Rattle.std.specs.Option.{option_map_or}
-use Rattle.macho_symbols.specs.Symbols.{Tuple, strings_of, entries_of}
-use Rattle.macho_symbols.specs.Views.{tuple_of, row_in}
+use Rattle.macho_symbols.specs.Nearest.{tuple_cmp}
+use Rattle.macho_symbols.specs.Symbols.{Tuple}
+use Rattle.macho_symbols.specs.Views.{tuple_of}
 use Rattle.macho_symbols.specs.declared.candidate.Candidate.{Candidate}
 use Rattle.macho_symbols.specs.declared.ends.Ends.{Ends}
 
@@ -28,36 +26,38 @@ cut_cmp size c d = ordering_then (beginning_cmp size c d) (nat_cmp c.sect d.sect
 abbrev pub first_row : List ℕ → Candidate → Candidate → Candidate
 first_row strings c d = cond (is_lt (tuple_cmp (tuple_of strings d) (tuple_of strings c))) d c
 
--- an entry that is a candidate and can stand for an address
-abbrev pub standing_in : List ℕ → ℕ → List ℕ → Option Candidate
-standing_in image address entry =
-    option_map_or (λ c. cond (can_stand_for image address (tuple_of (strings_of image) c)) (Some c) None)
-    (row_in image entry) None
-
--- the candidates that can stand for an address, in the order of the symbol table
-unfoldable pub standing : List ℕ → ℕ → List Candidate
-standing image address = filter_map (standing_in image address) (entries_of image)
+-- one of the candidates that have numbers
+abbrev pub IsAt : (ℕ → Option Candidate) → Candidate → Type 0
+IsAt at c = (i : ℕ) × (at i ≡ Some c)
 
 -- the first of some in the order of candidates
 pub record IsFirstRow (strings : List ℕ) (among : Candidate → Type 0) (found : Candidate) : Type 0 where
   pub member : among found
   pub first : (other : Candidate) → among other → tuple_cmp (tuple_of strings other) (tuple_of strings found) ≢ Less
 
--- the first of some where no more is read of names than so many first bytes
-pub record IsFirstCut (strings : List ℕ) (size : ℕ) (among : Candidate → Type 0) (found : Candidate) : Type 0 where
-  pub member : among found
-  pub first : (other : Candidate) → among other
-      → is_lt (cut_cmp size (tuple_of strings other) (tuple_of strings found)) ≡ false
-
 -- or none where there is none
+abbrev pub IsFirstRowOrNone : List ℕ → (Candidate → Type 0) → Option Candidate → Type 0
+IsFirstRowOrNone strings among found = MatchOption found ((c : Candidate) → among c → ⊥) (IsFirstRow strings among)
+
+-- one of some, before which none of them comes
+pub record IsFirstBy (comes_before : Candidate → Candidate → Bool) (among : Candidate → Type 0)
+    (found : Candidate) : Type 0 where
+  pub member : among found
+  pub first : (other : Candidate) → among other → comes_before other found ≡ false
+
+-- whether a candidate comes before another one where no more is read of names than so many first bytes
+abbrev pub begins_before : List ℕ → ℕ → Candidate → Candidate → Bool
+begins_before strings size c d = is_lt (cut_cmp size (tuple_of strings c) (tuple_of strings d))
+
+-- the first of some by that, or none where there is none
 abbrev pub IsFirstCutOrNone : List ℕ → ℕ → (Candidate → Type 0) → Option Candidate → Type 0
 IsFirstCutOrNone strings size among found =
-    MatchOption found ((c : Candidate) → among c → ⊥) (IsFirstCut strings size among)
+    MatchOption found ((c : Candidate) → among c → ⊥) (IsFirstBy (begins_before strings size) among)
 
 -- the first so far and one more where no more is read of names than so many first bytes
 abbrev pub first_cut : List ℕ → ℕ → Option Candidate → Candidate → Option Candidate
 first_cut strings size None c = Some c
-first_cut strings size (Some b) c = Some (cond (is_lt (cut_cmp size (tuple_of strings c) (tuple_of strings b))) c b)
+first_cut strings size (Some b) c = Some (cond (begins_before strings size c b) c b)
 
 -- one of some whose name has that many bytes, which no other name goes below in them, and the first of those whose
 -- names begin before a place
@@ -113,10 +113,8 @@ first_of_ends strings best (Some e) = first_row strings (first_row strings best 
 
 -- of some, the one whose name begins before those of all others, and the one whose name begins behind them
 pub record AreEnds (among : Candidate → Type 0) (ends : Ends) : Type 0 where
-  pub first_member : among ends.first
-  pub last_member : among ends.last
-  pub first : (c : Candidate) → among c → stands_before c ends.first ≡ false
-  pub last : (c : Candidate) → among c → stands_behind c ends.last ≡ false
+  pub first : IsFirstBy stands_before among ends.first
+  pub last : IsFirstBy stands_behind among ends.last
 
 -- the two ends of some, or none where there is none
 abbrev pub AreEndsOrNone : (Candidate → Type 0) → Option Ends → Type 0

@@ -5,7 +5,7 @@ ghost use Rattle.std.specs.Ordering.{ordering_then, nat_cmp, bool_cmp, is_lt};
 ghost use Rattle.std.specs.Cmp.Lexicographic.{slice_cmp};
 ghost use Rattle.macho_symbols.specs.Symbols.{name_of};
 ghost use Rattle.macho_symbols.specs.Nearest.{tuple_cmp};
-ghost use Rattle.macho_symbols.specs.Overlaps.{beginning_cmp, cut_cmp, first_row, first_cut};
+ghost use Rattle.macho_symbols.specs.Overlaps.{beginning_cmp, begins_before, first_row, first_cut};
 ghost use Rattle.macho_symbols.specs.Views.{name_view, tuple_of};
 
 use crate::name::Name;
@@ -98,7 +98,7 @@ impl Candidate {
     /// Whether it comes before another one where as many first bytes of their names are all that is read.
     #[tactic(auto, unfolding(crate::specs::Views::tuple_of))]
     fn begins_before(&self, other: &Candidate, strings: &[u8], size: usize) -> bool
-        ensures { result ≡ is_lt (cut_cmp size (tuple_of strings.now self.now) (tuple_of strings.now other.now)) }
+        ensures { result ≡ begins_before strings.now size self.now other.now }
     {
         self.compare_beginnings(other, strings, size)
             .then(self.sect.cmp(&other.sect))

@@ -1,20 +1,20 @@
 //! Of candidates whose names share as many first bytes as their places lie apart, only the first and the last
 //! by place can have the least name: the names between them repeat what stands at the first.
 
-ghost use Rattle.std.specs.Prelude.{◌≡◌, ◌<◌};
+ghost use Rattle.std.specs.Prelude.{◌≡◌, ◌≤◌};
 ghost use Rattle.macho_symbols.specs.Overlaps.{begins_in, is_tied, ties_elsewhere, stands_before};
 ghost use Rattle.macho_symbols.specs.Overlaps.{stands_behind, widened, ends_with, first_of_ends};
 
 use crate::candidate::Candidate;
 
 /// How many bytes a window of the string table has, at least.
-const LEAST_WINDOW: usize = 4096;
+pub(crate) const LEAST_WINDOW: usize = 4096;
 
 /// How many bytes the windows have in which so many names are searched, and how many first bytes of each name
 /// are compared before. There are no more windows than the square root of the number of names, so that all this
 /// reads no more than some times the string table's length times that root.
 pub(crate) fn window_size(strings: &[u8], names: usize) -> usize
-    ensures { 0 < result }
+    ensures { 4096 ≤ result }
 {
     LEAST_WINDOW.max(strings.len() / (names.isqrt().max(1)))
 }

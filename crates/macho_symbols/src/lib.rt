@@ -13,9 +13,9 @@
 //! - `symbols`: the two tables;
 //! - `candidate`: an entry that counts;
 //! - `found`: what is told of a symbol;
+//! - `ends`, `first`: the first of some candidates, whose names may overlap;
 //! - `scan`, `nearest`, `named`: the plain searches, by address and by name;
-//! - `ends`: which of the candidates whose names overlap may come first;
-//! - `extents`, `sort_keys`, `rows`, `group`, `nul_places`, `table`: the table of addresses;
+//! - `extents`, `sort_keys`, `rows`, `nul_places`, `table`: the table of addresses;
 //! - [`laws`]: what the definitions say of each other.
 #![tactic(auto)]
 
@@ -24,8 +24,8 @@ mod ends;
 mod entries;
 mod extents;
 mod fault;
+mod first;
 mod found;
-mod group;
 pub mod laws;
 mod name;
 mod named;

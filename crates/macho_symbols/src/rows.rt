@@ -12,7 +12,7 @@ ghost use Rattle.macho_symbols.specs.Halving.{place_cmp, index_in, row_at, is_be
 ghost use Rattle.macho_symbols.specs.Rows.{IsBeside, AreFirsts, AreFalling, AreRows};
 
 use crate::candidate::Candidate;
-use crate::group::first_of;
+use crate::first::first_of;
 use crate::scan::Scan;
 use crate::sort_keys::{index_in, sorted_keys};
 use crate::symbols::Symbols;
@@ -55,20 +55,13 @@ fn push_some(rows: &mut Vec<Candidate, Heap>, row: Option<Candidate>) -> Result<
     Ok(())
 }
 
-/// The candidate that the entry of an index is, if there is such an entry and it is one.
-fn candidate_at(scan: &Scan<'_>, index: usize) -> Option<Candidate>
-    ensures { result ≡ row_at scan.now index }
-{
-    scan.candidate(scan.symbols.entry(index)?)
-}
-
 /// The candidates that the entries of these keys are.
 fn rows_of_keys(heap: Heap, scan: &Scan<'_>, keys: &[u64]) -> Result<Vec<Candidate, Heap>, NoMemory>
     ensures { IfOk result (λ rows. rows.items ≡ filter_map (λ key. row_at scan.now (index_in key)) keys.now) }
 {
     let mut rows = Vec::with_capacity(heap, keys.len())?;
     for key in keys {
-        push_some(&mut rows, candidate_at(scan, index_in(*key)))?;
+        push_some(&mut rows, scan.candidate_at(index_in(*key)))?;
     }
     Ok(rows)
 }
@@ -111,7 +104,7 @@ fn keep_firsts(rows: &mut Vec<Candidate, Heap>, strings: &[u8])
     let mut index = 0;
     while index < rows.len() {
         let end = group_end(rows, index);
-        rows[kept] = first_of(&rows[index..end], strings);
+        rows[kept] = first_of(&rows[index..end], strings).unwrap_or(rows[index]);
         kept += 1;
         index = end;
     }

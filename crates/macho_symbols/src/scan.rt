@@ -6,7 +6,7 @@ ghost use Rattle.macho_image.specs.Sections.{section_of};
 ghost use Rattle.macho_image.specs.SectionViews.{section_view};
 ghost use Rattle.macho_symbols.specs.Symbols.{strings_of, is_in_section, name_in, is_candidate, candidate_in};
 ghost use Rattle.macho_symbols.specs.Found.{found_of};
-ghost use Rattle.macho_symbols.specs.Halving.{is_placed};
+ghost use Rattle.macho_symbols.specs.Halving.{is_placed, row_at};
 ghost use Rattle.macho_symbols.specs.Views.{name_view, row_in, tuple_of, found_view};
 
 use crate::candidate::Candidate;
@@ -110,6 +110,13 @@ impl<'a> Scan<'a> {
             sect: n_sect(entry),
             external: n_type(entry) & N_EXT == 1,
         })
+    }
+
+    /// The candidate that the entry of an index is, if there is such an entry and it is one.
+    pub(crate) fn candidate_at(&self, index: usize) -> Option<Candidate>
+        ensures { result ≡ row_at self.now index }
+    {
+        self.candidate(self.symbols.entry(index)?)
     }
 
     /// The names of the segment and of the section of a number, empty where there is no such section.

@@ -75,7 +75,7 @@ fn collect_keys(heap: Heap, scan: &Scan<'_>) -> Result<Vec<u64, Heap>, NoMemory>
     ensures { IfOk result (λ keys. HasEach scan.now keys.items) }
 {
     let starts = section_starts(scan);
-    let mut keys = Vec::with_capacity(heap, scan.symbols.table.nsyms as usize)?;
+    let mut keys = Vec::with_capacity(heap, scan.symbols.count())?;
     let mut index = 0u32;
     for entry in scan.symbols.entries() {
         push_placed(&mut keys, scan, &starts, entry, index)?;

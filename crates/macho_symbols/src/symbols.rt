@@ -94,6 +94,13 @@ impl<'a> Symbols<'a> {
         Entries::new(self.entry_bytes(), self.table.nsyms)
     }
 
+    /// How many entries there are.
+    pub(crate) fn count(&self) -> usize
+        ensures { result ≡ length (entries_of self.now) }
+    {
+        self.table.nsyms as usize
+    }
+
     /// The entry of an index, if there is such a one.
     pub(crate) fn entry(&self, index: usize) -> Option<&'a [u8]>
         ensures entry { option_map (λ entry. entry.now) result ≡ slice_get (entries_of self.now) index }

@@ -24,7 +24,7 @@ pub not_same : (q y : List ℕ) → (y ≡ q → ⊥) → same_as q y ≡ false
 not_same q y other = is_false (same_as q y) (λ h. other (sym (same_bytes q y h)))
 
 -- the retirements of an archive's records, whatever its version
-retired_of : (f : Format) → kind_of f ≡ Archive_text → (retired records : List (List ℕ)) → AreRetired f retired records → RetireAlike (set_of retired) (set_of records)
+pub retired_of : (f : Format) → kind_of f ≡ Archive_text → (retired records : List (List ℕ)) → AreRetired f retired records → RetireAlike (set_of retired) (set_of records)
 retired_of Archive k retired records are = are
 retired_of OldArchive k retired records are = are
 retired_of Operations_file k retired records are = absurd (no_operations_text k)

@@ -9,6 +9,7 @@ pub mod Unread
 pub mod Merges
 pub mod Gained
 pub mod Tells
+pub mod Shares
 pub mod Tellings
 pub mod TextPieces
 pub mod Lost

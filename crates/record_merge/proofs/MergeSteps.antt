@@ -11,7 +11,7 @@ use Rattle.byte_device.proofs.Gains.{stopped}
 use Rattle.byte_device.proofs.Known.{Appends-then}
 use Rattle.archive_records.specs.declared.format.Format.TheVariants.{Archive}
 use Rattle.archive_records.specs.declared.kind.TextKind.TheVariants.{Archive as Archive_text}
-use Rattle.record_merge.specs.declared.merging.Merge.{Merge}
+use Rattle.record_merge.specs.Sides.{Sides}
 use Rattle.record_merge.specs.declared.side.Lookahead.{Lookahead}
 use Rattle.record_merge.specs.declared.side.Lookahead.TheVariants.{Unread, Held, Ended}
 use Rattle.record_merge.specs.declared.side.MergeInput.{MergeInput}
@@ -101,7 +101,7 @@ pub record Next (a1 b1 a2 b2 : Option (List ℕ)) (l r : MergeInput) (out : List
   pub order : l.ahead ≡ Unread → r.ahead ≢ Unread → may_follow Archive (last_of [] rights) (last_of [] out) ≡ true
   pub joins : Joins out lefts rights
 
-module _ (a1 b1 a2 b2 w0 w1 w2 : Option (List ℕ)) (m : Merge) (p : Merging a1 b1 a2 b2 w0 w1 m) where
+module _ (a1 b1 a2 b2 w0 w1 w2 : Option (List ℕ)) (m : Sides) (p : Merging a1 b1 a2 b2 w0 w1 m) where
   unfoldable pub next_left : m.right.ahead ≢ Unread → first_of m.left m.right ≡ Less → Next a1 b1 a2 b2 (unread_of m.left) m.right (p.out ++ m.left.reader.last ∷ [])
   next_left read first =
       let x = m.left.reader.last in
@@ -284,7 +284,7 @@ before_last a b done low s p held =
     let h = (p.held held).0 in
     omega (arith, h.offset_is, ap length (concat-push done s.reader.last), length-append (concat done) s.reader.last)
 
-module _ (a1 b1 a2 b2 w0 w1 : Option (List ℕ)) (m : Merge) (p : Merging a1 b1 a2 b2 w0 w1 m) (fits : Fits m) (read : IsRead m) (some : m.left.ahead ≡ Ended → m.right.ahead ≡ Held) (tells : TellsCovered m.left m.right false) where
+module _ (a1 b1 a2 b2 w0 w1 : Option (List ℕ)) (m : Sides) (p : Merging a1 b1 a2 b2 w0 w1 m) (fits : Fits m) (read : IsRead m) (some : m.left.ahead ≡ Ended → m.right.ahead ≡ Held) (tells : TellsCovered m.left m.right false) where
   -- the record that is next is not covered
   left_free : (o : Ordering) → first_of m.left m.right ≡ o → o ≢ Greater → is_covered (set_of p.out) m.left.reader.last ≡ false
   left_free Less e n = sym (covered_push p.out m.left.reader.last) ∙ less_covered a1 b1 a2 b2 w0 w1 w1 m p read.right e false tells

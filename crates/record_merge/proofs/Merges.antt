@@ -1,5 +1,5 @@
 -- From the bytes that a merge took to whole inputs.
-use Rattle.std.proofs.Common.{◌≡◌, ◌≢◌, ℕ, ◌^◌, ◌<◌, lit<, List, [], ◌∷◌, ◌++◌, length, Option, Some, None, Result, Ok, Err, refl, sym, ap, ◌∙◌, subst, arith, inl, inr, ◌⊎◌, length-append}
+use Rattle.std.proofs.Common.{◌≡◌, ◌≢◌, ℕ, ◌^◌, ◌<◌, List, [], ◌∷◌, ◌++◌, length, Option, Some, None, Result, Ok, Err, refl, sym, ap, ◌∙◌, subst, arith, inl, inr, ◌⊎◌, length-append}
 use Rattle.std.specs.declared.cmp.Ordering.TheVariants.{Greater}
 use Rattle.record_merge.specs.declared.side.Lookahead.TheVariants.{Held}
 use Rattle.record_merge.specs.declared.side.MergeInput.{MergeInput}
@@ -26,13 +26,13 @@ use Rattle.archive_records.specs.Reading.{Blames, IsOfMachine, IsReadWhole}
 use Rattle.archive_records.specs.Reader.{HasReadAll, HasStopped, Stopped, Position}
 use Rattle.record_merge.specs.Merging.{IsArchiveText, AreGoodRecords, LeftStops, RightStops, of_both, IsWrittenBefore, GainsNoText, IsMerged, IsRefusedAlone, IsUnfailed, StopsBy, Merges}
 use Rattle.byte_device.specs.Devices.{Stream, stream}
-use Rattle.byte_device.proofs.Known.{Appends-none, Consumes-none}
 use Rattle.archive_records.proofs.FaultKinds.{memory_blames}
-use Rattle.record_merge.specs.MergeSteps.{StopsBeforeRecords, HasMagicRead, Stands, WriteStopped, IsFull, BothWanted, LeftRefused, RightRefused, memory_behind, first_of, Leaves, MergedAll, BlamesBy, BlamesDevices, ByCause, StopsMerge}
+use Rattle.record_merge.specs.MergeSteps.{StopsBeforeRecords, HasMagicRead, Stands, WriteStopped, IsFull, BothWanted, LeftRefused, RightRefused, memory_behind, first_of, Leaves, MergedAll, BlamesBy, BlamesDevices, ByCause}
 use Rattle.archive_records.proofs.Puts.{length_written, concat-push}
 use Rattle.record_merge.proofs.MergeSteps.{first_greater, first_held}
 use Rattle.archive_records.proofs.Apart.{apart_front}
 use Rattle.archive_records.proofs.Undecided.{cut_behind}
+use Rattle.record_merge.proofs.Starts.{memory_stops}
 use Rattle.record_merge.proofs.Unread.{begun_none, stopped_none, within_none, text_none}
 use Rattle.record_merge.proofs.Orders.{left_order, right_order}
 use Rattle.archive_records.proofs.Contents.{written_text}
@@ -291,10 +291,5 @@ pub no_memory : {R S W : Type 0} (left : R → Option (List ℕ)) (left_failures
 no_memory left left_failures right right_failures held failures r s w e fault is memory =
     let same : e ≡ record { cause = Left (memory_behind 0); written = 0 } = is ∙ ap left_before memory in
     merges (stream left left_failures r r) (stream right right_failures s s) (stream held failures w w) (Err e)
-    (subst (StopsMerge (left r) (left r) (right s) (right s) (held w) (held w)) (sym same) (inl (
-      refl,
-      Appends-none (held w),
-      Consumes-none (right s),
-      record { bytes = []; taken = Consumes-none (left r); stops = λ _ _. inr (inr (refl, lit< tt)); start = refl },
-    )))
+    (memory_stops (left r) (right s) (held w) e fault is memory)
     (subst (λ (f : MergeFault). BlamesBy (stream left left_failures r r) (stream right right_failures s s) (failures w) (failures w) f.cause) (sym same) (memory_blames left left_failures r r refl, refl, refl))

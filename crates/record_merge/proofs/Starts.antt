@@ -1,14 +1,15 @@
 -- How a side of a merge stands that was read on, and how a merge begins and ends.
-use Rattle.std.proofs.Common.{◌≡◌, ◌≢◌, ℕ, ◌+◌, ◌^◌, ◌<◌, true, List, [], ◌∷◌, ◌++◌, length, take, Option, Some, Result, Ok, Err, refl, sym, ap, ◌∙◌, subst, arith, inl, inr, ◌⊎◌, append_assoc, length-append}
+use Rattle.std.proofs.Common.{◌≡◌, ◌≢◌, ℕ, ◌+◌, ◌^◌, ◌<◌, lit<, true, List, [], ◌∷◌, ◌++◌, length, take, Option, Some, Result, Ok, Err, refl, sym, ap, ◌∙◌, subst, arith, inl, inr, ◌⊎◌, append_assoc, length-append}
 use Rattle.std.proofs.lemmas.List.{append-nil, take-append-le}
 use Rattle.std.specs.List.{concat}
 use Rattle.std.specs.Io.KnownBytes.{Appends, Consumes}
 use Rattle.byte_device.specs.Writes.{WritesFirst}
 use Rattle.byte_device.proofs.Gains.{stopped}
+use Rattle.byte_device.proofs.Known.{Appends-none, Consumes-none}
 use Rattle.archive_records.specs.declared.format.Format.{Format}
 use Rattle.archive_records.specs.declared.format.Format.TheVariants.{Archive, OldArchive, Operations as Operations_file, Summary as Summary_file}
 use Rattle.archive_records.specs.declared.kind.TextKind.TheVariants.{Archive as Archive_text}
-use Rattle.record_merge.specs.declared.merging.Merge.{Merge}
+use Rattle.record_merge.specs.Sides.{Sides}
 use Rattle.record_merge.specs.declared.side.Lookahead.TheVariants.{Unread, Held, Ended}
 use Rattle.record_merge.specs.declared.side.MergeInput.{MergeInput}
 use Rattle.archive_records.specs.Kind.{magic, magic_of, kind_of, may_follow, IsItem, end_length}
@@ -137,7 +138,7 @@ no_end_record f k rest last n (inl w) same = false≢true (sym (item-no_end f re
 no_end_record f k rest last n (inr cut) same = whole_or_cut (framed f rest) 9 (ap (framed f) same ∙ framed_last f k n) cut.0
 
 -- where the left side is told of it no device failed
-pub told_right : {S : Type 0} (right : Stream S) (m : Merge) (fault : RecordFault) (e : MergeFault) → IsToldOfRight m fault e → Blames right.bytes right.failures right.old right.new fault.kind → BlamesRight right e.cause
+pub told_right : {S : Type 0} (right : Stream S) (m : Sides) (fault : RecordFault) (e : MergeFault) → IsToldOfRight m fault e → Blames right.bytes right.failures right.old right.new fault.kind → BlamesRight right e.cause
 told_right right m fault e (inl (memory, both, is)) blames = subst (λ (t : MergeFault). BlamesRight right t.cause) (sym is) (refl, blames.1 (λ device. device_memory (sym device ∙ memory)))
   where
     device_memory : Device ≡ OutOfMemory → ⊥
@@ -174,7 +175,7 @@ blamed_later a f bytes h r0 r1 r2 s0 s1 s2 w0 w1 w2 Write r s w blames = (blames
 -- ---- both sides are read on
 
 -- the left side was read on from where the merge stood
-module _ (a1 a2 w0 w1 b1 b2 c1 : Option (List ℕ)) (m : Merge) (p : Merging a1 b1 a2 b2 w0 w1 m) where
+module _ (a1 a2 w0 w1 b1 b2 c1 : Option (List ℕ)) (m : Sides) (p : Merging a1 b1 a2 b2 w0 w1 m) where
   -- and stopped
   pub left_stops : (fault : RecordFault) (e : MergeFault) (last : List ℕ) → e ≡ record { cause = Left fault; written = m.written.bytes } → m.left.ahead ≡ Unread → ((done : List (List ℕ)) (low : List ℕ) → Stands a1 b1 done low m.left → StoppedWith m.left.reader.file a1 c1 done fault last × (last_of [] done ≡ low))
       → HasStoppedMerge a1 c1 a2 b2 w0 w1 e
@@ -211,7 +212,7 @@ module _ (a1 a2 w0 w1 b1 b2 c1 : Option (List ℕ)) (m : Merge) (p : Merging a1 
   }
 
 -- and so was the right side behind it
-module _ (a1 a2 w0 w1 b1 b2 c2 : Option (List ℕ)) (m : Merge) (p : Merging a1 b1 a2 b2 w0 w1 m) (read : m.left.ahead ≢ Unread) where
+module _ (a1 a2 w0 w1 b1 b2 c2 : Option (List ℕ)) (m : Sides) (p : Merging a1 b1 a2 b2 w0 w1 m) (read : m.left.ahead ≢ Unread) where
   -- and stopped
   abbrev pub right_stopped : (fault : RecordFault) → Stopped m.right.reader.file a2 c2 p.rights fault → last_of [] p.rights ≡ last_of [] p.out → RightStopped a1 b1 a2 c2 w0 w1 fault m.written.bytes
   right_stopped fault s last = record {
@@ -283,10 +284,20 @@ stops_later a1 b1 a2 b2 w0 w1 e h = by e.cause h
     by (Right fault) p = inr p
     by Write p = p
 
+-- a merge for which there is no memory reads nothing
+pub memory_stops : (a1 a2 w0 : Option (List ℕ)) (e : MergeFault) (fault : RecordFault) → e ≡ record { cause = Left fault; written = 0 } → fault ≡ memory_behind 0 → MergeStops a1 a1 a2 a2 w0 w0 e
+memory_stops a1 a2 w0 e fault is memory =
+    subst (MergeStops a1 a1 a2 a2 w0 w0) (sym (is ∙ ap (λ (f : RecordFault). record { cause = Left f; written = 0 }) memory)) (inl (
+      refl,
+      Appends-none w0,
+      Consumes-none a2,
+      record { bytes = []; taken = Consumes-none a1; stops = λ _ _. inr (inr (refl, lit< tt)); start = refl },
+    ))
+
 -- ---- the end record
 
 -- the writer failed in it
-pub end_stops : (a1 b1 a2 b2 w0 w1 w2 : Option (List ℕ)) (m : Merge) → Merging a1 b1 a2 b2 w0 w1 m → m.left.ahead ≡ Ended → m.right.ahead ≡ Ended → (written k : ℕ) → written ≡ m.written.bytes + k → WritesFirst w1 w2 (end_record m.written.records) k → WriteStopped a1 b1 a2 b2 w0 w2 written
+pub end_stops : (a1 b1 a2 b2 w0 w1 w2 : Option (List ℕ)) (m : Sides) → Merging a1 b1 a2 b2 w0 w1 m → m.left.ahead ≡ Ended → m.right.ahead ≡ Ended → (written k : ℕ) → written ≡ m.written.bytes + k → WritesFirst w1 w2 (end_record m.written.records) k → WriteStopped a1 b1 a2 b2 w0 w2 written
 end_stops a1 b1 a2 b2 w0 w1 w2 m p left_end right_end written k is q =
     let records : List (List ℕ) = kept p.out in
     let front : List ℕ = magic ++ concat records in

@@ -33,11 +33,11 @@ use Rattle.archive_records.proofs.Framed.{framed-empty}
 use Rattle.archive_records.proofs.KeptRecords.{long_record}
 use Rattle.archive_records.proofs.Puts.{bytes_same}
 use Rattle.archive_records.proofs.Undecided.{cut_off}
-use Rattle.record_merge.specs.declared.merging.Merge.{Merge}
+use Rattle.record_merge.specs.Sides.{Sides}
 use Rattle.record_merge.specs.declared.side.Lookahead.TheVariants.{Unread, Held, Ended}
 use Rattle.record_merge.specs.declared.side.MergeInput.{MergeInput}
 use Rattle.record_merge.specs.declared.turns.Turn.{Turn}
-use Rattle.record_merge.specs.MergeSteps.{HasStoppedMerge, IsRecordWritten, Joins, Merging, Stands, TellsBy, TellsCovered, first_of, memory_behind}
+use Rattle.record_merge.specs.MergeSteps.{HasStoppedMerge, IsRecordWritten, Joins, MergedAll, Merging, Stands, TellsBy, TellsCovered, first_of, memory_behind}
 use Rattle.record_merge.specs.TellingSteps.{Telling, TellsNextBy, TellsNext, ToldAll, has_next, has_next_by, is_withdrawn, told_with}
 use Rattle.record_merge.specs.Turns.{turn_by, turn_of}
 use Rattle.record_merge.proofs.Covered.{covered_by, not_same}
@@ -140,7 +140,7 @@ withdraws_same false w = refl
 
 -- ---- a turn
 
-module _ (a1 b1 a2 b2 w0 w1 w2 : Option (List ℕ)) (m : Merge) (told : List Turn) (withdraws : Bool) (turn : Option Turn) (t : Telling a1 b1 a2 b2 w0 w1 m told withdraws) (tells : TellsNext m turn) where
+module _ (a1 b1 a2 b2 w0 w1 w2 : Option (List ℕ)) (m : Sides) (told : List Turn) (withdraws : Bool) (turn : Option Turn) (t : Telling a1 b1 a2 b2 w0 w1 m told withdraws) (tells : TellsNext m turn) where
   abbrev p : Merging a1 b1 a2 b2 w0 w1 m
   p = t.merging
 
@@ -279,12 +279,12 @@ tells_start a1 b1 a2 b2 w0 w1 left right f g h k s t x x_is written n p = record
 
 -- ---- a side is read on
 
-pub tells_left_read : (a1 a2 w0 w1 b1 b2 c1 : Option (List ℕ)) (m : Merge) (told : List Turn) (withdraws : Bool) → Telling a1 b1 a2 b2 w0 w1 m told withdraws → (left : MergeInput) → left.ahead ≢ Unread → ((done : List (List ℕ)) (low : List ℕ) → Stands a1 b1 done low m.left → Stands a1 c1 done low left)
+pub tells_left_read : (a1 a2 w0 w1 b1 b2 c1 : Option (List ℕ)) (m : Sides) (told : List Turn) (withdraws : Bool) → Telling a1 b1 a2 b2 w0 w1 m told withdraws → (left : MergeInput) → left.ahead ≢ Unread → ((done : List (List ℕ)) (low : List ℕ) → Stands a1 b1 done low m.left → Stands a1 c1 done low left)
     → Telling a1 c1 a2 b2 w0 w1 (record { left = left; right = m.right; written = m.written }) told withdraws
 unfolding left_read
 tells_left_read a1 a2 w0 w1 b1 b2 c1 m told withdraws t left read stands = record { merging = left_read a1 a2 w0 w1 b1 b2 c1 m t.merging left read stands; turns_are = t.turns_are; withdraws_is = t.withdraws_is }
 
-pub tells_right_read : (a1 a2 w0 w1 b1 b2 c2 : Option (List ℕ)) (m : Merge) (told : List Turn) (withdraws : Bool) → Telling a1 b1 a2 b2 w0 w1 m told withdraws → m.left.ahead ≢ Unread → (right : MergeInput) → ((done : List (List ℕ)) (low : List ℕ) → Stands a2 b2 done low m.right → Stands a2 c2 done low right)
+pub tells_right_read : (a1 a2 w0 w1 b1 b2 c2 : Option (List ℕ)) (m : Sides) (told : List Turn) (withdraws : Bool) → Telling a1 b1 a2 b2 w0 w1 m told withdraws → m.left.ahead ≢ Unread → (right : MergeInput) → ((done : List (List ℕ)) (low : List ℕ) → Stands a2 b2 done low m.right → Stands a2 c2 done low right)
     → Telling a1 b1 a2 c2 w0 w1 (record { left = m.left; right = right; written = m.written }) told withdraws
 unfolding right_read
 tells_right_read a1 a2 w0 w1 b1 b2 c2 m told withdraws t read right stands = record { merging = right_read a1 a2 w0 w1 b1 b2 c2 m t.merging read right stands; turns_are = t.turns_are; withdraws_is = t.withdraws_is }
@@ -295,7 +295,7 @@ nothing_more : (file : Format) (low : List ℕ) (count : ℕ) → next file low 
 unfolding next
 nothing_more file low count = ap (λ r. next_by file r low count []) (framed-empty file [] (lit≤ tt))
 
-pub no_room : (a1 b1 a2 b2 w0 w1 : Option (List ℕ)) (m : Merge) → Merging a1 b1 a2 b2 w0 w1 m → m.left.ahead ≢ Unread → m.right.ahead ≡ Unread → m.right.reader.count < 2 ^ 63 → (e : MergeFault) (fault : RecordFault) (offset : ℕ) → e ≡ record { cause = Right fault; written = m.written.bytes }
+pub no_room : (a1 b1 a2 b2 w0 w1 : Option (List ℕ)) (m : Sides) → Merging a1 b1 a2 b2 w0 w1 m → m.left.ahead ≢ Unread → m.right.ahead ≡ Unread → m.right.reader.count < 2 ^ 63 → (e : MergeFault) (fault : RecordFault) (offset : ℕ) → e ≡ record { cause = Right fault; written = m.written.bytes }
     → fault ≡ memory_behind offset → offset ≡ m.right.reader.offset → HasStoppedMerge a1 b1 a2 b2 w0 w1 e
 no_room a1 b1 a2 b2 w0 w1 m p read unread few e fault offset is memory at =
     let h = (p.right.unread unread).0 in
@@ -324,7 +324,7 @@ no_room a1 b1 a2 b2 w0 w1 m p read unread few e fault offset is memory at =
 -- ---- what is told
 
 -- the same, as it is held
-pub tells_as : (a1 b1 a2 b2 w0 w1 : Option (List ℕ)) (m : Merge) (told held : List Turn) (withdraws kept : Bool) → held ≡ told → kept ≡ withdraws → Telling a1 b1 a2 b2 w0 w1 m told withdraws → Telling a1 b1 a2 b2 w0 w1 m held kept
+pub tells_as : (a1 b1 a2 b2 w0 w1 : Option (List ℕ)) (m : Sides) (told held : List Turn) (withdraws kept : Bool) → held ≡ told → kept ≡ withdraws → Telling a1 b1 a2 b2 w0 w1 m told withdraws → Telling a1 b1 a2 b2 w0 w1 m held kept
 tells_as a1 b1 a2 b2 w0 w1 m told held withdraws kept same alike t = record {
   merging = t.merging;
   turns_are = same ∙ t.turns_are;
@@ -337,15 +337,14 @@ told_or_stopped P M Q (Ok x) told merging = told
 told_or_stopped P M Q (Err e) told merging = merging
 
 -- the merge ended
-pub tells_end : (a1 b1 a2 b2 w0 w1 w2 : Option (List ℕ)) (m : Merge) (told : List Turn) (withdraws : Bool) → Telling a1 b1 a2 b2 w0 w1 m told withdraws → m.left.ahead ≡ Ended → m.right.ahead ≡ Ended → m.written.records < 2 ^ 63 → (sizes : Sizes) → Appends w1 w2 (end_record m.written.records) → sizes.records ≡ m.written.records
-    → sizes.bytes ≡ m.written.bytes + length (end_record m.written.records) → ToldAll a1 b1 a2 b2 w0 w2 sizes told withdraws
-tells_end a1 b1 a2 b2 w0 w1 w2 m told withdraws t left_end right_end few sizes gained records bytes =
-    let p = t.merging in
-    let front : List ℕ = magic ++ concat (kept p.out) in
-    let end : List ℕ = end_record m.written.records in
-    let text : text_of Archive (kept p.out) ≡ front ++ end = ap (λ (n : ℕ). magic ++ (concat (kept p.out) ++ end_record n)) (sym p.records) ∙ sym (append_assoc magic (concat (kept p.out)) end) in
-    record {
-      merged = record {
+module _ (a1 b1 a2 b2 w0 w1 w2 : Option (List ℕ)) (m : Sides) (left_end : m.left.ahead ≡ Ended) (right_end : m.right.ahead ≡ Ended) (few : m.written.records < 2 ^ 63) (sizes : Sizes) (gained : Appends w1 w2 (end_record m.written.records)) (records : sizes.records ≡ m.written.records)
+    (bytes : sizes.bytes ≡ m.written.bytes + length (end_record m.written.records)) where
+  abbrev pub merging_end : Merging a1 b1 a2 b2 w0 w1 m → MergedAll a1 b1 a2 b2 w0 w2 sizes
+  merging_end p =
+      let front : List ℕ = magic ++ concat (kept p.out) in
+      let end : List ℕ = end_record m.written.records in
+      let text : text_of Archive (kept p.out) ≡ front ++ end = ap (λ (n : ℕ). magic ++ (concat (kept p.out) ++ end_record n)) (sym p.records) ∙ sym (append_assoc magic (concat (kept p.out)) end) in
+      record {
         lefts = p.lefts;
         rights = p.rights;
         out = p.out;
@@ -360,7 +359,7 @@ tells_end a1 b1 a2 b2 w0 w1 w2 m told withdraws t left_end right_end few sizes g
         gained = subst (Appends w0 w2) (sym text) (Appends-then w0 w1 w2 front end p.gained gained);
         records = records ∙ p.records;
         bytes = omega (arith, bytes, p.bytes, ap length text, length-append front end, length-append magic (concat (kept p.out)));
-      };
-      turns_are = t.turns_are;
-      withdraws_is = t.withdraws_is;
-    }
+      }
+
+  pub tells_end : (told : List Turn) (withdraws : Bool) → Telling a1 b1 a2 b2 w0 w1 m told withdraws → ToldAll a1 b1 a2 b2 w0 w2 sizes told withdraws
+  tells_end told withdraws t = record { merged = merging_end t.merging; turns_are = t.turns_are; withdraws_is = t.withdraws_is }

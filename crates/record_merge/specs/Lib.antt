@@ -1,5 +1,6 @@
 pub mod Lent
 pub mod Merging
+pub mod Sides
 pub mod MergeSteps
 pub mod Turns
 pub mod Telling

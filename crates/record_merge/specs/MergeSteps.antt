@@ -19,7 +19,7 @@ use Rattle.archive_records.specs.declared.fault.MergeFault.{MergeFault}
 use Rattle.archive_records.specs.declared.format.Format.{Format}
 use Rattle.archive_records.specs.declared.format.Format.TheVariants.{Archive}
 use Rattle.archive_records.specs.declared.kind.TextKind.TheVariants.{Archive as Archive_text}
-use Rattle.record_merge.specs.declared.merging.Merge.{Merge}
+use Rattle.record_merge.specs.Sides.{Sides}
 use Rattle.record_merge.specs.declared.side.Lookahead.{Lookahead}
 use Rattle.record_merge.specs.declared.side.Lookahead.TheVariants.{Unread, Held, Ended}
 use Rattle.record_merge.specs.declared.side.MergeInput.{MergeInput}
@@ -106,7 +106,7 @@ pub record Joins (out lefts rights : List (List ℕ)) : Type 0 where
 -- What was read of both, but for what is held, which is above it, ascends as `out`: that was written but for what is
 -- covered in it. Where the left side is to be read on and the right one was, the right one's last record is not the
 -- last of both.
-pub record Merging (a1 b1 a2 b2 w0 w1 : Option (List ℕ)) (m : Merge) : Type 0 where
+pub record Merging (a1 b1 a2 b2 w0 w1 : Option (List ℕ)) (m : Sides) : Type 0 where
   pub lefts : List (List ℕ)
   pub rights : List (List ℕ)
   pub out : List (List ℕ)
@@ -317,7 +317,7 @@ Leaves a1 b1 a2 b2 w0 w1 (Err e) = StopsMerge a1 b1 a2 b2 w0 w1 e
 -- ---- numbers
 
 -- The numbers of a merge fit.
-pub record Fits (m : Merge) : Type 0 where
+pub record Fits (m : Sides) : Type 0 where
   pub left_archive : kind_of m.left.reader.file ≡ Archive_text
   pub right_archive : kind_of m.right.reader.file ≡ Archive_text
   pub left_few : m.left.reader.count < 2 ^ 63
@@ -331,33 +331,33 @@ memory_for side = memory_behind (side.reader.offset - length side.reader.last)
 
 -- What is told where one record more would be written than there may be: memory is wanted by the side that it comes
 -- from, behind those before it.
-abbrev pub IsRefusedMore : Merge → MergeFault → Type 0
+abbrev pub IsRefusedMore : Sides → MergeFault → Type 0
 IsRefusedMore m e =
     (m.written.records ≡ most_records) × (e.written ≡ m.written.bytes)
     × (((first_of m.left m.right ≢ Greater) × (e.cause ≡ Left (memory_for m.left)))
     ⊎ ((first_of m.left m.right ≡ Greater) × (e.cause ≡ Right (memory_for m.right))))
 
 -- The left side holds the record that the right side read last.
-abbrev pub IsLastOfBoth : Merge → Type 0
+abbrev pub IsLastOfBoth : Sides → Type 0
 IsLastOfBoth m = (m.left.ahead ≡ Held) × (m.left.reader.last ≡ m.right.reader.last)
 
 -- What is told where the right side is refused so: want of memory for a record that the left side holds, too, is that
 -- side's.
-abbrev pub IsToldOfRight : Merge → RecordFault → MergeFault → Type 0
+abbrev pub IsToldOfRight : Sides → RecordFault → MergeFault → Type 0
 IsToldOfRight m fault e =
     ((fault.kind ≡ OutOfMemory) × IsLastOfBoth m
     × (e ≡ record { cause = Left (memory_for m.left); written = m.written.bytes }))
     ⊎ ((fault.kind ≡ OutOfMemory → IsLastOfBoth m → ⊥)
     × (e ≡ record { cause = Right fault; written = m.written.bytes }))
 
-abbrev pub cost_of : Merge → ℕ
+abbrev pub cost_of : Sides → ℕ
 cost_of m = weight m.left + weight m.right
 
 -- nothing is to be read
-pub record IsRead (m : Merge) : Type 0 where
+pub record IsRead (m : Sides) : Type 0 where
   pub left : m.left.ahead ≢ Unread
   pub right : m.right.ahead ≢ Unread
 
 -- Where the right side's record was next, that side is to be read on.
-abbrev pub HadTurn : Merge → Merge → Type 0
+abbrev pub HadTurn : Sides → Sides → Type 0
 HadTurn old new = first_of old.left old.right ≢ Less → new.right.ahead ≡ Unread

@@ -1,6 +1,6 @@
 -- What a merge tells of its sides, turn by turn: the words of the inner functions. No contract of a public one has
 -- them.
-use Rattle.std.specs.Prelude.{◌≡◌, ℕ, List, [], ◌∷◌, ◌++◌, length, map, Bool, true, false, not, ◌&&◌}
+use Rattle.std.specs.Prelude.{◌≡◌, ℕ, List, [], ◌∷◌, ◌++◌, map, Bool, true, false, not, ◌&&◌}
 use Rattle.std.specs.Prelude.{Option, Some, None}
 use Rattle.std.specs.declared.cmp.Ordering.{Ordering}
 use Rattle.std.specs.declared.cmp.Ordering.TheVariants.{Less, Equal, Greater}
@@ -9,7 +9,7 @@ use Rattle.archive_core.specs.Content.{Operations, is_covered}
 use Rattle.archive_core.specs.Record.{IsRecord}
 use Rattle.archive_records.specs.declared.writing.Sizes.{Sizes}
 use Rattle.archive_records.specs.Reader.{set_of}
-use Rattle.record_merge.specs.declared.merging.Merge.{Merge}
+use Rattle.record_merge.specs.Sides.{Sides}
 use Rattle.record_merge.specs.declared.side.MergeInput.{MergeInput}
 use Rattle.record_merge.specs.declared.turns.Turn.{Turn}
 use Rattle.record_merge.specs.MergeSteps.{Merging, MergedAll, first_of}
@@ -22,7 +22,7 @@ TellsNextBy Equal left right turn = turn ≡ Some (turn_by left.reader.dropped t
 TellsNextBy Greater left right turn = IsRecord right.reader.last
     → turn ≡ Some (turn_by (is_covered (set_of left.reader.retired) right.reader.last) false)
 
-abbrev pub TellsNext : Merge → Option Turn → Type 0
+abbrev pub TellsNext : Sides → Option Turn → Type 0
 TellsNext m turn = TellsNextBy (first_of m.left m.right) m.left m.right turn
 
 -- whether the left side has the record that is next: it reads it, and does not retire it
@@ -31,7 +31,7 @@ has_next_by Less left = not left.reader.dropped
 has_next_by Equal left = not left.reader.dropped
 has_next_by Greater left = false
 
-abbrev pub has_next : Merge → Bool
+abbrev pub has_next : Sides → Bool
 has_next m = has_next_by (first_of m.left m.right) m.left
 
 -- what was told, with what there is to tell
@@ -45,7 +45,7 @@ is_withdrawn o p r = is_covered p r && not (is_covered o r)
 
 -- A merge that stands so; and of each record of the right side that had its turn it is told what it is to what those of
 -- the left side make, and whether those of the right side retire one of the left side's.
-pub record Telling (a1 b1 a2 b2 w0 w1 : Option (List ℕ)) (m : Merge) (turns : List Turn) (withdraws : Bool)
+pub record Telling (a1 b1 a2 b2 w0 w1 : Option (List ℕ)) (m : Sides) (turns : List Turn) (withdraws : Bool)
     : Type 0 where
   pub merging : Merging a1 b1 a2 b2 w0 w1 m
   pub turns_are : turns ≡ map (turn_of (set_of merging.lefts)) merging.rights

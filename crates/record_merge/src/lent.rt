@@ -69,7 +69,7 @@ impl<'a> LentText<'a> {
     {
         match operation {
             Operation::Admit(slice) => {
-                self.front = Front::of(&admission_head(slice));
+                self.front = Front::of(&admission_head(&slice.lend()));
                 self.slice = slice.bytes();
             }
             Operation::Retire(key, digest) => self.front = Front::of(&retirement_bytes(

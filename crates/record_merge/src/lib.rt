@@ -1,6 +1,7 @@
 //! Two texts of archives, merged record by record.
 //!
-//! - `side`, `merging`, `streams`: [`merge_streams`], in the memory of one record of each side and of its retirements;
+//! - `side`, `merging`, `streams`: [`merge_streams`], in the memory of one record of each side and of the
+//!   retirements of either, each kept once;
 //! - `telling`, `turns`: [`merge_telling`], which tells, too, what the records of the right side are to the left one;
 //! - `losses`: [`lost_operations`], by which one archive is above another; `laws`: that none lost means above;
 //! - `front`, `lent`: [`LentText`], the text of operations that is merged without being written down.

@@ -22,7 +22,7 @@ fn number_of_new(turns: &[Turn]) -> u64
 /// How many operations of the old archive the new one neither has nor covers by a retirement: those that are lost where
 /// it takes the place of the old one. Each may be of either version. The two are read side by side, as
 /// [`merge_streams`](crate::merge_streams) reads them, in the memory of one record of each, of 57 bytes for each
-/// retirement and of one for each record of the old one.
+/// retirement of either and of one for each record of the old one.
 ///
 /// # Errors
 ///

@@ -11,19 +11,23 @@ ghost use Rattle.record_merge.specs.MergeSteps.{BlamesDevices, Fits, HasStoppedM
 ghost use Rattle.record_merge.specs.MergeSteps.{IsLastOfBoth, IsToldOfRight, IsRecordWritten};
 ghost use Rattle.record_merge.specs.MergeSteps.{Merging, TellsCovered, WriteStopped, cost_of, first_of};
 ghost use Rattle.record_merge.specs.MergeSteps.{BlamesLeft, BlamesRight, BlamesWriter, HadTurn};
+ghost use Rattle.record_merge.specs.Sides.{sides_of};
 ghost use Rattle.record_merge.specs.declared.turns.Turn.{Turn};
 ghost use Rattle.record_merge.specs.TellingSteps.{Telling, TellsNext, has_next, told_with};
 
 use crate::side::{Lookahead, MergeInput};
+use archive_core::Retirements;
 use archive_records::{MOST, MergeCause, MergeFault, RecordFault, RecordFaultKind, Sizes};
 use byte_device::{Sink, Source, WriteFault, put};
 use std::cmp::Ordering;
 
-/// Two texts that are merged, and how much of their join was written.
+/// Two texts that are merged, and how much of their join was written. A retirement that both sides have is kept once,
+/// in what they share, and counts as each one's own.
 #[derive(Drop)]
 pub struct Merge {
     pub left: MergeInput,
     pub right: MergeInput,
+    pub shared: Retirements,
     pub written: Sizes,
 }
 
@@ -43,7 +47,7 @@ impl Merge {
     fn test_number(&self) -> Result<(), MergeFault>
         requires { self.now.written.records < 2 ^ 63 }
         ensures room { OnOk result (self.now.written.records < most_records) }
-        ensures refused { IfErr result (λ e. IsRefusedMore self.now e) }
+        ensures refused { IfErr result (λ e. IsRefusedMore (sides_of self.now) e) }
     {
         if self.written.records < MOST {
             return Ok(());
@@ -57,7 +61,7 @@ impl Merge {
 
     /// Whether the left side holds the record that the right side read last.
     fn is_last_of_both(&self) -> bool
-        ensures { IsTrue result ↔ IsLastOfBoth self.now }
+        ensures { IsTrue result ↔ IsLastOfBoth (sides_of self.now) }
     {
         self.left.ahead == Lookahead::Held && self.left.reader.last() == self.right.reader.last()
     }
@@ -65,7 +69,7 @@ impl Merge {
     /// What is told where the right side is refused so. Want of memory for a record that both sides have is the left
     /// one's: the right side read it whole, and the left side holds it.
     fn right_refused(&self, fault: RecordFault) -> MergeFault
-        ensures { IsToldOfRight self.now fault result }
+        ensures { IsToldOfRight (sides_of self.now) fault result }
     {
         if fault.kind == RecordFaultKind::OutOfMemory && self.is_last_of_both() {
             return self.stopped_by(MergeCause::Left(self.left.out_of_memory()));
@@ -75,7 +79,7 @@ impl Merge {
 
     /// Whether both texts were read to their ends.
     pub fn is_done(&self) -> bool
-        requires { IsRead self.now }
+        requires { IsRead (sides_of self.now) }
         ensures left { result ≡ true → self.now.left.ahead ≡ Lookahead.Ended }
         ensures right { result ≡ true → self.now.right.ahead ≡ Lookahead.Ended }
         ensures some { result ≡ false → self.now.left.ahead ≡ Lookahead.Ended → self.now.right.ahead ≡ Lookahead.Held }
@@ -102,30 +106,34 @@ pub fn first(left: &MergeInput, right: &MergeInput) -> Ordering
 /// where the reader tells it. All retirements stand before the admissions, so both sides' were read where an admission
 /// is next.
 fn is_covered(m: &mut Merge) -> bool
-    ensures covered { TellsCovered m.old.left m.old.right result }
+    ensures covered { TellsCovered (sides_of m.old).left (sides_of m.old).right result }
     ensures same { m.new ≡ m.old }
 {
     match first(&m.left, &m.right) {
-        Ordering::Less => m.left.reader.dropped() || m.right.reader.retires(&mut m.left.reader),
+        Ordering::Less => {
+            m.left.reader.dropped() || m.right.reader.retires_beside(&m.shared, &mut m.left.reader)
+        }
         Ordering::Equal => m.left.reader.dropped() || m.right.reader.dropped(),
-        Ordering::Greater => m.right.reader.dropped() || m.left.reader.retires(&mut m.right.reader),
+        Ordering::Greater => {
+            m.right.reader.dropped() || m.left.reader.retires_beside(&m.shared, &mut m.right.reader)
+        }
     }
 }
 
 /// Leaves the side or sides that the record which is next comes from to be read on, as if it had been written.
 fn pass_over(m: &mut Merge)
-    requires read { IsRead m.old }
+    requires read { IsRead (sides_of m.old) }
     requires some { m.old.left.ahead ≡ Lookahead.Ended → m.old.right.ahead ≡ Lookahead.Held }
-    requires fits { Fits m.old }
-    requires covered { TellsCovered m.old.left m.old.right true }
-    ensures merging { (a1 b1 a2 b2 w0 w1 : Option (List ℕ)) → Merging a1 b1 a2 b2 w0 w1 m.old
-        → Merging a1 b1 a2 b2 w0 w1 m.new }
+    requires fits { Fits (sides_of m.old) }
+    requires covered { TellsCovered (sides_of m.old).left (sides_of m.old).right true }
+    ensures merging { (a1 b1 a2 b2 w0 w1 : Option (List ℕ)) → Merging a1 b1 a2 b2 w0 w1 (sides_of m.old)
+        → Merging a1 b1 a2 b2 w0 w1 (sides_of m.new) }
     ensures telling { (a1 b1 a2 b2 w0 w1 : Option (List ℕ)) (told : List Turn) (withdraws : Bool) (turn : Option Turn)
-        → Telling a1 b1 a2 b2 w0 w1 m.old told withdraws → TellsNext m.old turn
-        → Telling a1 b1 a2 b2 w0 w1 m.new (told_with told turn) (has_next m.old || withdraws) }
-    ensures fits { Fits m.new }
-    ensures had { HadTurn m.old m.new }
-    ensures less { cost_of m.new < cost_of m.old }
+        → Telling a1 b1 a2 b2 w0 w1 (sides_of m.old) told withdraws → TellsNext (sides_of m.old) turn
+        → Telling a1 b1 a2 b2 w0 w1 (sides_of m.new) (told_with told turn) (has_next (sides_of m.old) || withdraws) }
+    ensures fits { Fits (sides_of m.new) }
+    ensures had { HadTurn (sides_of m.old) (sides_of m.new) }
+    ensures less { cost_of (sides_of m.new) < cost_of (sides_of m.old) }
 {
     match first(&m.left, &m.right) {
         Ordering::Less => m.left.ahead = Lookahead::Unread,
@@ -160,21 +168,21 @@ fn put_held<W: Sink>(
 
 /// Writes the record that is next, once, and leaves the side or sides that it came from to be read on.
 fn write_first<W: Sink>(w: &mut W, m: &mut Merge) -> Result<(), WriteFault>
-    requires read { IsRead m.old }
+    requires read { IsRead (sides_of m.old) }
     requires some { m.old.left.ahead ≡ Lookahead.Ended → m.old.right.ahead ≡ Lookahead.Held }
-    requires fits { Fits m.old }
+    requires fits { Fits (sides_of m.old) }
     requires room { m.old.written.records < most_records }
-    requires kept { TellsCovered m.old.left m.old.right false }
-    ensures merging { (a1 b1 a2 b2 w0 : Option (List ℕ)) → Merging a1 b1 a2 b2 w0 (W.held w.old) m.old
+    requires kept { TellsCovered (sides_of m.old).left (sides_of m.old).right false }
+    ensures merging { (a1 b1 a2 b2 w0 : Option (List ℕ)) → Merging a1 b1 a2 b2 w0 (W.held w.old) (sides_of m.old)
         → MatchResult result
-        (λ _. Merging a1 b1 a2 b2 w0 (W.held w.new) m.new)
+        (λ _. Merging a1 b1 a2 b2 w0 (W.held w.new) (sides_of m.new))
         (λ fault. WriteStopped a1 b1 a2 b2 w0 (W.held w.new) fault.written) }
     ensures telling { (a1 b1 a2 b2 w0 : Option (List ℕ)) (told : List Turn) (withdraws : Bool) (turn : Option Turn)
-        → Telling a1 b1 a2 b2 w0 (W.held w.old) m.old told withdraws → TellsNext m.old turn
-        → OnOk result (Telling a1 b1 a2 b2 w0 (W.held w.new) m.new (told_with told turn) withdraws) }
-    ensures fits { OnOk result (Fits m.new) }
-    ensures had { OnOk result (HadTurn m.old m.new) }
-    ensures less { OnOk result (cost_of m.new < cost_of m.old) }
+        → Telling a1 b1 a2 b2 w0 (W.held w.old) (sides_of m.old) told withdraws → TellsNext (sides_of m.old) turn
+        → OnOk result (Telling a1 b1 a2 b2 w0 (W.held w.new) (sides_of m.new) (told_with told turn) withdraws) }
+    ensures fits { OnOk result (Fits (sides_of m.new)) }
+    ensures had { OnOk result (HadTurn (sides_of m.old) (sides_of m.new)) }
+    ensures less { OnOk result (cost_of (sides_of m.new) < cost_of (sides_of m.old)) }
     ensures unfailed { OnOk result (W.failures w.new ≡ W.failures w.old) }
     ensures failed { IfErr result (λ _. FailedIn (W.failures w.old) (W.failures w.new)) }
 {
@@ -191,20 +199,20 @@ fn write_first<W: Sink>(w: &mut W, m: &mut Merge) -> Result<(), WriteFault>
 /// Gives the record that is next its turn: it is written, unless the retirements of either side cover it, and the side
 /// or sides that it came from are left to be read on. Tells whether it was passed over.
 pub fn take_turn<W: Sink>(w: &mut W, m: &mut Merge) -> Result<bool, MergeFault>
-    requires fits { Fits m.old }
-    requires read { IsRead m.old }
+    requires fits { Fits (sides_of m.old) }
+    requires read { IsRead (sides_of m.old) }
     requires some { m.old.left.ahead ≡ Lookahead.Ended → m.old.right.ahead ≡ Lookahead.Held }
-    ensures merging { (a1 b1 a2 b2 w0 : Option (List ℕ)) → Merging a1 b1 a2 b2 w0 (W.held w.old) m.old
+    ensures merging { (a1 b1 a2 b2 w0 : Option (List ℕ)) → Merging a1 b1 a2 b2 w0 (W.held w.old) (sides_of m.old)
         → MatchResult result
-        (λ _. Merging a1 b1 a2 b2 w0 (W.held w.new) m.new)
+        (λ _. Merging a1 b1 a2 b2 w0 (W.held w.new) (sides_of m.new))
         (λ e. HasStoppedMerge a1 b1 a2 b2 w0 (W.held w.new) e) }
     ensures telling { (a1 b1 a2 b2 w0 : Option (List ℕ)) (told : List Turn) (withdraws : Bool) (turn : Option Turn)
-        → Telling a1 b1 a2 b2 w0 (W.held w.old) m.old told withdraws → TellsNext m.old turn
-        → IfOk result (λ passed. Telling a1 b1 a2 b2 w0 (W.held w.new) m.new (told_with told turn)
-        ((passed && has_next m.old) || withdraws)) }
-    ensures fits { OnOk result (Fits m.new) }
-    ensures had { OnOk result (HadTurn m.old m.new) }
-    ensures less { OnOk result (cost_of m.new < cost_of m.old) }
+        → Telling a1 b1 a2 b2 w0 (W.held w.old) (sides_of m.old) told withdraws → TellsNext (sides_of m.old) turn
+        → IfOk result (λ passed. Telling a1 b1 a2 b2 w0 (W.held w.new) (sides_of m.new) (told_with told turn)
+        ((passed && has_next (sides_of m.old)) || withdraws)) }
+    ensures fits { OnOk result (Fits (sides_of m.new)) }
+    ensures had { OnOk result (HadTurn (sides_of m.old) (sides_of m.new)) }
+    ensures less { OnOk result (cost_of (sides_of m.new) < cost_of (sides_of m.old)) }
     ensures unfailed { OnOk result (W.failures w.new ≡ W.failures w.old) }
     ensures blames { IfErr result (λ e. BlamesWriter (W.failures w.old) (W.failures w.new) e.cause) }
 {
@@ -222,24 +230,49 @@ pub fn take_turn<W: Sink>(w: &mut W, m: &mut Merge) -> Result<bool, MergeFault>
     Ok(false)
 }
 
+/// Keeps a retirement that both sides hold once, in what they share. Where memory is wanted for that, each side keeps
+/// its own.
+pub fn share(m: &mut Merge)
+    ensures merging { (a1 b1 a2 b2 w0 w1 : Option (List ℕ)) → Merging a1 b1 a2 b2 w0 w1 (sides_of m.old)
+        → Merging a1 b1 a2 b2 w0 w1 (sides_of m.new) }
+    ensures telling { (a1 b1 a2 b2 w0 w1 : Option (List ℕ)) (told : List Turn) (withdraws : Bool)
+        → Telling a1 b1 a2 b2 w0 w1 (sides_of m.old) told withdraws
+        → Telling a1 b1 a2 b2 w0 w1 (sides_of m.new) told withdraws }
+    ensures fits { Fits (sides_of m.old) → Fits (sides_of m.new) }
+    ensures left { m.new.left.ahead ≡ m.old.left.ahead }
+    ensures right { m.new.right.ahead ≡ m.old.right.ahead }
+    ensures cost { cost_of (sides_of m.new) ≡ cost_of (sides_of m.old) }
+{
+    let Some(retirement) = m.left.reader.last_retirement() else {
+        return;
+    };
+    if first(&m.left, &m.right).is_ne() {
+        return;
+    }
+    if let Ok(_) = m.shared.keep(retirement) {
+        m.left.reader.forget(&retirement);
+        m.right.reader.forget(&retirement);
+    }
+}
+
 /// Reads the left side on, where its last record had its turn.
 pub fn read_left<R: Source>(r1: &mut R, m: &mut Merge) -> Result<(), MergeFault>
-    requires { Fits m.old }
-    ensures merging { (a1 a2 b2 w0 w1 : Option (List ℕ)) → Merging a1 (R.left r1.old) a2 b2 w0 w1 m.old
+    requires { Fits (sides_of m.old) }
+    ensures merging { (a1 a2 b2 w0 w1 : Option (List ℕ)) → Merging a1 (R.left r1.old) a2 b2 w0 w1 (sides_of m.old)
         → MatchResult result
-        (λ _. Merging a1 (R.left r1.new) a2 b2 w0 w1 m.new)
+        (λ _. Merging a1 (R.left r1.new) a2 b2 w0 w1 (sides_of m.new))
         (λ e. HasStoppedMerge a1 (R.left r1.new) a2 b2 w0 w1 e) }
     ensures telling { (a1 a2 b2 w0 w1 : Option (List ℕ)) (told : List Turn) (withdraws : Bool)
-        → Telling a1 (R.left r1.old) a2 b2 w0 w1 m.old told withdraws
-        → OnOk result (Telling a1 (R.left r1.new) a2 b2 w0 w1 m.new told withdraws) }
-    ensures fits { OnOk result (Fits m.new) }
+        → Telling a1 (R.left r1.old) a2 b2 w0 w1 (sides_of m.old) told withdraws
+        → OnOk result (Telling a1 (R.left r1.new) a2 b2 w0 w1 (sides_of m.new) told withdraws) }
+    ensures fits { OnOk result (Fits (sides_of m.new)) }
     ensures read { OnOk result (m.new.left.ahead ≢ Lookahead.Unread) }
     ensures right { OnOk result (m.new.right ≡ m.old.right) }
-    ensures less { OnOk result (cost_of m.new ≤ cost_of m.old) }
+    ensures less { OnOk result (cost_of (sides_of m.new) ≤ cost_of (sides_of m.old)) }
     ensures unfailed { OnOk result (R.failures r1.new ≡ R.failures r1.old) }
     ensures blames { IfErr result (λ e. BlamesLeft (stream R.left R.failures r1.old r1.new) e.cause) }
 {
-    match m.left.read_on(r1) {
+    match m.left.read_on(r1, &m.shared) {
         Ok(()) => Ok(()),
         Err(fault) => Err(m.stopped_by(MergeCause::Left(fault))),
     }
@@ -247,22 +280,22 @@ pub fn read_left<R: Source>(r1: &mut R, m: &mut Merge) -> Result<(), MergeFault>
 
 /// Reads the right side on, where its last record had its turn, once the left side was.
 pub fn read_right<S: Source>(r2: &mut S, m: &mut Merge) -> Result<(), MergeFault>
-    requires fits { Fits m.old }
+    requires fits { Fits (sides_of m.old) }
     requires read { m.old.left.ahead ≢ Lookahead.Unread }
-    ensures merging { (a1 b1 a2 w0 w1 : Option (List ℕ)) → Merging a1 b1 a2 (S.left r2.old) w0 w1 m.old
+    ensures merging { (a1 b1 a2 w0 w1 : Option (List ℕ)) → Merging a1 b1 a2 (S.left r2.old) w0 w1 (sides_of m.old)
         → MatchResult result
-        (λ _. Merging a1 b1 a2 (S.left r2.new) w0 w1 m.new)
+        (λ _. Merging a1 b1 a2 (S.left r2.new) w0 w1 (sides_of m.new))
         (λ e. HasStoppedMerge a1 b1 a2 (S.left r2.new) w0 w1 e) }
     ensures telling { (a1 b1 a2 w0 w1 : Option (List ℕ)) (told : List Turn) (withdraws : Bool)
-        → Telling a1 b1 a2 (S.left r2.old) w0 w1 m.old told withdraws
-        → OnOk result (Telling a1 b1 a2 (S.left r2.new) w0 w1 m.new told withdraws) }
-    ensures fits { OnOk result (Fits m.new) }
-    ensures read { OnOk result (IsRead m.new) }
-    ensures less { OnOk result (cost_of m.new ≤ cost_of m.old) }
+        → Telling a1 b1 a2 (S.left r2.old) w0 w1 (sides_of m.old) told withdraws
+        → OnOk result (Telling a1 b1 a2 (S.left r2.new) w0 w1 (sides_of m.new) told withdraws) }
+    ensures fits { OnOk result (Fits (sides_of m.new)) }
+    ensures read { OnOk result (IsRead (sides_of m.new)) }
+    ensures less { OnOk result (cost_of (sides_of m.new) ≤ cost_of (sides_of m.old)) }
     ensures unfailed { OnOk result (S.failures r2.new ≡ S.failures r2.old) }
     ensures blames { IfErr result (λ e. BlamesRight (stream S.left S.failures r2.old r2.new) e.cause) }
 {
-    match m.right.read_on(r2) {
+    match m.right.read_on(r2, &m.shared) {
         Ok(()) => Ok(()),
         Err(fault) => Err(m.right_refused(fault)),
     }
@@ -270,14 +303,15 @@ pub fn read_right<S: Source>(r2: &mut S, m: &mut Merge) -> Result<(), MergeFault
 
 /// Reads on behind what had its turn, left first.
 fn read_on<R: Source, S: Source>(r1: &mut R, r2: &mut S, m: &mut Merge) -> Result<(), MergeFault>
-    requires { Fits m.old }
-    ensures merging { (a1 a2 w0 w1 : Option (List ℕ)) → Merging a1 (R.left r1.old) a2 (S.left r2.old) w0 w1 m.old
+    requires { Fits (sides_of m.old) }
+    ensures merging { (a1 a2 w0 w1 : Option (List ℕ))
+        → Merging a1 (R.left r1.old) a2 (S.left r2.old) w0 w1 (sides_of m.old)
         → MatchResult result
-        (λ _. Merging a1 (R.left r1.new) a2 (S.left r2.new) w0 w1 m.new)
+        (λ _. Merging a1 (R.left r1.new) a2 (S.left r2.new) w0 w1 (sides_of m.new))
         (λ e. HasStoppedMerge a1 (R.left r1.new) a2 (S.left r2.new) w0 w1 e) }
-    ensures fits { OnOk result (Fits m.new) }
-    ensures read { OnOk result (IsRead m.new) }
-    ensures less { OnOk result (cost_of m.new ≤ cost_of m.old) }
+    ensures fits { OnOk result (Fits (sides_of m.new)) }
+    ensures read { OnOk result (IsRead (sides_of m.new)) }
+    ensures less { OnOk result (cost_of (sides_of m.new) ≤ cost_of (sides_of m.old)) }
     ensures devices { BlamesDevices (stream R.left R.failures r1.old r1.new) (stream S.left S.failures r2.old r2.new)
         0 0 result }
 {
@@ -292,20 +326,21 @@ fn turn<R: Source, S: Source, W: Sink>(
     w: &mut W,
     m: &mut Merge,
 ) -> Result<(), MergeFault>
-    requires fits { Fits m.old }
-    requires read { IsRead m.old }
+    requires fits { Fits (sides_of m.old) }
+    requires read { IsRead (sides_of m.old) }
     requires some { m.old.left.ahead ≡ Lookahead.Ended → m.old.right.ahead ≡ Lookahead.Held }
     ensures merging { (a1 a2 w0 : Option (List ℕ))
-        → Merging a1 (R.left r1.old) a2 (S.left r2.old) w0 (W.held w.old) m.old
+        → Merging a1 (R.left r1.old) a2 (S.left r2.old) w0 (W.held w.old) (sides_of m.old)
         → MatchResult result
-        (λ _. Merging a1 (R.left r1.new) a2 (S.left r2.new) w0 (W.held w.new) m.new)
+        (λ _. Merging a1 (R.left r1.new) a2 (S.left r2.new) w0 (W.held w.new) (sides_of m.new))
         (λ e. HasStoppedMerge a1 (R.left r1.new) a2 (S.left r2.new) w0 (W.held w.new) e) }
-    ensures fits { OnOk result (Fits m.new) }
-    ensures read { OnOk result (IsRead m.new) }
-    ensures less { OnOk result (cost_of m.new < cost_of m.old) }
+    ensures fits { OnOk result (Fits (sides_of m.new)) }
+    ensures read { OnOk result (IsRead (sides_of m.new)) }
+    ensures less { OnOk result (cost_of (sides_of m.new) < cost_of (sides_of m.old)) }
     ensures devices { BlamesDevices (stream R.left R.failures r1.old r1.new) (stream S.left S.failures r2.old r2.new)
         (W.failures w.old) (W.failures w.new) result }
 {
+    share(m);
     take_turn(w, m)?;
     read_on(r1, r2, m)
 }
@@ -317,13 +352,13 @@ pub fn merge_records<R: Source, S: Source, W: Sink>(
     w: &mut W,
     m: &mut Merge,
 ) -> Result<(), MergeFault>
-    requires fits { Fits m.old }
+    requires fits { Fits (sides_of m.old) }
     ensures merging { (a1 a2 w0 : Option (List ℕ))
-        → Merging a1 (R.left r1.old) a2 (S.left r2.old) w0 (W.held w.old) m.old
+        → Merging a1 (R.left r1.old) a2 (S.left r2.old) w0 (W.held w.old) (sides_of m.old)
         → MatchResult result
-        (λ _. Merging a1 (R.left r1.new) a2 (S.left r2.new) w0 (W.held w.new) m.new)
+        (λ _. Merging a1 (R.left r1.new) a2 (S.left r2.new) w0 (W.held w.new) (sides_of m.new))
         (λ e. HasStoppedMerge a1 (R.left r1.new) a2 (S.left r2.new) w0 (W.held w.new) e) }
-    ensures fits { OnOk result (Fits m.new) }
+    ensures fits { OnOk result (Fits (sides_of m.new)) }
     ensures left_end { OnOk result (m.new.left.ahead ≡ Lookahead.Ended) }
     ensures right_end { OnOk result (m.new.right.ahead ≡ Lookahead.Ended) }
     ensures devices { BlamesDevices (stream R.left R.failures r1.old r1.new) (stream S.left S.failures r2.old r2.new)

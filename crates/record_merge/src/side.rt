@@ -6,8 +6,10 @@ ghost use Rattle.archive_records.specs.declared.kind.TextKind.TheVariants.{Archi
 ghost use Rattle.archive_records.specs.Kind.{kind_of};
 ghost use Rattle.archive_records.specs.Text.{last_of};
 ghost use Rattle.archive_records.specs.Reader.{FaultBlamesReader, HasRead, StoppedWith};
+ghost use Rattle.record_merge.specs.Sides.{side_with};
 ghost use Rattle.record_merge.specs.MergeSteps.{Stands, StopsBeforeRecords, memory_for, weight};
 
+use archive_core::Retirements;
 use archive_records::{NextRecord, RecordFault, RecordReader, TextKind};
 use byte_device::Source;
 use memory::Heap;
@@ -56,15 +58,16 @@ impl MergeInput {
         RecordFault::out_of_memory(self.reader.before_last())
     }
 
-    /// Reads the next record over the last, or else the end record, behind which the input ends.
-    fn advance<R: Source>(&mut self, r: &mut R) -> Result<(), RecordFault>
+    /// Reads the next record over the last, or else the end record, behind which the input ends. What
+    /// it shares with the other side counts as its own.
+    fn advance<R: Source>(&mut self, r: &mut R, shared: &Retirements) -> Result<(), RecordFault>
         requires archive { kind_of self.old.reader.file ≡ Archive }
         requires few { self.old.reader.count < 2 ^ 63 }
         requires unread { self.old.ahead ≡ Lookahead.Unread }
         ensures stands { (a : Option (List ℕ)) (done : List (List ℕ))
-            → HasRead self.old.reader.file a (R.left r.old) done self.old.reader
+            → HasRead self.old.reader.file a (R.left r.old) done (side_with shared.now self.old).reader
             → MatchResult result
-            (λ _. Stands a (R.left r.new) done (last_of [] done) self.new)
+            (λ _. Stands a (R.left r.new) done (last_of [] done) (side_with shared.now self.new))
             (λ fault. StoppedWith self.old.reader.file a (R.left r.new) done fault self.new.reader.last) }
         ensures archive { OnOk result (self.new.reader.file ≡ self.old.reader.file) }
         ensures read { OnOk result (self.new.ahead ≢ Lookahead.Unread) }
@@ -72,7 +75,7 @@ impl MergeInput {
         ensures less { OnOk result (weight self.new < weight self.old) }
         ensures reader { FaultBlamesReader R.left R.failures r.old r.new result }
     {
-        match self.reader.advance(r)? {
+        match self.reader.advance_beside(r, Some(shared))? {
             NextRecord::End => {
                 self.reader.finish(r)?;
                 self.ahead = Lookahead::Ended;
@@ -83,13 +86,13 @@ impl MergeInput {
     }
 
     /// Reads on, where the last record had its turn.
-    pub fn read_on<R: Source>(&mut self, r: &mut R) -> Result<(), RecordFault>
+    pub fn read_on<R: Source>(&mut self, r: &mut R, shared: &Retirements) -> Result<(), RecordFault>
         requires archive { kind_of self.old.reader.file ≡ Archive }
         requires few { self.old.reader.count < 2 ^ 63 }
         ensures stands { (a : Option (List ℕ)) (done : List (List ℕ)) (low : List ℕ)
-            → Stands a (R.left r.old) done low self.old
+            → Stands a (R.left r.old) done low (side_with shared.now self.old)
             → MatchResult result
-            (λ _. Stands a (R.left r.new) done low self.new)
+            (λ _. Stands a (R.left r.new) done low (side_with shared.now self.new))
             (λ fault. StoppedWith self.old.reader.file a (R.left r.new) done fault self.new.reader.last
             × (last_of [] done ≡ low)) }
         ensures unread { OnErr result (self.old.ahead ≡ Lookahead.Unread) }
@@ -100,7 +103,7 @@ impl MergeInput {
         ensures reader { FaultBlamesReader R.left R.failures r.old r.new result }
     {
         match self.ahead {
-            Lookahead::Unread => self.advance(r),
+            Lookahead::Unread => self.advance(r, shared),
             Lookahead::Held | Lookahead::Ended => Ok(()),
         }
     }

@@ -6,11 +6,13 @@ ghost use Rattle.archive_records.specs.declared.fault.MergeCause.TheVariants.{Wr
 ghost use Rattle.record_merge.specs.Merging.{GainsCount, Merges};
 ghost use Rattle.byte_device.specs.Devices.{stream};
 ghost use Rattle.record_merge.specs.MergeSteps.{BlamesDevices, Fits, Leaves, Merging, StopsMerge};
+ghost use Rattle.record_merge.specs.Sides.{sides_of};
 ghost use Rattle.record_merge.specs.declared.turns.Turn.{Turn};
 ghost use Rattle.record_merge.specs.TellingSteps.{Telling, ToldAll};
 
 use crate::merging::{Merge, merge_records};
 use crate::side::{Lookahead, MergeInput};
+use archive_core::Retirements;
 use archive_records::{Format, MergeCause, MergeFault, RecordFault, Sizes, put_end};
 use byte_device::{Sink, Source, put};
 use memory::Heap;
@@ -30,15 +32,19 @@ pub fn begin_both<R: Source, S: Source, W: Sink>(
     w: &mut W,
 ) -> Result<Merge, MergeFault>
     ensures merging { MatchResult result
-        (λ m. Merging (R.left r1.old) (R.left r1.new) (S.left r2.old) (S.left r2.new) (W.held w.old) (W.held w.new) m)
+        (λ m. Merging (R.left r1.old) (R.left r1.new) (S.left r2.old) (S.left r2.new)
+        (W.held w.old) (W.held w.new) (sides_of m))
         (λ e. StopsMerge (R.left r1.old) (R.left r1.new) (S.left r2.old) (S.left r2.new)
         (W.held w.old) (W.held w.new) e) }
     ensures telling { IfOk result (λ m. Telling (R.left r1.old) (R.left r1.new) (S.left r2.old) (S.left r2.new)
-        (W.held w.old) (W.held w.new) m [] false) }
-    ensures fits { IfOk result (λ m. Fits m) }
+        (W.held w.old) (W.held w.new) (sides_of m) [] false) }
+    ensures fits { IfOk result (λ m. Fits (sides_of m)) }
     ensures devices { BlamesDevices (stream R.left R.failures r1.old r1.new) (stream S.left S.failures r2.old r2.new)
         (W.failures w.old) (W.failures w.new) result }
 {
+    let Ok(shared) = Retirements::none(heap) else {
+        return Err(before_the_magic(MergeCause::Left(RecordFault::out_of_memory(0))));
+    };
     let left = match MergeInput::begin(heap, r1) {
         Ok(side) => side,
         Err(fault) => return Err(before_the_magic(MergeCause::Left(fault))),
@@ -51,6 +57,7 @@ pub fn begin_both<R: Source, S: Source, W: Sink>(
         Ok(bytes) => Ok(Merge {
             left,
             right,
+            shared,
             written: Sizes { records: 0, bytes },
         }),
         Err(fault) => Err(MergeFault {
@@ -62,13 +69,13 @@ pub fn begin_both<R: Source, S: Source, W: Sink>(
 
 /// Writes the end record.
 pub fn finish<W: Sink>(w: &mut W, m: &Merge) -> Result<Sizes, MergeFault>
-    requires fits { Fits m.now }
+    requires fits { Fits (sides_of m.now) }
     requires left_end { m.now.left.ahead ≡ Lookahead.Ended }
     requires right_end { m.now.right.ahead ≡ Lookahead.Ended }
-    ensures leaves { (a1 b1 a2 b2 w0 : Option (List ℕ)) → Merging a1 b1 a2 b2 w0 (W.held w.old) m.now
+    ensures leaves { (a1 b1 a2 b2 w0 : Option (List ℕ)) → Merging a1 b1 a2 b2 w0 (W.held w.old) (sides_of m.now)
         → Leaves a1 b1 a2 b2 w0 (W.held w.new) result }
     ensures told { (a1 b1 a2 b2 w0 : Option (List ℕ)) (told : List Turn) (withdraws : Bool)
-        → Telling a1 b1 a2 b2 w0 (W.held w.old) m.now told withdraws
+        → Telling a1 b1 a2 b2 w0 (W.held w.old) (sides_of m.now) told withdraws
         → IfOk result (λ sizes. ToldAll a1 b1 a2 b2 w0 (W.held w.new) sizes told withdraws) }
     ensures unfailed { OnOk result (W.failures w.new ≡ W.failures w.old) }
     ensures cause { IfErr result (λ e. (e.cause ≡ Write) × FailedIn (W.failures w.old) (W.failures w.new)) }
@@ -100,7 +107,7 @@ fn merge_taken<R: Source, S: Source, W: Sink>(
 }
 
 /// Merges two archives of any size, each of either version, in the memory of one record of each and of 57 bytes for
-/// each retirement of each, writes one of version 2, and says how large what was written is. Each slice is checked,
+/// each retirement of either, writes one of version 2, and says how large what was written is. Each slice is checked,
 /// none is copied, and one is hashed where a retirement of its key was read. The pieces in which the readers give their
 /// bytes do not matter.
 ///

@@ -14,11 +14,12 @@ ghost use Rattle.archive_records.specs.declared.fault.MergeCause.TheVariants.{Ri
 ghost use Rattle.record_merge.specs.Merging.{GainsCount, Merges};
 ghost use Rattle.record_merge.specs.MergeSteps.{BlamesDevices, Fits, HasStoppedMerge, IsRead, Leaves, Merging};
 ghost use Rattle.record_merge.specs.MergeSteps.{cost_of, first_of, memory_behind};
+ghost use Rattle.record_merge.specs.Sides.{sides_of};
 ghost use Rattle.record_merge.specs.Telling.{HasOperations, IsMergedTelling};
 ghost use Rattle.record_merge.specs.TellingSteps.{Telling, TellsNext, ToldAll, has_next, told_with};
 ghost use Rattle.record_merge.specs.Turns.{turn_of};
 
-use crate::merging::{Merge, first, read_left, read_right, take_turn};
+use crate::merging::{Merge, first, read_left, read_right, share, take_turn};
 use crate::side::Lookahead;
 use crate::streams::{before_the_magic, begin_both, finish};
 use crate::turns::{Told, Turn, turn_by};
@@ -30,20 +31,23 @@ use std::cmp::Ordering;
 /// What the record that is next is to the left side: none where it is that side's alone. All of the left side that are
 /// not above it were read, and so were its retirements where it is an admission.
 fn next_turn(m: &mut Merge) -> Option<Turn>
-    ensures tells { TellsNext m.old result }
+    ensures tells { TellsNext (sides_of m.old) result }
     ensures right { IsSome result → first_of m.old.left m.old.right ≢ Less }
     ensures same { m.new ≡ m.old }
 {
     match first(&m.left, &m.right) {
         Ordering::Less => None,
         Ordering::Equal => Some(turn_by(m.left.reader.dropped(), true)),
-        Ordering::Greater => Some(turn_by(m.left.reader.retires(&mut m.right.reader), false)),
+        Ordering::Greater => Some(turn_by(
+            m.left.reader.retires_beside(&m.shared, &mut m.right.reader),
+            false,
+        )),
     }
 }
 
 /// Whether the left side has the record that is next, and does not retire it.
 fn has_next(m: &Merge) -> bool
-    ensures { result ≡ has_next m.now }
+    ensures { result ≡ has_next (sides_of m.now) }
 {
     match first(&m.left, &m.right) {
         Ordering::Less | Ordering::Equal => !m.left.reader.dropped(),
@@ -54,12 +58,13 @@ fn has_next(m: &Merge) -> bool
 /// Tells of the record of the right side that had its turn, if there is one. Memory that is wanted for that is wanted
 /// before the next one is read.
 fn tell(m: &Merge, told: &mut Told, turn: Option<Turn>) -> Result<(), MergeFault>
-    requires fits { Fits m.now }
+    requires fits { Fits (sides_of m.now) }
     requires read { m.now.left.ahead ≢ Lookahead.Unread }
     requires unread { IsSome turn → m.now.right.ahead ≡ Lookahead.Unread }
     ensures turns { OnOk result (told.new.turns.items ≡ told_with told.old.turns.items turn) }
     ensures withdraws { told.new.withdraws ≡ told.old.withdraws }
-    ensures stops { IfErr result (λ e. (a1 b1 a2 b2 w0 w1 : Option (List ℕ)) → Merging a1 b1 a2 b2 w0 w1 m.now
+    ensures stops { IfErr result (λ e. (a1 b1 a2 b2 w0 w1 : Option (List ℕ))
+        → Merging a1 b1 a2 b2 w0 w1 (sides_of m.now)
         → HasStoppedMerge a1 b1 a2 b2 w0 w1 e) }
     ensures cause { IfErr result (λ e. e.cause ≡ Right (memory_behind m.now.right.reader.offset)) }
 {
@@ -83,17 +88,18 @@ fn tell_and_read_on<R: Source, S: Source>(
     told: &mut Told,
     turn: Option<Turn>,
 ) -> Result<(), MergeFault>
-    requires fits { Fits m.old }
+    requires fits { Fits (sides_of m.old) }
     requires unread { IsSome turn → m.old.right.ahead ≡ Lookahead.Unread }
     ensures telling { (a1 a2 w0 w1 : Option (List ℕ))
-        → Telling a1 (R.left r1.old) a2 (S.left r2.old) w0 w1 m.old (told_with told.old.turns.items turn)
+        → Telling a1 (R.left r1.old) a2 (S.left r2.old) w0 w1 (sides_of m.old) (told_with told.old.turns.items turn)
         told.old.withdraws
         → MatchResult result
-        (λ _. Telling a1 (R.left r1.new) a2 (S.left r2.new) w0 w1 m.new told.new.turns.items told.new.withdraws)
+        (λ _. Telling a1 (R.left r1.new) a2 (S.left r2.new) w0 w1 (sides_of m.new) told.new.turns.items
+        told.new.withdraws)
         (λ e. HasStoppedMerge a1 (R.left r1.new) a2 (S.left r2.new) w0 w1 e) }
-    ensures fits { OnOk result (Fits m.new) }
-    ensures read { OnOk result (IsRead m.new) }
-    ensures less { OnOk result (cost_of m.new ≤ cost_of m.old) }
+    ensures fits { OnOk result (Fits (sides_of m.new)) }
+    ensures read { OnOk result (IsRead (sides_of m.new)) }
+    ensures less { OnOk result (cost_of (sides_of m.new) ≤ cost_of (sides_of m.old)) }
     ensures devices { BlamesDevices (stream R.left R.failures r1.old r1.new) (stream S.left S.failures r2.old r2.new)
         0 0 result }
 {
@@ -110,22 +116,23 @@ fn give_turn<R: Source, S: Source, W: Sink>(
     m: &mut Merge,
     told: &mut Told,
 ) -> Result<(), MergeFault>
-    requires fits { Fits m.old }
-    requires read { IsRead m.old }
+    requires fits { Fits (sides_of m.old) }
+    requires read { IsRead (sides_of m.old) }
     requires some { m.old.left.ahead ≡ Lookahead.Ended → m.old.right.ahead ≡ Lookahead.Held }
     ensures telling { (a1 a2 w0 : Option (List ℕ))
-        → Telling a1 (R.left r1.old) a2 (S.left r2.old) w0 (W.held w.old) m.old told.old.turns.items
+        → Telling a1 (R.left r1.old) a2 (S.left r2.old) w0 (W.held w.old) (sides_of m.old) told.old.turns.items
         told.old.withdraws
         → MatchResult result
-        (λ _. Telling a1 (R.left r1.new) a2 (S.left r2.new) w0 (W.held w.new) m.new told.new.turns.items
+        (λ _. Telling a1 (R.left r1.new) a2 (S.left r2.new) w0 (W.held w.new) (sides_of m.new) told.new.turns.items
         told.new.withdraws)
         (λ e. HasStoppedMerge a1 (R.left r1.new) a2 (S.left r2.new) w0 (W.held w.new) e) }
-    ensures fits { OnOk result (Fits m.new) }
-    ensures read { OnOk result (IsRead m.new) }
-    ensures less { OnOk result (cost_of m.new < cost_of m.old) }
+    ensures fits { OnOk result (Fits (sides_of m.new)) }
+    ensures read { OnOk result (IsRead (sides_of m.new)) }
+    ensures less { OnOk result (cost_of (sides_of m.new) < cost_of (sides_of m.old)) }
     ensures devices { BlamesDevices (stream R.left R.failures r1.old r1.new) (stream S.left S.failures r2.old r2.new)
         (W.failures w.old) (W.failures w.new) result }
 {
+    share(m);
     let turn = next_turn(m);
     let had = has_next(m);
     let passed = take_turn(w, m)?;
@@ -141,15 +148,15 @@ fn tell_records<R: Source, S: Source, W: Sink>(
     m: &mut Merge,
     told: &mut Told,
 ) -> Result<(), MergeFault>
-    requires fits { Fits m.old }
+    requires fits { Fits (sides_of m.old) }
     ensures telling { (a1 a2 w0 : Option (List ℕ))
-        → Telling a1 (R.left r1.old) a2 (S.left r2.old) w0 (W.held w.old) m.old told.old.turns.items
+        → Telling a1 (R.left r1.old) a2 (S.left r2.old) w0 (W.held w.old) (sides_of m.old) told.old.turns.items
         told.old.withdraws
         → MatchResult result
-        (λ _. Telling a1 (R.left r1.new) a2 (S.left r2.new) w0 (W.held w.new) m.new told.new.turns.items
+        (λ _. Telling a1 (R.left r1.new) a2 (S.left r2.new) w0 (W.held w.new) (sides_of m.new) told.new.turns.items
         told.new.withdraws)
         (λ e. HasStoppedMerge a1 (R.left r1.new) a2 (S.left r2.new) w0 (W.held w.new) e) }
-    ensures fits { OnOk result (Fits m.new) }
+    ensures fits { OnOk result (Fits (sides_of m.new)) }
     ensures left_end { OnOk result (m.new.left.ahead ≡ Lookahead.Ended) }
     ensures right_end { OnOk result (m.new.right.ahead ≡ Lookahead.Ended) }
     ensures devices { BlamesDevices (stream R.left R.failures r1.old r1.new) (stream S.left S.failures r2.old r2.new)

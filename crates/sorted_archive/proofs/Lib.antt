@@ -9,7 +9,6 @@ pub mod Falling
 pub mod Ranges
 pub mod Uncovered
 pub mod Parted
-pub mod Keyed
 pub mod Retired
 pub mod Reached
 pub mod InTurn

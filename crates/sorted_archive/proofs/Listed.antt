@@ -1,5 +1,5 @@
 -- What a list of all tells, made of the records of an archive, and what a search tells as a part of it.
-use Rattle.std.proofs.Common.{◌≡◌, ◌<◌, ℕ, Bool, true, false, cond, List, [], ◌∷◌, ◌++◌, length, map, filter, slice_index_or, get_or, refl, sym, ap, ◌∙◌, arith, subst}
+use Rattle.std.proofs.Common.{◌≡◌, ℕ, Bool, true, false, cond, List, [], ◌∷◌, ◌++◌, length, map, filter, refl, sym, ap, ◌∙◌, subst}
 use Rattle.std.specs.declared.cmp.Ordering.TheVariants.{Less, Equal}
 use Rattle.std.specs.Ordering.{nat_cmp, ordering_then}
 use Rattle.std.specs.Cmp.{tied_itself}
@@ -10,15 +10,12 @@ use Rattle.std.specs.List.Sorted.{IsStrictlySortedBy}
 use Rattle.std.specs.FinSet as set
 use Rattle.std.specs.FinSet.{from_list, contains, nat_cmp-IsAntisymmetric}
 use Rattle.std.specs.Str.{bytes_eq}
-use Rattle.std.proofs.Math.ListN.{length-map}
-use Rattle.std.proofs.lemmas.List.{get_or-map}
-use Rattle.std.proofs.lemmas.List.Elements.{All-from_recursion, All-get_or, All-contains}
+use Rattle.std.proofs.lemmas.List.Elements.{All-from_recursion, All-contains}
 use Rattle.std.proofs.lemmas.List.Kept.{IsStrictlySortedBy-filter}
 use Rattle.std.proofs.lemmas.Slice.Eq.{bytes_eq-Decides}
 use Rattle.join_core.specs.Listing.{listing}
-use Rattle.join_core.proofs.Listing.{listed, listing_ascending}
+use Rattle.join_core.proofs.Listing.{listed}
 use Rattle.join_core.proofs.Merge.{along_members}
-use Rattle.join_core.proofs.Place.{len_listed}
 use Rattle.macho_symbols.proofs.Order.{both_equal}
 use Rattle.archive_core.specs.Key.{key_bytes}
 use Rattle.archive_core.specs.Valid.{key_of}
@@ -30,7 +27,7 @@ use Rattle.archive_core.specs.InnerHeld.{IsHeld}
 use Rattle.archive_core.specs.declared.find.FindRow.{FindRow}
 use Rattle.archive_core.specs.declared.operations.Operation.{Operation}
 use Rattle.archive_core.specs.declared.operations.Operation.TheVariants.{Admit, Retire}
-use Rattle.archive_core.proofs.Records.{same_parts, one_operation, operation_of_record}
+use Rattle.archive_core.proofs.Records.{same_parts, operation_of_record}
 use Rattle.archive_core.proofs.Made.{bytes_same}
 use Rattle.archive_core.proofs.Members.{in_order, in_filter, to_filter, one_with_members}
 use Rattle.archive_core.proofs.Told.{record_there, operation_there, list_total, listed_of_content, content_of_listed, found_under}
@@ -51,17 +48,6 @@ held_of o content =
     let all = operations_of (listing o) members in
     let same : from_list (map record_bytes all.0) ≡ o = ap from_list all.2 ∙ sym is.same in
     (all.0, record { ascending = rw (all.2) is.ascending; are = all.1; itself = rw same content.itself }, same)
-
--- as many operations as the content has records
-pub length_held : (operations : List Operation) (o : Operations) → IsHeld operations → from_list (map record_bytes operations) ≡ o → length operations ≡ set.len o
-length_held operations o held is = omega (arith, len_listed nat_list_cmp_total bytes_same (map record_bytes operations) held.ascending, length-map operations record_bytes, ap set.len is)
-
--- the operation that is lent at a place is the one that is held there
-pub lent_at : (operations : List Operation) (o : Operations) (i : ℕ) (a : Operation) → IsHeld operations → from_list (map record_bytes operations) ≡ o → i < length operations → IsOperation a
-    → record_bytes a ≡ slice_index_or (listing o) i [] → a ≡ slice_index_or operations i a
-lent_at operations o i a held is lt valid at =
-    let there : record_bytes a ≡ record_bytes (get_or operations i a) = at ∙ ap (λ l. get_or l i []) (sym (sym (listing_ascending nat_list_cmp_total bytes_same (map record_bytes operations) held.ascending) ∙ ap listing is)) ∙ get_or-map record_bytes operations i a [] lt in
-    one_operation a (get_or operations i a) valid (All-get_or IsOperation operations i a lt (All-from_recursion IsOperation operations held.are)) there
 
 -- operations under one key that have one record are one
 one_under : (a b : Operation) → key_in a ≡ key_in b → record_bytes a ≡ record_bytes b → a ≡ b

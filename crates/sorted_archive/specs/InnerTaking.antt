@@ -1,15 +1,11 @@
 -- A list of operations in two parts, and the retirements that came so far: the words of inner functions. No contract of
 -- a public one has them.
-use Rattle.std.specs.Prelude.{◌≡◌, ℕ, ◌+◌, List, ◌∷◌, true, false, not, ◌||◌, map, take, drop}
+use Rattle.std.specs.Prelude.{◌≡◌, ℕ, ◌+◌, List, ◌∷◌, true, false, not, ◌||◌, map}
 use Rattle.std.specs.List.{AllByRecursion, list_all}
 use Rattle.std.specs.FinSet.{contains}
 use Rattle.archive_core.specs.Record.{IsOperation, record_bytes}
 use Rattle.archive_core.specs.Content.{Operations, is_admission, covering, IsMade, with_records, new_among}
 use Rattle.archive_core.specs.declared.operations.Operation.{Operation}
-
--- the key of each of these retirements is there
-pub record IsKeyed (keys retired : Operations) : Type 0 where
-  pub keyed : (r : List ℕ) → contains retired r ≡ true → contains keys (take 24 (drop 1 r)) ≡ true
 
 -- a content with admissions alone, beside one with the retirements, too, that were seen
 pub record IsBeside (old admitted now seen : Operations) : Type 0 where

@@ -2,9 +2,8 @@
 ghost use Rattle.std.specs.Prelude.{◌≡◌, map, IfOk};
 ghost use Rattle.archive_core.specs.Find.{find_cmp, row_of};
 ghost use Rattle.archive_core.specs.Record.{IsOperation, operation_lent};
-ghost use Rattle.archive_core.specs.declared.operations.Operation.TheVariants.{Admit, Retire};
 
-use archive_core::{Digest, FindRow, FindState, Record, Slice, SliceKey};
+use archive_core::{FindRow, Record};
 use memory::{Heap, NoMemory};
 use std::cmp::Ordering;
 use std::marker::Model;
@@ -32,44 +31,13 @@ impl<'a> Model for HashedRecord<'a> {
 
 impl<'a> HashedRecord<'a> {
     /// The operation with its row.
-    pub fn of(operation: &Record<'a>) -> HashedRecord<'a>
-        ensures seen_as { result ≡ operation_lent operation.now }
-        ensures operation { IsOperation (operation_lent operation.now) }
-    {
-        match operation {
-            Record::Admit(slice) => HashedRecord::of_slice(slice),
-            Record::Retire(key, digest) => HashedRecord::of_retirement(*key, *digest),
-        }
-    }
-
-    // The admission of a slice, with its row.
-    fn of_slice(slice: &'a Slice) -> HashedRecord<'a>
-        ensures seen_as { result ≡ Admit slice.now }
-        ensures operation { IsOperation (Admit slice.now) }
+    pub fn of(operation: Record<'a>) -> HashedRecord<'a>
+        ensures seen_as { result ≡ operation_lent operation.entry }
+        ensures operation { IsOperation (operation_lent operation.entry) }
     {
         HashedRecord {
-            operation: Record::Admit(slice),
-            row: FindRow {
-                key: slice.key(),
-                digest: slice.digest(),
-                state: FindState::of_image(&slice.image()),
-            },
-        }
-    }
-
-    // A retirement, with its row.
-    fn of_retirement(key: SliceKey, digest: Digest) -> HashedRecord<'a>
-        ensures seen_as { result ≡ Retire key digest }
-        ensures operation { IsOperation (Retire key digest) }
-    {
-        let row = FindRow {
-            key,
-            digest,
-            state: FindState::Retired,
-        };
-        HashedRecord {
-            operation: Record::Retire(row.key, row.digest),
-            row,
+            row: FindRow::of(&operation),
+            operation,
         }
     }
 

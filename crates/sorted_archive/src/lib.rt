@@ -1,7 +1,6 @@
 //! An archive as one sorted list of operations, what is looked up in it, and many operations taken at once.
 //!
 //! - `covered`: slices that retirements cover;
-//! - `seen`: retirements that came, and the slices that they cover;
 //! - `parting`: the admissions of a list, and after them its retirements;
 //! - `taking`: many operations at once;
 //! - `hashed`: an operation beside the row that a search tells of it;
@@ -20,7 +19,6 @@ mod name_rows;
 mod parting;
 mod plain;
 mod range;
-mod seen;
 mod taking;
 
 pub use indexed::IndexedArchive;

@@ -1,12 +1,12 @@
 //! The two parts of a list of operations: its admissions, and behind them its retirements.
 ghost use Rattle.std.specs.Prelude.{◌≡◌, [], IfOk, OnOk};
+ghost use Rattle.std.specs.FinSet as set;
 ghost use Rattle.archive_core.specs.Content.{IsMade, Operations};
 ghost use Rattle.sorted_archive.specs.InnerTaking.{IsPut, IsParted};
 ghost use Rattle.archive_core.specs.declared.operations.Operation.TheVariants.{Admit, Retire};
 
 use crate::covered::retirement;
-use crate::seen::SeenRetirements;
-use archive_core::{Digest, Operation, Slice, SliceKey};
+use archive_core::{Digest, Operation, Retirements, Slice, SliceKey, retirement_bytes};
 use memory::{Heap, NoMemory};
 
 // The admissions of a list and its retirements, without those that are new nowhere where they come: a slice behind its
@@ -30,15 +30,19 @@ impl Parts {
     }
 
     // Puts an admission behind the others, where none of the retirements before it covers it.
-    fn admit(&mut self, seen: &SeenRetirements, mut slice: Slice) -> Result<(), NoMemory>
+    fn admit(&mut self, seen: &Retirements, mut slice: Slice) -> Result<(), NoMemory>
         ensures { OnOk result (IsPut (Admit slice)
-            self.old.admissions.items self.old.retirements.items seen.now
-            self.new.admissions.items self.new.retirements.items seen.now) }
+            self.old.admissions.items self.old.retirements.items (set.from_list seen.now)
+            self.new.admissions.items self.new.retirements.items (set.from_list seen.now)) }
     {
         let _bytes = slice.bytes();
-        if seen.retires(&mut slice) {
+        let mut lent = slice.lend();
+        let covered = seen.covers(&mut lent);
+        let facts = lent.facts();
+        if covered {
             return Ok(());
         }
+        slice.keep(facts);
         self.admissions.push(Operation::Admit(slice))?;
         Ok(())
     }
@@ -46,15 +50,15 @@ impl Parts {
     // Puts a retirement behind the others, where it is the first of its key and digest.
     fn retire(
         &mut self,
-        seen: &mut SeenRetirements,
+        seen: &mut Retirements,
         key: SliceKey,
         digest: Digest,
     ) -> Result<(), NoMemory>
         ensures { OnOk result (IsPut (Retire key digest)
-            self.old.admissions.items self.old.retirements.items seen.old
-            self.new.admissions.items self.new.retirements.items seen.new) }
+            self.old.admissions.items self.old.retirements.items (set.from_list seen.old)
+            self.new.admissions.items self.new.retirements.items (set.from_list seen.new)) }
     {
-        let first = seen.see(&key, &digest)?;
+        let first = seen.keep(retirement_bytes(&key, &digest))?;
         if !first {
             return Ok(());
         }
@@ -63,10 +67,10 @@ impl Parts {
     }
 
     // Puts an operation into its part.
-    fn put(&mut self, seen: &mut SeenRetirements, operation: Operation) -> Result<(), NoMemory>
+    fn put(&mut self, seen: &mut Retirements, operation: Operation) -> Result<(), NoMemory>
         ensures { OnOk result (IsPut operation
-            self.old.admissions.items self.old.retirements.items seen.old
-            self.new.admissions.items self.new.retirements.items seen.new) }
+            self.old.admissions.items self.old.retirements.items (set.from_list seen.old)
+            self.new.admissions.items self.new.retirements.items (set.from_list seen.new)) }
     {
         match operation {
             Operation::Admit(slice) => self.admit(seen, slice),
@@ -81,7 +85,7 @@ pub(crate) fn parts_of(operations: Vec<Operation, Heap>) -> Result<Parts, NoMemo
         → IsParted old operations.items parts.admissions.items parts.retirements.items) }
 {
     let mut parts = Parts::none(operations.allocator())?;
-    let mut seen = SeenRetirements::none(operations.allocator())?;
+    let mut seen = Retirements::none(operations.allocator())?;
     'operations: for operation in operations {
         parts.put(&mut seen, operation)?;
     }

@@ -23,7 +23,7 @@ ghost use Rattle.sorted_archive.specs.InnerNames.{names_of, names_among};
 use crate::asked::{Answering, AskedSlice, answer_of_one, is_kind};
 use crate::covered::{Lent, drop_covered, drop_retired, retirement};
 use crate::hashed::{HashedRecord, rows_of};
-use crate::name_rows::{has_name, put_in_order, rows_in};
+use crate::name_rows::{put_in_order, rows_in};
 use crate::range::{
     RecordKind, is_companion, keep_digests_under, keep_each_table, under, under_uuid,
 };
@@ -289,7 +289,7 @@ impl PlainArchive {
         ensures { OnOk result (hashed.new.items ≡ hashed.old.items ++ operations.now) }
     {
         'operations: for operation in operations {
-            hashed.push(HashedRecord::of(&operation.lend()))?;
+            hashed.push(HashedRecord::of(operation.lend()))?;
         }
         Ok(())
     }
@@ -376,7 +376,7 @@ impl PlainArchive {
         let Operation::Admit(slice) = operation else {
             return Ok(Vec::new(heap));
         };
-        if !has_name(slice, name) {
+        if !slice.lend().has_name(name) {
             return Ok(Vec::new(heap));
         }
         rows_in(heap, slice, name)

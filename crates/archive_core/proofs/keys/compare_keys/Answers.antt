@@ -1,5 +1,5 @@
-use Rattle.std.proofs.Common.{◌≡◌, ◌∙◌, sym, w32, arith}
-use Rattle.std.specs.Int.{w128, from_be_bytes, to_be_bytes}
+use Rattle.std.proofs.Common.{◌∙◌, sym, w32, arith}
+use Rattle.std.specs.Int.{to_be_bytes}
 use Rattle.std.specs.Ordering.{nat_cmp, ordering_then}
 use Rattle.archive_core.specs.Key.{key_bytes}
 use Rattle.archive_core.proofs.Compare.{three_parts, length_key_bytes}

@@ -26,16 +26,16 @@ parts a b k l keys is_k is_l first second is =
 pub returns-then-is_ne : goal.returns-then-is_ne
 returns-then-is_ne c =
     let keys = c.compare_keys-keys in
-    sym (parts c.args.a.now c.args.b.now c.key.result c.key-2.result keys.result c.key.ensures c.key-2.ensures keys.ensures.first keys.ensures.second keys.ensures.order
+    sym (parts c.args.bytes.now c.args.other.now c.args.key.now c.args.that.now keys.result c.requires.key c.requires.that keys.ensures.first keys.ensures.second keys.ensures.order
     ∙ then_unequal keys.result _ (sym c.is_ne.ensures ∙ c.if-is_ne.true))
 
 pub returns-then-is_ne-2 : goal.returns-then-is_ne-2
 returns-then-is_ne-2 c =
     let keys = c.compare_keys-keys in
-    let slices = slice_cmp nat_cmp c.args.a.now c.args.b.now in
-    let lengths : c.cmp-lengths.result ≡ slice_cmp nat_cmp (to_be_bytes w64 (length c.args.a.now)) (to_be_bytes w64 (length c.args.b.now)) =
-    c.cmp-lengths.ensures ∙ (λ i. nat_cmp (length (c.bytes-first.ensures.bytes i)) (length (c.bytes-second.ensures.bytes i))) ∙ cmp_eight (length c.args.a.now) (length c.args.b.now) (search rules) (search rules) in
-    sym (parts c.args.a.now c.args.b.now c.key.result c.key-2.result keys.result c.key.ensures c.key-2.ensures keys.ensures.first keys.ensures.second keys.ensures.order
+    let slices = slice_cmp nat_cmp c.args.bytes.now c.args.other.now in
+    let lengths : c.cmp-lengths.result ≡ slice_cmp nat_cmp (to_be_bytes w64 (length c.args.bytes.now)) (to_be_bytes w64 (length c.args.other.now)) =
+    c.cmp-lengths.ensures ∙ cmp_eight (length c.args.bytes.now) (length c.args.other.now) (search rules) (search rules) in
+    sym (parts c.args.bytes.now c.args.other.now c.args.key.now c.args.that.now keys.result c.requires.key c.requires.that keys.ensures.first keys.ensures.second keys.ensures.order
     ∙ then_equal keys.result _ (sym c.is_ne.ensures ∙ c.if-is_ne.false)
     ∙ ap (λ r. ordering_then r slices) (sym lengths)
     ∙ then_unequal c.cmp-lengths.result slices (sym c.is_ne-2.ensures ∙ c.if-is_ne-2.true))
@@ -43,12 +43,11 @@ returns-then-is_ne-2 c =
 pub returns : goal.returns
 returns c =
     let keys = c.compare_keys-keys in
-    let slices = slice_cmp nat_cmp c.args.a.now c.args.b.now in
-    let lengths : c.cmp-lengths.result ≡ slice_cmp nat_cmp (to_be_bytes w64 (length c.args.a.now)) (to_be_bytes w64 (length c.args.b.now)) =
-    c.cmp-lengths.ensures ∙ (λ i. nat_cmp (length (c.bytes-first.ensures.bytes i)) (length (c.bytes-second.ensures.bytes i))) ∙ cmp_eight (length c.args.a.now) (length c.args.b.now) (search rules) (search rules) in
+    let slices = slice_cmp nat_cmp c.args.bytes.now c.args.other.now in
+    let lengths : c.cmp-lengths.result ≡ slice_cmp nat_cmp (to_be_bytes w64 (length c.args.bytes.now)) (to_be_bytes w64 (length c.args.other.now)) =
+    c.cmp-lengths.ensures ∙ cmp_eight (length c.args.bytes.now) (length c.args.other.now) (search rules) (search rules) in
     c.cmp.ensures
-    ∙ (λ i. slice_cmp nat_cmp (c.bytes-first.ensures.bytes i) (c.bytes-second.ensures.bytes i))
-    ∙ sym (parts c.args.a.now c.args.b.now c.key.result c.key-2.result keys.result c.key.ensures c.key-2.ensures keys.ensures.first keys.ensures.second keys.ensures.order
+    ∙ sym (parts c.args.bytes.now c.args.other.now c.args.key.now c.args.that.now keys.result c.requires.key c.requires.that keys.ensures.first keys.ensures.second keys.ensures.order
     ∙ then_equal keys.result _ (sym c.is_ne.ensures ∙ c.if-is_ne.false)
     ∙ ap (λ r. ordering_then r slices) (sym lengths)
     ∙ then_equal c.cmp-lengths.result slices (sym c.is_ne-2.ensures ∙ c.if-is_ne-2.false))

@@ -40,7 +40,7 @@ taking-preserved g c =
           record {
             records = m.records ++ last ∷ [];
             read = read;
-            makes = entries_more c.taking.entries.items c.push.new.self.items c.of_record.result m.records last c.in-Ok.offset c.in_default-push.ensures.items (rw c.last.ensures at c.of_record.ensures.bytes) (omega (arith, c.in-Ok.ensures, c.offset-before.ensures, m.read.offset_is)) m.makes;
+            makes = entries_more c.taking.entries.items c.push.new.self.items c.of_record.result m.records last c.in-Ok.offset c.in_default-push.ensures.items (rw c.record.ensures.bytes at c.of_record.ensures.bytes) (omega (arith, c.in-Ok.ensures, c.offset-before.ensures, m.read.offset_is)) m.makes;
           };
       file = step.0.file_is ∙ c.taking.invariant.file;
       unfailed = step.1 ∙ c.taking.invariant.unfailed;

@@ -1,5 +1,5 @@
 use Rattle.std.proofs.Common.{◌∙◌}
-use Rattle.archive_records.proofs.Heads.{read_key}
+use Rattle.archive_core.proofs.Heads.{read_key}
 use Rattle.archive_records.proofs.head.key_in.Goals as goal
 
 pub returns-clause-bytes : goal.returns-clause-bytes

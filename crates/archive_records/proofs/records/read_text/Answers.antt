@@ -1,7 +1,7 @@
 use Rattle.std.proofs.Common.{[], inl, inr, refl, arith, ◌∙◌}
 use Rattle.std.proofs.lemmas.Result.{err_from_is_err_and}
 use Rattle.byte_device.proofs.Known.{Consumes-none}
-use Rattle.archive_records.proofs.Blamed.{failed}
+use Rattle.archive_records.proofs.Blamed.{blames_behind, failed}
 use Rattle.archive_records.proofs.FaultKinds.{memory_blames}
 use Rattle.archive_records.proofs.Formats.{begun_no_trailing}
 use Rattle.archive_records.proofs.records.read_text.Goals as goal
@@ -33,3 +33,8 @@ pub returns-clause-read : goal.returns-clause-read
 returns-clause-read g c =
     let begun = c.in_ok-reader.ensures in
     (c.in_ok-reader.reader.file, begun.kind ∙ c.requires.file, c.in_ok-take_records.ensures.all (g.R.Source.left c.args.r.now) c.args.question c.begin-taker.ensures begun.read)
+
+pub returns-in_err-take_records-clause-reader : goal.returns-in_err-take_records-clause-reader
+returns-in_err-take_records-clause-reader g c =
+    let p = err_from_is_err_and c.from_residual-in_err-take_records.result c.from_residual-in_err-take_records.ensures.1 in
+    rw (p.1, p.2) (blames_behind g.R.Source.left g.R.Source.failures c.args.r.now c.begin.new.r c.take_records.new.r c.in_ok-reader.ensures.reader _ c.in_err-take_records.ensures.reader)

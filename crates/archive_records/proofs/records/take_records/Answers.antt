@@ -1,6 +1,6 @@
 use Rattle.std.proofs.Common.{◌∙◌, sym, ap, subst, arith, inr, refl, [], ◌∷◌, ◌++◌}
-use Rattle.archive_records.specs.Kind.{kind_of}
-use Rattle.archive_records.specs.Reader.{IsFoundIn, DropsLast, MakeThemselves}
+use Rattle.archive_records.specs.Kind.{IsItemOf, kind_of}
+use Rattle.archive_records.specs.Reader.{DropsLast, MakeThemselves}
 use Rattle.archive_records.specs.Text.{taken_of}
 use Rattle.archive_records.proofs.Taken.{taken_none, taken_push, taken_pass, made_taken}
 use Rattle.archive_records.proofs.Steps.{HasRead-grows, HasReadAll-grows, Stopped-fails, Stopped-unkept, step-never_trailing}
@@ -12,7 +12,7 @@ taking-init g c = record { gathers = λ a start. record { records = []; read = s
 pub take-requires : goal.take-requires
 take-requires g c =
     let step = rw c.in-Ok-Item.field-0-is at c.in-Ok-Item.ensures in
-    rw c.last.ensures (subst (λ k. IsFoundIn k c.advance.new.self.last c.in-Ok-Item.found) (ap kind_of c.taking.invariant.file ∙ c.requires.file) step.2)
+    subst (λ k. IsItemOf k c.advance.new.self.last) (ap kind_of c.taking.invariant.file ∙ c.requires.file) step.0.item
 
 pub returns-in-Ok-End-clause-all : goal.returns-in-Ok-End-clause-all
 returns-in-Ok-End-clause-all g c = λ a question made start.
@@ -63,7 +63,7 @@ pub taking-preserved : goal.taking-preserved
 taking-preserved g c =
     let step = rw c.in-Ok-Item.field-0-is at c.in-Ok-Item.ensures in
     let file = c.args.reader.now.file in
-    let taken = rw c.last.ensures at c.in_default.ensures in
+    let taken = c.in_default.ensures in
     record {
       gathers = λ a start.
           let m = c.taking.invariant.gathers a start in

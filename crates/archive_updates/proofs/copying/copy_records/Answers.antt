@@ -1,6 +1,6 @@
 use Rattle.std.proofs.Common.{◌∙◌, sym, ap, subst, arith, refl, [], ◌∷◌, ◌++◌}
-use Rattle.archive_records.specs.Kind.{kind_of}
-use Rattle.archive_records.specs.Reader.{IsFoundIn, DropsLast}
+use Rattle.archive_records.specs.Kind.{IsItemOf, kind_of}
+use Rattle.archive_records.specs.Reader.{DropsLast}
 use Rattle.archive_records.specs.Text.{taken_of}
 use Rattle.archive_records.proofs.Puts.{few_missing}
 use Rattle.archive_records.proofs.Taken.{taken_none, taken_push, taken_pass}
@@ -18,10 +18,13 @@ copying-init g c = record {
   fits = omega (arith, c.requires.fits);
 }
 
-pub put_unnamed-requires-clause-found : goal.put_unnamed-requires-clause-found
-put_unnamed-requires-clause-found g c =
+pub record-requires : goal.record-requires
+record-requires g c =
     let step = rw c.in-Ok-Item.field-0-is at c.in-Ok-Item.ensures in
-    rw c.last.ensures (subst (λ k. IsFoundIn k c.advance.new.self.last c.in-Ok-Item.found) (ap kind_of c.copying.invariant.file ∙ c.requires.archive) step.2)
+    subst (λ k. IsItemOf k c.advance.new.self.last) (ap kind_of c.copying.invariant.file ∙ c.requires.archive) step.0.item
+
+pub put_unnamed-requires-clause-record : goal.put_unnamed-requires-clause-record
+put_unnamed-requires-clause-record g c = c.record.ensures.bytes ∙ sym c.last.ensures
 
 pub returns-in-Ok-End-clause-copied : goal.returns-in-Ok-End-clause-copied
 returns-in-Ok-End-clause-copied g c = λ a w0 start copied.

@@ -1,6 +1,6 @@
-use Rattle.std.proofs.Common.{◌∙◌}
-use Rattle.archive_records.proofs.Forms.{admitted_is}
+use Rattle.std.proofs.Common.{ap, ◌∙◌}
+use Rattle.archive_core.specs.Record.{record_bytes}
 use Rattle.indexed_parts.proofs.records.admission_of.Goals as goal
 
-pub returns-in_ok-admit-clause-found : goal.returns-in_ok-admit-clause-found
-returns-in_ok-admit-clause-found c = admitted_is c.args.bytes.now c.in_ok-admit.field-0 c.in-Some.ensures.admits (c.in_ok-admit.ensures ∙ c.in-Some.ensures.found)
+pub returns-in_ok-copy-clause-found : goal.returns-in_ok-copy-clause-found
+returns-in_ok-copy-clause-found c = ap record_bytes c.in_ok-copy.ensures ∙ c.in-Some.ensures.found

@@ -1,5 +1,4 @@
-use Rattle.macho_symbols.proofs.ScanLemmas.{tuples_total}
-use Rattle.macho_symbols.proofs.Order.{exact_tuples}
+use Rattle.macho_symbols.proofs.Order.{tuples_total, exact_tuples}
 use Rattle.macho_symbols.proofs.laws.total_order.Goals as goal
 
 pub returns : goal.returns

@@ -1,4 +1,5 @@
 use Rattle.byte_device.specs.Devices.{stream}
+use Rattle.record_merge.specs.Sides.{side_with, sides_of}
 use Rattle.record_merge.proofs.Starts.{right_stops, right_read, told_right}
 use Rattle.record_merge.proofs.Tells.{tells_right_read}
 use Rattle.record_merge.proofs.merging.read_right.Goals as goal
@@ -6,19 +7,19 @@ use Rattle.record_merge.proofs.merging.read_right.Goals as goal
 pub returns-in-Ok-clause-merging : goal.returns-in-Ok-clause-merging
 returns-in-Ok-clause-merging g c = λ a1 b1 a2 w0 w1 p.
     let right = c.in-Ok.ensures in
-    right_read a1 a2 w0 w1 b1 _ _ c.args.m.now p c.requires.read c.read_on.new.self (λ done low s. right.stands a2 done low s)
+    right_read a1 a2 w0 w1 b1 _ _ (sides_of c.args.m.now) p c.requires.read (side_with c.args.m.now.shared c.read_on.new.self) (λ done low s. right.stands a2 done low s)
 
 pub returns-in-Ok-clause-telling : goal.returns-in-Ok-clause-telling
 returns-in-Ok-clause-telling g c = λ a1 b1 a2 w0 w1 told withdraws t.
     let right = c.in-Ok.ensures in
-    tells_right_read a1 a2 w0 w1 b1 _ _ c.args.m.now told withdraws t c.requires.read c.read_on.new.self (λ done low s. right.stands a2 done low s)
+    tells_right_read a1 a2 w0 w1 b1 _ _ (sides_of c.args.m.now) told withdraws t c.requires.read (side_with c.args.m.now.shared c.read_on.new.self) (λ done low s. right.stands a2 done low s)
 
 pub returns-in-Err-clause-merging : goal.returns-in-Err-clause-merging
 returns-in-Err-clause-merging g c = λ a1 b1 a2 w0 w1 p.
     let right = c.in-Err.ensures in
-    right_stops a1 a2 w0 w1 b1 _ _ c.args.m.now p c.requires.read c.read_on.new.self c.in-Err.fault c.right_refused.result c.right_refused.ensures c.requires.fits.left_few (λ done low s. right.stands a2 done low s)
+    right_stops a1 a2 w0 w1 b1 _ _ (sides_of c.args.m.now) p c.requires.read (side_with c.args.m.now.shared c.read_on.new.self) c.in-Err.fault c.right_refused.result c.right_refused.ensures c.requires.fits.left_few (λ done low s. right.stands a2 done low s)
 
 pub returns-in-Err-clause-blames : goal.returns-in-Err-clause-blames
 returns-in-Err-clause-blames g c =
     let right = c.in-Err.ensures in
-    told_right (stream g.S.Source.left g.S.Source.failures c.args.r2.now c.read_on.new.r) (record { left = c.args.m.now.left; right = c.read_on.new.self; written = c.args.m.now.written }) c.in-Err.fault c.right_refused.result c.right_refused.ensures right.reader
+    told_right (stream g.S.Source.left g.S.Source.failures c.args.r2.now c.read_on.new.r) (record { left = side_with c.args.m.now.shared c.args.m.now.left; right = side_with c.args.m.now.shared c.read_on.new.self; written = c.args.m.now.written }) c.in-Err.fault c.right_refused.result c.right_refused.ensures right.reader

@@ -1,4 +1,5 @@
 use Rattle.std.proofs.Common.{◌≡◌, ◌∷◌, List, length, refl, ap, subst, arith}
+use Rattle.std.specs.FinSet.{from_list}
 use Rattle.std.specs.Vec.Iter.{into_iter_items, into_iter_len}
 use Rattle.sorted_archive.specs.InnerTaking.{IsParting, IsParted}
 use Rattle.archive_core.specs.declared.operations.Operation.{Operation}
@@ -11,7 +12,7 @@ operations-init c =
     record {
       can = tt;
       finite = tt;
-      way = λ old is. parting_none old all all c.in_ok-parts.parts.admissions.items c.in_ok-parts.parts.retirements.items c.in_ok-seen.seen is refl c.in_ok-parts.ensures.admissions c.in_ok-parts.ensures.retirements c.in_ok-seen.ensures;
+      way = λ old is. parting_none old all all c.in_ok-parts.parts.admissions.items c.in_ok-parts.parts.retirements.items (from_list c.in_ok-seen.seen) is refl c.in_ok-parts.ensures.admissions c.in_ok-parts.ensures.retirements (ap from_list c.in_ok-seen.ensures);
       long = omega (arith, c.into_iter-operation-iterator.ensures.into_iter_gives.1, ap length c.into_iter-operation-iterator.ensures.into_iter_gives.0);
     }
 
@@ -26,7 +27,7 @@ operations-preserved c =
       can = tt;
       finite = tt;
       way = λ old is.
-          c.in_ok-put.ensures old all rest (subst (λ (l : List Operation). IsParting old all l at.parts.admissions.items at.parts.retirements.items at.seen) steps (at.invariant.way old is));
+          c.in_ok-put.ensures old all rest (subst (λ (l : List Operation). IsParting old all l at.parts.admissions.items at.parts.retirements.items (from_list at.seen)) steps (at.invariant.way old is));
       long =
           let was : into_iter_len at.operation-iterator ≡ length left = at.invariant.long in
           let gone = c.in-Some.ensures.steps.1 in
@@ -42,5 +43,5 @@ returns c =
     let long : into_iter_len at.operation-iterator ≡ length left = at.invariant.long in
     let none : length left ≡ 0 = omega (arith, long, c.in-None.ensures.steps) in
     λ old made.
-    let is = parted old all left at.parts.admissions.items at.parts.retirements.items at.seen (at.invariant.way old made) none in
+    let is = parted old all left at.parts.admissions.items at.parts.retirements.items (from_list at.seen) (at.invariant.way old made) none in
     subst (λ (l : List Operation). IsParted old l at.parts.admissions.items at.parts.retirements.items) c.into_iter-operation-iterator.ensures.into_iter_gives.0 is

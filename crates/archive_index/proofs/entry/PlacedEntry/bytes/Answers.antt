@@ -1,5 +1,5 @@
 use Rattle.std.proofs.Common.{◌++◌, ◌∙◌, refl}
-use Rattle.archive_records.proofs.Heads.{laid_last}
+use Rattle.archive_core.proofs.Heads.{laid_last}
 use Rattle.archive_index.specs.Entry.{placed_bytes}
 use Rattle.archive_index.proofs.entry.PlacedEntry.bytes.Goals as goal
 

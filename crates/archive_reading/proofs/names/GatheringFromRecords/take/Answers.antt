@@ -1,26 +1,34 @@
-use Rattle.std.proofs.Common.{ℕ, List, ◌++◌, ◌∙◌, ap, map}
+use Rattle.std.proofs.Common.{ℕ, List, ◌++◌, ◌∙◌, ap, map, sym}
 use Rattle.std.proofs.lemmas.List.{map-append}
 use Rattle.archive_core.specs.Names.{owned_name_view}
+use Rattle.archive_core.specs.Summary.{entry}
+use Rattle.archive_core.proofs.Entries.{retirement_entry}
 use Rattle.archive_records.specs.Entry.{entry_bytes}
 use Rattle.archive_reading.specs.InnerNames.{names_of}
 use Rattle.archive_reading.proofs.Gathered.{OnOk-then}
 use Rattle.archive_reading.proofs.Gatherings.{admitted_more, retired_more, rows_more, rows_same}
-use Rattle.archive_reading.proofs.Questioned.{found_admits, found_retires}
+use Rattle.archive_reading.proofs.Questioned.{lent_admits, lent_retires}
 use Rattle.archive_reading.proofs.names.GatheringFromRecords.take.Goals as goal
 
-pub returns-then-is_none : goal.returns-then-is_none
-returns-then-is_none c = λ start records apart is.
-    let retires = found_retires c.args.bytes.now c.args.found c.is_none.result c.is_none.ensures c.if-is_none.true c.requires in (
+pub returns-in-Retire : goal.returns-in-Retire
+returns-in-Retire c = λ start records apart is.
+    let last = c.args.reader.now.last in
+    let now = c.in-Retire.ensures in
+    let retires = lent_retires last c.in-Retire.key c.in-Retire.digest now.operation now.bytes in
+    let told = sym (retirement_entry c.in-Retire.key c.in-Retire.digest.0) ∙ ap entry now.bytes in (
       is.0,
-      rows_same start.name.now records c.args.bytes.now _ _ retires is.1,
-      retired_more records c.args.bytes.now _ _ _ _ retires c.entry_of.ensures (ap (map entry_bytes) c.in_ok-push.ensures.items ∙ map-append entry_bytes _ _) is.2,
+      rows_same start.name.now records last _ _ retires is.1,
+      retired_more records last _ _ _ _ retires told (ap (map entry_bytes) c.in_ok-push.ensures.items ∙ map-append entry_bytes _ _) is.2,
     )
 
 pub returns : goal.returns
 returns c = OnOk-then c.push_names.result c.push_names.ensures (λ grown start records apart is.
+    let last = c.args.reader.now.last in
     let before = map owned_name_view c.args.self.now.found.rows.items in
-    let admits = found_admits c.args.bytes.now c.args.found c.is_none.result c.is_none.ensures c.if-is_none.false c.requires in (
+    let record_is = c.record-record.ensures in
+    let more = grown ∙ ap (λ (r : List ℕ). before ++ names_of c.args.self.now.name.now r) record_is.bytes in
+    let admits = lent_admits last c.in_default.field-0 (rw c.in_default.is at record_is.operation) (rw c.in_default.is at record_is.bytes) in (
       is.0,
-      rows_more start.name.now records c.args.bytes.now _ before _ (grown ∙ ap (λ (n : List ℕ). before ++ names_of n c.args.bytes.now) is.0) is.1,
-      admitted_more records c.args.bytes.now _ _ admits is.2,
+      rows_more start.name.now records last _ before _ (more ∙ ap (λ (n : List ℕ). before ++ names_of n last) is.0) is.1,
+      admitted_more records last _ _ admits is.2,
     ))

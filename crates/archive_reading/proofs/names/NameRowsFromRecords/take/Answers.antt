@@ -8,4 +8,5 @@ use Rattle.archive_reading.proofs.names.NameRowsFromRecords.take.Goals as goal
 pub returns : goal.returns
 returns c = OnOk-then c.push_names.result c.push_names.ensures (λ grown name records apart is.
     let before = map owned_name_view c.args.self.now.rows.items in
-    (is.0, names_more name.now records c.args.bytes.now before _ (grown ∙ ap (λ (n : List ℕ). before ++ names_of n c.args.bytes.now) is.0) is.1))
+    let more = grown ∙ ap (λ (r : List ℕ). before ++ names_of c.args.self.now.name.now r) c.record.ensures.bytes in
+    (is.0, names_more name.now records c.args.reader.now.last before _ (more ∙ ap (λ (n : List ℕ). before ++ names_of n c.args.reader.now.last) is.0) is.1))

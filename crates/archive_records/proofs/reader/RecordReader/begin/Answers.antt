@@ -20,7 +20,7 @@ returns-clause-read g c =
       last_is = c.clear.ensures.items;
       count_is = refl;
       offset_is = refl;
-      retired_are = retired_none file c.none.result c.none.ensures;
+      retired_are = retired_none file c.in-Ok-none.retired c.in-Ok-none.ensures;
       dropped_is = drops_none file _ refl;
     }
 
@@ -30,11 +30,11 @@ returns-in_default-clause-stops g c = rw c.out_of_memory.ensures ([], Consumes-n
 pub returns-in_default-clause-reader : goal.returns-in_default-clause-reader
 returns-in_default-clause-reader g c = rw c.out_of_memory.ensures (memory_blames g.R.Source.left g.R.Source.failures c.args.r.now c.args.r.now refl)
 
-pub returns-in_default-clone-clause-stops : goal.returns-in_default-clone-clause-stops
-returns-in_default-clone-clause-stops g c = rw c.out_of_memory-in_default-clone.ensures ([], Consumes-none (g.R.Source.left c.args.r.now), λ format is. inr (inr (refl, omega arith)))
+pub returns-in_default-none-clause-stops : goal.returns-in_default-none-clause-stops
+returns-in_default-none-clause-stops g c = rw c.out_of_memory-in_default-none.ensures ([], Consumes-none (g.R.Source.left c.args.r.now), λ format is. inr (inr (refl, omega arith)))
 
-pub returns-in_default-clone-clause-reader : goal.returns-in_default-clone-clause-reader
-returns-in_default-clone-clause-reader g c = rw c.out_of_memory-in_default-clone.ensures (memory_blames g.R.Source.left g.R.Source.failures c.args.r.now c.args.r.now refl)
+pub returns-in_default-none-clause-reader : goal.returns-in_default-none-clause-reader
+returns-in_default-none-clause-reader g c = rw c.out_of_memory-in_default-none.ensures (memory_blames g.R.Source.left g.R.Source.failures c.args.r.now c.args.r.now refl)
 
 pub returns-in-Err-clause-stops : goal.returns-in-Err-clause-stops
 returns-in-Err-clause-stops g c = (bytes_so_far c.read_magic.new.buffer, c.in-Err.ensures.taken, c.in-Err.ensures.stops)

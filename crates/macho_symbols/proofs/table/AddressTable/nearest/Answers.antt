@@ -1,6 +1,6 @@
 use Rattle.macho_symbols.specs.Symbols.{strings_of}
 use Rattle.macho_symbols.specs.Views.{tuple_of}
-use Rattle.macho_symbols.proofs.ScanLemmas.{stands_below}
+use Rattle.macho_symbols.proofs.Stands.{stands_below}
 use Rattle.macho_symbols.proofs.table.AddressTable.nearest.Goals as goal
 
 pub found-requires-clause-value : goal.found-requires-clause-value

@@ -1,0 +1,55 @@
+//! The bytes of keys and of retirements, as they stand in records.
+ghost use Rattle.std.specs.Prelude.{◌≡◌, ◌∷◌, ◌++◌, length};
+ghost use Rattle.archive_core.specs.Key.{key_bytes};
+ghost use Rattle.archive_core.specs.Record.{retirement_record};
+
+use crate::{Digest, SliceKey};
+use uuid::Uuid;
+
+/// The tag of a retirement's record.
+pub const RETIREMENT: u8 = 1;
+
+// A UUID has sixteen bytes.
+fn uuid_bytes(uuid: &Uuid) -> &[u8]
+    ensures bytes { result.now ≡ uuid.now }
+    ensures sixteen { length result.now ≡ 16 }
+{
+    uuid.as_bytes()
+}
+
+// Lays the bytes of a key.
+fn lay_key(part: &mut [u8], key: &SliceKey)
+    requires { length part.old ≡ 24 }
+    ensures { part.new ≡ key_bytes key.now }
+{
+    part[..16].copy_from_slice(uuid_bytes(&key.uuid));
+    part[16..20].copy_from_slice(&key.arch.cputype.to_be_bytes());
+    part[20..].copy_from_slice(&key.arch.cpusubtype.to_be_bytes());
+}
+
+/// The bytes of a key, as they stand behind a record's tag.
+pub fn key_front(key: &SliceKey) -> [u8; 24]
+    ensures { result ≡ key_bytes key.now }
+{
+    let mut whole = [0; 24];
+    lay_key(&mut whole, key);
+    whole
+}
+
+/// A tag, a key and a digest.
+pub fn tagged_bytes(tag: u8, key: &SliceKey, digest: &Digest) -> [u8; 57]
+    ensures { result ≡ tag ∷ (key_bytes key.now ++ digest.now.0) }
+{
+    let mut bytes = [0; 57];
+    bytes[0] = tag;
+    lay_key(&mut bytes[1..25], key);
+    bytes[25..].copy_from_slice(&digest.0);
+    bytes
+}
+
+/// The record of a retirement.
+pub fn retirement_bytes(key: &SliceKey, digest: &Digest) -> [u8; 57]
+    ensures { result ≡ retirement_record key.now digest.now.0 }
+{
+    tagged_bytes(RETIREMENT, key, digest)
+}

@@ -1,0 +1,196 @@
+//! Retirements that were read or came, and the slices that they cover.
+ghost use Rattle.std.specs.Prelude.{◌≡◌, ◌≤◌, ◌∷◌, ◌++◌, ℕ, List, [], length, take, true, false, not, OnOk, IfOk};
+ghost use Rattle.std.specs.Prelude.{OnErr, ◌⊎◌};
+ghost use Rattle.std.specs.FinSet as set;
+ghost use Rattle.std.specs.Ordering.{nat_cmp, is_gt};
+ghost use Rattle.std.specs.Cmp.Lexicographic.{slice_cmp};
+ghost use Rattle.std.specs.List.Sorted.{IsStrictlySortedBy, IsSearchInRange};
+ghost use Rattle.sha2.specs.Sha256.{sha256};
+ghost use Rattle.join_core.specs.InnerSearch.{IsFound};
+ghost use Rattle.archive_core.specs.Key.{key_bytes};
+ghost use Rattle.archive_core.specs.Valid.{key_of};
+ghost use Rattle.archive_core.specs.Record.{retirement_record};
+
+use crate::layout::{RETIREMENT, key_front, retirement_bytes};
+use crate::{CheckedSlice, SliceKey};
+use memory::{Heap, NoMemory};
+use std::cmp::Ordering;
+use std::collections::BTreeSet;
+use std::marker::Model;
+
+// How many bytes of a record its tag and its key are.
+const FRONT: usize = 25;
+
+/// The records of retirements. A contract sees them as a list, of which the order says nothing.
+///
+/// Those of an archive ascend, and take 57 bytes each. They may come in any order.
+#[derive(Drop)]
+pub struct Retirements {
+    // Those that came above all of these before them.
+    ascending: Vec<[u8; 57], Heap>,
+    others: BTreeSet<[u8; 57], Heap>,
+}
+
+impl Model for Retirements {
+    ghost use Rattle.std.specs.Prelude.{◌++◌, ℕ, List};
+    ghost use Rattle.std.specs.Ordering.{nat_cmp};
+    ghost use Rattle.std.specs.Cmp.Lexicographic.{slice_cmp};
+    ghost use Rattle.std.specs.List.Sorted.{IsStrictlySortedBy};
+
+    ghost Value = { List (List ℕ) };
+
+    ghost view = { λ retirements. retirements.ascending.items ++ retirements.others.keys };
+
+    ghost invariant = { λ retirements. IsStrictlySortedBy (slice_cmp nat_cmp) retirements.ascending.items };
+}
+
+// The tag and the key of the retirements of a key.
+fn front_of(key: &SliceKey) -> [u8; 25]
+    ensures front { result ≡ 1 ∷ key_bytes key.now }
+    ensures long { length (key_bytes key.now) ≡ 24 }
+{
+    let mut front = [0; FRONT];
+    front[0] = RETIREMENT;
+    front[1..].copy_from_slice(&key_front(key));
+    front
+}
+
+// Compares a record with the tag and the key of one.
+fn compare_front(kept: &[u8; 57], front: &[u8; 25]) -> Ordering
+    ensures { result ≡ slice_cmp nat_cmp (take 25 kept.now) front.now }
+{
+    kept[..FRONT].cmp(&front[..])
+}
+
+// Compares two records.
+fn compare_whole(a: &[u8; 57], b: &[u8; 57]) -> Ordering
+    ensures { result ≡ slice_cmp nat_cmp a.now b.now }
+{
+    a[..].cmp(&b[..])
+}
+
+// Whether the record is among these, which ascend.
+fn search(records: &[[u8; 57]], retirement: &[u8; 57]) -> Result<usize, usize>
+    requires { IsStrictlySortedBy (slice_cmp nat_cmp) records.now }
+    ensures found { IsFound (slice_cmp nat_cmp) records.now retirement.now result }
+    ensures within { IsSearchInRange result (length records.now) }
+{
+    records.binary_search_by(|kept| compare_whole(kept, retirement))
+}
+
+// Takes the last of these out where it is this record.
+fn pop_if_last(records: &mut Vec<[u8; 57], Heap>, retirement: &[u8; 57])
+    ensures { (records.new.items ≡ records.old.items)
+        ⊎ (records.old.items ≡ records.new.items ++ retirement.now ∷ []) }
+{
+    if records.last() == Some(retirement) {
+        let _popped = records.pop();
+    }
+}
+
+// Whether a record that begins so is among these, which ascend.
+fn has_front(records: &[[u8; 57]], front: &[u8; 25]) -> bool
+    requires { IsStrictlySortedBy (slice_cmp nat_cmp) records.now }
+    ensures { (r : List ℕ) → take 25 r ≡ front.now
+        → set.contains (set.from_list {R = slice_cmp nat_cmp} records.now) r ≡ true → result ≡ true }
+{
+    records
+        .binary_search_by(|kept| compare_front(kept, front))
+        .is_ok()
+}
+
+// The least record that begins so.
+fn least_of(front: &[u8; 25]) -> [u8; 57]
+    ensures front { take 25 result ≡ front.now }
+    ensures least { (r : List ℕ) → take 25 r ≡ front.now → length r ≡ 57
+        → is_gt (slice_cmp nat_cmp result r) ≡ false }
+{
+    let mut least = [0; 57];
+    least[..FRONT].copy_from_slice(front);
+    least
+}
+
+// Whether a record that begins so is among these.
+fn has_other_front(records: &BTreeSet<[u8; 57], Heap>, front: &[u8; 25]) -> bool
+    ensures { (r : List ℕ) → take 25 r ≡ front.now → length r ≡ 57
+        → set.contains (set.from_list {R = slice_cmp nat_cmp} records.now.keys) r ≡ true → result ≡ true }
+{
+    match records.range(least_of(front)..).next() {
+        Some(first) => compare_front(first, front).is_eq(),
+        None => false,
+    }
+}
+
+impl Retirements {
+    /// None.
+    pub fn none(heap: &Heap) -> Result<Retirements, NoMemory>
+        ensures { IfOk result (λ none. none ≡ []) }
+    {
+        Ok(Retirements {
+            ascending: Vec::new(heap.clone()?),
+            others: BTreeSet::new(heap.clone()?),
+        })
+    }
+
+    // Whether a retirement of the key is there.
+    fn has_key(&self, key: &SliceKey) -> bool
+        ensures { (digest : List ℕ) → length digest ≡ 32
+            → set.contains (set.from_list {R = slice_cmp nat_cmp} self.now) (retirement_record key.now digest) ≡ true
+            → result ≡ true }
+    {
+        let front = front_of(key);
+        has_front(&self.ascending, &front) || has_other_front(&self.others, &front)
+    }
+
+    // Whether the retirement is there.
+    fn contains(&self, retirement: &[u8; 57]) -> bool
+        ensures { result ≡ set.contains (set.from_list {R = slice_cmp nat_cmp} self.now) retirement.now }
+    {
+        search(&self.ascending, retirement).is_ok() || self.others.contains(retirement)
+    }
+
+    /// Whether the retirement is there that covers the slice. Its digest is kept where a retirement of its key is
+    /// there, and not asked for elsewhere.
+    pub fn covers(&self, slice: &mut CheckedSlice<'_>) -> bool
+        ensures covers { result ≡ set.contains (set.from_list {R = slice_cmp nat_cmp} self.now)
+            (retirement_record (key_of slice.old) (sha256 slice.old)) }
+        ensures same { slice.new ≡ slice.old }
+    {
+        let key = slice.key();
+        if !self.has_key(&key) {
+            return false;
+        }
+        slice.keep_digest();
+        self.contains(&retirement_bytes(&key, &slice.digest()))
+    }
+
+    /// Keeps the record of a retirement, and answers whether it was not there.
+    pub fn keep(&mut self, retirement: [u8; 57]) -> Result<bool, NoMemory>
+        ensures kept { OnOk result (set.from_list {R = slice_cmp nat_cmp} self.new
+            ≡ set.insert (set.from_list self.old) retirement) }
+        ensures first { IfOk result (λ first.
+            first ≡ not (set.contains (set.from_list {R = slice_cmp nat_cmp} self.old) retirement)) }
+        ensures refused { OnErr result (self.new ≡ self.old) }
+    {
+        let Err(at) = search(&self.ascending, &retirement) else {
+            return Ok(false);
+        };
+        if at < self.ascending.len() {
+            return Ok(self.others.insert(retirement)?);
+        }
+        if self.others.contains(&retirement) {
+            return Ok(false);
+        }
+        self.ascending.push(retirement)?;
+        Ok(true)
+    }
+
+    /// Forgets the record of a retirement if it is the last that came above all before it, and else nothing: where it
+    /// is kept elsewhere, too, the two together have what they had.
+    pub fn forget(&mut self, retirement: &[u8; 57])
+        ensures { set.insert (set.from_list {R = slice_cmp nat_cmp} self.new) retirement.now
+            ≡ set.insert (set.from_list self.old) retirement.now }
+    {
+        pop_if_last(&mut self.ascending, retirement);
+    }
+}

@@ -1,0 +1,20 @@
+-- A merge as its contracts see it: a retirement that both sides have is kept once, and counts as each one's own.
+use Rattle.std.specs.Prelude.{ℕ, List, Some}
+use Rattle.archive_records.specs.declared.writing.Sizes.{Sizes}
+use Rattle.archive_records.specs.Reader.{beside}
+use Rattle.record_merge.specs.declared.merging.Merge.{Merge}
+use Rattle.record_merge.specs.declared.side.MergeInput.{MergeInput}
+
+-- two texts that are merged, and how much of their join was written
+pub record Sides : Type 0 where
+  pub left : MergeInput
+  pub right : MergeInput
+  pub written : Sizes
+
+-- a side as if it kept what is shared, too
+abbrev pub side_with : List (List ℕ) → MergeInput → MergeInput
+side_with shared side = record side { reader = beside (Some shared) side.reader }
+
+-- both sides so
+abbrev pub sides_of : Merge → Sides
+sides_of m = record { left = side_with m.shared m.left; right = side_with m.shared m.right; written = m.written }
