@@ -1,12 +1,10 @@
 //! An index that is written to a sink.
 
-ghost use Rattle.std.specs.Prelude.{◌≡◌, ◌+◌, ◌≤◌, ◌^◌, ◌++◌, ℕ, length, map, OnOk, IfOk, IfErr};
+ghost use Rattle.std.specs.Prelude.{◌≡◌, ◌≤◌, ◌^◌, ◌++◌, map, IfOk};
 ghost use Rattle.std.specs.FinSet as set;
 ghost use Rattle.std.specs.List.{concat};
-ghost use Rattle.std.specs.Io.KnownBytes.{Appends};
 ghost use Rattle.join_core.specs.Listing.{listing};
-ghost use Rattle.byte_device.specs.Devices.{FailedIn};
-ghost use Rattle.byte_device.specs.Writes.{WritesFirst};
+ghost use Rattle.byte_device.specs.Writes.{Puts};
 ghost use Rattle.archive_records.specs.Writing.{Writes};
 ghost use Rattle.archive_index.specs.Entry.{placed_bytes};
 ghost use Rattle.archive_index.specs.Text.{index_magic, index_text};
@@ -26,13 +24,8 @@ pub(crate) fn magic() -> [u8; 8]
 /// Writes the entries in their order after the first `done` bytes of a text.
 fn put_entries<W: Sink>(entries: &[PlacedEntry], w: &mut W, done: u128) -> Result<u128, WriteFault>
     requires { done ≤ 8 }
-    ensures ok { IfOk result (λ n. (n ≡ done + length (concat (map placed_bytes entries.now)))
-        × Appends (W.held w.old) (W.held w.new) (concat (map placed_bytes entries.now))) }
+    ensures puts { Puts W.held W.failures (λ n. n) w.old w.new done (concat (map placed_bytes entries.now)) result }
     ensures short { IfOk result (λ n. n ≤ 2 ^ 98) }
-    ensures unfailed { OnOk result (W.failures w.new ≡ W.failures w.old) }
-    ensures err { IfErr result (λ e. (k : ℕ) × (e.written ≡ done + k)
-        × WritesFirst (W.held w.old) (W.held w.new) (concat (map placed_bytes entries.now)) k) }
-    ensures failed { IfErr result (λ _. FailedIn (W.failures w.old) (W.failures w.new)) }
 {
     let mut done = done;
     'putting: for entry in entries {
@@ -43,13 +36,8 @@ fn put_entries<W: Sink>(entries: &[PlacedEntry], w: &mut W, done: u128) -> Resul
 
 /// Writes the magic and the entries.
 fn put_front<W: Sink>(index: &Index, w: &mut W) -> Result<u128, WriteFault>
-    ensures ok { IfOk result (λ n. (n ≡ length (index_magic ++ concat (listing index.now)))
-        × Appends (W.held w.old) (W.held w.new) (index_magic ++ concat (listing index.now))) }
+    ensures puts { Puts W.held W.failures (λ n. n) w.old w.new 0 (index_magic ++ concat (listing index.now)) result }
     ensures short { IfOk result (λ n. n ≤ 2 ^ 98) }
-    ensures unfailed { OnOk result (W.failures w.new ≡ W.failures w.old) }
-    ensures err { IfErr result (λ e.
-        WritesFirst (W.held w.old) (W.held w.new) (index_magic ++ concat (listing index.now)) e.written) }
-    ensures failed { IfErr result (λ _. FailedIn (W.failures w.old) (W.failures w.new)) }
 {
     let done = put(w, 0, &magic())?;
     put_entries(index.entries(), w, done)

@@ -29,5 +29,4 @@ pub mod Inputs
 pub mod Ascending
 pub mod Taken
 pub mod Blamed
-pub mod Together
 pub mod Gathered

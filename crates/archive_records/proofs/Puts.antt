@@ -1,5 +1,5 @@
 -- The texts of records, one behind the other.
-use Rattle.std.proofs.Common.{◌≡◌, ℕ, ◌+◌, ◌<◌, ◌≤◌, List, [], ◌∷◌, ◌++◌, length, get_or, take, drop, Option, Result, refl, sym, ap, ◌∙◌, subst, arith, append_assoc, length-append}
+use Rattle.std.proofs.Common.{◌≡◌, ℕ, ◌+◌, ◌^◌, ◌<◌, ◌≤◌, List, [], ◌∷◌, ◌++◌, length, get_or, take, drop, Option, Result, refl, sym, ap, ◌∙◌, subst, arith, append_assoc, length-append}
 use Rattle.std.specs.Prelude.{IfOk, IfErr, OnOk, Ok, Err, true, false, cond, not}
 use Rattle.std.proofs.lemmas.List.Elements.{filter-append}
 use Rattle.std.specs.Int.{w64, to_be_bytes}
@@ -8,16 +8,13 @@ use Rattle.std.specs.Ordering.{nat_cmp}
 use Rattle.std.specs.Cmp.Lexicographic.{slice_cmp, nat_list_cmp_total}
 use Rattle.std.specs.FinSet as set
 use Rattle.std.specs.FinSet.{nat_cmp-IsAntisymmetric, slice_cmp-IsAntisymmetric, IsAntisymmetric}
-use Rattle.std.specs.Io.KnownBytes.{Appends}
 use Rattle.std.proofs.lemmas.List.{append-nil, take-append-drop, take-append-le, drop_more, take_more}
 use Rattle.std.proofs.lemmas.List.Folds.{concat-append}
 use Rattle.join_core.specs.Listing.{listing}
 use Rattle.join_core.proofs.Listing.{length_listing}
-use Rattle.byte_device.specs.Devices.{FailedIn}
-use Rattle.byte_device.specs.Writes.{WritesFirst}
+use Rattle.byte_device.specs.Writes.{IsPut, Puts, StopsPut, WritesFirst}
 use Rattle.byte_device.specs.declared.writing.WriteFault.{WriteFault}
-use Rattle.byte_device.proofs.Known.{Appends-then}
-use Rattle.byte_device.proofs.Gains.{stopped}
+use Rattle.byte_device.proofs.Gains.{puts_along, puts_then, stops_before}
 use Rattle.archive_core.specs.Key.{key_bytes}
 use Rattle.archive_core.specs.Valid.{key_of}
 use Rattle.archive_core.specs.Record.{admission, admission_record}
@@ -40,65 +37,64 @@ head_and_slice head bytes slice h b =
     ap (λ (t : List ℕ). t ++ bytes) h ∙ ap (λ (t : List ℕ). (2 ∷ (key_bytes (key_of slice) ++ to_be_bytes w64 (length slice))) ++ t) b
     ∙ ap (λ (t : List ℕ). 2 ∷ t) (append_assoc (key_bytes (key_of slice)) (to_be_bytes w64 (length slice)) slice)
 
-module _ (r : Result ℕ WriteFault) (done : ℕ) (a b : Option (List ℕ)) (x y : List ℕ) (e : x ≡ y) where
-  pub ok_along : IfOk r (λ n. (n ≡ done + length x) × Appends a b x) → IfOk r (λ n. (n ≡ done + length y) × Appends a b y)
-  ok_along h = subst (λ (t : List ℕ). IfOk r (λ n. (n ≡ done + length t) × Appends a b t)) e h
-
-  pub err_along : IfErr r (λ e. (k : ℕ) × (e.written ≡ done + k) × WritesFirst a b x k) → IfErr r (λ e. (k : ℕ) × (e.written ≡ done + k) × WritesFirst a b y k)
-  err_along h = subst (λ (t : List ℕ). IfErr r (λ e. (k : ℕ) × (e.written ≡ done + k) × WritesFirst a b t k)) e h
+-- a head of 33 bytes and a slice are short
+pub head_and_slice_short : (head body slice : List ℕ) → length head ≡ 33 → body ≡ slice → length slice < 2 ^ 32 → length (head ++ body) ≤ 2 ^ 33
+head_and_slice_short head body slice long same short = rw same (omega (arith, length-append head slice))
 
 pub concat-push : (xs : List (List ℕ)) (x : List ℕ) → concat (xs ++ x ∷ []) ≡ concat xs ++ x
 concat-push xs x = concat-append xs (x ∷ []) ∙ ap (λ (t : List ℕ). concat xs ++ t) (append-nil x)
 
-module _ (xs : List (List ℕ)) (i : ℕ) (item : List ℕ) (lt : i < length xs) (is : item ≡ get_or xs i []) where
-  -- the records up to the next one
-  pub concat_more : concat (take (i + 1) xs) ≡ concat (take i xs) ++ item
-  concat_more = ap concat (take_more xs i [] lt) ∙ concat-push (take i xs) (get_or xs i []) ∙ ap (λ (t : List ℕ). concat (take i xs) ++ t) (sym is)
+-- the parts of a text that were given, and one more of them
+pub puts_more : {W T : Type 0} (held : W → Option (List ℕ)) (failures : W → ℕ) (size : T → ℕ) (old mid new : W) (done before : ℕ) (xs : List (List ℕ)) (i : ℕ) (item : List ℕ) → i < length xs → item ≡ get_or xs i []
+    → (r : Result T WriteFault) → IsPut held failures old mid done (concat (take i xs)) before → Puts held failures size mid new before item r → Puts held failures size old new done (concat (take (i + 1) xs)) r
+puts_more held failures size old mid new done before xs i item lt is r put puts =
+    let more : concat (take i xs) ++ item ≡ concat (take (i + 1) xs) =
+      sym (ap concat (take_more xs i [] lt) ∙ concat-push (take i xs) (get_or xs i []) ∙ ap (λ (t : List ℕ). concat (take i xs) ++ t) (sym is)) in
+    puts_along held failures size old new done _ _ r more (puts_then held failures size old mid new done before (concat (take i xs)) item r put puts)
 
-  -- the next one among all
-  pub concat_whole : concat xs ≡ concat (take i xs) ++ (item ++ concat (drop (i + 1) xs))
-  concat_whole =
-      ap concat (sym (take-append-drop i xs)) ∙ concat-append (take i xs) (drop i xs)
-      ∙ ap (λ (t : List ℕ). concat (take i xs) ++ t) (ap concat (drop_more xs i [] lt) ∙ ap (λ (t : List ℕ). t ++ concat (drop (i + 1) xs)) (sym is))
+-- the writer failed in the first parts of a text
+pub stops_among : {W : Type 0} (held : W → Option (List ℕ)) (failures : W → ℕ) (old new : W) (done written : ℕ) (all some rest : List (List ℕ)) → all ≡ some ++ rest → StopsPut held failures old new done (concat some) written → StopsPut held failures old new done (concat all) written
+stops_among held failures old new done written all some rest parts stops =
+    subst (λ t. StopsPut held failures old new done t written) (sym (ap concat parts ∙ concat-append some rest)) (stops_before held failures old new done written (concat some) (concat rest) stops)
 
-  pub put_more : (done mid n : ℕ) (a b c : Option (List ℕ)) → mid ≡ done + length (concat (take i xs)) → n ≡ mid + length item → Appends a b (concat (take i xs)) → Appends b c item
-      → (n ≡ done + length (concat (take (i + 1) xs))) × Appends a c (concat (take (i + 1) xs))
-  put_more done mid n a b c m e p q = (
-    omega (arith, ap length concat_more, length-append (concat (take i xs)) item),
-    subst (Appends a c) (sym concat_more) (Appends-then a b c (concat (take i xs)) item p q),
-  )
-
-  pub put_stops : (done mid k written : ℕ) (a b c : Option (List ℕ)) → mid ≡ done + length (concat (take i xs)) → written ≡ mid + k → Appends a b (concat (take i xs)) → WritesFirst b c item k
-      → (n : ℕ) × (written ≡ done + n) × WritesFirst a c (concat xs) n
-  put_stops done mid k written a b c m e p q = (length (concat (take i xs)) + k, omega arith, stopped a b c (concat (take i xs)) item (concat (drop (i + 1) xs)) (concat xs) (length (concat (take i xs))) k refl concat_whole p q)
+-- or the writer failed in that one
+pub stops_in_next : {W : Type 0} (held : W → Option (List ℕ)) (failures : W → ℕ) (old mid new : W) (done before : ℕ) (xs : List (List ℕ)) (i : ℕ) (item : List ℕ) → i < length xs → item ≡ get_or xs i []
+    → (fault : WriteFault) → IsPut held failures old mid done (concat (take i xs)) before → StopsPut held failures mid new before item fault.written → StopsPut held failures old new done (concat xs) fault.written
+stops_in_next held failures old mid new done before xs i item lt is fault put stops =
+    stops_among held failures old new done fault.written xs (take (i + 1) xs) (drop (i + 1) xs) (sym (take-append-drop (i + 1) xs))
+    (puts_more held failures (λ (n : ℕ). n) old mid new done before xs i item lt is (Err fault) put stops)
 
 pub length_written : (o : Operations) → length (listing o) ≡ set.len o
 length_written o = length_listing nat_list_cmp_total bytes_same o
 
--- the end record behind the front of a text
-module _ {W : Type 0} (held : W → Option (List ℕ)) (failures : W → ℕ) (old mid new : W) (records done : ℕ) (front text : List ℕ) (whole : text ≡ front ++ end_record records) (len : done ≡ length front) (gained : Appends (held old) (held mid) front) (unfailed : failures mid ≡ failures old) where
-  pub ends_text : (r : Result Sizes WriteFault)
-      → IfOk r (λ sizes. (sizes.bytes ≡ done + length (end_record records)) × Appends (held mid) (held new) (end_record records)) → IfOk r (λ sizes. sizes.records ≡ records) → OnOk r (failures new ≡ failures mid)
-      → IfErr r (λ e. (k : ℕ) × (e.written ≡ done + k) × WritesFirst (held mid) (held new) (end_record records) k) → IfErr r (λ _. FailedIn (failures mid) (failures new)) → Writes held failures old new records text r
-  ends_text (Ok sizes) ok count kept err failed = record {
-    written = subst (Appends (held old) (held new)) (sym whole) (Appends-then (held old) (held mid) (held new) front (end_record records) gained ok.1);
-    records_are = count;
-    bytes_are = omega (arith, ok.0, ap length whole, length-append front (end_record records));
-    unfailed = kept ∙ unfailed;
-  }
-  ends_text (Err fault) ok count kept err failed = (
-    subst (WritesFirst (held old) (held new) text) (sym err.1) (stopped (held old) (held mid) (held new) front (end_record records) [] text done err.0 len (whole ∙ ap (λ (t : List ℕ). front ++ t) (sym (append-nil (end_record records)))) gained err.2),
-    subst (λ (n : ℕ). FailedIn n (failures new)) unfailed failed,
-  )
+-- the front of a text, by what it begins with
+module _ {W : Type 0} (held : W → Option (List ℕ)) (failures : W → ℕ) where
+  pub front_stops : (old new : W) (written : ℕ) (first front behind : List ℕ) → first ≡ front → StopsPut held failures old new 0 first written → StopsPut held failures old new 0 (front ++ behind) written
+  front_stops old new written first front behind same stops =
+      stops_before held failures old new 0 written front behind (subst (λ t. StopsPut held failures old new 0 t written) same stops)
 
--- a text that stopped in its front
-pub stops_in_front : (a b : Option (List ℕ)) (front end text : List ℕ) (k : ℕ) → text ≡ front ++ end → WritesFirst a b front k → WritesFirst a b text k
-stops_in_front a b front end text k whole p =
-    let w = p.within in
-    record {
-      within = rw whole (omega (arith, length-append front end));
-      gained = subst (Appends a b) (sym (ap (take k) whole ∙ take-append-le k front end (omega arith))) p.gained;
-    }
+  pub front_then : {T : Type 0} (size : T → ℕ) (old mid new : W) (done : ℕ) (first front behind : List ℕ) (r : Result T WriteFault) → first ≡ front → IsPut held failures old mid 0 first done → Puts held failures size mid new done behind r
+      → Puts held failures size old new 0 (front ++ behind) r
+  front_then size old mid new done first front behind r same put puts =
+      puts_then held failures size old mid new 0 done front behind r (subst (λ t. IsPut held failures old mid 0 t done) same put) puts
+
+-- a whole text was given, or a part of it
+pub writes_text : {W : Type 0} (held : W → Option (List ℕ)) (failures : W → ℕ) (old new : W) (records : ℕ) (text : List ℕ) (r : Result Sizes WriteFault)
+    → Puts held failures (λ (sizes : Sizes). sizes.bytes) old new 0 text r → IfOk r (λ sizes. sizes.records ≡ records) → Writes held failures old new records text r
+writes_text held failures old new records text (Ok sizes) put count = record { written = put.gained; records_are = count; bytes_are = omega (arith, put.size_is); unfailed = put.unfailed }
+writes_text held failures old new records text (Err fault) stops count = (subst (WritesFirst (held old) (held new) text) (omega (arith, stops.written_is)) stops.first, stops.failed)
+
+-- the end record after the front of a text
+pub ends_text : {W : Type 0} (held : W → Option (List ℕ)) (failures : W → ℕ) (old mid new : W) (records : ℕ) (front text : List ℕ) → text ≡ front ++ end_record records → (done : ℕ) (r : Result Sizes WriteFault)
+    → IsPut held failures old mid 0 front done → Puts held failures (λ (sizes : Sizes). sizes.bytes) mid new done (end_record records) r → IfOk r (λ sizes. sizes.records ≡ records) → Writes held failures old new records text r
+ends_text held failures old mid new records front text whole done r put puts = writes_text held failures old new records text r
+    (puts_along held failures (λ (sizes : Sizes). sizes.bytes) old new 0 _ _ r (sym whole) (puts_then held failures (λ (sizes : Sizes). sizes.bytes) old mid new 0 done front (end_record records) r put puts))
+
+-- or the writer failed in the front
+pub stops_in_front : {W : Type 0} (held : W → Option (List ℕ)) (failures : W → ℕ) (old new : W) (records : ℕ) (front text : List ℕ) → text ≡ front ++ end_record records → (fault : WriteFault)
+    → StopsPut held failures old new 0 front fault.written → Writes held failures old new records text (Err fault)
+stops_in_front held failures old new records front text whole fault stops = writes_text held failures old new records text (Err fault)
+    (subst (λ t. StopsPut held failures old new 0 t fault.written) (sym whole) (stops_before held failures old new 0 fault.written front (end_record records) stops)) tt
 
 -- the whole texts
 pub written_parts : (o : Operations) (count : ℕ) → count ≡ set.len o → written o ≡ (magic ++ concat (listing o)) ++ end_record count
@@ -115,41 +111,27 @@ delta_count o s count all = all ∙ sym (ap length (listing_delta o s)) ∙ leng
 pub delta_parts : (o : Operations) (s : Entries) (count : ℕ) → count ≡ length (missing s (listing o)) → written (delta o s) ≡ (magic ++ concat (missing s (listing o))) ++ end_record count
 delta_parts o s count all = written_parts (delta o s) count (delta_count o s count all) ∙ ap (λ (records : List (List ℕ)). (magic ++ concat records) ++ end_record count) (listing_delta o s)
 
+-- records that are missing, before a place and after it
+pub missing_parts : (s : Entries) (xs : List (List ℕ)) (i : ℕ) → missing s xs ≡ missing s (take (i + 1) xs) ++ missing s (drop (i + 1) xs)
+missing_parts s xs i = ap (missing s) (sym (take-append-drop (i + 1) xs)) ∙ filter-append (λ r. not (set.contains s (entry r))) (take (i + 1) xs) (drop (i + 1) xs)
+
 -- records that are missing, one more among those before
 module _ (s : Entries) (xs : List (List ℕ)) (i : ℕ) (item : List ℕ) (lt : i < length xs) (is : item ≡ get_or xs i []) where
   missing_next : missing s (take (i + 1) xs) ≡ missing s (take i xs) ++ missing s (item ∷ [])
   missing_next =
       ap (missing s) (take_more xs i [] lt ∙ ap (λ (x : List ℕ). take i xs ++ x ∷ []) (sym is)) ∙ filter-append (λ r. not (set.contains s (entry r))) (take i xs) (item ∷ [])
 
-  missing_whole : missing s xs ≡ missing s (take i xs) ++ (missing s (item ∷ []) ++ missing s (drop (i + 1) xs))
-  missing_whole =
-      let p = λ (r : List ℕ). not (set.contains s (entry r)) in
-      ap (missing s) (sym (take-append-drop i xs)) ∙ filter-append p (take i xs) (drop i xs)
-      ∙ ap (λ (t : List (List ℕ)). missing s (take i xs) ++ t) (ap (missing s) (drop_more xs i [] lt ∙ ap (λ (x : List ℕ). x ∷ drop (i + 1) xs) (sym is)) ∙ filter-append p (item ∷ []) (drop (i + 1) xs))
-
-  concat_missing : concat (missing s (take (i + 1) xs)) ≡ concat (missing s (take i xs)) ++ concat (missing s (item ∷ []))
-  concat_missing = ap concat missing_next ∙ concat-append (missing s (take i xs)) (missing s (item ∷ []))
-
-  concat_missing_whole : concat (missing s xs) ≡ concat (missing s (take i xs)) ++ (concat (missing s (item ∷ [])) ++ concat (missing s (drop (i + 1) xs)))
-  concat_missing_whole =
-      ap concat missing_whole ∙ concat-append (missing s (take i xs)) (missing s (item ∷ []) ++ missing s (drop (i + 1) xs))
-      ∙ ap (λ (t : List ℕ). concat (missing s (take i xs)) ++ t) (concat-append (missing s (item ∷ [])) (missing s (drop (i + 1) xs)))
+  concat_missing : concat (missing s (take i xs)) ++ concat (missing s (item ∷ [])) ≡ concat (missing s (take (i + 1) xs))
+  concat_missing = sym (ap concat missing_next ∙ concat-append (missing s (take i xs)) (missing s (item ∷ [])))
 
   pub missing_count : (old new : ℕ) → old ≡ length (missing s (take i xs)) → new ≡ old + length (missing s (item ∷ [])) → new ≡ length (missing s (take (i + 1) xs))
   missing_count old new o n = omega (arith, ap length missing_next, length-append (missing s (take i xs)) (missing s (item ∷ [])))
 
-  pub missing_more : (done mid n : ℕ) (a b c : Option (List ℕ)) → mid ≡ done + length (concat (missing s (take i xs))) → n ≡ mid + length (concat (missing s (item ∷ []))) → Appends a b (concat (missing s (take i xs))) → Appends b c (concat (missing s (item ∷ [])))
-      → (n ≡ done + length (concat (missing s (take (i + 1) xs)))) × Appends a c (concat (missing s (take (i + 1) xs)))
-  missing_more done mid n a b c m e p q = (
-    omega (arith, ap length concat_missing, length-append (concat (missing s (take i xs))) (concat (missing s (item ∷ [])))),
-    subst (Appends a c) (sym concat_missing) (Appends-then a b c (concat (missing s (take i xs))) (concat (missing s (item ∷ []))) p q),
-  )
-
-  pub missing_stops : (done mid k written : ℕ) (a b c : Option (List ℕ)) → mid ≡ done + length (concat (missing s (take i xs))) → written ≡ mid + k → Appends a b (concat (missing s (take i xs))) → WritesFirst b c (concat (missing s (item ∷ []))) k
-      → (n : ℕ) × (written ≡ done + n) × WritesFirst a c (concat (missing s xs)) n
-  missing_stops done mid k written a b c m e p q =
-      let before : List ℕ = concat (missing s (take i xs)) in
-      (length before + k, omega arith, stopped a b c before (concat (missing s (item ∷ []))) (concat (missing s (drop (i + 1) xs))) (concat (missing s xs)) (length before) k refl concat_missing_whole p q)
+  pub missing_puts : {W : Type 0} (held : W → Option (List ℕ)) (failures : W → ℕ) (old mid new : W) (done before : ℕ) (r : Result Sizes WriteFault) → IsPut held failures old mid done (concat (missing s (take i xs))) before
+      → Puts held failures (λ (sizes : Sizes). sizes.bytes) mid new before (concat (missing s (item ∷ []))) r → Puts held failures (λ (sizes : Sizes). sizes.bytes) old new done (concat (missing s (take (i + 1) xs))) r
+  missing_puts held failures old mid new done before r put puts =
+      puts_along held failures (λ (sizes : Sizes). sizes.bytes) old new done _ _ r concat_missing
+      (puts_then held failures (λ (sizes : Sizes). sizes.bytes) old mid new done before (concat (missing s (take i xs))) (concat (missing s (item ∷ []))) r put puts)
 
 -- one record, by whether the summary names it
 missing_one : (s : Entries) (r : List ℕ) → set.contains s (entry r) ≡ false → missing s (r ∷ []) ≡ r ∷ []

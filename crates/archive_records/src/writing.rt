@@ -1,12 +1,10 @@
 //! Archives, summaries and deltas that are written to a sink.
 
-ghost use Rattle.std.specs.Prelude.{◌≡◌, ◌+◌, ◌<◌, ◌≤◌, ◌^◌, ◌++◌, ◌∷◌, [], ℕ, length, take, map, OnOk, IfOk, IfErr};
+ghost use Rattle.std.specs.Prelude.{◌≡◌, ◌+◌, ◌<◌, ◌≤◌, ◌^◌, ◌++◌, ◌∷◌, [], length, take, map, OnOk, IfOk};
 ghost use Rattle.std.specs.FinSet as set;
 ghost use Rattle.std.specs.List.{concat};
-ghost use Rattle.std.specs.Io.KnownBytes.{Appends};
 ghost use Rattle.join_core.specs.Listing.{listing};
-ghost use Rattle.byte_device.specs.Devices.{FailedIn};
-ghost use Rattle.byte_device.specs.Writes.{WritesFirst};
+ghost use Rattle.byte_device.specs.Writes.{Puts};
 ghost use Rattle.archive_core.specs.Content.{IsContent};
 ghost use Rattle.archive_core.specs.Record.{lent_bytes};
 ghost use Rattle.archive_core.specs.Summary.{delta};
@@ -52,12 +50,7 @@ fn put_together<W: Sink>(
 ) -> Result<u128, WriteFault>
     requires fits { done + length (head.now ++ body.now) < 2 ^ 128 }
     requires small { length (head.now ++ body.now) ≤ 1024 }
-    ensures ok { IfOk result (λ n. (n ≡ done + length (head.now ++ body.now))
-        × Appends (W.held w.old) (W.held w.new) (head.now ++ body.now)) }
-    ensures unfailed { OnOk result (W.failures w.new ≡ W.failures w.old) }
-    ensures err { IfErr result (λ e. (k : ℕ) × (e.written ≡ done + k)
-        × WritesFirst (W.held w.old) (W.held w.new) (head.now ++ body.now) k) }
-    ensures failed { IfErr result (λ _. FailedIn (W.failures w.old) (W.failures w.new)) }
+    ensures { Puts W.held W.failures (λ n. n) w.old w.new done (head.now ++ body.now) result }
 {
     let mut room = [0; SMALL_RECORD];
     lay_both(&mut room, head, body);
@@ -67,12 +60,7 @@ fn put_together<W: Sink>(
 /// Writes two parts of a text, one behind the other.
 fn put_both<W: Sink>(w: &mut W, done: u128, head: &[u8], body: &[u8]) -> Result<u128, WriteFault>
     requires { done + length (head.now ++ body.now) < 2 ^ 128 }
-    ensures ok { IfOk result (λ n. (n ≡ done + length (head.now ++ body.now))
-        × Appends (W.held w.old) (W.held w.new) (head.now ++ body.now)) }
-    ensures unfailed { OnOk result (W.failures w.new ≡ W.failures w.old) }
-    ensures err { IfErr result (λ e. (k : ℕ) × (e.written ≡ done + k)
-        × WritesFirst (W.held w.old) (W.held w.new) (head.now ++ body.now) k) }
-    ensures failed { IfErr result (λ _. FailedIn (W.failures w.old) (W.failures w.new)) }
+    ensures { Puts W.held W.failures (λ n. n) w.old w.new done (head.now ++ body.now) result }
 {
     if head.len() <= SMALL_RECORD && body.len() <= SMALL_RECORD - head.len() {
         return put_together(w, done, head, body);
@@ -84,13 +72,8 @@ fn put_both<W: Sink>(w: &mut W, done: u128, head: &[u8], body: &[u8]) -> Result<
 /// Writes the record behind the first `done` bytes of a text, and says how many there are then.
 fn put_record<W: Sink>(w: &mut W, done: u128, item: &Record<'_>) -> Result<u128, WriteFault>
     requires { done + 2 ^ 33 < 2 ^ 128 }
-    ensures ok { IfOk result (λ n. (n ≡ done + length (lent_bytes item.now))
-        × Appends (W.held w.old) (W.held w.new) (lent_bytes item.now)) }
+    ensures puts { Puts W.held W.failures (λ n. n) w.old w.new done (lent_bytes item.now) result }
     ensures short { IfOk result (λ n. n ≤ done + 2 ^ 33) }
-    ensures unfailed { OnOk result (W.failures w.new ≡ W.failures w.old) }
-    ensures err { IfErr result (λ e. (k : ℕ) × (e.written ≡ done + k)
-        × WritesFirst (W.held w.old) (W.held w.new) (lent_bytes item.now) k) }
-    ensures failed { IfErr result (λ _. FailedIn (W.failures w.old) (W.failures w.new)) }
 {
     match item {
         Record::Admit(slice) => put_both(w, done, &admission_head(slice), slice.bytes()),
@@ -101,13 +84,8 @@ fn put_record<W: Sink>(w: &mut W, done: u128, item: &Record<'_>) -> Result<u128,
 /// Writes the records in ascending order behind the first `done` bytes of a text.
 fn put_records<A: Archive, W: Sink>(archive: &A, w: &mut W, done: u128) -> Result<u128, WriteFault>
     requires { done ≤ 8 }
-    ensures ok { IfOk result (λ n. (n ≡ done + length (concat (listing (A.content archive.now))))
-        × Appends (W.held w.old) (W.held w.new) (concat (listing (A.content archive.now)))) }
+    ensures puts { Puts W.held W.failures (λ n. n) w.old w.new done (concat (listing (A.content archive.now))) result }
     ensures short { IfOk result (λ n. n ≤ 2 ^ 98) }
-    ensures unfailed { OnOk result (W.failures w.new ≡ W.failures w.old) }
-    ensures err { IfErr result (λ e. (k : ℕ) × (e.written ≡ done + k)
-        × WritesFirst (W.held w.old) (W.held w.new) (concat (listing (A.content archive.now))) k) }
-    ensures failed { IfErr result (λ _. FailedIn (W.failures w.old) (W.failures w.new)) }
 {
     let mut done = done;
     'putting: for i in 0..archive.len() {
@@ -118,13 +96,8 @@ fn put_records<A: Archive, W: Sink>(archive: &A, w: &mut W, done: u128) -> Resul
 
 /// Writes the magic and the records.
 fn put_front<A: Archive, W: Sink>(archive: &A, w: &mut W) -> Result<u128, WriteFault>
-    ensures ok { IfOk result (λ n. (n ≡ length (magic ++ concat (listing (A.content archive.now))))
-        × Appends (W.held w.old) (W.held w.new) (magic ++ concat (listing (A.content archive.now)))) }
+    ensures puts { Puts W.held W.failures (λ n. n) w.old w.new 0 (magic ++ concat (listing (A.content archive.now))) result }
     ensures short { IfOk result (λ n. n ≤ 2 ^ 98) }
-    ensures unfailed { OnOk result (W.failures w.new ≡ W.failures w.old) }
-    ensures err { IfErr result (λ e.
-        WritesFirst (W.held w.old) (W.held w.new) (magic ++ concat (listing (A.content archive.now))) e.written) }
-    ensures failed { IfErr result (λ _. FailedIn (W.failures w.old) (W.failures w.new)) }
 {
     let done = put(w, 0, &Format::Archive.magic())?;
     put_records(archive, w, done)
@@ -133,13 +106,8 @@ fn put_front<A: Archive, W: Sink>(archive: &A, w: &mut W) -> Result<u128, WriteF
 /// Writes the end record behind the first `done` bytes of a text.
 pub fn put_end<W: Sink>(w: &mut W, done: u128, records: u64) -> Result<Sizes, WriteFault>
     requires { done + 9 < 2 ^ 128 }
-    ensures ok { IfOk result (λ sizes. (sizes.bytes ≡ done + length (end_record records))
-        × Appends (W.held w.old) (W.held w.new) (end_record records)) }
+    ensures puts { Puts W.held W.failures (λ sizes. sizes.bytes) w.old w.new done (end_record records) result }
     ensures records { IfOk result (λ sizes. sizes.records ≡ records) }
-    ensures unfailed { OnOk result (W.failures w.new ≡ W.failures w.old) }
-    ensures err { IfErr result (λ e. (k : ℕ) × (e.written ≡ done + k)
-        × WritesFirst (W.held w.old) (W.held w.new) (end_record records) k) }
-    ensures failed { IfErr result (λ _. FailedIn (W.failures w.old) (W.failures w.new)) }
 {
     let bytes = put(w, done, &end_bytes(records))?;
     Ok(Sizes { records, bytes })
@@ -162,13 +130,8 @@ pub fn write_archive<A: Archive, W: Sink>(archive: &A, w: &mut W) -> Result<Size
 /// Writes the entries in their order behind the first `done` bytes of a text.
 fn put_entries<W: Sink>(entries: &[Entry], w: &mut W, done: u128) -> Result<u128, WriteFault>
     requires { done ≤ 8 }
-    ensures ok { IfOk result (λ n. (n ≡ done + length (concat (map entry_bytes entries.now)))
-        × Appends (W.held w.old) (W.held w.new) (concat (map entry_bytes entries.now))) }
+    ensures puts { Puts W.held W.failures (λ n. n) w.old w.new done (concat (map entry_bytes entries.now)) result }
     ensures short { IfOk result (λ n. n ≤ 2 ^ 98) }
-    ensures unfailed { OnOk result (W.failures w.new ≡ W.failures w.old) }
-    ensures err { IfErr result (λ e. (k : ℕ) × (e.written ≡ done + k)
-        × WritesFirst (W.held w.old) (W.held w.new) (concat (map entry_bytes entries.now)) k) }
-    ensures failed { IfErr result (λ _. FailedIn (W.failures w.old) (W.failures w.new)) }
 {
     let mut done = done;
     'putting: for entry in entries {
@@ -179,13 +142,8 @@ fn put_entries<W: Sink>(entries: &[Entry], w: &mut W, done: u128) -> Result<u128
 
 /// Writes the magic and the entries.
 fn put_summary_front<W: Sink>(summary: &Summary, w: &mut W) -> Result<u128, WriteFault>
-    ensures ok { IfOk result (λ n. (n ≡ length (summary_magic ++ concat (listing summary.now)))
-        × Appends (W.held w.old) (W.held w.new) (summary_magic ++ concat (listing summary.now))) }
+    ensures puts { Puts W.held W.failures (λ n. n) w.old w.new 0 (summary_magic ++ concat (listing summary.now)) result }
     ensures short { IfOk result (λ n. n ≤ 2 ^ 98) }
-    ensures unfailed { OnOk result (W.failures w.new ≡ W.failures w.old) }
-    ensures err { IfErr result (λ e.
-        WritesFirst (W.held w.old) (W.held w.new) (summary_magic ++ concat (listing summary.now)) e.written) }
-    ensures failed { IfErr result (λ _. FailedIn (W.failures w.old) (W.failures w.new)) }
 {
     let done = put(w, 0, &Format::Summary.magic())?;
     put_entries(summary.entries(), w, done)
@@ -203,9 +161,9 @@ pub fn write_summary<W: Sink>(summary: &Summary, w: &mut W) -> Result<Sizes, Wri
     put_end(w, done, summary.len())
 }
 
-/// Writes the record behind the first `done.bytes` bytes of a text, unless the summary names it, and says how many
+/// Writes the record after the first `done.bytes` bytes of a text, unless the summary names it, and says how many
 /// records and bytes there are then.
-fn put_missing_record<W: Sink>(
+pub fn put_missing_record<W: Sink>(
     w: &mut W,
     done: Sizes,
     summary: &Summary,
@@ -213,16 +171,11 @@ fn put_missing_record<W: Sink>(
 ) -> Result<Sizes, WriteFault>
     requires room { done.bytes + 2 ^ 33 < 2 ^ 128 }
     requires few { done.records + 1 < 2 ^ 64 }
-    ensures ok { IfOk result (λ n. (n.bytes
-        ≡ done.bytes + length (concat (missing summary.now (lent_bytes item.now ∷ []))))
-        × Appends (W.held w.old) (W.held w.new) (concat (missing summary.now (lent_bytes item.now ∷ [])))) }
+    ensures puts { Puts W.held W.failures (λ sizes. sizes.bytes) w.old w.new done.bytes
+        (concat (missing summary.now (lent_bytes item.now ∷ []))) result }
     ensures records { IfOk result (λ n. n.records
         ≡ done.records + length (missing summary.now (lent_bytes item.now ∷ []))) }
     ensures short { IfOk result (λ n. n.bytes ≤ done.bytes + 2 ^ 33) }
-    ensures unfailed { OnOk result (W.failures w.new ≡ W.failures w.old) }
-    ensures err { IfErr result (λ e. (k : ℕ) × (e.written ≡ done.bytes + k)
-        × WritesFirst (W.held w.old) (W.held w.new) (concat (missing summary.now (lent_bytes item.now ∷ []))) k) }
-    ensures failed { IfErr result (λ _. FailedIn (W.failures w.old) (W.failures w.new)) }
 {
     if summary.has(&Entry::of(item)) {
         return Ok(done);
@@ -243,16 +196,10 @@ fn put_missing<A: Archive, W: Sink>(
     done: u128,
 ) -> Result<Sizes, WriteFault>
     requires { done ≤ 8 }
-    ensures ok { IfOk result (λ n.
-        (n.bytes ≡ done + length (concat (missing summary.now (listing (A.content archive.now)))))
-        × Appends (W.held w.old) (W.held w.new) (concat (missing summary.now (listing (A.content archive.now))))) }
+    ensures puts { Puts W.held W.failures (λ sizes. sizes.bytes) w.old w.new done
+        (concat (missing summary.now (listing (A.content archive.now)))) result }
     ensures records { IfOk result (λ n. n.records ≡ length (missing summary.now (listing (A.content archive.now)))) }
     ensures short { IfOk result (λ n. n.bytes ≤ 2 ^ 98) }
-    ensures unfailed { OnOk result (W.failures w.new ≡ W.failures w.old) }
-    ensures err { IfErr result (λ e. (k : ℕ) × (e.written ≡ done + k)
-        × WritesFirst (W.held w.old) (W.held w.new)
-        (concat (missing summary.now (listing (A.content archive.now)))) k) }
-    ensures failed { IfErr result (λ _. FailedIn (W.failures w.old) (W.failures w.new)) }
 {
     let mut sizes = Sizes {
         records: 0,
@@ -270,16 +217,10 @@ fn put_delta_front<A: Archive, W: Sink>(
     summary: &Summary,
     w: &mut W,
 ) -> Result<Sizes, WriteFault>
-    ensures ok { IfOk result (λ n.
-        (n.bytes ≡ length (magic ++ concat (missing summary.now (listing (A.content archive.now)))))
-        × Appends (W.held w.old) (W.held w.new)
-        (magic ++ concat (missing summary.now (listing (A.content archive.now))))) }
+    ensures puts { Puts W.held W.failures (λ sizes. sizes.bytes) w.old w.new 0
+        (magic ++ concat (missing summary.now (listing (A.content archive.now)))) result }
     ensures records { IfOk result (λ n. n.records ≡ length (missing summary.now (listing (A.content archive.now)))) }
     ensures short { IfOk result (λ n. n.bytes ≤ 2 ^ 98) }
-    ensures unfailed { OnOk result (W.failures w.new ≡ W.failures w.old) }
-    ensures err { IfErr result (λ e. WritesFirst (W.held w.old) (W.held w.new)
-        (magic ++ concat (missing summary.now (listing (A.content archive.now)))) e.written) }
-    ensures failed { IfErr result (λ _. FailedIn (W.failures w.old) (W.failures w.new)) }
 {
     let done = put(w, 0, &Format::Archive.magic())?;
     put_missing(archive, summary, w, done)

@@ -1,61 +1,23 @@
 //! The records of an archive that a summary does not name, copied as they come.
 
-ghost use Rattle.std.specs.Prelude.{◌≡◌, ◌+◌, ◌*◌, ◌<◌, ◌≤◌, ◌^◌, ◌∷◌, [], ℕ, List, Option, length, OnOk, IfOk, IfErr};
+ghost use Rattle.std.specs.Prelude.{◌≡◌, ◌+◌, ◌<◌, ◌≤◌, ◌^◌, [], ℕ, List, Option, length, OnOk, IfOk, IfErr};
 ghost use Rattle.std.specs.Prelude.{MatchResult};
-ghost use Rattle.std.specs.List.{concat};
 ghost use Rattle.std.specs.Io.KnownBytes.{Appends, Consumes, IsAtEnd};
 ghost use Rattle.archive_records.specs.Kind.{kind_of, magic};
-ghost use Rattle.archive_core.specs.Record.{lent_bytes};
 ghost use Rattle.archive_core.specs.Summary.{Entries};
 ghost use Rattle.archive_records.specs.Reader.{GathersAll, HasRead, IsGathered};
-ghost use Rattle.archive_records.specs.Text.{end_record, missing};
+ghost use Rattle.archive_records.specs.Text.{end_record};
 ghost use Rattle.archive_records.specs.declared.kind.TextKind.TheVariants.{Archive};
-ghost use Rattle.byte_device.specs.Devices.{FailedIn, stream};
-ghost use Rattle.byte_device.specs.Writes.{WritesFirst};
+ghost use Rattle.byte_device.specs.Devices.{stream};
 ghost use Rattle.archive_updates.specs.Copying.{BlamesDevices, CopiesUnnamed, HasDraft, IsCause, IsCopied};
 ghost use Rattle.archive_updates.specs.Copying.{IsCopiedUpTo, IsCopiedWhole, StopsCopy, StopsEnd, StopsRecords};
 
-use archive_core::Record;
 use archive_records::{
-    Entry, Format, MergeCause, MergeFault, NextRecord, RecordReader, Sizes, Summary, TextKind,
-    put_end,
+    Format, MergeCause, MergeFault, NextRecord, RecordReader, Sizes, Summary, TextKind, put_end,
+    put_missing_record,
 };
-use byte_device::{Sink, Source, WriteFault, put};
+use byte_device::{Sink, Source, put};
 use memory::Heap;
-
-/// Writes the record behind the first bytes of a text, unless the summary names it, and says how many records and bytes
-/// there are then.
-fn put_unnamed<W: Sink>(
-    w: &mut W,
-    written: Sizes,
-    summary: &Summary,
-    bytes: &[u8],
-    record: &Record<'_>,
-) -> Result<Sizes, WriteFault>
-    requires record { lent_bytes record.now ≡ bytes.now }
-    requires room { written.bytes + length bytes.now < 2 ^ 128 }
-    requires few { written.records + 1 < 2 ^ 64 }
-    ensures ok { IfOk result (λ n. (n.bytes
-        ≡ written.bytes + length (concat (missing summary.now (bytes.now ∷ []))))
-        × Appends (W.held w.old) (W.held w.new) (concat (missing summary.now (bytes.now ∷ [])))) }
-    ensures records { IfOk result (λ n. n.records
-        ≡ written.records + length (missing summary.now (bytes.now ∷ []))) }
-    ensures fits { written.bytes ≤ 8 + written.records * 2 ^ 64
-        → IfOk result (λ n. n.bytes ≤ 8 + n.records * 2 ^ 64) }
-    ensures unfailed { OnOk result (W.failures w.new ≡ W.failures w.old) }
-    ensures err { IfErr result (λ e. (k : ℕ) × (e.written ≡ written.bytes + k)
-        × WritesFirst (W.held w.old) (W.held w.new) (concat (missing summary.now (bytes.now ∷ []))) k) }
-    ensures failed { IfErr result (λ _. FailedIn (W.failures w.old) (W.failures w.new)) }
-{
-    if summary.has(&Entry::of(record)) {
-        return Ok(written);
-    }
-    let end = put(w, written.bytes, bytes)?;
-    Ok(Sizes {
-        records: written.records + 1,
-        bytes: end,
-    })
-}
 
 /// Copies the records behind the magic up to the end record, behind the `begun` bytes that were written.
 fn copy_records<R: Source, W: Sink>(
@@ -97,7 +59,7 @@ fn copy_records<R: Source, W: Sink>(
         if reader.dropped() {
             continue 'copying;
         }
-        match put_unnamed(w, written, summary, reader.last(), &reader.record()) {
+        match put_missing_record(w, written, summary, &reader.record()) {
             Ok(more) => written = more,
             Err(fault) => {
                 return Err(MergeFault {

@@ -1,9 +1,9 @@
 -- Texts that are given to a writer one after the other, or in part.
-use Rattle.std.proofs.Common.{◌≡◌, ℕ, ◌+◌, ◌-◌, ◌<◌, List, [], ◌++◌, length, take, drop, Option, Result, Ok, Err, refl, sym, ap, ◌∙◌, arith, length-append}
+use Rattle.std.proofs.Common.{◌≡◌, ℕ, ◌+◌, ◌-◌, ◌<◌, List, [], ◌++◌, length, take, drop, Option, Result, Ok, Err, refl, sym, ap, ◌∙◌, subst, arith, length-append}
 use Rattle.std.proofs.lemmas.List.{append-nil, take-append-le, take_rest}
-use Rattle.std.specs.Prelude.{IfErr}
 use Rattle.byte_device.specs.declared.writing.WriteFault.{WriteFault}
-use Rattle.byte_device.specs.Writes.{WritesFirst}
+use Rattle.byte_device.specs.Devices.{FailedIn}
+use Rattle.byte_device.specs.Writes.{IsPut, Puts, StopsPut, WritesFirst}
 use Rattle.std.proofs.Math.Seq.{take-append-add, take-add}
 use Rattle.byte_device.proofs.Known.{Appends-then}
 use Rattle.std.specs.Io.KnownBytes.{Appends}
@@ -24,9 +24,34 @@ stopped a b c done bytes more text written k len whole p q =
       gained = rw seam (Appends-then a b c done (take k bytes) p q.gained);
     }
 
--- `x` was given, and `y` behind it or a part of `y`: a fault counts from the beginning of `x`
-pub behind : (r : Result ℕ WriteFault) (written mid : ℕ) (a b c : Option (List ℕ)) (x y : List ℕ) → mid ≡ written + length x → Appends a b x
-    → IfErr r (λ e. (k : ℕ) × (e.written ≡ mid + k) × WritesFirst b c y k) → IfErr r (λ e. (k : ℕ) × (e.written ≡ written + k) × WritesFirst a c (x ++ y) k)
-behind (Ok n) written mid a b c x y is p q = tt
-behind (Err e) written mid a b c x y is p q =
-    (length x + q.0, omega (arith, q.1), stopped a b c x y [] (x ++ y) (length x) q.0 refl (ap (λ (t : List ℕ). x ++ t) (sym (append-nil y))) p q.2)
+-- a text that is spelled otherwise
+pub puts_along : {W T : Type 0} (held : W → Option (List ℕ)) (failures : W → ℕ) (size : T → ℕ) (old new : W) (done : ℕ) (x y : List ℕ) (r : Result T WriteFault) → x ≡ y → Puts held failures size old new done x r → Puts held failures size old new done y r
+puts_along held failures size old new done x y r same puts = subst (λ t. Puts held failures size old new done t r) same puts
+
+-- the writer failed in the first of two texts
+pub stops_before : {W : Type 0} (held : W → Option (List ℕ)) (failures : W → ℕ) (old new : W) (done written : ℕ) (x y : List ℕ) → StopsPut held failures old new done x written → StopsPut held failures old new done (x ++ y) written
+stops_before held failures old new done written x y stops =
+    let first = stops.first in
+    record {
+      some = stops.some;
+      written_is = stops.written_is;
+      first = record {
+        within = omega (arith, first.within, length-append x y);
+        gained = subst (Appends (held old) (held new)) (sym (take-append-le stops.some x y (omega (arith, first.within)))) first.gained;
+      };
+      failed = stops.failed;
+    }
+
+-- `x` was given, and then `y`, or a part of it
+pub puts_then : {W T : Type 0} (held : W → Option (List ℕ)) (failures : W → ℕ) (size : T → ℕ) (old mid new : W) (done between : ℕ) (x y : List ℕ) (r : Result T WriteFault) → IsPut held failures old mid done x between → Puts held failures size mid new between y r → Puts held failures size old new done (x ++ y) r
+puts_then held failures size old mid new done between x y (Ok value) put puts = record {
+  size_is = omega (arith, put.size_is, puts.size_is, length-append x y);
+  gained = Appends-then (held old) (held mid) (held new) x y put.gained puts.gained;
+  unfailed = puts.unfailed ∙ put.unfailed;
+}
+puts_then held failures size old mid new done between x y (Err fault) put stops = record {
+  some = length x + stops.some;
+  written_is = omega (arith, put.size_is, stops.written_is);
+  first = stopped (held old) (held mid) (held new) x y [] (x ++ y) (length x) stops.some refl (ap (λ (t : List ℕ). x ++ t) (sym (append-nil y))) put.gained stops.first;
+  failed = subst (λ n. FailedIn n (failures new)) put.unfailed stops.failed;
+}

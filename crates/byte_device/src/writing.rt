@@ -1,9 +1,9 @@
 //! Texts that are given to a sink whole.
 
-ghost use Rattle.std.specs.Prelude.{◌≡◌, ℕ, ◌+◌, ◌^◌, ◌<◌, length, OnOk, IfOk, IfErr, OnErr};
+ghost use Rattle.std.specs.Prelude.{◌≡◌, ◌+◌, ◌^◌, ◌<◌, length, OnOk, IfErr, OnErr};
 ghost use Rattle.std.specs.Io.KnownBytes.{Appends};
 ghost use Rattle.byte_device.specs.Devices.{FailedIn};
-ghost use Rattle.byte_device.specs.Writes.{WritesFirst};
+ghost use Rattle.byte_device.specs.Writes.{Puts, WritesFirst};
 
 use crate::{Failed, Sink};
 
@@ -38,13 +38,7 @@ pub fn push_all<W: Sink>(w: &mut W, bytes: &[u8]) -> Result<(), WriteFault>
 /// many bytes of the text it has then. A fault, too, counts from the beginning of the text.
 pub fn put<W: Sink>(w: &mut W, written: u128, bytes: &[u8]) -> Result<u128, WriteFault>
     requires { written + length bytes.now < 2 ^ 128 }
-    ensures ok { IfOk result (λ n.
-        (n ≡ written + length bytes.now) × Appends (W.held w.old) (W.held w.new) bytes.now) }
-    ensures unfailed { OnOk result (W.failures w.new ≡ W.failures w.old) }
-    ensures err { IfErr result (λ e. (k : ℕ)
-        × (e.written ≡ written + k)
-        × WritesFirst (W.held w.old) (W.held w.new) bytes.now k) }
-    ensures failed { OnErr result (FailedIn (W.failures w.old) (W.failures w.new)) }
+    ensures { Puts W.held W.failures (λ n. n) w.old w.new written bytes.now result }
 {
     match push_all(w, bytes) {
         Ok(()) => Ok(written + bytes.len() as u128),

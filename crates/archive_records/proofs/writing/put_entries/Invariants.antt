@@ -1,13 +1,11 @@
-use Rattle.std.proofs.Common.{◌≡◌, ◌≤◌, ◌+◌, ◌*◌, ◌^◌, length, take, map}
+use Rattle.std.proofs.Common.{◌≡◌, ◌≤◌, ◌+◌, ◌*◌, ◌^◌, take, map}
 use Rattle.std.specs.List.{concat}
-use Rattle.std.specs.Io.KnownBytes.{Appends}
+use Rattle.byte_device.specs.Writes.{IsPut}
 use Rattle.archive_records.specs.Entry.{entry_bytes}
 use Rattle.archive_records.proofs.writing.put_entries.Given as goal
 
 abbrev pub invariant-putting : goal.invariant-putting
 invariant-putting g l = record {
   fits : l.done ≤ 8 + l.entry-index * 2 ^ 33;
-  is : l.done ≡ l.fn.done + length (concat (take l.entry-index (map entry_bytes l.entries)));
-  gained : Appends (g.W.Sink.held l.initial.w) (g.W.Sink.held l.w) (concat (take l.entry-index (map entry_bytes l.entries)));
-  unfailed : g.W.Sink.failures l.w ≡ g.W.Sink.failures l.initial.w;
+  put : IsPut g.W.Sink.held g.W.Sink.failures l.initial.w l.w l.fn.done (concat (take l.entry-index (map entry_bytes l.entries))) l.done;
 }

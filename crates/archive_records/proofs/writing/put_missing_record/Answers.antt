@@ -1,35 +1,32 @@
-use Rattle.std.proofs.Common.{refl, sym, ap, arith, ◌∙◌}
-use Rattle.byte_device.proofs.Known.{Appends-none}
-use Rattle.std.proofs.lemmas.Result.{err_from_is_err_and}
-use Rattle.archive_core.specs.Record.{lent_bytes}
+use Rattle.std.proofs.Common.{◌≡◌, false, true, refl, sym, ap, arith, ◌∙◌}
 use Rattle.std.specs.FinSet as set
+use Rattle.byte_device.proofs.Known.{Appends-none}
+use Rattle.archive_core.specs.Record.{lent_bytes}
+use Rattle.archive_records.proofs.Blamed.{failed}
 use Rattle.archive_records.proofs.Puts.{missing_none, concat_one, length_one}
 use Rattle.archive_records.proofs.writing.put_missing_record.Goals as goal
 
-pub returns-then-has-clause-ok : goal.returns-then-has-clause-ok
-returns-then-has-clause-ok g c =
+pub returns-then-has-clause-puts : goal.returns-then-has-clause-puts
+returns-then-has-clause-puts g c =
     let named = ap (set.contains c.args.summary.now) (sym c.of.ensures) ∙ sym c.has.ensures ∙ c.if-has.true in
-    let none = missing_none c.args.summary.now (lent_bytes c.args.item.now) named in
-    rw none (omega arith, Appends-none _)
+    rw (missing_none c.args.summary.now (lent_bytes c.args.item.now) named) (record { size_is = omega arith; gained = Appends-none _; unfailed = refl })
 
 pub returns-then-has-clause-records : goal.returns-then-has-clause-records
 returns-then-has-clause-records g c =
     let named = ap (set.contains c.args.summary.now) (sym c.of.ensures) ∙ sym c.has.ensures ∙ c.if-has.true in
-    let none = missing_none c.args.summary.now (lent_bytes c.args.item.now) named in
-    rw none (omega arith)
+    rw (missing_none c.args.summary.now (lent_bytes c.args.item.now) named) (omega arith)
 
-pub returns-clause-ok : goal.returns-clause-ok
-returns-clause-ok g c =
+pub returns-clause-puts : goal.returns-clause-puts
+returns-clause-puts g c =
     let other = ap (set.contains c.args.summary.now) (sym c.of.ensures) ∙ sym c.has.ensures ∙ c.if-has.false in
-    rw (concat_one c.args.summary.now (lent_bytes c.args.item.now) other) c.in_ok-bytes.ensures.ok
+    rw (concat_one c.args.summary.now (lent_bytes c.args.item.now) other) c.in_ok-bytes.ensures.puts
 
 pub returns-clause-records : goal.returns-clause-records
 returns-clause-records g c =
     let other = ap (set.contains c.args.summary.now) (sym c.of.ensures) ∙ sym c.has.ensures ∙ c.if-has.false in
     rw (length_one c.args.summary.now (lent_bytes c.args.item.now) other) refl
 
-pub returns-in_err-bytes-clause-err : goal.returns-in_err-bytes-clause-err
-returns-in_err-bytes-clause-err g c =
+pub returns-in_err-bytes-clause-puts : goal.returns-in_err-bytes-clause-puts
+returns-in_err-bytes-clause-puts g c =
     let other = ap (set.contains c.args.summary.now) (sym c.of.ensures) ∙ sym c.has.ensures ∙ c.if-has.false in
-    let p = err_from_is_err_and c.from_residual.result c.from_residual.ensures.1 in
-    rw (p.1, p.2, concat_one c.args.summary.now (lent_bytes c.args.item.now) other) c.in_err-bytes.ensures.err
+    rw (failed c.from_residual.result c.in_err-bytes.field-0.0 c.from_residual.ensures.1, concat_one c.args.summary.now (lent_bytes c.args.item.now) other) c.in_err-bytes.ensures.puts

@@ -1,35 +1,29 @@
-use Rattle.std.proofs.Common.{◌<◌, length, arith, ◌∙◌}
+use Rattle.std.proofs.Common.{◌<◌, ◌≡◌, ℕ, Ok, length, take, arith}
 use Rattle.std.proofs.lemmas.List.{take_all}
-use Rattle.std.proofs.lemmas.Result.{err_from_is_err_and}
 use Rattle.join_core.specs.Listing.{listing}
-use Rattle.archive_records.proofs.Puts.{put_more, put_stops, length_written}
+use Rattle.archive_records.proofs.Blamed.{failed}
+use Rattle.archive_records.proofs.Puts.{length_written, puts_more, stops_in_next}
 use Rattle.archive_records.proofs.writing.put_records.Goals as goal
 
-pub returns-in_err-done-clause-err : goal.returns-in_err-done-clause-err
-returns-in_err-done-clause-err g c =
-    let p = err_from_is_err_and c.from_residual.result c.from_residual.ensures.1 in
+pub returns-in_err-done-clause-puts : goal.returns-in_err-done-clause-puts
+returns-in_err-done-clause-puts g c =
     let o = g.A.Join.content c.args.archive.now in
     let lt : c.putting.i < length (listing o) = omega (arith, length_written o, c.len-i-end.ensures.len, c.putting-test.true) in
-    let e = c.in_err-done.ensures.err in
-    rw (p.1, p.2) (put_stops (listing o) c.putting.i _ lt c.record_at.ensures c.args.done c.putting.done e.0 _ _ _ _ c.putting.invariant.is e.1 c.putting.invariant.gained e.2)
+    rw (failed c.from_residual.result c.in_err-done.field-0.0 c.from_residual.ensures.1)
+    (stops_in_next _ _ _ _ _ _ _ (listing o) c.putting.i _ lt c.record_at.ensures c.in_err-done.field-0.0 c.putting.invariant.put c.in_err-done.ensures.puts)
 
 pub putting-preserved : goal.putting-preserved
 putting-preserved g c =
     let o = g.A.Join.content c.args.archive.now in
     let lt : c.putting.i < length (listing o) = omega (arith, length_written o, c.len-i-end.ensures.len, c.putting-test.true) in
-    let e = c.in_ok-done.ensures.ok in
-    let m = put_more (listing o) c.putting.i _ lt c.record_at.ensures c.args.done c.putting.done c.in_ok-done.done _ _ _ c.putting.invariant.is e.0 c.putting.invariant.gained e.1 in
     record {
       fits = omega (arith, c.in_ok-done.ensures.short, c.putting.invariant.fits);
-      is = m.0;
-      gained = m.1;
-      unfailed = c.in_ok-done.ensures.unfailed ∙ c.putting.invariant.unfailed;
+      put = puts_more _ _ (λ (n : ℕ). n) _ _ _ _ _ (listing o) c.putting.i _ lt c.record_at.ensures (Ok c.in_ok-done.done) c.putting.invariant.put c.in_ok-done.ensures.puts;
     }
 
-pub returns-clause-ok : goal.returns-clause-ok
-returns-clause-ok g c =
+pub returns-clause-puts : goal.returns-clause-puts
+returns-clause-puts g c =
     let o = g.A.Join.content c.args.archive.now in
-    let all = take_all c.putting.i (listing o) (omega (arith, length_written o, c.len-i-end.ensures.len, c.putting-test.false)) in
-    let is = c.putting.invariant.is in
-    let gained = c.putting.invariant.gained in
-    (rw all at is, rw all at gained)
+    let all : take c.putting.i (listing o) ≡ listing o = take_all c.putting.i (listing o) (omega (arith, length_written o, c.len-i-end.ensures.len, c.putting-test.false)) in
+    let put = c.putting.invariant.put in
+    rw all at put

@@ -23,9 +23,6 @@ record-requires g c =
     let step = rw c.in-Ok-Item.field-0-is at c.in-Ok-Item.ensures in
     subst (λ k. IsItemOf k c.advance.new.self.last) (ap kind_of c.copying.invariant.file ∙ c.requires.archive) step.0.item
 
-pub put_unnamed-requires-clause-record : goal.put_unnamed-requires-clause-record
-put_unnamed-requires-clause-record g c = c.record.ensures.bytes ∙ sym c.last.ensures
-
 pub returns-in-Ok-End-clause-copied : goal.returns-in-Ok-End-clause-copied
 returns-in-Ok-End-clause-copied g c = λ a w0 start copied.
     let step = rw c.in-Ok-End.field-0-is at c.in-Ok-End.ensures in
@@ -62,7 +59,7 @@ copying-preserved-then-dropped g c =
       unfailed = step.1 ∙ c.copying.invariant.unfailed;
       writer_unfailed = c.copying.invariant.writer_unfailed;
       few = omega (arith, step.0.count_is, c.copying.invariant.few);
-      fits = c.copying.invariant.fits;
+      fits = omega (arith, step.0.count_is, c.copying.invariant.fits);
     }
 
 pub copying-preserved : goal.copying-preserved
@@ -71,8 +68,10 @@ copying-preserved g c =
     let file = c.args.reader.now.file in
     let s = c.args.summary.now in
     let x = c.advance.new.self.last in
-    let put = rw c.last.ensures at c.in-Ok.ensures.ok in
-    let count = rw c.last.ensures at c.in-Ok.ensures.records in
+    let puts = c.in-Ok.ensures.puts in
+    let put = rw c.record.ensures.bytes at puts in
+    let records = c.in-Ok.ensures.records in
+    let count = rw c.record.ensures.bytes at records in
     let one = few_missing s x in
     record {
       gathers = λ a w0 start copied.
@@ -83,17 +82,17 @@ copying-preserved g c =
           record {
             records = m.records ++ x ∷ [];
             read = read;
-            makes = rw grown (copied_more s w0 _ _ (taken_of file m.records) x c.copying.written m.makes c.in-Ok.more put.0 count put.1);
+            makes = rw grown (copied_more s w0 _ _ (taken_of file m.records) x c.copying.written m.makes c.in-Ok.more put.size_is count put.gained);
           };
       file = step.0.file_is ∙ c.copying.invariant.file;
       unfailed = step.1 ∙ c.copying.invariant.unfailed;
-      writer_unfailed = c.in-Ok.ensures.unfailed ∙ c.copying.invariant.writer_unfailed;
+      writer_unfailed = put.unfailed ∙ c.copying.invariant.writer_unfailed;
       few = omega (arith, step.0.count_is, c.copying.invariant.few, count, one);
-      fits = c.in-Ok.ensures.fits c.copying.invariant.fits;
+      fits = omega (arith, step.0.count_is, c.copying.invariant.fits, c.in-Ok.ensures.short);
     }
 
-pub returns-in-Err-put_unnamed-clause-stopped : goal.returns-in-Err-put_unnamed-clause-stopped
-returns-in-Err-put_unnamed-clause-stopped g c = λ a w0 start copied.
+pub returns-in-Err-put_missing_record-clause-stopped : goal.returns-in-Err-put_missing_record-clause-stopped
+returns-in-Err-put_missing_record-clause-stopped g c = λ a w0 start copied.
     let step = rw c.in-Ok-Item.field-0-is at c.in-Ok-Item.ensures in
     let file = c.args.reader.now.file in
     let s = c.args.summary.now in
@@ -102,6 +101,7 @@ returns-in-Err-put_unnamed-clause-stopped g c = λ a w0 start copied.
     let read = HasRead-grows file a _ _ m.records c.copying.reader c.advance.new.self m.read step.0 in
     let drops = subst (λ b. DropsLast file b (m.records ++ x ∷ [])) (sym c.dropped.ensures ∙ c.if-dropped.false) read.dropped_is in
     let grown = taken_push m.records x file read.ordered drops in
-    let e = rw c.last.ensures at c.in-Err-put_unnamed.ensures.err in
-    let in_x = copied_in s w0 _ _ (taken_of file m.records) x c.copying.written m.makes _ e.0 e.1 e.2 in
+    let stops = c.in-Err-put_missing_record.ensures.puts in
+    let e = rw c.record.ensures.bytes at stops in
+    let in_x = copied_in s w0 _ _ (taken_of file m.records) x c.copying.written m.makes _ e.some e.written_is e.first in
     (tt, copied_within file s a _ w0 _ (m.records ++ x ∷ []) c.advance.new.self _ read (rw grown in_x))

@@ -12,7 +12,7 @@ invariant-copying g l = record {
   unfailed : g.R.Source.failures l.r ≡ g.R.Source.failures l.initial.r;
   writer_unfailed : g.W.Sink.failures l.w ≡ g.W.Sink.failures l.initial.w;
   few : l.written.records ≤ l.reader.count;
-  fits : l.written.bytes ≤ 8 + l.written.records * 2 ^ 64;
+  fits : l.written.bytes ≤ 8 + l.reader.count * 2 ^ 33;
 }
 
 abbrev pub decreases-copying : goal.decreases-copying
