@@ -1,6 +1,7 @@
 -- Bytes that are laid over those of the last record.
 use Rattle.std.proofs.Common.{◌≡◌, ◌≢◌, ℕ, ◌+◌, ◌<◌, ◌≤◌, List, [], ◌∷◌, ◌++◌, length, take, drop, Option, refl, sym, ap, ◌∙◌, arith, length-append, length-take, append_assoc}
-use Rattle.std.proofs.lemmas.List.{take_at, drop_at, drop-drop, take-append-le, take-take}
+use Rattle.std.specs.Io.KnownBytes.{Consumes}
+use Rattle.std.proofs.lemmas.List.{append-nil, take_at, drop_at, drop-drop, take-append-le, take-take}
 use Rattle.std.proofs.Math.Seq.{take-add, take-nil}
 use Rattle.std.proofs.Math.ListN.{drop_of_length-le}
 use Rattle.std.specs.declared.cmp.Ordering.{Ordering}
@@ -68,31 +69,65 @@ grown_over last b n m le at front o =
     ∙ ap (λ (k : ℕ). slice_cmp nat_cmp (take k last) (bytes_so_far b ++ m)) (sym at)
     ∙ ap (slice_cmp nat_cmp (take n.at last)) (sym front)
 
-pub Over-laid : (last : List ℕ) (b n : Buffer) (m : List ℕ) (order : Ordering) → b.at ≤ length b.bytes.items → n.at ≡ b.at + length m → n.bytes.items ≡ take b.at b.bytes.items ++ (m ++ drop (b.at + length m) b.bytes.items)
-    → n.order ≡ ordering_then b.order order → order ≡ slice_cmp nat_cmp (take (length m) (drop b.at b.bytes.items)) m → Over last b → Over last n
-Over-laid last b n m order le at items then is o =
+within_grown : (b n : Buffer) (m : List ℕ) → b.at ≤ length b.bytes.items → n.at ≡ b.at + length m → bytes_so_far n ≡ bytes_so_far b ++ m → n.at ≤ length n.bytes.items
+within_grown b n m le at front = omega (arith, ap length front, length-take n.at n.bytes.items, length-append (bytes_so_far b) m, length-take b.at b.bytes.items)
+
+-- what came was laid over the last record
+pub Fills-laid : (a c : Option (List ℕ)) (b n : Buffer) (m : List ℕ) (order : Ordering) → b.at ≤ length b.bytes.items → n.at ≡ b.at + length m → n.bytes.items ≡ take b.at b.bytes.items ++ (m ++ drop (b.at + length m) b.bytes.items)
+    → n.order ≡ ordering_then b.order order → order ≡ slice_cmp nat_cmp (take (length m) (drop b.at b.bytes.items)) m → Consumes a c m → Fills a c b n
+Fills-laid a c b n m order le at items then is taken =
     let rest : drop n.at n.bytes.items ≡ drop (b.at + length m) b.bytes.items = rw (at, items) (rest_laid b.bytes.items m b.at le) in
     let front : bytes_so_far n ≡ take b.at b.bytes.items ++ m = rw (at, items) (bytes_so_far_laid b.bytes.items m b.at le) in
-    let next : Ordering = slice_cmp nat_cmp (take (length m) (drop b.at last)) m in
     record {
-      rest = λ e. rest ∙ drop_add b.at (length m) b.bytes.items ∙ ap (drop (length m)) (o.rest (then_equal b.order order (sym then ∙ e))) ∙ sym (drop_add b.at (length m) last) ∙ ap (λ (k : ℕ). drop k last) (sym at);
-      order = then
-          ∙ then_decided b.order order next (λ e. is ∙ ap (λ (t : List ℕ). slice_cmp nat_cmp (take (length m) t) m) (o.rest e))
-          ∙ grown_over last b n m le at front o;
+      within = within_grown b n m le at front;
+      more = m;
+      grows = front;
+      taken = taken;
+      over = λ last o. record {
+        rest = λ e. rest ∙ drop_add b.at (length m) b.bytes.items ∙ ap (drop (length m)) (o.rest (then_equal b.order order (sym then ∙ e))) ∙ sym (drop_add b.at (length m) last) ∙ ap (λ (k : ℕ). drop k last) (sym at);
+        order = then
+            ∙ then_decided b.order order (slice_cmp nat_cmp (take (length m) (drop b.at last)) m) (λ e. is ∙ ap (λ (t : List ℕ). slice_cmp nat_cmp (take (length m) t) m) (o.rest e))
+            ∙ grown_over last b n m le at front o;
+      };
     }
 
-pub Over-behind : (last : List ℕ) (b n : Buffer) (m : List ℕ) → b.at ≤ length b.bytes.items → n.at ≡ b.at + length m → bytes_so_far n ≡ bytes_so_far b ++ m
-    → n.order ≡ b.order → b.order ≢ Equal → Over last b → Over last n
-Over-behind last b n m le at front same differs o = record {
-  rest = λ e. absurd (differs (sym same ∙ e));
-  order = same ∙ then_differs b.order (slice_cmp nat_cmp (take (length m) (drop b.at last)) m) differs ∙ grown_over last b n m le at front o;
+-- what came stands behind what came before, where that differs from the last record
+pub Fills-behind : (a c : Option (List ℕ)) (b n : Buffer) (m : List ℕ) → b.at ≤ length b.bytes.items → n.at ≡ b.at + length m → bytes_so_far n ≡ bytes_so_far b ++ m
+    → n.order ≡ b.order → b.order ≢ Equal → Consumes a c m → Fills a c b n
+Fills-behind a c b n m le at front same differs taken = record {
+  within = within_grown b n m le at front;
+  more = m;
+  grows = front;
+  taken = taken;
+  over = λ last o. record {
+    rest = λ e. absurd (differs (sym same ∙ e));
+    order = same ∙ then_differs b.order (slice_cmp nat_cmp (take (length m) (drop b.at last)) m) differs ∙ grown_over last b n m le at front o;
+  };
 }
 
-Fills-then : (a b c : Option (List ℕ)) (x y z : List ℕ) → Fills a b x y → Fills b c y z → Fills a c x z
-Fills-then a b c x y z p q = record {
+-- nothing came, and more room changes nothing
+pub Fills-room : (a c : Option (List ℕ)) (b n : Buffer) → b.at ≤ length b.bytes.items → n.bytes.items ≡ b.bytes.items → n.at ≡ b.at → n.order ≡ b.order → Consumes a c [] → Fills a c b n
+Fills-room a c b n le items at order taken =
+    let same : bytes_so_far n ≡ bytes_so_far b = ap (λ (k : ℕ). take k n.bytes.items) at ∙ ap (take b.at) items in
+    record {
+      within = rw (at, items) le;
+      more = [];
+      grows = same ∙ sym (append-nil (bytes_so_far b));
+      taken = taken;
+      over = λ last o. record {
+        rest = λ e. ap (λ (k : ℕ). drop k n.bytes.items) at ∙ ap (drop b.at) items ∙ o.rest (sym order ∙ e) ∙ ap (λ (k : ℕ). drop k last) (sym at);
+        order = order ∙ o.order ∙ ap (λ (k : ℕ). slice_cmp nat_cmp (take k last) (bytes_so_far b)) (sym at) ∙ ap (slice_cmp nat_cmp (take n.at last)) (sym same);
+      };
+    }
+
+-- one read behind another
+pub Fills-then : {a b c : Option (List ℕ)} {x y z : Buffer} → Fills a b x y → Fills b c y z → Fills a c x z
+Fills-then {a = a} {b = b} {c = c} {x = x} p q = record {
+  within = q.within;
   more = p.more ++ q.more;
-  grows = q.grows ∙ ap (λ (t : List ℕ). t ++ q.more) p.grows ∙ append_assoc x p.more q.more;
+  grows = q.grows ∙ ap (λ (t : List ℕ). t ++ q.more) p.grows ∙ append_assoc (bytes_so_far x) p.more q.more;
   taken = Consumes-then a b c p.more q.more p.taken q.taken;
+  over = λ last o. q.over last (p.over last o);
 }
 
 -- what a pull put behind what came, in a buffer of len bytes
@@ -110,22 +145,6 @@ bytes_before items behind rest at len le in_len =
     take-take at len (take at items ++ behind ++ rest) in_len
     ∙ ap (take at) (append_assoc (take at items) behind rest)
     ∙ take_at (take at items) (behind ++ rest) at (omega (arith, length-take at items))
-
--- more room changes nothing
-pub Over-room : (last : List ℕ) (b n : Buffer) → n.bytes.items ≡ b.bytes.items → n.at ≡ b.at → n.order ≡ b.order → Over last b → Over last n
-Over-room last b n items at order o = record {
-  rest = λ e. ap (λ (k : ℕ). drop k n.bytes.items) at ∙ ap (drop b.at) items ∙ o.rest (sym order ∙ e) ∙ ap (λ (k : ℕ). drop k last) (sym at);
-  order = order ∙ o.order ∙ ap (λ (k : ℕ). slice_cmp nat_cmp (take k last) (bytes_so_far b)) (sym at) ∙ ap (slice_cmp nat_cmp (take n.at last)) (sym (ap (λ (k : ℕ). take k n.bytes.items) at ∙ ap (take b.at) items));
-}
-
-pub Fills-room : (left_old left_mid left_new : Option (List ℕ)) (old new : List ℕ) (b n : Buffer) → n.bytes.items ≡ b.bytes.items → n.at ≡ b.at
-    → Fills left_old left_mid old (bytes_so_far b) → Fills left_mid left_new (bytes_so_far n) new → Fills left_old left_new old new
-Fills-room left_old left_mid left_new old new b n items at p q =
-    Fills-then left_old left_mid left_new old (bytes_so_far b) new p (record {
-      more = q.more;
-      grows = q.grows ∙ ap (λ (t : List ℕ). t ++ q.more) (ap (λ (k : ℕ). take k n.bytes.items) at ∙ ap (take b.at) items);
-      taken = q.taken;
-    })
 
 pub length-bytes_so_far : (b : Buffer) → b.at ≤ length b.bytes.items → length (bytes_so_far b) ≡ b.at
 length-bytes_so_far b le = omega (arith, length-take b.at b.bytes.items)

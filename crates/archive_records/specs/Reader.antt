@@ -10,6 +10,8 @@ use Rattle.std.specs.Ordering.{nat_cmp}
 use Rattle.std.specs.Cmp.Lexicographic.{slice_cmp}
 use Rattle.std.specs.FinSet as set
 use Rattle.std.specs.Io.KnownBytes.{Consumes, IsAtEnd}
+use Rattle.byte_device.specs.declared.Failed.{Failed}
+use Rattle.byte_device.specs.Devices.{CountsFailure}
 use Rattle.archive_core.specs.declared.slices.SliceFacts.{SliceFacts}
 use Rattle.archive_core.specs.Valid.{IsCheckedOf}
 use Rattle.archive_core.specs.Record.{IsRecord, Admits, Retires}
@@ -32,17 +34,11 @@ use Rattle.archive_records.specs.declared.fault.RecordFaultKind.TheVariants.{Dev
 use Rattle.archive_records.specs.declared.fault.RecordFault.{RecordFault}
 use Rattle.archive_records.specs.Entry.{IsEntry}
 use Rattle.archive_records.specs.Kind.{magic_of, kind_of, IsItem, may_follow}
-use Rattle.archive_records.specs.Layout.{framed}
+use Rattle.archive_records.specs.Layout.{framed, head_length}
 use Rattle.archive_records.specs.Text.{end_record, ending, text_of, InOrder, AreApart, last_of, taken_of}
 use Rattle.archive_records.specs.Fault.{FailsNext, Fails, IsTrailing, IsMagicFault, IsUnended, IsCutAtMost, IsOfText}
 use Rattle.archive_records.specs.Front.{front_length}
 use Rattle.archive_records.specs.Reading.{Blames, IsOfMachine}
-
--- The buffer grew by the bytes that were taken from the source.
-pub record Fills (left_old left_new : Option (List ℕ)) (old new : List ℕ) : Type 0 where
-  pub more : List ℕ
-  pub grows : new ≡ old ++ more
-  pub taken : Consumes left_old left_new more
 
 -- the bytes of the next record that came
 abbrev pub bytes_so_far : Buffer → List ℕ
@@ -53,6 +49,27 @@ bytes_so_far b = take b.at b.bytes.items
 pub record Over (last : List ℕ) (b : Buffer) : Type 0 where
   pub rest : b.order ≡ Equal → drop b.at b.bytes.items ≡ drop b.at last
   pub order : b.order ≡ slice_cmp nat_cmp (take b.at last) (bytes_so_far b)
+
+-- The buffer grew by the bytes that were taken from the source, and stands over each last record that it stood over.
+pub record Fills (left_old left_new : Option (List ℕ)) (old new : Buffer) : Type 0 where
+  pub within : new.at ≤ length new.bytes.items
+  pub more : List ℕ
+  pub grows : bytes_so_far new ≡ bytes_so_far old ++ more
+  pub taken : Consumes left_old left_new more
+  pub over : (last : List ℕ) → Over last old → Over last new
+
+-- This many bytes more came, and `most` at most: none only where the source is at its end, or none was wanted.
+pub record IsPiece (most : ℕ) (left : Option (List ℕ)) (old new : Buffer) (count : ℕ) : Type 0 where
+  pub at_is : new.at ≡ old.at + count
+  pub bound : count ≤ most
+  pub end : count ≡ 0 → 0 < most → IsAtEnd left
+
+-- What came of pulling a piece of a record, of `most` bytes at most, into a buffer.
+pub record Pulls {R : Type 0} (left : R → Option (List ℕ)) (failures : R → ℕ) (old new : R) (before after : Buffer)
+    (most : ℕ) (result : Result ℕ Failed) : Type 0 where
+  pub fills : Fills (left old) (left new) before after
+  pub piece : MatchResult result (IsPiece most (left new) before after) (λ _. after.at ≡ before.at)
+  pub count : CountsFailure (failures old) (failures new) result
 
 -- What a fault says of the bytes that came: a device that failed, and want of memory, leave a part of a record.
 abbrev pub seen_as : RecordFaultKind → RecordFaultKind
@@ -78,6 +95,25 @@ BlamesReader left failures old new result =
 abbrev pub FaultBlamesReader : {R T : Type 0} → (R → Option (List ℕ)) → (R → ℕ) → R → R → Result T RecordFault → Type 0
 FaultBlamesReader left failures old new result =
     MatchResult result (λ _. failures new ≡ failures old) (λ fault. Blames left failures old new fault.kind)
+
+-- What came of reading a part of a record into a buffer.
+pub record ReadsInto {R T : Type 0} (left : R → Option (List ℕ)) (failures : R → ℕ) (old new : R)
+    (before after : Buffer) (result : Result T RecordFaultKind) : Type 0 where
+  pub fills : Fills (left old) (left new) before after
+  pub reader : BlamesReader left failures old new result
+
+-- The head of a record of such a file came, and nothing behind it: it is this long.
+pub record IsHead (file : Format) (buffer : Buffer) (head : ℕ) : Type 0 where
+  pub tag : head_length file (slice_index (bytes_so_far buffer) 0) ≡ Some head
+  pub at_is : buffer.at ≡ head
+  pub long : 8 < head
+
+-- What came of reading the next record into a buffer, from its first byte on.
+pub record ReadsOver {R T : Type 0} (left : R → Option (List ℕ)) (failures : R → ℕ) (old new : R) (after : Buffer)
+    (result : Result T RecordFaultKind) : Type 0 where
+  pub within : after.at ≤ length after.bytes.items
+  pub taken : Consumes (left old) (left new) (bytes_so_far after)
+  pub reader : BlamesReader left failures old new result
 
 -- why the magic was not read, and the bytes that came instead
 abbrev pub StopsInMagic : Format → List ℕ → RecordFaultKind → Type 0

@@ -1,14 +1,12 @@
 //! Bytes from a source that are read over those of the last record.
 
-ghost use Rattle.std.specs.Prelude.{◌≡◌, ◌≢◌, ◌+◌, ◌^◌, ◌<◌, ◌≤◌, ◌++◌, OnOk, OnErr, IfOk, IfErr};
-ghost use Rattle.std.specs.Prelude.{ℕ, List, length, take, drop, vec_capacity};
+ghost use Rattle.std.specs.Prelude.{◌≡◌, ◌≢◌, ◌+◌, ◌^◌, ◌<◌, ◌≤◌, ◌++◌, MatchResult};
+ghost use Rattle.std.specs.Prelude.{ℕ, length, take, drop, vec_capacity};
 ghost use Rattle.std.specs.Ordering.{nat_cmp, ordering_then};
 ghost use Rattle.std.specs.Cmp.Lexicographic.{slice_cmp};
-ghost use Rattle.std.specs.Io.KnownBytes.{IsAtEnd};
 ghost use Rattle.std.specs.declared.cmp.Ordering.TheVariants.{Equal};
-ghost use Rattle.byte_device.specs.Devices.{CountsFailure};
 ghost use Rattle.archive_records.specs.declared.fault.RecordFaultKind.TheVariants.{Truncated};
-ghost use Rattle.archive_records.specs.Reader.{BlamesReader, Fills, bytes_so_far, seen_as, Over};
+ghost use Rattle.archive_records.specs.Reader.{Pulls, ReadsInto, seen_as};
 
 use crate::fault::RecordFaultKind;
 use byte_device::{Failed, Source};
@@ -56,14 +54,7 @@ fn write_over(under: &mut Vec<u8, Heap>, at: usize, order: Ordering, bytes: &[u8
 fn pull_over<R: Source>(r: &mut R, chunk: &mut [u8], buffer: &mut Buffer) -> Result<usize, Failed>
     requires within { buffer.old.at ≤ length buffer.old.bytes.items }
     requires room { buffer.old.at + length chunk.old ≤ vec_capacity buffer.old.bytes }
-    ensures within { buffer.new.at ≤ length buffer.new.bytes.items }
-    ensures fills { Fills (R.left r.old) (R.left r.new) (bytes_so_far buffer.old) (bytes_so_far buffer.new) }
-    ensures over { (last : List ℕ) → Over last buffer.old → Over last buffer.new }
-    ensures ok { IfOk result (λ n. buffer.new.at ≡ buffer.old.at + n) }
-    ensures bound { IfOk result (λ n. n ≤ length chunk.old) }
-    ensures end { IfOk result (λ n. n ≡ 0 → 0 < length chunk.old → IsAtEnd (R.left r.new)) }
-    ensures err { OnErr result (buffer.new.at ≡ buffer.old.at) }
-    ensures count { CountsFailure (R.failures r.old) (R.failures r.new) result }
+    ensures { Pulls R.left R.failures r.old r.new buffer.old buffer.new (length chunk.old) result }
 {
     let n = r.pull(chunk)?;
     buffer.order = write_over(&mut buffer.bytes, buffer.at, buffer.order, &chunk[..n]);
@@ -87,14 +78,7 @@ fn pull_behind<R: Source>(r: &mut R, want: usize, buffer: &mut Buffer) -> Result
     requires within { buffer.old.at ≤ length buffer.old.bytes.items }
     requires room { buffer.old.at + want ≤ vec_capacity buffer.old.bytes }
     requires differs { buffer.old.order ≢ Equal }
-    ensures within { buffer.new.at ≤ length buffer.new.bytes.items }
-    ensures fills { Fills (R.left r.old) (R.left r.new) (bytes_so_far buffer.old) (bytes_so_far buffer.new) }
-    ensures over { (last : List ℕ) → Over last buffer.old → Over last buffer.new }
-    ensures ok { IfOk result (λ n. buffer.new.at ≡ buffer.old.at + n) }
-    ensures bound { IfOk result (λ n. n ≤ want) }
-    ensures end { IfOk result (λ n. n ≡ 0 → 0 < want → IsAtEnd (R.left r.new)) }
-    ensures err { OnErr result (buffer.new.at ≡ buffer.old.at) }
-    ensures count { CountsFailure (R.failures r.old) (R.failures r.new) result }
+    ensures { Pulls R.left R.failures r.old r.new buffer.old buffer.new want result }
 {
     let end = buffer.at + want;
     lengthen(&mut buffer.bytes, end);
@@ -107,14 +91,7 @@ fn pull_behind<R: Source>(r: &mut R, want: usize, buffer: &mut Buffer) -> Result
 fn pull_piece<R: Source>(r: &mut R, chunk: &mut [u8], buffer: &mut Buffer) -> Result<usize, Failed>
     requires within { buffer.old.at ≤ length buffer.old.bytes.items }
     requires room { buffer.old.at + length chunk.old ≤ vec_capacity buffer.old.bytes }
-    ensures within { buffer.new.at ≤ length buffer.new.bytes.items }
-    ensures fills { Fills (R.left r.old) (R.left r.new) (bytes_so_far buffer.old) (bytes_so_far buffer.new) }
-    ensures over { (last : List ℕ) → Over last buffer.old → Over last buffer.new }
-    ensures ok { IfOk result (λ n. buffer.new.at ≡ buffer.old.at + n) }
-    ensures bound { IfOk result (λ n. n ≤ length chunk.old) }
-    ensures end { IfOk result (λ n. n ≡ 0 → 0 < length chunk.old → IsAtEnd (R.left r.new)) }
-    ensures err { OnErr result (buffer.new.at ≡ buffer.old.at) }
-    ensures count { CountsFailure (R.failures r.old) (R.failures r.new) result }
+    ensures { Pulls R.left R.failures r.old r.new buffer.old buffer.new (length chunk.old) result }
 {
     match buffer.order {
         Ordering::Equal => pull_over(r, chunk, buffer),
@@ -133,13 +110,9 @@ pub fn fill<R: Source>(
     requires room { 0 < length chunk.old }
     requires within { buffer.old.at ≤ length buffer.old.bytes.items }
     requires fits { buffer.old.at + count < 2 ^ 64 }
-    ensures within { buffer.new.at ≤ length buffer.new.bytes.items }
-    ensures fills { Fills (R.left r.old) (R.left r.new) (bytes_so_far buffer.old) (bytes_so_far buffer.new) }
-    ensures over { (last : List ℕ) → Over last buffer.old → Over last buffer.new }
-    ensures ok { OnOk result (buffer.new.at ≡ buffer.old.at + count) }
-    ensures err { OnErr result (buffer.new.at < buffer.old.at + count) }
-    ensures part { IfErr result (λ kind. seen_as kind ≡ Truncated) }
-    ensures reader { BlamesReader R.left R.failures r.old r.new result }
+    ensures reads { ReadsInto R.left R.failures r.old r.new buffer.old buffer.new result }
+    ensures came { MatchResult result (λ _. buffer.new.at ≡ buffer.old.at + count)
+        (λ kind. (buffer.new.at < buffer.old.at + count) × (seen_as kind ≡ Truncated)) }
 {
     let end = buffer.at + count;
     'filling: while buffer.at < end {

@@ -1,10 +1,8 @@
 //! One record after another from a source, each read over the last.
 
-ghost use Rattle.std.specs.Prelude.{◌≡◌, ◌<◌, ◌≤◌, ℕ, List, length, Some, Ok, Err};
-ghost use Rattle.std.specs.Prelude.{IfOk, IfErr, MatchResult, slice_index};
-ghost use Rattle.std.specs.Io.KnownBytes.{Consumes};
-ghost use Rattle.archive_records.specs.Layout.{head_length, framed};
-ghost use Rattle.archive_records.specs.Reader.{BlamesReader, Fills, bytes_so_far, seen_as, Over};
+ghost use Rattle.std.specs.Prelude.{◌≡◌, ◌<◌, ◌≤◌, length, Ok, Err, MatchResult};
+ghost use Rattle.archive_records.specs.Layout.{framed};
+ghost use Rattle.archive_records.specs.Reader.{ReadsInto, ReadsOver, IsHead, bytes_so_far, seen_as, Over};
 
 use crate::buffer::{Buffer, fill};
 use crate::fault::RecordFaultKind;
@@ -25,14 +23,9 @@ fn read_head<R: Source>(
 ) -> Result<usize, RecordFaultKind>
     requires room { 0 < length chunk.old }
     requires start { buffer.old.at ≡ 0 }
-    ensures within { buffer.new.at ≤ length buffer.new.bytes.items }
-    ensures taken { Consumes (R.left r.old) (R.left r.new) (bytes_so_far buffer.new) }
-    ensures over { (last : List ℕ) → Over last buffer.old → Over last buffer.new }
-    ensures head { IfOk result (λ head. head_length file (slice_index (bytes_so_far buffer.new) 0) ≡ Some head) }
-    ensures len { IfOk result (λ head. buffer.new.at ≡ head) }
-    ensures long { IfOk result (λ head. 8 < head) }
-    ensures framed { IfErr result (λ kind. framed file (bytes_so_far buffer.new) ≡ Err (seen_as kind)) }
-    ensures reader { BlamesReader R.left R.failures r.old r.new result }
+    ensures reads { ReadsInto R.left R.failures r.old r.new buffer.old buffer.new result }
+    ensures head { MatchResult result (IsHead file buffer.new)
+        (λ kind. framed file (bytes_so_far buffer.new) ≡ Err (seen_as kind)) }
 {
     fill(r, chunk, buffer, 1)?;
     let Some(head) = head_length_of(file, &buffer.bytes[..buffer.at]) else {
@@ -52,16 +45,11 @@ fn read_body<R: Source>(
 ) -> Result<(), RecordFaultKind>
     requires room { 0 < length chunk.old }
     requires within { buffer.old.at ≤ length buffer.old.bytes.items }
-    requires head { head_length file (slice_index (bytes_so_far buffer.old) 0) ≡ Some head }
-    requires len { buffer.old.at ≡ head }
-    requires long { 8 < head }
-    ensures within { buffer.new.at ≤ length buffer.new.bytes.items }
-    ensures fills { Fills (R.left r.old) (R.left r.new) (bytes_so_far buffer.old) (bytes_so_far buffer.new) }
-    ensures over { (last : List ℕ) → Over last buffer.old → Over last buffer.new }
+    requires head { IsHead file buffer.old head }
+    ensures reads { ReadsInto R.left R.failures r.old r.new buffer.old buffer.new result }
     ensures framed { MatchResult result
         (λ _. framed file (bytes_so_far buffer.new) ≡ Ok buffer.new.at)
         (λ kind. framed file (bytes_so_far buffer.new) ≡ Err (seen_as kind)) }
-    ensures reader { BlamesReader R.left R.failures r.old r.new result }
 {
     let body = body_length_of(file, &buffer.bytes[..buffer.at]);
     if body > LARGEST_SLICE {
@@ -78,13 +66,11 @@ pub fn read_record<R: Source>(
     buffer: &mut Buffer,
 ) -> Result<(), RecordFaultKind>
     requires { 0 < length chunk.old }
-    ensures within { buffer.new.at ≤ length buffer.new.bytes.items }
-    ensures taken { Consumes (R.left r.old) (R.left r.new) (bytes_so_far buffer.new) }
+    ensures reads { ReadsOver R.left R.failures r.old r.new buffer.new result }
     ensures over { Over buffer.old.bytes.items buffer.new }
     ensures framed { MatchResult result
         (λ _. framed file (bytes_so_far buffer.new) ≡ Ok buffer.new.at)
         (λ kind. framed file (bytes_so_far buffer.new) ≡ Err (seen_as kind)) }
-    ensures reader { BlamesReader R.left R.failures r.old r.new result }
 {
     buffer.at = 0;
     buffer.order = Ordering::Equal;

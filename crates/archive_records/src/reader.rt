@@ -13,7 +13,7 @@ ghost use Rattle.archive_records.specs.declared.fault.RecordFaultKind.TheVariant
 ghost use Rattle.archive_records.specs.Kind.{magic_of, kind_of, end_length};
 ghost use Rattle.archive_records.specs.Reader.{Position, Bounds, Advances, BlamesReader, FaultBlamesReader, KeepsIn};
 ghost use Rattle.archive_records.specs.Reader.{IsFoundIn, IsFoundOfLast, beside, retirement_in, set_of, with_shared};
-ghost use Rattle.archive_records.specs.Reader.{bytes_so_far, StopsInMagicOf, HasRead, HasReadAll, Stopped};
+ghost use Rattle.archive_records.specs.Reader.{Fills, bytes_so_far, StopsInMagicOf, HasRead, HasReadAll, Stopped};
 
 use crate::buffer::{Buffer, fill};
 use crate::fault::{RecordFault, RecordFaultKind};
@@ -85,7 +85,7 @@ fn read_magic<R: Source>(
 ) -> Result<Format, RecordFaultKind>
     requires room { 0 < length chunk.old }
     requires start { buffer.old.at ≡ 0 }
-    ensures taken { Consumes (R.left r.old) (R.left r.new) (bytes_so_far buffer.new) }
+    ensures fills { Fills (R.left r.old) (R.left r.new) buffer.old buffer.new }
     ensures magic { IfOk result (λ format.
         (kind_of format ≡ file) × (bytes_so_far buffer.new ≡ magic_of format)) }
     ensures stops { IfErr result (λ kind. StopsInMagicOf file (bytes_so_far buffer.new) kind) }

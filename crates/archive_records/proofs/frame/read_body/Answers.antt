@@ -1,44 +1,53 @@
 use Rattle.std.proofs.Common.{refl, length, take, ◌≤◌, ◌<◌, ◌+◌, ◌++◌, arith, ◌≡◌, get_or, Some, Ok, Err, ◌∙◌, ap, List, ℕ, Result}
-use Rattle.std.specs.Prelude.{MatchResult, OnOk, OnErr, IfErr}
+use Rattle.std.specs.Prelude.{MatchResult}
+use Rattle.byte_device.proofs.Known.{Consumes-none}
 use Rattle.archive_records.specs.declared.fault.RecordFaultKind.{RecordFaultKind}
-use Rattle.archive_records.specs.declared.fault.RecordFaultKind.TheVariants.{Truncated}
+use Rattle.archive_records.specs.declared.fault.RecordFaultKind.TheVariants.{Truncated, TooLarge}
 use Rattle.archive_records.specs.Layout.{head_length, body_length, framed, largest_slice}
+use Rattle.archive_records.proofs.Blamed.{text_blames}
 use Rattle.archive_records.proofs.Framed.{seen, framed-large, grown-body, grown-whole}
 use Rattle.archive_records.specs.declared.buffer.Buffer.{Buffer}
-use Rattle.archive_records.specs.Reader.{bytes_so_far, seen_as}
+use Rattle.archive_records.specs.Reader.{IsHead, bytes_so_far, seen_as}
 use Rattle.archive_records.specs.declared.format.Format.{Format}
 use Rattle.archive_records.proofs.Holds.{tag_two}
-use Rattle.archive_records.proofs.Laid.{length-bytes_so_far}
+use Rattle.archive_records.proofs.Laid.{Fills-room, length-bytes_so_far}
 use Rattle.archive_records.proofs.frame.read_body.Goals as goal
+
+pub returns-then-body-gt-LARGEST_SLICE-clause-reads : goal.returns-then-body-gt-LARGEST_SLICE-clause-reads
+returns-then-body-gt-LARGEST_SLICE-clause-reads g c = record {
+  fills = Fills-room _ _ c.args.buffer.now c.args.buffer.now c.requires.within refl refl refl (Consumes-none _);
+  reader = text_blames g.R.Source.left g.R.Source.failures c.args.r.now c.args.r.now TooLarge (λ e. cc) (λ e. cc) refl;
+}
 
 pub returns-then-body-gt-LARGEST_SLICE-clause-framed : goal.returns-then-body-gt-LARGEST_SLICE-clause-framed
 returns-then-body-gt-LARGEST_SLICE-clause-framed g c =
     let b = c.args.buffer.now in
     let x = length-bytes_so_far b c.requires.within in
     let n-is = c.body_length_of-body.ensures ∙ ap (λ (t : List ℕ). body_length c.args.file (take b.at t)) c.deref.ensures.value in
-    framed-large c.args.file (bytes_so_far b) c.args.head (omega (arith, x)) c.requires.head (omega (arith, x)) (omega (arith, n-is))
+    framed-large c.args.file (bytes_so_far b) c.args.head (omega (arith, x, c.requires.head.at_is, c.requires.head.long)) c.requires.head.tag (omega (arith, x, c.requires.head.at_is)) (omega (arith, n-is))
 
 -- either way of the last read
-last : (file : Format) (r : Result (Unit {0}) RecordFaultKind) (bytes more grown : List ℕ) (b : Buffer) (head n : ℕ) → grown ≡ bytes_so_far b → b.at ≤ length b.bytes.items → n ≡ body_length file bytes → grown ≡ bytes ++ more → 8 < head → head_length file (get_or bytes 0 0) ≡ Some head → length bytes ≡ head → n ≤ largest_slice
-    → OnOk r (b.at ≡ head + n) → OnErr r (b.at < head + n) → IfErr r (λ kind. seen_as kind ≡ Truncated)
-    → MatchResult r (λ _. framed file grown ≡ Ok b.at) (λ kind. framed file grown ≡ Err (seen_as kind))
-last file (Ok u) bytes more grown b head n here within is grows big h len small ok err part =
-    let l : length grown ≡ b.at = ap length here ∙ length-bytes_so_far b within in
-    grown-whole file bytes more grown head grows (omega arith) h (omega arith) (omega arith) (omega arith) ∙ ap (λ (k : ℕ). Ok k) l
-last file (Err kind) bytes more grown b head n here within is grows big h len small ok err part =
-    let l : length grown ≡ b.at = ap length here ∙ length-bytes_so_far b within in
-    seen file kind grown part (grown-body file bytes more grown head grows (omega arith) h (omega arith) (omega arith) (omega arith))
+last : (file : Format) (r : Result (Unit {0}) RecordFaultKind) (more : List ℕ) (a b : Buffer) (head n : ℕ) → a.at ≤ length a.bytes.items → b.at ≤ length b.bytes.items → n ≡ body_length file (bytes_so_far a) → bytes_so_far b ≡ bytes_so_far a ++ more → IsHead file a head → n ≤ largest_slice
+    → MatchResult r (λ _. b.at ≡ a.at + n) (λ kind. (b.at < a.at + n) × (seen_as kind ≡ Truncated))
+    → MatchResult r (λ _. framed file (bytes_so_far b) ≡ Ok b.at) (λ kind. framed file (bytes_so_far b) ≡ Err (seen_as kind))
+last file (Ok u) more a b head n long within is grows h small came =
+    let l : length (bytes_so_far a) ≡ head = length-bytes_so_far a long ∙ h.at_is in
+    let k : length (bytes_so_far b) ≡ b.at = length-bytes_so_far b within in
+    grown-whole file (bytes_so_far a) more (bytes_so_far b) head grows (omega (arith, h.long)) h.tag (omega arith) (omega arith) (omega (arith, h.at_is)) ∙ ap (λ (k : ℕ). Ok k) k
+last file (Err kind) more a b head n long within is grows h small came =
+    let l : length (bytes_so_far a) ≡ head = length-bytes_so_far a long ∙ h.at_is in
+    let k : length (bytes_so_far b) ≡ b.at = length-bytes_so_far b within in
+    seen file kind (bytes_so_far b) came.1 (grown-body file (bytes_so_far a) more (bytes_so_far b) head grows (omega (arith, h.long)) h.tag (omega arith) (omega arith) (omega (arith, h.at_is, came.0)))
 
 pub returns-clause-framed : goal.returns-clause-framed
 returns-clause-framed g c =
     let b = c.args.buffer.now in
-    let d = c.fill.new.buffer in
+    let fills = c.fill.ensures.reads.fills in
     let n-is = c.body_length_of-body.ensures ∙ ap (λ (t : List ℕ). body_length c.args.file (take b.at t)) c.deref.ensures.value in
-    last c.args.file c.fill.result (bytes_so_far b) c.fill.ensures.fills.more (bytes_so_far d) d c.args.head c.body_length_of-body.result refl c.fill.ensures.within n-is
-    c.fill.ensures.fills.grows c.requires.long c.requires.head (length-bytes_so_far b c.requires.within ∙ c.requires.len) c.if-body-gt-LARGEST_SLICE.false (rw c.requires.len at c.fill.ensures.ok) (rw c.requires.len at c.fill.ensures.err) c.fill.ensures.part
+    last c.args.file c.fill.result fills.more b c.fill.new.buffer c.args.head c.body_length_of-body.result c.requires.within fills.within n-is fills.grows c.requires.head c.if-body-gt-LARGEST_SLICE.false c.fill.ensures.came
 
 pub body_length_of-body-requires-clause-whole : goal.body_length_of-body-requires-clause-whole
 body_length_of-body-requires-clause-whole g c =
     let b = c.args.buffer.now in
     let x = length-bytes_so_far b c.requires.within in
-    rw c.deref.ensures.value (λ two. omega (arith, x, c.requires.len, tag_two c.args.file (get_or (bytes_so_far b) 0 0) c.args.head two c.requires.head))
+    rw c.deref.ensures.value (λ two. omega (arith, x, c.requires.head.at_is, tag_two c.args.file (get_or (bytes_so_far b) 0 0) c.args.head two c.requires.head.tag))
