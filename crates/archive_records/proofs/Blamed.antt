@@ -7,8 +7,7 @@ use Rattle.byte_device.specs.Devices.{FailedIn}
 use Rattle.archive_records.specs.declared.fault.RecordFaultKind.{RecordFaultKind}
 use Rattle.archive_records.specs.declared.fault.RecordFaultKind.TheVariants.{Device, Truncated}
 use Rattle.archive_records.specs.declared.buffer.Buffer.{Buffer}
-use Rattle.archive_records.specs.Reader.{BlamesReader, Bounds, Fills, ReadsInto, ReadsOver, bytes_so_far}
-use Rattle.archive_records.proofs.Laid.{Fills-then}
+use Rattle.archive_records.specs.Reader.{BlamesReader, Bounds, Fills, bytes_so_far}
 use Rattle.archive_records.specs.Reading.{Blames}
 
 -- what `?` passes on is the fault
@@ -16,8 +15,8 @@ pub failed : {T E : Type 0} (result : Result T E) (kind : E) → IsErrAnd result
 failed result kind is = let p = err_from_is_err_and result is in p.1 ∙ ap (λ e. Err e) p.2
 
 -- what the first step took stands in an empty buffer
-pub filled_first : (a b : Option (List ℕ)) (buffer after : Buffer) → buffer.at ≡ 0 → Fills a b buffer after → Consumes a b (bytes_so_far after)
-filled_first a b buffer after start fills = subst (Consumes a b) (sym (fills.grows ∙ ap (λ (n : ℕ). take n buffer.bytes.items ++ fills.more) start)) fills.taken
+pub filled_first : {a b : Option (List ℕ)} {buffer after : Buffer} → buffer.at ≡ 0 → Fills a b buffer after → Consumes a b (bytes_so_far after)
+filled_first {a = a} {b = b} {buffer = buffer} start fills = subst (Consumes a b) (sym (fills.grows ∙ ap (λ (n : ℕ). take n buffer.bytes.items ++ fills.more) start)) fills.taken
 
 -- a fault of the text says that the reader did not fail
 pub text_blames : {R : Type 0} (left : R → Option (List ℕ)) (failures : R → ℕ) (old new : R) (kind : RecordFaultKind) → (kind ≡ Device → ⊥) → (kind ≡ Truncated → ⊥) → failures new ≡ failures old → Blames left failures old new kind
@@ -45,21 +44,6 @@ module _ {R : Type 0} (left : R → Option (List ℕ)) (failures : R → ℕ) (o
   pub blamed_behind : {T : Type 0} (result : Result T RecordFaultKind) → BlamesReader left failures mid new result → BlamesReader left failures old new result
   blamed_behind (Ok value) same = same ∙ unfailed
   blamed_behind (Err kind) blames = blames_behind kind blames
-
--- a step that read, and one behind it
-pub reads_then : {R T U : Type 0} {left : R → Option (List ℕ)} {failures : R → ℕ} {old mid new : R} {a b c : Buffer} {value : U} {result : Result T RecordFaultKind} → ReadsInto left failures old mid a b (Ok value) → ReadsInto left failures mid new b c result → ReadsInto left failures old new a c result
-reads_then {left = left} {failures = failures} {old = old} {mid = mid} {new = new} {result = result} p q = record {
-  fills = Fills-then p.fills q.fills;
-  reader = blamed_behind left failures old mid new p.reader result q.reader;
-}
-
--- a record that was read from its first byte on
-pub reads_over : {R T : Type 0} {left : R → Option (List ℕ)} {failures : R → ℕ} {old new : R} {before after : Buffer} {result : Result T RecordFaultKind} → before.at ≡ 0 → ReadsInto left failures old new before after result → ReadsOver left failures old new after result
-reads_over {left = left} {old = old} {new = new} {before = before} {after = after} start reads = record {
-  within = reads.fills.within;
-  taken = filled_first (left old) (left new) before after start reads.fills;
-  reader = reads.reader;
-}
 
 -- what is kept of a list that was cut off
 pub cut_same : (items cut : List ℕ) (at : ℕ) → cut ≡ take at items → take at cut ≡ take at items

@@ -96,24 +96,11 @@ abbrev pub FaultBlamesReader : {R T : Type 0} → (R → Option (List ℕ)) → 
 FaultBlamesReader left failures old new result =
     MatchResult result (λ _. failures new ≡ failures old) (λ fault. Blames left failures old new fault.kind)
 
--- What came of reading a part of a record into a buffer.
-pub record ReadsInto {R T : Type 0} (left : R → Option (List ℕ)) (failures : R → ℕ) (old new : R)
-    (before after : Buffer) (result : Result T RecordFaultKind) : Type 0 where
-  pub fills : Fills (left old) (left new) before after
-  pub reader : BlamesReader left failures old new result
-
 -- The head of a record of such a file came, and nothing behind it: it is this long.
 pub record IsHead (file : Format) (buffer : Buffer) (head : ℕ) : Type 0 where
   pub tag : head_length file (slice_index (bytes_so_far buffer) 0) ≡ Some head
   pub at_is : buffer.at ≡ head
   pub long : 8 < head
-
--- What came of reading the next record into a buffer, from its first byte on.
-pub record ReadsOver {R T : Type 0} (left : R → Option (List ℕ)) (failures : R → ℕ) (old new : R) (after : Buffer)
-    (result : Result T RecordFaultKind) : Type 0 where
-  pub within : after.at ≤ length after.bytes.items
-  pub taken : Consumes (left old) (left new) (bytes_so_far after)
-  pub reader : BlamesReader left failures old new result
 
 -- why the magic was not read, and the bytes that came instead
 abbrev pub StopsInMagic : Format → List ℕ → RecordFaultKind → Type 0

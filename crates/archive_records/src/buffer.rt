@@ -6,7 +6,7 @@ ghost use Rattle.std.specs.Ordering.{nat_cmp, ordering_then};
 ghost use Rattle.std.specs.Cmp.Lexicographic.{slice_cmp};
 ghost use Rattle.std.specs.declared.cmp.Ordering.TheVariants.{Equal};
 ghost use Rattle.archive_records.specs.declared.fault.RecordFaultKind.TheVariants.{Truncated};
-ghost use Rattle.archive_records.specs.Reader.{Pulls, ReadsInto, seen_as};
+ghost use Rattle.archive_records.specs.Reader.{BlamesReader, Fills, Pulls, seen_as};
 
 use crate::fault::RecordFaultKind;
 use byte_device::{Failed, Source};
@@ -110,9 +110,10 @@ pub fn fill<R: Source>(
     requires room { 0 < length chunk.old }
     requires within { buffer.old.at ≤ length buffer.old.bytes.items }
     requires fits { buffer.old.at + count < 2 ^ 64 }
-    ensures reads { ReadsInto R.left R.failures r.old r.new buffer.old buffer.new result }
+    ensures fills { Fills (R.left r.old) (R.left r.new) buffer.old buffer.new }
     ensures came { MatchResult result (λ _. buffer.new.at ≡ buffer.old.at + count)
         (λ kind. (buffer.new.at < buffer.old.at + count) × (seen_as kind ≡ Truncated)) }
+    ensures reader { BlamesReader R.left R.failures r.old r.new result }
 {
     let end = buffer.at + count;
     'filling: while buffer.at < end {

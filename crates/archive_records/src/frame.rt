@@ -1,8 +1,9 @@
 //! One record after another from a source, each read over the last.
 
 ghost use Rattle.std.specs.Prelude.{◌≡◌, ◌<◌, ◌≤◌, length, Ok, Err, MatchResult};
+ghost use Rattle.std.specs.Io.KnownBytes.{Consumes};
 ghost use Rattle.archive_records.specs.Layout.{framed};
-ghost use Rattle.archive_records.specs.Reader.{ReadsInto, ReadsOver, IsHead, bytes_so_far, seen_as, Over};
+ghost use Rattle.archive_records.specs.Reader.{BlamesReader, Fills, IsHead, bytes_so_far, seen_as, Over};
 
 use crate::buffer::{Buffer, fill};
 use crate::fault::RecordFaultKind;
@@ -23,9 +24,10 @@ fn read_head<R: Source>(
 ) -> Result<usize, RecordFaultKind>
     requires room { 0 < length chunk.old }
     requires start { buffer.old.at ≡ 0 }
-    ensures reads { ReadsInto R.left R.failures r.old r.new buffer.old buffer.new result }
+    ensures fills { Fills (R.left r.old) (R.left r.new) buffer.old buffer.new }
     ensures head { MatchResult result (IsHead file buffer.new)
         (λ kind. framed file (bytes_so_far buffer.new) ≡ Err (seen_as kind)) }
+    ensures reader { BlamesReader R.left R.failures r.old r.new result }
 {
     fill(r, chunk, buffer, 1)?;
     let Some(head) = head_length_of(file, &buffer.bytes[..buffer.at]) else {
@@ -46,10 +48,11 @@ fn read_body<R: Source>(
     requires room { 0 < length chunk.old }
     requires within { buffer.old.at ≤ length buffer.old.bytes.items }
     requires head { IsHead file buffer.old head }
-    ensures reads { ReadsInto R.left R.failures r.old r.new buffer.old buffer.new result }
+    ensures fills { Fills (R.left r.old) (R.left r.new) buffer.old buffer.new }
     ensures framed { MatchResult result
         (λ _. framed file (bytes_so_far buffer.new) ≡ Ok buffer.new.at)
         (λ kind. framed file (bytes_so_far buffer.new) ≡ Err (seen_as kind)) }
+    ensures reader { BlamesReader R.left R.failures r.old r.new result }
 {
     let body = body_length_of(file, &buffer.bytes[..buffer.at]);
     if body > LARGEST_SLICE {
@@ -66,11 +69,13 @@ pub fn read_record<R: Source>(
     buffer: &mut Buffer,
 ) -> Result<(), RecordFaultKind>
     requires { 0 < length chunk.old }
-    ensures reads { ReadsOver R.left R.failures r.old r.new buffer.new result }
+    ensures within { buffer.new.at ≤ length buffer.new.bytes.items }
+    ensures taken { Consumes (R.left r.old) (R.left r.new) (bytes_so_far buffer.new) }
     ensures over { Over buffer.old.bytes.items buffer.new }
     ensures framed { MatchResult result
         (λ _. framed file (bytes_so_far buffer.new) ≡ Ok buffer.new.at)
         (λ kind. framed file (bytes_so_far buffer.new) ≡ Err (seen_as kind)) }
+    ensures reader { BlamesReader R.left R.failures r.old r.new result }
 {
     buffer.at = 0;
     buffer.order = Ordering::Equal;

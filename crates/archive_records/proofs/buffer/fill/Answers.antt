@@ -23,25 +23,31 @@ filling-preserved g c =
       unfailed = c.in-Ok.ensures.count.1 ∙ i.unfailed;
     }
 
-pub returns-in-Ok-eq0-clause-reads : goal.returns-in-Ok-eq0-clause-reads
-returns-in-Ok-eq0-clause-reads g c = record {
-  fills = Fills-then c.filling.invariant.fills (Fills-then (Fills-room _ _ c.filling.buffer (record { bytes = c.reserve.new.self; at = c.filling.buffer.at; order = c.filling.buffer.order }) c.filling.invariant.fills.within c.reserve.ensures.items refl refl (Consumes-none _)) c.pull_piece.ensures.fills);
-  reader = end_blames g.R.Source.left g.R.Source.failures c.args.r.now c.pull_piece.new.r (c.in-Ok-eq0.ensures.count.1 ∙ c.filling.invariant.unfailed)
-      (c.in-Ok-eq0.ensures.piece.end c.in-Ok-eq0.field-0-test (omega (arith, length-take c.min-want.result c.filling.chunk, c.min-want.ensures, c.filling.auto.chunk)));
-}
+pub returns-in-Ok-eq0-clause-fills : goal.returns-in-Ok-eq0-clause-fills
+returns-in-Ok-eq0-clause-fills g c = Fills-then c.filling.invariant.fills (Fills-then (Fills-room _ _ c.filling.buffer (record { bytes = c.reserve.new.self; at = c.filling.buffer.at; order = c.filling.buffer.order }) c.filling.invariant.fills.within c.reserve.ensures.items refl refl (Consumes-none _)) c.pull_piece.ensures.fills)
 
-pub returns-in-Err-pull_piece-clause-reads : goal.returns-in-Err-pull_piece-clause-reads
-returns-in-Err-pull_piece-clause-reads g c = record {
-  fills = Fills-then c.filling.invariant.fills (Fills-then (Fills-room _ _ c.filling.buffer (record { bytes = c.reserve.new.self; at = c.filling.buffer.at; order = c.filling.buffer.order }) c.filling.invariant.fills.within c.reserve.ensures.items refl refl (Consumes-none _)) c.pull_piece.ensures.fills);
-  reader = device_blames g.R.Source.left g.R.Source.failures c.args.r.now c.pull_piece.new.r
-      (subst (λ n. FailedIn n (g.R.Source.failures c.pull_piece.new.r)) c.filling.invariant.unfailed c.in-Err-pull_piece.ensures.count);
-}
+pub returns-in-Ok-eq0-clause-reader : goal.returns-in-Ok-eq0-clause-reader
+returns-in-Ok-eq0-clause-reader g c =
+    end_blames g.R.Source.left g.R.Source.failures c.args.r.now c.pull_piece.new.r (c.in-Ok-eq0.ensures.count.1 ∙ c.filling.invariant.unfailed)
+    (c.in-Ok-eq0.ensures.piece.end c.in-Ok-eq0.field-0-test (omega (arith, length-take c.min-want.result c.filling.chunk, c.min-want.ensures, c.filling.auto.chunk)))
 
-pub returns-in-Err-clause-reads : goal.returns-in-Err-clause-reads
-returns-in-Err-clause-reads g c = record {
-  fills = Fills-then c.filling.invariant.fills (Fills-room _ _ c.filling.buffer (record { bytes = c.reserve.new.self; at = c.filling.buffer.at; order = c.filling.buffer.order }) c.filling.invariant.fills.within c.reserve.ensures.items refl refl (Consumes-none _));
-  reader = memory_blames g.R.Source.left g.R.Source.failures c.args.r.now c.filling.r c.filling.invariant.unfailed;
-}
+pub returns-in-Err-pull_piece-clause-fills : goal.returns-in-Err-pull_piece-clause-fills
+returns-in-Err-pull_piece-clause-fills g c = Fills-then c.filling.invariant.fills (Fills-then (Fills-room _ _ c.filling.buffer (record { bytes = c.reserve.new.self; at = c.filling.buffer.at; order = c.filling.buffer.order }) c.filling.invariant.fills.within c.reserve.ensures.items refl refl (Consumes-none _)) c.pull_piece.ensures.fills)
 
-pub returns-clause-reads : goal.returns-clause-reads
-returns-clause-reads g c = record { fills = c.filling.invariant.fills; reader = c.filling.invariant.unfailed }
+pub returns-in-Err-pull_piece-clause-reader : goal.returns-in-Err-pull_piece-clause-reader
+returns-in-Err-pull_piece-clause-reader g c =
+    device_blames g.R.Source.left g.R.Source.failures c.args.r.now c.pull_piece.new.r
+    (subst (λ n. FailedIn n (g.R.Source.failures c.pull_piece.new.r)) c.filling.invariant.unfailed c.in-Err-pull_piece.ensures.count)
+
+pub returns-in-Err-clause-fills : goal.returns-in-Err-clause-fills
+returns-in-Err-clause-fills g c = Fills-then c.filling.invariant.fills (Fills-room _ _ c.filling.buffer (record { bytes = c.reserve.new.self; at = c.filling.buffer.at; order = c.filling.buffer.order }) c.filling.invariant.fills.within c.reserve.ensures.items refl refl (Consumes-none _))
+
+pub returns-in-Err-clause-reader : goal.returns-in-Err-clause-reader
+returns-in-Err-clause-reader g c =
+    memory_blames g.R.Source.left g.R.Source.failures c.args.r.now c.filling.r c.filling.invariant.unfailed
+
+pub returns-clause-fills : goal.returns-clause-fills
+returns-clause-fills g c = c.filling.invariant.fills
+
+pub returns-clause-reader : goal.returns-clause-reader
+returns-clause-reader g c = c.filling.invariant.unfailed

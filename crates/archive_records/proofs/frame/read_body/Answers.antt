@@ -2,9 +2,8 @@ use Rattle.std.proofs.Common.{refl, length, take, ◌≤◌, ◌<◌, ◌+◌, �
 use Rattle.std.specs.Prelude.{MatchResult}
 use Rattle.byte_device.proofs.Known.{Consumes-none}
 use Rattle.archive_records.specs.declared.fault.RecordFaultKind.{RecordFaultKind}
-use Rattle.archive_records.specs.declared.fault.RecordFaultKind.TheVariants.{Truncated, TooLarge}
+use Rattle.archive_records.specs.declared.fault.RecordFaultKind.TheVariants.{Truncated}
 use Rattle.archive_records.specs.Layout.{head_length, body_length, framed, largest_slice}
-use Rattle.archive_records.proofs.Blamed.{text_blames}
 use Rattle.archive_records.proofs.Framed.{seen, framed-large, grown-body, grown-whole}
 use Rattle.archive_records.specs.declared.buffer.Buffer.{Buffer}
 use Rattle.archive_records.specs.Reader.{IsHead, bytes_so_far, seen_as}
@@ -13,11 +12,8 @@ use Rattle.archive_records.proofs.Holds.{tag_two}
 use Rattle.archive_records.proofs.Laid.{Fills-room, length-bytes_so_far}
 use Rattle.archive_records.proofs.frame.read_body.Goals as goal
 
-pub returns-then-body-gt-LARGEST_SLICE-clause-reads : goal.returns-then-body-gt-LARGEST_SLICE-clause-reads
-returns-then-body-gt-LARGEST_SLICE-clause-reads g c = record {
-  fills = Fills-room _ _ c.args.buffer.now c.args.buffer.now c.requires.within refl refl refl (Consumes-none _);
-  reader = text_blames g.R.Source.left g.R.Source.failures c.args.r.now c.args.r.now TooLarge (λ e. cc) (λ e. cc) refl;
-}
+pub returns-then-body-gt-LARGEST_SLICE-clause-fills : goal.returns-then-body-gt-LARGEST_SLICE-clause-fills
+returns-then-body-gt-LARGEST_SLICE-clause-fills g c = Fills-room _ _ c.args.buffer.now c.args.buffer.now c.requires.within refl refl refl (Consumes-none _)
 
 pub returns-then-body-gt-LARGEST_SLICE-clause-framed : goal.returns-then-body-gt-LARGEST_SLICE-clause-framed
 returns-then-body-gt-LARGEST_SLICE-clause-framed g c =
@@ -42,7 +38,7 @@ last file (Err kind) more a b head n long within is grows h small came =
 pub returns-clause-framed : goal.returns-clause-framed
 returns-clause-framed g c =
     let b = c.args.buffer.now in
-    let fills = c.fill.ensures.reads.fills in
+    let fills = c.fill.ensures.fills in
     let n-is = c.body_length_of-body.ensures ∙ ap (λ (t : List ℕ). body_length c.args.file (take b.at t)) c.deref.ensures.value in
     last c.args.file c.fill.result fills.more b c.fill.new.buffer c.args.head c.body_length_of-body.result c.requires.within fills.within n-is fills.grows c.requires.head c.if-body-gt-LARGEST_SLICE.false c.fill.ensures.came
 

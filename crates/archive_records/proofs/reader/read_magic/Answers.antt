@@ -3,8 +3,7 @@ use Rattle.std.specs.Prelude.{take}
 use Rattle.std.proofs.lemmas.Bool.{false≢true}
 use Rattle.std.proofs.lemmas.List.{length-take}
 use Rattle.archive_records.specs.declared.fault.RecordFaultKind.TheVariants.{BadMagic}
-use Rattle.archive_records.specs.Reader.{bytes_so_far}
-use Rattle.archive_records.proofs.Blamed.{filled_first, text_blames}
+use Rattle.archive_records.proofs.Blamed.{text_blames}
 use Rattle.archive_records.proofs.Formats.{other_magic, other_front}
 use Rattle.archive_records.proofs.Laid.{length-bytes_so_far}
 use Rattle.archive_records.proofs.reader.read_magic.Goals as goal
@@ -13,29 +12,14 @@ pub returns-in-None-clause-stops : goal.returns-in-None-clause-stops
 returns-in-None-clause-stops g c = λ format is.
     let at = c.fill.new.buffer.at in
     let items = c.fill.new.buffer.bytes.items in
-    other_magic format (take at items) (omega (arith, c.in-Ok.ensures.ok, c.requires.start, c.fill.ensures.within, length-take at items)) (λ e. c.in-None.ensures.none format is (ap (take at) c.deref.ensures.value ∙ e))
+    other_magic format (take at items) (omega (arith, c.in-Ok.ensures.came, c.requires.start, c.fill.ensures.fills.within, length-take at items)) (λ e. c.in-None.ensures.none format is (ap (take at) c.deref.ensures.value ∙ e))
 
 pub returns-else-begins-clause-stops : goal.returns-else-begins-clause-stops
 returns-else-begins-clause-stops g c = λ format is.
     let at = c.fill.new.buffer.at in
     let items = c.fill.new.buffer.bytes.items in
     let value = c.deref-in-Err-Truncated.ensures.value in
-    other_front format (take at items) (omega (arith, c.in-Err-Truncated.ensures.err, c.requires.start, c.fill.ensures.within, length-take at items)) (λ e. false≢true (sym c.if-begins.false ∙ (rw value at (c.begins.ensures format is)).1 e))
-
-pub returns-in-Some-clause-taken : goal.returns-in-Some-clause-taken
-returns-in-Some-clause-taken g c = filled_first (g.R.Source.left c.args.r.now) (g.R.Source.left c.fill.new.r) c.args.buffer.now (bytes_so_far c.fill.new.buffer) c.requires.start c.fill.ensures.fills
-
-pub returns-in-None-clause-taken : goal.returns-in-None-clause-taken
-returns-in-None-clause-taken g c = filled_first (g.R.Source.left c.args.r.now) (g.R.Source.left c.fill.new.r) c.args.buffer.now (bytes_so_far c.fill.new.buffer) c.requires.start c.fill.ensures.fills
-
-pub returns-then-begins-clause-taken : goal.returns-then-begins-clause-taken
-returns-then-begins-clause-taken g c = filled_first (g.R.Source.left c.args.r.now) (g.R.Source.left c.fill.new.r) c.args.buffer.now (bytes_so_far c.fill.new.buffer) c.requires.start c.fill.ensures.fills
-
-pub returns-else-begins-clause-taken : goal.returns-else-begins-clause-taken
-returns-else-begins-clause-taken g c = filled_first (g.R.Source.left c.args.r.now) (g.R.Source.left c.fill.new.r) c.args.buffer.now (bytes_so_far c.fill.new.buffer) c.requires.start c.fill.ensures.fills
-
-pub returns-in-Err-Device-clause-taken : goal.returns-in-Err-Device-clause-taken
-returns-in-Err-Device-clause-taken g c = filled_first (g.R.Source.left c.args.r.now) (g.R.Source.left c.fill.new.r) c.args.buffer.now (bytes_so_far c.fill.new.buffer) c.requires.start c.fill.ensures.fills
+    other_front format (take at items) (omega (arith, c.in-Err-Truncated.ensures.came.0, c.requires.start, c.fill.ensures.fills.within, length-take at items)) (λ e. false≢true (sym c.if-begins.false ∙ (rw value at (c.begins.ensures format is)).1 e))
 
 pub returns-in-Some-clause-reader : goal.returns-in-Some-clause-reader
 returns-in-Some-clause-reader g c = c.in-Ok.ensures.reader
@@ -53,7 +37,7 @@ pub returns-in-Err-Device-clause-reader : goal.returns-in-Err-Device-clause-read
 returns-in-Err-Device-clause-reader g c = rw c.in-Err-Device.field-0-is at c.in-Err-Device.ensures.reader
 
 pub returns-in-Err-Device-clause-stops : goal.returns-in-Err-Device-clause-stops
-returns-in-Err-Device-clause-stops g c = λ format is. inr (inl (refl, omega (arith, c.in-Err-Device.ensures.err, c.requires.start, length-bytes_so_far c.fill.new.buffer c.fill.ensures.within)))
+returns-in-Err-Device-clause-stops g c = λ format is. inr (inl (refl, omega (arith, c.in-Err-Device.ensures.came.0, c.requires.start, length-bytes_so_far c.fill.new.buffer c.fill.ensures.fills.within)))
 
 pub returns-in-Some-clause-magic : goal.returns-in-Some-clause-magic
 returns-in-Some-clause-magic g c = (c.in-Some.ensures.found.0, ap (take c.fill.new.buffer.at) (sym c.deref.ensures.value) ∙ c.in-Some.ensures.found.1)

@@ -5,6 +5,7 @@ use Rattle.byte_device.proofs.Known.{Consumes-none}
 use Rattle.archive_records.specs.Kind.{magic_of}
 use Rattle.archive_records.specs.Reader.{bytes_so_far}
 use Rattle.archive_records.proofs.Apart.{apart_none, retired_none, drops_none}
+use Rattle.archive_records.proofs.Blamed.{filled_first}
 use Rattle.archive_records.proofs.FaultKinds.{memory_blames}
 use Rattle.archive_records.proofs.reader.RecordReader.begin.Goals as goal
 
@@ -14,7 +15,7 @@ returns-clause-read g c =
     let magic = c.in-Ok-read_magic.ensures.magic.1 in
     record {
       file_is = refl;
-      taken = subst (Consumes (g.R.Source.left c.args.r.now) (g.R.Source.left c.read_magic.new.r)) (magic ∙ sym (append-nil (magic_of file))) c.in-Ok-read_magic.ensures.taken;
+      taken = subst (Consumes (g.R.Source.left c.args.r.now) (g.R.Source.left c.read_magic.new.r)) (magic ∙ sym (append-nil (magic_of file))) (filled_first refl c.read_magic.ensures.fills);
       ordered = tt;
       apart = apart_none file;
       last_is = c.clear.ensures.items;
@@ -37,7 +38,7 @@ pub returns-in_default-none-clause-reader : goal.returns-in_default-none-clause-
 returns-in_default-none-clause-reader g c = rw c.out_of_memory-in_default-none.ensures (memory_blames g.R.Source.left g.R.Source.failures c.args.r.now c.args.r.now refl)
 
 pub returns-in-Err-clause-stops : goal.returns-in-Err-clause-stops
-returns-in-Err-clause-stops g c = (bytes_so_far c.read_magic.new.buffer, c.in-Err.ensures.taken, c.in-Err.ensures.stops)
+returns-in-Err-clause-stops g c = (bytes_so_far c.read_magic.new.buffer, filled_first refl c.read_magic.ensures.fills, c.in-Err.ensures.stops)
 
 pub returns-in-Err-clause-reader : goal.returns-in-Err-clause-reader
 returns-in-Err-clause-reader g c = c.in-Err.ensures.reader
