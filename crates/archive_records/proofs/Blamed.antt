@@ -1,6 +1,6 @@
 -- What steps that read say of the reader and of what they took: one alone, one behind the other, and one that failed.
 use Rattle.std.proofs.Common.{◌≡◌, ◌≢◌, ℕ, zero, suc, List, [], ◌∷◌, ◌++◌, length, take, drop, ap, refl, sym, ◌∙◌, subst, Option, arith, length-append, length-take, length-drop}
-use Rattle.std.specs.Prelude.{Result, Ok, Err, IfErr, IsErrAnd, OnOk}
+use Rattle.std.specs.Prelude.{Result, Ok, Err, IfErr, IsErrAnd}
 use Rattle.std.proofs.lemmas.Result.{err_from_is_err_and}
 use Rattle.std.specs.Io.KnownBytes.{Consumes, IsAtEnd}
 use Rattle.byte_device.specs.Devices.{FailedIn}
@@ -54,11 +54,6 @@ cut_same items cut at is = ap (take at) is ∙ cut_again items at
     cut_again [] (suc at) = refl
     cut_again (x ∷ xs) zero = refl
     cut_again (x ∷ xs) (suc at) = ap (λ (t : List ℕ). x ∷ t) (cut_again xs at)
-
--- what holds whatever the result is
-pub on_any : {T E : Type 0} {P : Type 0} (result : Result T E) → P → OnOk result P
-on_any (Ok value) p = p
-on_any (Err kind) p = tt
 
 -- a test of what came blames no reader
 pub tested_blames : {R T : Type 0} (left : R → Option (List ℕ)) (failures : R → ℕ) (old new : R) (result : Result T RecordFaultKind) → failures new ≡ failures old → IfErr result (λ kind. (kind ≢ Truncated) × (kind ≢ Device)) → BlamesReader left failures old new result

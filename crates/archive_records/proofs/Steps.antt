@@ -14,15 +14,15 @@ use Rattle.archive_records.specs.Fault.{next, IsUnended, IsCutAtMost, FailsNext,
 use Rattle.archive_records.specs.Reading.{Blames, IsOfMachine}
 use Rattle.archive_records.specs.declared.next.NextRecord.{NextRecord}
 use Rattle.archive_records.specs.declared.next.NextRecord.TheVariants.{End, Item}
-use Rattle.archive_core.specs.declared.slices.SliceFacts.{SliceFacts}
-use Rattle.archive_records.specs.Reader.{IfEnd, IfItem, Position, set_of, RetireAlike, KeepsIn, AreRetired, IsCoveredThere, Passes, Finishes, StopsAt, HasWhole, HasRead, HasReadAll, Stopped, StoppedWith, IsEnded, seen_as}
+use Rattle.archive_records.specs.Reader.{HoldsNext, IsStep, StepsTo, bytes_so_far, Position, set_of, RetireAlike, KeepsIn, AreRetired, IsCoveredThere, Passes, Finishes, StopsAt, HasWhole, HasRead, HasReadAll, Stopped, StoppedWith, IsEnded, seen_as}
 use Rattle.archive_records.proofs.Apart.{apart_more, retired_more, drops_more, covered_alike, last_of-push}
 use Rattle.archive_records.proofs.Puts.{concat-push}
-use Rattle.archive_records.proofs.Holds.{next-above}
+use Rattle.archive_records.specs.declared.buffer.Buffer.{Buffer}
+use Rattle.archive_records.proofs.Holds.{next-above, next-framed}
 use Rattle.archive_records.proofs.FaultKinds.{never_trailing, memory_blames}
-use Rattle.archive_records.proofs.Forms.{item-no_end}
+use Rattle.archive_records.proofs.Forms.{item-found, item-no_end}
 use Rattle.archive_records.proofs.Grown.{next-ok-grows}
-use Rattle.archive_records.proofs.Ends.{end-is_end, length-end_record, next_end, counted, counted_unended}
+use Rattle.archive_records.proofs.Ends.{is_three, ending_is, ended_is, end-is_end, length-end_record, next_end, counted, counted_unended}
 use Rattle.archive_records.proofs.Longest.{is_end-grows}
 use Rattle.archive_records.proofs.Undecided.{no_machine, device_seen, apart_whole, cut_text, cut_off, cut_behind}
 use Rattle.archive_records.specs.declared.format.Format.{Format}
@@ -152,14 +152,17 @@ module _ (file : Format) where
   pub Stopped-with : (a b c : Option (List ℕ)) (records : List (List ℕ)) (before : Position) (last : List ℕ) (fault : RecordFault) → HasRead file a b records before → (stop : StopsAt b c before fault) → (fault.kind ≡ OutOfMemory → HasWhole before.file stop.rest last) → StoppedWith file a c records fault last
   Stopped-with a b c records before last fault h stop whole = (Stopped-fails a b c records before fault h stop, λ memory. subst (λ (f : Format). HasWhole f stop.rest last) h.file_is (whole memory))
 
--- what holds at the end, and of an item, may be said in other words
-pub IfEnd-then : {P Q : Type 0} (step : NextRecord) → IfEnd step P → (P → Q) → IfEnd step Q
-IfEnd-then End p f = f p
-IfEnd-then (Item found) p f = tt
-
-pub IfItem-then : {P Q : Option SliceFacts → Type 0} (step : NextRecord) → IfItem step P → ((found : Option SliceFacts) → P found → Q found) → IfItem step Q
-IfItem-then End p f = tt
-IfItem-then (Item found) p f = f found p
+-- what a whole item or end record is that was read
+pub step_to : (file : Format) (last : List ℕ) (count : ℕ) (left : Option (List ℕ)) (buffer : Buffer) (step : NextRecord) → HoldsNext file last count buffer × IsStep file count (bytes_so_far buffer) step → StepsTo file last count left buffer step
+step_to file last count left buffer End h =
+    let bytes = bytes_so_far buffer in
+    let framed = next-framed file last count bytes (length bytes) h.0.is_next in
+    (ending_is file bytes (length bytes) count framed (is_three bytes h.1.0) h.1.1, ended_is file left bytes (length bytes) framed (is_three bytes h.1.0))
+step_to file last count left buffer (Item found) h = record {
+  whole = h.0.whole;
+  found_is = h.1;
+  follows = next-follows file last count (bytes_so_far buffer) h.0.is_next (item-found file (bytes_so_far buffer) found h.1);
+}
 
 -- a step, by what it read over the last record
 pub step_passes : (a b : Option (List ℕ)) (before after : Position) (bytes : List ℕ) → after.last ≡ bytes → Consumes a b bytes → IsItem before.file bytes → may_follow before.file before.last bytes ≡ true

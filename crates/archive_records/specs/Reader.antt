@@ -36,7 +36,7 @@ use Rattle.archive_records.specs.Entry.{IsEntry}
 use Rattle.archive_records.specs.Kind.{magic_of, kind_of, IsItem, may_follow}
 use Rattle.archive_records.specs.Layout.{framed, head_length}
 use Rattle.archive_records.specs.Text.{end_record, ending, text_of, InOrder, AreApart, last_of, taken_of}
-use Rattle.archive_records.specs.Fault.{FailsNext, Fails, IsTrailing, IsMagicFault, IsUnended, IsCutAtMost, IsOfText}
+use Rattle.archive_records.specs.Fault.{is_end, next, FailsNext, Fails, IsTrailing, IsMagicFault, IsUnended, IsCutAtMost, IsOfText}
 use Rattle.archive_records.specs.Front.{front_length}
 use Rattle.archive_records.specs.Reading.{Blames, IsOfMachine}
 
@@ -129,15 +129,33 @@ IsFoundIn Archive_text item found = IsFound item found
 IsFoundIn Operations_text item found = IsFound item found
 IsFoundIn Summary_text item found = IsEntry item × (found ≡ None)
 
--- what holds where the file ends
-abbrev pub IfEnd : NextRecord → Type 0 → Type 0
-IfEnd End holds = holds
-IfEnd (Item _) holds = Unit {0}
+-- a file without an end record ends with the input
+abbrev pub IsEnded : Format → Option (List ℕ) → Type 0
+IsEnded Archive left = Unit {0}
+IsEnded OldArchive left = Unit {0}
+IsEnded Operations_file left = IsAtEnd left
+IsEnded Summary_file left = Unit {0}
 
--- what holds of one item more
-abbrev pub IfItem : NextRecord → (Option SliceFacts → Type 0) → Type 0
-IfItem End holds = Unit {0}
-IfItem (Item found) holds = holds found
+-- The buffer holds the next item or end record behind the last record, whole, and nothing else.
+pub record HoldsNext (file : Format) (last : List ℕ) (count : ℕ) (buffer : Buffer) : Type 0 where
+  pub is_next : next file last count (bytes_so_far buffer) ≡ Ok (length (bytes_so_far buffer))
+  pub whole : buffer.bytes.items ≡ bytes_so_far buffer
+
+-- what the bytes are: the end record, or an item of which this was found out
+abbrev pub IsStep : Format → ℕ → List ℕ → NextRecord → Type 0
+IsStep file count bytes End = (is_end bytes ≡ true) × (bytes ≡ end_record count)
+IsStep file count bytes (Item found) = IsFoundIn (kind_of file) bytes found
+
+-- The buffer holds an item that may follow the last record, and nothing else, and this was found out of it.
+pub record HoldsItem (file : Format) (last : List ℕ) (buffer : Buffer) (found : Option SliceFacts) : Type 0 where
+  pub whole : buffer.bytes.items ≡ bytes_so_far buffer
+  pub found_is : IsFoundIn (kind_of file) (bytes_so_far buffer) found
+  pub follows : may_follow file last (bytes_so_far buffer) ≡ true
+
+-- what the buffer holds behind the last record, and where the source stands: what ends the file, or one item more
+abbrev pub StepsTo : Format → List ℕ → ℕ → Option (List ℕ) → Buffer → NextRecord → Type 0
+StepsTo file last count left buffer End = (bytes_so_far buffer ≡ ending file count) × IsEnded file left
+StepsTo file last count left buffer (Item found) = HoldsItem file last buffer found
 
 -- Where a reader of records stands: in which format, behind which last record, how many records and how many bytes,
 -- with which retirements of an archive, and whether the last record is dropped.
@@ -213,13 +231,6 @@ pub record Passes (a b : Option (List ℕ)) (before after : Position) : Type 0 w
   pub offset_is : after.offset ≡ before.offset + length after.last
   pub few : after.count < 2 ^ 63
   pub kept : KeepsIn before.file before.retired after.retired after.dropped after.last
-
--- a file without an end record ends with the input
-abbrev pub IsEnded : Format → Option (List ℕ) → Type 0
-IsEnded Archive left = Unit {0}
-IsEnded OldArchive left = Unit {0}
-IsEnded Operations_file left = IsAtEnd left
-IsEnded Summary_file left = Unit {0}
 
 -- What ends the file was read.
 pub record Finishes (a b : Option (List ℕ)) (before after : Position) : Type 0 where

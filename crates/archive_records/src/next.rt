@@ -1,17 +1,17 @@
 //! The next record, tested against what came before it.
 
-ghost use Rattle.std.specs.Prelude.{◌≡◌, ◌≢◌, ◌<◌, ◌≤◌, ℕ, List, length, Ok, Err, OnOk};
+ghost use Rattle.std.specs.Prelude.{◌≡◌, ◌≢◌, ◌<◌, ◌≤◌, ℕ, List, length, Ok, Err};
 ghost use Rattle.std.specs.Prelude.{IfOk, IfErr, MatchResult, IsTrue, ◌↔◌, true, false};
 ghost use Rattle.std.specs.Io.KnownBytes.{Consumes};
 ghost use Rattle.archive_records.specs.declared.fault.RecordFaultKind.TheVariants.{Truncated, Device};
 ghost use Rattle.archive_records.specs.declared.format.Format.TheVariants.{Archive, Operations};
 ghost use Rattle.archive_records.specs.Kind.{may_follow, kind_of};
 ghost use Rattle.archive_records.specs.Layout.{framed};
-ghost use Rattle.archive_records.specs.Text.{end_record, ending};
+ghost use Rattle.archive_records.specs.Text.{end_record};
 ghost use Rattle.archive_records.specs.Fault.{is_end, tested, next, RefusesSlice, Refuses};
 ghost use Rattle.archive_records.specs.Fault.{FailsNext, IsUnended, IsOfText};
-ghost use Rattle.archive_records.specs.Reader.{BlamesReader, bytes_so_far, seen_as, IsEnded};
-ghost use Rattle.archive_records.specs.Reader.{IsFound, IsFoundIn, IfEnd, IfItem};
+ghost use Rattle.archive_records.specs.Reader.{BlamesReader, bytes_so_far, seen_as, IsFound, IsFoundIn};
+ghost use Rattle.archive_records.specs.Reader.{HoldsNext, IsStep, StepsTo};
 
 use crate::buffer::Buffer;
 use crate::fault::RecordFaultKind;
@@ -68,11 +68,9 @@ fn read_in_order<R: Source>(
     ensures within { buffer.new.at ≤ length buffer.new.bytes.items }
     ensures taken { Consumes (R.left r.old) (R.left r.new) (bytes_so_far buffer.new) }
     ensures next { MatchResult result
-        (λ _. next file buffer.old.bytes.items count (bytes_so_far buffer.new) ≡ Ok (length (bytes_so_far buffer.new)))
+        (λ end. HoldsNext file buffer.old.bytes.items count buffer.new
+        × (end ≡ is_end (bytes_so_far buffer.new)) × (end ≡ true → bytes_so_far buffer.new ≡ end_record count))
         (λ kind. next file buffer.old.bytes.items count (bytes_so_far buffer.new) ≡ Err (seen_as kind)) }
-    ensures whole { OnOk result (buffer.new.bytes.items ≡ bytes_so_far buffer.new) }
-    ensures end { IfOk result (λ end. end ≡ is_end (bytes_so_far buffer.new)) }
-    ensures end_is { IfOk result (λ end. end ≡ true → bytes_so_far buffer.new ≡ end_record count) }
     ensures reader { BlamesReader R.left R.failures r.old r.new result }
 {
     read_record(file, r, chunk, buffer)?;
@@ -126,15 +124,10 @@ fn read_tested<R: Source>(
     requires { 0 < length chunk.old }
     ensures within { buffer.new.at ≤ length buffer.new.bytes.items }
     ensures taken { Consumes (R.left r.old) (R.left r.new) (bytes_so_far buffer.new) }
-    ensures next { OnOk result
-        (next file buffer.old.bytes.items count (bytes_so_far buffer.new) ≡ Ok (length (bytes_so_far buffer.new))) }
+    ensures step { IfOk result (λ step. HoldsNext file buffer.old.bytes.items count buffer.new
+        × IsStep file count (bytes_so_far buffer.new) step) }
     ensures fails { IfErr result (λ kind.
         FailsNext file buffer.old.bytes.items count (bytes_so_far buffer.new) (seen_as kind)) }
-    ensures whole { OnOk result (buffer.new.bytes.items ≡ bytes_so_far buffer.new) }
-    ensures end { IfOk result (λ step. IfEnd step ((is_end (bytes_so_far buffer.new) ≡ true)
-        × (bytes_so_far buffer.new ≡ end_record count))) }
-    ensures item { IfOk result (λ step. IfItem step (λ found.
-        IsFoundIn (kind_of file) (bytes_so_far buffer.new) found)) }
     ensures reader { BlamesReader R.left R.failures r.old r.new result }
 {
     let end = read_in_order(file, r, chunk, buffer, count)?;
@@ -164,13 +157,7 @@ pub fn read_next<R: Source>(
 ) -> Result<NextRecord, RecordFaultKind>
     requires { 0 < length chunk.old }
     ensures taken { Consumes (R.left r.old) (R.left r.new) (bytes_so_far buffer.new) }
-    ensures end { IfOk result (λ step. IfEnd step (bytes_so_far buffer.new ≡ ending file count)) }
-    ensures ends { IfOk result (λ step. IfEnd step (IsEnded file (R.left r.new))) }
-    ensures whole { IfOk result (λ step. IfItem step (λ _. buffer.new.bytes.items ≡ bytes_so_far buffer.new)) }
-    ensures item { IfOk result (λ step. IfItem step (λ found.
-        IsFoundIn (kind_of file) (bytes_so_far buffer.new) found)) }
-    ensures follows { IfOk result (λ step. IfItem step (λ _.
-        may_follow file buffer.old.bytes.items (bytes_so_far buffer.new) ≡ true)) }
+    ensures step { IfOk result (StepsTo file buffer.old.bytes.items count (R.left r.new) buffer.new) }
     ensures fails { IfErr result (λ kind.
         FailsNext file buffer.old.bytes.items count (bytes_so_far buffer.new) (seen_as kind)) }
     ensures unended { IfErr result (λ kind. IsOfText kind → IsUnended file (bytes_so_far buffer.new)) }

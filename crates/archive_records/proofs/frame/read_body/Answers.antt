@@ -1,9 +1,9 @@
-use Rattle.std.proofs.Common.{refl, length, take, ◌≤◌, ◌<◌, ◌+◌, ◌++◌, arith, ◌≡◌, get_or, Some, Ok, Err, ◌∙◌, ap, List, ℕ, Result}
+use Rattle.std.proofs.Common.{refl, length, take, ◌≤◌, ◌<◌, ◌+◌, ◌++◌, arith, ◌≡◌, get_or, Ok, Err, ◌∙◌, ap, List, ℕ, Result}
 use Rattle.std.specs.Prelude.{MatchResult}
 use Rattle.byte_device.proofs.Known.{Consumes-none}
 use Rattle.archive_records.specs.declared.fault.RecordFaultKind.{RecordFaultKind}
 use Rattle.archive_records.specs.declared.fault.RecordFaultKind.TheVariants.{Truncated}
-use Rattle.archive_records.specs.Layout.{head_length, body_length, framed, largest_slice}
+use Rattle.archive_records.specs.Layout.{body_length, framed, largest_slice}
 use Rattle.archive_records.proofs.Framed.{seen, framed-large, grown-body, grown-whole}
 use Rattle.archive_records.specs.declared.buffer.Buffer.{Buffer}
 use Rattle.archive_records.specs.Reader.{IsHead, bytes_so_far, seen_as}

@@ -15,30 +15,25 @@ shared_of = option_map (λ s. s.now)
 
 pub returns-in-Ok-End : goal.returns-in-Ok-End
 returns-in-Ok-End g c =
-    let end = rw c.in-Ok-End.field-0-is at c.in-Ok-End.ensures.end in
-    let ends = rw c.in-Ok-End.field-0-is at c.in-Ok-End.ensures.ends in
-    let taken = subst (Consumes (g.R.Source.left c.args.r.now) (g.R.Source.left c.read_next.new.r)) end c.read_next.ensures.taken in
-    rw (← c.self.view_is) (record { taken = taken; ended = ends; file_is = refl; count_is = refl; offset_is = refl; few = c.self.invariant.0.few; retired_is = refl }, c.in-Ok-End.ensures.reader)
+    let step = rw c.in-Ok-End.field-0-is at c.in-Ok-End.ensures.step in
+    let taken = subst (Consumes (g.R.Source.left c.args.r.now) (g.R.Source.left c.read_next.new.r)) step.0 c.read_next.ensures.taken in
+    rw (← c.self.view_is) (record { taken = taken; ended = step.1; file_is = refl; count_is = refl; offset_is = refl; few = c.self.invariant.0.few; retired_is = refl }, c.in-Ok-End.ensures.reader)
 
 pub returns-else-self-eq-MOST : goal.returns-else-self-eq-MOST
 returns-else-self-eq-MOST g c =
-    let found = rw c.in-Ok-Item.field-0-is at c.in-Ok-Item.ensures.item in
-    let whole = rw c.in-Ok-Item.field-0-is at c.in-Ok-Item.ensures.whole in
-    let follows = rw c.in-Ok-Item.field-0-is at c.in-Ok-Item.ensures.follows in
+    let step = rw c.in-Ok-Item.field-0-is at c.in-Ok-Item.ensures.step in
     let offset = ap (λ n. c.self.inside.offset + n) (c.len.ensures ∙ c.read_next.new.buffer.bytes.ok.0) in
     let few = c.self.invariant.0.few in
-    let kept = subst (KeepsIn c.self.inside.file (with_shared (shared_of c.args.shared) c.self.inside.retired) (with_shared (shared_of c.args.shared) c.keep.new.retired) c.in-Ok.dropped) (c.deref.ensures.value ∙ whole) c.in-Ok.ensures.kept in
+    let kept = subst (KeepsIn c.self.inside.file (with_shared (shared_of c.args.shared) c.self.inside.retired) (with_shared (shared_of c.args.shared) c.keep.new.retired) c.in-Ok.dropped) (c.deref.ensures.value ∙ step.whole) c.in-Ok.ensures.kept in
     rw (← c.self.view_is)
-    (step_passes _ _ _ _ (bytes_so_far c.read_next.new.buffer) whole c.read_next.ensures.taken (item-found c.self.inside.file _ c.in-Ok-Item.found found) follows refl refl offset (omega (arith, c.if-self-eq-MOST.false)) kept, c.in-Ok-Item.ensures.reader, rw c.deref.ensures.value at c.keep.ensures.found)
+    (step_passes _ _ _ _ (bytes_so_far c.read_next.new.buffer) step.whole c.read_next.ensures.taken (item-found c.self.inside.file _ c.in-Ok-Item.found step.found_is) step.follows refl refl offset (omega (arith, c.if-self-eq-MOST.false)) kept, c.in-Ok-Item.ensures.reader, rw c.deref.ensures.value at c.keep.ensures.found)
 
 pub returns-in-Err-keep : goal.returns-in-Err-keep
 returns-in-Err-keep g c =
-    let found = rw c.in-Ok-Item.field-0-is at c.in-Ok-Item.ensures.item in
-    let whole = rw c.in-Ok-Item.field-0-is at c.in-Ok-Item.ensures.whole in
-    let follows = rw c.in-Ok-Item.field-0-is at c.in-Ok-Item.ensures.follows in
-    let refused = rw (c.deref.ensures.value, whole) at c.in-Err-keep.ensures.refused in
+    let step = rw c.in-Ok-Item.field-0-is at c.in-Ok-Item.ensures.step in
+    let refused = rw (c.deref.ensures.value, step.whole) at c.in-Err-keep.ensures.refused in
     let before : Position = record { file = c.self.inside.file; last = c.self.inside.buffer.bytes.items; count = c.self.inside.count; offset = c.self.inside.offset; retired = with_shared (shared_of c.args.shared) c.self.inside.retired; dropped = c.self.inside.dropped } in
-    let stop = step_refused (g.R.Source.left c.args.r.now) (g.R.Source.left c.read_next.new.r) before c.read_next.new.buffer.bytes.items (bytes_so_far c.read_next.new.buffer) c.in-Err-keep.kind whole c.read_next.ensures.taken c.self.invariant.0.few (item-found c.self.inside.file _ c.in-Ok-Item.found found) follows refused in
+    let stop = step_refused (g.R.Source.left c.args.r.now) (g.R.Source.left c.read_next.new.r) before c.read_next.new.buffer.bytes.items (bytes_so_far c.read_next.new.buffer) c.in-Err-keep.kind step.whole c.read_next.ensures.taken c.self.invariant.0.few (item-found c.self.inside.file _ c.in-Ok-Item.found step.found_is) step.follows refused in
     rw (← c.self.view_is) (
       stop.0,
       refused_blames g.R.Source.left g.R.Source.failures c.args.r.now c.read_next.new.r before (bytes_so_far c.read_next.new.buffer) c.in-Err-keep.kind c.in-Ok-Item.ensures.reader refused,
@@ -47,10 +42,8 @@ returns-in-Err-keep g c =
 
 pub returns-then-self-eq-MOST : goal.returns-then-self-eq-MOST
 returns-then-self-eq-MOST g c =
-    let found = rw c.in-Ok-Item.field-0-is at c.in-Ok-Item.ensures.item in
-    let whole = rw c.in-Ok-Item.field-0-is at c.in-Ok-Item.ensures.whole in
-    let follows = rw c.in-Ok-Item.field-0-is at c.in-Ok-Item.ensures.follows in
-    let kept = subst (KeepsIn c.self.inside.file (with_shared (shared_of c.args.shared) c.self.inside.retired) (with_shared (shared_of c.args.shared) c.keep.new.retired) c.in-Ok.dropped) (c.deref.ensures.value ∙ whole) c.in-Ok.ensures.kept in
+    let step = rw c.in-Ok-Item.field-0-is at c.in-Ok-Item.ensures.step in
+    let kept = subst (KeepsIn c.self.inside.file (with_shared (shared_of c.args.shared) c.self.inside.retired) (with_shared (shared_of c.args.shared) c.keep.new.retired) c.in-Ok.dropped) (c.deref.ensures.value ∙ step.whole) c.in-Ok.ensures.kept in
     rw (← c.self.view_is, c.out_of_memory.ensures) (
       record {
         rest = bytes_so_far c.read_next.new.buffer;
@@ -58,15 +51,15 @@ returns-then-self-eq-MOST g c =
         unended = λ known. absurd (known.1 refl);
         fails = λ known. absurd (known refl);
         wanted = λ _. inr (record {
-          item = item-found c.self.inside.file _ c.in-Ok-Item.found found;
-          follows = follows;
+          item = item-found c.self.inside.file _ c.in-Ok-Item.found step.found_is;
+          follows = step.follows;
           uncovered = kept_uncovered c.self.inside.file (with_shared (shared_of c.args.shared) c.self.inside.retired) (with_shared (shared_of c.args.shared) c.keep.new.retired) c.in-Ok.dropped (bytes_so_far c.read_next.new.buffer) kept;
         });
         offset_is = refl;
         few = c.self.invariant.0.few;
       },
       memory_blames g.R.Source.left g.R.Source.failures c.args.r.now c.read_next.new.r c.in-Ok-Item.ensures.reader,
-      λ _. inl (item-found c.self.inside.file _ c.in-Ok-Item.found found, whole),
+      λ _. inl (item-found c.self.inside.file _ c.in-Ok-Item.found step.found_is, step.whole),
     )
 
 pub returns-in-Err : goal.returns-in-Err
@@ -87,9 +80,8 @@ returns-in-Err g c =
 
 pub keep-requires : goal.keep-requires
 keep-requires g c =
-    let found = rw c.in-Ok-Item.field-0-is at c.in-Ok-Item.ensures.item in
-    let whole = rw c.in-Ok-Item.field-0-is at c.in-Ok-Item.ensures.whole in
-    subst (λ (bytes : List ℕ). IsFoundIn (kind_of c.self.inside.file) bytes c.in-Ok-Item.found) (sym (c.deref.ensures.value ∙ whole)) found
+    let step = rw c.in-Ok-Item.field-0-is at c.in-Ok-Item.ensures.step in
+    subst (λ (bytes : List ℕ). IsFoundIn (kind_of c.self.inside.file) bytes c.in-Ok-Item.found) (sym (c.deref.ensures.value ∙ step.whole)) step.found_is
 
 pub invariant_of-self : goal.invariant_of-self
 invariant_of-self g c =
