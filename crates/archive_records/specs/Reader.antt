@@ -36,7 +36,8 @@ use Rattle.archive_records.specs.Entry.{IsEntry}
 use Rattle.archive_records.specs.Kind.{magic_of, kind_of, IsItem, may_follow}
 use Rattle.archive_records.specs.Layout.{framed, head_length}
 use Rattle.archive_records.specs.Text.{end_record, ending, text_of, InOrder, AreApart, last_of, taken_of}
-use Rattle.archive_records.specs.Fault.{is_end, next, FailsNext, Fails, IsTrailing, IsMagicFault, IsUnended, IsCutAtMost, IsOfText}
+use Rattle.archive_records.specs.Fault.{is_end, next, FailsNext, Fails, IsTrailing, IsMagicFault, IsUnended}
+use Rattle.archive_records.specs.Fault.{IsCutAtMost, IsOfText}
 use Rattle.archive_records.specs.Front.{front_length}
 use Rattle.archive_records.specs.Reading.{Blames, IsOfMachine}
 
@@ -50,7 +51,8 @@ pub record Over (last : List ℕ) (b : Buffer) : Type 0 where
   pub rest : b.order ≡ Equal → drop b.at b.bytes.items ≡ drop b.at last
   pub order : b.order ≡ slice_cmp nat_cmp (take b.at last) (bytes_so_far b)
 
--- The buffer grew by the bytes that were taken from the source, and stands over each last record that it stood over.
+-- The buffer grew by the bytes that were taken from the source, has them all, and stands over each last record that it
+-- stood over.
 pub record Fills (left_old left_new : Option (List ℕ)) (old new : Buffer) : Type 0 where
   pub within : new.at ≤ length new.bytes.items
   pub more : List ℕ
