@@ -5,13 +5,13 @@ ghost use Rattle.byte_device.specs.Devices.{FailedIn};
 ghost use Rattle.archive_records.specs.declared.fault.MergeCause.TheVariants.{Write};
 ghost use Rattle.record_merge.specs.Merging.{GainsCount, Merges};
 ghost use Rattle.byte_device.specs.Devices.{stream};
-ghost use Rattle.record_merge.specs.MergeSteps.{BlamesDevices, Fits, Leaves, Merging, StopsMerge};
+ghost use Rattle.record_merge.specs.MergeSteps.{BlamesDevices, Fits, HasEnded, Leaves, Merging, StopsMerge};
 ghost use Rattle.record_merge.specs.Sides.{sides_of};
 ghost use Rattle.record_merge.specs.declared.turns.Turn.{Turn};
 ghost use Rattle.record_merge.specs.TellingSteps.{Telling, ToldAll};
 
 use crate::merging::{Merge, merge_records};
-use crate::side::{Lookahead, MergeInput};
+use crate::side::MergeInput;
 use archive_core::Retirements;
 use archive_records::{Format, MergeCause, MergeFault, RecordFault, Sizes, put_end};
 use byte_device::{Sink, Source, put};
@@ -69,9 +69,7 @@ pub fn begin_both<R: Source, S: Source, W: Sink>(
 
 /// Writes the end record.
 pub fn finish<W: Sink>(w: &mut W, m: &Merge) -> Result<Sizes, MergeFault>
-    requires fits { Fits (sides_of m.now) }
-    requires left_end { m.now.left.ahead ≡ Lookahead.Ended }
-    requires right_end { m.now.right.ahead ≡ Lookahead.Ended }
+    requires { HasEnded (sides_of m.now) }
     ensures leaves { (a1 b1 a2 b2 w0 : Option (List ℕ)) → Merging a1 b1 a2 b2 w0 (W.held w.old) (sides_of m.now)
         → Leaves a1 b1 a2 b2 w0 (W.held w.new) result }
     ensures told { (a1 b1 a2 b2 w0 : Option (List ℕ)) (told : List Turn) (withdraws : Bool)

@@ -12,8 +12,8 @@ ghost use Rattle.archive_core.specs.Content.{IsContent, Operations, is_covered};
 ghost use Rattle.archive_records.specs.Text.{IsArchiveOf};
 ghost use Rattle.archive_records.specs.declared.fault.MergeCause.TheVariants.{Right};
 ghost use Rattle.record_merge.specs.Merging.{GainsCount, Merges};
-ghost use Rattle.record_merge.specs.MergeSteps.{BlamesDevices, Fits, HasStoppedMerge, IsRead, Leaves, Merging};
-ghost use Rattle.record_merge.specs.MergeSteps.{cost_of, first_of, memory_behind};
+ghost use Rattle.record_merge.specs.MergeSteps.{BlamesDevices, Fits, HasEnded, HasStoppedMerge, IsBeforeTurn, IsReadOn};
+ghost use Rattle.record_merge.specs.MergeSteps.{Leaves, Merging, cost_of, first_of, memory_behind};
 ghost use Rattle.record_merge.specs.Sides.{sides_of};
 ghost use Rattle.record_merge.specs.Telling.{HasOperations, IsMergedTelling};
 ghost use Rattle.record_merge.specs.TellingSteps.{Telling, TellsNext, ToldAll, has_next, told_with};
@@ -97,9 +97,7 @@ fn tell_and_read_on<R: Source, S: Source>(
         (λ _. Telling a1 (R.left r1.new) a2 (S.left r2.new) w0 w1 (sides_of m.new) told.new.turns.items
         told.new.withdraws)
         (λ e. HasStoppedMerge a1 (R.left r1.new) a2 (S.left r2.new) w0 w1 e) }
-    ensures fits { OnOk result (Fits (sides_of m.new)) }
-    ensures read { OnOk result (IsRead (sides_of m.new)) }
-    ensures less { OnOk result (cost_of (sides_of m.new) ≤ cost_of (sides_of m.old)) }
+    ensures read { OnOk result (IsReadOn (sides_of m.old) (sides_of m.new)) }
     ensures devices { BlamesDevices (stream R.left R.failures r1.old r1.new) (stream S.left S.failures r2.old r2.new)
         0 0 result }
 {
@@ -116,9 +114,7 @@ fn give_turn<R: Source, S: Source, W: Sink>(
     m: &mut Merge,
     told: &mut Told,
 ) -> Result<(), MergeFault>
-    requires fits { Fits (sides_of m.old) }
-    requires read { IsRead (sides_of m.old) }
-    requires some { m.old.left.ahead ≡ Lookahead.Ended → m.old.right.ahead ≡ Lookahead.Held }
+    requires { IsBeforeTurn (sides_of m.old) }
     ensures telling { (a1 a2 w0 : Option (List ℕ))
         → Telling a1 (R.left r1.old) a2 (S.left r2.old) w0 (W.held w.old) (sides_of m.old) told.old.turns.items
         told.old.withdraws
@@ -126,8 +122,7 @@ fn give_turn<R: Source, S: Source, W: Sink>(
         (λ _. Telling a1 (R.left r1.new) a2 (S.left r2.new) w0 (W.held w.new) (sides_of m.new) told.new.turns.items
         told.new.withdraws)
         (λ e. HasStoppedMerge a1 (R.left r1.new) a2 (S.left r2.new) w0 (W.held w.new) e) }
-    ensures fits { OnOk result (Fits (sides_of m.new)) }
-    ensures read { OnOk result (IsRead (sides_of m.new)) }
+    ensures read { OnOk result (IsReadOn (sides_of m.old) (sides_of m.new)) }
     ensures less { OnOk result (cost_of (sides_of m.new) < cost_of (sides_of m.old)) }
     ensures devices { BlamesDevices (stream R.left R.failures r1.old r1.new) (stream S.left S.failures r2.old r2.new)
         (W.failures w.old) (W.failures w.new) result }
@@ -156,9 +151,7 @@ fn tell_records<R: Source, S: Source, W: Sink>(
         (λ _. Telling a1 (R.left r1.new) a2 (S.left r2.new) w0 (W.held w.new) (sides_of m.new) told.new.turns.items
         told.new.withdraws)
         (λ e. HasStoppedMerge a1 (R.left r1.new) a2 (S.left r2.new) w0 (W.held w.new) e) }
-    ensures fits { OnOk result (Fits (sides_of m.new)) }
-    ensures left_end { OnOk result (m.new.left.ahead ≡ Lookahead.Ended) }
-    ensures right_end { OnOk result (m.new.right.ahead ≡ Lookahead.Ended) }
+    ensures ended { OnOk result (HasEnded (sides_of m.new)) }
     ensures devices { BlamesDevices (stream R.left R.failures r1.old r1.new) (stream S.left S.failures r2.old r2.new)
         (W.failures w.old) (W.failures w.new) result }
 {

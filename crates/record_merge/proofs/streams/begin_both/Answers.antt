@@ -6,24 +6,24 @@ use Rattle.record_merge.proofs.streams.begin_both.Goals as goal
 
 pub returns-in-Ok-put-clause-merging : goal.returns-in-Ok-put-clause-merging
 returns-in-Ok-put-clause-merging g c =
-    let o = c.in-Ok-put.ensures.ok in
+    let o = c.in-Ok-put.ensures in
     let l = c.in-Ok-begin.ensures in
     let r = c.in-Ok-begin-2.ensures in
-    rw c.in-Ok.ensures (merging_start _ _ _ _ _ _ c.in-Ok-begin.side c.in-Ok-begin-2.side l.archive r.archive l.read r.read l.unread r.unread c.magic.result c.magic.ensures c.in-Ok-put.bytes o.0 o.1)
+    rw c.in-Ok.ensures (merging_start _ _ _ _ _ _ c.in-Ok-begin.side c.in-Ok-begin-2.side l.archive r.archive l.read r.read l.unread r.unread c.magic.result c.magic.ensures c.in-Ok-put.bytes o.size_is o.gained)
 
 pub returns-in-Err-put-clause-merging : goal.returns-in-Err-put-clause-merging
 returns-in-Err-put-clause-merging g c =
-    let e = c.in-Err-put.ensures.err in
+    let e = c.in-Err-put.ensures in
     let l = c.in-Ok-begin.ensures in
     let r = c.in-Ok-begin-2.ensures in
-    stops_start _ _ _ _ _ _ c.in-Ok-begin.side c.in-Ok-begin-2.side l.archive r.archive l.read r.read l.unread r.unread c.magic.result c.magic.ensures c.in-Err-put.fault.written e.0 e.1 e.2
+    stops_start _ _ _ _ _ _ c.in-Ok-begin.side c.in-Ok-begin-2.side l.archive r.archive l.read r.read l.unread r.unread c.magic.result c.magic.ensures c.in-Err-put.fault.written e.some e.written_is e.first
 
 pub returns-in-Ok-put-clause-telling : goal.returns-in-Ok-put-clause-telling
 returns-in-Ok-put-clause-telling g c =
-    let o = c.in-Ok-put.ensures.ok in
+    let o = c.in-Ok-put.ensures in
     let l = c.in-Ok-begin.ensures in
     let r = c.in-Ok-begin-2.ensures in
-    rw c.in-Ok.ensures (tells_start _ _ _ _ _ _ c.in-Ok-begin.side c.in-Ok-begin-2.side l.archive r.archive l.read r.read l.unread r.unread c.magic.result c.magic.ensures c.in-Ok-put.bytes o.0 o.1)
+    rw c.in-Ok.ensures (tells_start _ _ _ _ _ _ c.in-Ok-begin.side c.in-Ok-begin-2.side l.archive r.archive l.read r.read l.unread r.unread c.magic.result c.magic.ensures c.in-Ok-put.bytes o.size_is o.gained)
 
 pub returns-in-Err-begin-clause-merging : goal.returns-in-Err-begin-clause-merging
 returns-in-Err-begin-clause-merging g c =
