@@ -33,7 +33,7 @@ use Rattle.archive_records.proofs.KeptRecords.{long_record}
 use Rattle.archive_records.proofs.Puts.{bytes_same}
 use Rattle.archive_records.proofs.Undecided.{cut_off}
 use Rattle.record_merge.specs.Sides.{Sides}
-use Rattle.record_merge.specs.declared.side.Lookahead.TheVariants.{Unread, Held, Ended}
+use Rattle.record_merge.specs.declared.side.Lookahead.TheVariants.{Unread}
 use Rattle.record_merge.specs.declared.side.MergeInput.{MergeInput}
 use Rattle.record_merge.specs.declared.turns.Turn.{Turn}
 use Rattle.record_merge.specs.MergeSteps.{HasEnded, HasStoppedMerge, IsBeforeTurn, Joins, MergedAll, Merging, Stands, TellsBy, TellsCovered, after_turn, first_of, left_after, memory_behind, next_record, next_record_by, right_after}

@@ -88,7 +88,7 @@ next_record m = next_record_by (first_of m.left m.right) m
 abbrev pub unread_of : MergeInput → MergeInput
 unread_of s = record { reader = s.reader; ahead = Unread }
 
--- a side whose record is among the next, or is not
+-- each side after the turn of the record that is next, which is the left one's, both sides', or the right one's
 abbrev pub left_after : Ordering → MergeInput → MergeInput
 left_after Less s = unread_of s
 left_after Equal s = unread_of s
@@ -100,11 +100,12 @@ right_after Equal s = unread_of s
 right_after Greater s = unread_of s
 
 -- both sides once the record that is next had its turn, where so much was written
-abbrev pub after_turn_by : Ordering → Sides → Sizes → Sides
-after_turn_by o m written = record { left = left_after o m.left; right = right_after o m.right; written = written }
-
 abbrev pub after_turn : Sides → Sizes → Sides
-after_turn m written = after_turn_by (first_of m.left m.right) m written
+after_turn m written = record {
+  left = left_after (first_of m.left m.right) m.left;
+  right = right_after (first_of m.left m.right) m.right;
+  written = written;
+}
 
 -- whether the record that is next was dropped by a side that has it, or a retirement of the other side covers it
 abbrev pub TellsBy : Ordering → MergeInput → MergeInput → Bool → Type 0
@@ -305,6 +306,13 @@ HasStoppedMerge a1 b1 a2 b2 w0 w1 e = ByCause e.cause
     (λ fault. RightRefused a1 b1 a2 b2 w0 w1 fault e.written)
     (WriteStopped a1 b1 a2 b2 w0 w1 e.written)
 
+-- What a call makes of a merge, of the inputs and the output before it and after it: it goes on, or stops.
+abbrev pub MergesOn : {T : Type 0} → Option (List ℕ) → Option (List ℕ) → Option (List ℕ) → Option (List ℕ)
+    → Option (List ℕ) → Option (List ℕ) → Sides → Sides → Result T MergeFault → Type 0
+MergesOn b1 c1 b2 c2 w1 w2 old new result =
+    (a1 a2 w0 : Option (List ℕ)) → Merging a1 b1 a2 b2 w0 w1 old
+    → MatchResult result (λ _. Merging a1 c1 a2 c2 w0 w2 new) (λ e. HasStoppedMerge a1 c1 a2 c2 w0 w2 e)
+
 -- how it stops at all: before the magic is written, too
 abbrev pub StopsMerge : Option (List ℕ) → Option (List ℕ) → Option (List ℕ) → Option (List ℕ)
     → Option (List ℕ) → Option (List ℕ) → MergeFault → Type 0
@@ -388,7 +396,8 @@ pub record IsBeforeTurn (m : Sides) : Type 0 where
   pub read : IsRead m
   pub some : m.left.ahead ≡ Ended → m.right.ahead ≡ Held
 
--- The record that was next had its turn: where the right side has it, that side is to be read on.
+-- The record that was next had its turn: where the right side has it, that side is to be read on. The numbers fit,
+-- and there is less to do.
 pub record HadTurn (old new : Sides) : Type 0 where
   pub fits : Fits new
   pub had : first_of old.left old.right ≢ Less → new.right.ahead ≡ Unread

@@ -2,13 +2,13 @@
 //! that it came from are read on.
 
 ghost use Rattle.std.specs.Prelude.{◌≡◌, ◌+◌, ◌*◌, ◌^◌, ◌<◌, ◌≤◌, ℕ, List, Option, OnOk};
-ghost use Rattle.std.specs.Prelude.{Bool, IfErr, IfOk, MatchResult, IsTrue, ◌↔◌, ◌≢◌, ◌&&◌, ◌||◌, true, false};
+ghost use Rattle.std.specs.Prelude.{Bool, IfErr, IfOk, IsTrue, ◌↔◌, ◌≢◌, ◌&&◌, ◌||◌, true, false};
 ghost use Rattle.byte_device.specs.Writes.{Puts};
 ghost use Rattle.record_merge.specs.Merging.{most_records};
 ghost use Rattle.byte_device.specs.Devices.{stream};
-ghost use Rattle.record_merge.specs.MergeSteps.{BlamesDevices, Fits, HasEnded, HasStoppedMerge, IsRead, IsReadOn};
-ghost use Rattle.record_merge.specs.MergeSteps.{HadTurn, IsBeforeTurn, IsLastOfBoth, IsOneMore, IsRefusedMore, IsToldOfRight};
-ghost use Rattle.record_merge.specs.MergeSteps.{BlamesLeft, BlamesRight, BlamesWriter, Merging, TellsCovered};
+ghost use Rattle.record_merge.specs.MergeSteps.{BlamesDevices, BlamesLeft, BlamesRight, BlamesWriter, Fits, HadTurn};
+ghost use Rattle.record_merge.specs.MergeSteps.{HasEnded, IsBeforeTurn, IsLastOfBoth, IsOneMore, IsRead, IsReadOn};
+ghost use Rattle.record_merge.specs.MergeSteps.{IsRefusedMore, IsToldOfRight, Merging, MergesOn, TellsCovered};
 ghost use Rattle.record_merge.specs.MergeSteps.{after_turn, cost_of, first_of, next_record, unread_of};
 ghost use Rattle.record_merge.specs.Sides.{sides_of};
 ghost use Rattle.record_merge.specs.declared.turns.Turn.{Turn};
@@ -175,10 +175,8 @@ fn write_first<W: Sink>(w: &mut W, m: &mut Merge) -> Result<(), WriteFault>
 /// or sides that it came from are left to be read on. Tells whether it was passed over.
 pub fn take_turn<W: Sink>(w: &mut W, m: &mut Merge) -> Result<bool, MergeFault>
     requires { IsBeforeTurn (sides_of m.old) }
-    ensures merging { (a1 b1 a2 b2 w0 : Option (List ℕ)) → Merging a1 b1 a2 b2 w0 (W.held w.old) (sides_of m.old)
-        → MatchResult result
-        (λ _. Merging a1 b1 a2 b2 w0 (W.held w.new) (sides_of m.new))
-        (λ e. HasStoppedMerge a1 b1 a2 b2 w0 (W.held w.new) e) }
+    ensures merging { (left right : Option (List ℕ))
+        → MergesOn left left right right (W.held w.old) (W.held w.new) (sides_of m.old) (sides_of m.new) result }
     ensures telling { (a1 b1 a2 b2 w0 : Option (List ℕ)) (told : List Turn) (withdraws : Bool) (turn : Option Turn)
         → Telling a1 b1 a2 b2 w0 (W.held w.old) (sides_of m.old) told withdraws → TellsNext (sides_of m.old) turn
         → IfOk result (λ passed. Telling a1 b1 a2 b2 w0 (W.held w.new) (sides_of m.new) (told_with told turn)
@@ -229,10 +227,8 @@ pub fn share(m: &mut Merge)
 /// Reads the left side on, where its last record had its turn.
 pub fn read_left<R: Source>(r1: &mut R, m: &mut Merge) -> Result<(), MergeFault>
     requires { Fits (sides_of m.old) }
-    ensures merging { (a1 a2 b2 w0 w1 : Option (List ℕ)) → Merging a1 (R.left r1.old) a2 b2 w0 w1 (sides_of m.old)
-        → MatchResult result
-        (λ _. Merging a1 (R.left r1.new) a2 b2 w0 w1 (sides_of m.new))
-        (λ e. HasStoppedMerge a1 (R.left r1.new) a2 b2 w0 w1 e) }
+    ensures merging { (right w : Option (List ℕ))
+        → MergesOn (R.left r1.old) (R.left r1.new) right right w w (sides_of m.old) (sides_of m.new) result }
     ensures telling { (a1 a2 b2 w0 w1 : Option (List ℕ)) (told : List Turn) (withdraws : Bool)
         → Telling a1 (R.left r1.old) a2 b2 w0 w1 (sides_of m.old) told withdraws
         → OnOk result (Telling a1 (R.left r1.new) a2 b2 w0 w1 (sides_of m.new) told withdraws) }
@@ -253,10 +249,8 @@ pub fn read_left<R: Source>(r1: &mut R, m: &mut Merge) -> Result<(), MergeFault>
 pub fn read_right<S: Source>(r2: &mut S, m: &mut Merge) -> Result<(), MergeFault>
     requires fits { Fits (sides_of m.old) }
     requires read { m.old.left.ahead ≢ Lookahead.Unread }
-    ensures merging { (a1 b1 a2 w0 w1 : Option (List ℕ)) → Merging a1 b1 a2 (S.left r2.old) w0 w1 (sides_of m.old)
-        → MatchResult result
-        (λ _. Merging a1 b1 a2 (S.left r2.new) w0 w1 (sides_of m.new))
-        (λ e. HasStoppedMerge a1 b1 a2 (S.left r2.new) w0 w1 e) }
+    ensures merging { (left w : Option (List ℕ))
+        → MergesOn left left (S.left r2.old) (S.left r2.new) w w (sides_of m.old) (sides_of m.new) result }
     ensures telling { (a1 b1 a2 w0 w1 : Option (List ℕ)) (told : List Turn) (withdraws : Bool)
         → Telling a1 b1 a2 (S.left r2.old) w0 w1 (sides_of m.old) told withdraws
         → OnOk result (Telling a1 b1 a2 (S.left r2.new) w0 w1 (sides_of m.new) told withdraws) }
@@ -273,11 +267,8 @@ pub fn read_right<S: Source>(r2: &mut S, m: &mut Merge) -> Result<(), MergeFault
 /// Reads on behind what had its turn, left first.
 fn read_on<R: Source, S: Source>(r1: &mut R, r2: &mut S, m: &mut Merge) -> Result<(), MergeFault>
     requires { Fits (sides_of m.old) }
-    ensures merging { (a1 a2 w0 w1 : Option (List ℕ))
-        → Merging a1 (R.left r1.old) a2 (S.left r2.old) w0 w1 (sides_of m.old)
-        → MatchResult result
-        (λ _. Merging a1 (R.left r1.new) a2 (S.left r2.new) w0 w1 (sides_of m.new))
-        (λ e. HasStoppedMerge a1 (R.left r1.new) a2 (S.left r2.new) w0 w1 e) }
+    ensures merging { (w : Option (List ℕ)) → MergesOn (R.left r1.old) (R.left r1.new) (S.left r2.old) (S.left r2.new)
+        w w (sides_of m.old) (sides_of m.new) result }
     ensures read { OnOk result (IsReadOn (sides_of m.old) (sides_of m.new)) }
     ensures devices { BlamesDevices (stream R.left R.failures r1.old r1.new) (stream S.left S.failures r2.old r2.new)
         0 0 result }
@@ -294,11 +285,8 @@ fn turn<R: Source, S: Source, W: Sink>(
     m: &mut Merge,
 ) -> Result<(), MergeFault>
     requires { IsBeforeTurn (sides_of m.old) }
-    ensures merging { (a1 a2 w0 : Option (List ℕ))
-        → Merging a1 (R.left r1.old) a2 (S.left r2.old) w0 (W.held w.old) (sides_of m.old)
-        → MatchResult result
-        (λ _. Merging a1 (R.left r1.new) a2 (S.left r2.new) w0 (W.held w.new) (sides_of m.new))
-        (λ e. HasStoppedMerge a1 (R.left r1.new) a2 (S.left r2.new) w0 (W.held w.new) e) }
+    ensures merging { MergesOn (R.left r1.old) (R.left r1.new) (S.left r2.old) (S.left r2.new)
+        (W.held w.old) (W.held w.new) (sides_of m.old) (sides_of m.new) result }
     ensures read { OnOk result (IsReadOn (sides_of m.old) (sides_of m.new)) }
     ensures less { OnOk result (cost_of (sides_of m.new) < cost_of (sides_of m.old)) }
     ensures devices { BlamesDevices (stream R.left R.failures r1.old r1.new) (stream S.left S.failures r2.old r2.new)
@@ -317,11 +305,8 @@ pub fn merge_records<R: Source, S: Source, W: Sink>(
     m: &mut Merge,
 ) -> Result<(), MergeFault>
     requires fits { Fits (sides_of m.old) }
-    ensures merging { (a1 a2 w0 : Option (List ℕ))
-        → Merging a1 (R.left r1.old) a2 (S.left r2.old) w0 (W.held w.old) (sides_of m.old)
-        → MatchResult result
-        (λ _. Merging a1 (R.left r1.new) a2 (S.left r2.new) w0 (W.held w.new) (sides_of m.new))
-        (λ e. HasStoppedMerge a1 (R.left r1.new) a2 (S.left r2.new) w0 (W.held w.new) e) }
+    ensures merging { MergesOn (R.left r1.old) (R.left r1.new) (S.left r2.old) (S.left r2.new)
+        (W.held w.old) (W.held w.new) (sides_of m.old) (sides_of m.new) result }
     ensures ended { OnOk result (HasEnded (sides_of m.new)) }
     ensures devices { BlamesDevices (stream R.left R.failures r1.old r1.new) (stream S.left S.failures r2.old r2.new)
         (W.failures w.old) (W.failures w.new) result }

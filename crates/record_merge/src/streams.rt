@@ -31,13 +31,11 @@ pub fn begin_both<R: Source, S: Source, W: Sink>(
     r2: &mut S,
     w: &mut W,
 ) -> Result<Merge, MergeFault>
-    ensures merging { MatchResult result
-        (λ m. Merging (R.left r1.old) (R.left r1.new) (S.left r2.old) (S.left r2.new)
-        (W.held w.old) (W.held w.new) (sides_of m))
+    ensures telling { MatchResult result
+        (λ m. Telling (R.left r1.old) (R.left r1.new) (S.left r2.old) (S.left r2.new)
+        (W.held w.old) (W.held w.new) (sides_of m) [] false)
         (λ e. StopsMerge (R.left r1.old) (R.left r1.new) (S.left r2.old) (S.left r2.new)
         (W.held w.old) (W.held w.new) e) }
-    ensures telling { IfOk result (λ m. Telling (R.left r1.old) (R.left r1.new) (S.left r2.old) (S.left r2.new)
-        (W.held w.old) (W.held w.new) (sides_of m) [] false) }
     ensures fits { IfOk result (λ m. Fits (sides_of m)) }
     ensures devices { BlamesDevices (stream R.left R.failures r1.old r1.new) (stream S.left S.failures r2.old r2.new)
         (W.failures w.old) (W.failures w.new) result }

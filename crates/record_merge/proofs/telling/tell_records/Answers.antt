@@ -15,4 +15,4 @@ turns-preserved g c =
     }
 
 pub returns-clause-telling : goal.returns-clause-telling
-returns-clause-telling g c = λ a1 a2 w0 t. c.turns.invariant.telling a1 a2 w0 (c.in_ok-tell_and_read_on.ensures.telling a1 a2 w0 _ t)
+returns-clause-telling g c = λ a1 a2 w0 t. c.turns.invariant.telling a1 a2 w0 (c.in_ok-tell_and_read_on.ensures.telling _ a1 a2 w0 t)
