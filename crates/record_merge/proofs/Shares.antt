@@ -1,8 +1,7 @@
 -- Retirements that both sides hold, kept once.
-use Rattle.std.proofs.Common.{◌≡◌, ℕ, ◌==◌, Bool, true, false, ◌&&◌, cond, List, [], ◌∷◌, ◌++◌, length, drop, get_or, Option, Some, None, Result, Ok, Err, refl, sym, ap, ◌∙◌, subst}
+use Rattle.std.proofs.Common.{◌≡◌, ℕ, ◌==◌, Bool, true, false, ◌&&◌, cond, List, [], ◌∷◌, ◌++◌, length, drop, get_or, Option, Some, None, refl, sym, ap, ◌∙◌, subst}
 use Rattle.std.proofs.lemmas.Bool.{eqb-true}
 use Rattle.std.proofs.lemmas.List.Elements.{Contains-push}
-use Rattle.std.specs.Prelude.{OnOk}
 use Rattle.std.specs.List.{Contains}
 use Rattle.std.specs.Ordering.{is_ne}
 use Rattle.std.specs.declared.cmp.Ordering.{Ordering}
@@ -11,11 +10,9 @@ use Rattle.std.specs.Cmp.Lexicographic.{nat_list_cmp_total}
 use Rattle.std.specs.FinSet as set
 use Rattle.std.specs.FinSet.{contains, from_list_push}
 use Rattle.join_core.proofs.Place.{insert_present}
-use Rattle.byte_device.specs.declared.writing.WriteFault.{WriteFault}
 use Rattle.archive_core.proofs.Retired.{first_more, second_more}
 use Rattle.archive_records.specs.declared.format.Format.{Format}
 use Rattle.archive_records.specs.declared.format.Format.TheVariants.{Archive, OldArchive, Operations as Operations_file, Summary as Summary_file}
-use Rattle.archive_records.specs.declared.writing.Sizes.{Sizes}
 use Rattle.archive_records.specs.Text.{last_of}
 use Rattle.archive_records.specs.Reader.{set_of, AreRetired, HasRead, HasReadAll, Position, beside, retirement_in}
 use Rattle.archive_records.proofs.Apart.{in_set, and_second}
@@ -25,15 +22,10 @@ use Rattle.record_merge.specs.declared.side.MergeInput.{MergeInput}
 use Rattle.record_merge.specs.declared.turns.Turn.{Turn}
 use Rattle.record_merge.specs.declared.merging.Merge.{Merge}
 use Rattle.record_merge.specs.Sides.{Sides, side_with, sides_of}
-use Rattle.record_merge.specs.MergeSteps.{IsRecordWritten, Merging, Stands, first_of}
+use Rattle.record_merge.specs.MergeSteps.{Merging, Stands, first_of}
 use Rattle.record_merge.specs.TellingSteps.{Telling}
 use Rattle.record_merge.proofs.Covered.{retired_of}
 use Rattle.record_merge.proofs.MergeSteps.{first_equal}
-
--- the record of a side was written, whatever it shares
-pub written_with : {X : Type 0} (r : Result X WriteFault) (shared : List (List ℕ)) (w0 w1 : Option (List ℕ)) (before after : Sizes) (old new : MergeInput) → OnOk r (IsRecordWritten w0 w1 before after old new) → OnOk r (IsRecordWritten w0 w1 before after (side_with shared old) (side_with shared new))
-written_with (Ok x) shared w0 w1 before after old new i = record { gained = i.gained; records = i.records; bytes = i.bytes; side = ap (side_with shared) i.side }
-written_with (Err e) shared w0 w1 before after old new i = tt
 
 -- ---- the same retirements, kept elsewhere
 

@@ -19,7 +19,7 @@ use Rattle.archive_records.specs.declared.fault.RecordFault.{RecordFault}
 use Rattle.archive_records.proofs.Steps.{HasRead-grows}
 use Rattle.archive_records.proofs.Formats.{follows_of, no_operations_text, no_summary_text}
 use Rattle.archive_records.proofs.KeptRecords.{kept_none}
-use Rattle.record_merge.specs.MergeSteps.{Stands, Joins, Merging, StopsBeforeRecords, HasMagicRead, RightStopped, WriteStopped, LeftRefused, RightRefused, ByCause, BlamesBy, BlamesLeft, BlamesRight, BlamesWriter, IsToldOfRight, memory_behind, HasStoppedMerge, StopsMerge as MergeStops}
+use Rattle.record_merge.specs.MergeSteps.{Stands, Joins, Merging, StopsBeforeRecords, HasMagicRead, RightStopped, WriteStopped, LeftRefused, RightRefused, ByCause, BlamesBy, BlamesLeft, BlamesRight, BlamesWriter, IsToldOfRight, memory_behind, HasEnded, HasStoppedMerge, StopsMerge as MergeStops}
 use Rattle.record_merge.proofs.MergeSteps.{held_record, before_last}
 use Rattle.archive_records.proofs.KeptRecords.{long_record}
 use Rattle.archive_records.proofs.Blamed.{blames_behind}
@@ -297,8 +297,8 @@ memory_stops a1 a2 w0 e fault is memory =
 -- ---- the end record
 
 -- the writer failed in it
-pub end_stops : (a1 b1 a2 b2 w0 w1 w2 : Option (List ℕ)) (m : Sides) → Merging a1 b1 a2 b2 w0 w1 m → m.left.ahead ≡ Ended → m.right.ahead ≡ Ended → (written k : ℕ) → written ≡ m.written.bytes + k → WritesFirst w1 w2 (end_record m.written.records) k → WriteStopped a1 b1 a2 b2 w0 w2 written
-end_stops a1 b1 a2 b2 w0 w1 w2 m p left_end right_end written k is q =
+pub end_stops : (a1 b1 a2 b2 w0 w1 w2 : Option (List ℕ)) (m : Sides) → Merging a1 b1 a2 b2 w0 w1 m → HasEnded m → (written k : ℕ) → written ≡ m.written.bytes + k → WritesFirst w1 w2 (end_record m.written.records) k → WriteStopped a1 b1 a2 b2 w0 w2 written
+end_stops a1 b1 a2 b2 w0 w1 w2 m p ended written k is q =
     let records : List (List ℕ) = kept p.out in
     let front : List ℕ = magic ++ concat records in
     let end : List ℕ = end_record m.written.records in
@@ -313,7 +313,7 @@ end_stops a1 b1 a2 b2 w0 w1 w2 m p left_end right_end written k is q =
       left = p.left;
       right = p.right;
       joins = p.joins;
-      within = inr (left_end, right_end, omega (arith, is, s.within));
+      within = inr (ended.left, ended.right, omega (arith, is, s.within));
       gained = rw is s.gained;
     }
 

@@ -10,7 +10,6 @@ use Rattle.std.specs.declared.cmp.Ordering.TheVariants.{Less, Equal, Greater}
 use Rattle.std.specs.FinSet.{contains}
 use Rattle.std.specs.List.{concat, list_any, Contains}
 use Rattle.std.specs.Io.KnownBytes.{Appends, Consumes}
-use Rattle.byte_device.specs.declared.writing.WriteFault.{WriteFault}
 use Rattle.byte_device.proofs.Known.{Appends-then}
 use Rattle.archive_core.specs.Content.{covering, is_admission, is_covered}
 use Rattle.archive_records.specs.declared.fault.MergeCause.TheVariants.{Right}
@@ -34,14 +33,14 @@ use Rattle.archive_records.proofs.KeptRecords.{long_record}
 use Rattle.archive_records.proofs.Puts.{bytes_same}
 use Rattle.archive_records.proofs.Undecided.{cut_off}
 use Rattle.record_merge.specs.Sides.{Sides}
-use Rattle.record_merge.specs.declared.side.Lookahead.TheVariants.{Unread, Held, Ended}
+use Rattle.record_merge.specs.declared.side.Lookahead.TheVariants.{Unread}
 use Rattle.record_merge.specs.declared.side.MergeInput.{MergeInput}
 use Rattle.record_merge.specs.declared.turns.Turn.{Turn}
-use Rattle.record_merge.specs.MergeSteps.{HasStoppedMerge, IsRecordWritten, Joins, MergedAll, Merging, Stands, TellsBy, TellsCovered, first_of, memory_behind}
+use Rattle.record_merge.specs.MergeSteps.{HasEnded, HasStoppedMerge, IsBeforeTurn, Joins, MergedAll, Merging, Stands, TellsBy, TellsCovered, after_turn, first_of, left_after, memory_behind, next_record, next_record_by, right_after}
 use Rattle.record_merge.specs.TellingSteps.{Telling, TellsNextBy, TellsNext, ToldAll, has_next, has_next_by, is_withdrawn, told_with}
 use Rattle.record_merge.specs.Turns.{turn_by, turn_of}
 use Rattle.record_merge.proofs.Covered.{covered_by, not_same}
-use Rattle.record_merge.proofs.MergeSteps.{first_less, first_equal, first_greater, held_dropped, held_record, unread_of, next_left, next_both, next_right, less_covered, both_covered, greater_covered, passed, pass_left, pass_both, pass_right, wrote}
+use Rattle.record_merge.proofs.MergeSteps.{Next, first_less, first_equal, first_greater, held_dropped, held_record, next_turn, passed, wrote}
 use Rattle.record_merge.proofs.Starts.{left_read, right_read, right_stopped, merging_start}
 
 -- ---- lists of answers
@@ -140,135 +139,81 @@ withdraws_same false w = refl
 
 -- ---- a turn
 
-module _ (a1 b1 a2 b2 w0 w1 w2 : Option (List ℕ)) (m : Sides) (told : List Turn) (withdraws : Bool) (turn : Option Turn) (t : Telling a1 b1 a2 b2 w0 w1 m told withdraws) (tells : TellsNext m turn) where
+module _ (a1 b1 a2 b2 w0 w1 : Option (List ℕ)) (m : Sides) (told : List Turn) (withdraws : Bool) (turn : Option Turn) (t : Telling a1 b1 a2 b2 w0 w1 m told withdraws) (tells : TellsNext m turn) (before : IsBeforeTurn m) where
   abbrev p : Merging a1 b1 a2 b2 w0 w1 m
   p = t.merging
 
-  abbrev Turns : List (List ℕ) → List (List ℕ) → Type 0
-  Turns lefts rights = told_with told turn ≡ map (turn_of (set_of lefts)) rights
+  abbrev after : (o : Ordering) → first_of m.left m.right ≡ o → Next a1 b1 a2 b2 (left_after o m.left) (right_after o m.right) (p.out ++ next_record_by o m ∷ [])
+  after o first = next_turn a1 b1 a2 b2 w0 w1 m p before o first
 
-  abbrev Withdraws : Bool → List (List ℕ) → List (List ℕ) → Type 0
-  Withdraws passed lefts rights = ((passed && has_next m) || withdraws) ≡ list_any (is_withdrawn (set_of lefts) (set_of rights)) lefts
-
-  tells_by : (o : Ordering) → first_of m.left m.right ≡ o → TellsNextBy o m.left m.right turn
-  tells_by o first = subst (λ (q : Ordering). TellsNextBy q m.left m.right turn) first tells
-
-  told_left : first_of m.left m.right ≡ Less → Turns (p.lefts ++ m.left.reader.last ∷ []) p.rights
-  told_left first =
+  told_next : (o : Ordering) (first : first_of m.left m.right ≡ o) → TellsNextBy o m.left m.right turn → told_with told turn ≡ map (turn_of (set_of (after o first).lefts)) (after o first).rights
+  unfolding next_turn
+  told_next Less first is =
       let f = first_less m.left.ahead m.right.ahead _ first in
-      ap (told_with told) (tells_by Less first) ∙ t.turns_are ∙ sym (told_still p.out p.lefts p.rights m.left.reader.last p.joins (p.left.held f.0).1)
-
-  told_both : first_of m.left m.right ≡ Equal → Turns (p.lefts ++ m.left.reader.last ∷ []) (p.rights ++ m.left.reader.last ∷ [])
-  told_both first =
+      ap (told_with told) is ∙ t.turns_are ∙ sym (told_still p.out p.lefts p.rights m.left.reader.last p.joins (p.left.held f.0).1)
+  told_next Equal first is =
       let x = m.left.reader.last in
       let f = first_equal m.left.ahead m.right.ahead _ first in
       let above = (p.left.held f.0).1 in
       let own : m.left.reader.dropped ≡ is_covered (set_of p.lefts) x = held_dropped a1 b1 p.lefts (last_of [] p.out) m.left p.left f.0 in
       let before : told ≡ map (turn_of (set_of (p.lefts ++ x ∷ []))) p.rights = t.turns_are ∙ sym (told_still p.out p.lefts p.rights x p.joins above) in
       let here : turn_by m.left.reader.dropped true ≡ turn_of (set_of (p.lefts ++ x ∷ [])) x = ap (λ b. turn_by b true) own ∙ sym (turn_there p.out p.lefts p.rights x p.joins above) in
-      ap (told_with told) (tells_by Equal first) ∙ (λ i. before i ++ here i ∷ []) ∙ sym (map-append (turn_of (set_of (p.lefts ++ x ∷ []))) p.rights (x ∷ []))
-
-  told_right : m.left.ahead ≢ Unread → (m.left.ahead ≡ Ended → m.right.ahead ≡ Held) → first_of m.left m.right ≡ Greater → Turns p.lefts (p.rights ++ m.right.reader.last ∷ [])
-  told_right read some first =
+      ap (told_with told) is ∙ (λ i. before i ++ here i ∷ []) ∙ sym (map-append (turn_of (set_of (p.lefts ++ x ∷ []))) p.rights (x ∷ []))
+  told_next Greater first is =
       let x = m.right.reader.last in
-      let f = first_greater m.left.ahead m.right.ahead _ read some first in
+      let f = first_greater m.left.ahead m.right.ahead _ before.read.left before.some first in
       let above = (p.right.held f.0).1 in
       let whole = held_record a2 b2 p.rights (last_of [] p.out) m.right p.right f.0 in
-      let covers : is_covered (set_of m.left.reader.retired) x ≡ is_covered (set_of p.lefts) x = covered_by a1 b1 p.lefts (last_of [] p.out) m.left x p.left read (λ held. below-greater _ _ (f.1 held)) in
+      let covers : is_covered (set_of m.left.reader.retired) x ≡ is_covered (set_of p.lefts) x = covered_by a1 b1 p.lefts (last_of [] p.out) m.left x p.left before.read.left (λ held. below-greater _ _ (f.1 held)) in
       let here : turn_by (is_covered (set_of m.left.reader.retired) x) false ≡ turn_of (set_of p.lefts) x = ap (λ b. turn_by b false) covers ∙ sym (turn_alone p.out p.lefts p.rights x p.joins above) in
-      ap (told_with told) (tells_by Greater first whole) ∙ (λ i. t.turns_are i ++ here i ∷ []) ∙ sym (map-append (turn_of (set_of p.lefts)) p.rights (x ∷ []))
+      ap (told_with told) (is whole) ∙ (λ i. t.turns_are i ++ here i ∷ []) ∙ sym (map-append (turn_of (set_of p.lefts)) p.rights (x ∷ []))
 
   -- whether the record that is passed over or written is one that the right side retires
-  module _ (passed : Bool) (covers : TellsCovered m.left m.right passed) where
-    covers_by : (o : Ordering) → first_of m.left m.right ≡ o → TellsBy o m.left m.right passed
-    covers_by o first = subst (λ (q : Ordering). TellsBy q m.left m.right passed) first covers
-
-    withdraws_left : m.right.ahead ≢ Unread → first_of m.left m.right ≡ Less → Withdraws passed (p.lefts ++ m.left.reader.last ∷ []) p.rights
-    withdraws_left read first =
-        let x = m.left.reader.last in
-        let f = first_less m.left.ahead m.right.ahead _ first in
-        let above = (p.left.held f.0).1 in
-        let all = p.lefts ++ x ∷ [] in
-        let test = is_withdrawn (set_of all) (set_of p.rights) in
-        let d = m.left.reader.dropped in
-        let c = is_covered (set_of m.right.reader.retired) x in
-        let is : passed ≡ (d || c) = covers_by Less first (held_record a1 b1 p.lefts (last_of [] p.out) m.left p.left f.0) in
-        let next : has_next m ≡ not d = ap (λ (o : Ordering). has_next_by o m.left) first in
-        let own : d ≡ is_covered (set_of all) x = held_dropped a1 b1 p.lefts (last_of [] p.out) m.left p.left f.0 ∙ sym (covered_push p.lefts x) in
-        let others : c ≡ is_covered (set_of p.rights) x = covered_by a2 b2 p.rights (last_of [] p.out) m.right x p.right read (λ held. below-less _ _ (f.1 held)) in
-        let before : withdraws ≡ list_any test p.lefts = t.withdraws_is ∙ sym (withdrawn_left p.out p.lefts p.rights x p.joins above) in
-        (λ i. (is i && next i) || withdraws) ∙ withdraws_more d c withdraws ∙ (λ i. before i || ((others i && not (own i)) || false)) ∙ sym (list_any-append test p.lefts (x ∷ []))
-
-    withdraws_both : first_of m.left m.right ≡ Equal → Withdraws passed (p.lefts ++ m.left.reader.last ∷ []) (p.rights ++ m.left.reader.last ∷ [])
-    withdraws_both first =
-        let x = m.left.reader.last in
-        let f = first_equal m.left.ahead m.right.ahead _ first in
-        let above = (p.left.held f.0).1 in
-        let all = p.lefts ++ x ∷ [] in
-        let ours = p.rights ++ x ∷ [] in
-        let test = is_withdrawn (set_of all) (set_of ours) in
-        let d = m.left.reader.dropped in
-        let c = m.right.reader.dropped in
-        let is : passed ≡ (d || c) = covers_by Equal first in
-        let next : has_next m ≡ not d = ap (λ (o : Ordering). has_next_by o m.left) first in
-        let own : d ≡ is_covered (set_of all) x = held_dropped a1 b1 p.lefts (last_of [] p.out) m.left p.left f.0 ∙ sym (covered_push p.lefts x) in
-        let same : m.right.reader.last ≡ x = sym (bytes_same _ _ f.2) in
-        let others : c ≡ is_covered (set_of ours) x = held_dropped a2 b2 p.rights (last_of [] p.out) m.right p.right f.1 ∙ ap (λ (r : List ℕ). is_covered (set_of p.rights) r) same ∙ sym (covered_push p.rights x) in
-        let before : withdraws ≡ list_any test p.lefts = t.withdraws_is ∙ sym (withdrawn_both p.out p.lefts p.rights x p.joins above) in
-        (λ i. (is i && next i) || withdraws) ∙ withdraws_more d c withdraws ∙ (λ i. before i || ((others i && not (own i)) || false)) ∙ sym (list_any-append test p.lefts (x ∷ []))
-
-    withdraws_right : m.left.ahead ≢ Unread → (m.left.ahead ≡ Ended → m.right.ahead ≡ Held) → first_of m.left m.right ≡ Greater → Withdraws passed p.lefts (p.rights ++ m.right.reader.last ∷ [])
-    withdraws_right read some first =
-        let x = m.right.reader.last in
-        let f = first_greater m.left.ahead m.right.ahead _ read some first in
-        let above = (p.right.held f.0).1 in
-        let next : has_next m ≡ false = ap (λ (o : Ordering). has_next_by o m.left) first in
-        (λ i. (passed && next i) || withdraws) ∙ withdraws_same passed withdraws ∙ t.withdraws_is ∙ sym (withdrawn_right p.out p.lefts p.rights x p.joins above)
+  withdraws_next : (passed : Bool) (o : Ordering) (first : first_of m.left m.right ≡ o) → TellsBy o m.left m.right passed
+      → ((passed && has_next_by o m.left) || withdraws) ≡ list_any (is_withdrawn (set_of (after o first).lefts) (set_of (after o first).rights)) (after o first).lefts
+  unfolding next_turn
+  withdraws_next passed Less first covers =
+      let x = m.left.reader.last in
+      let f = first_less m.left.ahead m.right.ahead _ first in
+      let above = (p.left.held f.0).1 in
+      let all = p.lefts ++ x ∷ [] in
+      let test = is_withdrawn (set_of all) (set_of p.rights) in
+      let d = m.left.reader.dropped in
+      let c = is_covered (set_of m.right.reader.retired) x in
+      let is : passed ≡ (d || c) = covers (held_record a1 b1 p.lefts (last_of [] p.out) m.left p.left f.0) in
+      let own : d ≡ is_covered (set_of all) x = held_dropped a1 b1 p.lefts (last_of [] p.out) m.left p.left f.0 ∙ sym (covered_push p.lefts x) in
+      let others : c ≡ is_covered (set_of p.rights) x = covered_by a2 b2 p.rights (last_of [] p.out) m.right x p.right before.read.right (λ held. below-less _ _ (f.1 held)) in
+      let before : withdraws ≡ list_any test p.lefts = t.withdraws_is ∙ sym (withdrawn_left p.out p.lefts p.rights x p.joins above) in
+      (λ i. (is i && not d) || withdraws) ∙ withdraws_more d c withdraws ∙ (λ i. before i || ((others i && not (own i)) || false)) ∙ sym (list_any-append test p.lefts (x ∷ []))
+  withdraws_next passed Equal first covers =
+      let x = m.left.reader.last in
+      let f = first_equal m.left.ahead m.right.ahead _ first in
+      let above = (p.left.held f.0).1 in
+      let all = p.lefts ++ x ∷ [] in
+      let ours = p.rights ++ x ∷ [] in
+      let test = is_withdrawn (set_of all) (set_of ours) in
+      let d = m.left.reader.dropped in
+      let c = m.right.reader.dropped in
+      let own : d ≡ is_covered (set_of all) x = held_dropped a1 b1 p.lefts (last_of [] p.out) m.left p.left f.0 ∙ sym (covered_push p.lefts x) in
+      let same : m.right.reader.last ≡ x = sym (bytes_same _ _ f.2) in
+      let others : c ≡ is_covered (set_of ours) x = held_dropped a2 b2 p.rights (last_of [] p.out) m.right p.right f.1 ∙ ap (λ (r : List ℕ). is_covered (set_of p.rights) r) same ∙ sym (covered_push p.rights x) in
+      let before : withdraws ≡ list_any test p.lefts = t.withdraws_is ∙ sym (withdrawn_both p.out p.lefts p.rights x p.joins above) in
+      (λ i. (covers i && not d) || withdraws) ∙ withdraws_more d c withdraws ∙ (λ i. before i || ((others i && not (own i)) || false)) ∙ sym (list_any-append test p.lefts (x ∷ []))
+  withdraws_next passed Greater first covers =
+      let x = m.right.reader.last in
+      let f = first_greater m.left.ahead m.right.ahead _ before.read.left before.some first in
+      withdraws_same passed withdraws ∙ t.withdraws_is ∙ sym (withdrawn_right p.out p.lefts p.rights x p.joins (p.right.held f.0).1)
 
   -- the record is passed over
-  pub tells_pass_left : m.right.ahead ≢ Unread → first_of m.left m.right ≡ Less → TellsCovered m.left m.right true → Telling a1 b1 a2 b2 w0 w1 (record { left = unread_of m.left; right = m.right; written = m.written }) (told_with told turn) (has_next m || withdraws)
-  unfolding pass_left passed next_left
-  tells_pass_left read first covered = record { merging = pass_left a1 b1 a2 b2 w0 w1 w2 m p read first covered; turns_are = told_left first; withdraws_is = withdraws_left true covered read first }
-
-  pub tells_pass_both : first_of m.left m.right ≡ Equal → TellsCovered m.left m.right true → Telling a1 b1 a2 b2 w0 w1 (record { left = unread_of m.left; right = unread_of m.right; written = m.written }) (told_with told turn) (has_next m || withdraws)
-  unfolding pass_both passed next_both
-  tells_pass_both first covered = record { merging = pass_both a1 b1 a2 b2 w0 w1 w2 m p first covered; turns_are = told_both first; withdraws_is = withdraws_both true covered first }
-
-  pub tells_pass_right : m.left.ahead ≢ Unread → (m.left.ahead ≡ Ended → m.right.ahead ≡ Held) → first_of m.left m.right ≡ Greater → TellsCovered m.left m.right true → Telling a1 b1 a2 b2 w0 w1 (record { left = m.left; right = unread_of m.right; written = m.written }) (told_with told turn) (has_next m || withdraws)
-  unfolding pass_right passed next_right
-  tells_pass_right read some first covered = record { merging = pass_right a1 b1 a2 b2 w0 w1 w2 m p read some first covered; turns_are = told_right read some first; withdraws_is = withdraws_right true covered read some first }
+  pub tells_passed : TellsCovered m.left m.right true → Telling a1 b1 a2 b2 w0 w1 (after_turn m m.written) (told_with told turn) (has_next m || withdraws)
+  unfolding passed
+  tells_passed covered = record { merging = passed a1 b1 a2 b2 w0 w1 m p before covered; turns_are = told_next (first_of m.left m.right) refl tells; withdraws_is = withdraws_next true (first_of m.left m.right) refl covered }
 
   -- or written
-  module _ {X : Type 0} (written : Sizes) (side : MergeInput) where
-    pub tells_left : (r : Result X WriteFault) → m.right.ahead ≢ Unread → first_of m.left m.right ≡ Less → TellsCovered m.left m.right false → OnOk r (IsRecordWritten w1 w2 m.written written m.left side)
-        → OnOk r (Telling a1 b1 a2 b2 w0 w2 (record { left = side; right = m.right; written = written }) (told_with told turn) withdraws)
-    unfolding wrote next_left
-    tells_left (Ok x) read first free i = subst (λ (s : MergeInput). Telling a1 b1 a2 b2 w0 w2 (record { left = s; right = m.right; written = written }) (told_with told turn) withdraws) (sym i.side) (record {
-      merging = wrote a1 b1 a2 b2 w0 w1 w2 m p m.left.reader.last (unread_of m.left) m.right m.left side written refl (less_covered a1 b1 a2 b2 w0 w1 w2 m p read first false free) (next_left a1 b1 a2 b2 w0 w1 w2 m p read first) i;
-      turns_are = told_left first;
-      withdraws_is = withdraws_left false free read first;
-    })
-    tells_left (Err e) read first free i = tt
-
-    pub tells_both : (r : Result X WriteFault) → first_of m.left m.right ≡ Equal → TellsCovered m.left m.right false → OnOk r (IsRecordWritten w1 w2 m.written written m.left side)
-        → OnOk r (Telling a1 b1 a2 b2 w0 w2 (record { left = side; right = unread_of m.right; written = written }) (told_with told turn) withdraws)
-    unfolding wrote next_both
-    tells_both (Ok x) first free i = subst (λ (s : MergeInput). Telling a1 b1 a2 b2 w0 w2 (record { left = s; right = unread_of m.right; written = written }) (told_with told turn) withdraws) (sym i.side) (record {
-      merging = wrote a1 b1 a2 b2 w0 w1 w2 m p m.left.reader.last (unread_of m.left) (unread_of m.right) m.left side written refl (both_covered a1 b1 a2 b2 w0 w1 w2 m p first false free) (next_both a1 b1 a2 b2 w0 w1 w2 m p first) i;
-      turns_are = told_both first;
-      withdraws_is = withdraws_both false free first;
-    })
-    tells_both (Err e) first free i = tt
-
-    pub tells_right : (r : Result X WriteFault) → m.left.ahead ≢ Unread → (m.left.ahead ≡ Ended → m.right.ahead ≡ Held) → first_of m.left m.right ≡ Greater → TellsCovered m.left m.right false → OnOk r (IsRecordWritten w1 w2 m.written written m.right side)
-        → OnOk r (Telling a1 b1 a2 b2 w0 w2 (record { left = m.left; right = side; written = written }) (told_with told turn) withdraws)
-    unfolding wrote next_right
-    tells_right (Ok x) read some first free i = subst (λ (s : MergeInput). Telling a1 b1 a2 b2 w0 w2 (record { left = m.left; right = s; written = written }) (told_with told turn) withdraws) (sym i.side) (record {
-      merging = wrote a1 b1 a2 b2 w0 w1 w2 m p m.right.reader.last m.left (unread_of m.right) m.right side written refl (greater_covered a1 b1 a2 b2 w0 w1 w2 m p read some first false free) (next_right a1 b1 a2 b2 w0 w1 w2 m p read some first) i;
-      turns_are = told_right read some first;
-      withdraws_is = withdraws_right false free read some first;
-    })
-    tells_right (Err e) read some first free i = tt
+  pub tells_wrote : TellsCovered m.left m.right false → (w2 : Option (List ℕ)) (written : Sizes) → written.records ≡ m.written.records + 1 → written.bytes ≡ m.written.bytes + length (next_record m) → Appends w1 w2 (next_record m)
+      → Telling a1 b1 a2 b2 w0 w2 (after_turn m written) (told_with told turn) withdraws
+  unfolding wrote
+  tells_wrote free w2 written records bytes gained = record { merging = wrote a1 b1 a2 b2 w0 w1 m p before free w2 written records bytes gained; turns_are = told_next (first_of m.left m.right) refl tells; withdraws_is = withdraws_next false (first_of m.left m.right) refl free }
 
 -- ---- the magics were read
 
@@ -337,7 +282,7 @@ told_or_stopped P M Q (Ok x) told merging = told
 told_or_stopped P M Q (Err e) told merging = merging
 
 -- the merge ended
-module _ (a1 b1 a2 b2 w0 w1 w2 : Option (List ℕ)) (m : Sides) (left_end : m.left.ahead ≡ Ended) (right_end : m.right.ahead ≡ Ended) (few : m.written.records < 2 ^ 63) (sizes : Sizes) (gained : Appends w1 w2 (end_record m.written.records)) (records : sizes.records ≡ m.written.records)
+module _ (a1 b1 a2 b2 w0 w1 w2 : Option (List ℕ)) (m : Sides) (ended : HasEnded m) (sizes : Sizes) (gained : Appends w1 w2 (end_record m.written.records)) (records : sizes.records ≡ m.written.records)
     (bytes : sizes.bytes ≡ m.written.bytes + length (end_record m.written.records)) where
   abbrev pub merging_end : Merging a1 b1 a2 b2 w0 w1 m → MergedAll a1 b1 a2 b2 w0 w2 sizes
   merging_end p =
@@ -352,10 +297,10 @@ module _ (a1 b1 a2 b2 w0 w1 w2 : Option (List ℕ)) (m : Sides) (left_end : m.le
         right = m.right;
         left_archive = p.left.archive;
         right_archive = p.right.archive;
-        left_read = p.left.ended left_end;
-        right_read = p.right.ended right_end;
+        left_read = p.left.ended ended.left;
+        right_read = p.right.ended ended.right;
         joins = p.joins;
-        few = subst (λ (n : ℕ). n < 2 ^ 63) p.records few;
+        few = subst (λ (n : ℕ). n < 2 ^ 63) p.records ended.fits.few;
         gained = subst (Appends w0 w2) (sym text) (Appends-then w0 w1 w2 front end p.gained gained);
         records = records ∙ p.records;
         bytes = omega (arith, bytes, p.bytes, ap length text, length-append front end, length-append magic (concat (kept p.out)));

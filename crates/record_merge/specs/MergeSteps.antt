@@ -62,13 +62,6 @@ cost Ended = 0
 abbrev pub weight : MergeInput → ℕ
 weight side = (2 ^ 63 - side.reader.count) * 2 + cost side.ahead
 
--- The record that the side held was written behind what was written before.
-pub record IsRecordWritten (w0 w1 : Option (List ℕ)) (before after : Sizes) (old new : MergeInput) : Type 0 where
-  pub gained : Appends w0 w1 old.reader.last
-  pub records : after.records ≡ before.records + 1
-  pub bytes : after.bytes ≡ before.bytes + length old.reader.last
-  pub side : new ≡ record { reader = old.reader; ahead = Unread }
-
 -- ---- which is next
 
 abbrev pub first_by : Lookahead → Lookahead → Ordering → Ordering
@@ -81,6 +74,38 @@ first_by Unread s o = Greater
 -- which side's record is the next to be written
 abbrev pub first_of : MergeInput → MergeInput → Ordering
 first_of left right = first_by left.ahead right.ahead (slice_cmp nat_cmp left.reader.last right.reader.last)
+
+-- the record that is next
+abbrev pub next_record_by : Ordering → Sides → List ℕ
+next_record_by Less m = m.left.reader.last
+next_record_by Equal m = m.left.reader.last
+next_record_by Greater m = m.right.reader.last
+
+abbrev pub next_record : Sides → List ℕ
+next_record m = next_record_by (first_of m.left m.right) m
+
+-- a side whose last record had its turn
+abbrev pub unread_of : MergeInput → MergeInput
+unread_of s = record { reader = s.reader; ahead = Unread }
+
+-- each side after the turn of the record that is next, which is the left one's, both sides', or the right one's
+abbrev pub left_after : Ordering → MergeInput → MergeInput
+left_after Less s = unread_of s
+left_after Equal s = unread_of s
+left_after Greater s = s
+
+abbrev pub right_after : Ordering → MergeInput → MergeInput
+right_after Less s = s
+right_after Equal s = unread_of s
+right_after Greater s = unread_of s
+
+-- both sides once the record that is next had its turn, where so much was written
+abbrev pub after_turn : Sides → Sizes → Sides
+after_turn m written = record {
+  left = left_after (first_of m.left m.right) m.left;
+  right = right_after (first_of m.left m.right) m.right;
+  written = written;
+}
 
 -- whether the record that is next was dropped by a side that has it, or a retirement of the other side covers it
 abbrev pub TellsBy : Ordering → MergeInput → MergeInput → Bool → Type 0
@@ -281,6 +306,13 @@ HasStoppedMerge a1 b1 a2 b2 w0 w1 e = ByCause e.cause
     (λ fault. RightRefused a1 b1 a2 b2 w0 w1 fault e.written)
     (WriteStopped a1 b1 a2 b2 w0 w1 e.written)
 
+-- What a call makes of a merge, of the inputs and the output before it and after it: it goes on, or stops.
+abbrev pub MergesOn : {T : Type 0} → Option (List ℕ) → Option (List ℕ) → Option (List ℕ) → Option (List ℕ)
+    → Option (List ℕ) → Option (List ℕ) → Sides → Sides → Result T MergeFault → Type 0
+MergesOn b1 c1 b2 c2 w1 w2 old new result =
+    (a1 a2 w0 : Option (List ℕ)) → Merging a1 b1 a2 b2 w0 w1 old
+    → MatchResult result (λ _. Merging a1 c1 a2 c2 w0 w2 new) (λ e. HasStoppedMerge a1 c1 a2 c2 w0 w2 e)
+
 -- how it stops at all: before the magic is written, too
 abbrev pub StopsMerge : Option (List ℕ) → Option (List ℕ) → Option (List ℕ) → Option (List ℕ)
     → Option (List ℕ) → Option (List ℕ) → MergeFault → Type 0
@@ -358,6 +390,32 @@ pub record IsRead (m : Sides) : Type 0 where
   pub left : m.left.ahead ≢ Unread
   pub right : m.right.ahead ≢ Unread
 
--- Where the right side's record was next, that side is to be read on.
-abbrev pub HadTurn : Sides → Sides → Type 0
-HadTurn old new = first_of old.left old.right ≢ Less → new.right.ahead ≡ Unread
+-- A record is next, whichever side has it, and the numbers fit.
+pub record IsBeforeTurn (m : Sides) : Type 0 where
+  pub fits : Fits m
+  pub read : IsRead m
+  pub some : m.left.ahead ≡ Ended → m.right.ahead ≡ Held
+
+-- The record that was next had its turn: where the right side has it, that side is to be read on. The numbers fit,
+-- and there is less to do.
+pub record HadTurn (old new : Sides) : Type 0 where
+  pub fits : Fits new
+  pub had : first_of old.left old.right ≢ Less → new.right.ahead ≡ Unread
+  pub less : cost_of new < cost_of old
+
+-- One record more was written, and the numbers fit.
+pub record IsOneMore (old new : Sizes) : Type 0 where
+  pub records : new.records ≡ old.records + 1
+  pub bytes : new.bytes ≤ 8 + new.records * 2 ^ 64
+
+-- Both sides were read on: the numbers fit, and there is no more to do than there was.
+pub record IsReadOn (old new : Sides) : Type 0 where
+  pub fits : Fits new
+  pub read : IsRead new
+  pub less : cost_of new ≤ cost_of old
+
+-- Both texts were read to their ends, and the numbers fit.
+pub record HasEnded (m : Sides) : Type 0 where
+  pub fits : Fits m
+  pub left : m.left.ahead ≡ Ended
+  pub right : m.right.ahead ≡ Ended

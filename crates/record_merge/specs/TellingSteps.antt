@@ -1,18 +1,19 @@
 -- What a merge tells of its sides, turn by turn: the words of the inner functions. No contract of a public one has
 -- them.
 use Rattle.std.specs.Prelude.{◌≡◌, ℕ, List, [], ◌∷◌, ◌++◌, map, Bool, true, false, not, ◌&&◌}
-use Rattle.std.specs.Prelude.{Option, Some, None}
+use Rattle.std.specs.Prelude.{Option, Some, None, Result, MatchResult}
 use Rattle.std.specs.declared.cmp.Ordering.{Ordering}
 use Rattle.std.specs.declared.cmp.Ordering.TheVariants.{Less, Equal, Greater}
 use Rattle.std.specs.List.{list_any}
 use Rattle.archive_core.specs.Content.{Operations, is_covered}
 use Rattle.archive_core.specs.Record.{IsRecord}
+use Rattle.archive_records.specs.declared.fault.MergeFault.{MergeFault}
 use Rattle.archive_records.specs.declared.writing.Sizes.{Sizes}
 use Rattle.archive_records.specs.Reader.{set_of}
 use Rattle.record_merge.specs.Sides.{Sides}
 use Rattle.record_merge.specs.declared.side.MergeInput.{MergeInput}
 use Rattle.record_merge.specs.declared.turns.Turn.{Turn}
-use Rattle.record_merge.specs.MergeSteps.{Merging, MergedAll, first_of}
+use Rattle.record_merge.specs.MergeSteps.{HasStoppedMerge, Merging, MergedAll, first_of}
 use Rattle.record_merge.specs.Turns.{turn_by, turn_of}
 
 -- what the record that is next is to the left side: none where it is that side's alone
@@ -51,6 +52,15 @@ pub record Telling (a1 b1 a2 b2 w0 w1 : Option (List ℕ)) (m : Sides) (turns : 
   pub turns_are : turns ≡ map (turn_of (set_of merging.lefts)) merging.rights
   pub withdraws_is : withdraws
       ≡ list_any (is_withdrawn (set_of merging.lefts) (set_of merging.rights)) merging.lefts
+
+-- What a call makes of such a merge, of the inputs and the output before it and after it, and of what is told.
+abbrev pub TellsOn : {T : Type 0} → Option (List ℕ) → Option (List ℕ) → Option (List ℕ) → Option (List ℕ)
+    → Option (List ℕ) → Option (List ℕ) → Sides → Sides → List Turn → List Turn → Bool → Bool → Result T MergeFault
+    → Type 0
+TellsOn b1 c1 b2 c2 w1 w2 old new turns more withdrew withdraws result =
+    (a1 a2 w0 : Option (List ℕ)) → Telling a1 b1 a2 b2 w0 w1 old turns withdrew
+    → MatchResult result (λ _. Telling a1 c1 a2 c2 w0 w2 new more withdraws)
+    (λ e. HasStoppedMerge a1 c1 a2 c2 w0 w2 e)
 
 -- The same of a merge that ended.
 pub record ToldAll (a1 b1 a2 b2 w0 w1 : Option (List ℕ)) (sizes : Sizes) (turns : List Turn) (withdraws : Bool)

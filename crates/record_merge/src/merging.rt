@@ -2,15 +2,14 @@
 //! that it came from are read on.
 
 ghost use Rattle.std.specs.Prelude.{◌≡◌, ◌+◌, ◌*◌, ◌^◌, ◌<◌, ◌≤◌, ℕ, List, Option, OnOk};
-ghost use Rattle.std.specs.Prelude.{Bool, IfErr, IfOk, MatchResult, IsTrue, ◌↔◌, ◌≢◌, ◌&&◌, ◌||◌, true, false};
-ghost use Rattle.byte_device.specs.Devices.{FailedIn};
-ghost use Rattle.byte_device.specs.Writes.{WritesFirst};
+ghost use Rattle.std.specs.Prelude.{Bool, IfErr, IfOk, IsTrue, ◌↔◌, ◌≢◌, ◌&&◌, ◌||◌, true, false};
+ghost use Rattle.byte_device.specs.Writes.{Puts};
 ghost use Rattle.record_merge.specs.Merging.{most_records};
 ghost use Rattle.byte_device.specs.Devices.{stream};
-ghost use Rattle.record_merge.specs.MergeSteps.{BlamesDevices, Fits, HasStoppedMerge, IsRead, IsRefusedMore};
-ghost use Rattle.record_merge.specs.MergeSteps.{IsLastOfBoth, IsToldOfRight, IsRecordWritten};
-ghost use Rattle.record_merge.specs.MergeSteps.{Merging, TellsCovered, WriteStopped, cost_of, first_of};
-ghost use Rattle.record_merge.specs.MergeSteps.{BlamesLeft, BlamesRight, BlamesWriter, HadTurn};
+ghost use Rattle.record_merge.specs.MergeSteps.{BlamesDevices, BlamesLeft, BlamesRight, BlamesWriter, Fits, HadTurn};
+ghost use Rattle.record_merge.specs.MergeSteps.{HasEnded, IsBeforeTurn, IsLastOfBoth, IsOneMore, IsRead, IsReadOn};
+ghost use Rattle.record_merge.specs.MergeSteps.{IsRefusedMore, IsToldOfRight, Merging, MergesOn, TellsCovered};
+ghost use Rattle.record_merge.specs.MergeSteps.{after_turn, cost_of, first_of, next_record, unread_of};
 ghost use Rattle.record_merge.specs.Sides.{sides_of};
 ghost use Rattle.record_merge.specs.declared.turns.Turn.{Turn};
 ghost use Rattle.record_merge.specs.TellingSteps.{Telling, TellsNext, has_next, told_with};
@@ -122,18 +121,7 @@ fn is_covered(m: &mut Merge) -> bool
 
 /// Leaves the side or sides that the record which is next comes from to be read on, as if it had been written.
 fn pass_over(m: &mut Merge)
-    requires read { IsRead (sides_of m.old) }
-    requires some { m.old.left.ahead ≡ Lookahead.Ended → m.old.right.ahead ≡ Lookahead.Held }
-    requires fits { Fits (sides_of m.old) }
-    requires covered { TellsCovered (sides_of m.old).left (sides_of m.old).right true }
-    ensures merging { (a1 b1 a2 b2 w0 w1 : Option (List ℕ)) → Merging a1 b1 a2 b2 w0 w1 (sides_of m.old)
-        → Merging a1 b1 a2 b2 w0 w1 (sides_of m.new) }
-    ensures telling { (a1 b1 a2 b2 w0 w1 : Option (List ℕ)) (told : List Turn) (withdraws : Bool) (turn : Option Turn)
-        → Telling a1 b1 a2 b2 w0 w1 (sides_of m.old) told withdraws → TellsNext (sides_of m.old) turn
-        → Telling a1 b1 a2 b2 w0 w1 (sides_of m.new) (told_with told turn) (has_next (sides_of m.old) || withdraws) }
-    ensures fits { Fits (sides_of m.new) }
-    ensures had { HadTurn (sides_of m.old) (sides_of m.new) }
-    ensures less { cost_of (sides_of m.new) < cost_of (sides_of m.old) }
+    ensures { sides_of m.new ≡ after_turn (sides_of m.old) m.old.written }
 {
     match first(&m.left, &m.right) {
         Ordering::Less => m.left.ahead = Lookahead::Unread,
@@ -153,12 +141,10 @@ fn put_held<W: Sink>(
 ) -> Result<(), WriteFault>
     requires few { written.old.records + 1 < 2 ^ 64 }
     requires fits { written.old.bytes ≤ 8 + written.old.records * 2 ^ 64 }
-    ensures ok { OnOk result (IsRecordWritten (W.held w.old) (W.held w.new) written.old written.new side.old side.new) }
-    ensures fits { OnOk result (written.new.bytes ≤ 8 + written.new.records * 2 ^ 64) }
-    ensures unfailed { OnOk result (W.failures w.new ≡ W.failures w.old) }
-    ensures err { IfErr result (λ e. (k : ℕ) × (e.written ≡ written.old.bytes + k)
-        × WritesFirst (W.held w.old) (W.held w.new) side.old.reader.last k) }
-    ensures failed { IfErr result (λ _. FailedIn (W.failures w.old) (W.failures w.new)) }
+    ensures puts { Puts W.held W.failures (λ _. written.new.bytes) w.old w.new written.old.bytes side.old.reader.last
+        result }
+    ensures more { OnOk result (IsOneMore written.old written.new) }
+    ensures side { OnOk result (side.new ≡ unread_of side.old) }
 {
     written.bytes = put(w, written.bytes, side.reader.last())?;
     written.records += 1;
@@ -168,23 +154,12 @@ fn put_held<W: Sink>(
 
 /// Writes the record that is next, once, and leaves the side or sides that it came from to be read on.
 fn write_first<W: Sink>(w: &mut W, m: &mut Merge) -> Result<(), WriteFault>
-    requires read { IsRead (sides_of m.old) }
-    requires some { m.old.left.ahead ≡ Lookahead.Ended → m.old.right.ahead ≡ Lookahead.Held }
     requires fits { Fits (sides_of m.old) }
     requires room { m.old.written.records < most_records }
-    requires kept { TellsCovered (sides_of m.old).left (sides_of m.old).right false }
-    ensures merging { (a1 b1 a2 b2 w0 : Option (List ℕ)) → Merging a1 b1 a2 b2 w0 (W.held w.old) (sides_of m.old)
-        → MatchResult result
-        (λ _. Merging a1 b1 a2 b2 w0 (W.held w.new) (sides_of m.new))
-        (λ fault. WriteStopped a1 b1 a2 b2 w0 (W.held w.new) fault.written) }
-    ensures telling { (a1 b1 a2 b2 w0 : Option (List ℕ)) (told : List Turn) (withdraws : Bool) (turn : Option Turn)
-        → Telling a1 b1 a2 b2 w0 (W.held w.old) (sides_of m.old) told withdraws → TellsNext (sides_of m.old) turn
-        → OnOk result (Telling a1 b1 a2 b2 w0 (W.held w.new) (sides_of m.new) (told_with told turn) withdraws) }
-    ensures fits { OnOk result (Fits (sides_of m.new)) }
-    ensures had { OnOk result (HadTurn (sides_of m.old) (sides_of m.new)) }
-    ensures less { OnOk result (cost_of (sides_of m.new) < cost_of (sides_of m.old)) }
-    ensures unfailed { OnOk result (W.failures w.new ≡ W.failures w.old) }
-    ensures failed { IfErr result (λ _. FailedIn (W.failures w.old) (W.failures w.new)) }
+    ensures puts { Puts W.held W.failures (λ _. m.new.written.bytes) w.old w.new m.old.written.bytes
+        (next_record (sides_of m.old)) result }
+    ensures more { OnOk result (IsOneMore m.old.written m.new.written) }
+    ensures turned { OnOk result (sides_of m.new ≡ after_turn (sides_of m.old) m.new.written) }
 {
     match first(&m.left, &m.right) {
         Ordering::Less => put_held(w, &mut m.written, &mut m.left),
@@ -199,20 +174,14 @@ fn write_first<W: Sink>(w: &mut W, m: &mut Merge) -> Result<(), WriteFault>
 /// Gives the record that is next its turn: it is written, unless the retirements of either side cover it, and the side
 /// or sides that it came from are left to be read on. Tells whether it was passed over.
 pub fn take_turn<W: Sink>(w: &mut W, m: &mut Merge) -> Result<bool, MergeFault>
-    requires fits { Fits (sides_of m.old) }
-    requires read { IsRead (sides_of m.old) }
-    requires some { m.old.left.ahead ≡ Lookahead.Ended → m.old.right.ahead ≡ Lookahead.Held }
-    ensures merging { (a1 b1 a2 b2 w0 : Option (List ℕ)) → Merging a1 b1 a2 b2 w0 (W.held w.old) (sides_of m.old)
-        → MatchResult result
-        (λ _. Merging a1 b1 a2 b2 w0 (W.held w.new) (sides_of m.new))
-        (λ e. HasStoppedMerge a1 b1 a2 b2 w0 (W.held w.new) e) }
+    requires { IsBeforeTurn (sides_of m.old) }
+    ensures merging { (left right : Option (List ℕ))
+        → MergesOn left left right right (W.held w.old) (W.held w.new) (sides_of m.old) (sides_of m.new) result }
     ensures telling { (a1 b1 a2 b2 w0 : Option (List ℕ)) (told : List Turn) (withdraws : Bool) (turn : Option Turn)
         → Telling a1 b1 a2 b2 w0 (W.held w.old) (sides_of m.old) told withdraws → TellsNext (sides_of m.old) turn
         → IfOk result (λ passed. Telling a1 b1 a2 b2 w0 (W.held w.new) (sides_of m.new) (told_with told turn)
         ((passed && has_next (sides_of m.old)) || withdraws)) }
-    ensures fits { OnOk result (Fits (sides_of m.new)) }
     ensures had { OnOk result (HadTurn (sides_of m.old) (sides_of m.new)) }
-    ensures less { OnOk result (cost_of (sides_of m.new) < cost_of (sides_of m.old)) }
     ensures unfailed { OnOk result (W.failures w.new ≡ W.failures w.old) }
     ensures blames { IfErr result (λ e. BlamesWriter (W.failures w.old) (W.failures w.new) e.cause) }
 {
@@ -258,10 +227,8 @@ pub fn share(m: &mut Merge)
 /// Reads the left side on, where its last record had its turn.
 pub fn read_left<R: Source>(r1: &mut R, m: &mut Merge) -> Result<(), MergeFault>
     requires { Fits (sides_of m.old) }
-    ensures merging { (a1 a2 b2 w0 w1 : Option (List ℕ)) → Merging a1 (R.left r1.old) a2 b2 w0 w1 (sides_of m.old)
-        → MatchResult result
-        (λ _. Merging a1 (R.left r1.new) a2 b2 w0 w1 (sides_of m.new))
-        (λ e. HasStoppedMerge a1 (R.left r1.new) a2 b2 w0 w1 e) }
+    ensures merging { (right w : Option (List ℕ))
+        → MergesOn (R.left r1.old) (R.left r1.new) right right w w (sides_of m.old) (sides_of m.new) result }
     ensures telling { (a1 a2 b2 w0 w1 : Option (List ℕ)) (told : List Turn) (withdraws : Bool)
         → Telling a1 (R.left r1.old) a2 b2 w0 w1 (sides_of m.old) told withdraws
         → OnOk result (Telling a1 (R.left r1.new) a2 b2 w0 w1 (sides_of m.new) told withdraws) }
@@ -282,16 +249,12 @@ pub fn read_left<R: Source>(r1: &mut R, m: &mut Merge) -> Result<(), MergeFault>
 pub fn read_right<S: Source>(r2: &mut S, m: &mut Merge) -> Result<(), MergeFault>
     requires fits { Fits (sides_of m.old) }
     requires read { m.old.left.ahead ≢ Lookahead.Unread }
-    ensures merging { (a1 b1 a2 w0 w1 : Option (List ℕ)) → Merging a1 b1 a2 (S.left r2.old) w0 w1 (sides_of m.old)
-        → MatchResult result
-        (λ _. Merging a1 b1 a2 (S.left r2.new) w0 w1 (sides_of m.new))
-        (λ e. HasStoppedMerge a1 b1 a2 (S.left r2.new) w0 w1 e) }
+    ensures merging { (left w : Option (List ℕ))
+        → MergesOn left left (S.left r2.old) (S.left r2.new) w w (sides_of m.old) (sides_of m.new) result }
     ensures telling { (a1 b1 a2 w0 w1 : Option (List ℕ)) (told : List Turn) (withdraws : Bool)
         → Telling a1 b1 a2 (S.left r2.old) w0 w1 (sides_of m.old) told withdraws
         → OnOk result (Telling a1 b1 a2 (S.left r2.new) w0 w1 (sides_of m.new) told withdraws) }
-    ensures fits { OnOk result (Fits (sides_of m.new)) }
-    ensures read { OnOk result (IsRead (sides_of m.new)) }
-    ensures less { OnOk result (cost_of (sides_of m.new) ≤ cost_of (sides_of m.old)) }
+    ensures read { OnOk result (IsReadOn (sides_of m.old) (sides_of m.new)) }
     ensures unfailed { OnOk result (S.failures r2.new ≡ S.failures r2.old) }
     ensures blames { IfErr result (λ e. BlamesRight (stream S.left S.failures r2.old r2.new) e.cause) }
 {
@@ -304,14 +267,9 @@ pub fn read_right<S: Source>(r2: &mut S, m: &mut Merge) -> Result<(), MergeFault
 /// Reads on behind what had its turn, left first.
 fn read_on<R: Source, S: Source>(r1: &mut R, r2: &mut S, m: &mut Merge) -> Result<(), MergeFault>
     requires { Fits (sides_of m.old) }
-    ensures merging { (a1 a2 w0 w1 : Option (List ℕ))
-        → Merging a1 (R.left r1.old) a2 (S.left r2.old) w0 w1 (sides_of m.old)
-        → MatchResult result
-        (λ _. Merging a1 (R.left r1.new) a2 (S.left r2.new) w0 w1 (sides_of m.new))
-        (λ e. HasStoppedMerge a1 (R.left r1.new) a2 (S.left r2.new) w0 w1 e) }
-    ensures fits { OnOk result (Fits (sides_of m.new)) }
-    ensures read { OnOk result (IsRead (sides_of m.new)) }
-    ensures less { OnOk result (cost_of (sides_of m.new) ≤ cost_of (sides_of m.old)) }
+    ensures merging { (w : Option (List ℕ)) → MergesOn (R.left r1.old) (R.left r1.new) (S.left r2.old) (S.left r2.new)
+        w w (sides_of m.old) (sides_of m.new) result }
+    ensures read { OnOk result (IsReadOn (sides_of m.old) (sides_of m.new)) }
     ensures devices { BlamesDevices (stream R.left R.failures r1.old r1.new) (stream S.left S.failures r2.old r2.new)
         0 0 result }
 {
@@ -326,16 +284,10 @@ fn turn<R: Source, S: Source, W: Sink>(
     w: &mut W,
     m: &mut Merge,
 ) -> Result<(), MergeFault>
-    requires fits { Fits (sides_of m.old) }
-    requires read { IsRead (sides_of m.old) }
-    requires some { m.old.left.ahead ≡ Lookahead.Ended → m.old.right.ahead ≡ Lookahead.Held }
-    ensures merging { (a1 a2 w0 : Option (List ℕ))
-        → Merging a1 (R.left r1.old) a2 (S.left r2.old) w0 (W.held w.old) (sides_of m.old)
-        → MatchResult result
-        (λ _. Merging a1 (R.left r1.new) a2 (S.left r2.new) w0 (W.held w.new) (sides_of m.new))
-        (λ e. HasStoppedMerge a1 (R.left r1.new) a2 (S.left r2.new) w0 (W.held w.new) e) }
-    ensures fits { OnOk result (Fits (sides_of m.new)) }
-    ensures read { OnOk result (IsRead (sides_of m.new)) }
+    requires { IsBeforeTurn (sides_of m.old) }
+    ensures merging { MergesOn (R.left r1.old) (R.left r1.new) (S.left r2.old) (S.left r2.new)
+        (W.held w.old) (W.held w.new) (sides_of m.old) (sides_of m.new) result }
+    ensures read { OnOk result (IsReadOn (sides_of m.old) (sides_of m.new)) }
     ensures less { OnOk result (cost_of (sides_of m.new) < cost_of (sides_of m.old)) }
     ensures devices { BlamesDevices (stream R.left R.failures r1.old r1.new) (stream S.left S.failures r2.old r2.new)
         (W.failures w.old) (W.failures w.new) result }
@@ -353,14 +305,9 @@ pub fn merge_records<R: Source, S: Source, W: Sink>(
     m: &mut Merge,
 ) -> Result<(), MergeFault>
     requires fits { Fits (sides_of m.old) }
-    ensures merging { (a1 a2 w0 : Option (List ℕ))
-        → Merging a1 (R.left r1.old) a2 (S.left r2.old) w0 (W.held w.old) (sides_of m.old)
-        → MatchResult result
-        (λ _. Merging a1 (R.left r1.new) a2 (S.left r2.new) w0 (W.held w.new) (sides_of m.new))
-        (λ e. HasStoppedMerge a1 (R.left r1.new) a2 (S.left r2.new) w0 (W.held w.new) e) }
-    ensures fits { OnOk result (Fits (sides_of m.new)) }
-    ensures left_end { OnOk result (m.new.left.ahead ≡ Lookahead.Ended) }
-    ensures right_end { OnOk result (m.new.right.ahead ≡ Lookahead.Ended) }
+    ensures merging { MergesOn (R.left r1.old) (R.left r1.new) (S.left r2.old) (S.left r2.new)
+        (W.held w.old) (W.held w.new) (sides_of m.old) (sides_of m.new) result }
+    ensures ended { OnOk result (HasEnded (sides_of m.new)) }
     ensures devices { BlamesDevices (stream R.left R.failures r1.old r1.new) (stream S.left S.failures r2.old r2.new)
         (W.failures w.old) (W.failures w.new) result }
 {

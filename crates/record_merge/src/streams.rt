@@ -5,13 +5,13 @@ ghost use Rattle.byte_device.specs.Devices.{FailedIn};
 ghost use Rattle.archive_records.specs.declared.fault.MergeCause.TheVariants.{Write};
 ghost use Rattle.record_merge.specs.Merging.{GainsCount, Merges};
 ghost use Rattle.byte_device.specs.Devices.{stream};
-ghost use Rattle.record_merge.specs.MergeSteps.{BlamesDevices, Fits, Leaves, Merging, StopsMerge};
+ghost use Rattle.record_merge.specs.MergeSteps.{BlamesDevices, Fits, HasEnded, Leaves, Merging, StopsMerge};
 ghost use Rattle.record_merge.specs.Sides.{sides_of};
 ghost use Rattle.record_merge.specs.declared.turns.Turn.{Turn};
 ghost use Rattle.record_merge.specs.TellingSteps.{Telling, ToldAll};
 
 use crate::merging::{Merge, merge_records};
-use crate::side::{Lookahead, MergeInput};
+use crate::side::MergeInput;
 use archive_core::Retirements;
 use archive_records::{Format, MergeCause, MergeFault, RecordFault, Sizes, put_end};
 use byte_device::{Sink, Source, put};
@@ -31,13 +31,11 @@ pub fn begin_both<R: Source, S: Source, W: Sink>(
     r2: &mut S,
     w: &mut W,
 ) -> Result<Merge, MergeFault>
-    ensures merging { MatchResult result
-        (λ m. Merging (R.left r1.old) (R.left r1.new) (S.left r2.old) (S.left r2.new)
-        (W.held w.old) (W.held w.new) (sides_of m))
+    ensures telling { MatchResult result
+        (λ m. Telling (R.left r1.old) (R.left r1.new) (S.left r2.old) (S.left r2.new)
+        (W.held w.old) (W.held w.new) (sides_of m) [] false)
         (λ e. StopsMerge (R.left r1.old) (R.left r1.new) (S.left r2.old) (S.left r2.new)
         (W.held w.old) (W.held w.new) e) }
-    ensures telling { IfOk result (λ m. Telling (R.left r1.old) (R.left r1.new) (S.left r2.old) (S.left r2.new)
-        (W.held w.old) (W.held w.new) (sides_of m) [] false) }
     ensures fits { IfOk result (λ m. Fits (sides_of m)) }
     ensures devices { BlamesDevices (stream R.left R.failures r1.old r1.new) (stream S.left S.failures r2.old r2.new)
         (W.failures w.old) (W.failures w.new) result }
@@ -69,9 +67,7 @@ pub fn begin_both<R: Source, S: Source, W: Sink>(
 
 /// Writes the end record.
 pub fn finish<W: Sink>(w: &mut W, m: &Merge) -> Result<Sizes, MergeFault>
-    requires fits { Fits (sides_of m.now) }
-    requires left_end { m.now.left.ahead ≡ Lookahead.Ended }
-    requires right_end { m.now.right.ahead ≡ Lookahead.Ended }
+    requires { HasEnded (sides_of m.now) }
     ensures leaves { (a1 b1 a2 b2 w0 : Option (List ℕ)) → Merging a1 b1 a2 b2 w0 (W.held w.old) (sides_of m.now)
         → Leaves a1 b1 a2 b2 w0 (W.held w.new) result }
     ensures told { (a1 b1 a2 b2 w0 : Option (List ℕ)) (told : List Turn) (withdraws : Bool)

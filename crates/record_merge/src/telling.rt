@@ -1,8 +1,8 @@
 //! A merge that tells what each record of its right side is to the left one, and whether the right one retires what is
 //! there.
 
-ghost use Rattle.std.specs.Prelude.{◌≡◌, ◌≢◌, ◌<◌, ◌≤◌, ℕ, List, [], Option, OnOk, IfOk, IfErr, IsSome};
-ghost use Rattle.std.specs.Prelude.{IfSome, MatchResult, map, false};
+ghost use Rattle.std.specs.Prelude.{◌≡◌, ◌≢◌, ◌<◌, ℕ, List, [], Option, OnOk, IfOk, IfErr, IsSome};
+ghost use Rattle.std.specs.Prelude.{IfSome, map, false};
 ghost use Rattle.std.specs.List.{list_any};
 ghost use Rattle.std.specs.Result.{result_map_both};
 ghost use Rattle.std.specs.declared.cmp.Ordering.TheVariants.{Less};
@@ -12,11 +12,11 @@ ghost use Rattle.archive_core.specs.Content.{IsContent, Operations, is_covered};
 ghost use Rattle.archive_records.specs.Text.{IsArchiveOf};
 ghost use Rattle.archive_records.specs.declared.fault.MergeCause.TheVariants.{Right};
 ghost use Rattle.record_merge.specs.Merging.{GainsCount, Merges};
-ghost use Rattle.record_merge.specs.MergeSteps.{BlamesDevices, Fits, HasStoppedMerge, IsRead, Leaves, Merging};
-ghost use Rattle.record_merge.specs.MergeSteps.{cost_of, first_of, memory_behind};
+ghost use Rattle.record_merge.specs.MergeSteps.{BlamesDevices, Fits, HasEnded, HasStoppedMerge, IsBeforeTurn, IsReadOn};
+ghost use Rattle.record_merge.specs.MergeSteps.{Leaves, Merging, cost_of, first_of, memory_behind};
 ghost use Rattle.record_merge.specs.Sides.{sides_of};
 ghost use Rattle.record_merge.specs.Telling.{HasOperations, IsMergedTelling};
-ghost use Rattle.record_merge.specs.TellingSteps.{Telling, TellsNext, ToldAll, has_next, told_with};
+ghost use Rattle.record_merge.specs.TellingSteps.{TellsNext, TellsOn, ToldAll, has_next, told_with};
 ghost use Rattle.record_merge.specs.Turns.{turn_of};
 
 use crate::merging::{Merge, first, read_left, read_right, share, take_turn};
@@ -90,16 +90,10 @@ fn tell_and_read_on<R: Source, S: Source>(
 ) -> Result<(), MergeFault>
     requires fits { Fits (sides_of m.old) }
     requires unread { IsSome turn → m.old.right.ahead ≡ Lookahead.Unread }
-    ensures telling { (a1 a2 w0 w1 : Option (List ℕ))
-        → Telling a1 (R.left r1.old) a2 (S.left r2.old) w0 w1 (sides_of m.old) (told_with told.old.turns.items turn)
-        told.old.withdraws
-        → MatchResult result
-        (λ _. Telling a1 (R.left r1.new) a2 (S.left r2.new) w0 w1 (sides_of m.new) told.new.turns.items
-        told.new.withdraws)
-        (λ e. HasStoppedMerge a1 (R.left r1.new) a2 (S.left r2.new) w0 w1 e) }
-    ensures fits { OnOk result (Fits (sides_of m.new)) }
-    ensures read { OnOk result (IsRead (sides_of m.new)) }
-    ensures less { OnOk result (cost_of (sides_of m.new) ≤ cost_of (sides_of m.old)) }
+    ensures telling { (w : Option (List ℕ)) → TellsOn (R.left r1.old) (R.left r1.new) (S.left r2.old) (S.left r2.new)
+        w w (sides_of m.old) (sides_of m.new) (told_with told.old.turns.items turn) told.new.turns.items
+        told.old.withdraws told.new.withdraws result }
+    ensures read { OnOk result (IsReadOn (sides_of m.old) (sides_of m.new)) }
     ensures devices { BlamesDevices (stream R.left R.failures r1.old r1.new) (stream S.left S.failures r2.old r2.new)
         0 0 result }
 {
@@ -116,18 +110,11 @@ fn give_turn<R: Source, S: Source, W: Sink>(
     m: &mut Merge,
     told: &mut Told,
 ) -> Result<(), MergeFault>
-    requires fits { Fits (sides_of m.old) }
-    requires read { IsRead (sides_of m.old) }
-    requires some { m.old.left.ahead ≡ Lookahead.Ended → m.old.right.ahead ≡ Lookahead.Held }
-    ensures telling { (a1 a2 w0 : Option (List ℕ))
-        → Telling a1 (R.left r1.old) a2 (S.left r2.old) w0 (W.held w.old) (sides_of m.old) told.old.turns.items
-        told.old.withdraws
-        → MatchResult result
-        (λ _. Telling a1 (R.left r1.new) a2 (S.left r2.new) w0 (W.held w.new) (sides_of m.new) told.new.turns.items
-        told.new.withdraws)
-        (λ e. HasStoppedMerge a1 (R.left r1.new) a2 (S.left r2.new) w0 (W.held w.new) e) }
-    ensures fits { OnOk result (Fits (sides_of m.new)) }
-    ensures read { OnOk result (IsRead (sides_of m.new)) }
+    requires { IsBeforeTurn (sides_of m.old) }
+    ensures telling { TellsOn (R.left r1.old) (R.left r1.new) (S.left r2.old) (S.left r2.new)
+        (W.held w.old) (W.held w.new) (sides_of m.old) (sides_of m.new) told.old.turns.items told.new.turns.items
+        told.old.withdraws told.new.withdraws result }
+    ensures read { OnOk result (IsReadOn (sides_of m.old) (sides_of m.new)) }
     ensures less { OnOk result (cost_of (sides_of m.new) < cost_of (sides_of m.old)) }
     ensures devices { BlamesDevices (stream R.left R.failures r1.old r1.new) (stream S.left S.failures r2.old r2.new)
         (W.failures w.old) (W.failures w.new) result }
@@ -149,16 +136,10 @@ fn tell_records<R: Source, S: Source, W: Sink>(
     told: &mut Told,
 ) -> Result<(), MergeFault>
     requires fits { Fits (sides_of m.old) }
-    ensures telling { (a1 a2 w0 : Option (List ℕ))
-        → Telling a1 (R.left r1.old) a2 (S.left r2.old) w0 (W.held w.old) (sides_of m.old) told.old.turns.items
-        told.old.withdraws
-        → MatchResult result
-        (λ _. Telling a1 (R.left r1.new) a2 (S.left r2.new) w0 (W.held w.new) (sides_of m.new) told.new.turns.items
-        told.new.withdraws)
-        (λ e. HasStoppedMerge a1 (R.left r1.new) a2 (S.left r2.new) w0 (W.held w.new) e) }
-    ensures fits { OnOk result (Fits (sides_of m.new)) }
-    ensures left_end { OnOk result (m.new.left.ahead ≡ Lookahead.Ended) }
-    ensures right_end { OnOk result (m.new.right.ahead ≡ Lookahead.Ended) }
+    ensures telling { TellsOn (R.left r1.old) (R.left r1.new) (S.left r2.old) (S.left r2.new)
+        (W.held w.old) (W.held w.new) (sides_of m.old) (sides_of m.new) told.old.turns.items told.new.turns.items
+        told.old.withdraws told.new.withdraws result }
+    ensures ended { OnOk result (HasEnded (sides_of m.new)) }
     ensures devices { BlamesDevices (stream R.left R.failures r1.old r1.new) (stream S.left S.failures r2.old r2.new)
         (W.failures w.old) (W.failures w.new) result }
 {
