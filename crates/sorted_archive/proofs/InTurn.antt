@@ -17,9 +17,10 @@ use Rattle.archive_core.specs.declared.operations.Operation.{Operation}
 use Rattle.archive_core.proofs.Made.{bytes_same, by_test, or_left, or_right, made_again, made_empty, and_left, and_right}
 use Rattle.archive_core.proofs.Taken.{contains_with, known_changes, taken_are_joined, with_known, new_in_turn, new_of_none}
 use Rattle.sorted_archive.specs.InTurn.{AreNewInTurn}
+use Rattle.sorted_archive.specs.InnerOrder.{IsOrderOf}
 use Rattle.sorted_archive.specs.InnerTaking.{AreParts, IsParted, new_of_both, with_both}
 use Rattle.sorted_archive.proofs.Held.{each_member}
-use Rattle.sorted_archive.proofs.Merged.{IsOrderOf, contains_filtered}
+use Rattle.sorted_archive.proofs.Merged.{contains_filtered}
 use Rattle.sorted_archive.proofs.Parted.{admission_keeps, covered_there, not_false, not_of, with_free, with_retirement}
 
 -- ---- one operation more

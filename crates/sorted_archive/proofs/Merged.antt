@@ -5,7 +5,7 @@ use Rattle.std.specs.Ordering.{nat_cmp, is_lt, on, eq_by_cmp}
 use Rattle.std.specs.Cmp.{Equal-is}
 use Rattle.std.specs.List.{dedup, AllByRecursion, list_all}
 use Rattle.std.specs.Cmp.Lexicographic.{slice_cmp, nat_list_cmp_total}
-use Rattle.std.specs.List.Sorted.{IsSorted, IsSortedBy, IsStrictlySortedBy, IsPermutation}
+use Rattle.std.specs.List.Sorted.{IsSorted, IsSortedBy, IsPermutation}
 use Rattle.std.specs.FinSet.{from_list, contains, union, same_set, contains-insert, contains-empty, contains-union}
 use Rattle.std.proofs.lemmas.List.{map-append, get_or-map}
 use Rattle.std.proofs.Math.ListN.{length-map}
@@ -18,6 +18,7 @@ use Rattle.archive_core.specs.Record.{record_bytes, IsOperation}
 use Rattle.archive_core.specs.Content.{Operations, IsMade, IsBelow, is_admission, covering, is_covered, changes, joined}
 use Rattle.archive_core.specs.InnerHeld.{IsHeld}
 use Rattle.archive_core.specs.declared.operations.Operation.{Operation}
+use Rattle.sorted_archive.specs.InnerOrder.{IsOrderOf}
 use Rattle.archive_core.proofs.Made.{bytes_same, by_test, either, or_left, or_right, contains_made, made_part, made_again, uncovered_of_made}
 
 -- the operations that are sorted by their records have sorted records
@@ -27,12 +28,7 @@ sorted_records (x ∷ xs) up k d low high =
     let lt : k + 1 < length (x ∷ xs) = rw (length-map {A = Operation}) at high in
     rw (get_or-map record_bytes (x ∷ xs) (k + 1) x d lt, get_or-map record_bytes (x ∷ xs) k x d (omega arith)) (up k x (omega arith) lt)
 
--- sorted operations of which each is kept once: they ascend, and are the same
-pub record IsOrderOf (operations ordered : List Operation) : Type 0 where
-  pub ascending : IsStrictlySortedBy (slice_cmp nat_cmp) (map record_bytes ordered)
-  pub same : from_list {R = slice_cmp nat_cmp} (map record_bytes ordered) ≡ from_list (map record_bytes operations)
-  pub are : AllByRecursion IsOperation operations → AllByRecursion IsOperation ordered
-
+-- sorted operations of which each is kept once are in order
 pub ordered : (operations sorted : List Operation) → IsPermutation operations sorted → IsSortedBy (λ x y. is_lt (slice_cmp nat_cmp (record_bytes x) (record_bytes y))) sorted → IsOrderOf operations (dedup (eq_by_cmp (on record_bytes (slice_cmp nat_cmp))) sorted)
 ordered operations sorted permuted up =
     let kept = dedup (eq_by_cmp (on record_bytes (slice_cmp nat_cmp))) sorted in

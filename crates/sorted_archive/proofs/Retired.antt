@@ -14,10 +14,11 @@ use Rattle.join_core.proofs.Place.{len_listed}
 use Rattle.archive_core.specs.Record.{record_bytes}
 use Rattle.archive_core.specs.Content.{Operations, is_admission, covering, is_covered, content_of, IsMade, IsBelow, IsTakenInPart, with_record, with_records, changes, new_among}
 use Rattle.sorted_archive.specs.InnerTaking.{IsBeside}
+use Rattle.sorted_archive.specs.InnerOrder.{IsOrderOf}
 use Rattle.archive_core.specs.declared.operations.Operation.{Operation}
 use Rattle.archive_core.proofs.Made.{bytes_same, and_left, and_right, and_true, or_left, or_right, joined_made_right}
 use Rattle.archive_core.proofs.Taken.{known_changes, new_changes, with_known, taken_are_joined, new_in_turn, new_of_none}
-use Rattle.sorted_archive.proofs.Merged.{IsOrderOf, contains_filtered, records_filtered}
+use Rattle.sorted_archive.proofs.Merged.{contains_filtered, records_filtered}
 use Rattle.sorted_archive.proofs.Parted.{beside_first, beside_retirement, not_of, neither}
 
 -- those of a list that a content does not have

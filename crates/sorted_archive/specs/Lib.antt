@@ -2,5 +2,7 @@ pub mod InnerTaking
 pub mod InnerRange
 pub mod InnerScan
 pub mod InnerNames
+pub mod InnerOrder
 pub mod InTurn
 pub mod Places
+pub mod Taking

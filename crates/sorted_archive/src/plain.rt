@@ -10,11 +10,12 @@ ghost use Rattle.join_core.specs.InnerSearch.{IsFound};
 ghost use Rattle.join_core.specs.Listing.{listing};
 ghost use Rattle.archive_core.specs.Record.{IsOperation, admission_record, record_bytes};
 ghost use Rattle.archive_core.specs.Valid.{IsValid};
-ghost use Rattle.archive_core.specs.Content.{IsContent, IsTakenInPart, is_covered, changes};
-ghost use Rattle.archive_core.specs.Content.{with_record, with_records, joined};
+ghost use Rattle.archive_core.specs.Content.{IsContent, is_covered, changes, with_record, joined};
 ghost use Rattle.archive_core.specs.InnerHeld.{IsHeld};
+ghost use Rattle.sorted_archive.specs.InnerOrder.{IsOrderOf};
 ghost use Rattle.sorted_archive.specs.InnerScan.{held_in, held_among, IsAnsweringOf};
 ghost use Rattle.sorted_archive.specs.Places.{IsPutAt};
+ghost use Rattle.sorted_archive.specs.Taking.{Takes};
 ghost use Rattle.archive_core.specs.declared.operations.Operation.TheVariants.{Admit, Retire};
 ghost use Rattle.archive_core.specs.Lookup.{IsOwnRow, IsAnswerOf, own_row, answer_view};
 ghost use Rattle.archive_core.specs.Names.{name_view};
@@ -108,10 +109,7 @@ fn sort(operations: &mut Vec<Operation, Heap>)
 
 // Sorts operations by their records, and keeps each once.
 pub(crate) fn order(operations: &mut Vec<Operation, Heap>)
-    ensures ascending { IsStrictlySortedBy (slice_cmp nat_cmp) (map record_bytes operations.new.items) }
-    ensures same { set.from_list {R = slice_cmp nat_cmp} (map record_bytes operations.new.items)
-        ≡ set.from_list (map record_bytes operations.old.items) }
-    ensures are { AllByRecursion IsOperation operations.old.items → AllByRecursion IsOperation operations.new.items }
+    ensures { IsOrderOf operations.old.items operations.new.items }
 {
     sort(operations);
     operations.dedup_by(|a, b| a.compare(b).is_eq());
@@ -419,8 +417,7 @@ impl PlainArchive {
     // Takes operations one after another.
     fn take_in_turn(&mut self, operations: Vec<Operation, Heap>) -> Result<(), NoMemory>
         requires { IsContent self.now }
-        ensures taken { OnOk result (self.new ≡ with_records self.old (map record_bytes operations.items)) }
-        ensures refused { OnErr result (IsTakenInPart self.old (map record_bytes operations.items) self.new) }
+        ensures { Takes self.old self.new (map record_bytes operations.items) result }
     {
         'operations: for operation in operations {
             self.take(operation)?;

@@ -1,9 +1,10 @@
 //! Taking many operations.
-ghost use Rattle.std.specs.Prelude.{◌≡◌, true, not, map, IfOk, OnOk, OnErr};
+ghost use Rattle.std.specs.Prelude.{◌≡◌, true, not, map, IfOk, OnOk};
 ghost use Rattle.std.specs.List.{list_all};
 ghost use Rattle.archive_core.specs.Record.{record_bytes};
-ghost use Rattle.archive_core.specs.Content.{IsContent, IsTakenInPart, is_admission, with_records, new_among};
+ghost use Rattle.archive_core.specs.Content.{IsContent, is_admission};
 ghost use Rattle.sorted_archive.specs.InTurn.{AreNewInTurn};
+ghost use Rattle.sorted_archive.specs.Taking.{Takes, TakesEach};
 
 use crate::parting::{Parts, parts_of};
 use crate::plain::order;
@@ -39,12 +40,9 @@ fn take_in_turn<A: Archive>(
     archive: &mut A,
     operations: Vec<Operation, Heap>,
 ) -> Result<u64, NoMemory>
-    ensures taken { OnOk result
-        (A.content archive.new ≡ with_records (A.content archive.old) (map record_bytes operations.items)) }
-    ensures counted { IfOk result (λ new. new ≡ new_among (A.content archive.old) (map record_bytes operations.items)) }
+    ensures taken { TakesEach (A.content archive.old) (A.content archive.new) (map record_bytes operations.items)
+        result }
     ensures content { OnOk result (IsContent (A.content archive.new)) }
-    ensures refused { OnErr result
-        (IsTakenInPart (A.content archive.old) (map record_bytes operations.items) (A.content archive.new)) }
 {
     let _before = archive.len();
     let mut new = 0;
@@ -61,10 +59,7 @@ fn take_sorted<A: Archive + Drop>(
     archive: &mut A,
     mut operations: Vec<Operation, Heap>,
 ) -> Result<(), NoMemory>
-    ensures taken { OnOk result
-        (A.content archive.new ≡ with_records (A.content archive.old) (map record_bytes operations.items)) }
-    ensures refused { OnErr result
-        (IsTakenInPart (A.content archive.old) (map record_bytes operations.items) (A.content archive.new)) }
+    ensures { Takes (A.content archive.old) (A.content archive.new) (map record_bytes operations.items) result }
 {
     let _before = archive.len();
     operations.sort_unstable_by(|a, b| a.compare(b));
@@ -80,11 +75,7 @@ fn take_admissions<A: Archive + Drop>(
     operations: Vec<Operation, Heap>,
 ) -> Result<u64, NoMemory>
     requires { list_all (λ operation. is_admission (record_bytes operation)) operations.items ≡ true }
-    ensures taken { OnOk result
-        (A.content archive.new ≡ with_records (A.content archive.old) (map record_bytes operations.items)) }
-    ensures counted { IfOk result (λ new. new ≡ new_among (A.content archive.old) (map record_bytes operations.items)) }
-    ensures refused { OnErr result
-        (IsTakenInPart (A.content archive.old) (map record_bytes operations.items) (A.content archive.new)) }
+    ensures { TakesEach (A.content archive.old) (A.content archive.new) (map record_bytes operations.items) result }
 {
     let before = archive.len();
     take_sorted(archive, operations)?;
@@ -97,11 +88,7 @@ fn take_retirements<A: Archive + Drop>(
     mut operations: Vec<Operation, Heap>,
 ) -> Result<u64, NoMemory>
     requires { list_all (λ operation. not (is_admission (record_bytes operation))) operations.items ≡ true }
-    ensures taken { OnOk result
-        (A.content archive.new ≡ with_records (A.content archive.old) (map record_bytes operations.items)) }
-    ensures counted { IfOk result (λ new. new ≡ new_among (A.content archive.old) (map record_bytes operations.items)) }
-    ensures refused { OnErr result
-        (IsTakenInPart (A.content archive.old) (map record_bytes operations.items) (A.content archive.new)) }
+    ensures { TakesEach (A.content archive.old) (A.content archive.new) (map record_bytes operations.items) result }
 {
     let _before = archive.len();
     order(&mut operations);
@@ -117,11 +104,7 @@ fn take_parts<A: Archive + Drop>(
     archive: &mut A,
     operations: Vec<Operation, Heap>,
 ) -> Result<u64, NoMemory>
-    ensures taken { OnOk result
-        (A.content archive.new ≡ with_records (A.content archive.old) (map record_bytes operations.items)) }
-    ensures counted { IfOk result (λ new. new ≡ new_among (A.content archive.old) (map record_bytes operations.items)) }
-    ensures refused { OnErr result
-        (IsTakenInPart (A.content archive.old) (map record_bytes operations.items) (A.content archive.new)) }
+    ensures { TakesEach (A.content archive.old) (A.content archive.new) (map record_bytes operations.items) result }
 {
     let _before = archive.len();
     let parts = parts_of(operations)?;
@@ -143,11 +126,7 @@ pub fn take_each<A: Archive + Drop>(
     archive: &mut A,
     operations: Vec<Operation, Heap>,
 ) -> Result<u64, NoMemory>
-    ensures taken { OnOk result
-        (A.content archive.new ≡ with_records (A.content archive.old) (map record_bytes operations.items)) }
-    ensures counted { IfOk result (λ new. new ≡ new_among (A.content archive.old) (map record_bytes operations.items)) }
-    ensures refused { OnErr result
-        (IsTakenInPart (A.content archive.old) (map record_bytes operations.items) (A.content archive.new)) }
+    ensures { TakesEach (A.content archive.old) (A.content archive.new) (map record_bytes operations.items) result }
 {
     if are_admissions(&operations) {
         return take_admissions(archive, operations);

@@ -9,5 +9,4 @@ use Rattle.sorted_archive.proofs.plain.order.Goals as goal
 pub returns : goal.returns
 returns c =
     let kept = dedup_same _ (eq_by_cmp (on record_bytes (slice_cmp nat_cmp))) _ (λ x y b f' x' y' k. search rules) _ _ c.dedup_by.ensures.filtered in
-    let all = ordered c.args.operations.now.items c.sort.new.operations.items c.sort.ensures.permutation c.sort.ensures.sorted in
-    rw kept (record { ascending = all.ascending; same = all.same; are = all.are })
+    rw kept (ordered c.args.operations.now.items c.sort.new.operations.items c.sort.ensures.permutation c.sort.ensures.sorted)

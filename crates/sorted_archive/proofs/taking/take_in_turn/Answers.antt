@@ -1,12 +1,12 @@
 use mir.Val.{bool_byte}
-use Rattle.std.proofs.Common.{Bool, true, false, refl, ◌≡◌, ◌∷◌, ◌+◌, List, length, map, ap, subst, ◌∙◌, arith, rules, if◌then◌else◌}
+use Rattle.std.proofs.Common.{Bool, true, false, refl, sym, ◌≡◌, ℕ, [], ◌∷◌, ◌+◌, List, length, map, ap, subst, ◌∙◌, arith, rules, if◌then◌else◌}
 use Rattle.std.specs.Vec.Iter.{into_iter_items, into_iter_len}
 use Rattle.std.proofs.lemmas.Result.{err_from_is_err_and}
-use Rattle.archive_core.specs.Content.{IsTakenInPart, changes, new_among}
+use Rattle.archive_core.specs.Content.{Operations, IsTakenInPart, changes, with_records, new_among}
 use Rattle.archive_core.specs.Record.{record_bytes}
 use Rattle.archive_core.specs.declared.operations.Operation.{Operation}
 use Rattle.sorted_archive.proofs.Held.{content_with}
-use Rattle.archive_core.proofs.Taken.{one_counted, all_counted, counted_below, taken_in_part}
+use Rattle.archive_core.proofs.Taken.{IsCounted, one_counted, all_counted, counted_below, taken_in_part}
 use Rattle.sorted_archive.proofs.taking.take_in_turn.Goals as goal
 
 byte_is : (b : Bool) → bool_byte b ≡ (if b then 1 else 0)
@@ -43,21 +43,22 @@ operations-preserved g c =
           omega arith;
     }
 
-pub returns-in_err-changed-clause-refused : goal.returns-in_err-changed-clause-refused
-returns-in_err-changed-clause-refused g c =
+pub returns-in_err-changed-clause-taken : goal.returns-in_err-changed-clause-taken
+returns-in_err-changed-clause-taken g c =
     let p = err_from_is_err_and c.from_residual.result c.from_residual.ensures.1 in
     let old = g.A.Join.content c.args.archive.now in
     let new = g.A.Join.content c.take.new.self in
     let part = taken_in_part old (g.A.Join.content c.operations.archive) new (into_iter_items c.into_iter-operation-iterator.result) (into_iter_items c.operations.operation-iterator) c.operations.invariant.content c.operations.invariant.way.way c.in_err-changed.ensures.refused in
     rw p.1 (subst (λ (all : List Operation). IsTakenInPart old (map record_bytes all) new) c.into_iter-operation-iterator.ensures.into_iter_gives.0 part)
 
-pub returns-clause-counted : goal.returns-clause-counted
-returns-clause-counted g c =
-    let old = g.A.Join.content c.args.archive.now in
+-- where none is left, each was taken, and those that were new are counted
+all_taken : (old now : Operations) (all left given : List Operation) (new : ℕ) → IsCounted old now all left new → length left ≡ 0 → all ≡ given → (now ≡ with_records old (map record_bytes given)) × (new ≡ new_among old (map record_bytes given))
+all_taken old now all [] given new at none is = rw (sym is) (at.way.content, all_counted old now all [] new at none)
+all_taken old now all (x ∷ xs) given new at none is = absurd (omega arith)
+
+pub returns-clause-taken : goal.returns-clause-taken
+returns-clause-taken g c =
     let at = c.operations in
-    let all : List Operation = into_iter_items c.into_iter-operation-iterator.result in
     let left : List Operation = into_iter_items at.operation-iterator in
     let long : into_iter_len at.operation-iterator ≡ length left = at.invariant.long in
-    let none : length left ≡ 0 = omega (arith, long, c.in-None.ensures.steps) in
-    all_counted old (g.A.Join.content at.archive) all left at.new at.invariant.way none
-    ∙ ap (λ (l : List Operation). new_among old (map record_bytes l)) c.into_iter-operation-iterator.ensures.into_iter_gives.0
+    all_taken (g.A.Join.content c.args.archive.now) (g.A.Join.content at.archive) (into_iter_items c.into_iter-operation-iterator.result) left c.args.operations.items at.new at.invariant.way (omega (arith, long, c.in-None.ensures.steps)) c.into_iter-operation-iterator.ensures.into_iter_gives.0

@@ -14,40 +14,35 @@ take_admissions-requires g c = (c.in_ok-parts.ensures (g.A.Join.content c.args.a
 pub take_retirements-requires : goal.take_retirements-requires
 take_retirements-requires g c = (c.in_ok-parts.ensures (g.A.Join.content c.args.archive.now) c.len-before.ensures.content.itself).parts.retired
 
-pub returns-in_err-parts-clause-refused : goal.returns-in_err-parts-clause-refused
-returns-in_err-parts-clause-refused g c =
+pub returns-in_err-parts : goal.returns-in_err-parts
+returns-in_err-parts g c =
     let p = err_from_is_err_and c.from_residual.result c.from_residual.ensures.1 in
     rw p.1 (none_taken (g.A.Join.content c.args.archive.now) (map record_bytes c.args.operations.items) c.len-before.ensures.content)
 
-pub returns-in_err-admitted-clause-refused : goal.returns-in_err-admitted-clause-refused
-returns-in_err-admitted-clause-refused g c =
+pub returns-in_err-admitted : goal.returns-in_err-admitted
+returns-in_err-admitted g c =
     let p = err_from_is_err_and c.from_residual-in_err-admitted.result c.from_residual-in_err-admitted.ensures.1 in
     let parts = c.in_ok-parts.parts in
     let is = c.in_ok-parts.ensures (g.A.Join.content c.args.archive.now) c.len-before.ensures.content.itself in
-    rw p.1 (admissions_in_part (g.A.Join.content c.args.archive.now) (g.A.Join.content c.take_admissions.new.archive) c.args.operations.items parts.admissions.items parts.retirements.items is c.in_err-admitted.ensures.refused)
+    rw p.1 (admissions_in_part (g.A.Join.content c.args.archive.now) (g.A.Join.content c.take_admissions.new.archive) c.args.operations.items parts.admissions.items parts.retirements.items is c.in_err-admitted.ensures)
 
-pub returns-in_err-retired-clause-refused : goal.returns-in_err-retired-clause-refused
-returns-in_err-retired-clause-refused g c =
+pub returns-in_err-retired : goal.returns-in_err-retired
+returns-in_err-retired g c =
     let p = err_from_is_err_and c.from_residual-in_err-retired.result c.from_residual-in_err-retired.ensures.1 in
     let parts = c.in_ok-parts.parts in
     let is = c.in_ok-parts.ensures (g.A.Join.content c.args.archive.now) c.len-before.ensures.content.itself in
-    rw p.1 (retirements_in_part (g.A.Join.content c.args.archive.now) (g.A.Join.content c.take_admissions.new.archive) (g.A.Join.content c.take_retirements.new.archive) c.args.operations.items parts.admissions.items parts.retirements.items is c.in_ok-admitted.ensures.taken c.in_err-retired.ensures.refused)
+    rw p.1 (retirements_in_part (g.A.Join.content c.args.archive.now) (g.A.Join.content c.take_admissions.new.archive) (g.A.Join.content c.take_retirements.new.archive) c.args.operations.items parts.admissions.items parts.retirements.items is c.in_ok-admitted.ensures.0 c.in_err-retired.ensures)
 
 pub overflow_add-result : goal.overflow_add-result
 overflow_add-result g c =
     let old = g.A.Join.content c.args.archive.now in
     let is = c.in_ok-parts.ensures old c.len-before.ensures.content.itself in
     let most = new_within old (map record_bytes c.args.operations.items) in
-    let behind = c.in_ok-retired.ensures.counted ∙ ap (λ p. new_among p (map record_bytes c.in_ok-parts.parts.retirements.items)) c.in_ok-admitted.ensures.taken in
-    omega (arith, most, length-map c.args.operations.items record_bytes, is.counted, behind, c.in_ok-admitted.ensures.counted, c.args.operations.ok.0, c.args.operations.ok.1, c.args.operations.small)
+    let behind = c.in_ok-retired.ensures.1 ∙ ap (λ p. new_among p (map record_bytes c.in_ok-parts.parts.retirements.items)) c.in_ok-admitted.ensures.0 in
+    omega (arith, most, length-map c.args.operations.items record_bytes, is.counted, behind, c.in_ok-admitted.ensures.1, c.args.operations.ok.0, c.args.operations.ok.1, c.args.operations.small)
 
-pub returns-clause-taken : goal.returns-clause-taken
-returns-clause-taken g c =
+pub returns : goal.returns
+returns g c =
     let is = c.in_ok-parts.ensures (g.A.Join.content c.args.archive.now) c.len-before.ensures.content.itself in
-    c.in_ok-retired.ensures.taken ∙ ap (λ p. with_records p (map record_bytes c.in_ok-parts.parts.retirements.items)) c.in_ok-admitted.ensures.taken ∙ is.content
-
-pub returns-clause-counted : goal.returns-clause-counted
-returns-clause-counted g c =
-    let is = c.in_ok-parts.ensures (g.A.Join.content c.args.archive.now) c.len-before.ensures.content.itself in
-    let behind = c.in_ok-retired.ensures.counted ∙ ap (λ p. new_among p (map record_bytes c.in_ok-parts.parts.retirements.items)) c.in_ok-admitted.ensures.taken in
-    omega (arith, is.counted, behind, c.in_ok-admitted.ensures.counted)
+    let behind = c.in_ok-retired.ensures.1 ∙ ap (λ p. new_among p (map record_bytes c.in_ok-parts.parts.retirements.items)) c.in_ok-admitted.ensures.0 in
+    (c.in_ok-retired.ensures.0 ∙ ap (λ p. with_records p (map record_bytes c.in_ok-parts.parts.retirements.items)) c.in_ok-admitted.ensures.0 ∙ is.content, omega (arith, is.counted, behind, c.in_ok-admitted.ensures.1))

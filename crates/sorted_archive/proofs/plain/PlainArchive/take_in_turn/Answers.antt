@@ -29,8 +29,8 @@ operations-preserved c =
           omega arith;
     }
 
-pub returns-in_err-take-clause-refused : goal.returns-in_err-take-clause-refused
-returns-in_err-take-clause-refused c =
+pub returns-in_err-take : goal.returns-in_err-take
+returns-in_err-take c =
     let p = err_from_is_err_and c.from_residual.result c.from_residual.ensures.1 in
     let part = taken_in_part c.args.self.now c.operations.self c.take.new.self (into_iter_items c.into_iter-operation-iterator.result) (into_iter_items c.operations.operation-iterator) c.operations.invariant.content c.operations.invariant.way c.in_err-take.ensures.refused in
     rw p.1 (subst (λ (all : List Operation). IsTakenInPart c.args.self.now (map record_bytes all) c.take.new.self) c.into_iter-operation-iterator.ensures.into_iter_gives.0 part)

@@ -1,5 +1,5 @@
 use Rattle.std.proofs.Common.{◌∙◌, ap, map, subst}
-use Rattle.std.proofs.lemmas.Result.{on_ok_weaker, on_err_weaker}
+use Rattle.std.proofs.lemmas.Result.{MatchResult-weaker, on_ok_weaker, on_err_weaker}
 use Rattle.archive_core.specs.Content.{IsContent, content_of, joined as joined_of}
 use Rattle.archive_core.specs.Record.{record_bytes}
 use Rattle.sorted_archive.proofs.Held.{content_of_held}
@@ -16,7 +16,7 @@ returns-then-len-min-clause-joined c =
     let theirs = c.other.inside.operations.items in
     let mine_is = subst IsContent c.self.view_is (content_of_held mine c.self.invariant) in
     let theirs_is = subst IsContent c.other.view_is (content_of_held theirs c.other.invariant) in
-    on_ok_weaker c.take_in_turn.result (λ taken. joined c.args.self.now c.args.other _ mine_is theirs_is (taken ∙ taken_are_joined c.args.self.now (map record_bytes theirs) mine_is.itself ∙ ap (λ s. joined_of c.args.self.now (content_of s)) c.other.view_is ∙ ap (joined_of c.args.self.now) theirs_is.itself)) c.take_in_turn.ensures.taken
+    MatchResult-weaker c.take_in_turn.result c.take_in_turn.ensures (λ _ taken. joined c.args.self.now c.args.other _ mine_is theirs_is (taken ∙ taken_are_joined c.args.self.now (map record_bytes theirs) mine_is.itself ∙ ap (λ s. joined_of c.args.self.now (content_of s)) c.other.view_is ∙ ap (joined_of c.args.self.now) theirs_is.itself)) (λ _ _. tt)
 
 pub returns-then-len-min-clause-refused : goal.returns-then-len-min-clause-refused
 returns-then-len-min-clause-refused c =
@@ -24,7 +24,7 @@ returns-then-len-min-clause-refused c =
     let theirs = c.other.inside.operations.items in
     let mine_is = subst IsContent c.self.view_is (content_of_held mine c.self.invariant) in
     let theirs_is = subst IsContent c.other.view_is (content_of_held theirs c.other.invariant) in
-    on_err_weaker c.take_in_turn.result (taken_towards c.args.self.now c.args.other _ (map record_bytes theirs) mine_is theirs_is.itself c.other.view_is) c.take_in_turn.ensures.refused
+    MatchResult-weaker c.take_in_turn.result c.take_in_turn.ensures (λ _ _. tt) (λ _. taken_towards c.args.self.now c.args.other _ (map record_bytes theirs) mine_is theirs_is.itself c.other.view_is)
 
 pub returns-clause-joined : goal.returns-clause-joined
 returns-clause-joined c =
