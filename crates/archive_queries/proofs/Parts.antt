@@ -1,6 +1,5 @@
 -- What the join of parts has.
 use Rattle.std.proofs.Common.{◌≡◌, ℕ, ◌≤◌, Bool, true, false, not, ◌&&◌, ◌||◌, nat_eq, List, [], ◌∷◌, ◌++◌, length, map, take, drop, refl, sym, ap, ◌∙◌, subst, arith, inl, inr, Ok, Err, Result, Option, Some, None, Contains}
-use Rattle.std.specs.Prelude.{IfOk}
 use Rattle.std.specs.Str.{bytes_eq}
 use Rattle.std.specs.List.{AllByRecursion, AllZip}
 use Rattle.std.specs.Cmp.Lexicographic.{nat_list_cmp_total}
@@ -19,14 +18,14 @@ use Rattle.archive_core.proofs.Members.{in_rest}
 use Rattle.archive_reading.specs.Keys.{first_key}
 use Rattle.byte_device.specs.declared.disks.CannotOpen.{CannotOpen}
 use Rattle.command_ends.proofs.Archives.{each_archive, hold_more}
-use Rattle.command_ends.proofs.Readers.{all_more}
-use Rattle.command_ends.specs.Archives.{AreRefused, AreUnfailed, HoldTogether, file_place, merged}
+use Rattle.command_ends.proofs.Readers.{all_more, none_failed, none_touched}
+use Rattle.command_ends.specs.Archives.{AreRefused, AreUnfailed, HoldTogether, ReadsTogether, file_place, merged}
 use Rattle.command_ends.specs.declared.faults.CommandFault.{CommandFault}
 use Rattle.command_ends.specs.declared.faults.CommandFault.TheVariants.{Input, Output, Report, OutOfMemory}
 use Rattle.command_ends.specs.declared.faults.Status.{Status}
 use Rattle.command_ends.specs.Ends.{EndsReport}
 use Rattle.command_ends.specs.Outputs.{Takes, Writer}
-use Rattle.command_ends.specs.Inputs.{EachUnfailed, EachUntouched, HoldsArchive, HoldsContent, HoldsPart, IsArchive, IsArchiveRefused, IsFirstRefused, IsRefusal, IsRefusedArchive, Reader, Unfailed, readers}
+use Rattle.command_ends.specs.Inputs.{EachUnfailed, EachUntouched, HoldsArchive, HoldsContent, HoldsPart, IsArchive, IsArchiveRefused, IsFirstRefused, IsRefusal, IsRefusedArchive, Reader, Reads, Unfailed, readers}
 use Rattle.archive_queries.specs.InnerTogether.{AreAlikeWhere, HasJoinedParts}
 
 -- ---- records under a front of a key
@@ -167,7 +166,7 @@ together_tells archive others IsAlike IsTrue tells held = record {
 }
 
 -- with one archive what is true of its content is true of the join
-pub alone : {R : Type 0} (left : R → Option (List ℕ)) (failures : R → ℕ) (archive : Reader R) (others : List (Result R CannotOpen)) (IsTrue : Operations → Type 0) → others ≡ [] → HoldsContent archive IsTrue
+alone : {R : Type 0} (left : R → Option (List ℕ)) (failures : R → ℕ) (archive : Reader R) (others : List (Result R CannotOpen)) (IsTrue : Operations → Type 0) → others ≡ [] → HoldsContent archive IsTrue
     → HoldTogether archive (readers left failures others others) IsTrue
 alone left failures archive others IsTrue none held = subst (λ (files : List (Result _ CannotOpen)). HoldTogether archive (readers left failures files files) IsTrue) (sym none) (record {
   content = held.content;
@@ -184,9 +183,9 @@ no_others [] empty is holds = refl
 no_others (x ∷ xs) empty is holds = let none : length (x ∷ xs) ≡ 0 = eqb-true (length (x ∷ xs)) 0 (sym is ∙ holds) in absurd (omega (arith, none))
 
 pub alone_told : {R T : Type 0} (left : R → Option (List ℕ)) (failures : R → ℕ) (archive : Reader R) (others : List (Result R CannotOpen)) (IsTrue : T → Operations → Type 0) (result : Result T CommandFault) → others ≡ []
-    → IfOk result (λ told. HoldsContent archive (IsTrue told)) → IfOk result (λ told. HoldTogether archive (readers left failures others others) (IsTrue told))
-alone_told left failures archive others IsTrue (Ok told) none held = alone left failures archive others (IsTrue told) none held
-alone_told left failures archive others IsTrue (Err fault) none held = tt
+    → Reads archive result (λ input told. HoldsContent input (IsTrue told)) (IsRefusedArchive 0) → ReadsTogether archive (readers left failures others others) result IsTrue
+alone_told left failures archive others IsTrue (Ok told) none read = record { is = alone left failures archive others (IsTrue told) none read.is; unfailed = (read.unfailed, none_failed left failures others) }
+alone_told left failures archive others IsTrue (Err fault) none refused = first_refused archive (readers left failures others others) fault refused (none_touched left failures others) (none_failed left failures others)
 
 -- ---- questions
 

@@ -1,9 +1,8 @@
 //! `frames FRAMES ARCHIVE...`.
-ghost use Rattle.std.specs.Prelude.{IfErr, IfOk, OnOk};
-ghost use Rattle.command_ends.specs.Archives.{AreRefused, AreUnfailed, HoldTogether};
+ghost use Rattle.command_ends.specs.Archives.{ReadsTogether};
 ghost use Rattle.command_ends.specs.Ends.{EndsReport};
 ghost use Rattle.archive_queries.specs.Frames.{TellsFrames, frames};
-ghost use Rattle.command_ends.specs.Inputs.{IsRefusal, reader, readers};
+ghost use Rattle.command_ends.specs.Inputs.{reader, readers};
 ghost use Rattle.command_ends.specs.Outputs.{writer};
 
 use crate::asked_frames::{AskedKeys, FrameQuestions, in_key_order};
@@ -22,15 +21,9 @@ fn tell_frames<A: Archive + Drop, R: Source>(
     archive: &mut Result<R, CannotOpen>,
     others: &mut [Result<R, CannotOpen>],
 ) -> Result<(Status, Vec<u8, Heap>), CommandFault>
-    ensures told { IfOk result (λ told. HoldTogether (reader R.left R.failures archive.old archive.new)
-        (readers R.left R.failures others.old others.new) (λ o. TellsFrames o frames.now told.0 told.1.items)) }
-    ensures unfailed { OnOk result (AreUnfailed (reader R.left R.failures archive.old archive.new)
-        (readers R.left R.failures others.old others.new)) }
-    ensures refused { IfErr result (IsRefusal
-        (AreRefused (reader R.left R.failures archive.old archive.new)
-        (readers R.left R.failures others.old others.new))
-        (AreUnfailed (reader R.left R.failures archive.old archive.new)
-        (readers R.left R.failures others.old others.new))) }
+    ensures { ReadsTogether (reader R.left R.failures archive.old archive.new)
+        (readers R.left R.failures others.old others.new) result
+        (λ told o. TellsFrames o frames.now told.0 told.1.items) }
 {
     let asked = in_key_order(heap.clone()?, frames)?;
     let questions = FrameQuestions::of(heap.clone()?, &asked)?;

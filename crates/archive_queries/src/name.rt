@@ -1,12 +1,11 @@
 //! `name ARCHIVE NAME`, over one archive or several.
-ghost use Rattle.std.specs.Prelude.{◌≡◌, map, OnOk, IfOk, IfErr};
+ghost use Rattle.std.specs.Prelude.{◌≡◌, map};
 ghost use Rattle.archive_core.specs.Names.{IsNames};
 ghost use Rattle.archive_core.specs.Names.{owned_name_view};
 ghost use Rattle.archive_reading.specs.Names.{AddsNames};
-ghost use Rattle.command_ends.specs.Archives.{AreRefused, AreUnfailed, HoldTogether, file_place};
+ghost use Rattle.command_ends.specs.Archives.{ReadsOthers, ReadsTogether};
 ghost use Rattle.command_ends.specs.Ends.{EndsReport};
-ghost use Rattle.command_ends.specs.Inputs.{EachUnfailed, HoldsContent, IsArchive, IsArchiveRefused, IsFirstRefused};
-ghost use Rattle.command_ends.specs.Inputs.{IsRefusal, IsRefusedArchive, Unfailed, reader, readers};
+ghost use Rattle.command_ends.specs.Inputs.{HoldsContent, IsRefusedArchive, Reads, reader, readers};
 ghost use Rattle.archive_queries.specs.InnerNames.{HaveAdded};
 ghost use Rattle.archive_queries.specs.Name.{name, name_status};
 ghost use Rattle.command_ends.specs.Outputs.{writer};
@@ -24,12 +23,9 @@ fn read_name_rows<R: Source>(
     sought: &[u8],
     input: &mut Result<R, CannotOpen>,
 ) -> Result<Vec<OwnedNameRow, Heap>, CommandFault>
-    ensures rows { IfOk result (λ rows. HoldsContent (reader R.left R.failures input.old input.new)
-        (λ o. IsNames o sought.now (map owned_name_view rows.items))) }
-    ensures unfailed { OnOk result (Unfailed (reader R.left R.failures input.old input.new)) }
-    ensures refused { IfErr result
-        (IsRefusal (IsRefusedArchive 0 (reader R.left R.failures input.old input.new))
-        (Unfailed (reader R.left R.failures input.old input.new))) }
+    ensures { Reads (reader R.left R.failures input.old input.new) result
+        (λ input rows. HoldsContent input (λ o. IsNames o sought.now (map owned_name_view rows.items)))
+        (IsRefusedArchive 0) }
 {
     let at = Place::Archive(0);
     let source = opened(input, at)?;
@@ -47,12 +43,8 @@ fn gather_input<R: Source>(
     sought: &[u8],
     input: &mut Result<R, CannotOpen>,
 ) -> Result<NamesFound, CommandFault>
-    ensures added { IfOk result (λ now. HoldsContent (reader R.left R.failures input.old input.new)
-        (λ o. AddsNames o sought.now found now)) }
-    ensures unfailed { OnOk result (Unfailed (reader R.left R.failures input.old input.new)) }
-    ensures refused { IfErr result
-        (IsRefusal (IsRefusedArchive number (reader R.left R.failures input.old input.new))
-        (Unfailed (reader R.left R.failures input.old input.new))) }
+    ensures { Reads (reader R.left R.failures input.old input.new) result
+        (λ input now. HoldsContent input (λ o. AddsNames o sought.now found now)) (IsRefusedArchive number) }
 {
     let at = Place::Archive(number);
     let source = opened(input, at)?;
@@ -70,12 +62,8 @@ fn gather_others<R: Source>(
     sought: &[u8],
     others: &mut [Result<R, CannotOpen>],
 ) -> Result<NamesFound, CommandFault>
-    ensures added { IfOk result (λ now.
-        HaveAdded (readers R.left R.failures others.old others.new) sought.now found now) }
-    ensures unfailed { OnOk result (EachUnfailed (readers R.left R.failures others.old others.new)) }
-    ensures refused { IfErr result (IsRefusal
-        (IsFirstRefused file_place IsArchive IsArchiveRefused (readers R.left R.failures others.old others.new))
-        (EachUnfailed (readers R.left R.failures others.old others.new))) }
+    ensures { ReadsOthers (readers R.left R.failures others.old others.new) result
+        (λ others now. HaveAdded others sought.now found now) }
 {
     let mut now = found;
     'others: for (index, other) in others.iter_mut().enumerate() {
@@ -92,16 +80,9 @@ fn gather_rows<R: Source>(
     archive: &mut Result<R, CannotOpen>,
     others: &mut [Result<R, CannotOpen>],
 ) -> Result<Vec<OwnedNameRow, Heap>, CommandFault>
-    ensures rows { IfOk result (λ rows. HoldTogether (reader R.left R.failures archive.old archive.new)
-        (readers R.left R.failures others.old others.new)
-        (λ o. IsNames o sought.now (map owned_name_view rows.items))) }
-    ensures unfailed { OnOk result (AreUnfailed (reader R.left R.failures archive.old archive.new)
-        (readers R.left R.failures others.old others.new)) }
-    ensures refused { IfErr result (IsRefusal
-        (AreRefused (reader R.left R.failures archive.old archive.new)
-        (readers R.left R.failures others.old others.new))
-        (AreUnfailed (reader R.left R.failures archive.old archive.new)
-        (readers R.left R.failures others.old others.new))) }
+    ensures { ReadsTogether (reader R.left R.failures archive.old archive.new)
+        (readers R.left R.failures others.old others.new) result
+        (λ rows o. IsNames o sought.now (map owned_name_view rows.items)) }
 {
     let none = NamesFound {
         rows: Vec::new(heap.clone()?),
@@ -119,16 +100,9 @@ fn read_rows<R: Source>(
     archive: &mut Result<R, CannotOpen>,
     others: &mut [Result<R, CannotOpen>],
 ) -> Result<Vec<OwnedNameRow, Heap>, CommandFault>
-    ensures rows { IfOk result (λ rows. HoldTogether (reader R.left R.failures archive.old archive.new)
-        (readers R.left R.failures others.old others.new)
-        (λ o. IsNames o sought.now (map owned_name_view rows.items))) }
-    ensures unfailed { OnOk result (AreUnfailed (reader R.left R.failures archive.old archive.new)
-        (readers R.left R.failures others.old others.new)) }
-    ensures refused { IfErr result (IsRefusal
-        (AreRefused (reader R.left R.failures archive.old archive.new)
-        (readers R.left R.failures others.old others.new))
-        (AreUnfailed (reader R.left R.failures archive.old archive.new)
-        (readers R.left R.failures others.old others.new))) }
+    ensures { ReadsTogether (reader R.left R.failures archive.old archive.new)
+        (readers R.left R.failures others.old others.new) result
+        (λ rows o. IsNames o sought.now (map owned_name_view rows.items)) }
 {
     if others.is_empty() {
         read_name_rows(heap, sought, archive)

@@ -1,13 +1,12 @@
 //! Archives of which parts are kept and joined, and questions that their join answers.
-ghost use Rattle.std.specs.Prelude.{◌≡◌, [], ℕ, List, Contains, OnOk, IfOk, IfErr, IfSome, length, true};
-ghost use Rattle.archive_core.specs.Content.{IsContent, Operations, joined};
+ghost use Rattle.std.specs.Prelude.{◌≡◌, [], ℕ, List, Contains, OnOk, IfSome, length, true};
+ghost use Rattle.archive_core.specs.Content.{Operations, joined};
 ghost use Rattle.archive_core.specs.Key.{key_bytes};
 ghost use Rattle.archive_core.specs.Part.{is_under, part};
 ghost use Rattle.archive_core.specs.declared.keys.SliceKey.{SliceKey};
 ghost use Rattle.archive_reading.specs.Keys.{AnswersAs, AreInOrder, first_key};
-ghost use Rattle.command_ends.specs.Archives.{AreRefused, AreUnfailed, HoldTogether, file_place};
-ghost use Rattle.command_ends.specs.Inputs.{EachUnfailed, HoldsArchive, IsArchive, IsArchiveRefused, IsFirstRefused};
-ghost use Rattle.command_ends.specs.Inputs.{IsRefusal, IsRefusedArchive, Unfailed, reader, readers};
+ghost use Rattle.command_ends.specs.Archives.{ReadsOthers, ReadsTogether};
+ghost use Rattle.command_ends.specs.Inputs.{HoldsContent, IsRefusedArchive, Reads, reader, readers};
 ghost use Rattle.archive_queries.specs.InnerTogether.{AreAlikeWhere, HasJoinedParts};
 
 use archive_core::{Archive, SliceKey, take_all};
@@ -25,14 +24,10 @@ pub fn join_part<A: Archive + Drop, S: Selects, R: Source>(
     select: &S,
     archive: &mut Result<R, CannotOpen>,
 ) -> Result<(), CommandFault>
-    ensures joined { OnOk result ((other : Operations)
-        × IsContent other
-        × HoldsArchive (reader R.left R.failures archive.old archive.new) other
-        × (A.content kept.new ≡ joined (A.content kept.old) (part other (S.picked select.now)))) }
-    ensures unfailed { OnOk result (Unfailed (reader R.left R.failures archive.old archive.new)) }
-    ensures refused { IfErr result
-        (IsRefusal (IsRefusedArchive number (reader R.left R.failures archive.old archive.new))
-        (Unfailed (reader R.left R.failures archive.old archive.new))) }
+    ensures { Reads (reader R.left R.failures archive.old archive.new) result
+        (λ archive _. HoldsContent archive
+        (λ o. A.content kept.new ≡ joined (A.content kept.old) (part o (S.picked select.now))))
+        (IsRefusedArchive number) }
 {
     let other: A = read_input_part(heap, number, select, archive)?;
     take_all(kept, other)?;
@@ -46,12 +41,8 @@ fn join_parts<A: Archive + Drop, S: Selects, R: Source>(
     select: &S,
     others: &mut [Result<R, CannotOpen>],
 ) -> Result<(), CommandFault>
-    ensures joined { OnOk result (HasJoinedParts (readers R.left R.failures others.old others.new)
-        (S.picked select.now) (A.content kept.old) (A.content kept.new)) }
-    ensures unfailed { OnOk result (EachUnfailed (readers R.left R.failures others.old others.new)) }
-    ensures refused { IfErr result (IsRefusal
-        (IsFirstRefused file_place IsArchive IsArchiveRefused (readers R.left R.failures others.old others.new))
-        (EachUnfailed (readers R.left R.failures others.old others.new))) }
+    ensures { ReadsOthers (readers R.left R.failures others.old others.new) result
+        (λ others _. HasJoinedParts others (S.picked select.now) (A.content kept.old) (A.content kept.new)) }
 {
     'others: for (index, other) in others.iter_mut().enumerate() {
         join_part(heap.clone()?, kept, index as u64 + 1, select, other)?;
@@ -67,15 +58,9 @@ pub(crate) fn read_parts<A: Archive + Drop, S: Selects, R: Source>(
     archive: &mut Result<R, CannotOpen>,
     others: &mut [Result<R, CannotOpen>],
 ) -> Result<A, CommandFault>
-    ensures kept { IfOk result (λ kept. HoldTogether (reader R.left R.failures archive.old archive.new)
-        (readers R.left R.failures others.old others.new) (AreAlikeWhere (S.picked select.now) (A.content kept))) }
-    ensures unfailed { OnOk result (AreUnfailed (reader R.left R.failures archive.old archive.new)
-        (readers R.left R.failures others.old others.new)) }
-    ensures refused { IfErr result (IsRefusal
-        (AreRefused (reader R.left R.failures archive.old archive.new)
-        (readers R.left R.failures others.old others.new))
-        (AreUnfailed (reader R.left R.failures archive.old archive.new)
-        (readers R.left R.failures others.old others.new))) }
+    ensures { ReadsTogether (reader R.left R.failures archive.old archive.new)
+        (readers R.left R.failures others.old others.new) result
+        (λ kept. AreAlikeWhere (S.picked select.now) (A.content kept)) }
 {
     let mut kept: A = read_input_part(heap.clone()?, 0, select, archive)?;
     join_parts(&heap, &mut kept, select, others)?;
@@ -125,16 +110,9 @@ fn answer_parts<A: Archive + Drop, Q: Questions + Drop, S: Selects, R: Source>(
     requires picked { (key : SliceKey) → Contains (Q.left questions) key → length (key_bytes key) ≡ 24
         → (r : List ℕ) → is_under (key_bytes key) r ≡ true → S.picked select.now r ≡ true }
     requires start { (o : Operations) → Q.answered questions o questions }
-    ensures answered { IfOk result (λ told. HoldTogether (reader R.left R.failures archive.old archive.new)
-        (readers R.left R.failures others.old others.new)
-        (λ o. (Q.left told ≡ []) × Q.answered questions o told)) }
-    ensures unfailed { OnOk result (AreUnfailed (reader R.left R.failures archive.old archive.new)
-        (readers R.left R.failures others.old others.new)) }
-    ensures refused { IfErr result (IsRefusal
-        (AreRefused (reader R.left R.failures archive.old archive.new)
-        (readers R.left R.failures others.old others.new))
-        (AreUnfailed (reader R.left R.failures archive.old archive.new)
-        (readers R.left R.failures others.old others.new))) }
+    ensures { ReadsTogether (reader R.left R.failures archive.old archive.new)
+        (readers R.left R.failures others.old others.new) result
+        (λ told o. (Q.left told ≡ []) × Q.answered questions o told) }
 {
     let kept: A = read_parts(heap, select, archive, others)?;
     let mut told = questions;
@@ -155,16 +133,9 @@ pub(crate) fn answer_archives<A: Archive + Drop, Q: Questions + Drop, S: Selects
     requires picked { (key : SliceKey) → Contains (Q.left questions) key → length (key_bytes key) ≡ 24
         → (r : List ℕ) → is_under (key_bytes key) r ≡ true → S.picked select.now r ≡ true }
     requires start { (o : Operations) → Q.answered questions o questions }
-    ensures answered { IfOk result (λ told. HoldTogether (reader R.left R.failures archive.old archive.new)
-        (readers R.left R.failures others.old others.new)
-        (λ o. (Q.left told ≡ []) × Q.answered questions o told)) }
-    ensures unfailed { OnOk result (AreUnfailed (reader R.left R.failures archive.old archive.new)
-        (readers R.left R.failures others.old others.new)) }
-    ensures refused { IfErr result (IsRefusal
-        (AreRefused (reader R.left R.failures archive.old archive.new)
-        (readers R.left R.failures others.old others.new))
-        (AreUnfailed (reader R.left R.failures archive.old archive.new)
-        (readers R.left R.failures others.old others.new))) }
+    ensures { ReadsTogether (reader R.left R.failures archive.old archive.new)
+        (readers R.left R.failures others.old others.new) result
+        (λ told o. (Q.left told ≡ []) × Q.answered questions o told) }
 {
     if others.is_empty() {
         answer_input::<A, Q, R>(heap, questions, archive)

@@ -1,6 +1,6 @@
 -- `merge` of several FILEs: their join, and IN merged with it.
 use Rattle.std.proofs.Common.{◌≡◌, ◌++◌, ◌||◌, ℕ, Bool, true, false, List, [], ◌∷◌, Option, Some, None, Result, Ok, Err, refl, ap, sym, subst, ◌∙◌, inl}
-use Rattle.std.specs.Prelude.{IfOk, OnOk}
+use Rattle.std.specs.Prelude.{IfErr, IfOk, OnOk}
 use Rattle.std.specs.Cmp.Lexicographic.{nat_list_cmp_total}
 use Rattle.std.specs.List.{AllByRecursion, AllZip}
 use Rattle.std.specs.FinSet as set
@@ -14,16 +14,17 @@ use Rattle.byte_device.specs.declared.disks.CannotOpen.{CannotOpen}
 use Rattle.byte_device.specs.Devices.{Stream}
 use Rattle.report_text.specs.Report.{archive_line}
 use Rattle.command_ends.specs.declared.faults.CommandFault.{CommandFault}
+use Rattle.command_ends.specs.declared.faults.CommandFault.TheVariants.{OutOfMemory}
 use Rattle.command_ends.specs.declared.faults.Place.{Place}
 use Rattle.command_ends.specs.declared.faults.Status.{Status}
 use Rattle.command_ends.specs.declared.faults.Why.{Why}
 use Rattle.command_ends.specs.Ends.{EndsAsItComes, EndsStreamed, HasTaken, MakesArchive, StopsAmidst}
-use Rattle.command_ends.specs.Inputs.{EachKnown, EachUnfailed, HoldsArchive, IsArchive, IsArchiveRefused, IsFirstRefused, IsKnown, IsRefusedArchive, IsRefusedInTurn, IsWantedInTurn, Reader, Unfailed, reader}
+use Rattle.command_ends.specs.Inputs.{AreRead, EachKnown, EachUnfailed, HoldsArchive, IsArchive, IsArchiveRefused, IsFirstRefused, IsKnown, IsRefusedArchive, IsRefusedInTurn, IsWantedInTurn, Reader, Unfailed, reader}
 use Rattle.command_ends.specs.Outputs.{Out, PlacesNothing, Publishes, Takes, Writer}
 use Rattle.command_ends.proofs.Amidst.{ends_in_turn, published_amidst, stopped_amidst, stops_alike}
 use Rattle.archive_updates.specs.Joining.{IsJoined, MakesJoin, MakesJoined, joining, joins}
 use Rattle.archive_updates.specs.Merge.{HasJoined, MakesMerged, merge_in_turn}
-use Rattle.command_ends.specs.Archives.{file_place, merged}
+use Rattle.command_ends.specs.Archives.{ReadsOthers, file_place, merged}
 use Rattle.archive_updates.proofs.AtHand.{sizes_are}
 use Rattle.archive_updates.proofs.Migrated.{join_with_nothing}
 
@@ -35,10 +36,11 @@ one_text a b same = ap text_of same
     text_of None = []
 
 -- the text in memory is that of the join of the files
-pub text_of_join : {S G E : Type 0} (held : G → Option (List ℕ)) (r : Result G E) (files : List (Reader S)) (none p : Operations) → none ≡ set.empty → HasJoined files none p → IfOk r (λ text. held text ≡ Some (written p)) → OnOk r (IsContent p)
-    → IfOk r (λ text. (q : Operations) × IsContent q × (held text ≡ Some (written q)) × HasJoined files set.empty q)
-text_of_join held (Ok text) files none p is j there content = (p, content, there, subst (λ (o : Operations). HasJoined files o p) is j)
-text_of_join held (Err e) files none p is j there content = tt
+pub text_of_join : {S G : Type 0} (held : G → Option (List ℕ)) (r : Result G CommandFault) (files : List (Reader S)) (none p : Operations) → none ≡ set.empty → AreRead (HasJoined files none p) (EachUnfailed files)
+    → IfOk r (λ text. held text ≡ Some (written p)) → OnOk r (IsContent p) → IfErr r (λ fault. fault ≡ OutOfMemory)
+    → ReadsOthers files r (λ files text. (q : Operations) × IsContent q × (held text ≡ Some (written q)) × HasJoined files set.empty q)
+text_of_join held (Ok text) files none p is j there content wanting = record { is = (p, content, there, subst (λ (o : Operations). HasJoined files o p) is j.is); unfailed = j.unfailed }
+text_of_join held (Err e) files none p is j there content wanting = rw wanting j.unfailed
 
 -- ---- one content after another
 

@@ -16,7 +16,7 @@ ghost use Rattle.command_ends.specs.declared.faults.Place.TheVariants.{File};
 ghost use Rattle.command_ends.specs.Ends.{EndsAsItComes, EndsStreamed};
 ghost use Rattle.command_ends.specs.Inputs.{EachUnfailed, Holds, IsAccepted, IsFileRefused};
 ghost use Rattle.command_ends.specs.Inputs.{IsFirstRefused, IsKnown, IsRefusal, IsRefusedBytes};
-ghost use Rattle.command_ends.specs.Inputs.{IsRefusedFile, Unfailed, reader, readers};
+ghost use Rattle.command_ends.specs.Inputs.{IsRefusedFile, Reads, ReadsInputs, reader, readers};
 ghost use Rattle.command_ends.specs.Outputs.{out_of, outs, writer};
 
 use crate::arriving::{Arrivals, told_again};
@@ -63,19 +63,16 @@ fn admit_file<S: Source>(
     index: u64,
     file: &mut Result<S, CannotOpen>,
 ) -> Result<(), CommandFault>
-    ensures taken { OnOk result ((bytes : List ℕ)
+    ensures { Reads (reader S.left S.failures file.old file.new) result (λ file _. (bytes : List ℕ)
         × IsAcceptedFile bytes
-        × Holds (reader S.left S.failures file.old file.new) bytes
+        × Holds file bytes
         × (arrivals.new.came ≡ admitted arrivals.old.came (admissible bytes))
         × (arrivals.new.rows.items
         ≡ arrivals.old.rows.items ++ file_rows index 0 (taken_rows arrivals.old.came (parts bytes)))
         × ((records : List (List ℕ))
         → ArePlaced (listing arrivals.old.came) arrivals.old.places.items arrivals.old.rows.items records
         → ArePlaced (listing arrivals.new.came) arrivals.new.places.items arrivals.new.rows.items
-        (records ++ records_in bytes))) }
-    ensures unfailed { OnOk result (Unfailed (reader S.left S.failures file.old file.new)) }
-    ensures refused { IfErr result (IsRefusal (IsRefusedFile index (reader S.left S.failures file.old file.new))
-        (Unfailed (reader S.left S.failures file.old file.new))) }
+        (records ++ records_in bytes))) (IsRefusedFile index) }
 {
     let bytes = read_file(heap.clone()?, index, file)?;
     let slices = slice_bytes(index, bytes)?;
@@ -88,12 +85,9 @@ fn admit_files<S: Source>(
     heap: &Heap,
     files: &mut [Result<S, CannotOpen>],
 ) -> Result<Arrivals, CommandFault>
-    ensures taken { IfOk result (λ arrivals. HasCome (readers S.left S.failures files.old files.new)
-        arrivals.came arrivals.places.items arrivals.rows.items) }
-    ensures unfailed { OnOk result (EachUnfailed (readers S.left S.failures files.old files.new)) }
-    ensures refused { IfErr result
-        (IsRefusal (IsFirstRefused File IsAccepted IsFileRefused (readers S.left S.failures files.old files.new))
-        (EachUnfailed (readers S.left S.failures files.old files.new))) }
+    ensures { let known = readers S.left S.failures files.old files.new in
+        ReadsInputs result (λ arrivals. HasCome known arrivals.came arrivals.places.items arrivals.rows.items)
+        (IsFirstRefused File IsAccepted IsFileRefused known) (EachUnfailed known) }
 {
     let mut arrivals = Arrivals::none(heap)?;
     'files: for (index, file) in files.iter_mut().enumerate() {

@@ -1,5 +1,5 @@
 //! `apply IN OUT OPS`.
-ghost use Rattle.std.specs.Prelude.{◌≡◌, ◌++◌, ◌≤◌, ℕ, List, length, map, IfOk, IfErr, OnOk};
+ghost use Rattle.std.specs.Prelude.{◌≡◌, ◌++◌, ◌≤◌, ℕ, List, length, map};
 ghost use Rattle.std.specs.Cmp.Lexicographic.{slice_cmp};
 ghost use Rattle.std.specs.FinSet as set;
 ghost use Rattle.std.specs.List.{AllByRecursion, count_by};
@@ -10,7 +10,7 @@ ghost use Rattle.archive_core.specs.Record.{IsOperation, record_bytes};
 ghost use Rattle.archive_updates.specs.Apply.{apply_as_it_comes};
 ghost use Rattle.archive_updates.specs.InnerTelling.{HasNewOf, counts_of, telling};
 ghost use Rattle.command_ends.specs.Ends.{EndsAsItComes, EndsStreamed};
-ghost use Rattle.command_ends.specs.Inputs.{IsKnown, IsRefusal, IsRefusedOps, Unfailed, reader};
+ghost use Rattle.command_ends.specs.Inputs.{IsKnown, IsRefusedOps, Reads, reader};
 ghost use Rattle.command_ends.specs.Outputs.{Publishes, Takes, out_of, outs, writer};
 ghost use Rattle.record_merge.specs.Turns.{is_new};
 ghost use Rattle.report_text.specs.Report.{apply_line, archive_line};
@@ -87,10 +87,8 @@ fn read_new<S: Source>(
     heap: Heap,
     ops: &mut Result<S, CannotOpen>,
 ) -> Result<(Vec<Operation, Heap>, u64), CommandFault>
-    ensures read { IfOk result (λ both. HasNewOf (reader S.left S.failures ops.old ops.new) both.0.items both.1) }
-    ensures unfailed { OnOk result (Unfailed (reader S.left S.failures ops.old ops.new)) }
-    ensures refused { IfErr result (IsRefusal (IsRefusedOps (reader S.left S.failures ops.old ops.new))
-        (Unfailed (reader S.left S.failures ops.old ops.new))) }
+    ensures { Reads (reader S.left S.failures ops.old ops.new) result
+        (λ ops both. HasNewOf ops both.0.items both.1) IsRefusedOps }
 {
     let operations = read_operations(heap, ops)?;
     let number = operations.len() as u64;

@@ -3,12 +3,10 @@ ghost use Rattle.std.specs.Prelude.{◌≡◌, ◌+◌, Ok, Some, OnOk, IfOk, If
 ghost use Rattle.std.specs.FinSet as set;
 ghost use Rattle.archive_core.specs.Content.{Operations, IsContent, joined};
 ghost use Rattle.archive_records.specs.Text.{written};
-ghost use Rattle.command_ends.specs.Archives.{file_place};
+ghost use Rattle.command_ends.specs.Archives.{ReadsOthers};
 ghost use Rattle.command_ends.specs.Ends.{EndsAsItComes, EndsStreamed};
 ghost use Rattle.command_ends.specs.declared.faults.CommandFault.TheVariants.{OutOfMemory};
-ghost use Rattle.command_ends.specs.Inputs.{EachUnfailed, IsArchive, IsArchiveRefused, IsFirstRefused};
-ghost use Rattle.command_ends.specs.Inputs.{HoldsArchive, IsKnown};
-ghost use Rattle.command_ends.specs.Inputs.{IsRefusal, IsRefusedArchive, Unfailed, reader, readers};
+ghost use Rattle.command_ends.specs.Inputs.{HoldsContent, IsKnown, IsRefusedArchive, Reads, reader, readers};
 ghost use Rattle.archive_updates.specs.Joining.{joins};
 ghost use Rattle.archive_updates.specs.Merge.{HasJoined, merge_in_turn};
 ghost use Rattle.archive_updates.specs.MergeStreams.{merge_as_it_comes, merge_of_one};
@@ -31,13 +29,9 @@ fn join_file<A: Archive + Drop, S: Source>(
     number: u64,
     file: &mut Result<S, CannotOpen>,
 ) -> Result<(), CommandFault>
-    ensures joined { OnOk result ((other : Operations)
-        × IsContent other
-        × HoldsArchive (reader S.left S.failures file.old file.new) other
-        × (A.content archive.new ≡ joined (A.content archive.old) other)) }
-    ensures unfailed { OnOk result (Unfailed (reader S.left S.failures file.old file.new)) }
-    ensures refused { IfErr result (IsRefusal (IsRefusedArchive number (reader S.left S.failures file.old file.new))
-        (Unfailed (reader S.left S.failures file.old file.new))) }
+    ensures { Reads (reader S.left S.failures file.old file.new) result
+        (λ file _. HoldsContent file (λ o. A.content archive.new ≡ joined (A.content archive.old) o))
+        (IsRefusedArchive number) }
 {
     let other: A = read_input(heap, number, file)?;
     take_all(archive, other)?;
@@ -50,12 +44,8 @@ fn join_files<A: Archive + Drop, S: Source>(
     archive: &mut A,
     files: &mut [Result<S, CannotOpen>],
 ) -> Result<(), CommandFault>
-    ensures joined { OnOk result
-        (HasJoined (readers S.left S.failures files.old files.new) (A.content archive.old) (A.content archive.new)) }
-    ensures unfailed { OnOk result (EachUnfailed (readers S.left S.failures files.old files.new)) }
-    ensures refused { IfErr result (IsRefusal
-        (IsFirstRefused file_place IsArchive IsArchiveRefused (readers S.left S.failures files.old files.new))
-        (EachUnfailed (readers S.left S.failures files.old files.new))) }
+    ensures { ReadsOthers (readers S.left S.failures files.old files.new) result
+        (λ files _. HasJoined files (A.content archive.old) (A.content archive.new)) }
 {
     'files: for (index, file) in files.iter_mut().enumerate() {
         join_file(heap.clone()?, archive, index as u64 + 1, file)?;
@@ -81,13 +71,9 @@ fn joined_text<A: Archive + Drop, S: Source>(
     heap: &Heap,
     files: &mut [Result<S, CannotOpen>],
 ) -> Result<Grown, CommandFault>
-    ensures joined { IfOk result (λ text. (p : Operations) × IsContent p
-        × (⟦<Grown as Sink>⟧.held text ≡ Some (written p))
-        × HasJoined (readers S.left S.failures files.old files.new) set.empty p) }
-    ensures unfailed { OnOk result (EachUnfailed (readers S.left S.failures files.old files.new)) }
-    ensures refused { IfErr result (IsRefusal
-        (IsFirstRefused file_place IsArchive IsArchiveRefused (readers S.left S.failures files.old files.new))
-        (EachUnfailed (readers S.left S.failures files.old files.new))) }
+    ensures { ReadsOthers (readers S.left S.failures files.old files.new) result
+        (λ files text. (p : Operations) × IsContent p × (⟦<Grown as Sink>⟧.held text ≡ Some (written p))
+        × HasJoined files set.empty p) }
 {
     let mut joined = A::empty(heap.clone()?);
     join_files(heap, &mut joined, files)?;

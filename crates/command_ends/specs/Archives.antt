@@ -1,12 +1,13 @@
 -- The archives of a command that are one by their join: what they hold together, and which of them is refused.
-use Rattle.std.specs.Prelude.{ℕ, ◌+◌, List, fold}
+use Rattle.std.specs.Prelude.{ℕ, ◌+◌, List, Result, fold}
 use Rattle.std.specs.List.{AllByRecursion, AllZip}
 use Rattle.archive_core.specs.Content.{Operations, IsContent, joined}
+use Rattle.command_ends.specs.declared.faults.CommandFault.{CommandFault}
 use Rattle.command_ends.specs.declared.faults.Place.{Place}
 use Rattle.command_ends.specs.declared.faults.Place.TheVariants.{Archive}
 use Rattle.command_ends.specs.declared.faults.Why.{Why}
 use Rattle.command_ends.specs.Inputs.{Reader, Unfailed, EachUnfailed, EachUntouched, IsArchive, HoldsArchive}
-use Rattle.command_ends.specs.Inputs.{IsArchiveRefused, IsFirstRefused, IsRefusedInOrder}
+use Rattle.command_ends.specs.Inputs.{IsArchiveRefused, IsFirstRefused, IsRefusedInOrder, ReadsInputs}
 
 -- a content with others, one joined after another
 abbrev pub merged : Operations → List Operations → Operations
@@ -35,3 +36,17 @@ AreRefused archive others =
 -- no reader of theirs failed
 abbrev pub AreUnfailed : {R S : Type 0} → Reader R → List (Reader S) → Type 0
 AreUnfailed archive others = Unfailed archive × EachUnfailed others
+
+-- what comes of reading them, where this is true of the value and of the join of what they hold
+abbrev pub ReadsTogether : {R S T : Type 0} → Reader R → List (Reader S) → Result T CommandFault
+    → (T → Operations → Type 0) → Type 0
+ReadsTogether archive others result IsTrue =
+    ReadsInputs result (λ value. HoldTogether archive others (IsTrue value)) (AreRefused archive others)
+    (AreUnfailed archive others)
+
+-- what comes of reading the others one after another, where this is true of them and of the value
+abbrev pub ReadsOthers : {S T : Type 0} → List (Reader S) → Result T CommandFault → (List (Reader S) → T → Type 0)
+    → Type 0
+ReadsOthers others result IsTrue =
+    ReadsInputs result (IsTrue others) (IsFirstRefused file_place IsArchive IsArchiveRefused others)
+    (EachUnfailed others)

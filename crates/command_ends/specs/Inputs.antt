@@ -255,6 +255,22 @@ IsRefusal Refused Unfailed (Output _) = ⊥
 IsRefusal Refused Unfailed (Report _) = ⊥
 IsRefusal Refused Unfailed OutOfMemory = Unfailed
 
+-- Inputs were read: this is true of what came of them, and no reader of theirs failed.
+pub record AreRead (IsTrue NoneFailed : Type 0) : Type 0 where
+  pub is : IsTrue
+  pub unfailed : NoneFailed
+
+-- What comes of reading inputs: a value of which this is true; or a refusal, or want of memory. A reader fails at a
+-- refusal alone.
+abbrev pub ReadsInputs : {T : Type 0} → Result T CommandFault → (T → Type 0) → (Place → Why → Type 0) → Type 0 → Type 0
+ReadsInputs (Ok value) IsTrue IsRefused NoneFailed = AreRead (IsTrue value) NoneFailed
+ReadsInputs (Err fault) IsTrue IsRefused NoneFailed = IsRefusal IsRefused NoneFailed fault
+
+-- what comes of reading one input, of which, and of the value, this is true
+abbrev pub Reads : {S T : Type 0} → Reader S → Result T CommandFault → (Reader S → T → Type 0)
+    → (Reader S → Place → Why → Type 0) → Type 0
+Reads input result IsTrue IsRefused = ReadsInputs result (IsTrue input) (IsRefused input) (Unfailed input)
+
 -- What is told where this was told of an input behind the first one: a refusal in turn, after the first input was
 -- tested; or, if memory was wanted, that, and the first input is as it was.
 abbrev pub TellsInTurn : {S : Type 0} → Reader S → CommandFault → CommandFault → Type 0

@@ -1,5 +1,5 @@
 //! The inputs of a command, each opened beforehand and refused at its turn.
-ghost use Rattle.std.specs.Prelude.{◌≡◌, ◌≢◌, [], Ok, OnOk, IfOk, IfErr, IsErrAnd, IsOkAnd, MatchResult};
+ghost use Rattle.std.specs.Prelude.{◌≡◌, ◌≢◌, [], Ok, IsErrAnd, IsOkAnd, MatchResult};
 ghost use Rattle.std.specs.Borrow.{sem};
 ghost use Rattle.archive_core.specs.Content.{IsContent, Operations};
 ghost use Rattle.archive_core.specs.Lists.{IsList};
@@ -14,8 +14,7 @@ ghost use Rattle.command_ends.specs.declared.faults.CommandFault.TheVariants.{In
 ghost use Rattle.command_ends.specs.declared.faults.Why.TheVariants.{CannotOpen as NotOpened, Record};
 ghost use Rattle.command_ends.specs.Inputs.{Gives, Holds, HoldsArchive, HoldsContent, HoldsPart, IsArchive, IsRefusal};
 ghost use Rattle.command_ends.specs.Inputs.{IsRefusedArchive, IsRefusedFile, IsRefusedFrames, IsRefusedOps};
-ghost use Rattle.command_ends.specs.Inputs.{IsRefusedScript, IsRefusedSummary, IsUnread, TellsInTurn, Unfailed};
-ghost use Rattle.command_ends.specs.Inputs.{reader};
+ghost use Rattle.command_ends.specs.Inputs.{IsRefusedScript, IsRefusedSummary, IsUnread, Reads, TellsInTurn, reader};
 ghost use Rattle.command_ends.specs.InnerSources.{LendsSource};
 
 use crate::faults::{CommandFault, Place, Why};
@@ -60,13 +59,9 @@ pub fn read_input<A: Archive + Drop, R: Source>(
     index: u64,
     input: &mut Result<R, CannotOpen>,
 ) -> Result<A, CommandFault>
-    ensures content { IfOk result (λ archive. IsContent (A.content archive)) }
-    ensures text { IfOk result
-        (λ archive. HoldsArchive (reader R.left R.failures input.old input.new) (A.content archive)) }
-    ensures unfailed { OnOk result (Unfailed (reader R.left R.failures input.old input.new)) }
-    ensures refused { IfErr result
-        (IsRefusal (IsRefusedArchive index (reader R.left R.failures input.old input.new))
-        (Unfailed (reader R.left R.failures input.old input.new))) }
+    ensures { Reads (reader R.left R.failures input.old input.new) result
+        (λ input archive. IsContent (A.content archive) × HoldsArchive input (A.content archive))
+        (IsRefusedArchive index) }
 {
     let at = Place::Archive(index);
     let source = opened(input, at)?;
@@ -82,11 +77,8 @@ pub fn test_input<R: Source>(
     index: u64,
     input: &mut Result<R, CannotOpen>,
 ) -> Result<(), CommandFault>
-    ensures archive { OnOk result (IsArchive (reader R.left R.failures input.old input.new)) }
-    ensures unfailed { OnOk result (Unfailed (reader R.left R.failures input.old input.new)) }
-    ensures refused { IfErr result
-        (IsRefusal (IsRefusedArchive index (reader R.left R.failures input.old input.new))
-        (Unfailed (reader R.left R.failures input.old input.new))) }
+    ensures { Reads (reader R.left R.failures input.old input.new) result (λ input _. IsArchive input)
+        (IsRefusedArchive index) }
 {
     let at = Place::Archive(index);
     let source = opened(input, at)?;
@@ -121,12 +113,8 @@ pub fn read_input_part<A: Archive + Drop, S: Selects, R: Source>(
     select: &S,
     input: &mut Result<R, CannotOpen>,
 ) -> Result<A, CommandFault>
-    ensures kept { IfOk result (λ archive. HoldsPart (reader R.left R.failures input.old input.new)
-        (S.picked select.now) (A.content archive)) }
-    ensures unfailed { OnOk result (Unfailed (reader R.left R.failures input.old input.new)) }
-    ensures refused { IfErr result
-        (IsRefusal (IsRefusedArchive index (reader R.left R.failures input.old input.new))
-        (Unfailed (reader R.left R.failures input.old input.new))) }
+    ensures { Reads (reader R.left R.failures input.old input.new) result
+        (λ input archive. HoldsPart input (S.picked select.now) (A.content archive)) (IsRefusedArchive index) }
 {
     let at = Place::Archive(index);
     let source = opened(input, at)?;
@@ -144,12 +132,9 @@ pub fn answer_input<A: Archive + Drop, Q: Questions + Drop, R: Source>(
 ) -> Result<Q, CommandFault>
     requires order { AreInOrder (Q.left questions) }
     requires start { (o : Operations) → Q.answered questions o questions }
-    ensures answered { IfOk result (λ told. HoldsContent (reader R.left R.failures input.old input.new)
-        (λ o. (Q.left told ≡ []) × Q.answered questions o told)) }
-    ensures unfailed { OnOk result (Unfailed (reader R.left R.failures input.old input.new)) }
-    ensures refused { IfErr result
-        (IsRefusal (IsRefusedArchive 0 (reader R.left R.failures input.old input.new))
-        (Unfailed (reader R.left R.failures input.old input.new))) }
+    ensures { Reads (reader R.left R.failures input.old input.new) result
+        (λ input told. HoldsContent input (λ o. (Q.left told ≡ []) × Q.answered questions o told))
+        (IsRefusedArchive 0) }
 {
     let at = Place::Archive(0);
     let source = opened(input, at)?;
@@ -164,12 +149,8 @@ pub fn read_rows<R: Source>(
     heap: Heap,
     input: &mut Result<R, CannotOpen>,
 ) -> Result<Vec<FindRow, Heap>, CommandFault>
-    ensures rows { IfOk result (λ rows. HoldsContent (reader R.left R.failures input.old input.new)
-        (λ o. IsList o rows.items)) }
-    ensures unfailed { OnOk result (Unfailed (reader R.left R.failures input.old input.new)) }
-    ensures refused { IfErr result
-        (IsRefusal (IsRefusedArchive 0 (reader R.left R.failures input.old input.new))
-        (Unfailed (reader R.left R.failures input.old input.new))) }
+    ensures { Reads (reader R.left R.failures input.old input.new) result
+        (λ input rows. HoldsContent input (λ o. IsList o rows.items)) (IsRefusedArchive 0) }
 {
     let at = Place::Archive(0);
     let source = opened(input, at)?;
@@ -184,12 +165,8 @@ pub fn read_entries<R: Source>(
     heap: Heap,
     input: &mut Result<R, CannotOpen>,
 ) -> Result<Summary, CommandFault>
-    ensures entries { IfOk result (λ entries. HoldsContent (reader R.left R.failures input.old input.new)
-        (λ o. entries ≡ summary o)) }
-    ensures unfailed { OnOk result (Unfailed (reader R.left R.failures input.old input.new)) }
-    ensures refused { IfErr result
-        (IsRefusal (IsRefusedArchive 0 (reader R.left R.failures input.old input.new))
-        (Unfailed (reader R.left R.failures input.old input.new))) }
+    ensures { Reads (reader R.left R.failures input.old input.new) result
+        (λ input entries. HoldsContent input (λ o. entries ≡ summary o)) (IsRefusedArchive 0) }
 {
     let at = Place::Archive(0);
     let source = opened(input, at)?;
@@ -205,11 +182,8 @@ fn read_bytes<S: Source>(
     at: Place,
     input: &mut Result<S, CannotOpen>,
 ) -> Result<Vec<u8, Heap>, CommandFault>
-    ensures bytes { IfOk result (λ bytes. Holds (reader S.left S.failures input.old input.new) bytes.items) }
-    ensures unfailed { OnOk result (Unfailed (reader S.left S.failures input.old input.new)) }
-    ensures refused { IfErr result
-        (IsRefusal (λ index why. (index ≡ at) × IsUnread (reader S.left S.failures input.old input.new) why)
-        (Unfailed (reader S.left S.failures input.old input.new))) }
+    ensures { Reads (reader S.left S.failures input.old input.new) result (λ input bytes. Holds input bytes.items)
+        (λ input place why. (place ≡ at) × IsUnread input why) }
 {
     let source = opened(input, at)?;
     match read_to_end(heap, source) {
@@ -225,11 +199,8 @@ pub fn read_file<S: Source>(
     index: u64,
     file: &mut Result<S, CannotOpen>,
 ) -> Result<Vec<u8, Heap>, CommandFault>
-    ensures bytes { IfOk result (λ bytes. Holds (reader S.left S.failures file.old file.new) bytes.items) }
-    ensures unfailed { OnOk result (Unfailed (reader S.left S.failures file.old file.new)) }
-    ensures refused { IfErr result
-        (IsRefusal (IsRefusedFile index (reader S.left S.failures file.old file.new))
-        (Unfailed (reader S.left S.failures file.old file.new))) }
+    ensures { Reads (reader S.left S.failures file.old file.new) result (λ file bytes. Holds file bytes.items)
+        (IsRefusedFile index) }
 {
     read_bytes(heap, Place::File(index), file)
 }
@@ -239,13 +210,8 @@ pub fn read_operations<S: Source>(
     heap: Heap,
     ops: &mut Result<S, CannotOpen>,
 ) -> Result<Vec<Operation, Heap>, CommandFault>
-    ensures text { IfOk result
-        (λ operations. Gives (reader S.left S.failures ops.old ops.new)
-        (λ text. IsOperationsText text operations.items)) }
-    ensures unfailed { OnOk result (Unfailed (reader S.left S.failures ops.old ops.new)) }
-    ensures refused { IfErr result
-        (IsRefusal (IsRefusedOps (reader S.left S.failures ops.old ops.new))
-        (Unfailed (reader S.left S.failures ops.old ops.new))) }
+    ensures { Reads (reader S.left S.failures ops.old ops.new) result
+        (λ ops operations. Gives ops (λ text. IsOperationsText text operations.items)) IsRefusedOps }
 {
     let at = Place::Ops;
     let source = opened(ops, at)?;
@@ -260,13 +226,8 @@ pub fn read_summary_input<S: Source>(
     heap: Heap,
     summary: &mut Result<S, CannotOpen>,
 ) -> Result<Summary, CommandFault>
-    ensures entries { IfOk result (λ entries. AreEntries entries) }
-    ensures text { IfOk result
-        (λ entries. Holds (reader S.left S.failures summary.old summary.new) (summary_text entries)) }
-    ensures unfailed { OnOk result (Unfailed (reader S.left S.failures summary.old summary.new)) }
-    ensures refused { IfErr result
-        (IsRefusal (IsRefusedSummary (reader S.left S.failures summary.old summary.new))
-        (Unfailed (reader S.left S.failures summary.old summary.new))) }
+    ensures { Reads (reader S.left S.failures summary.old summary.new) result
+        (λ summary entries. AreEntries entries × Holds summary (summary_text entries)) IsRefusedSummary }
 {
     let at = Place::Summary;
     let source = opened(summary, at)?;
@@ -281,12 +242,9 @@ pub fn read_events<S: Source>(
     heap: Heap,
     script: &mut Result<S, CannotOpen>,
 ) -> Result<Script, CommandFault>
-    ensures script { IfOk result (λ said. Gives (reader S.left S.failures script.old script.new)
-        (λ bytes. script_of bytes ≡ Ok (said.sites, acts said.events.items))) }
-    ensures unfailed { OnOk result (Unfailed (reader S.left S.failures script.old script.new)) }
-    ensures refused { IfErr result
-        (IsRefusal (IsRefusedScript (reader S.left S.failures script.old script.new))
-        (Unfailed (reader S.left S.failures script.old script.new))) }
+    ensures { Reads (reader S.left S.failures script.old script.new) result
+        (λ script said. Gives script (λ bytes. script_of bytes ≡ Ok (said.sites, acts said.events.items)))
+        IsRefusedScript }
 {
     let bytes = read_bytes(heap.clone()?, Place::Script, script)?;
     match read_script(heap, &bytes) {
@@ -304,12 +262,8 @@ pub fn read_crash<S: Source>(
     heap: Heap,
     frames: &mut Result<S, CannotOpen>,
 ) -> Result<Vec<Frame, Heap>, CommandFault>
-    ensures frames { IfOk result (λ said. Gives (reader S.left S.failures frames.old frames.new)
-        (λ bytes. frames_of bytes ≡ Ok said.items)) }
-    ensures unfailed { OnOk result (Unfailed (reader S.left S.failures frames.old frames.new)) }
-    ensures refused { IfErr result
-        (IsRefusal (IsRefusedFrames (reader S.left S.failures frames.old frames.new))
-        (Unfailed (reader S.left S.failures frames.old frames.new))) }
+    ensures { Reads (reader S.left S.failures frames.old frames.new) result
+        (λ frames said. Gives frames (λ bytes. frames_of bytes ≡ Ok said.items)) IsRefusedFrames }
 {
     let bytes = read_bytes(heap.clone()?, Place::Frames, frames)?;
     match read_frames(heap, &bytes) {

@@ -1,6 +1,6 @@
 //! ARCHIVE, read and indexed.
-ghost use Rattle.std.specs.Prelude.{◌≡◌, IfOk, IfErr, OnOk};
-ghost use Rattle.command_ends.specs.Inputs.{IsRefusal, Unfailed, reader};
+ghost use Rattle.std.specs.Prelude.{◌≡◌};
+ghost use Rattle.command_ends.specs.Inputs.{IsRefusal, Reads, reader};
 ghost use Rattle.command_ends.specs.declared.faults.Place.TheVariants.{Archive};
 ghost use Rattle.index_updates.specs.Index.{HoldsIndexed, IsNotIndexed, WantsMemory, why_of};
 
@@ -27,11 +27,7 @@ pub fn index_input<R: Source>(
     heap: Heap,
     input: &mut Result<R, CannotOpen>,
 ) -> Result<Index, CommandFault>
-    ensures index { IfOk result (HoldsIndexed (reader R.left R.failures input.old input.new)) }
-    ensures unfailed { OnOk result (Unfailed (reader R.left R.failures input.old input.new)) }
-    ensures refused { IfErr result
-        (IsRefusal (IsNotIndexed (reader R.left R.failures input.old input.new))
-        (Unfailed (reader R.left R.failures input.old input.new))) }
+    ensures { Reads (reader R.left R.failures input.old input.new) result HoldsIndexed IsNotIndexed }
 {
     let source = opened(input, Place::Archive(0))?;
     match index_archive(heap, source) {

@@ -1,6 +1,6 @@
 -- Parts that are joined one after another.
 use Rattle.std.proofs.Common.{◌≡◌, ℕ, ◌+◌, ◌<◌, List, [], ◌∷◌, ◌++◌, length, map, take, get_or, Option, Some, None, Result, Ok, Err, refl, sym, ap, ◌∙◌, subst, inl, inr, arith, add-one}
-use Rattle.std.specs.Prelude.{IfErr, IfSome, OnOk, flat_map}
+use Rattle.std.specs.Prelude.{IfSome, flat_map}
 use Rattle.std.specs.List.{AllZip}
 use Rattle.std.specs.FinSet as set
 use Rattle.std.proofs.Math.ListN.{length-map}
@@ -15,7 +15,7 @@ use Rattle.archive_index.specs.declared.fault.PlaceFault.{PlaceFault}
 use Rattle.archive_index.specs.declared.fault.PlaceFault.TheVariants.{Stale, Device, OutOfMemory}
 use Rattle.command_ends.specs.Archives.{merged}
 use Rattle.command_ends.specs.Indexes.{HoldsIndex, IsRefusedBehindIndex, IsRefusedByIndex}
-use Rattle.command_ends.specs.Inputs.{Reader, IsRefusal, Unfailed, reader}
+use Rattle.command_ends.specs.Inputs.{Reader, IsRefusal, ReadsInputs, Unfailed, reader}
 use Rattle.command_ends.specs.declared.faults.CommandFault.{CommandFault}
 use Rattle.command_ends.proofs.Readers.{pairs_more}
 use Rattle.indexed_parts.specs.Places.{AreGatheredUnder, IsEntryFault}
@@ -123,15 +123,10 @@ told_refused whole failures source after number fronts entries OutOfMemory h b =
 
 -- of an index that was read, and its archive
 module _ {R S : Type 0} (number : ℕ) (index : Reader R) (archive : Reader S) (fronts : List (List ℕ)) (entries : Entries) (holds : HoldsIndex index entries) (unfailed : Unfailed index) where
-  pub joined_parts : (o new : Operations) (r : Result (Unit {0}) CommandFault) → OnOk r (IsNamedIn archive fronts entries o new) → OnOk r (HasJoinedParts index archive fronts o new)
-  joined_parts o new (Ok _) n = record { parts = n.parts; content = n.content; named = record { entries = entries; index_of = record { index_is = holds; archive_is = n.archive_is }; named = n.named } }
-  joined_parts o new (Err fault) n = tt
-
-  pub both_unfailed : (r : Result (Unit {0}) CommandFault) → OnOk r (Unfailed archive) → OnOk r (Unfailed index × Unfailed archive)
-  both_unfailed (Ok _) u = (unfailed, u)
-  both_unfailed (Err fault) u = tt
-
-  pub refused_so : (r : Result (Unit {0}) CommandFault) → IfErr r (IsRefusal (IsRefusedBehindIndex number archive (IsStaleFor fronts archive entries)) (Unfailed archive))
-      → IfErr r (IsRefusal (IsRefusedByIndex number index archive (IsStaleFor fronts archive)) (Unfailed index × Unfailed archive))
-  refused_so (Ok _) h = tt
-  refused_so (Err fault) h = archive_behind number index archive (IsStaleFor fronts archive) fault entries holds unfailed h
+  pub joined_parts : (o new : Operations) (r : Result (Unit {0}) CommandFault) → ReadsInputs r (λ _. IsNamedIn archive fronts entries o new) (IsRefusedBehindIndex number archive (IsStaleFor fronts archive entries)) (Unfailed archive)
+      → ReadsInputs r (λ _. HasJoinedParts index archive fronts o new) (IsRefusedByIndex number index archive (IsStaleFor fronts archive)) (Unfailed index × Unfailed archive)
+  joined_parts o new (Ok _) n = record {
+    is = record { parts = n.is.parts; content = n.is.content; named = record { entries = entries; index_of = record { index_is = holds; archive_is = n.is.archive_is }; named = n.is.named } };
+    unfailed = (unfailed, n.unfailed);
+  }
+  joined_parts o new (Err fault) n = archive_behind number index archive (IsStaleFor fronts archive) fault entries holds unfailed n

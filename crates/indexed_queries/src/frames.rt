@@ -1,9 +1,9 @@
 //! `frames FRAMES ARCHIVE... --index INDEX`, over one archive or several.
-ghost use Rattle.std.specs.Prelude.{◌≡◌, ◌<◌, ◌+◌, ◌^◌, IfErr, IfOk, OnOk, length, map, string_bytes};
+ghost use Rattle.std.specs.Prelude.{◌≡◌, ◌<◌, ◌+◌, ◌^◌, IfOk, length, map, string_bytes};
 ghost use Rattle.archive_core.specs.Content.{HaveSameMembers};
 ghost use Rattle.archive_queries.specs.Frames.{TellsFrames};
 ghost use Rattle.command_ends.specs.Ends.{EndsReport};
-ghost use Rattle.command_ends.specs.Inputs.{IsRefusal, reader, readers};
+ghost use Rattle.command_ends.specs.Inputs.{ReadsInputs, reader, readers};
 ghost use Rattle.command_ends.specs.Outputs.{writer};
 ghost use Rattle.indexed_queries.specs.Frames.{AreRefusedAt, AreToldAt, frames_at, keys_of};
 ghost use Rattle.indexed_queries.specs.Fronts.{front_bytes};
@@ -69,18 +69,11 @@ fn tell_frames<A: Archive + Drop, I: Source, P: Placed, R: Source>(
 ) -> Result<(Status, String<Heap>), CommandFault>
     requires same { length indexes.old ≡ length archives.old }
     requires few { length indexes.old + length others.old < 2 ^ 64 }
-    ensures told { IfOk result (λ told. AreToldAt (readers I.left I.failures indexes.old indexes.new)
-        (readers P.whole P.failures archives.old archives.new) (readers R.left R.failures others.old others.new)
-        frames.now told.0 (string_bytes told.1)) }
-    ensures unfailed { OnOk result (AreUnfailedTogether (readers I.left I.failures indexes.old indexes.new)
-        (readers P.whole P.failures archives.old archives.new) (readers R.left R.failures others.old others.new)) }
-    ensures refused { IfErr result (IsRefusal
-        (AreRefusedAt (readers I.left I.failures indexes.old indexes.new)
-        (readers P.whole P.failures archives.old archives.new) (readers R.left R.failures others.old others.new)
-        frames.now)
-        (AreUnfailedTogether (readers I.left I.failures indexes.old indexes.new)
-        (readers P.whole P.failures archives.old archives.new)
-        (readers R.left R.failures others.old others.new))) }
+    ensures { let named = readers I.left I.failures indexes.old indexes.new in
+        let known = readers P.whole P.failures archives.old archives.new in
+        let whole = readers R.left R.failures others.old others.new in
+        ReadsInputs result (λ told. AreToldAt named known whole frames.now told.0 (string_bytes told.1))
+        (AreRefusedAt named known whole frames.now) (AreUnfailedTogether named known whole) }
 {
     let fronts = fronts_of(heap.clone()?, frames)?;
     let kept: A = read_fronts(heap, &fronts, indexes, archives, others)?;

@@ -1,11 +1,11 @@
 //! An index that is read, and the archive that it is of.
 
-ghost use Rattle.std.specs.Prelude.{◌≡◌, ◌≢◌, IfErr, IfOk, OnOk};
+ghost use Rattle.std.specs.Prelude.{◌≡◌, ◌≢◌};
 ghost use Rattle.archive_index.specs.Places.{HasIndexedLength};
 ghost use Rattle.archive_index.specs.declared.fault.IndexFaultKind.TheVariants.{OutOfMemory as IndexOutOfMemory};
 ghost use Rattle.command_ends.specs.Indexes.{HasOtherLength, HoldsIndex, IsIndexOf, IsRefusedBehindIndex};
 ghost use Rattle.command_ends.specs.Indexes.{IsRefusedByIndex, IsUnreadIndex};
-ghost use Rattle.command_ends.specs.Inputs.{Gives, IsRefusal, Unfailed, reader};
+ghost use Rattle.command_ends.specs.Inputs.{Gives, IsRefusal, Reads, ReadsInputs, Unfailed, reader};
 ghost use Rattle.command_ends.specs.declared.faults.Place.TheVariants.{Index as IndexPlace};
 ghost use Rattle.command_ends.specs.declared.faults.Why.TheVariants.{Index as IndexFaulty};
 
@@ -33,11 +33,8 @@ pub(crate) fn read_entries<I: Source>(
     number: u64,
     index: &mut Result<I, CannotOpen>,
 ) -> Result<Index, CommandFault>
-    ensures read { IfOk result (λ entries. HoldsIndex (reader I.left I.failures index.old index.new) entries) }
-    ensures unfailed { OnOk result (Unfailed (reader I.left I.failures index.old index.new)) }
-    ensures refused { IfErr result (IsRefusal
-        (λ at why. (at ≡ IndexPlace number) × IsUnreadIndex (reader I.left I.failures index.old index.new) why)
-        (Unfailed (reader I.left I.failures index.old index.new))) }
+    ensures { Reads (reader I.left I.failures index.old index.new) result HoldsIndex
+        (λ index at why. (at ≡ IndexPlace number) × IsUnreadIndex index why) }
 {
     let source = opened(index, Place::Index(number))?;
     match read_index(heap, source) {
@@ -52,13 +49,9 @@ fn test_length<P: Placed>(
     entries: &Index,
     archive: &mut Result<P, CannotOpen>,
 ) -> Result<(), CommandFault>
-    ensures right { OnOk result (Gives (reader P.whole P.failures archive.old archive.new)
-        (HasIndexedLength entries.now)) }
-    ensures unfailed { OnOk result (Unfailed (reader P.whole P.failures archive.old archive.new)) }
-    ensures refused { IfErr result (IsRefusal
-        (IsRefusedBehindIndex number (reader P.whole P.failures archive.old archive.new)
-        (HasOtherLength (reader P.whole P.failures archive.old archive.new) entries.now))
-        (Unfailed (reader P.whole P.failures archive.old archive.new))) }
+    ensures { Reads (reader P.whole P.failures archive.old archive.new) result
+        (λ archive _. Gives archive (HasIndexedLength entries.now))
+        (λ archive. IsRefusedBehindIndex number archive (HasOtherLength archive entries.now)) }
 {
     let device = opened(archive, Place::Archive(number))?;
     match has_length(entries, device) {
@@ -76,16 +69,10 @@ pub(crate) fn read_index_of<I: Source, P: Placed>(
     index: &mut Result<I, CannotOpen>,
     archive: &mut Result<P, CannotOpen>,
 ) -> Result<Index, CommandFault>
-    ensures read { IfOk result (λ entries. IsIndexOf (reader I.left I.failures index.old index.new)
-        (reader P.whole P.failures archive.old archive.new) entries) }
-    ensures unfailed { OnOk result (Unfailed (reader I.left I.failures index.old index.new)
-        × Unfailed (reader P.whole P.failures archive.old archive.new)) }
-    ensures refused { IfErr result (IsRefusal
-        (IsRefusedByIndex number (reader I.left I.failures index.old index.new)
-        (reader P.whole P.failures archive.old archive.new)
-        (HasOtherLength (reader P.whole P.failures archive.old archive.new)))
-        (Unfailed (reader I.left I.failures index.old index.new)
-        × Unfailed (reader P.whole P.failures archive.old archive.new))) }
+    ensures { let named = reader I.left I.failures index.old index.new in
+        let known = reader P.whole P.failures archive.old archive.new in
+        ReadsInputs result (IsIndexOf named known) (IsRefusedByIndex number named known (HasOtherLength known))
+        (Unfailed named × Unfailed known) }
 {
     let entries = read_entries(heap, number, index)?;
     test_length(number, &entries, archive)?;

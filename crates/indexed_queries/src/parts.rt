@@ -7,7 +7,7 @@ ghost use Rattle.archive_core.specs.Record.{record_bytes};
 ghost use Rattle.placed_bytes.specs.Places.{HasSize};
 ghost use Rattle.archive_index.specs.Places.{BlamesPlaced, HasIndexedLength};
 ghost use Rattle.command_ends.specs.Indexes.{IsRefusedBehindIndex, IsRefusedByIndex};
-ghost use Rattle.command_ends.specs.Inputs.{IsRefusal, Unfailed, reader};
+ghost use Rattle.command_ends.specs.Inputs.{Reads, ReadsInputs, Unfailed, reader};
 ghost use Rattle.indexed_parts.specs.Places.{AreGatheredUnder, IsEntryFault};
 ghost use Rattle.indexed_queries.specs.Fronts.{IsStaleFor, front_bytes};
 ghost use Rattle.indexed_queries.specs.InnerParts.{HasJoinedNamed, HasJoinedParts, HaveGathered, IsFaultUnder};
@@ -157,13 +157,10 @@ fn join_archive<A: Archive + Drop, P: Placed>(
     entries: &Index,
     archive: &mut Result<P, CannotOpen>,
 ) -> Result<(), CommandFault>
-    ensures joined { OnOk result (IsNamedIn (reader P.whole P.failures archive.old archive.new)
-        (map front_bytes fronts.now) entries.now (A.content kept.old) (A.content kept.new)) }
-    ensures unfailed { OnOk result (Unfailed (reader P.whole P.failures archive.old archive.new)) }
-    ensures refused { IfErr result (IsRefusal
-        (IsRefusedBehindIndex number (reader P.whole P.failures archive.old archive.new)
-        (IsStaleFor (map front_bytes fronts.now) (reader P.whole P.failures archive.old archive.new) entries.now))
-        (Unfailed (reader P.whole P.failures archive.old archive.new))) }
+    ensures { let sought = map front_bytes fronts.now in
+        Reads (reader P.whole P.failures archive.old archive.new) result
+        (λ archive _. IsNamedIn archive sought entries.now (A.content kept.old) (A.content kept.new))
+        (λ archive. IsRefusedBehindIndex number archive (IsStaleFor sought archive entries.now)) }
 {
     let device = opened(archive, Place::Archive(number))?;
     match join_tested(heap, kept, fronts, entries, device) {
@@ -182,17 +179,11 @@ pub(crate) fn join_named<A: Archive + Drop, I: Source, P: Placed>(
     index: &mut Result<I, CannotOpen>,
     archive: &mut Result<P, CannotOpen>,
 ) -> Result<(), CommandFault>
-    ensures joined { OnOk result (HasJoinedParts (reader I.left I.failures index.old index.new)
-        (reader P.whole P.failures archive.old archive.new) (map front_bytes fronts.now)
-        (A.content kept.old) (A.content kept.new)) }
-    ensures unfailed { OnOk result (Unfailed (reader I.left I.failures index.old index.new)
-        × Unfailed (reader P.whole P.failures archive.old archive.new)) }
-    ensures refused { IfErr result (IsRefusal
-        (IsRefusedByIndex number (reader I.left I.failures index.old index.new)
-        (reader P.whole P.failures archive.old archive.new)
-        (IsStaleFor (map front_bytes fronts.now) (reader P.whole P.failures archive.old archive.new)))
-        (Unfailed (reader I.left I.failures index.old index.new)
-        × Unfailed (reader P.whole P.failures archive.old archive.new))) }
+    ensures { let sought = map front_bytes fronts.now in
+        let named = reader I.left I.failures index.old index.new in
+        let known = reader P.whole P.failures archive.old archive.new in
+        ReadsInputs result (λ _. HasJoinedParts named known sought (A.content kept.old) (A.content kept.new))
+        (IsRefusedByIndex number named known (IsStaleFor sought known)) (Unfailed named × Unfailed known) }
 {
     let entries = read_entries(heap.clone()?, number, index)?;
     join_archive(heap, kept, number, fronts, &entries, archive)

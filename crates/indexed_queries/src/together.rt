@@ -1,6 +1,6 @@
 //! Archives that are asked together, of which the first have indexes.
 
-ghost use Rattle.std.specs.Prelude.{◌≡◌, ◌<◌, ◌≤◌, ◌+◌, ◌^◌, true, IfErr, IfOk, OnOk, length, map};
+ghost use Rattle.std.specs.Prelude.{◌≡◌, ◌<◌, ◌≤◌, ◌+◌, ◌^◌, true, IfOk, length, map};
 ghost use Rattle.std.specs.FinSet as set;
 ghost use Rattle.std.specs.List.{All, list_any};
 ghost use Rattle.std.specs.List.Sorted.{IsSortedByKey};
@@ -8,8 +8,8 @@ ghost use Rattle.std.specs.Ordering.{nat_cmp};
 ghost use Rattle.std.specs.Cmp.Lexicographic.{slice_cmp};
 ghost use Rattle.std.specs.Str.{bytes_eq};
 ghost use Rattle.archive_queries.specs.InnerTogether.{HasJoinedParts as HaveJoinedPicked};
-ghost use Rattle.command_ends.specs.Inputs.{EachUnfailed, IsArchive, IsArchiveRefused, IsFirstRefused, IsRefusal};
-ghost use Rattle.command_ends.specs.Inputs.{readers};
+ghost use Rattle.command_ends.specs.Inputs.{EachUnfailed, IsArchive, IsArchiveRefused, IsFirstRefused};
+ghost use Rattle.command_ends.specs.Inputs.{ReadsInputs, readers};
 ghost use Rattle.command_ends.specs.declared.faults.Place.TheVariants.{Archive as ArchivePlace};
 ghost use Rattle.indexed_queries.specs.Fronts.{front_bytes};
 ghost use Rattle.indexed_queries.specs.InnerParts.{HaveJoinedGroups, is_sized};
@@ -116,16 +116,11 @@ fn join_indexed<A: Archive + Drop, I: Source, P: Placed>(
     archives: &mut [Result<P, CannotOpen>],
 ) -> Result<(), CommandFault>
     requires { length indexes.old ≡ length archives.old }
-    ensures joined { OnOk result (HaveJoinedGroups (map front_bytes fronts.now)
-        (readers I.left I.failures indexes.old indexes.new) (readers P.whole P.failures archives.old archives.new)
-        (A.content kept.old) (A.content kept.new)) }
-    ensures unfailed { OnOk result (EachUnfailed (readers I.left I.failures indexes.old indexes.new)
-        × EachUnfailed (readers P.whole P.failures archives.old archives.new)) }
-    ensures refused { IfErr result (IsRefusal
-        (IsFirstRefusedByIndex (map front_bytes fronts.now)
-        (readers I.left I.failures indexes.old indexes.new) (readers P.whole P.failures archives.old archives.new))
-        (EachUnfailed (readers I.left I.failures indexes.old indexes.new)
-        × EachUnfailed (readers P.whole P.failures archives.old archives.new))) }
+    ensures { let sought = map front_bytes fronts.now in
+        let named = readers I.left I.failures indexes.old indexes.new in
+        let known = readers P.whole P.failures archives.old archives.new in
+        ReadsInputs result (λ _. HaveJoinedGroups sought named known (A.content kept.old) (A.content kept.new))
+        (IsFirstRefusedByIndex sought named known) (EachUnfailed named × EachUnfailed known) }
 {
     'archives: for number in 0..indexes.len() {
         join_named(
@@ -150,13 +145,11 @@ fn join_others<A: Archive + Drop, R: Source>(
     others: &mut [Result<R, CannotOpen>],
 ) -> Result<(), CommandFault>
     requires { before + length others.old < 2 ^ 64 }
-    ensures joined { OnOk result (HaveJoinedPicked (readers R.left R.failures others.old others.new)
-        (is_under_any (map front_bytes fronts.now)) (A.content kept.old) (A.content kept.new)) }
-    ensures unfailed { OnOk result (EachUnfailed (readers R.left R.failures others.old others.new)) }
-    ensures refused { IfErr result (IsRefusal
-        (IsFirstRefused (λ number. ArchivePlace (before + number)) IsArchive IsArchiveRefused
-        (readers R.left R.failures others.old others.new))
-        (EachUnfailed (readers R.left R.failures others.old others.new))) }
+    ensures { let known = readers R.left R.failures others.old others.new in
+        let picks = is_under_any (map front_bytes fronts.now) in
+        ReadsInputs result (λ _. HaveJoinedPicked known picks (A.content kept.old) (A.content kept.new))
+        (IsFirstRefused (λ number. ArchivePlace (before + number)) IsArchive IsArchiveRefused known)
+        (EachUnfailed known) }
 {
     let sorted = in_order(heap.clone()?, fronts)?;
     let select = UnderAny { fronts: &sorted };
@@ -177,17 +170,12 @@ pub(crate) fn read_fronts<A: Archive + Drop, I: Source, P: Placed, R: Source>(
 ) -> Result<A, CommandFault>
     requires same { length indexes.old ≡ length archives.old }
     requires few { length indexes.old + length others.old < 2 ^ 64 }
-    ensures held { IfOk result (λ kept. HoldNamedTogether (map front_bytes fronts.now)
-        (readers I.left I.failures indexes.old indexes.new) (readers P.whole P.failures archives.old archives.new)
-        (readers R.left R.failures others.old others.new) (A.content kept)) }
-    ensures unfailed { OnOk result (AreUnfailedTogether (readers I.left I.failures indexes.old indexes.new)
-        (readers P.whole P.failures archives.old archives.new) (readers R.left R.failures others.old others.new)) }
-    ensures refused { IfErr result (IsRefusal
-        (AreRefusedTogether (map front_bytes fronts.now) (readers I.left I.failures indexes.old indexes.new)
-        (readers P.whole P.failures archives.old archives.new) (readers R.left R.failures others.old others.new))
-        (AreUnfailedTogether (readers I.left I.failures indexes.old indexes.new)
-        (readers P.whole P.failures archives.old archives.new)
-        (readers R.left R.failures others.old others.new))) }
+    ensures { let sought = map front_bytes fronts.now in
+        let named = readers I.left I.failures indexes.old indexes.new in
+        let known = readers P.whole P.failures archives.old archives.new in
+        let whole = readers R.left R.failures others.old others.new in
+        ReadsInputs result (λ kept. HoldNamedTogether sought named known whole (A.content kept))
+        (AreRefusedTogether sought named known whole) (AreUnfailedTogether named known whole) }
 {
     let mut kept = A::empty(heap.clone()?);
     join_indexed(heap, &mut kept, fronts, indexes, archives)?;

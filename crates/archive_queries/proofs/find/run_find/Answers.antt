@@ -18,7 +18,7 @@ returns-in_err-clone g c =
 pub returns-in_err-kept : goal.returns-in_err-kept
 returns-in_err-kept g c =
     let p = err_from_is_err_and c.from_residual-in_err-kept.result c.from_residual-in_err-kept.ensures.1 in
-    rw (p.1, p.2) (together_refused _ _ _ _ c.in_err-kept.field-0.0 c.in_err-kept.ensures.refused (Appends-none _, refl))
+    rw (p.1, p.2) (together_refused _ _ _ _ c.in_err-kept.field-0.0 c.in_err-kept.ensures (Appends-none _, refl))
 
 pub returns : goal.returns
 returns g c =
@@ -31,5 +31,5 @@ returns g c =
           (alike uuid (omega (arith, c.bytes_of-front.ensures.long)) (λ r h. ap (λ front. is_under front r) c.bytes_of-front.ensures.bytes ∙ h)) c.in_ok-rows.ensures;
       status_is = c.status_of.ensures ∙ ap find_status c.deref-2.ensures.value;
       text_is = c.deref-3.ensures ∙ c.in_ok-text.ensures ∙ ap find_lines c.deref.ensures.value;
-    }) c.in_ok-kept.ensures.kept)
+    }) c.in_ok-kept.ensures.is)
     c.publish_report.ensures

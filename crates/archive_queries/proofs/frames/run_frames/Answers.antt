@@ -17,14 +17,14 @@ returns-in_err-clone g c =
 pub returns-in_err-frames : goal.returns-in_err-frames
 returns-in_err-frames g c =
     let p = err_from_is_err_and c.from_residual-in_err-frames.result c.from_residual-in_err-frames.ensures.1 in
-    rw (p.1, p.2) (frames_refused _ _ _ _ _ c.in_err-frames.field-0.0 c.in_err-frames.ensures.refused refl
+    rw (p.1, p.2) (frames_refused _ _ _ _ _ c.in_err-frames.field-0.0 c.in_err-frames.ensures refl
     (none_touched g.R.Source.left g.R.Source.failures c.args.others.now) (none_failed g.R.Source.left g.R.Source.failures c.args.others.now) (Appends-none _, refl))
 
 pub returns-in_err-status : goal.returns-in_err-status
 returns-in_err-status g c =
     let p = err_from_is_err_and c.from_residual-in_err-status.result c.from_residual-in_err-status.ensures.1 in
     let said = c.in_ok-frames.ensures in
-    rw (p.1, p.2) (archives_refused _ _ _ _ _ c.in_err-status.field-0.0 (c.in_ok-frames.frames.items, said.frames) said.unfailed c.in_err-status.ensures.refused (Appends-none _, refl))
+    rw (p.1, p.2) (archives_refused _ _ _ _ _ c.in_err-status.field-0.0 (c.in_ok-frames.frames.items, said.is) said.unfailed c.in_err-status.ensures (Appends-none _, refl))
 
 pub returns : goal.returns
 returns g c =
@@ -32,9 +32,9 @@ returns g c =
     reported _ _ _ _ c.publish_bytes.result _ _ (said.unfailed, c.in_ok-status.ensures.unfailed)
     (record {
       said = c.in_ok-frames.frames.items;
-      frames_are = said.frames;
+      frames_are = said.is;
       tells = together_tells _ _ _ _ (λ o tells.
           subst (λ (text : List ℕ). TellsFrames o c.in_ok-frames.frames.items c.in_ok-status.status text) (sym c.deref-2.ensures.value)
-          (subst (λ (frames : List Frame). TellsFrames o frames c.in_ok-status.status c.in_ok-status.lines.items) c.deref.ensures.value tells)) c.in_ok-status.ensures.told;
+          (subst (λ (frames : List Frame). TellsFrames o frames c.in_ok-status.status c.in_ok-status.lines.items) c.deref.ensures.value tells)) c.in_ok-status.ensures.is;
     })
     c.publish_bytes.ensures

@@ -9,28 +9,28 @@ use Rattle.archive_queries.proofs.Framed.{asked_picked, frames_told, key_of_aske
 use Rattle.archive_queries.proofs.Parts.{together_tells}
 use Rattle.archive_queries.proofs.frames.tell_frames.Goals as goal
 
-pub returns-in_err-clone-clause-refused : goal.returns-in_err-clone-clause-refused
-returns-in_err-clone-clause-refused g c =
+pub returns-in_err-clone : goal.returns-in_err-clone
+returns-in_err-clone g c =
     let p = err_from_is_err_and c.from_residual.result c.from_residual.ensures.1 in
     rw (p.1, p.2) (refl, none_failed g.R.Source.left g.R.Source.failures c.args.others.now)
 
-pub returns-in_err-asked-clause-refused : goal.returns-in_err-asked-clause-refused
-returns-in_err-asked-clause-refused g c =
+pub returns-in_err-asked : goal.returns-in_err-asked
+returns-in_err-asked g c =
     let p = err_from_is_err_and c.from_residual-in_err-asked.result c.from_residual-in_err-asked.ensures.1 in
     rw (p.1, p.2) (refl, none_failed g.R.Source.left g.R.Source.failures c.args.others.now)
 
-pub returns-in_err-clone-2-clause-refused : goal.returns-in_err-clone-2-clause-refused
-returns-in_err-clone-2-clause-refused g c =
+pub returns-in_err-clone-2 : goal.returns-in_err-clone-2
+returns-in_err-clone-2 g c =
     let p = err_from_is_err_and c.from_residual-in_err-clone-2.result c.from_residual-in_err-clone-2.ensures.1 in
     rw (p.1, p.2) (refl, none_failed g.R.Source.left g.R.Source.failures c.args.others.now)
 
-pub returns-in_err-questions-clause-refused : goal.returns-in_err-questions-clause-refused
-returns-in_err-questions-clause-refused g c =
+pub returns-in_err-questions : goal.returns-in_err-questions
+returns-in_err-questions g c =
     let p = err_from_is_err_and c.from_residual-in_err-questions.result c.from_residual-in_err-questions.ensures.1 in
     rw (p.1, p.2) (refl, none_failed g.R.Source.left g.R.Source.failures c.args.others.now)
 
-pub returns-in_err-clone-3-clause-refused : goal.returns-in_err-clone-3-clause-refused
-returns-in_err-clone-3-clause-refused g c =
+pub returns-in_err-clone-3 : goal.returns-in_err-clone-3
+returns-in_err-clone-3 g c =
     let p = err_from_is_err_and c.from_residual-in_err-clone-3.result c.from_residual-in_err-clone-3.ensures.1 in
     rw (p.1, p.2) (refl, none_failed g.R.Source.left g.R.Source.failures c.args.others.now)
 
@@ -54,21 +54,24 @@ in_line_order-requires g c =
     let told = c.in_ok-told.told in
     let text = string_bytes told.text in
     let left_is = c.in_ok-questions.ensures.left ∙ c.deref.ensures.value in
-    let h = c.in_ok-told.ensures.answered in
+    let h = c.in_ok-told.ensures.is in
     let o = merged h.content h.contents in
     All-from_recursion _ told.told.items (pieces o text frames told.told.items
     (told_to_the_end o frames questions.left.now told.left.now (length questions.told.items) told.told.items text (subst (λ (asked : List AskedFrame). AreLines frames asked) (sym left_is) c.in_ok-asked.ensures.lines)
     (c.in_ok-questions.ensures.told ∙ ap length c.deref.ensures.value ∙ c.in_ok-asked.ensures.long) h.is_true.0 h.is_true.1))
 
-pub returns-clause-told : goal.returns-clause-told
-returns-clause-told g c =
+pub returns : goal.returns
+returns g c =
     let frames = c.args.frames.now in
     let questions = c.in_ok-questions.questions in
     let told = c.in_ok-told.told in
     let text = string_bytes told.text in
     let left_is = c.in_ok-questions.ensures.left ∙ c.deref.ensures.value in
     let lines = c.in_ok-lines.lines in
-    together_tells _ _ _ _ (λ o is. frames_told o text frames told.told.items lines.0 lines.1.items
-    (told_to_the_end o frames questions.left.now told.left.now (length questions.told.items) told.told.items text (subst (λ (asked : List AskedFrame). AreLines frames asked) (sym left_is) c.in_ok-asked.ensures.lines)
-    (c.in_ok-questions.ensures.told ∙ ap length c.deref.ensures.value ∙ c.in_ok-asked.ensures.long) is.0 is.1)
-    c.in_ok-lines.ensures.status c.in_ok-lines.ensures.text) c.in_ok-told.ensures.answered
+    record {
+      is = together_tells _ _ _ _ (λ o is. frames_told o text frames told.told.items lines.0 lines.1.items
+          (told_to_the_end o frames questions.left.now told.left.now (length questions.told.items) told.told.items text (subst (λ (asked : List AskedFrame). AreLines frames asked) (sym left_is) c.in_ok-asked.ensures.lines)
+          (c.in_ok-questions.ensures.told ∙ ap length c.deref.ensures.value ∙ c.in_ok-asked.ensures.long) is.0 is.1)
+          c.in_ok-lines.ensures.status c.in_ok-lines.ensures.text) c.in_ok-told.ensures.is;
+      unfailed = c.in_ok-told.ensures.unfailed;
+    }

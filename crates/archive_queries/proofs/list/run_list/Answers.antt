@@ -6,7 +6,7 @@ use Rattle.archive_queries.proofs.list.run_list.Goals as goal
 
 pub returns : goal.returns
 returns g c =
-    let held = c.in_ok-rows.ensures.rows in
+    let held = c.in_ok-rows.ensures.is in
     reported _ _ _ _ c.publish_report.result _ _ c.in_ok-rows.ensures.unfailed
     (record {
       content = held.content;

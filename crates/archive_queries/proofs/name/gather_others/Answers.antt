@@ -19,7 +19,7 @@ others-preserved g c =
     let index = c.others.index in
     let other = c.index-others-index.result in
     let after = c.gather_input.new.input in
-    let got = c.in_ok-now.ensures.added in
+    let got = c.in_ok-now.ensures.is in
     let lt : index < length others = omega arith in
     let is = same_at now others index other c.others.invariant.rest c.index-others-index.is in
     record {
@@ -29,8 +29,8 @@ others-preserved g c =
       rest = rest_kept now others index after c.others.invariant.rest;
     }
 
-pub returns-in_err-now-clause-refused : goal.returns-in_err-now-clause-refused
-returns-in_err-now-clause-refused g c =
+pub returns-in_err-now : goal.returns-in_err-now
+returns-in_err-now g c =
     let others = c.args.others.now in
     let now = c.others.others in
     let index = c.others.index in
@@ -39,13 +39,16 @@ returns-in_err-now-clause-refused g c =
     rw (p.1, p.2)
     (refused_at g.R.Source.left g.R.Source.failures file_place IsArchive IsArchiveRefused others now index c.index-others-index.result _ _ lt c.others.auto.others
     (same_at now others index _ c.others.invariant.rest c.index-others-index.is) (added_archives _ _ _ _ c.others.invariant.added) c.others.invariant.rest c.others.invariant.unfailed
-    (rw (← c.index-others-index.is) at c.in_err-now.ensures.refused))
+    (rw (← c.index-others-index.is) at c.in_err-now.ensures))
 
-pub returns-clause-added : goal.returns-clause-added
-returns-clause-added g c =
+pub returns : goal.returns
+returns g c =
     let others = c.args.others.now in
     let now = c.others.others in
     let end : c.others.index ≡ length others = omega arith in
-    subst (λ seen. HaveAdded seen c.args.sought.now c.args.found c.others.now)
-    (ap (λ n. take n (readers g.R.Source.left g.R.Source.failures others now)) end ∙ all_read g.R.Source.left g.R.Source.failures others now c.others.auto.others)
-    c.others.invariant.added
+    record {
+      is = subst (λ seen. HaveAdded seen c.args.sought.now c.args.found c.others.now)
+          (ap (λ n. take n (readers g.R.Source.left g.R.Source.failures others now)) end ∙ all_read g.R.Source.left g.R.Source.failures others now c.others.auto.others)
+          c.others.invariant.added;
+      unfailed = c.others.invariant.unfailed;
+    }

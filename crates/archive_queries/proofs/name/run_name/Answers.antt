@@ -17,7 +17,7 @@ returns-in_err-clone g c =
 pub returns-in_err-rows : goal.returns-in_err-rows
 returns-in_err-rows g c =
     let p = err_from_is_err_and c.from_residual-in_err-rows.result c.from_residual-in_err-rows.ensures.1 in
-    rw (p.1, p.2) (together_refused _ _ _ _ c.in_err-rows.field-0.0 c.in_err-rows.ensures.refused (Appends-none _, refl))
+    rw (p.1, p.2) (together_refused _ _ _ _ c.in_err-rows.field-0.0 c.in_err-rows.ensures (Appends-none _, refl))
 
 pub returns : goal.returns
 returns g c =
@@ -27,5 +27,5 @@ returns g c =
       names = names;
       status_is = c.status_of_names.ensures ∙ ap (λ rows. name_status (map owned_name_view rows)) c.deref-2.ensures.value;
       text_is = c.deref-3.ensures ∙ c.in_ok-text.ensures ∙ ap (λ rows. name_lines (map owned_name_view rows)) c.deref.ensures.value;
-    }) c.in_ok-rows.ensures.rows)
+    }) c.in_ok-rows.ensures.is)
     c.publish_report.ensures

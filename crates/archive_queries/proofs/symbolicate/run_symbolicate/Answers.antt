@@ -18,7 +18,7 @@ returns-in_err-clone g c =
 pub returns-in_err-kept : goal.returns-in_err-kept
 returns-in_err-kept g c =
     let p = err_from_is_err_and c.from_residual-in_err-kept.result c.from_residual-in_err-kept.ensures.1 in
-    rw (p.1, p.2) (together_refused _ _ _ _ c.in_err-kept.field-0.0 c.in_err-kept.ensures.refused (Appends-none _, refl))
+    rw (p.1, p.2) (together_refused _ _ _ _ c.in_err-kept.field-0.0 c.in_err-kept.ensures (Appends-none _, refl))
 
 pub returns : goal.returns
 returns g c =
@@ -27,5 +27,5 @@ returns g c =
     reported _ _ _ _ c.publish_report.result _ _ c.in_ok-kept.ensures.unfailed
     (together_tells _ _ _ _ (λ o alike.
     told_alike (g.A.Join.content c.in_ok-kept.kept) o key c.args.load c.args.addresses.now c.in_ok-status.status c.deref.result.now
-    (alike (key_bytes key) (omega (arith, c.bytes_of-front.ensures.long)) (λ r h. ap (λ front. is_under front r) c.bytes_of-front.ensures.bytes ∙ h)) told) c.in_ok-kept.ensures.kept)
+    (alike (key_bytes key) (omega (arith, c.bytes_of-front.ensures.long)) (λ r h. ap (λ front. is_under front r) c.bytes_of-front.ensures.bytes ∙ h)) told) c.in_ok-kept.ensures.is)
     c.publish_report.ensures

@@ -4,12 +4,15 @@ use Rattle.archive_core.proofs.Picked.{answer_alike}
 use Rattle.archive_queries.proofs.Parts.{together_tells}
 use Rattle.archive_queries.proofs.together.answer_parts.Goals as goal
 
-pub returns-clause-answered : goal.returns-clause-answered
-returns-clause-answered g c =
+pub returns : goal.returns
+returns g c =
     let kept = g.A.Join.content c.in_ok-kept.kept in
     let all = c.in_ok-answer_all.ensures in
-    together_tells _ _ _ _ (λ o alike. (
-      all.left,
-      all.answered c.args.questions o (λ key there long asked answer is.
-          answer_alike kept o key asked answer (alike (key_bytes key) (omega (arith, long)) (c.requires.picked key there long)) is) (c.requires.start o),
-    )) c.in_ok-kept.ensures.kept
+    record {
+      is = together_tells _ _ _ _ (λ o alike. (
+        all.left,
+        all.answered c.args.questions o (λ key there long asked answer is.
+            answer_alike kept o key asked answer (alike (key_bytes key) (omega (arith, long)) (c.requires.picked key there long)) is) (c.requires.start o),
+      )) c.in_ok-kept.ensures.is;
+      unfailed = c.in_ok-kept.ensures.unfailed;
+    }

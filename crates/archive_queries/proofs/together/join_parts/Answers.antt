@@ -19,18 +19,18 @@ others-preserved g c =
     let index = c.others.index in
     let other = c.index-others-index.result in
     let after = c.join_part.new.archive in
-    let got = c.in_ok-join_part.ensures.joined in
+    let got = c.in_ok-join_part.ensures.is in
     let lt : index < length others = omega arith in
     let is = same_at now others index other c.others.invariant.rest c.index-others-index.is in
     record {
-      joined = parts_more (take index (readers left failures others now)) _ (g.S.Selects.picked c.args.select.now) (reader left failures other after) (g.A.Join.content c.args.kept.now) (g.A.Join.content c.others.kept) (g.A.Join.content c.join_part.new.kept) got.0
-          (one_more left failures others now index other after lt c.others.auto.others is) c.others.invariant.joined got.1 (rw (← c.index-others-index.is) at got.2) got.3;
+      joined = parts_more (take index (readers left failures others now)) _ (g.S.Selects.picked c.args.select.now) (reader left failures other after) (g.A.Join.content c.args.kept.now) (g.A.Join.content c.others.kept) (g.A.Join.content c.join_part.new.kept) got.content
+          (one_more left failures others now index other after lt c.others.auto.others is) c.others.invariant.joined got.is_content (rw (← c.index-others-index.is) at got.text) got.is_true;
       unfailed = unfailed_more left failures others now index other after lt c.others.auto.others is c.others.invariant.unfailed (rw (← c.index-others-index.is) at c.in_ok-join_part.ensures.unfailed);
       rest = rest_kept now others index after c.others.invariant.rest;
     }
 
-pub returns-in_err-join_part-clause-refused : goal.returns-in_err-join_part-clause-refused
-returns-in_err-join_part-clause-refused g c =
+pub returns-in_err-join_part : goal.returns-in_err-join_part
+returns-in_err-join_part g c =
     let others = c.args.others.now in
     let now = c.others.others in
     let index = c.others.index in
@@ -39,13 +39,16 @@ returns-in_err-join_part-clause-refused g c =
     rw (p.1, p.2)
     (refused_at g.R.Source.left g.R.Source.failures file_place IsArchive IsArchiveRefused others now index c.index-others-index.result _ _ lt c.others.auto.others
     (same_at now others index _ c.others.invariant.rest c.index-others-index.is) (parts_archives _ _ _ _ c.others.invariant.joined) c.others.invariant.rest c.others.invariant.unfailed
-    (rw (← c.index-others-index.is) at c.in_err-join_part.ensures.refused))
+    (rw (← c.index-others-index.is) at c.in_err-join_part.ensures))
 
-pub returns-clause-joined : goal.returns-clause-joined
-returns-clause-joined g c =
+pub returns : goal.returns
+returns g c =
     let others = c.args.others.now in
     let now = c.others.others in
     let end : c.others.index ≡ length others = omega arith in
-    subst (λ seen. HasJoinedParts seen (g.S.Selects.picked c.args.select.now) (g.A.Join.content c.args.kept.now) (g.A.Join.content c.others.kept))
-    (ap (λ n. take n (readers g.R.Source.left g.R.Source.failures others now)) end ∙ all_read g.R.Source.left g.R.Source.failures others now c.others.auto.others)
-    c.others.invariant.joined
+    record {
+      is = subst (λ seen. HasJoinedParts seen (g.S.Selects.picked c.args.select.now) (g.A.Join.content c.args.kept.now) (g.A.Join.content c.others.kept))
+          (ap (λ n. take n (readers g.R.Source.left g.R.Source.failures others now)) end ∙ all_read g.R.Source.left g.R.Source.failures others now c.others.auto.others)
+          c.others.invariant.joined;
+      unfailed = c.others.invariant.unfailed;
+    }

@@ -4,22 +4,25 @@ use Rattle.command_ends.proofs.Readers.{none_failed, none_touched}
 use Rattle.archive_queries.proofs.Parts.{first_refused, held_together, other_refused}
 use Rattle.archive_queries.proofs.together.read_parts.Goals as goal
 
-pub returns-in_err-clone-clause-refused : goal.returns-in_err-clone-clause-refused
-returns-in_err-clone-clause-refused g c =
+pub returns-in_err-clone : goal.returns-in_err-clone
+returns-in_err-clone g c =
     let p = err_from_is_err_and c.from_residual.result c.from_residual.ensures.1 in
     rw (p.1, p.2) (refl, none_failed g.R.Source.left g.R.Source.failures c.args.others.now)
 
-pub returns-in_err-kept-clause-refused : goal.returns-in_err-kept-clause-refused
-returns-in_err-kept-clause-refused g c =
+pub returns-in_err-kept : goal.returns-in_err-kept
+returns-in_err-kept g c =
     let p = err_from_is_err_and c.from_residual-in_err-kept.result c.from_residual-in_err-kept.ensures.1 in
-    rw (p.1, p.2) (first_refused _ _ c.in_err-kept.field-0.0 c.in_err-kept.ensures.refused
+    rw (p.1, p.2) (first_refused _ _ c.in_err-kept.field-0.0 c.in_err-kept.ensures
     (none_touched g.R.Source.left g.R.Source.failures c.args.others.now) (none_failed g.R.Source.left g.R.Source.failures c.args.others.now))
 
-pub returns-in_err-join_parts-clause-refused : goal.returns-in_err-join_parts-clause-refused
-returns-in_err-join_parts-clause-refused g c =
+pub returns-in_err-join_parts : goal.returns-in_err-join_parts
+returns-in_err-join_parts g c =
     let p = err_from_is_err_and c.from_residual-in_err-join_parts.result c.from_residual-in_err-join_parts.ensures.1 in
-    let kept = c.in_ok-kept.ensures.kept in
-    rw (p.1, p.2) (other_refused _ _ c.in_err-join_parts.field-0.0 (kept.whole, kept.is_content, kept.text) c.in_ok-kept.ensures.unfailed c.in_err-join_parts.ensures.refused)
+    let kept = c.in_ok-kept.ensures.is in
+    rw (p.1, p.2) (other_refused _ _ c.in_err-join_parts.field-0.0 (kept.whole, kept.is_content, kept.text) c.in_ok-kept.ensures.unfailed c.in_err-join_parts.ensures)
 
-pub returns-clause-kept : goal.returns-clause-kept
-returns-clause-kept g c = held_together _ _ _ _ _ c.in_ok-kept.ensures.kept c.in_ok-join_parts.ensures.joined
+pub returns : goal.returns
+returns g c = record {
+  is = held_together _ _ _ _ _ c.in_ok-kept.ensures.is c.in_ok-join_parts.ensures.is;
+  unfailed = (c.in_ok-kept.ensures.unfailed, c.in_ok-join_parts.ensures.unfailed);
+}

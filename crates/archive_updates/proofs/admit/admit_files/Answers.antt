@@ -11,8 +11,8 @@ use Rattle.archive_updates.proofs.Placed.{no_listing, placed_none}
 use Rattle.command_ends.proofs.Readers.{all_read, none_failed, one_more, read_to, refused_at, rest_kept, same_at, unfailed_more}
 use Rattle.archive_updates.proofs.admit.admit_files.Goals as goal
 
-pub returns-in_err-arrivals-clause-refused : goal.returns-in_err-arrivals-clause-refused
-returns-in_err-arrivals-clause-refused g c =
+pub returns-in_err-arrivals : goal.returns-in_err-arrivals
+returns-in_err-arrivals g c =
     let p = err_from_is_err_and c.from_residual.result c.from_residual.ensures.1 in
     rw (p.1, p.2) (none_failed g.S.Source.left g.S.Source.failures c.args.files.now)
 
@@ -28,7 +28,7 @@ files-preserved g c =
     let index = c.files.index in
     let file = c.index-files-index.result in
     let after = c.admit_file.new.file in
-    let got = c.in_ok-admit_file.ensures.taken in
+    let got = c.in_ok-admit_file.ensures.is in
     let lt : index < length files = omega arith in
     let is = same_at now files index file c.files.invariant.rest c.index-files-index.is in
     record {
@@ -39,8 +39,8 @@ files-preserved g c =
       rest = rest_kept now files index after c.files.invariant.rest;
     }
 
-pub returns-in_err-admit_file-clause-refused : goal.returns-in_err-admit_file-clause-refused
-returns-in_err-admit_file-clause-refused g c =
+pub returns-in_err-admit_file : goal.returns-in_err-admit_file
+returns-in_err-admit_file g c =
     let files = c.args.files.now in
     let now = c.files.files in
     let index = c.files.index in
@@ -49,13 +49,16 @@ returns-in_err-admit_file-clause-refused g c =
     rw (p.1, p.2)
     (refused_at g.S.Source.left g.S.Source.failures (λ n. File n) IsAccepted IsFileRefused files now index c.index-files-index.result _ _ lt c.files.auto.files
     (same_at now files index _ c.files.invariant.rest c.index-files-index.is) (taken_accepted _ _ _ _ c.files.invariant.taken.taken) c.files.invariant.rest c.files.invariant.unfailed
-    (rw (← c.index-files-index.is) at c.in_err-admit_file.ensures.refused))
+    (rw (← c.index-files-index.is) at c.in_err-admit_file.ensures))
 
-pub returns-clause-taken : goal.returns-clause-taken
-returns-clause-taken g c =
+pub returns : goal.returns
+returns g c =
     let files = c.args.files.now in
     let now = c.files.files in
     let end : c.files.index ≡ length files = omega arith in
-    subst (λ seen. HasCome seen c.files.arrivals.came c.files.arrivals.places.items c.files.arrivals.rows.items)
-    (ap (λ n. take n (readers g.S.Source.left g.S.Source.failures files now)) end ∙ all_read g.S.Source.left g.S.Source.failures files now c.files.auto.files)
-    c.files.invariant.taken
+    record {
+      is = subst (λ seen. HasCome seen c.files.arrivals.came c.files.arrivals.places.items c.files.arrivals.rows.items)
+          (ap (λ n. take n (readers g.S.Source.left g.S.Source.failures files now)) end ∙ all_read g.S.Source.left g.S.Source.failures files now c.files.auto.files)
+          c.files.invariant.taken;
+      unfailed = c.files.invariant.unfailed;
+    }

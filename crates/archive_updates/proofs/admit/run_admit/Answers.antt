@@ -12,11 +12,11 @@ use Rattle.archive_updates.proofs.Taking.{then_ok}
 use Rattle.archive_updates.proofs.admit.run_admit.Goals as goal
 
 pub write_admitted-requires : goal.write_admitted-requires
-write_admitted-requires g c = let h = c.in-Ok.ensures.taken in (records_of h.taken.texts, h.placed)
+write_admitted-requires g c = let h = c.in-Ok.ensures.is in (records_of h.taken.texts, h.placed)
 
 pub returns-in-Ok-clause-ends : goal.returns-in-Ok-clause-ends
 returns-in-Ok-clause-ends g c =
-    let h = c.in-Ok.ensures.taken in
+    let h = c.in-Ok.ensures.is in
     let input = reader g.R.Source.left g.R.Source.failures c.args.input.now c.write_admitted.new.input in
     let files = readers g.S.Source.left g.S.Source.failures c.args.files.now c.admit_files.new.files in
     admitted_in_turn input files
@@ -30,10 +30,10 @@ returns-in-Err-clause-ends g c =
     let files = readers g.S.Source.left g.S.Source.failures c.args.files.now c.admit_files.new.files in
     told_behind (MakesAdmitted input files) input (IsFirstRefused (λ n. File n) IsAccepted IsFileRefused files) (EachUnfailed files) (IsKnown input × EachKnown files)
     (out_of (outs g.T.Draft.Sink.held g.T.Draft.Sink.failures g.T.Target.placed g.T.Target.failures c.args.out.now c.args.out.now))
-    (writer g.P.Sink.held g.P.Sink.failures c.args.report.now c.args.report.now) c.in-Err.fault c.refused_behind.result c.in-Err.ensures.refused c.refused_behind.ensures ((Appends-none _, refl), (refl, refl)) (Appends-none _, refl)
+    (writer g.P.Sink.held g.P.Sink.failures c.args.report.now c.args.report.now) c.in-Err.fault c.refused_behind.result c.in-Err.ensures c.refused_behind.ensures ((Appends-none _, refl), (refl, refl)) (Appends-none _, refl)
 
 pub returns-in-Ok-clause-noted : goal.returns-in-Ok-clause-noted
 returns-in-Ok-clause-noted g c =
     let input = reader g.R.Source.left g.R.Source.failures c.args.input.now c.write_admitted.new.input in
     let files = readers g.S.Source.left g.S.Source.failures c.args.files.now c.admit_files.new.files in
-    then_ok c.write_admitted.result (retired_noted input files c.in-Ok.arrivals.came c.in-Ok.arrivals.rows.items c.in-Ok.ensures.taken.taken c.args.notes.now.items c.write_admitted.new.notes.items) c.write_admitted.ensures.noted
+    then_ok c.write_admitted.result (retired_noted input files c.in-Ok.arrivals.came c.in-Ok.arrivals.rows.items c.in-Ok.ensures.is.taken c.args.notes.now.items c.write_admitted.new.notes.items) c.write_admitted.ensures.noted

@@ -4,11 +4,12 @@ use Rattle.command_ends.proofs.Readers.{none_failed}
 use Rattle.archive_updates.proofs.Merged.{text_of_join}
 use Rattle.archive_updates.proofs.merge.joined_text.Goals as goal
 
-pub returns-in_err-clone-clause-refused : goal.returns-in_err-clone-clause-refused
-returns-in_err-clone-clause-refused g c =
+pub returns-in_err-clone : goal.returns-in_err-clone
+returns-in_err-clone g c =
     let p = err_from_is_err_and c.from_residual.result c.from_residual.ensures.1 in
     rw (p.1, p.2) (none_failed g.S.Source.left g.S.Source.failures c.args.files.now)
 
-pub returns-clause-joined : goal.returns-clause-joined
-returns-clause-joined g c =
-    text_of_join _ c.text_in_memory.result (readers g.S.Source.left g.S.Source.failures c.args.files.now c.join_files.new.files) _ _ c.empty-joined.ensures c.in_ok-join_files.ensures.joined c.text_in_memory.ensures.text c.text_in_memory.ensures.content
+pub returns : goal.returns
+returns g c =
+    text_of_join _ c.text_in_memory.result (readers g.S.Source.left g.S.Source.failures c.args.files.now c.join_files.new.files) _ _ c.empty-joined.ensures c.in_ok-join_files.ensures
+    c.text_in_memory.ensures.text c.text_in_memory.ensures.content c.text_in_memory.ensures.wanting

@@ -10,7 +10,7 @@ use Rattle.archive_updates.proofs.merge.merge_in_turn.Goals as goal
 
 pub returns-in-Ok : goal.returns-in-Ok
 returns-in-Ok g c =
-    let j = c.in-Ok.ensures.joined in
+    let j = c.in-Ok.ensures.is in
     merged_in_turn (reader g.R.Source.left g.R.Source.failures c.args.input.now c.merge_text.new.input) (readers g.S.Source.left g.S.Source.failures c.args.files.now c.joined_text.new.files)
     (out_of (outs g.T.Draft.Sink.held g.T.Draft.Sink.failures g.T.Target.placed g.T.Target.failures c.args.out.now c.merge_text.new.out))
     (writer g.P.Sink.held g.P.Sink.failures c.args.report.now c.merge_text.new.report) j.0 j.3 c.in-Ok.ensures.unfailed c.merge_text.result
@@ -22,4 +22,4 @@ returns-in-Err g c =
     let files = readers g.S.Source.left g.S.Source.failures c.args.files.now c.joined_text.new.files in
     told_behind (MakesMerged input files) input (IsFirstRefused file_place IsArchive IsArchiveRefused files) (EachUnfailed files) (IsKnown input × EachKnown files)
     (out_of (outs g.T.Draft.Sink.held g.T.Draft.Sink.failures g.T.Target.placed g.T.Target.failures c.args.out.now c.args.out.now))
-    (writer g.P.Sink.held g.P.Sink.failures c.args.report.now c.args.report.now) c.in-Err.fault c.refused_behind.result c.in-Err.ensures.refused c.refused_behind.ensures ((Appends-none _, refl), (refl, refl)) (Appends-none _, refl)
+    (writer g.P.Sink.held g.P.Sink.failures c.args.report.now c.args.report.now) c.in-Err.fault c.refused_behind.result c.in-Err.ensures c.refused_behind.ensures ((Appends-none _, refl), (refl, refl)) (Appends-none _, refl)

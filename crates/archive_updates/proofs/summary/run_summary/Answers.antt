@@ -6,7 +6,7 @@ use Rattle.archive_updates.proofs.summary.run_summary.Goals as goal
 
 pub returns : goal.returns
 returns g c =
-    let held = c.in_ok-summary.ensures.entries in
+    let held = c.in_ok-summary.ensures.is in
     given_out _ _ _ _ _ c.publish_summary.result _ _ c.in_ok-summary.ensures.unfailed
     (record {
       content = held.content;

@@ -1,12 +1,5 @@
-use Rattle.command_ends.proofs.Lent.{of_lent}
+use Rattle.command_ends.proofs.Lent.{read_lent}
 use Rattle.command_ends.proofs.sources.answer_input.Goals as goal
 
-pub returns-in-Ok-clause-answered : goal.returns-in-Ok-clause-answered
-returns-in-Ok-clause-answered g c =
-    let m = c.in-Ok.ensures in
-    record {
-      content = m.meaning;
-      is_content = m.whole.is;
-      text = of_lent c.args.input.now c.in_ok-source.source.now g.R.Source.left _ c.in_ok-source.ensures.source m.whole.text;
-      is_true = m.kept;
-    }
+pub returns-in-Ok : goal.returns-in-Ok
+returns-in-Ok g c = read_lent g.R.Source.left g.R.Source.failures c.args.input.now c.in_ok-source.source.now _ _ c.in_ok-source.ensures.source c.in-Ok.ensures

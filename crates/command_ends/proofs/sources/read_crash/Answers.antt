@@ -5,8 +5,8 @@ use Rattle.crash_frames.specs.Frames.{IsErrorOf, frames_of}
 use Rattle.command_ends.proofs.Given.{gives_too}
 use Rattle.command_ends.proofs.sources.read_crash.Goals as goal
 
-pub returns-in-Err-BadFrame-clause-refused : goal.returns-in-Err-BadFrame-clause-refused
-returns-in-Err-BadFrame-clause-refused g c =
+pub returns-in-Err-BadFrame : goal.returns-in-Err-BadFrame
+returns-in-Err-BadFrame g c =
     let bytes = c.in_ok-bytes.bytes.items in
     let line = c.in-Err-BadFrame.line in
     let fault : frames_of c.deref.result.now ≡ Err line =
@@ -21,6 +21,6 @@ returns-in-Err-BadFrame-clause-refused g c =
             (λ t. (frames_of t ≡ Err line) × (c.frame_flaw-flaw.result ≡ frame_flaw (line_at t line)))
             (λ t same. subst (λ b. (frames_of b ≡ Err line) × (c.frame_flaw-flaw.result ≡ frame_flaw (line_at b line)))
             (sym same) (ap frames_of (sym c.deref.ensures.value) ∙ fault, flaw))
-            c.in_ok-bytes.ensures.bytes,
+            c.in_ok-bytes.ensures.is,
       ),
     )

@@ -1,12 +1,10 @@
-use Rattle.command_ends.proofs.Lent.{of_lent}
+use Rattle.command_ends.proofs.Lent.{read_lent}
 use Rattle.command_ends.proofs.sources.read_input_part.Goals as goal
 
-pub returns-in-Ok-clause-kept : goal.returns-in-Ok-clause-kept
-returns-in-Ok-clause-kept g c =
-    let m = c.in-Ok.ensures in
+pub returns-in-Ok : goal.returns-in-Ok
+returns-in-Ok g c =
+    let read = read_lent g.R.Source.left g.R.Source.failures c.args.input.now c.in_ok-source.source.now _ _ c.in_ok-source.ensures.source c.in-Ok.ensures in
     record {
-      whole = m.meaning;
-      is_content = m.whole.is;
-      text = of_lent c.args.input.now c.in_ok-source.source.now g.R.Source.left _ c.in_ok-source.ensures.source m.whole.text;
-      kept = m.kept;
+      is = record { whole = read.is.content; is_content = read.is.is_content; text = read.is.text; kept = read.is.is_true };
+      unfailed = read.unfailed;
     }

@@ -6,7 +6,7 @@ use Rattle.index_updates.proofs.index.run_index.Goals as goal
 
 pub returns : goal.returns
 returns g c =
-    let held = c.in_ok-made.ensures.index in
+    let held = c.in_ok-made.ensures.is in
     given_out _ _ _ _ _ c.publish_index.result _ _ c.in_ok-made.ensures.unfailed
     (record {
       content = held.content;

@@ -23,7 +23,7 @@ returns g c =
     reported _ _ _ _ c.publish_report.result _ _ c.in_ok-entries.ensures.unfailed
     (record {
       entries = c.in_ok-entries.entries;
-      index_of = c.in_ok-entries.ensures.read;
+      index_of = c.in_ok-entries.ensures.is;
       tells = record {
         rows = rows;
         are_rows = subst (λ (front : List ℕ). AreIndexRows front c.in_ok-entries.entries rows) c.uuid_bytes-front.ensures.bytes c.in_ok-rows.ensures;

@@ -10,7 +10,7 @@ use Rattle.indexed_queries.proofs.find.run_find_together.Goals as goal
 pub returns-in_err-kept : goal.returns-in_err-kept
 returns-in_err-kept g c =
     let p = err_from_is_err_and c.from_residual.result c.from_residual.ensures.1 in
-    rw (p.1, p.2) (query_refused _ _ _ _ c.in_err-kept.field-0.0 c.in_err-kept.ensures.refused (Appends-none _, refl))
+    rw (p.1, p.2) (query_refused _ _ _ _ c.in_err-kept.field-0.0 c.in_err-kept.ensures (Appends-none _, refl))
 
 pub returns-in_err-rows : goal.returns-in_err-rows
 returns-in_err-rows g c =
@@ -27,7 +27,7 @@ returns g c =
     reported _ _ _ _ c.publish_report.result _ _ c.in_ok-kept.ensures.unfailed
     (record {
       content = g.A.Join.content c.in_ok-kept.kept;
-      held = c.in_ok-kept.ensures.held;
+      held = c.in_ok-kept.ensures.is;
       tells = record {
         rows = c.in_ok-rows.rows.items;
         finds = c.in_ok-rows.ensures;

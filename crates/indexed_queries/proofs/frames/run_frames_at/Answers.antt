@@ -24,7 +24,7 @@ returns-in_err-frames g c =
     let others = readers g.R.Source.left g.R.Source.failures c.args.others.now c.args.others.now in
     let frames = reader g.C.Source.left g.C.Source.failures c.args.crash.now c.read_crash.new.frames in
     let report = writer g.W.Sink.held g.W.Sink.failures c.args.report.now c.args.report.now in
-    rw (p.1, p.2) (frames_first indexes archives others frames report c.in_err-frames.field-0.0 c.in_err-frames.ensures.refused
+    rw (p.1, p.2) (frames_first indexes archives others frames report c.in_err-frames.field-0.0 c.in_err-frames.ensures
     (none_touched g.I.Source.left g.I.Source.failures c.args.indexes.now) (none_touched g.P.Placed.whole g.P.Placed.failures c.args.archives.now) (none_touched g.R.Source.left g.R.Source.failures c.args.others.now)
     ((none_failed g.I.Source.left g.I.Source.failures c.args.indexes.now, none_failed g.P.Placed.whole g.P.Placed.failures c.args.archives.now), none_failed g.R.Source.left g.R.Source.failures c.args.others.now)
     (Appends-none _, refl))
@@ -38,7 +38,7 @@ returns-in_err-status g c =
     let others = readers g.R.Source.left g.R.Source.failures c.args.others.now c.tell_frames.new.others in
     let frames = reader g.C.Source.left g.C.Source.failures c.args.crash.now c.read_crash.new.frames in
     let report = writer g.W.Sink.held g.W.Sink.failures c.args.report.now c.args.report.now in
-    rw (p.1, p.2) (archive_after indexes archives others frames report c.in_err-status.field-0.0 c.in_ok-frames.frames.items said.frames said.unfailed (rw c.deref.ensures.value at c.in_err-status.ensures.refused) (Appends-none _, refl))
+    rw (p.1, p.2) (archive_after indexes archives others frames report c.in_err-status.field-0.0 c.in_ok-frames.frames.items said.is said.unfailed (rw c.deref.ensures.value at c.in_err-status.ensures) (Appends-none _, refl))
 
 pub returns : goal.returns
 returns g c =
@@ -49,8 +49,8 @@ returns g c =
     reported _ _ _ _ c.publish_report.result _ _ (said.unfailed, c.in_ok-status.ensures.unfailed)
     (record {
       said = c.in_ok-frames.frames.items;
-      frames_are = said.frames;
+      frames_are = said.is;
       told = subst (λ (text : List ℕ). AreToldAt indexes archives others c.in_ok-frames.frames.items c.in_ok-status.status text) (sym c.deref-2.ensures)
-          (subst (λ (frames : List Frame). AreToldAt indexes archives others frames c.in_ok-status.status (string_bytes c.in_ok-status.text)) c.deref.ensures.value c.in_ok-status.ensures.told);
+          (subst (λ (frames : List Frame). AreToldAt indexes archives others frames c.in_ok-status.status (string_bytes c.in_ok-status.text)) c.deref.ensures.value c.in_ok-status.ensures.is);
     })
     c.publish_report.ensures

@@ -8,31 +8,32 @@ use Rattle.indexed_queries.specs.declared.fronts.Front.{Front}
 use Rattle.indexed_queries.proofs.Framed.{refused_keyed}
 use Rattle.indexed_queries.proofs.frames.tell_frames.Goals as goal
 
-pub returns-in_err-clone-clause-refused : goal.returns-in_err-clone-clause-refused
-returns-in_err-clone-clause-refused g c =
+pub returns-in_err-clone : goal.returns-in_err-clone
+returns-in_err-clone g c =
     let p = err_from_is_err_and c.from_residual.result c.from_residual.ensures.1 in
     rw (p.1, p.2)
     ((none_failed g.I.Source.left g.I.Source.failures c.args.indexes.now, none_failed g.P.Placed.whole g.P.Placed.failures c.args.archives.now), none_failed g.R.Source.left g.R.Source.failures c.args.others.now)
 
-pub returns-in_err-fronts-clause-refused : goal.returns-in_err-fronts-clause-refused
-returns-in_err-fronts-clause-refused g c =
+pub returns-in_err-fronts : goal.returns-in_err-fronts
+returns-in_err-fronts g c =
     let p = err_from_is_err_and c.from_residual-in_err-fronts.result c.from_residual-in_err-fronts.ensures.1 in
     rw (p.1, p.2)
     ((none_failed g.I.Source.left g.I.Source.failures c.args.indexes.now, none_failed g.P.Placed.whole g.P.Placed.failures c.args.archives.now), none_failed g.R.Source.left g.R.Source.failures c.args.others.now)
 
-pub returns-in_err-kept-clause-refused : goal.returns-in_err-kept-clause-refused
-returns-in_err-kept-clause-refused g c =
+pub returns-in_err-kept : goal.returns-in_err-kept
+returns-in_err-kept g c =
     let p = err_from_is_err_and c.from_residual-in_err-kept.result c.from_residual-in_err-kept.ensures.1 in
     let same = subst (λ (fs : List Front). HaveSameMembers (map front_bytes fs) (keys_of c.args.frames.now)) (sym c.deref.ensures.value) c.in_ok-fronts.ensures in
-    rw (p.1, p.2) (refused_keyed _ _ _ c.args.frames.now (map front_bytes c.deref.result.now) _ c.in_err-kept.field-0.0 same c.in_err-kept.ensures.refused)
+    rw (p.1, p.2) (refused_keyed _ _ _ c.args.frames.now (map front_bytes c.deref.result.now) _ c.in_err-kept.field-0.0 same c.in_err-kept.ensures)
 
-pub returns-clause-told : goal.returns-clause-told
-returns-clause-told g c =
-    let same = subst (λ (fs : List Front). HaveSameMembers (map front_bytes fs) (keys_of c.args.frames.now)) (sym c.deref.ensures.value) c.in_ok-fronts.ensures in
-    record {
-      keys = map front_bytes c.deref.result.now;
-      are_keys = same;
-      content = g.A.Join.content c.in_ok-kept.kept;
-      held = c.in_ok-kept.ensures.held;
-      tells = c.in_ok-told.ensures;
-    }
+pub returns : goal.returns
+returns g c = record {
+  is = record {
+    keys = map front_bytes c.deref.result.now;
+    are_keys = subst (λ (fs : List Front). HaveSameMembers (map front_bytes fs) (keys_of c.args.frames.now)) (sym c.deref.ensures.value) c.in_ok-fronts.ensures;
+    content = g.A.Join.content c.in_ok-kept.kept;
+    held = c.in_ok-kept.ensures.is;
+    tells = c.in_ok-told.ensures;
+  };
+  unfailed = c.in_ok-kept.ensures.unfailed;
+}

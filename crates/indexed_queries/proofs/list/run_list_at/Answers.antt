@@ -21,7 +21,7 @@ returns g c =
     reported _ _ _ _ c.publish_report.result _ _ c.in_ok-entries.ensures.unfailed
     (record {
       entries = c.in_ok-entries.entries;
-      index_of = c.in_ok-entries.ensures.read;
+      index_of = c.in_ok-entries.ensures.is;
       tells = record {
         rows = c.in_ok-rows.rows.items;
         are_rows = c.in_ok-rows.ensures;

@@ -9,7 +9,7 @@ returns g c =
     given_out _ _ _ _ _ c.publish_summary.result _ _ c.in_ok-entries.ensures.unfailed
     (record {
       entries = c.in_ok-entries.entries;
-      index_of = c.in_ok-entries.ensures.read;
+      index_of = c.in_ok-entries.ensures.is;
       text_is = ap summary_text c.in_ok-summary.ensures;
       told_is = ap summary_report_of c.in_ok-summary.ensures;
     })

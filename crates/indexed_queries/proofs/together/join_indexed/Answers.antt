@@ -36,7 +36,7 @@ archives-preserved g c =
     let lt_at : number < length before = omega arith in
     let is = same_at now old number index inv.rest c.index-indexes-number.is in
     let is_at = same_at seen before number archive inv.rest_at c.index-archives-number.is in
-    let got = rw (← c.index-indexes-number.is, ← c.index-archives-number.is) at c.in_ok-join_named.ensures.joined in
+    let got = rw (← c.index-indexes-number.is, ← c.index-archives-number.is) at c.in_ok-join_named.ensures.is in
     let well = rw (← c.index-indexes-number.is, ← c.index-archives-number.is) at c.in_ok-join_named.ensures.unfailed in
     record {
       joined = groups_more (map front_bytes c.args.fronts.now) (take number (readers left failures old now)) _ (take number (readers whole failures_at before seen)) _ (reader left failures index after) (reader whole failures_at archive later) (g.A.Join.content c.args.kept.now) (g.A.Join.content c.archives.kept) (g.A.Join.content c.join_named.new.kept)
@@ -47,8 +47,8 @@ archives-preserved g c =
       rest_at = rest_kept seen before number later inv.rest_at;
     }
 
-pub returns-in_err-join_named-clause-refused : goal.returns-in_err-join_named-clause-refused
-returns-in_err-join_named-clause-refused g c =
+pub returns-in_err-join_named : goal.returns-in_err-join_named
+returns-in_err-join_named g c =
     let old = c.args.indexes.now in
     let now = c.archives.indexes in
     let before = c.args.archives.now in
@@ -64,18 +64,22 @@ returns-in_err-join_named-clause-refused g c =
     (pair_refused g.I.Source.left g.I.Source.failures g.P.Placed.whole g.P.Placed.failures (map front_bytes c.args.fronts.now) old now before seen number index _ archive _
     lt c.archives.auto.indexes (same_at now old number index inv.rest c.index-indexes-number.is) inv.rest inv.unfailed
     lt_at c.archives.auto.archives (same_at seen before number archive inv.rest_at c.index-archives-number.is) inv.rest_at inv.unfailed_at
-    _ _ c.in_err-join_named.field-0.0 inv.joined (rw (← c.index-indexes-number.is, ← c.index-archives-number.is) at c.in_err-join_named.ensures.refused))
+    _ _ c.in_err-join_named.field-0.0 inv.joined (rw (← c.index-indexes-number.is, ← c.index-archives-number.is) at c.in_err-join_named.ensures))
 
-pub returns-clause-joined : goal.returns-clause-joined
-returns-clause-joined g c =
+pub returns : goal.returns
+returns g c =
     let old = c.args.indexes.now in
     let now = c.archives.indexes in
     let before = c.args.archives.now in
     let seen = c.archives.archives in
     let fronts = map front_bytes c.args.fronts.now in
+    let inv = c.archives.invariant in
     let end : c.archives.number ≡ length old = omega arith in
     let end_at : c.archives.number ≡ length before = omega arith in
-    subst (λ is. HaveJoinedGroups fronts is (readers g.P.Placed.whole g.P.Placed.failures before seen) (g.A.Join.content c.args.kept.now) (g.A.Join.content c.archives.kept))
-    (ap (λ n. take n (readers g.I.Source.left g.I.Source.failures old now)) end ∙ all_read g.I.Source.left g.I.Source.failures old now c.archives.auto.indexes)
-    (subst (λ ones. HaveJoinedGroups fronts (take c.archives.number (readers g.I.Source.left g.I.Source.failures old now)) ones (g.A.Join.content c.args.kept.now) (g.A.Join.content c.archives.kept))
-    (ap (λ n. take n (readers g.P.Placed.whole g.P.Placed.failures before seen)) end_at ∙ all_read g.P.Placed.whole g.P.Placed.failures before seen c.archives.auto.archives) c.archives.invariant.joined)
+    record {
+      is = subst (λ is. HaveJoinedGroups fronts is (readers g.P.Placed.whole g.P.Placed.failures before seen) (g.A.Join.content c.args.kept.now) (g.A.Join.content c.archives.kept))
+          (ap (λ n. take n (readers g.I.Source.left g.I.Source.failures old now)) end ∙ all_read g.I.Source.left g.I.Source.failures old now c.archives.auto.indexes)
+          (subst (λ ones. HaveJoinedGroups fronts (take c.archives.number (readers g.I.Source.left g.I.Source.failures old now)) ones (g.A.Join.content c.args.kept.now) (g.A.Join.content c.archives.kept))
+          (ap (λ n. take n (readers g.P.Placed.whole g.P.Placed.failures before seen)) end_at ∙ all_read g.P.Placed.whole g.P.Placed.failures before seen c.archives.auto.archives) inv.joined);
+      unfailed = (inv.unfailed, inv.unfailed_at);
+    }

@@ -24,20 +24,20 @@ others-preserved g c =
     let index = c.others.index in
     let other = c.index-others-index.result in
     let after = c.join_part.new.archive in
-    let got = c.in_ok-join_part.ensures.joined in
+    let got = c.in_ok-join_part.ensures.is in
     let lt : index < length others = omega arith in
     let is = same_at now others index other c.others.invariant.rest c.index-others-index.is in
     let same = ap (λ (fs : List Front). is_under_any (map front_bytes fs)) c.deref.ensures.value ∙ c.in_ok-sorted.ensures.same in
     record {
-      joined = parts_more (take index (readers left failures others now)) _ (is_under_any (map front_bytes c.args.fronts.now)) (reader left failures other after) (g.A.Join.content c.args.kept.now) (g.A.Join.content c.others.kept) (g.A.Join.content c.join_part.new.kept) got.0
-          (one_more left failures others now index other after lt c.others.auto.others is) c.others.invariant.joined got.1 (rw (← c.index-others-index.is) at got.2)
-          (got.3 ∙ ap (λ (picks : List ℕ → Bool). joined (g.A.Join.content c.others.kept) (part got.0 picks)) same);
+      joined = parts_more (take index (readers left failures others now)) _ (is_under_any (map front_bytes c.args.fronts.now)) (reader left failures other after) (g.A.Join.content c.args.kept.now) (g.A.Join.content c.others.kept) (g.A.Join.content c.join_part.new.kept) got.content
+          (one_more left failures others now index other after lt c.others.auto.others is) c.others.invariant.joined got.is_content (rw (← c.index-others-index.is) at got.text)
+          (got.is_true ∙ ap (λ (picks : List ℕ → Bool). joined (g.A.Join.content c.others.kept) (part got.content picks)) same);
       unfailed = unfailed_more left failures others now index other after lt c.others.auto.others is c.others.invariant.unfailed (rw (← c.index-others-index.is) at c.in_ok-join_part.ensures.unfailed);
       rest = rest_kept now others index after c.others.invariant.rest;
     }
 
-pub returns-in_err-join_part-clause-refused : goal.returns-in_err-join_part-clause-refused
-returns-in_err-join_part-clause-refused g c =
+pub returns-in_err-join_part : goal.returns-in_err-join_part
+returns-in_err-join_part g c =
     let others = c.args.others.now in
     let now = c.others.others in
     let index = c.others.index in
@@ -46,23 +46,26 @@ returns-in_err-join_part-clause-refused g c =
     rw (p.1, p.2)
     (refused_at g.R.Source.left g.R.Source.failures (λ (n : ℕ). Archive (c.args.before + n)) IsArchive IsArchiveRefused others now index c.index-others-index.result _ _ lt c.others.auto.others
     (same_at now others index _ c.others.invariant.rest c.index-others-index.is) (parts_archives _ _ _ _ c.others.invariant.joined) c.others.invariant.rest c.others.invariant.unfailed
-    (rw (← c.index-others-index.is) at c.in_err-join_part.ensures.refused))
+    (rw (← c.index-others-index.is) at c.in_err-join_part.ensures))
 
-pub returns-clause-joined : goal.returns-clause-joined
-returns-clause-joined g c =
+pub returns : goal.returns
+returns g c =
     let others = c.args.others.now in
     let now = c.others.others in
     let end : c.others.index ≡ length others = omega arith in
-    subst (λ seen. HasJoinedParts seen (is_under_any (map front_bytes c.args.fronts.now)) (g.A.Join.content c.args.kept.now) (g.A.Join.content c.others.kept))
-    (ap (λ n. take n (readers g.R.Source.left g.R.Source.failures others now)) end ∙ all_read g.R.Source.left g.R.Source.failures others now c.others.auto.others)
-    c.others.invariant.joined
+    record {
+      is = subst (λ seen. HasJoinedParts seen (is_under_any (map front_bytes c.args.fronts.now)) (g.A.Join.content c.args.kept.now) (g.A.Join.content c.others.kept))
+          (ap (λ n. take n (readers g.R.Source.left g.R.Source.failures others now)) end ∙ all_read g.R.Source.left g.R.Source.failures others now c.others.auto.others)
+          c.others.invariant.joined;
+      unfailed = c.others.invariant.unfailed;
+    }
 
-pub returns-in_err-clone-clause-refused : goal.returns-in_err-clone-clause-refused
-returns-in_err-clone-clause-refused g c =
+pub returns-in_err-clone : goal.returns-in_err-clone
+returns-in_err-clone g c =
     let p = err_from_is_err_and c.from_residual.result c.from_residual.ensures.1 in
     rw (p.1, p.2) (none_failed g.R.Source.left g.R.Source.failures c.args.others.now)
 
-pub returns-in_err-sorted-clause-refused : goal.returns-in_err-sorted-clause-refused
-returns-in_err-sorted-clause-refused g c =
+pub returns-in_err-sorted : goal.returns-in_err-sorted
+returns-in_err-sorted g c =
     let p = err_from_is_err_and c.from_residual-in_err-sorted.result c.from_residual-in_err-sorted.ensures.1 in
     rw (p.1, p.2) (none_failed g.R.Source.left g.R.Source.failures c.args.others.now)

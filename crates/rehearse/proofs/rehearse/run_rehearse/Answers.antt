@@ -8,7 +8,7 @@ returns g c = reported _ _ _ _ c.publish_report.result _ _ c.in_ok-script.ensure
     (record {
       sites = c.in_ok-script.script.sites;
       events = c.in_ok-script.script.events.items;
-      script_is = c.in_ok-script.ensures.script;
+      script_is = c.in_ok-script.ensures.is;
       tells = subst (TellsEvents c.in_ok-script.script.sites c.in_ok-script.script.events.items) (sym c.deref.ensures) c.in_ok-text.ensures;
       status_is = refl;
     })
