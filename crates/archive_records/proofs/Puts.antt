@@ -49,7 +49,7 @@ pub puts_more : {W T : Type 0} (held : W → Option (List ℕ)) (failures : W �
     → (r : Result T WriteFault) → IsPut held failures old mid done (concat (take i xs)) before → Puts held failures size mid new before item r → Puts held failures size old new done (concat (take (i + 1) xs)) r
 puts_more held failures size old mid new done before xs i item lt is r put puts =
     let more : concat (take i xs) ++ item ≡ concat (take (i + 1) xs) =
-      sym (ap concat (take_more xs i [] lt) ∙ concat-push (take i xs) (get_or xs i []) ∙ ap (λ (t : List ℕ). concat (take i xs) ++ t) (sym is)) in
+    sym (ap concat (take_more xs i [] lt) ∙ concat-push (take i xs) (get_or xs i []) ∙ ap (λ (t : List ℕ). concat (take i xs) ++ t) (sym is)) in
     puts_along held failures size old new done _ _ r more (puts_then held failures size old mid new done before (concat (take i xs)) item r put puts)
 
 -- the writer failed in the first parts of a text
