@@ -7,6 +7,7 @@ import subprocess
 
 from .contents import END, LENGTH, MAGIC, MAGICS
 from .screen import Failed, Refused, shown, write
+from .stopping import Later
 
 BUILT = os.path.join("crates", "symarch", "out", "symarch")
 
@@ -35,18 +36,20 @@ class Program:
         a path of `names` by what that has for it."""
         streams = dict.fromkeys(("stdin", "stdout", "stderr"), subprocess.PIPE)
         words = [self.path, *words]
-        with subprocess.Popen(words, bufsize=0, cwd=folder, pass_fds=open_files, **streams) as process:
-            try:
-                with contextlib.suppress(BrokenPipeError):
-                    give(process.stdin.fileno(), slices, moved)
-                printed = None
-                while printed is None:
-                    with contextlib.suppress(subprocess.TimeoutExpired):
-                        printed, said = process.communicate(timeout=0.2)
-                    moved(len(slices))
-            except BaseException:
-                process.kill()
-                raise
+        with contextlib.ExitStack() as ends:
+            # A signal waits until what ends the program is on the stack: one that goes on writes into a folder that is
+            # being removed.
+            with Later():
+                process = subprocess.Popen(words, bufsize=0, cwd=folder, pass_fds=open_files, **streams)
+                ends.enter_context(process)
+                ends.push(lambda failed, *_: failed and process.kill())
+            with contextlib.suppress(BrokenPipeError):
+                give(process.stdin.fileno(), slices, moved)
+            printed = None
+            while printed is None:
+                with contextlib.suppress(subprocess.TimeoutExpired):
+                    printed, said = process.communicate(timeout=0.2)
+                moved(len(slices))
         if process.returncode not in (0, 1):
             raise fault(words[1], said.decode(errors="replace").strip(), process.returncode, slices, names)
         return printed

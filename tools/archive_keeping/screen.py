@@ -11,10 +11,6 @@ class Failed(Exception):
     any."""
 
 
-class Stopped(BaseException):
-    """A signal that ends the tool, by its number."""
-
-
 class Refused(Exception):
     """Why a file or a slice stays out; of a slice whether its bytes are the reason, or how its file was read."""
 
