@@ -1,6 +1,6 @@
 -- What a command makes that merges IN with operations and tells which of them are new.
 use Rattle.std.proofs.Common.{◌≡◌, ◌++◌, ℕ, Bool, List, [], map, Result, Ok, Err, refl, ap, sym, ◌∙◌}
-use Rattle.std.specs.Prelude.{IfOk, IfErr}
+use Rattle.std.specs.Prelude.{IfOk}
 use Rattle.std.specs.Cmp.Lexicographic.{slice_cmp, nat_list_cmp_total}
 use Rattle.std.specs.FinSet as set
 use Rattle.std.specs.List.Sorted.{IsStrictlySortedBy}
@@ -20,12 +20,12 @@ use Rattle.record_merge.specs.declared.turns.Turn.{Turn}
 use Rattle.report_text.specs.Report.{archive_line}
 use Rattle.command_ends.specs.declared.faults.CommandFault.{CommandFault}
 use Rattle.command_ends.specs.declared.faults.Status.{Status}
-use Rattle.command_ends.specs.Ends.{EndsAsItComes, HasTaken, MakesArchive, StopsAmidst}
+use Rattle.command_ends.specs.Ends.{Command, EndsAsItComes, HasTaken, MakesArchive, StopsAmidst}
 use Rattle.command_ends.specs.Inputs.{IsKnown, IsRefusedArchive, Reader, Unfailed}
 use Rattle.command_ends.specs.Outputs.{Out, PlacesNothing, Publishes, Takes, Writer}
 use Rattle.command_ends.proofs.Amidst.{published_amidst, stopped_amidst, stops_alike}
 use Rattle.archive_updates.specs.InnerTelling.{IsJoinedTelling, MakesTold, telling}
-use Rattle.archive_updates.specs.Joining.{MakesJoin, joining}
+use Rattle.archive_updates.specs.Joining.{JoinsAmidst, MakesJoin, WritesAmidst, joining}
 use Rattle.archive_updates.proofs.AtHand.{sizes_are}
 
 -- ---- what a result says
@@ -34,9 +34,10 @@ pub ok_then : {X E : Type 0} (P Q : X → Type 0) (r : Result X E) → ((x : X) 
 ok_then P Q (Ok x) step p = step x p
 ok_then P Q (Err e) step p = tt
 
-pub err_then : {X E : Type 0} (P Q : E → Type 0) (r : Result X E) → ((e : E) → P e → Q e) → IfErr r P → IfErr r Q
-err_then P Q (Ok x) step p = tt
-err_then P Q (Err e) step p = step e p
+module _ {R W T : Type 0} (AreGiven : Operations → Type 0) (command : Reader R → Operations → Command) (Makes : Reader R → Operations → Stream W → T → Type 0) (input : Reader R) (draft : Stream W) where
+  pub given : (r : Result T CommandFault) → JoinsAmidst AreGiven command Makes input draft r → (p : Operations) → AreGiven p → WritesAmidst (λ i. command i p) (λ i. Makes i p) input draft r
+  given (Ok made) j p is = j p is
+  given (Err fault) j p is = (j.0, j.1 p is)
 
 -- ---- operations in order
 

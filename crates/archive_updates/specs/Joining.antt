@@ -1,13 +1,33 @@
 -- IN's archive, joined with one that is at hand: the words of inner functions. No contract of a public one has them.
-use Rattle.std.specs.Prelude.{◌≡◌, ℕ, List, [], Some}
+use Rattle.std.specs.Prelude.{◌≡◌, ℕ, List, [], Some, Result, Ok, Err}
 use Rattle.std.specs.FinSet as set
 use Rattle.archive_core.specs.Content.{Operations, IsContent, joined}
 use Rattle.archive_records.specs.declared.writing.Sizes.{Sizes}
 use Rattle.archive_records.specs.Text.{written, IsArchiveOf}
 use Rattle.archive_records.specs.Writing.{IsWrittenWhole}
 use Rattle.byte_device.specs.Devices.{Stream}
-use Rattle.command_ends.specs.Ends.{Command, MakesArchive}
-use Rattle.command_ends.specs.Inputs.{Reader, Unfailed, IsRefusedArchive, HoldsArchive}
+use Rattle.command_ends.specs.declared.faults.CommandFault.{CommandFault}
+use Rattle.command_ends.specs.Ends.{Command, HasTaken, MakesArchive, StopsAmidst}
+use Rattle.command_ends.specs.Inputs.{Reader, Unfailed, IsKnown, IsRefusedArchive, HoldsArchive}
+use Rattle.command_ends.specs.Outputs.{writer}
+
+-- what came of writing a draft while the input is read: this; or what the draft took, and why that was stopped
+abbrev pub WritesAmidst : {R W T : Type 0} → (Reader R → Command) → (Reader R → Stream W → T → Type 0) → Reader R
+    → Stream W → Result T CommandFault → Type 0
+WritesAmidst command Makes input draft (Ok made) = Makes input draft made
+WritesAmidst command Makes input draft (Err fault) =
+    HasTaken (writer draft.bytes draft.failures draft.old draft.new) fault
+    × StopsAmidst (command input) (IsKnown input) (writer draft.bytes draft.failures draft.old draft.new) fault
+
+-- the same of operations that are joined, whichever of those these are of which this is true
+abbrev pub JoinsAmidst : {R W T : Type 0} → (Operations → Type 0) → (Reader R → Operations → Command)
+    → (Reader R → Operations → Stream W → T → Type 0) → Reader R → Stream W → Result T CommandFault → Type 0
+JoinsAmidst AreGiven command Makes input draft (Ok made) =
+    (p : Operations) → AreGiven p → Makes input p draft made
+JoinsAmidst AreGiven command Makes input draft (Err fault) =
+    HasTaken (writer draft.bytes draft.failures draft.old draft.new) fault
+    × ((p : Operations) → AreGiven p → StopsAmidst (command input p) (IsKnown input)
+    (writer draft.bytes draft.failures draft.old draft.new) fault)
 
 -- A source has the text of this content, and does not fail.
 pub record IsAtHand {S : Type 0} (side : Stream S) (p : Operations) : Type 0 where

@@ -1,9 +1,10 @@
 //! `delta ARCHIVE SUMMARY OUT`.
-ghost use Rattle.std.specs.Prelude.{Ok, IfOk, IfErr};
+ghost use Rattle.std.specs.Prelude.{Ok};
 ghost use Rattle.byte_device.specs.Devices.{stream};
 ghost use Rattle.archive_updates.specs.Copying.{IsUnnamed, copying};
 ghost use Rattle.archive_updates.specs.Delta.{delta_as_it_comes};
-ghost use Rattle.command_ends.specs.Ends.{EndsAsItComes, EndsStreamed, HasTaken, StopsAmidst};
+ghost use Rattle.archive_updates.specs.Joining.{WritesAmidst};
+ghost use Rattle.command_ends.specs.Ends.{EndsAsItComes, EndsStreamed};
 ghost use Rattle.command_ends.specs.Inputs.{IsKnown, reader};
 ghost use Rattle.command_ends.specs.Outputs.{out_of, outs, writer};
 
@@ -24,13 +25,8 @@ fn copy_opened<R: Source, W: Sink>(
     named: &Summary,
     draft: &mut W,
 ) -> Result<Sizes, CommandFault>
-    ensures copied { IfOk result (IsUnnamed (reader R.left R.failures (Ok archive.old) (Ok archive.new)) named.now
-        (stream W.held W.failures draft.old draft.new)) }
-    ensures stopped { IfErr result
-        (StopsAmidst (copying (reader R.left R.failures (Ok archive.old) (Ok archive.new)) named.now)
-        (IsKnown (reader R.left R.failures (Ok archive.old) (Ok archive.new)))
-        (writer W.held W.failures draft.old draft.new)) }
-    ensures taken { IfErr result (HasTaken (writer W.held W.failures draft.old draft.new)) }
+    ensures { WritesAmidst (λ archive. copying archive named.now) (λ archive. IsUnnamed archive named.now)
+        (reader R.left R.failures (Ok archive.old) (Ok archive.new)) (stream W.held W.failures draft.old draft.new) result }
 {
     match copy_unnamed(heap, named, archive, draft) {
         Ok(sizes) => Ok(sizes),
@@ -45,13 +41,8 @@ fn copy_input<R: Source, W: Sink>(
     named: &Summary,
     draft: &mut W,
 ) -> Result<Sizes, CommandFault>
-    ensures copied { IfOk result (IsUnnamed (reader R.left R.failures archive.old archive.new) named.now
-        (stream W.held W.failures draft.old draft.new)) }
-    ensures stopped { IfErr result
-        (StopsAmidst (copying (reader R.left R.failures archive.old archive.new) named.now)
-        (IsKnown (reader R.left R.failures archive.old archive.new))
-        (writer W.held W.failures draft.old draft.new)) }
-    ensures taken { IfErr result (HasTaken (writer W.held W.failures draft.old draft.new)) }
+    ensures { WritesAmidst (λ archive. copying archive named.now) (λ archive. IsUnnamed archive named.now)
+        (reader R.left R.failures archive.old archive.new) (stream W.held W.failures draft.old draft.new) result }
 {
     let source = opened(archive, Place::Archive(0))?;
     copy_opened(heap, source, named, draft)

@@ -1,12 +1,13 @@
 //! `retire IN OUT UUID ARCH DIGEST`.
-ghost use Rattle.std.specs.Prelude.{◌≡◌, ◌++◌, ℕ, List, length, IfOk, IfErr, OnOk};
+ghost use Rattle.std.specs.Prelude.{◌≡◌, ◌++◌, ℕ, List, length, OnOk};
 ghost use Rattle.archive_core.specs.Record.{IsOperation};
 ghost use Rattle.byte_device.specs.Devices.{stream};
-ghost use Rattle.command_ends.specs.Ends.{EndsAsItComes, HasTaken, StopsAmidst};
+ghost use Rattle.command_ends.specs.Ends.{EndsAsItComes};
 ghost use Rattle.command_ends.specs.Inputs.{IsKnown, reader};
 ghost use Rattle.report_text.specs.Report.{archive_line, retire_line};
 ghost use Rattle.command_ends.specs.Outputs.{Publishes, Takes, out_of, outs, writer};
 ghost use Rattle.archive_updates.specs.InnerTelling.{IsRetired};
+ghost use Rattle.archive_updates.specs.Joining.{WritesAmidst};
 ghost use Rattle.archive_updates.specs.Notes.{NotesMissing};
 ghost use Rattle.archive_updates.specs.Retire.{retire};
 
@@ -47,14 +48,9 @@ fn retire_input<R: Source, W: Sink>(
     digest: &Digest,
     draft: &mut W,
 ) -> Result<Written, CommandFault>
-    ensures retired { IfOk result (λ written. IsRetired (reader R.left R.failures input.old input.new)
-        key.now digest.now (stream W.held W.failures draft.old draft.new) written.sizes written.changed
-        written.had) }
-    ensures stopped { IfErr result (λ fault. StopsAmidst
-        (retire (reader R.left R.failures input.old input.new) key.now digest.now)
-        (IsKnown (reader R.left R.failures input.old input.new))
-        (writer W.held W.failures draft.old draft.new) fault) }
-    ensures taken { IfErr result (HasTaken (writer W.held W.failures draft.old draft.new)) }
+    ensures { WritesAmidst (λ input. retire input key.now digest.now) (λ input draft written.
+        IsRetired input key.now digest.now draft written.sizes written.changed written.had)
+        (reader R.left R.failures input.old input.new) (stream W.held W.failures draft.old draft.new) result }
 {
     let retirements = [retirement(*key, *digest)];
     let mut text = LentText::new(&retirements);

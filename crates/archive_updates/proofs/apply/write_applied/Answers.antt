@@ -20,12 +20,12 @@ returns-in_err-sizes g c =
     rw (p.1, p.2) (told_stopped (reader g.R.Source.left g.R.Source.failures c.args.input.now c.tell_operations.new.input) (set_of operations) (counts_of (map record_bytes operations) c.args.number)
     (out_of (outs g.T.Draft.Sink.held g.T.Draft.Sink.failures g.T.Target.placed g.T.Target.failures c.args.out.now (record { draft = c.tell_operations.new.draft; target = c.args.out.now.target })))
     (writer g.P.Sink.held g.P.Sink.failures c.args.report.now c.args.report.now) c.in_err-sizes.field-0.0
-    c.in_err-sizes.ensures.stopped c.in_err-sizes.ensures.taken (refl, refl) (Appends-none _, refl))
+    c.in_err-sizes.ensures.1 c.in_err-sizes.ensures.0 (refl, refl) (Appends-none _, refl))
 
 pub overflow_sub-number : goal.overflow_sub-number
 overflow_sub-number g c =
     let operations = c.args.operations.now in
-    let j = c.in_ok-sizes.ensures.told in
+    let j = c.in_ok-sizes.ensures in
     let o = j.joined.content in
     let counted = c.count_new-new.ensures.counted ∙ ap (count_by is_new) (c.deref.ensures.value ∙ j.turns_are ∙ ap (map (turn_of o)) (listed_in_order operations c.requires.ascending)) ∙ count_new o (map record_bytes operations) in
     let few = c.requires.few o j.joined.is_content.itself in
@@ -34,7 +34,7 @@ overflow_sub-number g c =
 pub returns : goal.returns
 returns g c =
     let operations = c.args.operations.now in
-    let j = c.in_ok-sizes.ensures.told in
+    let j = c.in_ok-sizes.ensures in
     let o = j.joined.content in
     let counted = c.count_new-new.ensures.counted ∙ ap (count_by is_new) (c.deref.ensures.value ∙ j.turns_are ∙ ap (map (turn_of o)) (listed_in_order operations c.requires.ascending)) ∙ count_new o (map record_bytes operations) in
     told_published (reader g.R.Source.left g.R.Source.failures c.args.input.now c.tell_operations.new.input) (set_of operations) (counts_of (map record_bytes operations) c.args.number)

@@ -1,8 +1,5 @@
 use Rattle.archive_updates.proofs.AtHand.{lent_from}
 use Rattle.archive_updates.proofs.delta.copy_input.Goals as goal
 
-pub returns-clause-copied : goal.returns-clause-copied
-returns-clause-copied g c = rw (lent_from c.args.archive.now _ c.in_ok-source.ensures.source) c.copy_opened.ensures.copied
-
-pub returns-clause-stopped : goal.returns-clause-stopped
-returns-clause-stopped g c = rw (lent_from c.args.archive.now _ c.in_ok-source.ensures.source) c.copy_opened.ensures.stopped
+pub returns : goal.returns
+returns g c = rw (lent_from c.args.archive.now _ c.in_ok-source.ensures.source) c.copy_opened.ensures

@@ -2,13 +2,11 @@ use Rattle.archive_updates.proofs.AtHand.{taken_of}
 use Rattle.archive_updates.proofs.Deltas.{copied_opened, stopped_copy}
 use Rattle.archive_updates.proofs.delta.copy_opened.Goals as goal
 
-pub returns-in-Ok-clause-copied : goal.returns-in-Ok-clause-copied
-returns-in-Ok-clause-copied g c =
+pub returns-in-Ok : goal.returns-in-Ok
+returns-in-Ok g c =
     copied_opened g.R.Source.left g.R.Source.failures c.args.archive.now c.copy_unnamed.new.r g.W.Sink.held g.W.Sink.failures c.args.draft.now c.copy_unnamed.new.w c.args.named.now c.in-Ok.sizes c.in-Ok.ensures
 
-pub returns-in-Err-clause-stopped : goal.returns-in-Err-clause-stopped
-returns-in-Err-clause-stopped g c =
-    stopped_copy g.R.Source.left g.R.Source.failures c.args.archive.now c.copy_unnamed.new.r g.W.Sink.held g.W.Sink.failures c.args.draft.now c.copy_unnamed.new.w c.args.named.now c.in-Err.fault c.command_fault_of.result c.in-Err.ensures c.command_fault_of.ensures
-
-pub returns-in-Err-clause-taken : goal.returns-in-Err-clause-taken
-returns-in-Err-clause-taken g c = taken_of g.W.Sink.held g.W.Sink.failures c.args.draft.now c.copy_unnamed.new.w c.in-Err.fault c.command_fault_of.result c.in-Err.ensures.count c.command_fault_of.ensures
+pub returns-in-Err : goal.returns-in-Err
+returns-in-Err g c =
+    (taken_of g.W.Sink.held g.W.Sink.failures c.args.draft.now c.copy_unnamed.new.w c.in-Err.fault c.command_fault_of.result c.in-Err.ensures.count c.command_fault_of.ensures,
+    stopped_copy g.R.Source.left g.R.Source.failures c.args.archive.now c.copy_unnamed.new.r g.W.Sink.held g.W.Sink.failures c.args.draft.now c.copy_unnamed.new.w c.args.named.now c.in-Err.fault c.command_fault_of.result c.in-Err.ensures c.command_fault_of.ensures)

@@ -1,8 +1,5 @@
 use Rattle.archive_updates.proofs.AtHand.{lent_from}
 use Rattle.archive_updates.proofs.joining.join_input.Goals as goal
 
-pub returns-clause-joined : goal.returns-clause-joined
-returns-clause-joined g c = rw (lent_from c.args.input.now _ c.in_ok-left.ensures.source) c.join_opened.ensures.joined
-
-pub returns-clause-stopped : goal.returns-clause-stopped
-returns-clause-stopped g c = rw (lent_from c.args.input.now _ c.in_ok-left.ensures.source) c.join_opened.ensures.stopped
+pub returns : goal.returns
+returns g c = rw (lent_from c.args.input.now _ c.in_ok-left.ensures.source) c.join_opened.ensures

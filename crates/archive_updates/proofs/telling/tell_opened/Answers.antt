@@ -4,18 +4,18 @@ use Rattle.archive_updates.proofs.AtHand.{stopped_opened, taken_of}
 use Rattle.archive_updates.proofs.Tellings.{makes_at_hand, told_opened}
 use Rattle.archive_updates.proofs.telling.tell_opened.Goals as goal
 
-pub returns-in-Ok-clause-told : goal.returns-in-Ok-clause-told
-returns-in-Ok-clause-told g c = λ operations at.
+pub returns-in-Ok : goal.returns-in-Ok
+returns-in-Ok g c = λ operations at.
     told_opened g.S.Source.left g.S.Source.failures c.args.other.now c.merge_telling.new.right operations at
     g.R.Source.left g.R.Source.failures c.args.left.now c.merge_telling.new.left
     g.W.Sink.held g.W.Sink.failures c.args.draft.now c.merge_telling.new.w c.in-Ok.told.0 c.in-Ok.told.1.turns.items c.in-Ok.told.1.withdraws c.in-Ok.ensures.tells
 
-pub returns-in-Err-clause-stopped : goal.returns-in-Err-clause-stopped
-returns-in-Err-clause-stopped g c = λ operations at.
+pub returns-in-Err : goal.returns-in-Err
+returns-in-Err g c = (
+  taken_of g.W.Sink.held g.W.Sink.failures c.args.draft.now c.merge_telling.new.w c.in-Err.fault c.command_fault_of.result c.in-Err.ensures.written c.command_fault_of.ensures,
+  λ operations at.
     stopped_opened g.S.Source.left g.S.Source.failures c.args.other.now c.merge_telling.new.right (content_of operations)
     (makes_at_hand (stream g.S.Source.left g.S.Source.failures c.args.other.now c.merge_telling.new.right) operations at)
     g.R.Source.left g.R.Source.failures c.args.left.now c.merge_telling.new.left
-    g.W.Sink.held g.W.Sink.failures c.args.draft.now c.merge_telling.new.w c.in-Err.fault c.command_fault_of.result c.in-Err.ensures.merges c.command_fault_of.ensures
-
-pub returns-in-Err-clause-taken : goal.returns-in-Err-clause-taken
-returns-in-Err-clause-taken g c = taken_of g.W.Sink.held g.W.Sink.failures c.args.draft.now c.merge_telling.new.w c.in-Err.fault c.command_fault_of.result c.in-Err.ensures.written c.command_fault_of.ensures
+    g.W.Sink.held g.W.Sink.failures c.args.draft.now c.merge_telling.new.w c.in-Err.fault c.command_fault_of.result c.in-Err.ensures.merges c.command_fault_of.ensures,
+)
