@@ -1,11 +1,10 @@
 //! `retire IN OUT UUID ARCH DIGEST`.
-ghost use Rattle.std.specs.Prelude.{◌≡◌, ◌++◌, ℕ, List, length, OnOk};
+ghost use Rattle.std.specs.Prelude.{◌≡◌, OnOk};
 ghost use Rattle.archive_core.specs.Record.{IsOperation};
 ghost use Rattle.byte_device.specs.Devices.{stream};
 ghost use Rattle.command_ends.specs.Ends.{EndsAsItComes};
 ghost use Rattle.command_ends.specs.Inputs.{IsKnown, reader};
-ghost use Rattle.report_text.specs.Report.{archive_line, retire_line};
-ghost use Rattle.command_ends.specs.Outputs.{Publishes, Takes, out_of, outs, writer};
+ghost use Rattle.command_ends.specs.Outputs.{out_of, outs, writer};
 ghost use Rattle.archive_updates.specs.InnerTelling.{IsRetired};
 ghost use Rattle.archive_updates.specs.Joining.{WritesAmidst};
 ghost use Rattle.archive_updates.specs.Notes.{NotesMissing};
@@ -62,28 +61,6 @@ fn retire_input<R: Source, W: Sink>(
     })
 }
 
-/// Puts OUT in place, whose draft has taken a whole text, and writes the line of the retirement and the sizes to the
-/// report. What is said is of all that the draft took since it was `start`.
-fn publish_retired<T: Target, P: Sink>(
-    heap: Heap,
-    written: Written,
-    key: SliceKey,
-    digest: Digest,
-    out: &mut Output<T::Draft, T>,
-    report: &mut P,
-) -> Result<Status, CommandFault>
-    ensures { (start : T.Draft) (text : List ℕ)
-        → Takes (writer T.Draft.held T.Draft.failures start out.old.draft) text
-        → written.sizes.bytes ≡ length text
-        → Publishes (out_of (outs T.Draft.held T.Draft.failures T.placed T.failures
-        (record { draft = start; target = out.old.target }) out.new))
-        (writer P.held P.failures report.old report.new) text
-        (retire_line written.changed key digest ++ archive_line written.sizes) result }
-{
-    let lines = retire_line(heap, written.changed, key, digest)?;
-    publish_draft(lines, written.sizes, out, report)
-}
-
 /// Writes IN's archive to OUT with the retirement of the slices under the key that have the digest, and to the report
 /// whether it is new, and the sizes. IN is merged as it comes with the retirement, in the memory of one record and of
 /// 57 bytes for each retirement. Where IN has no such slice, a note is added that says so.
@@ -109,5 +86,6 @@ pub fn run_retire<R: Source, T: Target, P: Sink>(
 {
     let written = retire_input(&heap, input, &key, &digest, &mut out.draft)?;
     note_missing(notes, written.had, key, digest)?;
-    publish_retired(heap, written, key, digest, out, report)
+    let lines = retire_line(heap, written.changed, key, digest)?;
+    publish_draft(lines, written.sizes, out, report)
 }
