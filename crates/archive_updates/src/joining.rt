@@ -1,5 +1,4 @@
 //! IN's archive, merged into OUT's draft with one that is at hand.
-ghost use Rattle.std.specs.Prelude.{Ok};
 ghost use Rattle.byte_device.specs.Devices.{stream};
 ghost use Rattle.command_ends.specs.Inputs.{reader};
 ghost use Rattle.archive_updates.specs.Joining.{IsAtHand, IsJoined, JoinsAmidst, joining};
@@ -22,22 +21,6 @@ pub fn command_fault_of(fault: MergeFault) -> CommandFault
     }
 }
 
-/// Merges an archive that was opened with the one at hand into the draft.
-fn join_opened<R: Source, S: Source, W: Sink>(
-    heap: &Heap,
-    left: &mut R,
-    other: &mut S,
-    draft: &mut W,
-) -> Result<Sizes, CommandFault>
-    ensures { JoinsAmidst (IsAtHand (stream S.left S.failures other.old other.new)) joining IsJoined
-        (reader R.left R.failures (Ok left.old) (Ok left.new)) (stream W.held W.failures draft.old draft.new) result }
-{
-    match merge_streams(heap, left, other, draft) {
-        Ok(sizes) => Ok(sizes),
-        Err(fault) => Err(command_fault_of(fault)),
-    }
-}
-
 /// Merges IN's archive with the one at hand into the draft.
 pub fn join_input<R: Source, S: Source, W: Sink>(
     heap: &Heap,
@@ -49,5 +32,8 @@ pub fn join_input<R: Source, S: Source, W: Sink>(
         (reader R.left R.failures input.old input.new) (stream W.held W.failures draft.old draft.new) result }
 {
     let left = opened(input, Place::Archive(0))?;
-    join_opened(heap, left, other, draft)
+    match merge_streams(heap, left, other, draft) {
+        Ok(sizes) => Ok(sizes),
+        Err(fault) => Err(command_fault_of(fault)),
+    }
 }

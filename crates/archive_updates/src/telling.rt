@@ -1,5 +1,5 @@
 //! IN's archive, merged into OUT's draft with operations that are at hand, and what each of these is to IN.
-ghost use Rattle.std.specs.Prelude.{Ok, map};
+ghost use Rattle.std.specs.Prelude.{map};
 ghost use Rattle.std.specs.Cmp.Lexicographic.{slice_cmp};
 ghost use Rattle.std.specs.FinSet as set;
 ghost use Rattle.std.specs.List.{AllByRecursion};
@@ -20,25 +20,6 @@ use command_ends::{CommandFault, Place, opened};
 use memory::Heap;
 use record_merge::{LentText, Told, merge_telling};
 
-/// Merges an archive that was opened with the operations at hand into the draft, and tells what each is to IN.
-fn tell_opened<R: Source, S: Source, W: Sink>(
-    heap: &Heap,
-    left: &mut R,
-    other: &mut S,
-    draft: &mut W,
-) -> Result<(Sizes, Told), CommandFault>
-    ensures { JoinsAmidst (AreAtHand (stream S.left S.failures other.old other.new))
-        (λ input operations. joining input (content_of operations))
-        (λ input operations draft both.
-        IsJoinedTelling input operations draft both.0 both.1.turns.items both.1.withdraws)
-        (reader R.left R.failures (Ok left.old) (Ok left.new)) (stream W.held W.failures draft.old draft.new) result }
-{
-    match merge_telling(heap, left, other, draft) {
-        Ok(told) => Ok(told),
-        Err(fault) => Err(command_fault_of(fault)),
-    }
-}
-
 /// Merges IN's archive with the operations at hand into the draft, and tells what each is to IN.
 pub fn tell_input<R: Source, S: Source, W: Sink>(
     heap: &Heap,
@@ -53,7 +34,10 @@ pub fn tell_input<R: Source, S: Source, W: Sink>(
         (reader R.left R.failures input.old input.new) (stream W.held W.failures draft.old draft.new) result }
 {
     let left = opened(input, Place::Archive(0))?;
-    tell_opened(heap, left, other, draft)
+    match merge_telling(heap, left, other, draft) {
+        Ok(told) => Ok(told),
+        Err(fault) => Err(command_fault_of(fault)),
+    }
 }
 
 /// Merges IN's archive with operations that stand in memory into the draft, and tells what each is to IN.
