@@ -11,13 +11,12 @@ ghost use Rattle.archive_updates.specs.Notes.{NotesMissing};
 ghost use Rattle.archive_updates.specs.Retire.{retire};
 
 use crate::notes::{Note, note_missing};
-use crate::telling::tell_input;
+use crate::telling::tell_operations;
 use archive_core::{Digest, Operation, SliceKey};
 use archive_records::Sizes;
 use byte_device::{CannotOpen, Sink, Source};
 use command_ends::{CommandFault, Output, Status, Target, publish_draft};
 use memory::Heap;
-use record_merge::LentText;
 use report_text::retire_line;
 
 /// The retirement of the slices under the key that have the digest.
@@ -52,8 +51,7 @@ fn retire_input<R: Source, W: Sink>(
         (reader R.left R.failures input.old input.new) (stream W.held W.failures draft.old draft.new) result }
 {
     let retirements = [retirement(*key, *digest)];
-    let mut text = LentText::new(&retirements);
-    let (sizes, told) = tell_input(heap, input, &mut text, draft)?;
+    let (sizes, told) = tell_operations(heap, input, &retirements, draft)?;
     Ok(Written {
         sizes,
         changed: told.turns[0].is_new(),
