@@ -8,7 +8,7 @@ use Rattle.archive_core.specs.declared.keys.Digest.{Digest}
 use Rattle.archive_core.specs.declared.keys.SliceKey.{SliceKey}
 use Rattle.archive_core.specs.declared.operations.Operation.TheVariants.{Retire}
 use Rattle.archive_core.specs.Content.{Operations, IsMade, content_of, joined, with_record}
-use Rattle.archive_core.specs.Record.{IsOperation, record_bytes, retirement_record}
+use Rattle.archive_core.specs.Record.{IsOperation, retirement_record}
 use Rattle.archive_core.proofs.Taken.{taken_are_joined}
 use Rattle.archive_records.specs.declared.format.Format.TheVariants.{Archive}
 use Rattle.archive_records.specs.declared.writing.Sizes.{Sizes}
