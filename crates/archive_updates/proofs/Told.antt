@@ -20,12 +20,12 @@ use Rattle.record_merge.specs.declared.turns.Turn.{Turn}
 use Rattle.report_text.specs.Report.{archive_line}
 use Rattle.command_ends.specs.declared.faults.CommandFault.{CommandFault}
 use Rattle.command_ends.specs.declared.faults.Status.{Status}
-use Rattle.command_ends.specs.Ends.{Command, EndsAsItComes, HasTaken, MakesArchive, StopsAmidst}
+use Rattle.command_ends.specs.Ends.{EndsAsItComes, HasTaken, MakesArchive, StopsAmidst}
 use Rattle.command_ends.specs.Inputs.{IsKnown, IsRefusedArchive, Reader, Unfailed}
 use Rattle.command_ends.specs.Outputs.{Out, PlacesNothing, Publishes, Takes, Writer}
 use Rattle.command_ends.proofs.Amidst.{published_amidst, stopped_amidst, stops_alike}
 use Rattle.archive_updates.specs.InnerTelling.{IsJoinedTelling, MakesTold, telling}
-use Rattle.archive_updates.specs.Joining.{JoinsAmidst, MakesJoin, WritesAmidst, joining}
+use Rattle.archive_updates.specs.Joining.{MakesJoin, joining}
 use Rattle.archive_updates.proofs.AtHand.{sizes_are}
 
 -- ---- what a result says
@@ -33,11 +33,6 @@ use Rattle.archive_updates.proofs.AtHand.{sizes_are}
 pub ok_then : {X E : Type 0} (P Q : X → Type 0) (r : Result X E) → ((x : X) → P x → Q x) → IfOk r P → IfOk r Q
 ok_then P Q (Ok x) step p = step x p
 ok_then P Q (Err e) step p = tt
-
-module _ {R W T : Type 0} (AreGiven : Operations → Type 0) (command : Reader R → Operations → Command) (Makes : Reader R → Operations → Stream W → T → Type 0) (input : Reader R) (draft : Stream W) where
-  pub given : (r : Result T CommandFault) → JoinsAmidst AreGiven command Makes input draft r → (p : Operations) → AreGiven p → WritesAmidst (λ i. command i p) (λ i. Makes i p) input draft r
-  given (Ok made) j p is = j p is
-  given (Err fault) j p is = (j.0, j.1 p is)
 
 -- ---- operations in order
 

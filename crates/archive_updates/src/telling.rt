@@ -9,8 +9,8 @@ ghost use Rattle.archive_core.specs.Content.{content_of};
 ghost use Rattle.archive_core.specs.Record.{IsOperation, record_bytes};
 ghost use Rattle.byte_device.specs.Devices.{stream};
 ghost use Rattle.command_ends.specs.Inputs.{reader};
-ghost use Rattle.archive_updates.specs.InnerTelling.{AreAtHand, IsJoinedTelling};
-ghost use Rattle.archive_updates.specs.Joining.{JoinsAmidst, WritesAmidst, joining};
+ghost use Rattle.archive_updates.specs.InnerTelling.{IsJoinedTelling};
+ghost use Rattle.archive_updates.specs.Joining.{WritesAmidst, joining};
 
 use crate::joining::command_fault_of;
 use archive_core::Operation;
@@ -19,26 +19,6 @@ use byte_device::{CannotOpen, Sink, Source};
 use command_ends::{CommandFault, Place, opened};
 use memory::Heap;
 use record_merge::{LentText, Told, merge_telling};
-
-/// Merges IN's archive with the operations at hand into the draft, and tells what each is to IN.
-pub fn tell_input<R: Source, S: Source, W: Sink>(
-    heap: &Heap,
-    input: &mut Result<R, CannotOpen>,
-    other: &mut S,
-    draft: &mut W,
-) -> Result<(Sizes, Told), CommandFault>
-    ensures { JoinsAmidst (AreAtHand (stream S.left S.failures other.old other.new))
-        (λ input operations. joining input (content_of operations))
-        (λ input operations draft both.
-        IsJoinedTelling input operations draft both.0 both.1.turns.items both.1.withdraws)
-        (reader R.left R.failures input.old input.new) (stream W.held W.failures draft.old draft.new) result }
-{
-    let left = opened(input, Place::Archive(0))?;
-    match merge_telling(heap, left, other, draft) {
-        Ok(told) => Ok(told),
-        Err(fault) => Err(command_fault_of(fault)),
-    }
-}
 
 /// Merges IN's archive with operations that stand in memory into the draft, and tells what each is to IN.
 pub fn tell_operations<R: Source, W: Sink>(
@@ -55,5 +35,9 @@ pub fn tell_operations<R: Source, W: Sink>(
         (reader R.left R.failures input.old input.new) (stream W.held W.failures draft.old draft.new) result }
 {
     let mut text = LentText::new(operations);
-    tell_input(heap, input, &mut text, draft)
+    let left = opened(input, Place::Archive(0))?;
+    match merge_telling(heap, left, &mut text, draft) {
+        Ok(told) => Ok(told),
+        Err(fault) => Err(command_fault_of(fault)),
+    }
 }

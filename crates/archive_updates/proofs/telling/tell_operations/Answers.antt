@@ -1,20 +1,35 @@
 use Rattle.std.proofs.Common.{Some, ap, refl, ◌∙◌}
 use Rattle.archive_core.specs.Content.{content_of}
-use Rattle.byte_device.specs.Devices.{stream}
-use Rattle.command_ends.specs.Inputs.{reader}
-use Rattle.archive_updates.specs.InnerTelling.{IsJoinedTelling}
-use Rattle.archive_updates.specs.Joining.{joining}
-use Rattle.archive_updates.proofs.Told.{given, set_of, text_in_order}
+use Rattle.archive_updates.proofs.AtHand.{lent_from, stopped_opened, taken_of}
+use Rattle.archive_updates.proofs.Tellings.{makes_at_hand, told_opened}
+use Rattle.archive_updates.proofs.Told.{set_of, text_in_order}
 use Rattle.sorted_archive.proofs.Held.{are_records}
 use Rattle.archive_updates.proofs.telling.tell_operations.Goals as goal
 
-pub returns : goal.returns
-returns g c =
+pub returns-in-Ok : goal.returns-in-Ok
+returns-in-Ok g c =
     let operations = c.args.operations.now in
-    given _ (λ input p. joining input (content_of p)) (λ input p draft both. IsJoinedTelling input p draft both.0 both.1.turns.items both.1.withdraws)
-    (reader g.R.Source.left g.R.Source.failures c.args.input.now c.tell_input.new.input) (stream g.W.Sink.held g.W.Sink.failures c.args.draft.now c.tell_input.new.draft) c.tell_input.result c.tell_input.ensures (set_of operations) (record {
+    rw (lent_from c.args.input.now _ c.in_ok-left.ensures.source)
+    (told_opened _ _ c.new-text.result c.merge_telling.new.right (set_of operations) (record {
       are = are_records operations c.requires.are;
       bytes = c.new-text.ensures.left ∙ ap Some (text_in_order operations c.requires.ascending);
       unfailed_before = c.new-text.ensures.failures;
       unfailed = refl;
     })
+    g.R.Source.left g.R.Source.failures _ c.merge_telling.new.left
+    g.W.Sink.held g.W.Sink.failures c.args.draft.now c.merge_telling.new.w c.in-Ok.told.0 c.in-Ok.told.1.turns.items c.in-Ok.told.1.withdraws c.in-Ok.ensures.tells)
+
+pub returns-in-Err : goal.returns-in-Err
+returns-in-Err g c =
+    let operations = c.args.operations.now in
+    rw (lent_from c.args.input.now _ c.in_ok-left.ensures.source)
+    (taken_of g.W.Sink.held g.W.Sink.failures c.args.draft.now c.merge_telling.new.w c.in-Err.fault c.command_fault_of.result c.in-Err.ensures.written c.command_fault_of.ensures,
+    stopped_opened _ _ c.new-text.result c.merge_telling.new.right (content_of (set_of operations))
+    (makes_at_hand _ (set_of operations) (record {
+      are = are_records operations c.requires.are;
+      bytes = c.new-text.ensures.left ∙ ap Some (text_in_order operations c.requires.ascending);
+      unfailed_before = c.new-text.ensures.failures;
+      unfailed = refl;
+    }))
+    g.R.Source.left g.R.Source.failures _ c.merge_telling.new.left
+    g.W.Sink.held g.W.Sink.failures c.args.draft.now c.merge_telling.new.w c.in-Err.fault c.command_fault_of.result c.in-Err.ensures.merges c.command_fault_of.ensures)
