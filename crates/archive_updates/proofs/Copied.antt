@@ -110,18 +110,20 @@ module _ (s : Entries) (a b c w0 w1 w2 : Option (List ℕ)) (file : Format) (kin
       → IfOk r (λ e. IsGathered Archive_text (IsCopiedWhole s w0 w2) a c e × IsAtEnd c)
   ended (Err e) at ok = tt
   ended (Ok e) at ok =
-      let m = all.makes in
-      (gathered Archive_text (IsCopiedWhole s w0 w2) a b c e position file kind
-      (record {
-        records = all.records;
-        read = all.read;
-        makes = record {
-          written_is = Appends-then w0 w1 w2 (copy_of s kept) (end_record (length (missing s kept))) m.gained (subst (λ (n : ℕ). Appends w1 w2 (end_record n)) m.records_are ok.2);
-          bytes_are = omega (arith, ok.0, m.bytes_are, length-append (copy_of s kept) (end_record (length (missing s kept))), ap (λ (n : ℕ). length (end_record n)) m.records_are);
-          records_are = ok.1 ∙ m.records_are;
-        };
-      })
-      at.1, at.0)
+      let m = all.makes in (
+        gathered Archive_text (IsCopiedWhole s w0 w2) a b c e position file kind
+            (record {
+              records = all.records;
+              read = all.read;
+              makes = record {
+                written_is = Appends-then w0 w1 w2 (copy_of s kept) (end_record (length (missing s kept))) m.gained (subst (λ (n : ℕ). Appends w1 w2 (end_record n)) m.records_are ok.2);
+                bytes_are = omega (arith, ok.0, m.bytes_are, length-append (copy_of s kept) (end_record (length (missing s kept))), ap (λ (n : ℕ). length (end_record n)) m.records_are);
+                records_are = ok.1 ∙ m.records_are;
+              };
+            })
+            at.1,
+        at.0,
+      )
 
   stopped_at : (fault : RecordFault) → ((f : Format) (d : Option (List ℕ)) (records : List (List ℕ)) → end_length f ≡ Some 9 → HasReadAll f d b records position → Stopped f d c records fault) → Stopped file a c all.records fault
   stopped_at fault stops = stops file a all.records (counts_of file kind) all.read

@@ -19,16 +19,6 @@ WritesAmidst command Makes input draft (Err fault) =
     HasTaken (writer draft.bytes draft.failures draft.old draft.new) fault
     × StopsAmidst (command input) (IsKnown input) (writer draft.bytes draft.failures draft.old draft.new) fault
 
--- the same of operations that are joined, whichever of those these are of which this is true
-abbrev pub JoinsAmidst : {R W T : Type 0} → (Operations → Type 0) → (Reader R → Operations → Command)
-    → (Reader R → Operations → Stream W → T → Type 0) → Reader R → Stream W → Result T CommandFault → Type 0
-JoinsAmidst AreGiven command Makes input draft (Ok made) =
-    (p : Operations) → AreGiven p → Makes input p draft made
-JoinsAmidst AreGiven command Makes input draft (Err fault) =
-    HasTaken (writer draft.bytes draft.failures draft.old draft.new) fault
-    × ((p : Operations) → AreGiven p → StopsAmidst (command input p) (IsKnown input)
-    (writer draft.bytes draft.failures draft.old draft.new) fault)
-
 -- A source has the text of this content, and does not fail.
 pub record IsAtHand {S : Type 0} (side : Stream S) (p : Operations) : Type 0 where
   pub is_content : IsContent p
@@ -62,6 +52,16 @@ pub record IsJoined {R W : Type 0} (input : Reader R) (p : Operations) (draft : 
   pub unfailed : Unfailed input
   pub written_is : IsWrittenWhole draft.bytes draft.failures draft.old draft.new (set.len (joined content p))
       (written (joined content p)) sizes
+
+-- what came of writing the join with a content of which this is true: it was written; or what the draft took, and why
+-- that was stopped
+abbrev pub JoinsAmidst : {R W : Type 0} → (Operations → Type 0) → Reader R → Stream W → Result Sizes CommandFault
+    → Type 0
+JoinsAmidst IsGiven input draft (Ok sizes) = (p : Operations) → IsGiven p → IsJoined input p draft sizes
+JoinsAmidst IsGiven input draft (Err fault) =
+    HasTaken (writer draft.bytes draft.failures draft.old draft.new) fault
+    × ((p : Operations) → IsGiven p → StopsAmidst (joining input p) (IsKnown input)
+    (writer draft.bytes draft.failures draft.old draft.new) fault)
 
 -- The input is an archive's text, and this is the join of its content with this one; there are no lines but the sizes.
 pub record MakesJoined {R : Type 0} (input : Reader R) (p content : Operations) (lines : List ℕ) : Type 0 where

@@ -1,7 +1,7 @@
 //! IN's archive, merged into OUT's draft with one that is at hand.
 ghost use Rattle.byte_device.specs.Devices.{stream};
 ghost use Rattle.command_ends.specs.Inputs.{reader};
-ghost use Rattle.archive_updates.specs.Joining.{IsAtHand, IsJoined, JoinsAmidst, joining};
+ghost use Rattle.archive_updates.specs.Joining.{IsAtHand, JoinsAmidst};
 ghost use Rattle.archive_updates.specs.MergeStreams.{IsMergeFaultTold};
 
 use archive_records::{MergeCause, MergeFault, Sizes};
@@ -28,7 +28,7 @@ pub fn join_input<R: Source, S: Source, W: Sink>(
     other: &mut S,
     draft: &mut W,
 ) -> Result<Sizes, CommandFault>
-    ensures { JoinsAmidst (IsAtHand (stream S.left S.failures other.old other.new)) joining IsJoined
+    ensures { JoinsAmidst (IsAtHand (stream S.left S.failures other.old other.new))
         (reader R.left R.failures input.old input.new) (stream W.held W.failures draft.old draft.new) result }
 {
     let left = opened(input, Place::Archive(0))?;

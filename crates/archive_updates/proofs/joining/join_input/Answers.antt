@@ -11,9 +11,10 @@ returns-in-Ok g c =
 
 pub returns-in-Err : goal.returns-in-Err
 returns-in-Err g c =
-    rw (lent_from c.args.input.now _ c.in_ok-left.ensures.source)
-    (taken_of g.W.Sink.held g.W.Sink.failures c.args.draft.now c.merge_streams.new.w c.in-Err.fault c.command_fault_of.result c.in-Err.ensures.written c.command_fault_of.ensures,
-    λ p at.
-    stopped_opened g.S.Source.left g.S.Source.failures c.args.other.now c.merge_streams.new.right p at
-    g.R.Source.left g.R.Source.failures _ c.merge_streams.new.left
-    g.W.Sink.held g.W.Sink.failures c.args.draft.now c.merge_streams.new.w c.in-Err.fault c.command_fault_of.result c.in-Err.ensures.merges c.command_fault_of.ensures)
+    rw (lent_from c.args.input.now _ c.in_ok-left.ensures.source) (
+      taken_of g.W.Sink.held g.W.Sink.failures c.args.draft.now c.merge_streams.new.w c.in-Err.fault c.command_fault_of.result c.in-Err.ensures.written c.command_fault_of.ensures,
+      λ p at.
+          stopped_opened g.S.Source.left g.S.Source.failures c.args.other.now c.merge_streams.new.right p at
+          g.R.Source.left g.R.Source.failures _ c.merge_streams.new.left
+          g.W.Sink.held g.W.Sink.failures c.args.draft.now c.merge_streams.new.w c.in-Err.fault c.command_fault_of.result c.in-Err.ensures.merges c.command_fault_of.ensures,
+    )

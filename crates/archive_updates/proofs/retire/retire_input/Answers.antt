@@ -17,8 +17,11 @@ pub returns-in_err-sizes : goal.returns-in_err-sizes
 returns-in_err-sizes g c =
     let p = err_from_is_err_and c.from_residual.result c.from_residual.ensures.1 in
     let stopped = c.in_err-sizes.ensures.1 in
-    rw (p.1, p.2) (c.in_err-sizes.ensures.0, retire_stops c.args.key.now c.args.digest.now (reader g.R.Source.left g.R.Source.failures c.args.input.now c.tell_operations.new.input) (writer g.W.Sink.held g.W.Sink.failures c.args.draft.now c.tell_operations.new.draft) c.in_err-sizes.field-0.0
-    (rw c.retirement.ensures.is at stopped))
+    rw (p.1, p.2) (
+      c.in_err-sizes.ensures.0,
+      retire_stops c.args.key.now c.args.digest.now (reader g.R.Source.left g.R.Source.failures c.args.input.now c.tell_operations.new.input) (writer g.W.Sink.held g.W.Sink.failures c.args.draft.now c.tell_operations.new.draft) c.in_err-sizes.field-0.0
+          (rw c.retirement.ensures.is at stopped),
+    )
 
 pub index-requires : goal.index-requires
 index-requires g c =

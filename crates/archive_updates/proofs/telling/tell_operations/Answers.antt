@@ -22,14 +22,15 @@ returns-in-Ok g c =
 pub returns-in-Err : goal.returns-in-Err
 returns-in-Err g c =
     let operations = c.args.operations.now in
-    rw (lent_from c.args.input.now _ c.in_ok-left.ensures.source)
-    (taken_of g.W.Sink.held g.W.Sink.failures c.args.draft.now c.merge_telling.new.w c.in-Err.fault c.command_fault_of.result c.in-Err.ensures.written c.command_fault_of.ensures,
-    stopped_opened _ _ c.new-text.result c.merge_telling.new.right (content_of (set_of operations))
-    (makes_at_hand _ (set_of operations) (record {
-      are = are_records operations c.requires.are;
-      bytes = c.new-text.ensures.left ∙ ap Some (text_in_order operations c.requires.ascending);
-      unfailed_before = c.new-text.ensures.failures;
-      unfailed = refl;
-    }))
-    g.R.Source.left g.R.Source.failures _ c.merge_telling.new.left
-    g.W.Sink.held g.W.Sink.failures c.args.draft.now c.merge_telling.new.w c.in-Err.fault c.command_fault_of.result c.in-Err.ensures.merges c.command_fault_of.ensures)
+    rw (lent_from c.args.input.now _ c.in_ok-left.ensures.source) (
+      taken_of g.W.Sink.held g.W.Sink.failures c.args.draft.now c.merge_telling.new.w c.in-Err.fault c.command_fault_of.result c.in-Err.ensures.written c.command_fault_of.ensures,
+      stopped_opened _ _ c.new-text.result c.merge_telling.new.right (content_of (set_of operations))
+          (makes_at_hand _ (set_of operations) (record {
+            are = are_records operations c.requires.are;
+            bytes = c.new-text.ensures.left ∙ ap Some (text_in_order operations c.requires.ascending);
+            unfailed_before = c.new-text.ensures.failures;
+            unfailed = refl;
+          }))
+          g.R.Source.left g.R.Source.failures _ c.merge_telling.new.left
+          g.W.Sink.held g.W.Sink.failures c.args.draft.now c.merge_telling.new.w c.in-Err.fault c.command_fault_of.result c.in-Err.ensures.merges c.command_fault_of.ensures,
+    )
