@@ -19,13 +19,15 @@ use Rattle.archive_records.specs.declared.writing.Sizes.{Sizes}
 use Rattle.archive_records.specs.Kind.{end_length, kind_of, magic, magic_of}
 use Rattle.archive_records.specs.Reader.{GathersAll, HasRead, HasReadAll, IsGathered, Position, Stopped}
 use Rattle.archive_records.specs.Text.{end_record, missing, taken_of, text_of}
+use Rattle.archive_records.proofs.Blamed.{blames_behind}
 use Rattle.archive_records.proofs.Gathered.{gathered}
 use Rattle.archive_records.proofs.Taken.{taken_none}
 use Rattle.record_merge.proofs.Starts.{counts_of}
+use Rattle.byte_device.specs.Devices.{FailedIn}
 use Rattle.byte_device.specs.Writes.{WritesFirst}
 use Rattle.byte_device.proofs.Known.{Appends-then, Consumes-then}
 use Rattle.byte_device.proofs.Gains.{stopped}
-use Rattle.archive_updates.specs.Copying.{HasDraft, IsCause, IsCopied, IsCopiedUpTo, IsCopiedWhole, StopsEnd, StopsRecords, copy_of}
+use Rattle.archive_updates.specs.Copying.{BlamesDevices, BlamesOne, HasDraft, IsCause, IsCopied, IsCopiedUpTo, IsCopiedWhole, StopsEnd, StopsRecords, copy_of}
 
 -- what is written of records and of one more
 pub copy_more : (s : Entries) (records : List (List ℕ)) (x : List (List ℕ)) → copy_of s (records ++ x) ≡ copy_of s records ++ concat (missing s x)
@@ -105,21 +107,23 @@ module _ (s : Entries) (a b c w0 w1 w2 : Option (List ℕ)) (file : Format) (kin
 
   pub ended : (r : Result Sizes MergeFault) → OnOk r (IsAtEnd c × Consumes b c [])
       → IfOk r (λ e. (e.bytes ≡ sizes.bytes + length (end_record sizes.records)) × (e.records ≡ sizes.records) × Appends w1 w2 (end_record sizes.records))
-      → IfOk r (λ e. IsGathered Archive_text (IsCopiedWhole s w0 w2) a c e)
+      → IfOk r (λ e. IsGathered Archive_text (IsCopiedWhole s w0 w2) a c e × IsAtEnd c)
   ended (Err e) at ok = tt
   ended (Ok e) at ok =
-      let m = all.makes in
-      gathered Archive_text (IsCopiedWhole s w0 w2) a b c e position file kind
-      (record {
-        records = all.records;
-        read = all.read;
-        makes = record {
-          written_is = Appends-then w0 w1 w2 (copy_of s kept) (end_record (length (missing s kept))) m.gained (subst (λ (n : ℕ). Appends w1 w2 (end_record n)) m.records_are ok.2);
-          bytes_are = omega (arith, ok.0, m.bytes_are, length-append (copy_of s kept) (end_record (length (missing s kept))), ap (λ (n : ℕ). length (end_record n)) m.records_are);
-          records_are = ok.1 ∙ m.records_are;
-        };
-      })
-      at.1
+      let m = all.makes in (
+        gathered Archive_text (IsCopiedWhole s w0 w2) a b c e position file kind
+            (record {
+              records = all.records;
+              read = all.read;
+              makes = record {
+                written_is = Appends-then w0 w1 w2 (copy_of s kept) (end_record (length (missing s kept))) m.gained (subst (λ (n : ℕ). Appends w1 w2 (end_record n)) m.records_are ok.2);
+                bytes_are = omega (arith, ok.0, m.bytes_are, length-append (copy_of s kept) (end_record (length (missing s kept))), ap (λ (n : ℕ). length (end_record n)) m.records_are);
+                records_are = ok.1 ∙ m.records_are;
+              };
+            })
+            at.1,
+        at.0,
+      )
 
   stopped_at : (fault : RecordFault) → ((f : Format) (d : Option (List ℕ)) (records : List (List ℕ)) → end_length f ≡ Some 9 → HasReadAll f d b records position → Stopped f d c records fault) → Stopped file a c all.records fault
   stopped_at fault stops = stops file a all.records (counts_of file kind) all.read
@@ -128,10 +132,6 @@ module _ (s : Entries) (a b c w0 w1 w2 : Option (List ℕ)) (file : Format) (kin
   ended_by (Left fault) n st = inr (file, kind, all.records, stopped_at fault st.0)
   ended_by (Right fault) n st = absurd st
   ended_by Write n st = tt
-
-  pub ended_cause : (r : Result Sizes MergeFault) → IfErr r (λ e. StopsEnd position b c w1 w2 sizes e.cause e.written) → IfErr r (λ e. IsCause a c e.cause)
-  ended_cause (Ok e) st = tt
-  ended_cause (Err e) st = ended_by e.cause e.written st
 
   drafted_by : (cause : MergeCause) (n : ℕ) → StopsEnd position b c w1 w2 sizes cause n → HasDraft s a c w0 w2 n
   drafted_by (Left fault) n st =
@@ -156,6 +156,18 @@ module _ (s : Entries) (a b c w0 w1 w2 : Option (List ℕ)) (file : Format) (kin
         }),
       )
 
-  pub ended_draft : (r : Result Sizes MergeFault) → IfErr r (λ e. StopsEnd position b c w1 w2 sizes e.cause e.written) → IfErr r (λ e. HasDraft s a c w0 w2 e.written)
-  ended_draft (Ok e) st = tt
-  ended_draft (Err e) st = drafted_by e.cause e.written st
+  pub ended_early : (r : Result Sizes MergeFault) → IfErr r (λ e. StopsEnd position b c w1 w2 sizes e.cause e.written) → IfErr r (λ e. IsCause a c e.cause × HasDraft s a c w0 w2 e.written)
+  ended_early (Ok e) st = tt
+  ended_early (Err e) st = (ended_by e.cause e.written st, drafted_by e.cause e.written st)
+
+-- ---- devices that did not fail in the first steps are blamed for the next
+
+module _ {R : Type 0} (left : R → Option (List ℕ)) (failures : R → ℕ) (old mid new : R) (w_old w_mid w_new : ℕ) (unfailed : failures mid ≡ failures old) (same : w_mid ≡ w_old) where
+  pub blamed : (cause : MergeCause) → BlamesOne left failures mid new w_mid w_new cause → BlamesOne left failures old new w_old w_new cause
+  blamed (Left fault) b = (blames_behind left failures old mid new unfailed fault.kind b.0, b.1 ∙ same)
+  blamed (Right fault) b = absurd b
+  blamed Write b = (b.0 ∙ unfailed, subst (λ (n : ℕ). FailedIn n w_new) same b.1)
+
+  pub devices_behind : {T : Type 0} (r : Result T MergeFault) → BlamesDevices left failures mid new w_mid w_new r → BlamesDevices left failures old new w_old w_new r
+  devices_behind (Ok x) b = (b.0 ∙ unfailed, b.1 ∙ same)
+  devices_behind (Err e) b = blamed e.cause b

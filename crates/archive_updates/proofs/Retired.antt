@@ -6,19 +6,17 @@ use Rattle.join_core.specs.Listing.{listing}
 use Rattle.join_core.proofs.Listing.{listing_ascending}
 use Rattle.archive_core.specs.declared.keys.Digest.{Digest}
 use Rattle.archive_core.specs.declared.keys.SliceKey.{SliceKey}
-use Rattle.archive_core.specs.declared.operations.Operation.{Operation}
 use Rattle.archive_core.specs.declared.operations.Operation.TheVariants.{Retire}
 use Rattle.archive_core.specs.Content.{Operations, IsMade, content_of, joined, with_record}
-use Rattle.archive_core.specs.Record.{IsOperation, record_bytes, retirement_record}
+use Rattle.archive_core.specs.Record.{IsOperation, retirement_record}
 use Rattle.archive_core.proofs.Taken.{taken_are_joined}
-use Rattle.archive_records.specs.declared.format.Format.TheVariants.{Archive, OldArchive}
+use Rattle.archive_records.specs.declared.format.Format.TheVariants.{Archive}
 use Rattle.archive_records.specs.declared.writing.Sizes.{Sizes}
-use Rattle.archive_records.specs.Text.{AreOperations, InOrder, old_written, text_of, written}
+use Rattle.archive_records.specs.Text.{InOrder, written}
 use Rattle.archive_records.specs.Writing.{IsWrittenWhole}
 use Rattle.archive_records.proofs.Ascending.{below-less}
-use Rattle.archive_records.proofs.Contents.{are_records, sorted-InOrder}
+use Rattle.archive_records.proofs.Contents.{sorted-InOrder}
 use Rattle.archive_records.proofs.Puts.{bytes_same}
-use Rattle.archive_records.proofs.Versions.{old_written-records}
 use Rattle.byte_device.specs.Devices.{Stream}
 use Rattle.record_merge.specs.declared.turns.Turn.{Turn}
 use Rattle.record_merge.specs.Turns.{is_new, turn_of}
@@ -48,13 +46,6 @@ module _ (key : SliceKey) (digest : Digest) where
 
     pub listed_alone : listing alone ≡ record_of ∷ []
     listed_alone = listing_ascending nat_list_cmp_total bytes_same (record_of ∷ []) (sorted-InOrder [] (record_of ∷ []) in_order).1
-
-    pub are_alone : AreOperations alone
-    are_alone = are_records (record_of ∷ []) in_order
-
-    -- its text
-    pub text_alone : (operation : Operation) → operation ≡ Retire key digest → text_of OldArchive (map record_bytes (operation ∷ [])) ≡ old_written alone
-    text_alone operation same = ap (λ (o : Operation). text_of OldArchive (record_bytes o ∷ [])) same ∙ sym (old_written-records (record_of ∷ []) in_order)
 
   -- the content with it
   with_alone : (o : Operations) → IsMade o → with_record o record_of ≡ joined o (content_of alone)

@@ -1,6 +1,6 @@
 -- What a command makes that merges IN with operations and tells which of them are new.
 use Rattle.std.proofs.Common.{◌≡◌, ◌++◌, ℕ, Bool, List, [], map, Result, Ok, Err, refl, ap, sym, ◌∙◌}
-use Rattle.std.specs.Prelude.{IfOk, IfErr}
+use Rattle.std.specs.Prelude.{IfOk}
 use Rattle.std.specs.Cmp.Lexicographic.{slice_cmp, nat_list_cmp_total}
 use Rattle.std.specs.FinSet as set
 use Rattle.std.specs.List.Sorted.{IsStrictlySortedBy}
@@ -33,10 +33,6 @@ use Rattle.archive_updates.proofs.AtHand.{sizes_are}
 pub ok_then : {X E : Type 0} (P Q : X → Type 0) (r : Result X E) → ((x : X) → P x → Q x) → IfOk r P → IfOk r Q
 ok_then P Q (Ok x) step p = step x p
 ok_then P Q (Err e) step p = tt
-
-pub err_then : {X E : Type 0} (P Q : E → Type 0) (r : Result X E) → ((e : E) → P e → Q e) → IfErr r P → IfErr r Q
-err_then P Q (Ok x) step p = tt
-err_then P Q (Err e) step p = step e p
 
 -- ---- operations in order
 

@@ -1,7 +1,7 @@
 -- A copy of those records of an archive that a summary does not name, by the texts.
 use Rattle.std.proofs.Common.{◌≡◌, ℕ, ◌≤◌, ◌<◌, List, [], ◌∷◌, ◌++◌, length, take, MatchResult, Option, Some, Result, Ok, Err, refl, sym, ap, ◌∙◌, subst, arith, inl, inr, append_assoc, length-append, length-take-le}
 use Rattle.std.proofs.lemmas.List.{take-append-le}
-use Rattle.std.specs.Prelude.{IfOk, IfErr, OnOk}
+use Rattle.std.specs.Prelude.{IfOk, IfErr}
 use Rattle.std.specs.List.{concat}
 use Rattle.std.specs.FinSet as set
 use Rattle.std.specs.Io.KnownBytes.{Appends, IsAtEnd}
@@ -145,12 +145,11 @@ module _ {R W : Type 0} (left : R → Option (List ℕ)) (failures : R → ℕ) 
   stops_by (Right fault) st e is blames = absurd st
   stops_by Write st e is blames = blames
 
-  pub unnamed : (r : Result Sizes MergeFault) → IfOk r (λ sizes. IsGathered Archive_text (IsCopiedWhole s (held w) (held w')) (left old) (left new) sizes) → OnOk r (IsAtEnd (left new))
-      → IfErr r (λ e. IsCause (left old) (left new) e.cause) → IfErr r (λ e. HasDraft s (left old) (left new) (held w) (held w') e.written)
+  pub unnamed : (r : Result Sizes MergeFault) → IfOk r (λ sizes. IsGathered Archive_text (IsCopiedWhole s (held w) (held w')) (left old) (left new) sizes × IsAtEnd (left new))
+      → IfErr r (λ e. IsCause (left old) (left new) e.cause × HasDraft s (left old) (left new) (held w) (held w') e.written)
       → BlamesDevices left failures old new (write_failures w) (write_failures w') r
       → MatchResult r (CopiesUnnamed (stream left failures old new) (stream held write_failures w w') s) (StopsCopy (stream left failures old new) (stream held write_failures w w') s)
-  unnamed (Ok sizes) g end cause draft blames =
-      let Makes = IsCopiedWhole s (held w) (held w') in
+  unnamed (Ok sizes) (g, end) stops blames =
       let c = g.makes in
       let o = set_of (taken_of g.format g.records) in
       let text = delta_text s g.format g.kind_is g.records g.ordered in
@@ -164,7 +163,7 @@ module _ {R W : Type 0} (left : R → Option (List ℕ)) (failures : R → ℕ) 
           unfailed = blames.1;
         };
       }
-  unnamed (Err e) g end cause draft blames = record {
+  unnamed (Err e) ok (cause, draft) blames = record {
     by = stops_by e.cause cause e refl blames;
     first = λ o text content is given. first_of s text o content is (left new) (held w) (held w') e.written (left old) given draft;
     count = drafted s (left old) (left new) (held w) (held w') e.written draft;

@@ -1,6 +1,5 @@
 //! `admit IN OUT FILE...`.
 ghost use Rattle.std.specs.Prelude.{◌≡◌, ◌++◌, ℕ, List, length, map, string_bytes, OnOk, IfOk, IfErr};
-ghost use Rattle.std.specs.FinSet as set;
 ghost use Rattle.join_core.specs.Listing.{listing};
 ghost use Rattle.admission.specs.File.{admissible, parts, IsAcceptedFile, IsTakeFault};
 ghost use Rattle.archive_updates.specs.Slicing.{slice_in};

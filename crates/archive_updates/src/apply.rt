@@ -1,5 +1,5 @@
 //! `apply IN OUT OPS`.
-ghost use Rattle.std.specs.Prelude.{◌≡◌, ◌++◌, ◌≤◌, ℕ, List, length, map};
+ghost use Rattle.std.specs.Prelude.{◌≡◌, ◌≤◌, length, map};
 ghost use Rattle.std.specs.Cmp.Lexicographic.{slice_cmp};
 ghost use Rattle.std.specs.FinSet as set;
 ghost use Rattle.std.specs.List.{AllByRecursion, count_by};
@@ -11,13 +11,11 @@ ghost use Rattle.archive_updates.specs.Apply.{apply_as_it_comes};
 ghost use Rattle.archive_updates.specs.InnerTelling.{HasNewOf, counts_of, telling};
 ghost use Rattle.command_ends.specs.Ends.{EndsAsItComes, EndsStreamed};
 ghost use Rattle.command_ends.specs.Inputs.{IsKnown, IsRefusedOps, Reads, reader};
-ghost use Rattle.command_ends.specs.Outputs.{Publishes, Takes, out_of, outs, writer};
+ghost use Rattle.command_ends.specs.Outputs.{out_of, outs, writer};
 ghost use Rattle.record_merge.specs.Turns.{is_new};
-ghost use Rattle.report_text.specs.Report.{apply_line, archive_line};
 
 use crate::telling::tell_operations;
 use archive_core::Operation;
-use archive_records::Sizes;
 use byte_device::{CannotOpen, Sink, Source};
 use command_ends::{
     CommandFault, Output, Status, Target, publish_draft, read_operations, refused_behind,
@@ -33,28 +31,6 @@ fn count_new(turns: &[Turn]) -> u64
     ensures within { result ≤ length turns.now }
 {
     turns.iter().filter(|turn| turn.is_new()).count() as u64
-}
-
-/// Puts OUT in place, whose draft has taken a whole text, and writes the line of the counts and the sizes to the
-/// report. What is said is of all that the draft took since it was `start`.
-fn publish_applied<T: Target, P: Sink>(
-    heap: Heap,
-    sizes: Sizes,
-    new: u64,
-    known: u64,
-    out: &mut Output<T::Draft, T>,
-    report: &mut P,
-) -> Result<Status, CommandFault>
-    ensures { (start : T.Draft) (text : List ℕ)
-        → Takes (writer T.Draft.held T.Draft.failures start out.old.draft) text
-        → sizes.bytes ≡ length text
-        → Publishes (out_of (outs T.Draft.held T.Draft.failures T.placed T.failures
-        (record { draft = start; target = out.old.target }) out.new))
-        (writer P.held P.failures report.old report.new) text
-        (apply_line new known ++ archive_line sizes) result }
-{
-    let lines = apply_line(heap, new, known)?;
-    publish_draft(lines, sizes, out, report)
 }
 
 /// Writes IN's archive to OUT with those operations of so many that are new in their turn, and to the report how many
@@ -78,7 +54,8 @@ fn write_applied<R: Source, T: Target, P: Sink>(
 {
     let (sizes, told) = tell_operations(&heap, input, operations, &mut out.draft)?;
     let new = count_new(&told.turns);
-    publish_applied(heap, sizes, new, number - new, out, report)
+    let lines = apply_line(heap, new, number - new)?;
+    publish_draft(lines, sizes, out, report)
 }
 
 /// Reads OPS, and gives those of its operations that are new in their turn among them, in the order of their records,

@@ -5,12 +5,12 @@ ghost use Rattle.std.specs.Prelude.{MatchResult};
 ghost use Rattle.std.specs.Io.KnownBytes.{Appends, Consumes, IsAtEnd};
 ghost use Rattle.archive_records.specs.Kind.{kind_of, magic};
 ghost use Rattle.archive_core.specs.Summary.{Entries};
-ghost use Rattle.archive_records.specs.Reader.{GathersAll, HasRead, IsGathered};
+ghost use Rattle.archive_records.specs.Reader.{GathersAll, HasRead};
 ghost use Rattle.archive_records.specs.Text.{end_record};
 ghost use Rattle.archive_records.specs.declared.kind.TextKind.TheVariants.{Archive};
 ghost use Rattle.byte_device.specs.Devices.{stream};
 ghost use Rattle.archive_updates.specs.Copying.{BlamesDevices, CopiesUnnamed, HasDraft, IsCause, IsCopied};
-ghost use Rattle.archive_updates.specs.Copying.{IsCopiedUpTo, IsCopiedWhole, StopsCopy, StopsEnd, StopsRecords};
+ghost use Rattle.archive_updates.specs.Copying.{IsCopiedUpTo, StopsCopy, StopsEnd, StopsRecords};
 
 use archive_records::{
     Format, MergeCause, MergeFault, NextRecord, RecordReader, Sizes, Summary, TextKind, put_end,
@@ -133,26 +133,6 @@ fn end_copy<R: Source, W: Sink>(
     }
 }
 
-/// Copies what the summary does not name. What is said is of the bytes that were taken.
-fn copy_taken<R: Source, W: Sink>(
-    heap: Heap,
-    summary: &Summary,
-    r: &mut R,
-    w: &mut W,
-) -> Result<Sizes, MergeFault>
-    ensures copied { IfOk result (λ sizes. IsGathered Archive (IsCopiedWhole summary.now (W.held w.old) (W.held w.new))
-        (R.left r.old) (R.left r.new) sizes) }
-    ensures at_end { OnOk result (IsAtEnd (R.left r.new)) }
-    ensures cause { IfErr result (λ e. IsCause (R.left r.old) (R.left r.new) e.cause) }
-    ensures stopped { IfErr result (λ e.
-        HasDraft summary.now (R.left r.old) (R.left r.new) (W.held w.old) (W.held w.new) e.written) }
-    ensures devices { BlamesDevices R.left R.failures r.old r.new (W.failures w.old) (W.failures w.new) result }
-{
-    let (mut reader, begun) = begin_copy(heap, r, w)?;
-    let sizes = copy_records(&mut reader, r, summary, w, begun)?;
-    end_copy(&reader, r, w, sizes)
-}
-
 /// Writes the archive of those operations of the one that is read whose entries the summary does not have, in the
 /// memory of one record and of 57 bytes for each retirement, and says how large it is. Each slice is checked and hashed
 /// once, and none is copied.
@@ -171,5 +151,7 @@ pub fn copy_unnamed<R: Source, W: Sink>(
         (CopiesUnnamed (stream R.left R.failures r.old r.new) (stream W.held W.failures w.old w.new) summary.now)
         (StopsCopy (stream R.left R.failures r.old r.new) (stream W.held W.failures w.old w.new) summary.now) }
 {
-    copy_taken(heap, summary, r, w)
+    let (mut reader, begun) = begin_copy(heap, r, w)?;
+    let sizes = copy_records(&mut reader, r, summary, w, begun)?;
+    end_copy(&reader, r, w, sizes)
 }

@@ -1,9 +1,9 @@
 //! `delta ARCHIVE SUMMARY OUT`.
-ghost use Rattle.std.specs.Prelude.{Ok, IfOk, IfErr};
 ghost use Rattle.byte_device.specs.Devices.{stream};
 ghost use Rattle.archive_updates.specs.Copying.{IsUnnamed, copying};
 ghost use Rattle.archive_updates.specs.Delta.{delta_as_it_comes};
-ghost use Rattle.command_ends.specs.Ends.{EndsAsItComes, EndsStreamed, HasTaken, StopsAmidst};
+ghost use Rattle.archive_updates.specs.Joining.{WritesAmidst};
+ghost use Rattle.command_ends.specs.Ends.{EndsAsItComes, EndsStreamed};
 ghost use Rattle.command_ends.specs.Inputs.{IsKnown, reader};
 ghost use Rattle.command_ends.specs.Outputs.{out_of, outs, writer};
 
@@ -17,27 +17,6 @@ use command_ends::{
 };
 use memory::Heap;
 
-/// Copies what the summary does not name of an archive that was opened into the draft.
-fn copy_opened<R: Source, W: Sink>(
-    heap: Heap,
-    archive: &mut R,
-    named: &Summary,
-    draft: &mut W,
-) -> Result<Sizes, CommandFault>
-    ensures copied { IfOk result (IsUnnamed (reader R.left R.failures (Ok archive.old) (Ok archive.new)) named.now
-        (stream W.held W.failures draft.old draft.new)) }
-    ensures stopped { IfErr result
-        (StopsAmidst (copying (reader R.left R.failures (Ok archive.old) (Ok archive.new)) named.now)
-        (IsKnown (reader R.left R.failures (Ok archive.old) (Ok archive.new)))
-        (writer W.held W.failures draft.old draft.new)) }
-    ensures taken { IfErr result (HasTaken (writer W.held W.failures draft.old draft.new)) }
-{
-    match copy_unnamed(heap, named, archive, draft) {
-        Ok(sizes) => Ok(sizes),
-        Err(fault) => Err(command_fault_of(fault)),
-    }
-}
-
 /// Copies what the summary does not name of ARCHIVE into the draft.
 fn copy_input<R: Source, W: Sink>(
     heap: Heap,
@@ -45,16 +24,14 @@ fn copy_input<R: Source, W: Sink>(
     named: &Summary,
     draft: &mut W,
 ) -> Result<Sizes, CommandFault>
-    ensures copied { IfOk result (IsUnnamed (reader R.left R.failures archive.old archive.new) named.now
-        (stream W.held W.failures draft.old draft.new)) }
-    ensures stopped { IfErr result
-        (StopsAmidst (copying (reader R.left R.failures archive.old archive.new) named.now)
-        (IsKnown (reader R.left R.failures archive.old archive.new))
-        (writer W.held W.failures draft.old draft.new)) }
-    ensures taken { IfErr result (HasTaken (writer W.held W.failures draft.old draft.new)) }
+    ensures { WritesAmidst (λ archive. copying archive named.now) (λ archive. IsUnnamed archive named.now)
+        (reader R.left R.failures archive.old archive.new) (stream W.held W.failures draft.old draft.new) result }
 {
     let source = opened(archive, Place::Archive(0))?;
-    copy_opened(heap, source, named, draft)
+    match copy_unnamed(heap, named, source, draft) {
+        Ok(sizes) => Ok(sizes),
+        Err(fault) => Err(command_fault_of(fault)),
+    }
 }
 
 /// Writes the archive of what the summary does not name of ARCHIVE to OUT, and its sizes to the report.

@@ -1,23 +1,22 @@
 //! `retire IN OUT UUID ARCH DIGEST`.
-ghost use Rattle.std.specs.Prelude.{◌≡◌, ◌++◌, ℕ, List, length, IfOk, IfErr, OnOk};
+ghost use Rattle.std.specs.Prelude.{◌≡◌, OnOk};
 ghost use Rattle.archive_core.specs.Record.{IsOperation};
 ghost use Rattle.byte_device.specs.Devices.{stream};
-ghost use Rattle.command_ends.specs.Ends.{EndsAsItComes, HasTaken, StopsAmidst};
+ghost use Rattle.command_ends.specs.Ends.{EndsAsItComes};
 ghost use Rattle.command_ends.specs.Inputs.{IsKnown, reader};
-ghost use Rattle.report_text.specs.Report.{archive_line, retire_line};
-ghost use Rattle.command_ends.specs.Outputs.{Publishes, Takes, out_of, outs, writer};
+ghost use Rattle.command_ends.specs.Outputs.{out_of, outs, writer};
 ghost use Rattle.archive_updates.specs.InnerTelling.{IsRetired};
+ghost use Rattle.archive_updates.specs.Joining.{WritesAmidst};
 ghost use Rattle.archive_updates.specs.Notes.{NotesMissing};
 ghost use Rattle.archive_updates.specs.Retire.{retire};
 
 use crate::notes::{Note, note_missing};
-use crate::telling::tell_input;
+use crate::telling::tell_operations;
 use archive_core::{Digest, Operation, SliceKey};
 use archive_records::Sizes;
 use byte_device::{CannotOpen, Sink, Source};
 use command_ends::{CommandFault, Output, Status, Target, publish_draft};
 use memory::Heap;
-use record_merge::LentText;
 use report_text::retire_line;
 
 /// The retirement of the slices under the key that have the digest.
@@ -47,45 +46,17 @@ fn retire_input<R: Source, W: Sink>(
     digest: &Digest,
     draft: &mut W,
 ) -> Result<Written, CommandFault>
-    ensures retired { IfOk result (λ written. IsRetired (reader R.left R.failures input.old input.new)
-        key.now digest.now (stream W.held W.failures draft.old draft.new) written.sizes written.changed
-        written.had) }
-    ensures stopped { IfErr result (λ fault. StopsAmidst
-        (retire (reader R.left R.failures input.old input.new) key.now digest.now)
-        (IsKnown (reader R.left R.failures input.old input.new))
-        (writer W.held W.failures draft.old draft.new) fault) }
-    ensures taken { IfErr result (HasTaken (writer W.held W.failures draft.old draft.new)) }
+    ensures { WritesAmidst (λ input. retire input key.now digest.now) (λ input draft written.
+        IsRetired input key.now digest.now draft written.sizes written.changed written.had)
+        (reader R.left R.failures input.old input.new) (stream W.held W.failures draft.old draft.new) result }
 {
     let retirements = [retirement(*key, *digest)];
-    let mut text = LentText::new(&retirements);
-    let (sizes, told) = tell_input(heap, input, &mut text, draft)?;
+    let (sizes, told) = tell_operations(heap, input, &retirements, draft)?;
     Ok(Written {
         sizes,
         changed: told.turns[0].is_new(),
         had: told.withdraws,
     })
-}
-
-/// Puts OUT in place, whose draft has taken a whole text, and writes the line of the retirement and the sizes to the
-/// report. What is said is of all that the draft took since it was `start`.
-fn publish_retired<T: Target, P: Sink>(
-    heap: Heap,
-    written: Written,
-    key: SliceKey,
-    digest: Digest,
-    out: &mut Output<T::Draft, T>,
-    report: &mut P,
-) -> Result<Status, CommandFault>
-    ensures { (start : T.Draft) (text : List ℕ)
-        → Takes (writer T.Draft.held T.Draft.failures start out.old.draft) text
-        → written.sizes.bytes ≡ length text
-        → Publishes (out_of (outs T.Draft.held T.Draft.failures T.placed T.failures
-        (record { draft = start; target = out.old.target }) out.new))
-        (writer P.held P.failures report.old report.new) text
-        (retire_line written.changed key digest ++ archive_line written.sizes) result }
-{
-    let lines = retire_line(heap, written.changed, key, digest)?;
-    publish_draft(lines, written.sizes, out, report)
 }
 
 /// Writes IN's archive to OUT with the retirement of the slices under the key that have the digest, and to the report
@@ -113,5 +84,6 @@ pub fn run_retire<R: Source, T: Target, P: Sink>(
 {
     let written = retire_input(&heap, input, &key, &digest, &mut out.draft)?;
     note_missing(notes, written.had, key, digest)?;
-    publish_retired(heap, written, key, digest, out, report)
+    let lines = retire_line(heap, written.changed, key, digest)?;
+    publish_draft(lines, written.sizes, out, report)
 }

@@ -40,12 +40,12 @@ returns-in_err-sizes-clause-ends g c = λ records placed.
     rw (p.1, p.2) (told_stopped input c.args.arrivals.came (lines_again c.args.arrivals.rows.items records)
     (out_of (outs g.T.Draft.Sink.held g.T.Draft.Sink.failures g.T.Target.placed g.T.Target.failures c.args.out.now (record { draft = c.tell_operations.new.draft; target = c.args.out.now.target })))
     (writer g.P.Sink.held g.P.Sink.failures c.args.report.now c.args.report.now) c.in_err-sizes.field-0.0
-    (subst (λ (o : Operations). StopsAmidst (joining input (content_of o)) (IsKnown input) draft c.in_err-sizes.field-0.0) same c.in_err-sizes.ensures.stopped) c.in_err-sizes.ensures.taken (refl, refl) (Appends-none _, refl))
+    (subst (λ (o : Operations). StopsAmidst (joining input (content_of o)) (IsKnown input) draft c.in_err-sizes.field-0.0) same c.in_err-sizes.ensures.1) c.in_err-sizes.ensures.0 (refl, refl) (Appends-none _, refl))
 
 pub tell_arrivals-requires-clause-told : goal.tell_arrivals-requires-clause-told
 tell_arrivals-requires-clause-told g c =
     let came = c.args.arrivals.came in
-    let told = c.in_ok-sizes.ensures.told in
+    let told = c.in_ok-sizes.ensures in
     let operations : Operations = set.from_list {R = slice_cmp nat_cmp} (map record_bytes c.operations.result.now) in
     let long = ap length (c.deref.ensures.value ∙ told.turns_are) ∙ length-map (listing operations) (turn_of told.joined.content) in
     long ∙ ap (λ (o : Operations). length (listing o)) (same_set came (map record_bytes c.operations.result.now) c.operations.ensures.listed)
@@ -57,7 +57,7 @@ returns-in_err-lines-clause-ends g c = λ records placed.
     let same = same_set came (map record_bytes c.operations.result.now) c.operations.ensures.listed in
     let input = reader g.R.Source.left g.R.Source.failures c.args.input.now c.tell_operations.new.input in
     let draft = stream g.T.Draft.Sink.held g.T.Draft.Sink.failures c.args.out.now.draft c.tell_operations.new.draft in
-    let j = subst (λ (o : Operations). IsJoinedTelling input o draft c.in_ok-sizes.sizes c.in_ok-sizes.told.turns.items c.in_ok-sizes.told.withdraws) same c.in_ok-sizes.ensures.told in
+    let j = subst (λ (o : Operations). IsJoinedTelling input o draft c.in_ok-sizes.sizes c.in_ok-sizes.told.turns.items c.in_ok-sizes.told.withdraws) same c.in_ok-sizes.ensures in
     rw (p.1, p.2) (told_published input came (lines_again c.args.arrivals.rows.items records) draft c.in_ok-sizes.sizes c.in_ok-sizes.told.turns.items c.in_ok-sizes.told.withdraws j (lines_again c.args.arrivals.rows.items records (changes j.joined.content)) refl
     (out_of (outs g.T.Draft.Sink.held g.T.Draft.Sink.failures g.T.Target.placed g.T.Target.failures c.args.out.now (record { draft = c.tell_operations.new.draft; target = c.args.out.now.target })))
     (writer g.P.Sink.held g.P.Sink.failures c.args.report.now c.args.report.now) (Err OutOfMemory)
@@ -69,7 +69,7 @@ returns-clause-ends g c = λ records placed.
     let same = same_set came (map record_bytes c.operations.result.now) c.operations.ensures.listed in
     let input = reader g.R.Source.left g.R.Source.failures c.args.input.now c.tell_operations.new.input in
     let draft = stream g.T.Draft.Sink.held g.T.Draft.Sink.failures c.args.out.now.draft c.tell_operations.new.draft in
-    let j = subst (λ (o : Operations). IsJoinedTelling input o draft c.in_ok-sizes.sizes c.in_ok-sizes.told.turns.items c.in_ok-sizes.told.withdraws) same c.in_ok-sizes.ensures.told in
+    let j = subst (λ (o : Operations). IsJoinedTelling input o draft c.in_ok-sizes.sizes c.in_ok-sizes.told.turns.items c.in_ok-sizes.told.withdraws) same c.in_ok-sizes.ensures in
     told_published input came (lines_again c.args.arrivals.rows.items records) draft c.in_ok-sizes.sizes c.in_ok-sizes.told.turns.items c.in_ok-sizes.told.withdraws j _
     (c.in_ok-lines.ensures.lines j.joined.content records placed (c.deref.ensures.value ∙ j.turns_are))
     (out_of (outs g.T.Draft.Sink.held g.T.Draft.Sink.failures g.T.Target.placed g.T.Target.failures c.args.out.now c.publish_draft.new.out))
@@ -82,7 +82,7 @@ returns-clause-noted g c =
     let same = same_set came (map record_bytes c.operations.result.now) c.operations.ensures.listed in
     let input = reader g.R.Source.left g.R.Source.failures c.args.input.now c.tell_operations.new.input in
     let draft = stream g.T.Draft.Sink.held g.T.Draft.Sink.failures c.args.out.now.draft c.tell_operations.new.draft in
-    let j = subst (λ (o : Operations). IsJoinedTelling input o draft c.in_ok-sizes.sizes c.in_ok-sizes.told.turns.items c.in_ok-sizes.told.withdraws) same c.in_ok-sizes.ensures.told in
+    let j = subst (λ (o : Operations). IsJoinedTelling input o draft c.in_ok-sizes.sizes c.in_ok-sizes.told.turns.items c.in_ok-sizes.told.withdraws) same c.in_ok-sizes.ensures in
     always c.publish_draft.result (record {
       before = j.joined.content;
       is_content = j.joined.is_content;

@@ -20,11 +20,11 @@ returns-in_err-sizes g c =
     rw (p.1, p.2) (unnamed_stopped (reader g.R.Source.left g.R.Source.failures c.args.archive.now c.copy_input.new.archive) c.args.named.now
     (out_of (outs g.T.Draft.Sink.held g.T.Draft.Sink.failures g.T.Target.placed g.T.Target.failures c.args.out.now (record { draft = c.copy_input.new.draft; target = c.args.out.now.target })))
     (writer g.P.Sink.held g.P.Sink.failures c.args.report.now c.args.report.now) c.in_err-sizes.field-0.0
-    c.in_err-sizes.ensures.stopped c.in_err-sizes.ensures.taken (refl, refl) (Appends-none _, refl))
+    c.in_err-sizes.ensures.1 c.in_err-sizes.ensures.0 (refl, refl) (Appends-none _, refl))
 
 pub returns : goal.returns
 returns g c =
-    let u = c.in_ok-sizes.ensures.copied in
+    let u = c.in_ok-sizes.ensures in
     unnamed_published (reader g.R.Source.left g.R.Source.failures c.args.archive.now c.copy_input.new.archive) c.args.named.now
     (stream g.T.Draft.Sink.held g.T.Draft.Sink.failures c.args.out.now.draft c.copy_input.new.draft) c.in_ok-sizes.sizes u _ c.new.ensures.bytes
     (out_of (outs g.T.Draft.Sink.held g.T.Draft.Sink.failures g.T.Target.placed g.T.Target.failures c.args.out.now c.publish_draft.new.out))

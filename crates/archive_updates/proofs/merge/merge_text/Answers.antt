@@ -15,13 +15,13 @@ returns-in_err-sizes g c = λ p content is.
     rw (f.1, f.2) (joins_stopped (reader g.R.Source.left g.R.Source.failures c.args.input.now c.join_input.new.input) p
     (out_of (outs g.T.Draft.Sink.held g.T.Draft.Sink.failures g.T.Target.placed g.T.Target.failures c.args.out.now (record { draft = c.join_input.new.draft; target = c.args.out.now.target })))
     (writer g.P.Sink.held g.P.Sink.failures c.args.report.now c.args.report.now) c.in_err-sizes.field-0.0
-    (c.in_err-sizes.ensures.stopped p (record { is_content = content; text = written p; is_text = inl refl; bytes = given; unfailed_before = c.new-other.ensures.failures; unfailed = refl }))
-    c.in_err-sizes.ensures.taken (refl, refl) (Appends-none _, refl))
+    (c.in_err-sizes.ensures.1 p (record { is_content = content; text = written p; is_text = inl refl; bytes = given; unfailed_before = c.new-other.ensures.failures; unfailed = refl }))
+    c.in_err-sizes.ensures.0 (refl, refl) (Appends-none _, refl))
 
 pub returns : goal.returns
 returns g c = λ p content is.
     let given = c.new-other.ensures.left ∙ ap Some is in
-    let j = c.in_ok-sizes.ensures.joined p (record { is_content = content; text = written p; is_text = inl refl; bytes = given; unfailed_before = c.new-other.ensures.failures; unfailed = refl }) in
+    let j = c.in_ok-sizes.ensures p (record { is_content = content; text = written p; is_text = inl refl; bytes = given; unfailed_before = c.new-other.ensures.failures; unfailed = refl }) in
     joins_published (reader g.R.Source.left g.R.Source.failures c.args.input.now c.join_input.new.input) p
     (stream g.T.Draft.Sink.held g.T.Draft.Sink.failures c.args.out.now.draft c.join_input.new.draft) c.in_ok-sizes.sizes j _ c.new.ensures.bytes
     (out_of (outs g.T.Draft.Sink.held g.T.Draft.Sink.failures g.T.Target.placed g.T.Target.failures c.args.out.now c.publish_draft.new.out))

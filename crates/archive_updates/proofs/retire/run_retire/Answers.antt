@@ -16,12 +16,22 @@ returns-in_err-written-clause-ends g c =
     rw (p.1, p.2) (retire_stopped c.args.key c.args.digest (reader g.R.Source.left g.R.Source.failures c.args.input.now c.retire_input.new.input)
     (out_of (outs g.T.Draft.Sink.held g.T.Draft.Sink.failures g.T.Target.placed g.T.Target.failures c.args.out.now (record { draft = c.retire_input.new.draft; target = c.args.out.now.target })))
     (writer g.P.Sink.held g.P.Sink.failures c.args.report.now c.args.report.now) c.in_err-written.field-0.0
-    c.in_err-written.ensures.stopped c.in_err-written.ensures.taken (refl, refl) (Appends-none _, refl))
+    c.in_err-written.ensures.1 c.in_err-written.ensures.0 (refl, refl) (Appends-none _, refl))
 
 pub returns-in_err-note_missing-clause-ends : goal.returns-in_err-note_missing-clause-ends
 returns-in_err-note_missing-clause-ends g c =
     let p = err_from_is_err_and c.from_residual-in_err-note_missing.result c.from_residual-in_err-note_missing.ensures.1 in
-    let i = c.in_ok-written.ensures.retired in
+    let i = c.in_ok-written.ensures in
+    rw (p.1, p.2) (retire_published c.args.key c.args.digest (reader g.R.Source.left g.R.Source.failures c.args.input.now c.retire_input.new.input)
+    (stream g.T.Draft.Sink.held g.T.Draft.Sink.failures c.args.out.now.draft c.retire_input.new.draft) c.in_ok-written.written.sizes c.in_ok-written.written.changed c.in_ok-written.written.had i
+    (out_of (outs g.T.Draft.Sink.held g.T.Draft.Sink.failures g.T.Target.placed g.T.Target.failures c.args.out.now (record { draft = c.retire_input.new.draft; target = c.args.out.now.target })))
+    (writer g.P.Sink.held g.P.Sink.failures c.args.report.now c.args.report.now) (Err OutOfMemory)
+    (inr (i.written_is.written, i.written_is.unfailed), (refl, refl), (Appends-none _, refl)))
+
+pub returns-in_err-lines-clause-ends : goal.returns-in_err-lines-clause-ends
+returns-in_err-lines-clause-ends g c =
+    let p = err_from_is_err_and c.from_residual-in_err-lines.result c.from_residual-in_err-lines.ensures.1 in
+    let i = c.in_ok-written.ensures in
     rw (p.1, p.2) (retire_published c.args.key c.args.digest (reader g.R.Source.left g.R.Source.failures c.args.input.now c.retire_input.new.input)
     (stream g.T.Draft.Sink.held g.T.Draft.Sink.failures c.args.out.now.draft c.retire_input.new.draft) c.in_ok-written.written.sizes c.in_ok-written.written.changed c.in_ok-written.written.had i
     (out_of (outs g.T.Draft.Sink.held g.T.Draft.Sink.failures g.T.Target.placed g.T.Target.failures c.args.out.now (record { draft = c.retire_input.new.draft; target = c.args.out.now.target })))
@@ -30,17 +40,17 @@ returns-in_err-note_missing-clause-ends g c =
 
 pub returns-clause-ends : goal.returns-clause-ends
 returns-clause-ends g c =
-    let i = c.in_ok-written.ensures.retired in
+    let i = c.in_ok-written.ensures in
     retire_published c.args.key c.args.digest (reader g.R.Source.left g.R.Source.failures c.args.input.now c.retire_input.new.input)
     (stream g.T.Draft.Sink.held g.T.Draft.Sink.failures c.args.out.now.draft c.retire_input.new.draft) c.in_ok-written.written.sizes c.in_ok-written.written.changed c.in_ok-written.written.had i
-    (out_of (outs g.T.Draft.Sink.held g.T.Draft.Sink.failures g.T.Target.placed g.T.Target.failures c.args.out.now c.publish_retired.new.out))
-    (writer g.P.Sink.held g.P.Sink.failures c.args.report.now c.publish_retired.new.report) c.publish_retired.result
-    (c.publish_retired.ensures c.args.out.now.draft _ (i.written_is.written, i.written_is.unfailed) i.written_is.bytes_are)
+    (out_of (outs g.T.Draft.Sink.held g.T.Draft.Sink.failures g.T.Target.placed g.T.Target.failures c.args.out.now c.publish_draft.new.out))
+    (writer g.P.Sink.held g.P.Sink.failures c.args.report.now c.publish_draft.new.report) c.publish_draft.result
+    (rw c.in_ok-lines.ensures at c.publish_draft.ensures c.args.out.now.draft _ (i.written_is.written, i.written_is.unfailed) i.written_is.bytes_are)
 
 pub returns-clause-noted : goal.returns-clause-noted
 returns-clause-noted g c =
-    let i = c.in_ok-written.ensures.retired in
-    always c.publish_retired.result (record {
+    let i = c.in_ok-written.ensures in
+    always c.publish_draft.result (record {
       before = i.before;
       is_content = i.is_content;
       archive = i.archive;

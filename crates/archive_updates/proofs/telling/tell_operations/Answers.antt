@@ -1,24 +1,36 @@
 use Rattle.std.proofs.Common.{Some, ap, refl, ◌∙◌}
-use Rattle.archive_updates.proofs.Told.{err_then, ok_then, set_of, text_in_order}
+use Rattle.archive_core.specs.Content.{content_of}
+use Rattle.archive_updates.proofs.AtHand.{lent_from, stopped_opened, taken_of}
+use Rattle.archive_updates.proofs.Tellings.{makes_at_hand, told_opened}
+use Rattle.archive_updates.proofs.Told.{set_of, text_in_order}
 use Rattle.sorted_archive.proofs.Held.{are_records}
 use Rattle.archive_updates.proofs.telling.tell_operations.Goals as goal
 
-pub returns-clause-told : goal.returns-clause-told
-returns-clause-told g c =
+pub returns-in-Ok : goal.returns-in-Ok
+returns-in-Ok g c =
     let operations = c.args.operations.now in
-    ok_then _ _ c.tell_input.result (λ both told. told (set_of operations) (record {
+    rw (lent_from c.args.input.now _ c.in_ok-left.ensures.source)
+    (told_opened _ _ c.new-text.result c.merge_telling.new.right (set_of operations) (record {
       are = are_records operations c.requires.are;
       bytes = c.new-text.ensures.left ∙ ap Some (text_in_order operations c.requires.ascending);
       unfailed_before = c.new-text.ensures.failures;
       unfailed = refl;
-    })) c.tell_input.ensures.told
+    })
+    g.R.Source.left g.R.Source.failures _ c.merge_telling.new.left
+    g.W.Sink.held g.W.Sink.failures c.args.draft.now c.merge_telling.new.w c.in-Ok.told.0 c.in-Ok.told.1.turns.items c.in-Ok.told.1.withdraws c.in-Ok.ensures.tells)
 
-pub returns-clause-stopped : goal.returns-clause-stopped
-returns-clause-stopped g c =
+pub returns-in-Err : goal.returns-in-Err
+returns-in-Err g c =
     let operations = c.args.operations.now in
-    err_then _ _ c.tell_input.result (λ fault stopped. stopped (set_of operations) (record {
-      are = are_records operations c.requires.are;
-      bytes = c.new-text.ensures.left ∙ ap Some (text_in_order operations c.requires.ascending);
-      unfailed_before = c.new-text.ensures.failures;
-      unfailed = refl;
-    })) c.tell_input.ensures.stopped
+    rw (lent_from c.args.input.now _ c.in_ok-left.ensures.source) (
+      taken_of g.W.Sink.held g.W.Sink.failures c.args.draft.now c.merge_telling.new.w c.in-Err.fault c.command_fault_of.result c.in-Err.ensures.written c.command_fault_of.ensures,
+      stopped_opened _ _ c.new-text.result c.merge_telling.new.right (content_of (set_of operations))
+          (makes_at_hand _ (set_of operations) (record {
+            are = are_records operations c.requires.are;
+            bytes = c.new-text.ensures.left ∙ ap Some (text_in_order operations c.requires.ascending);
+            unfailed_before = c.new-text.ensures.failures;
+            unfailed = refl;
+          }))
+          g.R.Source.left g.R.Source.failures _ c.merge_telling.new.left
+          g.W.Sink.held g.W.Sink.failures c.args.draft.now c.merge_telling.new.w c.in-Err.fault c.command_fault_of.result c.in-Err.ensures.merges c.command_fault_of.ensures,
+    )
