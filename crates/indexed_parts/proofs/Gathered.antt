@@ -1,6 +1,6 @@
 -- Records that are gathered one after another, by the entries that name them.
 use Rattle.std.proofs.Common.{◌≡◌, ℕ, ◌+◌, ◌<◌, ◌≤◌, zero, suc, Bool, true, false, cond, ◌||◌, ◌&&◌, not, List, [], ◌∷◌, ◌++◌, length, map, take, get_or, Option, Some, None, refl, sym, ap, ◌∙◌, subst, append_assoc, arith}
-use Rattle.std.specs.Prelude.{filter, IfErr, IfSome, OnOk, Result, Ok, Err}
+use Rattle.std.specs.Prelude.{filter, IfSome}
 use Rattle.std.specs.List.{AllWithin, AllZip}
 use Rattle.std.proofs.lemmas.List.{append-nil, take_all}
 use Rattle.std.proofs.lemmas.List.Elements.{All-from_recursion, filter_more}
@@ -26,7 +26,7 @@ use Rattle.archive_index.specs.Places.{entries_under}
 use Rattle.archive_core.specs.Summary.{Entries}
 use Rattle.archive_records.proofs.Puts.{length_written}
 use Rattle.join_core.specs.Listing.{listing}
-use Rattle.indexed_parts.specs.InnerPlaces.{AreGathered, IsGathered, IsStaleAmong}
+use Rattle.indexed_parts.specs.InnerPlaces.{AreGathered, IsGathered, IsStaleAmong, IsUnnamed}
 use Rattle.indexed_parts.specs.Places.{AreGatheredUnder, IsEntryFault}
 use Rattle.indexed_parts.specs.InnerRuns.{is_tagged}
 use Rattle.indexed_parts.proofs.Ordered.{not_second, one_of_two, two_runs}
@@ -55,7 +55,7 @@ past p (x ∷ xs) (suc n) zero le none = absurd (omega arith)
 past p (x ∷ xs) (suc n) (suc m) le none = ap (λ (l : List (List ℕ)). cond (p x) (x ∷ l) l) (past p xs n m (omega arith) (λ k d low high. none (suc k) d (omega arith) (omega arith)))
 
 -- what follows of each text that is known
-known : (P : List ℕ → Type 0) (whole : Option (List ℕ)) → ((text : List ℕ) → P text) → IfSome whole P
+pub known : (P : List ℕ → Type 0) (whole : Option (List ℕ)) → ((text : List ℕ) → P text) → IfSome whole P
 known P None f = tt
 known P (Some text) f = f text
 
@@ -116,21 +116,22 @@ partner R p (x ∷ xs) ys (suc n) (suc j) zip below lt passes =
     by rest true (z ∷ zs) both = rest zs both.1
     by rest false zs z = rest zs z
 
-abbrev Unnamed : List ℕ → List ℕ → Type 0
-Unnamed x text = false ≡ false → (r : List ℕ) → IsNamedBy text x r → ⊥
-
 -- where no record is that an entry names, and each before it that passes names one
-pub stale_at : (whole now : Option (List ℕ)) (p : List ℕ → Bool) (entries : List (List ℕ)) (i : ℕ) (x : List ℕ) (old new : List (List ℕ)) → i < length entries → x ≡ get_or entries i [] → p x ≡ true → now ≡ whole
-    → AreGathered whole p entries i old new → IfSome now (λ text. false ≡ false → (r : List ℕ) → IsNamedBy text x r → ⊥) → IfSome whole (λ text. IsStaleAmong p entries text (Stale (Some i)))
-stale_at whole now p entries i x old new lt is passes keeps before none =
-    along_both (Named whole p entries i before.records) (Unnamed x) (λ text. IsStaleAmong p entries text (Stale (Some i))) whole
-    (λ text zip h. (
+pub stale_at : (whole now : Option (List ℕ)) (p : List ℕ → Bool) (entries : List (List ℕ)) (i : ℕ) (x : List ℕ) (old new : List (List ℕ)) (fault : PlaceFault) → i < length entries → x ≡ get_or entries i [] → p x ≡ true → now ≡ whole
+    → AreGathered whole p entries i old new → IfSome now (λ text. IsUnnamed i x text fault) → IfSome whole (λ text. IsStaleAmong p entries text fault)
+stale_at whole now p entries i x old new fault lt is passes keeps before none =
+    along_both (Named whole p entries i before.records) (λ text. IsUnnamed i x text fault) (λ text. IsStaleAmong p entries text fault) whole (by fault)
+    before.named (subst (λ (w : Option (List ℕ)). IfSome w (λ text. IsUnnamed i x text fault)) keeps none)
+  where
+    by : (f : PlaceFault) (text : List ℕ) → Named whole p entries i before.records text → IsUnnamed i x text f → IsStaleAmong p entries text f
+    by (Stale told) text zip h = subst (λ (e : Option ℕ). IsStaleAmong p entries text (Stale e)) (sym h.0) (
       lt,
       ap p (sym is) ∙ passes,
-      λ r n. h refl r (subst (λ (y : List ℕ). IsNamedBy text y r) (sym is) n),
+      λ r n. h.1 r (subst (λ (y : List ℕ). IsNamedBy text y r) (sym is) n),
       λ j below there. partner (IsNamedBy text) p entries before.records i j zip below (omega arith) there,
-    ))
-    before.named (subst (λ (w : Option (List ℕ)). IfSome w (Unnamed x)) keeps none)
+    )
+    by Device text zip h = tt
+    by OutOfMemory text zip h = tt
 
 -- ---- the retirements under a front, and then the admissions
 
@@ -142,8 +143,9 @@ join R (x ∷ xs) ys (u ∷ us) vs a b = (a.0, join R xs ys us vs a.1 b)
 
 module _ (whole : Option (List ℕ)) (front : List ℕ) (entries : List (List ℕ)) (are : AreIndexed entries) (n : ℕ) (all : length entries ≤ n) where
   -- together those under it
-  gathered_both : (old mid new : List (List ℕ)) → AreGathered whole (is_tagged 1 front) entries n old mid → AreGathered whole (is_tagged 2 front) entries n mid new → AreGathered whole (is_under front) entries n old new
-  gathered_both old mid new first second =
+  pub gathered_both : (now : Option (List ℕ)) (old mid new : List (List ℕ)) → now ≡ whole → AreGathered whole (is_tagged 1 front) entries n old mid → AreGathered now (is_tagged 2 front) entries n mid new → AreGathered whole (is_under front) entries n old new
+  gathered_both now old mid new keeps first behind =
+      let second = subst (λ (w : Option (List ℕ)). AreGathered w (is_tagged 2 front) entries n mid new) keeps behind in
       let both : filter (is_tagged 1 front) (take n entries) ++ filter (is_tagged 2 front) (take n entries) ≡ filter (is_under front) (take n entries) =
       subst (λ (xs : List (List ℕ)). filter (is_tagged 1 front) xs ++ filter (is_tagged 2 front) xs ≡ filter (is_under front) xs) (sym (take_all n entries all)) (two_runs front entries are.ascending are.are) in
       record {
@@ -174,7 +176,7 @@ module _ (whole : Option (List ℕ)) (front : List ℕ) (entries : List (List �
       by OutOfMemory text t = tt
 
   -- and among the admissions, where each retirement names one
-  stale_second : (now : Option (List ℕ)) (old mid : List (List ℕ)) (fault : PlaceFault) → now ≡ whole → AreGathered whole (is_tagged 1 front) entries n old mid
+  pub stale_second : (now : Option (List ℕ)) (old mid : List (List ℕ)) (fault : PlaceFault) → now ≡ whole → AreGathered whole (is_tagged 1 front) entries n old mid
       → IfSome now (λ text. IsStaleAmong (is_tagged 2 front) entries text fault) → IfSome whole (λ text. IsStaleAmong (is_under front) entries text fault)
   stale_second now old mid fault keeps first h =
       along_both (Named whole (is_tagged 1 front) entries n first.records) (λ text. IsStaleAmong (is_tagged 2 front) entries text fault) (λ text. IsStaleAmong (is_under front) entries text fault) whole (by fault)
@@ -193,29 +195,17 @@ module _ (whole : Option (List ℕ)) (front : List ℕ) (entries : List (List �
       by Device text zip t = tt
       by OutOfMemory text zip t = tt
 
-  -- the same of what came of the admissions
-  pub both_any : {E : Type 0} (now : Option (List ℕ)) (old mid new : List (List ℕ)) (r : Result (Unit {0}) E) → now ≡ whole → AreGathered whole (is_tagged 1 front) entries n old mid
-      → OnOk r (AreGathered now (is_tagged 2 front) entries n mid new) → OnOk r (AreGathered whole (is_under front) entries n old new)
-  both_any now old mid new (Ok _) keeps first second = gathered_both old mid new first (subst (λ (w : Option (List ℕ)). AreGathered w (is_tagged 2 front) entries n mid new) keeps second)
-  both_any now old mid new (Err _) keeps first second = tt
-
-  pub stale_any : {V : Type 0} (now : Option (List ℕ)) (old mid : List (List ℕ)) (r : Result V PlaceFault) → now ≡ whole → AreGathered whole (is_tagged 1 front) entries n old mid
-      → IfErr r (λ fault. IfSome now (λ text. IsStaleAmong (is_tagged 2 front) entries text fault)) → IfErr r (λ fault. IfSome whole (λ text. IsStaleAmong (is_under front) entries text fault))
-  stale_any now old mid (Ok _) keeps first h = tt
-  stale_any now old mid (Err fault) keeps first h = stale_second now old mid fault keeps first h
-
   -- ---- under a front of an index
 
-  pub under_any : {E : Type 0} (s : Entries) (old new : List (List ℕ)) (r : Result (Unit {0}) E) → entries ≡ listing s → OnOk r (AreGathered whole (is_under front) entries n old new) → OnOk r (AreGatheredUnder whole front s old new)
-  under_any s old new (Ok _) is h = record {
+  pub under_front : (s : Entries) (old new : List (List ℕ)) → entries ≡ listing s → AreGathered whole (is_under front) entries n old new → AreGatheredUnder whole front s old new
+  under_front s old new is h = record {
     records = h.records;
     named = along (Named whole (is_under front) entries n h.records) (λ text. AllZip (IsNamedBy text) (entries_under front s) h.records) whole
         (λ text zip. subst (λ (xs : List (List ℕ)). AllZip (IsNamedBy text) (filter (is_under front) xs) h.records) (take_all n entries all ∙ is) zip) h.named;
     behind = h.behind;
   }
-  under_any s old new (Err _) is h = tt
 
-  fault_under : (s : Entries) (fault : PlaceFault) → entries ≡ listing s → IfSome whole (λ text. IsStaleAmong (is_under front) entries text fault) → IfSome whole (λ text. IsEntryFault front s text fault)
+  pub fault_under : (s : Entries) (fault : PlaceFault) → entries ≡ listing s → IfSome whole (λ text. IsStaleAmong (is_under front) entries text fault) → IfSome whole (λ text. IsEntryFault front s text fault)
   fault_under s fault is h =
       along (λ text. IsStaleAmong (is_under front) (listing s) text fault) (λ text. IsEntryFault front s text fault) whole (by fault)
       (subst (λ (xs : List (List ℕ)). IfSome whole (λ text. IsStaleAmong (is_under front) xs text fault)) is h)
@@ -225,10 +215,6 @@ module _ (whole : Option (List ℕ)) (front : List ℕ) (entries : List (List �
       by (Stale (Some k)) text t = (omega (arith, t.0, length_written s), t.1, t.2, t.3)
       by Device text t = tt
       by OutOfMemory text t = tt
-
-  pub fault_any : {V : Type 0} (s : Entries) (r : Result V PlaceFault) → entries ≡ listing s → IfErr r (λ fault. IfSome whole (λ text. IsStaleAmong (is_under front) entries text fault)) → IfErr r (λ fault. IfSome whole (λ text. IsEntryFault front s text fault))
-  fault_any s (Ok _) is h = tt
-  fault_any s (Err fault) is h = fault_under s fault is h
 
 -- ---- what was taken together
 

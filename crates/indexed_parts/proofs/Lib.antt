@@ -2,3 +2,4 @@ pub mod Named
 pub mod Ordered
 pub mod Gathered
 pub mod Answered
+pub mod Behind
