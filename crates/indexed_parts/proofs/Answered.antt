@@ -2,6 +2,7 @@
 use Rattle.std.proofs.Common.{◌≡◌, ℕ, ◌<◌, ◌≤◌, ◌^◌, zero, suc, true, List, [], ◌∷◌, length, get_or, Option, Some, None, refl, sym, ap, ◌∙◌, subst, arith}
 use Rattle.std.specs.Prelude.{IfSome, IfOk, IfErr, Result, Ok, Err}
 use Rattle.std.specs.List.{AllZip, list_any}
+use Rattle.std.proofs.lemmas.Option.{IfSome_then}
 use Rattle.std.specs.Ordering.{eq_by_cmp, is_eq}
 use Rattle.std.specs.Cmp.{tied_itself}
 use Rattle.std.specs.Cmp.Lexicographic.{nat_list_cmp_total}
@@ -24,7 +25,7 @@ use Rattle.archive_index.proofs.Named.{named_there, right}
 use Rattle.archive_index.proofs.Sums.{right_length}
 use Rattle.indexed_parts.specs.InnerPlaces.{IsPartRefused}
 use Rattle.indexed_parts.specs.Places.{AreGatheredUnder, IsEntryFault, IsLengthFault, ReadsPlaces}
-use Rattle.indexed_parts.proofs.Behind.{reads_behind}
+use Rattle.indexed_parts.proofs.Gathered.{reads_behind}
 
 -- all entries under the front name the records of a part
 pub named_of : (whole now : Option (List ℕ)) (front : List ℕ) (s : Entries) (gathered : List (List ℕ)) (size : ℕ) (held : Operations) → size < 2 ^ 64 → now ≡ whole → HasSize whole size → IfSome whole (HasIndexedLength s)
@@ -115,8 +116,4 @@ module _ {P V : Type 0} (whole : P → Option (List ℕ)) (failures : P → ℕ)
 
   pub told_any : (r : Result V PlaceFault) → ReadsPlaces whole failures old new r Named (IsPartRefused front s)
       → ReadsPlaces whole failures old new r (λ v. IfSome (whole old) (λ text. HasIndexedLength s text × AreNamed front s text (content v))) (IsPlaceFault front s)
-  told_any r h = reads_behind whole failures old old new refl refl _ _ r (λ v named. short_named (whole old) (content v) named) (λ fault f. told (whole old) front s fault f) h
-    where
-      short_named : (w : Option (List ℕ)) (p : Operations) → IfSome w (λ text. HasIndexedLength s text × AreNamed front s text p × (length text < 2 ^ 64)) → IfSome w (λ text. HasIndexedLength s text × AreNamed front s text p)
-      short_named None p named = tt
-      short_named (Some text) p named = (named.0, named.1)
+  told_any r h = reads_behind whole failures old old new refl refl _ _ r (λ v named. IfSome_then (whole old) named (λ text n. (n.0, n.1))) (λ fault f. told (whole old) front s fault f) h

@@ -1,8 +1,9 @@
 -- Records that are gathered one after another, by the entries that name them.
 use Rattle.std.proofs.Common.{◌≡◌, ℕ, ◌+◌, ◌<◌, ◌≤◌, zero, suc, Bool, true, false, cond, ◌||◌, ◌&&◌, not, List, [], ◌∷◌, ◌++◌, length, map, take, get_or, Option, Some, None, refl, sym, ap, ◌∙◌, subst, append_assoc, arith}
-use Rattle.std.specs.Prelude.{filter, IfSome}
+use Rattle.std.specs.Prelude.{filter, IfSome, Result, Ok, Err}
 use Rattle.std.specs.List.{AllWithin, AllZip}
 use Rattle.std.proofs.lemmas.List.{append-nil, take_all}
+use Rattle.std.proofs.lemmas.Option.{IfSome_then}
 use Rattle.std.proofs.lemmas.List.Elements.{All-from_recursion, filter_more}
 use Rattle.std.specs.Ordering.{nat_cmp, eq_by_cmp}
 use Rattle.std.specs.Cmp.Lexicographic.{slice_cmp, nat_list_cmp_total}
@@ -19,15 +20,14 @@ use Rattle.archive_core.proofs.Taken.{IsUnderWay, taken_are_joined}
 use Rattle.archive_core.specs.Order.{made_again, contains_made}
 use Rattle.archive_index.specs.Entry.{IsPlacedEntry}
 use Rattle.archive_index.specs.Index.{AreIndexed}
-use Rattle.archive_index.specs.Places.{IsNamedBy}
+use Rattle.archive_index.specs.Places.{BlamesPlaced, IsNamedBy, entries_under}
 use Rattle.archive_index.specs.declared.fault.PlaceFault.{PlaceFault}
 use Rattle.archive_index.specs.declared.fault.PlaceFault.TheVariants.{Stale, Device, OutOfMemory}
-use Rattle.archive_index.specs.Places.{entries_under}
 use Rattle.archive_core.specs.Summary.{Entries}
 use Rattle.archive_records.proofs.Puts.{length_written}
 use Rattle.join_core.specs.Listing.{listing}
 use Rattle.indexed_parts.specs.InnerPlaces.{AreGathered, IsGathered, IsStaleAmong, IsUnnamed}
-use Rattle.indexed_parts.specs.Places.{AreGatheredUnder, IsEntryFault}
+use Rattle.indexed_parts.specs.Places.{AreGatheredUnder, IsEntryFault, ReadsPlaces}
 use Rattle.indexed_parts.specs.InnerRuns.{is_tagged}
 use Rattle.indexed_parts.proofs.Ordered.{not_second, one_of_two, two_runs}
 
@@ -59,11 +59,7 @@ pub known : (P : List ℕ → Type 0) (whole : Option (List ℕ)) → ((text : L
 known P None f = tt
 known P (Some text) f = f text
 
-along : (P Q : List ℕ → Type 0) (whole : Option (List ℕ)) → ((text : List ℕ) → P text → Q text) → IfSome whole P → IfSome whole Q
-along P Q None f a = tt
-along P Q (Some text) f a = f text a
-
-along_both : (P Q R : List ℕ → Type 0) (whole : Option (List ℕ)) → ((text : List ℕ) → P text → Q text → R text) → IfSome whole P → IfSome whole Q → IfSome whole R
+pub along_both : (P Q R : List ℕ → Type 0) (whole : Option (List ℕ)) → ((text : List ℕ) → P text → Q text → R text) → IfSome whole P → IfSome whole Q → IfSome whole R
 along_both P Q R None f a b = tt
 along_both P Q R (Some text) f a b = f text a b
 
@@ -94,7 +90,7 @@ module _ (whole : Option (List ℕ)) (p : List ℕ → Bool) (entries : List (Li
   pub gathered_rest : (n m : ℕ) (old new : List (List ℕ)) → n ≤ m → AllWithin (λ x. p x ≡ false) entries n m → AreGathered whole p entries n old new → AreGathered whole p entries m old new
   gathered_rest n m old new le none before = record {
     records = before.records;
-    named = along (Named n before.records) (Named m before.records) whole (λ text zip. subst (λ (xs : List (List ℕ)). AllZip (IsNamedBy text) xs before.records) (sym (past p entries n m le none)) zip) before.named;
+    named = IfSome_then whole before.named (λ text zip. subst (λ (xs : List (List ℕ)). AllZip (IsNamedBy text) xs before.records) (sym (past p entries n m le none)) zip);
     behind = before.behind;
   }
 
@@ -162,7 +158,7 @@ module _ (whole : Option (List ℕ)) (front : List ℕ) (entries : List (List �
 
   -- the first that names no record, among the retirements
   pub stale_first : (fault : PlaceFault) → IfSome whole (λ text. IsStaleAmong (is_tagged 1 front) entries text fault) → IfSome whole (λ text. IsStaleAmong (is_under front) entries text fault)
-  stale_first fault h = along (λ text. IsStaleAmong (is_tagged 1 front) entries text fault) (λ text. IsStaleAmong (is_under front) entries text fault) whole (by fault) h
+  stale_first fault h = IfSome_then whole h (by fault)
     where
       by : (f : PlaceFault) (text : List ℕ) → IsStaleAmong (is_tagged 1 front) entries text f → IsStaleAmong (is_under front) entries text f
       by (Stale None) text t = t
@@ -200,21 +196,34 @@ module _ (whole : Option (List ℕ)) (front : List ℕ) (entries : List (List �
   pub under_front : (s : Entries) (old new : List (List ℕ)) → entries ≡ listing s → AreGathered whole (is_under front) entries n old new → AreGatheredUnder whole front s old new
   under_front s old new is h = record {
     records = h.records;
-    named = along (Named whole (is_under front) entries n h.records) (λ text. AllZip (IsNamedBy text) (entries_under front s) h.records) whole
-        (λ text zip. subst (λ (xs : List (List ℕ)). AllZip (IsNamedBy text) (filter (is_under front) xs) h.records) (take_all n entries all ∙ is) zip) h.named;
+    named = IfSome_then whole h.named (λ text zip. subst (λ (xs : List (List ℕ)). AllZip (IsNamedBy text) (filter (is_under front) xs) h.records) (take_all n entries all ∙ is) zip);
     behind = h.behind;
   }
 
   pub fault_under : (s : Entries) (fault : PlaceFault) → entries ≡ listing s → IfSome whole (λ text. IsStaleAmong (is_under front) entries text fault) → IfSome whole (λ text. IsEntryFault front s text fault)
   fault_under s fault is h =
-      along (λ text. IsStaleAmong (is_under front) (listing s) text fault) (λ text. IsEntryFault front s text fault) whole (by fault)
-      (subst (λ (xs : List (List ℕ)). IfSome whole (λ text. IsStaleAmong (is_under front) xs text fault)) is h)
+      IfSome_then whole (subst (λ (xs : List (List ℕ)). IfSome whole (λ text. IsStaleAmong (is_under front) xs text fault)) is h) (by fault)
     where
       by : (f : PlaceFault) (text : List ℕ) → IsStaleAmong (is_under front) (listing s) text f → IsEntryFault front s text f
       by (Stale None) text t = t
       by (Stale (Some k)) text t = (omega (arith, t.0, length_written s), t.1, t.2, t.3)
       by Device text t = tt
       by OutOfMemory text t = tt
+
+-- ---- behind what was read before
+
+module _ {P : Type 0} (whole : P → Option (List ℕ)) (failures : P → ℕ) (old mid new : P) (keeps : whole mid ≡ whole old) (same : failures mid ≡ failures old) where
+  -- a fault
+  pub refused_behind : {A B : Type 0} (fault : PlaceFault) → (A → B) → A × (whole new ≡ whole mid) × BlamesPlaced failures mid new fault → B × (whole new ≡ whole old) × BlamesPlaced failures old new fault
+  refused_behind (Stale entry) told h = (told h.0, h.1 ∙ keeps, h.2 ∙ same)
+  refused_behind Device told h = (told h.0, h.1 ∙ keeps, rw (← same) h.2)
+  refused_behind OutOfMemory told h = (told h.0, h.1 ∙ keeps, h.2 ∙ same)
+
+  -- a value or a fault
+  pub reads_behind : {T : Type 0} {A B : T → Type 0} (R S : List ℕ → PlaceFault → Type 0) (r : Result T PlaceFault) → ((v : T) → A v → B v) → ((f : PlaceFault) → IfSome (whole mid) (λ text. R text f) → IfSome (whole old) (λ text. S text f))
+      → ReadsPlaces whole failures mid new r A R → ReadsPlaces whole failures old new r B S
+  reads_behind R S (Ok v) made told h = (made v h.0, h.1 ∙ keeps, h.2 ∙ same)
+  reads_behind R S (Err fault) made told h = refused_behind fault (told fault) h
 
 -- ---- what was taken together
 

@@ -2,4 +2,3 @@ pub mod Named
 pub mod Ordered
 pub mod Gathered
 pub mod Answered
-pub mod Behind

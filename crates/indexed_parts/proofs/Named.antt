@@ -126,7 +126,3 @@ claims_long bytes n a is fails =
   where
     unequal : (b : Bool) → b ≡ true → b ≡ false → ⊥
     unequal b e f = cc
-
-pub some_along : (whole : Option (List ℕ)) (e : PlacedEntry) (r s : List ℕ) → r ≡ s → IfSome whole (λ text. IsNamedBy text (placed_bytes e) s) → IfSome whole (λ text. IsNamedBy text (placed_bytes e) r)
-some_along None e r s same named = tt
-some_along (Some text) e r s same named = subst (IsNamedBy text (placed_bytes e)) (sym same) named

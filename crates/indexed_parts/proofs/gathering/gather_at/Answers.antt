@@ -4,8 +4,7 @@ use Rattle.join_core.specs.Listing.{listing}
 use Rattle.archive_index.specs.Entry.{placed_bytes}
 use Rattle.archive_index.specs.Index.{AreIndexed}
 use Rattle.archive_index.proofs.Ascending.{ascending_members, indexed_of}
-use Rattle.indexed_parts.proofs.Gathered.{fault_under, under_front}
-use Rattle.indexed_parts.proofs.Behind.{reads_behind}
+use Rattle.indexed_parts.proofs.Gathered.{fault_under, reads_behind, under_front}
 use Rattle.indexed_parts.proofs.gathering.gather_at.Goals as goal
 
 pub gather_under-requires-clause-indexed : goal.gather_under-requires-clause-indexed
@@ -17,10 +16,9 @@ pub returns : goal.returns
 returns g c =
     let s = c.args.entries.now in
     let entries = c.entries.result.now in
-    let whole = g.P.Placed.whole c.args.archive.now in
     let are = subst AreIndexed (sym c.entries.ensures) (indexed_of (listing s) (ascending_members s c.len-count.ensures.entries)) in
     let all : length (map placed_bytes entries) ≤ length entries = omega (arith, length-map entries placed_bytes) in
     reads_behind g.P.Placed.whole g.P.Placed.failures c.args.archive.now c.args.archive.now _ refl refl _ _ c.gather_under.result
-    (λ _ h. under_front whole c.args.front.now (map placed_bytes entries) are (length entries) all s _ _ c.entries.ensures h)
-    (λ fault h. fault_under whole c.args.front.now (map placed_bytes entries) are (length entries) all s fault c.entries.ensures h)
+    (λ _ h. under_front _ c.args.front.now _ are _ all s _ _ c.entries.ensures h)
+    (λ fault h. fault_under _ c.args.front.now _ are _ all s fault c.entries.ensures h)
     c.gather_under.ensures

@@ -4,12 +4,10 @@ use Rattle.archive_core.specs.Record.{record_bytes}
 use Rattle.archive_records.proofs.Blamed.{failed}
 use Rattle.archive_index.specs.Entry.{IsPlacedEntry, placed_bytes}
 use Rattle.archive_index.proofs.Entries.{each_of}
-use Rattle.archive_index.proofs.Texts.{bytes_at}
 use Rattle.indexed_parts.specs.InnerPlaces.{AreGathered, IsGathered}
 use Rattle.indexed_parts.specs.InnerRuns.{is_tagged}
-use Rattle.indexed_parts.proofs.Gathered.{gathered_more, gathered_none, gathered_rest, stale_at}
+use Rattle.indexed_parts.proofs.Gathered.{gathered_more, gathered_none, gathered_rest, refused_behind, stale_at}
 use Rattle.indexed_parts.proofs.Ordered.{in_run, length_run}
-use Rattle.indexed_parts.proofs.Behind.{refused_behind}
 use Rattle.indexed_parts.proofs.gathering.gather_run.Goals as goal
 
 pub run-init : goal.run-init
@@ -34,13 +32,12 @@ returns-in_err-gather_entry g c =
     let e = c.index-run-place.result in
     let k = run.result.0 + c.run.place in
     let there = in_run entries run.result.0 run.result.1 c.run.place e c.run-test.true c.index-run-place.is in
-    let at = bytes_at entries k e (placed_bytes e) there.1 there.2 refl in
-    let passes = ap (is_tagged c.args.tag c.args.front.now) at ∙ run.ensures.inside k [] (omega arith) there.0 in
+    let passes = ap (is_tagged c.args.tag c.args.front.now) there.3 ∙ run.ensures.inside k [] (omega arith) there.0 in
     let fault = c.in_err-gather_entry.field-0.0 in
     rw (failed c.from_residual.result fault c.from_residual.ensures.1)
     (refused_behind g.P.Placed.whole g.P.Placed.failures c.args.archive.now c.run.archive _ c.run.invariant.keeps c.run.invariant.unfailed fault
     (stale_at (g.P.Placed.whole c.args.archive.now) (g.P.Placed.whole c.run.archive) (is_tagged c.args.tag c.args.front.now) (map placed_bytes entries) k (placed_bytes e) (map record_bytes c.args.gathered.now.items) (map record_bytes c.run.gathered.items) fault
-    (omega (arith, length-map entries placed_bytes, there.1)) at passes c.run.invariant.keeps c.run.invariant.gathered)
+    (omega (arith, length-map entries placed_bytes, there.1)) there.3 passes c.run.invariant.keeps c.run.invariant.gathered)
     c.in_err-gather_entry.ensures)
 
 pub run-preserved : goal.run-preserved
@@ -50,14 +47,13 @@ run-preserved g c =
     let e = c.index-run-place.result in
     let k = run.result.0 + c.run.place in
     let there = in_run entries run.result.0 run.result.1 c.run.place e c.run-test.true c.index-run-place.is in
-    let at = bytes_at entries k e (placed_bytes e) there.1 there.2 refl in
-    let passes = ap (is_tagged c.args.tag c.args.front.now) at ∙ run.ensures.inside k [] (omega arith) there.0 in
+    let passes = ap (is_tagged c.args.tag c.args.front.now) there.3 ∙ run.ensures.inside k [] (omega arith) there.0 in
     let one = c.in_ok-gather_entry.ensures in
     let next : k + 1 ≡ run.result.0 + (c.run.place + 1) = omega arith in
     record {
       gathered = subst (λ (n : ℕ). AreGathered (g.P.Placed.whole c.args.archive.now) (is_tagged c.args.tag c.args.front.now) (map placed_bytes entries) n (map record_bytes c.args.gathered.now.items) (map record_bytes c.gather_entry.new.gathered.items)) next
           (gathered_more (g.P.Placed.whole c.args.archive.now) (is_tagged c.args.tag c.args.front.now) (map placed_bytes entries) k (placed_bytes e) (map record_bytes c.args.gathered.now.items) (map record_bytes c.run.gathered.items) (map record_bytes c.gather_entry.new.gathered.items)
-          (omega (arith, length-map entries placed_bytes, there.1)) at passes c.run.invariant.gathered
+          (omega (arith, length-map entries placed_bytes, there.1)) there.3 passes c.run.invariant.gathered
           (subst (λ (w : Option (List ℕ)). IsGathered w (placed_bytes e) (map record_bytes c.run.gathered.items) (map record_bytes c.gather_entry.new.gathered.items)) c.run.invariant.keeps one.0));
       keeps = one.1 ∙ c.run.invariant.keeps;
       unfailed = one.2 ∙ c.run.invariant.unfailed;

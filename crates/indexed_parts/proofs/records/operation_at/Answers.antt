@@ -1,6 +1,9 @@
 use Rattle.std.proofs.Common.{◌∙◌, sym, ap, subst, refl, arith, length}
+use Rattle.std.proofs.lemmas.Option.{IfSome_then}
 use Rattle.placed_bytes.specs.Places.{Stands}
-use Rattle.indexed_parts.proofs.Named.{named_retirement, none_other, none_short, some_along}
+use Rattle.archive_index.specs.Entry.{placed_bytes}
+use Rattle.archive_index.specs.Places.{IsNamedBy}
+use Rattle.indexed_parts.proofs.Named.{named_retirement, none_other, none_short}
 use Rattle.indexed_parts.proofs.records.operation_at.Goals as goal
 
 pub returns-then-is_retirement : goal.returns-then-is_retirement
@@ -8,7 +11,7 @@ returns-then-is_retirement g c =
     let whole = g.P.Placed.whole c.args.archive.now in
     let made = c.retirement.ensures in
     let named = named_retirement whole c.args.entry.now c.requires.entry (omega arith) (omega arith) (c.is_retirement.ensures.yes c.if-is_retirement.true) made.key made.digest in
-    (some_along whole c.args.entry.now _ _ made.record named, refl, refl)
+    (IfSome_then whole named (λ text n. subst (IsNamedBy text (placed_bytes c.args.entry.now)) (sym made.record) n), refl, refl)
 
 pub returns-in-Ok-None : goal.returns-in-Ok-None
 returns-in-Ok-None g c =
