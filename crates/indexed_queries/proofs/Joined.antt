@@ -7,6 +7,7 @@ use Rattle.std.proofs.Math.ListN.{length-map}
 use Rattle.std.proofs.Math.Seq.{take-suc}
 use Rattle.std.proofs.lemmas.List.{append-nil, flat_map_more, get_or-map}
 use Rattle.std.proofs.lemmas.List.Sums.{fold-append}
+use Rattle.std.proofs.lemmas.Option.{IfSome_then}
 use Rattle.archive_core.specs.Content.{Operations, IsMade, content_of, joined, with_record, with_records}
 use Rattle.archive_core.proofs.Taken.{made_taken, taken_are_joined}
 use Rattle.archive_core.specs.Summary.{Entries}
@@ -19,6 +20,7 @@ use Rattle.command_ends.specs.Inputs.{Reader, IsRefusal, ReadsInputs, Unfailed, 
 use Rattle.command_ends.specs.declared.faults.CommandFault.{CommandFault}
 use Rattle.command_ends.proofs.Readers.{pairs_more}
 use Rattle.indexed_parts.specs.Places.{AreGatheredUnder, IsEntryFault}
+use Rattle.indexed_parts.proofs.Gathered.{along_both}
 use Rattle.indexed_queries.specs.declared.fronts.Front.{Front}
 use Rattle.indexed_queries.specs.Fronts.{AreNamedUnder, IsStaleFor, front_bytes}
 use Rattle.indexed_queries.specs.InnerParts.{HasJoinedNamed, HasJoinedParts, HaveGathered, IsFaultUnder, IsNamedIn, told_fault}
@@ -35,14 +37,6 @@ made records = content_of (set.from_list records)
 -- a group for each front, of records that its entries name
 abbrev AreGroups : List (List ℕ) → Entries → List (List (List ℕ)) → List ℕ → Type 0
 AreGroups fronts entries groups text = AllZip (λ (front : List ℕ) (records : List (List ℕ)). AllZip (IsNamedBy text) (entries_under front entries) records) fronts groups
-
-along : (P Q : List ℕ → Type 0) (whole : Option (List ℕ)) → ((text : List ℕ) → P text → Q text) → IfSome whole P → IfSome whole Q
-along P Q None f a = tt
-along P Q (Some text) f a = f text a
-
-along_both : (P Q R : List ℕ → Type 0) (whole : Option (List ℕ)) → ((text : List ℕ) → P text → Q text → R text) → IfSome whole P → IfSome whole Q → IfSome whole R
-along_both P Q R None f a b = tt
-along_both P Q R (Some text) f a b = f text a b
 
 named_groups : (text : List ℕ) (fronts : List (List ℕ)) (entries : Entries) (groups : List (List (List ℕ))) → AreGroups fronts entries groups text → AreNamedUnder fronts entries text (map made groups)
 named_groups text [] entries [] a = tt
@@ -103,13 +97,8 @@ pub joined_together : (whole : Option (List ℕ)) (fronts : List (List ℕ)) (en
 joined_together whole fronts entries old gathered o new is none h taken = record {
   parts = map made h.groups;
   content = taken ∙ sym (taken_are_joined o gathered is) ∙ ap (with_records o) (h.behind ∙ ap (λ (l : List (List ℕ)). l ++ flat_map (λ (records : List (List ℕ)). records) h.groups) none) ∙ taken_groups o h.groups is;
-  named = along (AreGroups fronts entries h.groups) (λ text. AreNamedUnder fronts entries text (map made h.groups)) whole (λ text a. named_groups text fronts entries h.groups a) h.named;
+  named = IfSome_then whole h.named (λ text a. named_groups text fronts entries h.groups a);
 }
-
-pub blamed_from : {P : Type 0} (failures : P → ℕ) (old mid new : P) (fault : PlaceFault) → failures mid ≡ failures old → BlamesPlaced failures mid new fault → BlamesPlaced failures old new fault
-blamed_from failures old mid new (Stale entry) same b = b ∙ same
-blamed_from failures old mid new Device same b = rw (← same) b
-blamed_from failures old mid new OutOfMemory same b = b ∙ same
 
 -- ---- of an input
 
