@@ -5,7 +5,7 @@ use Rattle.archive_core.specs.Record.{record_bytes}
 use Rattle.archive_records.proofs.Blamed.{failed}
 use Rattle.indexed_parts.proofs.Gathered.{refused_behind}
 use Rattle.indexed_queries.specs.Fronts.{front_bytes}
-use Rattle.indexed_queries.proofs.Joined.{fault_at, gathered_all, gathered_more, gathered_none}
+use Rattle.indexed_queries.proofs.Joined.{fault_at, gathered_more, gathered_none}
 use Rattle.indexed_queries.proofs.parts.gather_fronts.Goals as goal
 
 pub fronts-init : goal.fronts-init
@@ -35,7 +35,7 @@ pub returns : goal.returns
 returns g c =
     let all = map front_bytes c.args.fronts.now in
     (
-      gathered_all _ _ all c.args.entries.now _ _ (take_all c.fronts.front-index all (omega (arith, length-map c.args.fronts.now front_bytes, c.fronts-test.false))) c.fronts.invariant.gathered,
+      rw (take_all c.fronts.front-index all (omega (arith, length-map c.args.fronts.now front_bytes, c.fronts-test.false))) at c.fronts.invariant.gathered,
       c.fronts.invariant.keeps,
       c.fronts.invariant.unfailed,
     )
