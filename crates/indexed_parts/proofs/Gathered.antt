@@ -4,7 +4,7 @@ use Rattle.std.specs.Prelude.{filter, IfSome, Result, Ok, Err}
 use Rattle.std.specs.List.{AllWithin, AllZip}
 use Rattle.std.proofs.lemmas.List.{append-nil, take_all}
 use Rattle.std.proofs.lemmas.Option.{IfSome_then}
-use Rattle.std.proofs.lemmas.List.Elements.{All-from_recursion, filter_more}
+use Rattle.std.proofs.lemmas.List.Elements.{All-from_recursion, AllZip-push, filter_more}
 use Rattle.std.specs.Ordering.{nat_cmp, eq_by_cmp}
 use Rattle.std.specs.Cmp.Lexicographic.{slice_cmp, nat_list_cmp_total}
 use Rattle.std.specs.List.Sorted.{IsPermutation}
@@ -32,16 +32,10 @@ use Rattle.indexed_parts.specs.InnerRuns.{is_tagged}
 use Rattle.indexed_parts.proofs.Ordered.{not_second, one_of_two, two_runs}
 
 module _ (R : List ℕ → List ℕ → Type 0) where
-  push : (xs ys : List (List ℕ)) (x y : List ℕ) → AllZip R xs ys → R x y → AllZip R (xs ++ x ∷ []) (ys ++ y ∷ [])
-  push [] [] x y zip r = (r, tt)
-  push [] (z ∷ ys) x y zip r = absurd zip
-  push (w ∷ xs) [] x y zip r = absurd zip
-  push (w ∷ xs) (z ∷ ys) x y zip r = (zip.0, push xs ys x y zip.1 r)
-
   picked : (p : List ℕ → Bool) (xs : List (List ℕ)) (i : ℕ) (x : List ℕ) (ys : List (List ℕ)) (y : List ℕ) → i < length xs → x ≡ get_or xs i [] → p x ≡ true → AllZip R (filter p (take i xs)) ys → R x y → AllZip R (filter p (take (i + 1) xs)) (ys ++ y ∷ [])
   picked p xs i x ys y lt is passes zip r =
       let one : cond (p (get_or xs i [])) (get_or xs i [] ∷ []) [] ≡ x ∷ [] = ap (λ (z : List ℕ). cond (p z) (z ∷ []) []) (sym is) ∙ ap (λ (b : Bool). cond b (x ∷ []) []) passes in
-      subst (λ (zs : List (List ℕ)). AllZip R zs (ys ++ y ∷ [])) (sym (filter_more p xs i [] lt ∙ ap (λ (zs : List (List ℕ)). filter p (take i xs) ++ zs) one)) (push (filter p (take i xs)) ys x y zip r)
+      subst (λ (zs : List (List ℕ)). AllZip R zs (ys ++ y ∷ [])) (sym (filter_more p xs i [] lt ∙ ap (λ (zs : List (List ℕ)). filter p (take i xs) ++ zs) one)) (AllZip-push R (filter p (take i xs)) ys x y zip r)
 
 -- where none passes from one place up to another, none more is kept
 past : (p : List ℕ → Bool) (xs : List (List ℕ)) (n m : ℕ) → n ≤ m → AllWithin (λ x. p x ≡ false) xs n m → filter p (take m xs) ≡ filter p (take n xs)
