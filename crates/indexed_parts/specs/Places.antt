@@ -6,7 +6,7 @@ use Rattle.archive_index.specs.declared.fault.PlaceFault.{PlaceFault}
 use Rattle.archive_index.specs.declared.fault.PlaceFault.TheVariants.{Stale, Device, OutOfMemory}
 use Rattle.archive_index.specs.Places.{BlamesPlaced, IsNamedBy, HasIndexedLength, IsStale, entries_under}
 
--- What comes of reading at places of a device, which keeps its bytes: a value of which this is true, with no failure; or
+-- What comes of reading at places of a device that keeps its bytes: a value of which this is true, with no failure; or
 -- a fault, which tells whether the device failed, and of which this is true where the bytes are known.
 abbrev pub ReadsPlaces : {P T : Type 0} → (P → Option (List ℕ)) → (P → ℕ) → P → P → Result T PlaceFault
     → (T → Type 0) → (List ℕ → PlaceFault → Type 0) → Type 0

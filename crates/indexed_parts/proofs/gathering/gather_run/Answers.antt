@@ -65,12 +65,11 @@ returns g c =
     let run = c.run_under-start in
     let bytes = map placed_bytes entries in
     let all : length bytes ≡ length entries = length-map entries placed_bytes in
-    let long = length_run entries run.result.0 run.result.1 run.ensures.ordered (omega (arith, all, run.ensures.within)) in
-    (
+    let long = length_run entries run.result.0 run.result.1 run.ensures.ordered (omega (arith, all, run.ensures.within)) in (
       gathered_rest (g.P.Placed.whole c.args.archive.now) (is_tagged c.args.tag c.args.front.now) bytes (run.result.0 + c.run.place) (length entries) (map record_bytes c.args.gathered.now.items) (map record_bytes c.run.gathered.items)
-      (omega (arith, all, long, c.run.auto.place-end, run.ensures.within, run.ensures.ordered))
-      (λ k d low high. run.ensures.behind k d (omega (arith, long, c.run-test.false, low, run.ensures.ordered)) (omega (arith, all, high)))
-      c.run.invariant.gathered,
+          (omega (arith, all, long, c.run.auto.place-end, run.ensures.within, run.ensures.ordered))
+          (λ k d low high. run.ensures.behind k d (omega (arith, long, c.run-test.false, low, run.ensures.ordered)) (omega (arith, all, high)))
+          c.run.invariant.gathered,
       c.run.invariant.keeps,
       c.run.invariant.unfailed,
     )

@@ -24,10 +24,9 @@ pub returns-in-Ok-archive_of : goal.returns-in-Ok-archive_of
 returns-in-Ok-archive_of g c =
     let records = map record_bytes c.gather_at.new.gathered.items in
     let first = c.in_ok-size.ensures in
-    let then = c.in_ok-gather_at.ensures in
-    (
+    let then = c.in_ok-gather_at.ensures in (
       named_of (g.P.Placed.whole c.args.archive.now) (g.P.Placed.whole c.indexed_size.new.archive) c.args.front.now c.args.entries.now records c.in_ok-size.size (g.A.Join.content c.in-Ok-archive_of.part) (omega arith) first.1 first.0.0 first.0.1 c.in-Ok-archive_of.ensures
-      (subst (λ (old : List (List ℕ)). AreGatheredUnder (g.P.Placed.whole c.indexed_size.new.archive) c.args.front.now c.args.entries.now old records) (ap (map record_bytes) c.new-gathered.ensures.items) then.0),
+          (subst (λ (old : List (List ℕ)). AreGatheredUnder (g.P.Placed.whole c.indexed_size.new.archive) c.args.front.now c.args.entries.now old records) (ap (map record_bytes) c.new-gathered.ensures.items) then.0),
       then.1 ∙ first.1,
       then.2 ∙ first.2,
     )

@@ -15,8 +15,7 @@ returns-then-is_retirement g c =
 
 pub returns-in-Ok-None : goal.returns-in-Ok-None
 returns-in-Ok-None g c =
-    let h = c.in-Ok-None.ensures in
-    (
+    let h = c.in-Ok-None.ensures in (
       none_short (g.P.Placed.whole c.args.archive.now) c.args.number c.args.entry.now c.requires.entry (omega arith) (omega arith) (c.is_retirement.ensures.no c.if-is_retirement.false) (rw c.in-Ok-None.field-0-is at h.read),
       h.keeps,
       h.unfailed,
@@ -27,10 +26,9 @@ returns-in-Ok-None-admission_of g c =
     let e = c.args.entry.now in
     let h = c.in-Ok-Some.ensures in
     let read = rw c.in-Ok-Some.field-0-is at h.read in
-    let stands = subst (Stands (g.P.Placed.whole c.args.archive.now) e.offset) (sym c.deref.ensures.value) read.1 in
-    (
+    let stands = subst (Stands (g.P.Placed.whole c.args.archive.now) e.offset) (sym c.deref.ensures.value) read.1 in (
       none_other (g.P.Placed.whole c.args.archive.now) c.args.number e c.deref.result.now c.requires.entry (omega arith) (omega arith) (c.is_retirement.ensures.no c.if-is_retirement.false)
-      (ap length c.deref.ensures.value ∙ read.0) stands (rw c.in-Ok-None-admission_of.field-0-is at c.in-Ok-None-admission_of.ensures.none),
+          (ap length c.deref.ensures.value ∙ read.0) stands (rw c.in-Ok-None-admission_of.field-0-is at c.in-Ok-None-admission_of.ensures.none),
       h.keeps,
       h.unfailed,
     )

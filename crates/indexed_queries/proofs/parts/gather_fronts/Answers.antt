@@ -33,8 +33,7 @@ returns-in_err-gather_front g c =
 
 pub returns : goal.returns
 returns g c =
-    let all = map front_bytes c.args.fronts.now in
-    (
+    let all = map front_bytes c.args.fronts.now in (
       rw (take_all c.fronts.front-index all (omega (arith, length-map c.args.fronts.now front_bytes, c.fronts-test.false))) at c.fronts.invariant.gathered,
       c.fronts.invariant.keeps,
       c.fronts.invariant.unfailed,
