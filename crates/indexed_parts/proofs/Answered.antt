@@ -1,7 +1,8 @@
 -- Parts that were read at the places of an index.
-use Rattle.std.proofs.Common.{◌≡◌, ℕ, ◌<◌, ◌≤◌, ◌^◌, zero, suc, true, List, [], ◌∷◌, length, get_or, Option, Some, None, sym, ap, ◌∙◌, subst, arith}
+use Rattle.std.proofs.Common.{◌≡◌, ℕ, ◌<◌, ◌≤◌, ◌^◌, zero, suc, true, List, [], ◌∷◌, length, get_or, Option, Some, None, refl, sym, ap, ◌∙◌, subst, arith}
 use Rattle.std.specs.Prelude.{IfSome, IfOk, IfErr, Result, Ok, Err}
 use Rattle.std.specs.List.{AllZip, list_any}
+use Rattle.std.proofs.lemmas.Option.{IfSome_then}
 use Rattle.std.specs.Ordering.{eq_by_cmp, is_eq}
 use Rattle.std.specs.Cmp.{tied_itself}
 use Rattle.std.specs.Cmp.Lexicographic.{nat_list_cmp_total}
@@ -23,7 +24,8 @@ use Rattle.archive_index.specs.declared.fault.PlaceFault.TheVariants.{Stale, Dev
 use Rattle.archive_index.proofs.Named.{named_there, right}
 use Rattle.archive_index.proofs.Sums.{right_length}
 use Rattle.indexed_parts.specs.InnerPlaces.{IsPartRefused}
-use Rattle.indexed_parts.specs.Places.{AreGatheredUnder, IsEntryFault, IsLengthFault}
+use Rattle.indexed_parts.specs.Places.{AreGatheredUnder, IsEntryFault, IsLengthFault, ReadsPlaces}
+use Rattle.indexed_parts.proofs.Gathered.{reads_behind}
 
 -- all entries under the front name the records of a part
 pub named_of : (whole now : Option (List ℕ)) (front : List ℕ) (s : Entries) (gathered : List (List ℕ)) (size : ℕ) (held : Operations) → size < 2 ^ 64 → now ≡ whole → HasSize whole size → IfSome whole (HasIndexedLength s)
@@ -99,16 +101,19 @@ accepted_part whole front s fault h o content is text =
     let there = subst (λ (w : Option (List ℕ)). IfSome w (λ t. IsPartRefused front s t fault)) text h in
     not_stale front o fault content (subst (λ (x : Entries). IsPartRefused front x (written o) fault) is there)
 
-module _ {V : Type 0} (content : V → Operations) (whole : Option (List ℕ)) (front : List ℕ) (s : Entries) where
-  pub right_any : (r : Result V PlaceFault) → length front ≤ 24 → IfOk r (λ v. IfSome whole (λ text. HasIndexedLength s text × AreNamed front s text (content v) × (length text < 2 ^ 64)))
-      → IfOk r (λ v. (o : Operations) → IsContent o → s ≡ index o → whole ≡ Some (written o) → content v ≡ part o (is_under front))
-  right_any (Ok v) short h = right_part whole front s (content v) short h
+module _ {P V : Type 0} (whole : P → Option (List ℕ)) (failures : P → ℕ) (old new : P) (content : V → Operations) (front : List ℕ) (s : Entries) where
+  abbrev Named : V → Type 0
+  Named v = IfSome (whole old) (λ text. HasIndexedLength s text × AreNamed front s text (content v) × (length text < 2 ^ 64))
+
+  pub right_any : (r : Result V PlaceFault) → length front ≤ 24 → ReadsPlaces whole failures old new r Named (IsPartRefused front s)
+      → IfOk r (λ v. (o : Operations) → IsContent o → s ≡ index o → whole old ≡ Some (written o) → content v ≡ part o (is_under front))
+  right_any (Ok v) short h = right_part (whole old) front s (content v) short h.0
   right_any (Err fault) short h = tt
 
-  pub accepted_any : (r : Result V PlaceFault) → IfErr r (λ fault. IfSome whole (λ text. IsPartRefused front s text fault)) → IfErr r (λ fault. (o : Operations) → IsContent o → s ≡ index o → whole ≡ Some (written o) → IsOfPlaceMachine fault)
+  pub accepted_any : (r : Result V PlaceFault) → ReadsPlaces whole failures old new r Named (IsPartRefused front s) → IfErr r (λ fault. (o : Operations) → IsContent o → s ≡ index o → whole old ≡ Some (written o) → IsOfPlaceMachine fault)
   accepted_any (Ok v) h = tt
-  accepted_any (Err fault) h = accepted_part whole front s fault h
+  accepted_any (Err fault) h = accepted_part (whole old) front s fault h.0
 
-  pub told_any : (r : Result V PlaceFault) → IfErr r (λ fault. IfSome whole (λ text. IsPartRefused front s text fault)) → IfErr r (λ fault. IfSome whole (λ text. IsPlaceFault front s text fault))
-  told_any (Ok v) h = tt
-  told_any (Err fault) h = told whole front s fault h
+  pub told_any : (r : Result V PlaceFault) → ReadsPlaces whole failures old new r Named (IsPartRefused front s)
+      → ReadsPlaces whole failures old new r (λ v. IfSome (whole old) (λ text. HasIndexedLength s text × AreNamed front s text (content v))) (IsPlaceFault front s)
+  told_any r h = reads_behind whole failures old old new refl refl _ _ r (λ v named. IfSome_then (whole old) named (λ text n. (n.0, n.1))) (λ fault f. told (whole old) front s fault f) h

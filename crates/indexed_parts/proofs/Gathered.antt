@@ -1,9 +1,10 @@
 -- Records that are gathered one after another, by the entries that name them.
 use Rattle.std.proofs.Common.{◌≡◌, ℕ, ◌+◌, ◌<◌, ◌≤◌, zero, suc, Bool, true, false, cond, ◌||◌, ◌&&◌, not, List, [], ◌∷◌, ◌++◌, length, map, take, get_or, Option, Some, None, refl, sym, ap, ◌∙◌, subst, append_assoc, arith}
-use Rattle.std.specs.Prelude.{filter, IfErr, IfSome, OnOk, Result, Ok, Err}
+use Rattle.std.specs.Prelude.{filter, IfSome, Result, Ok, Err}
 use Rattle.std.specs.List.{AllWithin, AllZip}
 use Rattle.std.proofs.lemmas.List.{append-nil, take_all}
-use Rattle.std.proofs.lemmas.List.Elements.{All-from_recursion, filter_more}
+use Rattle.std.proofs.lemmas.Option.{IfSome_then}
+use Rattle.std.proofs.lemmas.List.Elements.{All-from_recursion, AllZip-push, filter_more}
 use Rattle.std.specs.Ordering.{nat_cmp, eq_by_cmp}
 use Rattle.std.specs.Cmp.Lexicographic.{slice_cmp, nat_list_cmp_total}
 use Rattle.std.specs.List.Sorted.{IsPermutation}
@@ -19,29 +20,22 @@ use Rattle.archive_core.proofs.Taken.{IsUnderWay, taken_are_joined}
 use Rattle.archive_core.specs.Order.{made_again, contains_made}
 use Rattle.archive_index.specs.Entry.{IsPlacedEntry}
 use Rattle.archive_index.specs.Index.{AreIndexed}
-use Rattle.archive_index.specs.Places.{IsNamedBy}
+use Rattle.archive_index.specs.Places.{BlamesPlaced, IsNamedBy, entries_under}
 use Rattle.archive_index.specs.declared.fault.PlaceFault.{PlaceFault}
 use Rattle.archive_index.specs.declared.fault.PlaceFault.TheVariants.{Stale, Device, OutOfMemory}
-use Rattle.archive_index.specs.Places.{entries_under}
 use Rattle.archive_core.specs.Summary.{Entries}
 use Rattle.archive_records.proofs.Puts.{length_written}
 use Rattle.join_core.specs.Listing.{listing}
-use Rattle.indexed_parts.specs.InnerPlaces.{AreGathered, IsGathered, IsStaleAmong}
-use Rattle.indexed_parts.specs.Places.{AreGatheredUnder, IsEntryFault}
+use Rattle.indexed_parts.specs.InnerPlaces.{AreGathered, IsGathered, IsStaleAmong, IsUnnamed}
+use Rattle.indexed_parts.specs.Places.{AreGatheredUnder, IsEntryFault, ReadsPlaces}
 use Rattle.indexed_parts.specs.InnerRuns.{is_tagged}
 use Rattle.indexed_parts.proofs.Ordered.{not_second, one_of_two, two_runs}
 
 module _ (R : List ℕ → List ℕ → Type 0) where
-  push : (xs ys : List (List ℕ)) (x y : List ℕ) → AllZip R xs ys → R x y → AllZip R (xs ++ x ∷ []) (ys ++ y ∷ [])
-  push [] [] x y zip r = (r, tt)
-  push [] (z ∷ ys) x y zip r = absurd zip
-  push (w ∷ xs) [] x y zip r = absurd zip
-  push (w ∷ xs) (z ∷ ys) x y zip r = (zip.0, push xs ys x y zip.1 r)
-
   picked : (p : List ℕ → Bool) (xs : List (List ℕ)) (i : ℕ) (x : List ℕ) (ys : List (List ℕ)) (y : List ℕ) → i < length xs → x ≡ get_or xs i [] → p x ≡ true → AllZip R (filter p (take i xs)) ys → R x y → AllZip R (filter p (take (i + 1) xs)) (ys ++ y ∷ [])
   picked p xs i x ys y lt is passes zip r =
       let one : cond (p (get_or xs i [])) (get_or xs i [] ∷ []) [] ≡ x ∷ [] = ap (λ (z : List ℕ). cond (p z) (z ∷ []) []) (sym is) ∙ ap (λ (b : Bool). cond b (x ∷ []) []) passes in
-      subst (λ (zs : List (List ℕ)). AllZip R zs (ys ++ y ∷ [])) (sym (filter_more p xs i [] lt ∙ ap (λ (zs : List (List ℕ)). filter p (take i xs) ++ zs) one)) (push (filter p (take i xs)) ys x y zip r)
+      subst (λ (zs : List (List ℕ)). AllZip R zs (ys ++ y ∷ [])) (sym (filter_more p xs i [] lt ∙ ap (λ (zs : List (List ℕ)). filter p (take i xs) ++ zs) one)) (AllZip-push R (filter p (take i xs)) ys x y zip r)
 
 -- where none passes from one place up to another, none more is kept
 past : (p : List ℕ → Bool) (xs : List (List ℕ)) (n m : ℕ) → n ≤ m → AllWithin (λ x. p x ≡ false) xs n m → filter p (take m xs) ≡ filter p (take n xs)
@@ -55,15 +49,11 @@ past p (x ∷ xs) (suc n) zero le none = absurd (omega arith)
 past p (x ∷ xs) (suc n) (suc m) le none = ap (λ (l : List (List ℕ)). cond (p x) (x ∷ l) l) (past p xs n m (omega arith) (λ k d low high. none (suc k) d (omega arith) (omega arith)))
 
 -- what follows of each text that is known
-known : (P : List ℕ → Type 0) (whole : Option (List ℕ)) → ((text : List ℕ) → P text) → IfSome whole P
+pub known : (P : List ℕ → Type 0) (whole : Option (List ℕ)) → ((text : List ℕ) → P text) → IfSome whole P
 known P None f = tt
 known P (Some text) f = f text
 
-along : (P Q : List ℕ → Type 0) (whole : Option (List ℕ)) → ((text : List ℕ) → P text → Q text) → IfSome whole P → IfSome whole Q
-along P Q None f a = tt
-along P Q (Some text) f a = f text a
-
-along_both : (P Q R : List ℕ → Type 0) (whole : Option (List ℕ)) → ((text : List ℕ) → P text → Q text → R text) → IfSome whole P → IfSome whole Q → IfSome whole R
+pub along_both : (P Q R : List ℕ → Type 0) (whole : Option (List ℕ)) → ((text : List ℕ) → P text → Q text → R text) → IfSome whole P → IfSome whole Q → IfSome whole R
 along_both P Q R None f a b = tt
 along_both P Q R (Some text) f a b = f text a b
 
@@ -94,7 +84,7 @@ module _ (whole : Option (List ℕ)) (p : List ℕ → Bool) (entries : List (Li
   pub gathered_rest : (n m : ℕ) (old new : List (List ℕ)) → n ≤ m → AllWithin (λ x. p x ≡ false) entries n m → AreGathered whole p entries n old new → AreGathered whole p entries m old new
   gathered_rest n m old new le none before = record {
     records = before.records;
-    named = along (Named n before.records) (Named m before.records) whole (λ text zip. subst (λ (xs : List (List ℕ)). AllZip (IsNamedBy text) xs before.records) (sym (past p entries n m le none)) zip) before.named;
+    named = IfSome_then whole before.named (λ text zip. subst (λ (xs : List (List ℕ)). AllZip (IsNamedBy text) xs before.records) (sym (past p entries n m le none)) zip);
     behind = before.behind;
   }
 
@@ -116,21 +106,22 @@ partner R p (x ∷ xs) ys (suc n) (suc j) zip below lt passes =
     by rest true (z ∷ zs) both = rest zs both.1
     by rest false zs z = rest zs z
 
-abbrev Unnamed : List ℕ → List ℕ → Type 0
-Unnamed x text = false ≡ false → (r : List ℕ) → IsNamedBy text x r → ⊥
-
 -- where no record is that an entry names, and each before it that passes names one
-pub stale_at : (whole now : Option (List ℕ)) (p : List ℕ → Bool) (entries : List (List ℕ)) (i : ℕ) (x : List ℕ) (old new : List (List ℕ)) → i < length entries → x ≡ get_or entries i [] → p x ≡ true → now ≡ whole
-    → AreGathered whole p entries i old new → IfSome now (λ text. false ≡ false → (r : List ℕ) → IsNamedBy text x r → ⊥) → IfSome whole (λ text. IsStaleAmong p entries text (Stale (Some i)))
-stale_at whole now p entries i x old new lt is passes keeps before none =
-    along_both (Named whole p entries i before.records) (Unnamed x) (λ text. IsStaleAmong p entries text (Stale (Some i))) whole
-    (λ text zip h. (
+pub stale_at : (whole now : Option (List ℕ)) (p : List ℕ → Bool) (entries : List (List ℕ)) (i : ℕ) (x : List ℕ) (old new : List (List ℕ)) (fault : PlaceFault) → i < length entries → x ≡ get_or entries i [] → p x ≡ true → now ≡ whole
+    → AreGathered whole p entries i old new → IfSome now (λ text. IsUnnamed i x text fault) → IfSome whole (λ text. IsStaleAmong p entries text fault)
+stale_at whole now p entries i x old new fault lt is passes keeps before none =
+    along_both (Named whole p entries i before.records) (λ text. IsUnnamed i x text fault) (λ text. IsStaleAmong p entries text fault) whole (by fault)
+    before.named (subst (λ (w : Option (List ℕ)). IfSome w (λ text. IsUnnamed i x text fault)) keeps none)
+  where
+    by : (f : PlaceFault) (text : List ℕ) → Named whole p entries i before.records text → IsUnnamed i x text f → IsStaleAmong p entries text f
+    by (Stale told) text zip h = subst (λ (e : Option ℕ). IsStaleAmong p entries text (Stale e)) (sym h.0) (
       lt,
       ap p (sym is) ∙ passes,
-      λ r n. h refl r (subst (λ (y : List ℕ). IsNamedBy text y r) (sym is) n),
+      λ r n. h.1 r (subst (λ (y : List ℕ). IsNamedBy text y r) (sym is) n),
       λ j below there. partner (IsNamedBy text) p entries before.records i j zip below (omega arith) there,
-    ))
-    before.named (subst (λ (w : Option (List ℕ)). IfSome w (Unnamed x)) keeps none)
+    )
+    by Device text zip h = tt
+    by OutOfMemory text zip h = tt
 
 -- ---- the retirements under a front, and then the admissions
 
@@ -142,8 +133,9 @@ join R (x ∷ xs) ys (u ∷ us) vs a b = (a.0, join R xs ys us vs a.1 b)
 
 module _ (whole : Option (List ℕ)) (front : List ℕ) (entries : List (List ℕ)) (are : AreIndexed entries) (n : ℕ) (all : length entries ≤ n) where
   -- together those under it
-  gathered_both : (old mid new : List (List ℕ)) → AreGathered whole (is_tagged 1 front) entries n old mid → AreGathered whole (is_tagged 2 front) entries n mid new → AreGathered whole (is_under front) entries n old new
-  gathered_both old mid new first second =
+  pub gathered_both : (now : Option (List ℕ)) (old mid new : List (List ℕ)) → now ≡ whole → AreGathered whole (is_tagged 1 front) entries n old mid → AreGathered now (is_tagged 2 front) entries n mid new → AreGathered whole (is_under front) entries n old new
+  gathered_both now old mid new keeps first behind =
+      let second = subst (λ (w : Option (List ℕ)). AreGathered w (is_tagged 2 front) entries n mid new) keeps behind in
       let both : filter (is_tagged 1 front) (take n entries) ++ filter (is_tagged 2 front) (take n entries) ≡ filter (is_under front) (take n entries) =
       subst (λ (xs : List (List ℕ)). filter (is_tagged 1 front) xs ++ filter (is_tagged 2 front) xs ≡ filter (is_under front) xs) (sym (take_all n entries all)) (two_runs front entries are.ascending are.are) in
       record {
@@ -160,7 +152,7 @@ module _ (whole : Option (List ℕ)) (front : List ℕ) (entries : List (List �
 
   -- the first that names no record, among the retirements
   pub stale_first : (fault : PlaceFault) → IfSome whole (λ text. IsStaleAmong (is_tagged 1 front) entries text fault) → IfSome whole (λ text. IsStaleAmong (is_under front) entries text fault)
-  stale_first fault h = along (λ text. IsStaleAmong (is_tagged 1 front) entries text fault) (λ text. IsStaleAmong (is_under front) entries text fault) whole (by fault) h
+  stale_first fault h = IfSome_then whole h (by fault)
     where
       by : (f : PlaceFault) (text : List ℕ) → IsStaleAmong (is_tagged 1 front) entries text f → IsStaleAmong (is_under front) entries text f
       by (Stale None) text t = t
@@ -174,7 +166,7 @@ module _ (whole : Option (List ℕ)) (front : List ℕ) (entries : List (List �
       by OutOfMemory text t = tt
 
   -- and among the admissions, where each retirement names one
-  stale_second : (now : Option (List ℕ)) (old mid : List (List ℕ)) (fault : PlaceFault) → now ≡ whole → AreGathered whole (is_tagged 1 front) entries n old mid
+  pub stale_second : (now : Option (List ℕ)) (old mid : List (List ℕ)) (fault : PlaceFault) → now ≡ whole → AreGathered whole (is_tagged 1 front) entries n old mid
       → IfSome now (λ text. IsStaleAmong (is_tagged 2 front) entries text fault) → IfSome whole (λ text. IsStaleAmong (is_under front) entries text fault)
   stale_second now old mid fault keeps first h =
       along_both (Named whole (is_tagged 1 front) entries n first.records) (λ text. IsStaleAmong (is_tagged 2 front) entries text fault) (λ text. IsStaleAmong (is_under front) entries text fault) whole (by fault)
@@ -193,32 +185,18 @@ module _ (whole : Option (List ℕ)) (front : List ℕ) (entries : List (List �
       by Device text zip t = tt
       by OutOfMemory text zip t = tt
 
-  -- the same of what came of the admissions
-  pub both_any : {E : Type 0} (now : Option (List ℕ)) (old mid new : List (List ℕ)) (r : Result (Unit {0}) E) → now ≡ whole → AreGathered whole (is_tagged 1 front) entries n old mid
-      → OnOk r (AreGathered now (is_tagged 2 front) entries n mid new) → OnOk r (AreGathered whole (is_under front) entries n old new)
-  both_any now old mid new (Ok _) keeps first second = gathered_both old mid new first (subst (λ (w : Option (List ℕ)). AreGathered w (is_tagged 2 front) entries n mid new) keeps second)
-  both_any now old mid new (Err _) keeps first second = tt
-
-  pub stale_any : {V : Type 0} (now : Option (List ℕ)) (old mid : List (List ℕ)) (r : Result V PlaceFault) → now ≡ whole → AreGathered whole (is_tagged 1 front) entries n old mid
-      → IfErr r (λ fault. IfSome now (λ text. IsStaleAmong (is_tagged 2 front) entries text fault)) → IfErr r (λ fault. IfSome whole (λ text. IsStaleAmong (is_under front) entries text fault))
-  stale_any now old mid (Ok _) keeps first h = tt
-  stale_any now old mid (Err fault) keeps first h = stale_second now old mid fault keeps first h
-
   -- ---- under a front of an index
 
-  pub under_any : {E : Type 0} (s : Entries) (old new : List (List ℕ)) (r : Result (Unit {0}) E) → entries ≡ listing s → OnOk r (AreGathered whole (is_under front) entries n old new) → OnOk r (AreGatheredUnder whole front s old new)
-  under_any s old new (Ok _) is h = record {
+  pub under_front : (s : Entries) (old new : List (List ℕ)) → entries ≡ listing s → AreGathered whole (is_under front) entries n old new → AreGatheredUnder whole front s old new
+  under_front s old new is h = record {
     records = h.records;
-    named = along (Named whole (is_under front) entries n h.records) (λ text. AllZip (IsNamedBy text) (entries_under front s) h.records) whole
-        (λ text zip. subst (λ (xs : List (List ℕ)). AllZip (IsNamedBy text) (filter (is_under front) xs) h.records) (take_all n entries all ∙ is) zip) h.named;
+    named = IfSome_then whole h.named (λ text zip. subst (λ (xs : List (List ℕ)). AllZip (IsNamedBy text) (filter (is_under front) xs) h.records) (take_all n entries all ∙ is) zip);
     behind = h.behind;
   }
-  under_any s old new (Err _) is h = tt
 
-  fault_under : (s : Entries) (fault : PlaceFault) → entries ≡ listing s → IfSome whole (λ text. IsStaleAmong (is_under front) entries text fault) → IfSome whole (λ text. IsEntryFault front s text fault)
+  pub fault_under : (s : Entries) (fault : PlaceFault) → entries ≡ listing s → IfSome whole (λ text. IsStaleAmong (is_under front) entries text fault) → IfSome whole (λ text. IsEntryFault front s text fault)
   fault_under s fault is h =
-      along (λ text. IsStaleAmong (is_under front) (listing s) text fault) (λ text. IsEntryFault front s text fault) whole (by fault)
-      (subst (λ (xs : List (List ℕ)). IfSome whole (λ text. IsStaleAmong (is_under front) xs text fault)) is h)
+      IfSome_then whole (subst (λ (xs : List (List ℕ)). IfSome whole (λ text. IsStaleAmong (is_under front) xs text fault)) is h) (by fault)
     where
       by : (f : PlaceFault) (text : List ℕ) → IsStaleAmong (is_under front) (listing s) text f → IsEntryFault front s text f
       by (Stale None) text t = t
@@ -226,9 +204,20 @@ module _ (whole : Option (List ℕ)) (front : List ℕ) (entries : List (List �
       by Device text t = tt
       by OutOfMemory text t = tt
 
-  pub fault_any : {V : Type 0} (s : Entries) (r : Result V PlaceFault) → entries ≡ listing s → IfErr r (λ fault. IfSome whole (λ text. IsStaleAmong (is_under front) entries text fault)) → IfErr r (λ fault. IfSome whole (λ text. IsEntryFault front s text fault))
-  fault_any s (Ok _) is h = tt
-  fault_any s (Err fault) is h = fault_under s fault is h
+-- ---- behind what was read before
+
+module _ {P : Type 0} (whole : P → Option (List ℕ)) (failures : P → ℕ) (old mid new : P) (keeps : whole mid ≡ whole old) (same : failures mid ≡ failures old) where
+  -- a fault
+  pub refused_behind : {A B : Type 0} (fault : PlaceFault) → (A → B) → A × (whole new ≡ whole mid) × BlamesPlaced failures mid new fault → B × (whole new ≡ whole old) × BlamesPlaced failures old new fault
+  refused_behind (Stale entry) told h = (told h.0, h.1 ∙ keeps, h.2 ∙ same)
+  refused_behind Device told h = (told h.0, h.1 ∙ keeps, rw (← same) h.2)
+  refused_behind OutOfMemory told h = (told h.0, h.1 ∙ keeps, h.2 ∙ same)
+
+  -- a value or a fault
+  pub reads_behind : {T : Type 0} {A B : T → Type 0} (R S : List ℕ → PlaceFault → Type 0) (r : Result T PlaceFault) → ((v : T) → A v → B v) → ((f : PlaceFault) → IfSome (whole mid) (λ text. R text f) → IfSome (whole old) (λ text. S text f))
+      → ReadsPlaces whole failures mid new r A R → ReadsPlaces whole failures old new r B S
+  reads_behind R S (Ok v) made told h = (made v h.0, h.1 ∙ keeps, h.2 ∙ same)
+  reads_behind R S (Err fault) made told h = refused_behind fault (told fault) h
 
 -- ---- what was taken together
 

@@ -1,12 +1,10 @@
 -- The record that an entry names, and when none is there.
 use Rattle.std.proofs.Common.{◌≡◌, ◌≢◌, ℕ, ◌+◌, ◌-◌, ◌<◌, ◌^◌, Bool, true, false, cond, eqb, List, ◌∷◌, ◌++◌, length, take, drop, get_or, Option, Some, None, refl, sym, ap, ◌∙◌, subst, inl, inr, arith, length-drop, length-take, nat_le, ◌&&◌, eq-eqb}
-use Rattle.std.specs.Prelude.{IfSome, IfNone, IfOk, MatchOption, Result, Ok, Err}
-use Rattle.byte_device.specs.declared.reading.ReadFault.{ReadFault}
-use Rattle.archive_core.specs.declared.operations.Operation.{Operation}
+use Rattle.std.specs.Prelude.{IfSome}
 use Rattle.archive_records.proofs.Forms.{parts-of}
 use Rattle.std.specs.Int.{w64, to_be_bytes, from_be_bytes}
 use Rattle.archive_core.specs.Key.{IsKey, key_bytes}
-use Rattle.archive_core.specs.Record.{Admits, record_bytes, retirement_record}
+use Rattle.archive_core.specs.Record.{Admits, retirement_record}
 use Rattle.archive_core.specs.Content.{is_admission}
 use Rattle.archive_core.specs.declared.find.FindState.{FindState}
 use Rattle.archive_core.specs.declared.find.FindState.TheVariants.{Retired, Image, Dsym}
@@ -18,6 +16,8 @@ use Rattle.placed_bytes.specs.Places.{EndsBefore, Stands}
 use Rattle.archive_index.specs.declared.entry.PlacedEntry.{PlacedEntry}
 use Rattle.archive_index.specs.Entry.{IsPlacedEntry, length_in, offset_in, placed_bytes, placed_entry, tag_byte, dsym_byte}
 use Rattle.archive_index.specs.Places.{IsNamedBy}
+use Rattle.archive_index.specs.declared.fault.PlaceFault.TheVariants.{Stale}
+use Rattle.indexed_parts.specs.InnerPlaces.{IsUnnamed}
 use Rattle.archive_index.proofs.Entries.{length_of_bytes, offset_of_bytes}
 use Rattle.archive_index.proofs.Placed.{length_is, offset_is, tag_is}
 
@@ -60,31 +60,30 @@ admission_at text e r is offset_fits length_fits other n =
     ]
 
 -- none where fewer bytes stand
-pub none_short : (whole : Option (List ℕ)) (e : PlacedEntry) → IsPlacedEntry (placed_bytes e) → e.offset < 2 ^ 64 → e.length < 2 ^ 64 → e.row.state ≢ Retired → EndsBefore whole (e.offset + e.length)
-    → IfSome whole (λ text. (r : List ℕ) → IsNamedBy text (placed_bytes e) r → ⊥)
-none_short None e is offset_fits length_fits other ends = tt
-none_short (Some text) e is offset_fits length_fits other ends = λ r n.
-    let at = admission_at text e r is offset_fits length_fits other n in
-    omega (arith, at.long, ap length at.stands, length-take (length r) (drop e.offset text), length-drop e.offset text, ends, nonempty_admission at.admits)
+pub none_short : (whole : Option (List ℕ)) (number : ℕ) (e : PlacedEntry) → IsPlacedEntry (placed_bytes e) → e.offset < 2 ^ 64 → e.length < 2 ^ 64 → e.row.state ≢ Retired → EndsBefore whole (e.offset + e.length)
+    → IfSome whole (λ text. IsUnnamed number (placed_bytes e) text (Stale (Some number)))
+none_short None number e is offset_fits length_fits other ends = tt
+none_short (Some text) number e is offset_fits length_fits other ends = (
+  refl,
+  λ r n.
+      let at = admission_at text e r is offset_fits length_fits other n in
+      omega (arith, at.long, ap length at.stands, length-take (length r) (drop e.offset text), length-drop e.offset text, ends, nonempty_admission at.admits),
+)
   where
     nonempty_admission : {r : List ℕ} → Admits r → 0 < length r
     nonempty_admission {r = r} a = omega (arith, ap length a.is)
 
 -- none where other bytes stand
-pub none_other : (whole : Option (List ℕ)) (e : PlacedEntry) (bytes : List ℕ) → IsPlacedEntry (placed_bytes e) → e.offset < 2 ^ 64 → e.length < 2 ^ 64 → e.row.state ≢ Retired → length bytes ≡ e.length → Stands whole e.offset bytes
-    → (Admits bytes → placed_bytes e ≡ placed_entry e.offset bytes → ⊥) → IfSome whole (λ text. (r : List ℕ) → IsNamedBy text (placed_bytes e) r → ⊥)
-none_other None e bytes is offset_fits length_fits other long stands not = tt
-none_other (Some text) e bytes is offset_fits length_fits other long stands not = λ r n.
-    let at = admission_at text e r is offset_fits length_fits other n in
-    let same : r ≡ bytes = sym at.stands ∙ ap (λ (k : ℕ). take k (drop e.offset text)) (at.long ∙ sym long) ∙ stands in
-    not (subst Admits same at.admits) (at.entry_is ∙ (λ i. placed_entry (at.offset_is i) (same i)))
-
--- the one that stands there
-pub named_admission : (whole : Option (List ℕ)) (e : PlacedEntry) (bytes r : List ℕ) → e.offset < 2 ^ 64 → length bytes ≡ e.length → Stands whole e.offset bytes → Admits bytes → placed_bytes e ≡ placed_entry e.offset bytes → r ≡ bytes
-    → IfSome whole (λ text. IsNamedBy text (placed_bytes e) r)
-named_admission None e bytes r fits long stands a is same = tt
-named_admission (Some text) e bytes r fits long stands a is same =
-    subst (IsNamedBy text (placed_bytes e)) (sym same) (record { is = inl a; offset = e.offset; fits = fits; entry_is = is; stands = λ _. stands })
+pub none_other : (whole : Option (List ℕ)) (number : ℕ) (e : PlacedEntry) (bytes : List ℕ) → IsPlacedEntry (placed_bytes e) → e.offset < 2 ^ 64 → e.length < 2 ^ 64 → e.row.state ≢ Retired → length bytes ≡ e.length → Stands whole e.offset bytes
+    → (Admits bytes → placed_bytes e ≡ placed_entry e.offset bytes → ⊥) → IfSome whole (λ text. IsUnnamed number (placed_bytes e) text (Stale (Some number)))
+none_other None number e bytes is offset_fits length_fits other long stands not = tt
+none_other (Some text) number e bytes is offset_fits length_fits other long stands not = (
+  refl,
+  λ r n.
+      let at = admission_at text e r is offset_fits length_fits other n in
+      let same : r ≡ bytes = sym at.stands ∙ ap (λ (k : ℕ). take k (drop e.offset text)) (at.long ∙ sym long) ∙ stands in
+      not (subst Admits same at.admits) (at.entry_is ∙ (λ i. placed_entry (at.offset_is i) (same i))),
+)
 
 -- a retirement is in its entry
 retired_length : (e : PlacedEntry) → IsPlacedEntry (placed_bytes e) → e.length < 2 ^ 64 → e.row.state ≡ Retired → e.length ≡ 57
@@ -127,16 +126,3 @@ claims_long bytes n a is fails =
   where
     unequal : (b : Bool) → b ≡ true → b ≡ false → ⊥
     unequal b e f = cc
-
--- what was read and tested is what the entry names
-pub named_from : (whole : Option (List ℕ)) (e : PlacedEntry) (bytes : List ℕ) (r : Result (Option Operation) ReadFault) → IsPlacedEntry (placed_bytes e) → e.offset < 2 ^ 64 → e.length < 2 ^ 64 → e.row.state ≢ Retired → length bytes ≡ e.length → Stands whole e.offset bytes
-    → IfOk r (λ found. IfSome found (λ operation. record_bytes operation ≡ bytes)) → IfOk r (λ found. IfSome found (λ _. Admits bytes × (placed_bytes e ≡ placed_entry e.offset bytes)))
-    → IfOk r (λ found. IfNone found (Admits bytes → placed_bytes e ≡ placed_entry e.offset bytes → ⊥))
-    → IfOk r (λ found. IfSome whole (λ text. MatchOption found ((s : List ℕ) → IsNamedBy text (placed_bytes e) s → ⊥) (λ operation. IsNamedBy text (placed_bytes e) (record_bytes operation))))
-named_from whole e bytes (Err fault) is offset_fits length_fits other long stands found named none = tt
-named_from whole e bytes (Ok None) is offset_fits length_fits other long stands found named none = none_other whole e bytes is offset_fits length_fits other long stands none
-named_from whole e bytes (Ok (Some operation)) is offset_fits length_fits other long stands found named none = named_admission whole e bytes (record_bytes operation) offset_fits long stands named.0 named.1 found
-
-pub some_along : (whole : Option (List ℕ)) (e : PlacedEntry) (r s : List ℕ) → r ≡ s → IfSome whole (λ text. IsNamedBy text (placed_bytes e) s) → IfSome whole (λ text. IsNamedBy text (placed_bytes e) r)
-some_along None e r s same named = tt
-some_along (Some text) e r s same named = subst (IsNamedBy text (placed_bytes e)) (sym same) named

@@ -23,6 +23,7 @@ use Rattle.archive_core.proofs.Made.{and_left, and_right, bytes_same, by_test, e
 use Rattle.archive_index.specs.declared.entry.PlacedEntry.{PlacedEntry}
 use Rattle.archive_index.specs.Entry.{IsPlacedEntry, placed_bytes}
 use Rattle.archive_index.specs.Index.{AreIndexed}
+use Rattle.archive_index.proofs.Texts.{bytes_at}
 use Rattle.indexed_parts.specs.InnerRuns.{IsRun, is_tagged}
 
 abbrev order : List ℕ → List ℕ → Ordering
@@ -131,12 +132,14 @@ run_found tag front xs start stop are start_in stop_in first second =
     }
 
 -- an entry of a run, among all
-pub in_run : (xs : List PlacedEntry) (start stop i : ℕ) (e : PlacedEntry) → i < length (take (stop - start) (drop start xs)) → e ≡ get_or (take (stop - start) (drop start xs)) i e → (start + i < stop) × (start + i < length xs) × (e ≡ get_or xs (start + i) e)
+pub in_run : (xs : List PlacedEntry) (start stop i : ℕ) (e : PlacedEntry) → i < length (take (stop - start) (drop start xs)) → e ≡ get_or (take (stop - start) (drop start xs)) i e → (start + i < stop) × (start + i < length xs) × (e ≡ get_or xs (start + i) e) × (placed_bytes e ≡ get_or (map placed_bytes xs) (start + i) [])
 in_run xs start stop i e lt is =
     let long = length-take (stop - start) (drop start xs) in
     let all = length-drop start xs in
     let within : i < stop - start = omega (arith, long, lt) in
-    (omega (arith, within), omega (arith, long, all, lt), is ∙ get_or-take (stop - start) (drop start xs) i e within ∙ get_or-drop start xs i e)
+    let at = is ∙ get_or-take (stop - start) (drop start xs) i e within ∙ get_or-drop start xs i e in
+    let below : start + i < length xs = omega (arith, long, all, lt) in
+    (omega (arith, within), below, at, bytes_at xs (start + i) e (placed_bytes e) below at refl)
 
 pub length_run : (xs : List PlacedEntry) (start stop : ℕ) → start ≤ stop → stop ≤ length xs → length (take (stop - start) (drop start xs)) ≡ stop - start
 length_run xs start stop ordered within = length-take-le (stop - start) (drop start xs) (omega (arith, length-drop start xs, ordered, within))

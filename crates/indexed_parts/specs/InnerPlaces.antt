@@ -3,8 +3,6 @@
 use Rattle.std.specs.Prelude.{◌≡◌, ◌<◌, ◌^◌, ℕ, Bool, true, List, [], ◌∷◌, ◌++◌, length, take, filter}
 use Rattle.std.specs.Prelude.{slice_index_or, Option, Some, None, IfSome}
 use Rattle.std.specs.List.{AllZip}
-use Rattle.byte_device.specs.declared.reading.ReadFault.{ReadFault}
-use Rattle.byte_device.specs.declared.reading.ReadFault.TheVariants.{Device as Read_device, OutOfMemory as Read_memory}
 use Rattle.archive_index.specs.declared.fault.PlaceFault.{PlaceFault}
 use Rattle.archive_index.specs.declared.fault.PlaceFault.TheVariants.{Stale, Device, OutOfMemory}
 use Rattle.archive_core.specs.Summary.{Entries}
@@ -24,10 +22,11 @@ pub record AreGathered (whole : Option (List ℕ)) (passes : List ℕ → Bool) 
   pub named : IfSome whole (λ text. AllZip (IsNamedBy text) (filter passes (take n entries)) records)
   pub behind : new ≡ old ++ records
 
--- why bytes were not read
-abbrev pub place_fault : ReadFault → PlaceFault
-place_fault Read_device = Device
-place_fault Read_memory = OutOfMemory
+-- the entry with this number names no record of the text
+abbrev pub IsUnnamed : ℕ → List ℕ → List ℕ → PlaceFault → Type 0
+IsUnnamed number entry text (Stale told) = (told ≡ Some number) × ((r : List ℕ) → IsNamedBy text entry r → ⊥)
+IsUnnamed number entry text Device = Unit {0}
+IsUnnamed number entry text OutOfMemory = Unit {0}
 
 -- at the place of this entry, which passes, stands no record that it names, and it is the first such
 abbrev pub IsStaleAmong : (List ℕ → Bool) → List (List ℕ) → List ℕ → PlaceFault → Type 0

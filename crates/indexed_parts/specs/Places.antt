@@ -1,10 +1,19 @@
 -- What is gathered at the places that an index names.
-use Rattle.std.specs.Prelude.{◌≡◌, ◌<◌, ◌^◌, ℕ, List, ◌++◌, length, Option, Some, None, IfSome}
+use Rattle.std.specs.Prelude.{◌≡◌, ◌<◌, ◌^◌, ℕ, List, ◌++◌, length, Option, Some, None, IfSome, Result, Ok, Err}
 use Rattle.std.specs.List.{AllZip}
 use Rattle.archive_core.specs.Summary.{Entries}
 use Rattle.archive_index.specs.declared.fault.PlaceFault.{PlaceFault}
 use Rattle.archive_index.specs.declared.fault.PlaceFault.TheVariants.{Stale, Device, OutOfMemory}
-use Rattle.archive_index.specs.Places.{IsNamedBy, HasIndexedLength, IsStale, entries_under}
+use Rattle.archive_index.specs.Places.{BlamesPlaced, IsNamedBy, HasIndexedLength, IsStale, entries_under}
+
+-- What comes of reading at places of a device that keeps its bytes: a value of which this is true, with no failure; or
+-- a fault, which tells whether the device failed, and of which this is true where the bytes are known.
+abbrev pub ReadsPlaces : {P T : Type 0} → (P → Option (List ℕ)) → (P → ℕ) → P → P → Result T PlaceFault
+    → (T → Type 0) → (List ℕ → PlaceFault → Type 0) → Type 0
+ReadsPlaces whole failures old new (Ok value) IsTrue IsRefused =
+    IsTrue value × (whole new ≡ whole old) × (failures new ≡ failures old)
+ReadsPlaces whole failures old new (Err fault) IsTrue IsRefused =
+    IfSome (whole old) (λ text. IsRefused text fault) × (whole new ≡ whole old) × BlamesPlaced failures old new fault
 
 -- Each entry under the front names one of these records, in their order, and they stand behind what was gathered.
 pub record AreGatheredUnder (whole : Option (List ℕ)) (front : List ℕ) (entries : Entries) (old new : List (List ℕ))

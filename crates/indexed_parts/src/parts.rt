@@ -1,7 +1,7 @@
 //! The records under a UUID or a key.
 
 ghost use Rattle.std.specs.Prelude.{◌≡◌, ◌+◌, ◌≤◌, ◌<◌, ◌^◌, ◌↔◌, Some, length, map};
-ghost use Rattle.std.specs.Prelude.{IfOk, IfErr, IfSome, IsTrue, MatchResult, OnOk};
+ghost use Rattle.std.specs.Prelude.{IfOk, IfErr, IfSome, IsTrue, OnOk};
 ghost use Rattle.std.specs.FinSet as set;
 ghost use Rattle.archive_core.specs.Content.{Operations, IsContent, content_of, with_records};
 ghost use Rattle.archive_core.specs.Part.{is_under, part};
@@ -11,10 +11,9 @@ ghost use Rattle.byte_device.specs.Devices.{CountsFailure};
 ghost use Rattle.placed_bytes.specs.Places.{HasSize};
 ghost use Rattle.archive_index.specs.Entry.{placed_bytes};
 ghost use Rattle.archive_index.specs.Index.{index, lengths_of};
-ghost use Rattle.archive_index.specs.Places.{AreNamed, BlamesPlaced, HasIndexedLength};
-ghost use Rattle.archive_index.specs.Places.{IsOfPlaceMachine, IsPlaceFault};
+ghost use Rattle.archive_index.specs.Places.{AreNamed, HasIndexedLength, IsOfPlaceMachine, IsPlaceFault};
 ghost use Rattle.indexed_parts.specs.InnerPlaces.{IsPartRefused};
-ghost use Rattle.indexed_parts.specs.Places.{IsLengthFault};
+ghost use Rattle.indexed_parts.specs.Places.{IsLengthFault, ReadsPlaces};
 
 use crate::gathering::gather_at;
 use archive_core::{Archive, Operation};
@@ -65,13 +64,9 @@ pub fn has_length<P: Placed>(entries: &Index, archive: &mut P) -> Result<bool, F
 ///
 /// `Stale` where the archive has another length; `Device`.
 pub fn indexed_size<P: Placed>(entries: &Index, archive: &mut P) -> Result<u64, PlaceFault>
-    ensures size { IfOk result (λ size. HasSize (P.whole archive.old) size) }
-    ensures right { OnOk result (IfSome (P.whole archive.old) (HasIndexedLength entries.now)) }
-    ensures refused { IfErr result (λ fault. IfSome (P.whole archive.old) (λ text.
-        IsLengthFault entries.now text fault)) }
-    ensures keeps { P.whole archive.new ≡ P.whole archive.old }
-    ensures unfailed { OnOk result (P.failures archive.new ≡ P.failures archive.old) }
-    ensures blames { IfErr result (λ fault. BlamesPlaced P.failures archive.old archive.new fault) }
+    ensures { ReadsPlaces P.whole P.failures archive.old archive.new result
+        (λ size. HasSize (P.whole archive.old) size × IfSome (P.whole archive.old) (HasIndexedLength entries.now))
+        (IsLengthFault entries.now) }
 {
     let Ok(size) = archive.size() else {
         return Err(PlaceFault::Device);
@@ -118,13 +113,10 @@ fn part_named<A: Archive + Drop, P: Placed>(
     archive: &mut P,
 ) -> Result<A, PlaceFault>
     requires { length front.now ≤ 24 }
-    ensures named { IfOk result (λ part. IfSome (P.whole archive.old) (λ text. HasIndexedLength entries.now text
-        × AreNamed front.now entries.now text (A.content part) × (length text < 2 ^ 64))) }
-    ensures refused { IfErr result (λ fault. IfSome (P.whole archive.old) (λ text.
-        IsPartRefused front.now entries.now text fault)) }
-    ensures keeps { P.whole archive.new ≡ P.whole archive.old }
-    ensures unfailed { OnOk result (P.failures archive.new ≡ P.failures archive.old) }
-    ensures blames { IfErr result (λ fault. BlamesPlaced P.failures archive.old archive.new fault) }
+    ensures { ReadsPlaces P.whole P.failures archive.old archive.new result
+        (λ part. IfSome (P.whole archive.old) (λ text. HasIndexedLength entries.now text
+        × AreNamed front.now entries.now text (A.content part) × (length text < 2 ^ 64)))
+        (IsPartRefused front.now entries.now) }
 {
     let size = indexed_size(entries, archive)?;
     let Ok(kept) = heap.clone() else {
@@ -155,19 +147,15 @@ pub fn part_at<A: Archive + Drop, P: Placed>(
     requires { length front.now ≤ 24 }
 
     // Whatever bytes the archive has, what is told are records that stand at the places that the index names.
-    ensures named { IfOk result (λ part. IfSome (P.whole archive.old) (λ text. HasIndexedLength entries.now text
-        × AreNamed front.now entries.now text (A.content part))) }
+    ensures named { ReadsPlaces P.whole P.failures archive.old archive.new result
+        (λ part. IfSome (P.whole archive.old) (λ text. HasIndexedLength entries.now text
+        × AreNamed front.now entries.now text (A.content part))) (IsPlaceFault front.now entries.now) }
 
     // With the index of this very archive it is the part of its content, and no text is refused.
     ensures right { IfOk result (λ made. (o : Operations) → IsContent o → entries.now ≡ index o
         → P.whole archive.old ≡ Some (written o) → A.content made ≡ part o (is_under front.now)) }
     ensures accepted { IfErr result (λ fault. (o : Operations) → IsContent o → entries.now ≡ index o
         → P.whole archive.old ≡ Some (written o) → IsOfPlaceMachine fault) }
-    ensures refused { IfErr result (λ fault. IfSome (P.whole archive.old) (λ text.
-        IsPlaceFault front.now entries.now text fault)) }
-    ensures keeps { P.whole archive.new ≡ P.whole archive.old }
-    ensures blames { MatchResult result (λ _. P.failures archive.new ≡ P.failures archive.old)
-        (λ fault. BlamesPlaced P.failures archive.old archive.new fault) }
 {
     part_named(heap, front, entries, archive)
 }

@@ -1,7 +1,7 @@
 //! The record at the place of an entry.
 
-ghost use Rattle.std.specs.Prelude.{◌≡◌, ◌≢◌, ◌+◌, ◌≤◌, ◌↔◌, ℕ, List, Err, true, false, length, take, drop};
-ghost use Rattle.std.specs.Prelude.{slice_index, IfErr, IfNone, IfOk, IfSome, IsTrue, MatchOption, OnOk};
+ghost use Rattle.std.specs.Prelude.{◌≡◌, ◌≢◌, ◌+◌, ◌≤◌, ◌↔◌, Err, true, false, length, take, drop};
+ghost use Rattle.std.specs.Prelude.{slice_index, IfNone, IfOk, IfSome, IsTrue, MatchOption, OnOk};
 ghost use Rattle.std.specs.Int.{w64, from_be_bytes};
 ghost use Rattle.archive_core.specs.Key.{IsKey, key_bytes};
 ghost use Rattle.archive_core.specs.Record.{Admits, lent_bytes, record_bytes, retirement_record};
@@ -10,9 +10,11 @@ ghost use Rattle.byte_device.specs.Devices.{FailedIn};
 ghost use Rattle.placed_bytes.specs.Places.{EndsBefore, HasSize, Stands};
 ghost use Rattle.archive_index.specs.Entry.{IsPlacedEntry, placed_bytes, placed_entry};
 ghost use Rattle.archive_index.specs.Places.{IsNamedBy};
+ghost use Rattle.indexed_parts.specs.InnerPlaces.{IsUnnamed};
+ghost use Rattle.indexed_parts.specs.Places.{ReadsPlaces};
 
 use archive_core::{Digest, FindState, Operation, Record, Slice, SliceKey};
-use archive_index::PlacedEntry;
+use archive_index::{PlaceFault, PlacedEntry};
 use archive_records::{ADMISSION_HEAD_LEN, key_front};
 use byte_device::ReadFault;
 use byteorder::{BigEndian, ByteOrder};
@@ -91,7 +93,7 @@ fn is_of(entry: &PlacedEntry, bytes: &[u8], record: &Record<'_>) -> bool
 /// The operation of the admission that these bytes are, if they are the record that the entry is of. The slice is
 /// hashed, and copied.
 fn admission_of(
-    heap: Heap,
+    heap: &Heap,
     entry: &PlacedEntry,
     bytes: &[u8],
 ) -> Result<Option<Operation>, NoMemory>
@@ -105,7 +107,7 @@ fn admission_of(
         return Ok(None);
     };
     if is_of(entry, bytes, &record) {
-        Ok(Some(record.copy(heap)?))
+        Ok(Some(record.copy(heap.clone()?)?))
     } else {
         Ok(None)
     }
@@ -168,57 +170,38 @@ fn retirement(key: SliceKey, digest: Digest) -> Operation
     Operation::Retire(key, digest)
 }
 
-/// The operation that an entry names: a retirement is the entry's own, and an admission stands at its place. None where
-/// no such stands there.
+/// The operation that the entry with this number names: a retirement is the entry's own, and an admission stands at its
+/// place. Else the entry is stale.
 pub(crate) fn operation_at<P: Placed>(
     heap: &Heap,
     archive: &mut P,
     size: u64,
+    number: u64,
     entry: &PlacedEntry,
-) -> Result<Option<Operation>, ReadFault>
+) -> Result<Operation, PlaceFault>
     requires size { HasSize (P.whole archive.old) size }
     requires entry { IsPlacedEntry (placed_bytes entry.now) }
-    ensures named { IfOk result (λ found. IfSome (P.whole archive.old) (λ text. MatchOption found
-        ((r : List ℕ) → IsNamedBy text (placed_bytes entry.now) r → ⊥)
-        (λ operation. IsNamedBy text (placed_bytes entry.now) (record_bytes operation)))) }
-    ensures keeps { P.whole archive.new ≡ P.whole archive.old }
-    ensures unfailed { OnOk result (P.failures archive.new ≡ P.failures archive.old) }
-    ensures device { result ≡ Err ReadFault.Device → FailedIn (P.failures archive.old) (P.failures archive.new) }
-    ensures memory { result ≡ Err ReadFault.OutOfMemory → P.failures archive.new ≡ P.failures archive.old }
+    ensures { ReadsPlaces P.whole P.failures archive.old archive.new result
+        (λ operation. IfSome (P.whole archive.old) (λ text. IsNamedBy text (placed_bytes entry.now)
+        (record_bytes operation))) (IsUnnamed number (placed_bytes entry.now)) }
 {
     let _offset = offset_of(entry);
     let _length = length_of(entry);
     if is_retirement(entry.row.state) {
-        return Ok(Some(retirement(entry.row.key, entry.row.digest)));
+        return Ok(retirement(entry.row.key, entry.row.digest));
     }
     let Ok(place) = heap.clone() else {
-        return Err(ReadFault::OutOfMemory);
+        return Err(PlaceFault::OutOfMemory);
     };
-    match bytes_at(place, archive, size, entry) {
-        Ok(Some(bytes)) => admission_from(heap, entry, &bytes),
-        Ok(None) => Ok(None),
-        Err(fault) => Err(fault),
-    }
-}
-
-/// The same as `admission_of`, with memory that it takes for itself.
-fn admission_from(
-    heap: &Heap,
-    entry: &PlacedEntry,
-    bytes: &[u8],
-) -> Result<Option<Operation>, ReadFault>
-    ensures found { IfOk result (λ found. IfSome found (λ operation. record_bytes operation ≡ bytes.now)) }
-    ensures named { IfOk result (λ found. IfSome found (λ _. Admits bytes.now
-        × (placed_bytes entry.now ≡ placed_entry entry.now.offset bytes.now))) }
-    ensures none { IfOk result (λ found. IfNone found (Admits bytes.now
-        → placed_bytes entry.now ≡ placed_entry entry.now.offset bytes.now → ⊥)) }
-    ensures memory { IfErr result (λ fault. fault ≡ ReadFault.OutOfMemory) }
-{
-    let Ok(kept) = heap.clone() else {
-        return Err(ReadFault::OutOfMemory);
+    let bytes = match bytes_at(place, archive, size, entry) {
+        Ok(Some(bytes)) => bytes,
+        Ok(None) => return Err(PlaceFault::Stale(Some(number))),
+        Err(ReadFault::Device) => return Err(PlaceFault::Device),
+        Err(ReadFault::OutOfMemory) => return Err(PlaceFault::OutOfMemory),
     };
-    match admission_of(kept, entry, bytes) {
-        Ok(found) => Ok(found),
-        Err(NoMemory) => Err(ReadFault::OutOfMemory),
+    match admission_of(heap, entry, &bytes) {
+        Ok(Some(operation)) => Ok(operation),
+        Ok(None) => Err(PlaceFault::Stale(Some(number))),
+        Err(NoMemory) => Err(PlaceFault::OutOfMemory),
     }
 }

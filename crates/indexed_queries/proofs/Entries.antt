@@ -1,12 +1,12 @@
 -- What an entry tells, as a row and as the entry of a summary; and entries that are gone through one after another.
-use Rattle.std.proofs.Common.{◌≡◌, ℕ, ◌+◌, ◌-◌, ◌<◌, ◌^◌, Bool, true, false, cond, ◌||◌, List, [], ◌∷◌, ◌++◌, length, map, take, drop, get_or, ◌⊎◌, refl, sym, ap, ◌∙◌, subst, inl, inr, arith, add-one, length-append, length-take, append_assoc, eqb}
+use Rattle.std.proofs.Common.{◌≡◌, ℕ, ◌+◌, ◌-◌, ◌<◌, ◌^◌, Bool, true, false, cond, ◌||◌, List, [], ◌∷◌, ◌++◌, length, map, take, drop, get_or, ◌⊎◌, refl, sym, ap, ◌∙◌, subst, inl, inr, arith, length-append, length-take, append_assoc, eqb}
 use Rattle.std.specs.Prelude.{filter}
 use Rattle.std.specs.Int.{w64, to_be_bytes}
 use Rattle.std.specs.List.{AllByRecursion, AllZip}
 use Rattle.std.specs.List.Sorted.{IsSortedBy}
 use Rattle.std.proofs.Math.ListN.{length-map}
-use Rattle.std.proofs.Math.Seq.{take-append_seam, drop-append_seam, get_or-append_right, take-suc}
-use Rattle.std.proofs.lemmas.List.{map-append, append-nil, get_or-map}
+use Rattle.std.proofs.Math.Seq.{take-append_seam, drop-append_seam, get_or-append_right}
+use Rattle.std.proofs.lemmas.List.{map-append, append-nil, get_or-map, take_more}
 use Rattle.std.proofs.lemmas.List.Elements.{filter_more}
 use Rattle.std.proofs.lemmas.Bool.{eqb-true}
 use Rattle.archive_core.specs.Key.{IsKey, key_bytes}
@@ -102,9 +102,6 @@ are_entries (e ∷ es) all = (is_entry e all.0, are_entries es all.1)
 
 -- ---- entries one after another
 
-take_one : (xs : List (List ℕ)) (i : ℕ) → i < length xs → take (i + 1) xs ≡ take i xs ++ get_or xs i [] ∷ []
-take_one xs i lt = ap (λ (n : ℕ). take n xs) (add-one i) ∙ take-suc xs i [] lt
-
 module _ (entries : List PlacedEntry) (i : ℕ) (e : PlacedEntry) (lt : i < length entries) (is : e ≡ get_or entries i e) where
   abbrev all : List (List ℕ)
   all = map placed_bytes entries
@@ -134,14 +131,14 @@ module _ (entries : List PlacedEntry) (i : ℕ) (e : PlacedEntry) (lt : i < leng
   pub one_row : (rows after : List FindRow) (row : FindRow) → after ≡ rows ++ row ∷ [] → IsEntryRow (placed_bytes e) row → AllZip IsEntryRow (take i all) rows → AllZip IsEntryRow (take (i + 1) all) after
   one_row rows after row grown told each =
       subst (λ (rs : List FindRow). AllZip IsEntryRow (take (i + 1) all) rs) (sym grown)
-      (subst (λ (es : List (List ℕ)). AllZip IsEntryRow es (rows ++ row ∷ [])) (sym (take_one all i within))
+      (subst (λ (es : List (List ℕ)). AllZip IsEntryRow es (rows ++ row ∷ [])) (sym (take_more all i [] within))
       (pairs_more IsEntryRow (take i all) rows (get_or all i []) row each (subst (λ (x : List ℕ). IsEntryRow x row) at told)))
 
   -- one more entry of a summary
   pub one_front : {X : Type 0} (bytes_of : X → List ℕ) (made after : List X) (x : X) → after ≡ made ++ x ∷ [] → bytes_of x ≡ take 57 (placed_bytes e) → map bytes_of made ≡ map (take 57) (take i all) → map bytes_of after ≡ map (take 57) (take (i + 1) all)
   one_front bytes_of made after x grown of same =
       ap (map bytes_of) grown ∙ map-append bytes_of made (x ∷ []) ∙ (λ j. same j ++ (of ∙ ap (take 57) at) j ∷ [])
-      ∙ sym (ap (map (take 57)) (take_one all i within) ∙ map-append (take 57) (take i all) (get_or all i [] ∷ []))
+      ∙ sym (ap (map (take 57)) (take_more all i [] within) ∙ map-append (take 57) (take i all) (get_or all i [] ∷ []))
 
 -- what is sorted by what is made of it
 pub sorted_made : {X Y : Type 0} (f : X → Y) (less : Y → Y → Bool) (xs : List X) → IsSortedBy (λ a b. less (f a) (f b)) xs → IsSortedBy less (map f xs)

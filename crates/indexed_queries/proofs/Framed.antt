@@ -1,9 +1,8 @@
 -- Frames, and the keys that they have.
-use Rattle.std.proofs.Common.{◌≡◌, ℕ, ◌+◌, ◌<◌, List, [], ◌∷◌, ◌++◌, length, map, take, get_or, Ok, Err, refl, sym, ap, ◌∙◌, subst, inl, inr, arith, add-one, if◌then◌else◌}
+use Rattle.std.proofs.Common.{◌≡◌, ℕ, ◌+◌, ◌<◌, List, [], ◌∷◌, ◌++◌, length, map, take, get_or, Ok, Err, refl, sym, ap, ◌∙◌, subst, inl, inr, arith, if◌then◌else◌}
 use Rattle.std.specs.List.{AllZip}
 use Rattle.std.proofs.Math.ListN.{length-map}
-use Rattle.std.proofs.Math.Seq.{take-suc}
-use Rattle.std.proofs.lemmas.List.{get_or-map, flat_map_more}
+use Rattle.std.proofs.lemmas.List.{get_or-map, flat_map_more, take_more}
 use Rattle.archive_core.specs.Content.{Operations, HaveSameMembers}
 use Rattle.archive_core.specs.Key.{key_bytes}
 use Rattle.archive_core.specs.Lookup.{IsAnswer, answer_view}
@@ -37,12 +36,12 @@ keys_more fronts after frames i frame lt is grown same =
     let within : i < length (keys_of frames) = omega (arith, lt, length-map frames key_of) in
     grown ∙ ap (λ (l : List (List ℕ)). l ++ key_bytes frame.key ∷ []) same
     ∙ ap (λ (k : List ℕ). take i (keys_of frames) ++ k ∷ []) (sym (get_or-map key_of frames i frame [] lt ∙ ap key_of (sym is)))
-    ∙ sym (ap (λ (n : ℕ). take n (keys_of frames)) (add-one i) ∙ take-suc (keys_of frames) i [] within)
+    ∙ sym (take_more (keys_of frames) i [] within)
 
 -- ---- answers
 
 take_frame : (frames : List Frame) (i : ℕ) (frame : Frame) → i < length frames → frame ≡ get_or frames i frame → take (i + 1) frames ≡ take i frames ++ frame ∷ []
-take_frame frames i frame lt is = ap (λ (n : ℕ). take n frames) (add-one i) ∙ take-suc frames i frame lt ∙ ap (λ (f : Frame). take i frames ++ f ∷ []) (sym is)
+take_frame frames i frame lt is = take_more frames i frame lt ∙ ap (λ (f : Frame). take i frames ++ f ∷ []) (sym is)
 
 pub more_framed : (content : Operations) (frames : List Frame) (i : ℕ) (frame : Frame) (status next : Status) (text lines : List ℕ) (answer : Answer) → i < length frames → frame ≡ get_or frames i frame
     → TellsFrames content (take i frames) status text

@@ -1,12 +1,12 @@
 -- Parts that are joined one after another.
-use Rattle.std.proofs.Common.{◌≡◌, ℕ, ◌+◌, ◌<◌, List, [], ◌∷◌, ◌++◌, length, map, take, get_or, Option, Some, None, Result, Ok, Err, refl, sym, ap, ◌∙◌, subst, inl, inr, arith, add-one}
+use Rattle.std.proofs.Common.{◌≡◌, ℕ, ◌+◌, ◌<◌, List, [], ◌∷◌, ◌++◌, length, map, take, get_or, Option, Some, None, Result, Ok, Err, refl, sym, ap, ◌∙◌, subst, inl, inr, arith}
 use Rattle.std.specs.Prelude.{IfSome, flat_map}
 use Rattle.std.specs.List.{AllZip}
 use Rattle.std.specs.FinSet as set
 use Rattle.std.proofs.Math.ListN.{length-map}
-use Rattle.std.proofs.Math.Seq.{take-suc}
-use Rattle.std.proofs.lemmas.List.{append-nil, flat_map_more, get_or-map}
+use Rattle.std.proofs.lemmas.List.{append-nil, flat_map_more, get_or-map, take_more}
 use Rattle.std.proofs.lemmas.List.Sums.{fold-append}
+use Rattle.std.proofs.lemmas.Option.{IfSome_then}
 use Rattle.archive_core.specs.Content.{Operations, IsMade, content_of, joined, with_record, with_records}
 use Rattle.archive_core.proofs.Taken.{made_taken, taken_are_joined}
 use Rattle.archive_core.specs.Summary.{Entries}
@@ -19,13 +19,11 @@ use Rattle.command_ends.specs.Inputs.{Reader, IsRefusal, ReadsInputs, Unfailed, 
 use Rattle.command_ends.specs.declared.faults.CommandFault.{CommandFault}
 use Rattle.command_ends.proofs.Readers.{pairs_more}
 use Rattle.indexed_parts.specs.Places.{AreGatheredUnder, IsEntryFault}
+use Rattle.indexed_parts.proofs.Gathered.{along_both, known}
 use Rattle.indexed_queries.specs.declared.fronts.Front.{Front}
 use Rattle.indexed_queries.specs.Fronts.{AreNamedUnder, IsStaleFor, front_bytes}
 use Rattle.indexed_queries.specs.InnerParts.{HasJoinedNamed, HasJoinedParts, HaveGathered, IsFaultUnder, IsNamedIn, told_fault}
 use Rattle.indexed_queries.proofs.Refused.{archive_behind}
-
-take_one : (xs : List (List ℕ)) (i : ℕ) → i < length xs → take (i + 1) xs ≡ take i xs ++ get_or xs i [] ∷ []
-take_one xs i lt = ap (λ (n : ℕ). take n xs) (add-one i) ∙ take-suc xs i [] lt
 
 -- ---- under each front
 
@@ -36,14 +34,6 @@ made records = content_of (set.from_list records)
 abbrev AreGroups : List (List ℕ) → Entries → List (List (List ℕ)) → List ℕ → Type 0
 AreGroups fronts entries groups text = AllZip (λ (front : List ℕ) (records : List (List ℕ)). AllZip (IsNamedBy text) (entries_under front entries) records) fronts groups
 
-along : (P Q : List ℕ → Type 0) (whole : Option (List ℕ)) → ((text : List ℕ) → P text → Q text) → IfSome whole P → IfSome whole Q
-along P Q None f a = tt
-along P Q (Some text) f a = f text a
-
-along_both : (P Q R : List ℕ → Type 0) (whole : Option (List ℕ)) → ((text : List ℕ) → P text → Q text → R text) → IfSome whole P → IfSome whole Q → IfSome whole R
-along_both P Q R None f a b = tt
-along_both P Q R (Some text) f a b = f text a b
-
 named_groups : (text : List ℕ) (fronts : List (List ℕ)) (entries : Entries) (groups : List (List (List ℕ))) → AreGroups fronts entries groups text → AreNamedUnder fronts entries text (map made groups)
 named_groups text [] entries [] a = tt
 named_groups text [] entries (g ∷ gs) a = absurd a
@@ -51,8 +41,7 @@ named_groups text (f ∷ fs) entries [] a = absurd a
 named_groups text (f ∷ fs) entries (g ∷ gs) a = (record { records = g; named = a.0; made = refl }, named_groups text fs entries gs a.1)
 
 pub gathered_none : (whole : Option (List ℕ)) (entries : Entries) (old : List (List ℕ)) → HaveGathered whole [] entries old old
-gathered_none None entries old = record { groups = []; named = tt; behind = sym (append-nil old) }
-gathered_none (Some text) entries old = record { groups = []; named = tt; behind = sym (append-nil old) }
+gathered_none whole entries old = record { groups = []; named = known (AreGroups [] entries []) whole (λ text. tt); behind = sym (append-nil old) }
 
 module _ (whole now : Option (List ℕ)) (fronts : List Front) (i : ℕ) (front : Front) (entries : Entries) (lt : i < length fronts) (is : front ≡ get_or fronts i front) (keeps : now ≡ whole) where
   at : front_bytes front ≡ get_or (map front_bytes fronts) i []
@@ -62,7 +51,7 @@ module _ (whole now : Option (List ℕ)) (fronts : List Front) (i : ℕ) (front 
   gathered_more old mid new before one =
       let bytes = map front_bytes fronts in
       let groups = before.groups ++ one.records ∷ [] in
-      let seen : take (i + 1) bytes ≡ take i bytes ++ front_bytes front ∷ [] = take_one bytes i (omega (arith, lt, length-map fronts front_bytes)) ∙ ap (λ (f : List ℕ). take i bytes ++ f ∷ []) (sym at) in
+      let seen : take (i + 1) bytes ≡ take i bytes ++ front_bytes front ∷ [] = take_more bytes i [] (omega (arith, lt, length-map fronts front_bytes)) ∙ ap (λ (f : List ℕ). take i bytes ++ f ∷ []) (sym at) in
       record {
         groups = groups;
         named = along_both (AreGroups (take i bytes) entries before.groups) (λ text. AllZip (IsNamedBy text) (entries_under (front_bytes front) entries) one.records) (AreGroups (take (i + 1) bytes) entries groups) whole
@@ -88,9 +77,6 @@ module _ (whole now : Option (List ℕ)) (fronts : List Front) (i : ℕ) (front 
       by Device text a b = tt
       by OutOfMemory text a b = tt
 
-pub gathered_all : (whole : Option (List ℕ)) (some fronts : List (List ℕ)) (entries : Entries) (old new : List (List ℕ)) → some ≡ fronts → HaveGathered whole some entries old new → HaveGathered whole fronts entries old new
-gathered_all whole some fronts entries old new is h = subst (λ (fs : List (List ℕ)). HaveGathered whole fs entries old new) is h
-
 -- what was gathered is taken together, as its groups one after another
 taken_groups : (o : Operations) (groups : List (List (List ℕ))) → IsMade o → with_records o (flat_map (λ (records : List (List ℕ)). records) groups) ≡ merged o (map made groups)
 taken_groups o [] is = refl
@@ -103,13 +89,8 @@ pub joined_together : (whole : Option (List ℕ)) (fronts : List (List ℕ)) (en
 joined_together whole fronts entries old gathered o new is none h taken = record {
   parts = map made h.groups;
   content = taken ∙ sym (taken_are_joined o gathered is) ∙ ap (with_records o) (h.behind ∙ ap (λ (l : List (List ℕ)). l ++ flat_map (λ (records : List (List ℕ)). records) h.groups) none) ∙ taken_groups o h.groups is;
-  named = along (AreGroups fronts entries h.groups) (λ text. AreNamedUnder fronts entries text (map made h.groups)) whole (λ text a. named_groups text fronts entries h.groups a) h.named;
+  named = IfSome_then whole h.named (λ text a. named_groups text fronts entries h.groups a);
 }
-
-pub blamed_from : {P : Type 0} (failures : P → ℕ) (old mid new : P) (fault : PlaceFault) → failures mid ≡ failures old → BlamesPlaced failures mid new fault → BlamesPlaced failures old new fault
-blamed_from failures old mid new (Stale entry) same b = b ∙ same
-blamed_from failures old mid new Device same b = rw (← same) b
-blamed_from failures old mid new OutOfMemory same b = b ∙ same
 
 -- ---- of an input
 

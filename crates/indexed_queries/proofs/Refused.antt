@@ -1,8 +1,7 @@
 -- What is refused, from what reading an index and its archive came to.
-use Rattle.std.proofs.Common.{◌≡◌, ◌≢◌, ℕ, List, [], Option, Some, None, Result, Ok, Err, true, refl, ap, sym, inr}
-use Rattle.std.specs.Prelude.{IfSome, IsTrue, MatchResult, ◌↔◌}
+use Rattle.std.proofs.Common.{◌≡◌, ◌≢◌, ℕ, List, [], Option, Result, Ok, Err, refl, ap, sym, inr}
+use Rattle.std.specs.Prelude.{MatchResult}
 use Rattle.archive_core.specs.Summary.{Entries}
-use Rattle.archive_index.specs.Places.{HasIndexedLength}
 use Rattle.archive_index.specs.Reading.{IsIndexRefused}
 use Rattle.archive_index.specs.declared.fault.IndexFault.{IndexFault}
 use Rattle.archive_index.specs.declared.fault.IndexFaultKind.{IndexFaultKind}
@@ -39,12 +38,6 @@ index_refused left failures source after number fault OutOfMemory refuses wants 
 pub lent_from : {S : Type 0} (old : Result S CannotOpen) (lent : S) → MatchResult old (λ source. lent ≡ source) (λ _. ⊥) → old ≡ Ok lent
 lent_from {S = S} (Ok source) lent is = ap (λ (s : S). Ok s) (sym is)
 lent_from (Err e) lent is = absurd is
-
--- ---- the archive's length
-
-pub has_yes : (whole : Option (List ℕ)) (s : Entries) → IfSome whole (λ text. IsTrue true ↔ HasIndexedLength s text) → IfSome whole (HasIndexedLength s)
-has_yes None s h = tt
-has_yes (Some text) s h = h.0 refl
 
 -- ---- INDEX and its archive
 

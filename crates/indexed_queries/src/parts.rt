@@ -1,14 +1,14 @@
 //! What an index names in its archive, read and joined.
 
-ghost use Rattle.std.specs.Prelude.{◌≡◌, IfErr, IfSome, OnOk, map};
+ghost use Rattle.std.specs.Prelude.{◌≡◌, IfSome, OnOk, map};
 ghost use Rattle.std.specs.FinSet as set;
 ghost use Rattle.archive_core.specs.Content.{content_of, joined};
 ghost use Rattle.archive_core.specs.Record.{record_bytes};
 ghost use Rattle.placed_bytes.specs.Places.{HasSize};
-ghost use Rattle.archive_index.specs.Places.{BlamesPlaced, HasIndexedLength};
+ghost use Rattle.archive_index.specs.Places.{HasIndexedLength};
 ghost use Rattle.command_ends.specs.Indexes.{IsRefusedBehindIndex, IsRefusedByIndex};
 ghost use Rattle.command_ends.specs.Inputs.{Reads, ReadsInputs, Unfailed, reader};
-ghost use Rattle.indexed_parts.specs.Places.{AreGatheredUnder, IsEntryFault};
+ghost use Rattle.indexed_parts.specs.Places.{AreGatheredUnder, IsEntryFault, ReadsPlaces};
 ghost use Rattle.indexed_queries.specs.Fronts.{IsStaleFor, front_bytes};
 ghost use Rattle.indexed_queries.specs.InnerParts.{HasJoinedNamed, HasJoinedParts, HaveGathered, IsFaultUnder};
 ghost use Rattle.indexed_queries.specs.InnerParts.{IsNamedIn, told_fault};
@@ -33,13 +33,10 @@ fn gather_front<P: Placed>(
     size: u64,
 ) -> Result<(), PlaceFault>
     requires { HasSize (P.whole device.old) size }
-    ensures gathered { OnOk result (AreGatheredUnder (P.whole device.old) (front_bytes front.now) entries.now
-        (map record_bytes gathered.old.items) (map record_bytes gathered.new.items)) }
-    ensures refused { IfErr result (λ fault. IfSome (P.whole device.old) (λ text.
-        IsEntryFault (front_bytes front.now) entries.now text fault)) }
-    ensures keeps { P.whole device.new ≡ P.whole device.old }
-    ensures unfailed { OnOk result (P.failures device.new ≡ P.failures device.old) }
-    ensures blames { IfErr result (λ fault. BlamesPlaced P.failures device.old device.new fault) }
+    ensures { ReadsPlaces P.whole P.failures device.old device.new result
+        (λ _. AreGatheredUnder (P.whole device.old) (front_bytes front.now) entries.now
+        (map record_bytes gathered.old.items) (map record_bytes gathered.new.items))
+        (IsEntryFault (front_bytes front.now) entries.now) }
 {
     match front {
         Front::Uuid(uuid) => {
@@ -59,13 +56,10 @@ fn gather_fronts<P: Placed>(
     size: u64,
 ) -> Result<(), PlaceFault>
     requires { HasSize (P.whole device.old) size }
-    ensures gathered { OnOk result (HaveGathered (P.whole device.old) (map front_bytes fronts.now) entries.now
-        (map record_bytes gathered.old.items) (map record_bytes gathered.new.items)) }
-    ensures refused { IfErr result (λ fault. IfSome (P.whole device.old) (λ text.
-        IsFaultUnder (map front_bytes fronts.now) entries.now text fault)) }
-    ensures keeps { P.whole device.new ≡ P.whole device.old }
-    ensures unfailed { OnOk result (P.failures device.new ≡ P.failures device.old) }
-    ensures blames { IfErr result (λ fault. BlamesPlaced P.failures device.old device.new fault) }
+    ensures { ReadsPlaces P.whole P.failures device.old device.new result
+        (λ _. HaveGathered (P.whole device.old) (map front_bytes fronts.now) entries.now
+        (map record_bytes gathered.old.items) (map record_bytes gathered.new.items))
+        (IsFaultUnder (map front_bytes fronts.now) entries.now) }
 {
     'fronts: for front in fronts {
         gather_front(heap, gathered, front, entries, device, size)?;
@@ -87,25 +81,21 @@ fn join_gathered<A: Archive + Drop>(
     Ok(())
 }
 
-/// Joins the records under these fronts, at the places that an index names.
+/// Joins the records under these fronts, at the places that an index names in an archive of the length that it tells.
 fn join_fronts<A: Archive + Drop, P: Placed>(
     heap: &Heap,
     kept: &mut A,
     fronts: &[Front],
     entries: &Index,
     device: &mut P,
-    size: u64,
 ) -> Result<(), PlaceFault>
-    requires { HasSize (P.whole device.old) size }
-    ensures joined { OnOk result (HasJoinedNamed (P.whole device.old) (map front_bytes fronts.now) entries.now
-        (A.content kept.old) (A.content kept.new)) }
-    ensures refused { IfErr result (λ fault. IfSome (P.whole device.old) (λ text.
-        IsFaultUnder (map front_bytes fronts.now) entries.now text fault)) }
-    ensures keeps { P.whole device.new ≡ P.whole device.old }
-    ensures unfailed { OnOk result (P.failures device.new ≡ P.failures device.old) }
-    ensures blames { IfErr result (λ fault. BlamesPlaced P.failures device.old device.new fault) }
+    ensures { ReadsPlaces P.whole P.failures device.old device.new result
+        (λ _. IfSome (P.whole device.old) (HasIndexedLength entries.now) × HasJoinedNamed (P.whole device.old)
+        (map front_bytes fronts.now) entries.now (A.content kept.old) (A.content kept.new))
+        (IsFaultUnder (map front_bytes fronts.now) entries.now) }
 {
     let _held = kept.len();
+    let size = indexed_size(entries, device)?;
     let Ok(own) = heap.clone() else {
         return Err(PlaceFault::OutOfMemory);
     };
@@ -115,26 +105,6 @@ fn join_fronts<A: Archive + Drop, P: Placed>(
         Ok(()) => Ok(()),
         Err(NoMemory) => Err(PlaceFault::OutOfMemory),
     }
-}
-
-/// The same, of an archive that has the length that its index tells.
-fn join_tested<A: Archive + Drop, P: Placed>(
-    heap: &Heap,
-    kept: &mut A,
-    fronts: &[Front],
-    entries: &Index,
-    device: &mut P,
-) -> Result<(), PlaceFault>
-    ensures right { OnOk result (IfSome (P.whole device.old) (HasIndexedLength entries.now)) }
-    ensures joined { OnOk result (HasJoinedNamed (P.whole device.old) (map front_bytes fronts.now) entries.now
-        (A.content kept.old) (A.content kept.new)) }
-    ensures refused { IfErr result (λ fault. IfSome (P.whole device.old) (λ text.
-        IsFaultUnder (map front_bytes fronts.now) entries.now text fault)) }
-    ensures unfailed { OnOk result (P.failures device.new ≡ P.failures device.old) }
-    ensures blames { IfErr result (λ fault. BlamesPlaced P.failures device.old device.new fault) }
-{
-    let size = indexed_size(entries, device)?;
-    join_fronts(heap, kept, fronts, entries, device, size)
 }
 
 /// A fault of the archive with this number, as a command tells it.
@@ -163,7 +133,7 @@ fn join_archive<A: Archive + Drop, P: Placed>(
         (λ archive. IsRefusedBehindIndex number archive (IsStaleFor sought archive entries.now)) }
 {
     let device = opened(archive, Place::Archive(number))?;
-    match join_tested(heap, kept, fronts, entries, device) {
+    match join_fronts(heap, kept, fronts, entries, device) {
         Ok(()) => Ok(()),
         Err(fault) => Err(told(number, fault)),
     }

@@ -1,12 +1,12 @@
 use Rattle.std.proofs.Common.{◌≡◌, ℕ, ◌+◌, List, [], Option, length, map, ap, ◌∙◌, subst, refl, arith}
 use Rattle.std.proofs.Math.ListN.{length-map}
 use Rattle.archive_core.specs.Record.{record_bytes}
+use Rattle.archive_records.proofs.Blamed.{failed}
 use Rattle.archive_index.specs.Entry.{IsPlacedEntry, placed_bytes}
 use Rattle.archive_index.proofs.Entries.{each_of}
-use Rattle.archive_index.proofs.Texts.{bytes_at}
 use Rattle.indexed_parts.specs.InnerPlaces.{AreGathered, IsGathered}
 use Rattle.indexed_parts.specs.InnerRuns.{is_tagged}
-use Rattle.indexed_parts.proofs.Gathered.{gathered_more, gathered_none, gathered_rest, stale_at}
+use Rattle.indexed_parts.proofs.Gathered.{gathered_more, gathered_none, gathered_rest, refused_behind, stale_at}
 use Rattle.indexed_parts.proofs.Ordered.{in_run, length_run}
 use Rattle.indexed_parts.proofs.gathering.gather_run.Goals as goal
 
@@ -25,18 +25,20 @@ gather_entry-requires-clause-entry g c =
     let there = in_run entries run.result.0 run.result.1 c.run.place c.index-run-place.result c.run-test.true c.index-run-place.is in
     each_of IsPlacedEntry entries (run.result.0 + c.run.place) c.index-run-place.result c.requires.indexed.are there.1 there.2
 
-pub returns-in-Ok-false-clause-stale : goal.returns-in-Ok-false-clause-stale
-returns-in-Ok-false-clause-stale g c =
+pub returns-in_err-gather_entry : goal.returns-in_err-gather_entry
+returns-in_err-gather_entry g c =
     let entries = c.args.entries.now in
     let run = c.run_under-start in
     let e = c.index-run-place.result in
     let k = run.result.0 + c.run.place in
     let there = in_run entries run.result.0 run.result.1 c.run.place e c.run-test.true c.index-run-place.is in
-    let at = bytes_at entries k e (placed_bytes e) there.1 there.2 refl in
-    let passes = ap (is_tagged c.args.tag c.args.front.now) at ∙ run.ensures.inside k [] (omega arith) there.0 in
-    let none = rw c.in-Ok-false.field-0-test at c.in-Ok-false.ensures.none in
-    stale_at (g.P.Placed.whole c.args.archive.now) (g.P.Placed.whole c.run.archive) (is_tagged c.args.tag c.args.front.now) (map placed_bytes entries) k (placed_bytes e) (map record_bytes c.args.gathered.now.items) (map record_bytes c.run.gathered.items)
-    (omega (arith, length-map entries placed_bytes, there.1)) at passes c.run.invariant.keeps c.run.invariant.gathered none
+    let passes = ap (is_tagged c.args.tag c.args.front.now) there.3 ∙ run.ensures.inside k [] (omega arith) there.0 in
+    let fault = c.in_err-gather_entry.field-0.0 in
+    rw (failed c.from_residual.result fault c.from_residual.ensures.1)
+    (refused_behind g.P.Placed.whole g.P.Placed.failures c.args.archive.now c.run.archive _ c.run.invariant.keeps c.run.invariant.unfailed fault
+    (stale_at (g.P.Placed.whole c.args.archive.now) (g.P.Placed.whole c.run.archive) (is_tagged c.args.tag c.args.front.now) (map placed_bytes entries) k (placed_bytes e) (map record_bytes c.args.gathered.now.items) (map record_bytes c.run.gathered.items) fault
+    (omega (arith, length-map entries placed_bytes, there.1)) there.3 passes c.run.invariant.keeps c.run.invariant.gathered)
+    c.in_err-gather_entry.ensures)
 
 pub run-preserved : goal.run-preserved
 run-preserved g c =
@@ -45,27 +47,29 @@ run-preserved g c =
     let e = c.index-run-place.result in
     let k = run.result.0 + c.run.place in
     let there = in_run entries run.result.0 run.result.1 c.run.place e c.run-test.true c.index-run-place.is in
-    let at = bytes_at entries k e (placed_bytes e) there.1 there.2 refl in
-    let passes = ap (is_tagged c.args.tag c.args.front.now) at ∙ run.ensures.inside k [] (omega arith) there.0 in
-    let one = rw c.in-Ok-true.field-0-test at c.in-Ok-true.ensures.gathered in
+    let passes = ap (is_tagged c.args.tag c.args.front.now) there.3 ∙ run.ensures.inside k [] (omega arith) there.0 in
+    let one = c.in_ok-gather_entry.ensures in
     let next : k + 1 ≡ run.result.0 + (c.run.place + 1) = omega arith in
     record {
       gathered = subst (λ (n : ℕ). AreGathered (g.P.Placed.whole c.args.archive.now) (is_tagged c.args.tag c.args.front.now) (map placed_bytes entries) n (map record_bytes c.args.gathered.now.items) (map record_bytes c.gather_entry.new.gathered.items)) next
           (gathered_more (g.P.Placed.whole c.args.archive.now) (is_tagged c.args.tag c.args.front.now) (map placed_bytes entries) k (placed_bytes e) (map record_bytes c.args.gathered.now.items) (map record_bytes c.run.gathered.items) (map record_bytes c.gather_entry.new.gathered.items)
-          (omega (arith, length-map entries placed_bytes, there.1)) at passes c.run.invariant.gathered
-          (subst (λ (w : Option (List ℕ)). IsGathered w (placed_bytes e) (map record_bytes c.run.gathered.items) (map record_bytes c.gather_entry.new.gathered.items)) c.run.invariant.keeps (one refl)));
-      keeps = c.in-Ok-true.ensures.keeps ∙ c.run.invariant.keeps;
-      unfailed = c.in-Ok-true.ensures.unfailed ∙ c.run.invariant.unfailed;
+          (omega (arith, length-map entries placed_bytes, there.1)) there.3 passes c.run.invariant.gathered
+          (subst (λ (w : Option (List ℕ)). IsGathered w (placed_bytes e) (map record_bytes c.run.gathered.items) (map record_bytes c.gather_entry.new.gathered.items)) c.run.invariant.keeps one.0));
+      keeps = one.1 ∙ c.run.invariant.keeps;
+      unfailed = one.2 ∙ c.run.invariant.unfailed;
     }
 
-pub returns-clause-gathered : goal.returns-clause-gathered
-returns-clause-gathered g c =
+pub returns : goal.returns
+returns g c =
     let entries = c.args.entries.now in
     let run = c.run_under-start in
     let bytes = map placed_bytes entries in
     let all : length bytes ≡ length entries = length-map entries placed_bytes in
-    let long = length_run entries run.result.0 run.result.1 run.ensures.ordered (omega (arith, all, run.ensures.within)) in
-    gathered_rest (g.P.Placed.whole c.args.archive.now) (is_tagged c.args.tag c.args.front.now) bytes (run.result.0 + c.run.place) (length entries) (map record_bytes c.args.gathered.now.items) (map record_bytes c.run.gathered.items)
-    (omega (arith, all, long, c.run.auto.place-end, run.ensures.within, run.ensures.ordered))
-    (λ k d low high. run.ensures.behind k d (omega (arith, long, c.run-test.false, low, run.ensures.ordered)) (omega (arith, all, high)))
-    c.run.invariant.gathered
+    let long = length_run entries run.result.0 run.result.1 run.ensures.ordered (omega (arith, all, run.ensures.within)) in (
+      gathered_rest (g.P.Placed.whole c.args.archive.now) (is_tagged c.args.tag c.args.front.now) bytes (run.result.0 + c.run.place) (length entries) (map record_bytes c.args.gathered.now.items) (map record_bytes c.run.gathered.items)
+          (omega (arith, all, long, c.run.auto.place-end, run.ensures.within, run.ensures.ordered))
+          (λ k d low high. run.ensures.behind k d (omega (arith, long, c.run-test.false, low, run.ensures.ordered)) (omega (arith, all, high)))
+          c.run.invariant.gathered,
+      c.run.invariant.keeps,
+      c.run.invariant.unfailed,
+    )

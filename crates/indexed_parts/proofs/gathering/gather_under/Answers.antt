@@ -1,25 +1,23 @@
-use Rattle.std.proofs.Common.{length, map, arith}
+use Rattle.std.proofs.Common.{◌≤◌, length, map, arith}
 use Rattle.std.proofs.Math.ListN.{length-map}
-use Rattle.archive_core.specs.Record.{record_bytes}
 use Rattle.archive_records.proofs.Blamed.{failed}
 use Rattle.archive_index.specs.Entry.{placed_bytes}
-use Rattle.indexed_parts.proofs.Gathered.{both_any, stale_first, stale_any}
+use Rattle.indexed_parts.proofs.Gathered.{gathered_both, reads_behind, stale_first, stale_second}
 use Rattle.indexed_parts.proofs.gathering.gather_under.Goals as goal
 
-pub returns-in_err-gather_run-clause-stale : goal.returns-in_err-gather_run-clause-stale
-returns-in_err-gather_run-clause-stale g c =
+pub returns-in_err-gather_run : goal.returns-in_err-gather_run
+returns-in_err-gather_run g c =
     let entries = c.args.entries.now in
-    rw (failed c.from_residual.result c.in_err-gather_run.field-0.0 c.from_residual.ensures.1)
-    (stale_first (g.P.Placed.whole c.args.archive.now) c.args.front.now (map placed_bytes entries) c.requires.indexed (length entries) (omega (arith, length-map entries placed_bytes)) c.in_err-gather_run.field-0.0 c.in_err-gather_run.ensures.stale)
+    let fault = c.in_err-gather_run.field-0.0 in
+    rw (failed c.from_residual.result fault c.from_residual.ensures.1)
+    (stale_first (g.P.Placed.whole c.args.archive.now) c.args.front.now (map placed_bytes entries) c.requires.indexed (length entries) (omega (arith, length-map entries placed_bytes)) fault c.in_err-gather_run.ensures.0, c.in_err-gather_run.ensures.1, c.in_err-gather_run.ensures.2)
 
-pub returns-clause-gathered : goal.returns-clause-gathered
-returns-clause-gathered g c =
+pub returns : goal.returns
+returns g c =
     let entries = c.args.entries.now in
-    both_any (g.P.Placed.whole c.args.archive.now) c.args.front.now (map placed_bytes entries) c.requires.indexed (length entries) (omega (arith, length-map entries placed_bytes)) (g.P.Placed.whole c.gather_run.new.archive)
-    (map record_bytes c.args.gathered.now.items) (map record_bytes c.gather_run.new.gathered.items) (map record_bytes c.gather_run-2.new.gathered.items) c.gather_run-2.result c.in_ok-gather_run.ensures.keeps c.in_ok-gather_run.ensures.gathered c.gather_run-2.ensures.gathered
-
-pub returns-clause-stale : goal.returns-clause-stale
-returns-clause-stale g c =
-    let entries = c.args.entries.now in
-    stale_any (g.P.Placed.whole c.args.archive.now) c.args.front.now (map placed_bytes entries) c.requires.indexed (length entries) (omega (arith, length-map entries placed_bytes)) (g.P.Placed.whole c.gather_run.new.archive)
-    (map record_bytes c.args.gathered.now.items) (map record_bytes c.gather_run.new.gathered.items) c.gather_run-2.result c.in_ok-gather_run.ensures.keeps c.in_ok-gather_run.ensures.gathered c.gather_run-2.ensures.stale
+    let first = c.in_ok-gather_run.ensures in
+    let all : length (map placed_bytes entries) ≤ length entries = omega (arith, length-map entries placed_bytes) in
+    reads_behind g.P.Placed.whole g.P.Placed.failures c.args.archive.now c.gather_run.new.archive _ first.1 first.2 _ _ c.gather_run-2.result
+    (λ _ second. gathered_both _ c.args.front.now _ c.requires.indexed _ all _ _ _ _ first.1 first.0 second)
+    (λ fault h. stale_second _ c.args.front.now _ c.requires.indexed _ all _ _ _ fault first.1 first.0 h)
+    c.gather_run-2.ensures

@@ -1,10 +1,25 @@
-use Rattle.std.proofs.Common.{ap, map}
+use Rattle.std.proofs.Common.{ℕ, List, Option, ap, map, subst, ◌∙◌}
+use Rattle.std.specs.Prelude.{IfSome}
 use Rattle.archive_core.specs.Record.{record_bytes}
+use Rattle.archive_records.proofs.Blamed.{failed}
+use Rattle.indexed_parts.proofs.Gathered.{refused_behind}
 use Rattle.indexed_queries.specs.Fronts.{front_bytes}
+use Rattle.indexed_queries.specs.InnerParts.{HaveGathered, IsFaultUnder}
 use Rattle.indexed_queries.proofs.Joined.{joined_together}
 use Rattle.indexed_queries.proofs.parts.join_fronts.Goals as goal
 
-pub returns-in-Ok-join_gathered-clause-joined : goal.returns-in-Ok-join_gathered-clause-joined
-returns-in-Ok-join_gathered-clause-joined g c =
-    joined_together (g.P.Placed.whole c.args.device.now) (map front_bytes c.args.fronts.now) c.args.entries.now (map record_bytes c.new-gathered.result.items) (map record_bytes c.gather_fronts.new.gathered.items) (g.A.Join.content c.args.kept.now) (g.A.Join.content c.join_gathered.new.kept)
-    c.len-held.ensures.content.itself (ap (map record_bytes) c.new-gathered.ensures.items) c.in_ok-gather_fronts.ensures.gathered c.in-Ok-join_gathered.ensures
+pub returns-in_err-gather_fronts : goal.returns-in_err-gather_fronts
+returns-in_err-gather_fronts g c =
+    let fault = c.in_err-gather_fronts.field-0.0 in
+    let first = c.in_ok-size.ensures in
+    rw (failed c.from_residual-in_err-gather_fronts.result fault c.from_residual-in_err-gather_fronts.ensures.1)
+    (refused_behind g.P.Placed.whole g.P.Placed.failures c.args.device.now c.indexed_size.new.archive _ first.1 first.2 fault
+    (λ h. subst (λ (w : Option (List ℕ)). IfSome w (λ text. IsFaultUnder (map front_bytes c.args.fronts.now) c.args.entries.now text fault)) first.1 h) c.in_err-gather_fronts.ensures)
+
+pub returns-in-Ok-join_gathered : goal.returns-in-Ok-join_gathered
+returns-in-Ok-join_gathered g c =
+    let first = c.in_ok-size.ensures in
+    let then = c.in_ok-gather_fronts.ensures in
+    let gathered = subst (λ (w : Option (List ℕ)). HaveGathered w (map front_bytes c.args.fronts.now) c.args.entries.now (map record_bytes c.new-gathered.result.items) (map record_bytes c.gather_fronts.new.gathered.items)) first.1 then.0 in
+    let joined = joined_together _ (map front_bytes c.args.fronts.now) c.args.entries.now _ _ (g.A.Join.content c.args.kept.now) (g.A.Join.content c.join_gathered.new.kept) c.len-held.ensures.content.itself (ap (map record_bytes) c.new-gathered.ensures.items) gathered c.in-Ok-join_gathered.ensures in
+    ((first.0.1, joined), then.1 ∙ first.1, then.2 ∙ first.2)
