@@ -20,6 +20,7 @@ from .archive_file import append_synced, note_of, size_of, sync_folder, write_sy
 from .contents import EMPTY, Content, heads_in, kept_text, words_of
 from .indexes import held_against, index_by, index_in, index_of
 from .screen import Failed, shown
+from .stopping import AT_END, Later
 
 TODAY, LOG, NEXT_LOG, ASKED = b".today", b".log", b".log.next", b".asked"
 # What a kill may leave; rooms are folders in which a word works.
@@ -63,6 +64,8 @@ class Archive:
             screen.line(f"waiting for another symarch-keep at {shown(self.path)}")
             fcntl.flock(self.lock, fcntl.LOCK_EX)
         if self.writes:
+            # A signal may come as a folder is made, or as it is removed.
+            AT_END.append(self.remove_rooms)
             self.remove_rooms()
             self.go_on(screen)
 
@@ -75,6 +78,8 @@ class Archive:
             return False
 
     def release_lock(self):
+        if self.remove_rooms in AT_END:
+            AT_END.remove(self.remove_rooms)
         fcntl.flock(self.lock, fcntl.LOCK_UN)
 
     def rooms(self):
@@ -86,15 +91,15 @@ class Archive:
 
     @contextlib.contextmanager
     def room(self):
-        """A folder beside the archive. Only who has the lock makes one. A signal may end this as it is made, so the
-        outermost one removes all of them."""
+        """A folder beside the archive. Only who has the lock makes one. The outermost one removes all of them."""
         self.rooms_made += 1
         try:
             yield tempfile.mkdtemp(prefix=self.name + ROOM, dir=self.folder)
         finally:
-            self.rooms_made -= 1
-            if self.rooms_made == 0:
-                self.remove_rooms()
+            with Later():
+                self.rooms_made -= 1
+                if self.rooms_made == 0:
+                    self.remove_rooms()
 
     # ---- what it has
 
@@ -245,8 +250,14 @@ class Archive:
 
     def replace(self, room, file, index, lines, screen):
         """Gives the new file of a room, which is synced, the name of a file, and what it may have of the archive's
-        owner and rights. Syncs the name."""
-        new, before = os.path.join(room, b"new"), self.pending()
+        owner and rights. Syncs the name. A signal waits until that is done."""
+        with Later():
+            self.put_in_place(os.path.join(room, b"new"), room, file, index, lines)
+            file.index, file.content = index, index.content()
+            self.finish(file, screen)
+
+    def put_in_place(self, new, room, file, index, lines):
+        before = self.pending()
         try:
             self.lay(room, self.beside(NEXT_LOG), before + dated(lines))
             self.lay_index(room, file, NEXT_INDEX, index, new)
@@ -259,8 +270,6 @@ class Archive:
             self.leave_pending(len(before))
             raise
         sync_folder(self.folder)
-        file.index, file.content = index, index.content()
-        self.finish(file, screen)
 
     def give_rights(self, path):
         with contextlib.suppress(OSError):
