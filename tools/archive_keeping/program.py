@@ -24,7 +24,7 @@ class Program:
             if os.path.exists(os.path.join(beside, "tools", "build-program")):
                 # The script ./symarch would begin a build.
                 self.path = os.path.join(beside, BUILT)
-            with contextlib.suppress(OSError):
+            with contextlib.suppress(OSError), Later():
                 words, nothing = [self.path, "--version"], subprocess.DEVNULL
                 if subprocess.run(words, stdin=nothing, capture_output=True, check=False).stdout[:8] == b"symarch ":
                     return
@@ -47,7 +47,8 @@ class Program:
                 give(process.stdin.fileno(), slices, moved)
             printed = None
             while printed is None:
-                with contextlib.suppress(subprocess.TimeoutExpired):
+                # What is raised within would leave its lock.
+                with contextlib.suppress(subprocess.TimeoutExpired), Later():
                     printed, said = process.communicate(timeout=0.2)
                 moved(len(slices))
         if process.returncode not in (0, 1):
