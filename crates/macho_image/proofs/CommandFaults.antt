@@ -1,17 +1,12 @@
 -- What it takes that a command has no fault.
-use Rattle.std.proofs.Common.{◌≡◌, ℕ, ◌+◌, ◌*◌, ◌≤◌, Bool, true, false, cond, nat_lt, ◌&&◌, List, length, Option, Some, None, refl, sym, arith}
-use Rattle.std.proofs.lemmas.Option.{none-some}
-use Rattle.std.proofs.lemmas.Bool.Decides.{nat_tests}
+use Rattle.std.proofs.Common.{◌≡◌, ℕ, ◌+◌, ◌*◌, ◌≤◌, Bool, true, false, cond, nat_lt, ◌&&◌, List, length, Option, Some, None, ◌⊎◌, inl, inr, refl, arith}
+use Rattle.std.proofs.lemmas.Bool.{ltb-false}
 use Rattle.macho_image.specs.Commands.{HasRoom, is_segment, nsects, is_uuid, is_symtab}
 use Rattle.macho_image.specs.Fault.{command_fault}
 
 -- a choice that gives nothing did not take the fault
 pub not_taken : {A : Type 0} (b : Bool) (fault : A) (o : Option A) → cond b (Some fault) o ≡ None → (b ≡ false) × (o ≡ None)
-not_taken true fault o h = absurd (none-some fault (sym h))
-not_taken false fault o h = (refl, h)
-
-pub not_below : (a b : ℕ) → nat_lt a b ≡ false → b ≤ a
-not_below a b h = grind (arith, nat_tests)
+not_taken b fault o h = grind arith
 
 -- none of the tests of a command was met
 pub record PassesTests (has_uuid has_symtab : Bool) (command : List ℕ) : Type 0 where
@@ -30,13 +25,18 @@ passes_tests index has_uuid has_symtab command fine =
     let fifth = not_taken (is_symtab command && has_symtab) _ _ fourth.1 in
     record { segment = first.0; uuid = second.0; one_uuid = third.0; symtab = fourth.0; one_symtab = fifth.0 }
 
+-- there is no fault or one
+pub none_or_some : {A : Type 0} (o : Option A) → (o ≡ None) ⊎ ((x : A) × (o ≡ Some x))
+none_or_some None = inl refl
+none_or_some (Some x) = inr (x, refl)
+
 -- a command without a fault has room for what its kind holds
 pub room_of : (index : ℕ) (has_uuid has_symtab : Bool) (command : List ℕ) → 8 ≤ length command → command_fault index has_uuid has_symtab command ≡ None → HasRoom command
 room_of index has_uuid has_symtab command long fine =
     let passes = passes_tests index has_uuid has_symtab command fine in
     record {
       long = long;
-      sections = λ segment. not_below _ _ (rw segment at passes.segment);
-      uuid = λ uuid. not_below _ _ (rw uuid at passes.uuid);
-      symtab = λ symtab. not_below _ _ (rw symtab at passes.symtab);
+      sections = λ segment. ltb-false _ _ (rw segment at passes.segment);
+      uuid = λ uuid. ltb-false _ _ (rw uuid at passes.uuid);
+      symtab = λ symtab. ltb-false _ _ (rw symtab at passes.symtab);
     }

@@ -3,7 +3,7 @@ use Rattle.std.proofs.Common.{◌≡◌, ℕ, zero, suc, ◌+◌, Bool, true, fa
 use Rattle.std.specs.List.{list_any}
 use Rattle.std.specs.Option.{option_or, is_some}
 use Rattle.std.proofs.lemmas.List.{take-append-drop}
-use Rattle.std.proofs.lemmas.Bool.{cases_lt}
+use Rattle.std.proofs.lemmas.Bool.{cases_lt, cases_Bool}
 use Rattle.macho_image.specs.Layout.{u32_le_at, ncmds, command_bytes}
 use Rattle.macho_image.specs.Commands.{IsCommand, is_uuid}
 use Rattle.macho_image.specs.Inner.{HasNoCommand}
@@ -12,6 +12,7 @@ use Rattle.macho_image.specs.Fault.{header_fault, command_fault, IsFirstFault, A
 use Rattle.macho_image.specs.declared.fault.ImageFault.{ImageFault}
 use Rattle.macho_image.specs.declared.fault.ImageFault.TheVariants.{BadCommand, NoUuid}
 use Rattle.macho_image.specs.declared.symtab_command.Symtab.{Symtab}
+use Rattle.macho_image.proofs.CommandFaults.{none_or_some}
 use Rattle.macho_image.proofs.Fronts.{no_short_command, no_outside_command, no_command_in_few, command_of_size}
 use Rattle.macho_image.proofs.Walk.{Reached, reached_start, reached_next, reached_fault, reached_end, reached_all}
 
@@ -50,24 +51,23 @@ walk_on zero area index count rest uuid symtab e reached =
     inr (all.commands, all.sound)
 walk_on (suc steps) area index count rest uuid symtab e reached = elim (cut_or_none rest) [
   | inr none ↦ inl (BadCommand index, reached_end area index rest uuid symtab reached count (omega arith) none)
-  | inl cut ↦ by_fault cut (command_fault index (is_some uuid) (is_some symtab) cut.command) refl (walk_on steps area (index + 1) count cut.after (option_or uuid (uuid_among (cut.command ∷ []))) (option_or symtab (symtab_among (cut.command ∷ []))) (omega arith))
+  | inl cut ↦ elim (none_or_some (command_fault index (is_some uuid) (is_some symtab) cut.command)) [
+    | inl fine ↦
+        walk_on steps area (index + 1) count cut.after (option_or uuid (uuid_among (cut.command ∷ []))) (option_or symtab (symtab_among (cut.command ∷ []))) (omega arith)
+        (reached_next area index rest uuid symtab reached cut.command cut.after cut.whole cut.begins fine)
+    | inr faulty ↦
+        inl (faulty.0, reached_fault area index rest uuid symtab reached cut.command cut.after cut.whole cut.begins count faulty.0 (omega arith) faulty.1)
+  ]
 ]
-  where
-    by_fault : (cut : IsCut rest) (o : Option ImageFault) → command_fault index (is_some uuid) (is_some symtab) cut.command ≡ o
-        → (Reached area (index + 1) cut.after (option_or uuid (uuid_among (cut.command ∷ []))) (option_or symtab (symtab_among (cut.command ∷ []))) → Ends area count) → Ends area count
-    by_fault cut None fine more = more (reached_next area index rest uuid symtab reached cut.command cut.after cut.whole cut.begins fine)
-    by_fault cut (Some fault) faulty more = inl (fault, reached_fault area index rest uuid symtab reached cut.command cut.after cut.whole cut.begins count fault (omega arith) faulty)
 
 pub image_or_fault : (bytes : List ℕ) → IsImage bytes ⊎ ((fault : ImageFault) × IsImageFault bytes fault)
-image_or_fault bytes = by_header (header_fault bytes) refl
-  where
-    by_uuid : header_fault bytes ≡ None → (commands : List (List ℕ)) → AreCommands (command_bytes bytes) (ncmds bytes) commands → (b : Bool) → list_any is_uuid commands ≡ b → IsImage bytes ⊎ ((fault : ImageFault) × IsImageFault bytes fault)
-    by_uuid fine commands sound true h = inl (record { header = fine; commands = commands; sound = sound; has_uuid = h })
-    by_uuid fine commands sound false h = inr (NoUuid, inr (inr (fine, refl, commands, sound, h)))
-
-    by_header : (o : Option ImageFault) → header_fault bytes ≡ o → IsImage bytes ⊎ ((fault : ImageFault) × IsImageFault bytes fault)
-    by_header (Some fault) faulty = inr (fault, inl faulty)
-    by_header None fine = elim (walk_on (ncmds bytes) (command_bytes bytes) 0 (ncmds bytes) (command_bytes bytes) None None (omega arith) (reached_start (command_bytes bytes))) [
-      | inl first ↦ inr (first.0, inr (inl (fine, first.1)))
-      | inr all ↦ by_uuid fine all.0 all.1 (list_any is_uuid all.0) refl
+image_or_fault bytes = elim (none_or_some (header_fault bytes)) [
+  | inl fine ↦ elim (walk_on (ncmds bytes) (command_bytes bytes) 0 (ncmds bytes) (command_bytes bytes) None None (omega arith) (reached_start (command_bytes bytes))) [
+    | inl first ↦ inr (first.0, inr (inl (fine, first.1)))
+    | inr all ↦ elim (cases_Bool (list_any is_uuid all.0)) [
+      | inl h ↦ inl (record { header = fine; commands = all.0; sound = all.1; has_uuid = h })
+      | inr h ↦ inr (NoUuid, inr (inr (fine, refl, all.0, all.1, h)))
     ]
+  ]
+  | inr faulty ↦ inr (faulty.0, inl faulty.1)
+]

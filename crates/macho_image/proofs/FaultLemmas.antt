@@ -1,16 +1,14 @@
 -- Bytes have one fault, or are an image.
 use Rattle.std.proofs.Common.{◌≡◌, ℕ, zero, suc, ◌+◌, ◌≤◌, nat_le, ◌&&◌, Bool, true, false, cond, List, [], ◌∷◌, ◌++◌, length, take, drop, Some, refl, sym, ap, ◌∙◌, inl, inr, arith, length-append, append_assoc}
 use Rattle.std.specs.List.{concat, list_any}
-use Rattle.std.proofs.lemmas.List.{take-append-drop}
-use Rattle.std.proofs.lemmas.Option.{none-some}
-use Rattle.std.proofs.lemmas.Bool.{cases_lt}
+use Rattle.std.proofs.lemmas.List.{take-append-drop, same_from_push}
+use Rattle.std.proofs.lemmas.Bool.{cases_lt, cases_Bool}
 use Rattle.macho_image.specs.Layout.{u32_le_at, ncmds, command_bytes}
 use Rattle.macho_image.specs.Commands.{IsFront, first_commands, is_uuid, is_symtab}
 use Rattle.macho_image.specs.Fault.{command_fault, IsFaultAt, NoneBelow, IsFirstFault, IsImageFault, IsImage}
 use Rattle.macho_image.specs.declared.fault.ImageFault.{ImageFault}
 use Rattle.macho_image.proofs.Fronts.{one_front, command_of_size}
 use Rattle.macho_image.proofs.Images.{low_of, high_of}
-use Rattle.macho_image.proofs.Walk.{last_same}
 
 -- at one place there is one fault
 same_at : (area : List ℕ) (i : ℕ) (f g : ImageFault) → IsFaultAt area i f → IsFaultAt area i g → f ≡ g
@@ -19,14 +17,8 @@ same_at area i f g (inl p) (inr q) = absurd (p.0 (q.0 ++ q.1 ∷ [], q.2))
 same_at area i f g (inr p) (inl q) = absurd (q.0 (p.0 ++ p.1 ∷ [], p.2))
 same_at area i f g (inr p) (inr q) =
     let whole = one_front area (i + 1) (p.0 ++ p.1 ∷ []) (q.0 ++ q.1 ∷ []) p.2 q.2 in
-    let lengths : length p.0 ≡ length q.0 = omega (arith, p.2.number, q.2.number, length-append p.0 (p.1 ∷ []), length-append q.0 (q.1 ∷ [])) in
-    let parts = last_same p.0 q.0 p.1 q.1 lengths whole in
-    let same : command_fault i (list_any is_uuid p.0) (list_any is_symtab p.0) p.1 ≡ command_fault i (list_any is_uuid q.0) (list_any is_symtab q.0) q.1 =
-    ap (λ xs. command_fault i (list_any is_uuid xs) (list_any is_symtab xs) p.1) parts.0 ∙ ap (λ x. command_fault i (list_any is_uuid q.0) (list_any is_symtab q.0) x) parts.1 in
-    some_same f g (sym p.3 ∙ same ∙ q.3)
-  where
-    some_same : (a b : ImageFault) → Some a ≡ Some b → a ≡ b
-    some_same a b e = cc
+    let parts = same_from_push p.0 q.0 p.1 q.1 whole in
+    cc (parts.0, parts.1, p.3, q.3)
 
 -- the first is one
 same_first : (area : List ℕ) (count : ℕ) (f g : ImageFault) → IsFirstFault area count f → IsFirstFault area count g → f ≡ g
@@ -44,50 +36,38 @@ none_first : (area : List ℕ) (count : ℕ) (f : ImageFault) → NoneBelow area
 none_first area count f none p = none p.0 p.1 f p.3
 
 pub one_image_fault : (bytes : List ℕ) (f g : ImageFault) → IsImageFault bytes f → IsImageFault bytes g → f ≡ g
-one_image_fault bytes f g (inl p) (inl q) = some_same f g (sym p ∙ q)
-  where
-    some_same : (a b : ImageFault) → Some a ≡ Some b → a ≡ b
-    some_same a b e = cc
-one_image_fault bytes f g (inl p) (inr (inl q)) = absurd (none-some f (sym q.0 ∙ p))
-one_image_fault bytes f g (inl p) (inr (inr q)) = absurd (none-some f (sym q.0 ∙ p))
-one_image_fault bytes f g (inr (inl p)) (inl q) = absurd (none-some g (sym p.0 ∙ q))
+one_image_fault bytes f g (inl p) (inl q) = cc (p, q)
+one_image_fault bytes f g (inl p) (inr (inl q)) = cc (p, q.0)
+one_image_fault bytes f g (inl p) (inr (inr q)) = cc (p, q.0)
+one_image_fault bytes f g (inr (inl p)) (inl q) = cc (p.0, q)
 one_image_fault bytes f g (inr (inl p)) (inr (inl q)) = same_first (command_bytes bytes) (ncmds bytes) f g p.1 q.1
 one_image_fault bytes f g (inr (inl p)) (inr (inr q)) = absurd (none_first (command_bytes bytes) (ncmds bytes) f q.3.0 p.1)
-one_image_fault bytes f g (inr (inr p)) (inl q) = absurd (none-some g (sym p.0 ∙ q))
+one_image_fault bytes f g (inr (inr p)) (inl q) = cc (p.0, q)
 one_image_fault bytes f g (inr (inr p)) (inr (inl q)) = absurd (none_first (command_bytes bytes) (ncmds bytes) g p.3.0 q.1)
 one_image_fault bytes f g (inr (inr p)) (inr (inr q)) = p.1 ∙ sym q.1
 
 pub no_image_fault : (bytes : List ℕ) (f : ImageFault) → IsImage bytes → IsImageFault bytes f → ⊥
-no_image_fault bytes f image (inl p) = none-some f (sym image.header ∙ p)
+no_image_fault bytes f image (inl p) = cc (image.header, p)
 no_image_fault bytes f image (inr (inl p)) = none_first (command_bytes bytes) (ncmds bytes) f image.sound.0 p.1
 no_image_fault bytes f image (inr (inr p)) =
     let same = one_front (command_bytes bytes) (ncmds bytes) image.commands p.2 image.sound.1 p.3.1 in
-    true_false (sym image.has_uuid ∙ ap (list_any is_uuid) same ∙ p.4)
-  where
-    true_false : true ≡ false → ⊥
-    true_false e = cc
+    cc (image.has_uuid, ap (list_any is_uuid) same, p.4)
 
 -- where the definition cuts as many as are asked for, they are the front
 pub front_of-first_commands : (count : ℕ) (area : List ℕ) → length (first_commands count area) ≡ count → IsFront area count (first_commands count area)
 unfolding first_commands
 front_of-first_commands zero area h = record { number = refl; each = tt; rest = area; begins = refl }
-front_of-first_commands (suc count) area h = by_test (nat_le 8 (u32_le_at area 4) && nat_le 8 (length area) && nat_le (u32_le_at area 4) (length area)) refl (front_of-first_commands count (drop (u32_le_at area 4) area))
-  where
-    by_test : (b : Bool) → (nat_le 8 (u32_le_at area 4) && nat_le 8 (length area) && nat_le (u32_le_at area 4) (length area)) ≡ b
-        → (length (first_commands count (drop (u32_le_at area 4) area)) ≡ count → IsFront (drop (u32_le_at area 4) area) count (first_commands count (drop (u32_le_at area 4) area))) → IsFront area (suc count) (first_commands (suc count) area)
-    by_test false e below = absurd (zero_suc (sym (ap (λ b. length (cond b (take (u32_le_at area 4) area ∷ first_commands count (drop (u32_le_at area 4) area)) [])) e) ∙ h))
-      where
-        zero_suc : zero ≡ suc count → ⊥
-        zero_suc e = omega arith
-    by_test true e below =
-        let low : 8 ≤ u32_le_at area 4 = low_of (u32_le_at area 4) (length area) e in
-        let high : u32_le_at area 4 ≤ length area = high_of (u32_le_at area 4) (length area) e in
-        let all : length (take (u32_le_at area 4) area ∷ first_commands count (drop (u32_le_at area 4) area)) ≡ suc count =
-        ap (λ b. length (cond b (take (u32_le_at area 4) area ∷ first_commands count (drop (u32_le_at area 4) area)) [])) (sym e) ∙ h in
-        let more = below (omega (arith, all)) in
-        rw e (record {
-          number = all;
-          each = (command_of_size area (u32_le_at area 4) refl low high, more.each);
-          rest = more.rest;
-          begins = sym (take-append-drop (u32_le_at area 4) area) ∙ ap (λ s. take (u32_le_at area 4) area ++ s) more.begins ∙ sym (append_assoc (take (u32_le_at area 4) area) (concat (first_commands count (drop (u32_le_at area 4) area))) more.rest);
-        })
+front_of-first_commands (suc count) area h = elim (cases_Bool (nat_le 8 (u32_le_at area 4) && nat_le 8 (length area) && nat_le (u32_le_at area 4) (length area))) [
+  | inl e ↦
+      let low : 8 ≤ u32_le_at area 4 = low_of (u32_le_at area 4) (length area) e in
+      let high : u32_le_at area 4 ≤ length area = high_of (u32_le_at area 4) (length area) e in
+      let all : length (take (u32_le_at area 4) area ∷ first_commands count (drop (u32_le_at area 4) area)) ≡ suc count = rw e at h in
+      let more = front_of-first_commands count (drop (u32_le_at area 4) area) (omega (arith, all)) in
+      rw e (record {
+        number = all;
+        each = (command_of_size area (u32_le_at area 4) refl low high, more.each);
+        rest = more.rest;
+        begins = sym (take-append-drop (u32_le_at area 4) area) ∙ ap (λ s. take (u32_le_at area 4) area ++ s) more.begins ∙ sym (append_assoc (take (u32_le_at area 4) area) (concat (first_commands count (drop (u32_le_at area 4) area))) more.rest);
+      })
+  | inr e ↦ let none : zero ≡ suc count = rw e at h in absurd (omega (arith, none))
+]

@@ -1,7 +1,7 @@
 -- Load commands at the front of bytes: there is at most one way to cut them.
 use Rattle.std.proofs.Common.{◌≡◌, ℕ, ◌+◌, ◌<◌, ◌≤◌, List, [], ◌∷◌, ◌++◌, length, take, drop, refl, sym, ap, ◌∙◌, arith, append_assoc, length-append, length-drop, length-take}
 use Rattle.std.specs.List.{concat, AllByRecursion}
-use Rattle.std.proofs.lemmas.List.{drop-append-le, append_cancel_left, append-nil, take-append-drop}
+use Rattle.std.proofs.lemmas.List.{drop-append-le, append_cancel_left, append-nil, take-append-drop, nil_from_length}
 use Rattle.std.proofs.Math.Seq.{take-append_seam}
 use Rattle.byteorder.specs.Endian.{little_number}
 use Rattle.byteorder.specs.Numbers.{little_from-append}
@@ -42,12 +42,8 @@ pub one_front : (bytes : List ℕ) (count : ℕ) (xs ys : List (List ℕ)) → I
 one_front bytes count xs ys px py =
     let found = fronts_agree xs ys px.rest py.rest px.each py.each (sym px.begins ∙ py.begins) (omega (arith, px.number, py.number)) in
     let none : length found.0 ≡ 0 = omega (arith, px.number, py.number, ap length found.1, length-append xs found.0) in
-    let empty : found.0 ≡ [] = no_items found.0 none in
+    let empty : found.0 ≡ [] = nil_from_length found.0 none in
     sym (found.1 ∙ ap (λ zs. xs ++ zs) empty ∙ append-nil xs)
-  where
-    no_items : (zs : List (List ℕ)) → length zs ≡ 0 → zs ≡ []
-    no_items [] h = refl
-    no_items (z ∷ zs) h = absurd (omega arith)
 
 -- the size in a command is that of the bytes that it begins
 pub size_in_front : (bytes command rest : List ℕ) → IsCommand command → bytes ≡ command ++ rest → u32_le_at bytes 4 ≡ length command

@@ -5,6 +5,7 @@ use Rattle.std.specs.Option.{is_some}
 use Rattle.std.proofs.lemmas.List.{take-append-drop}
 use Rattle.std.proofs.Math.Seq.{take-append_seam, drop-append_seam}
 use Rattle.std.proofs.lemmas.Bool.Decides.{nat_tests}
+use Rattle.std.proofs.lemmas.Bool.{cases_Bool}
 use Rattle.macho_image.specs.Layout.{u32_le_at, ncmds, command_bytes}
 use Rattle.macho_image.specs.Commands.{IsCommand, IsFront, first_commands, commands, is_uuid}
 use Rattle.macho_image.specs.Inner.{HasNoCommand, AreContents}
@@ -25,33 +26,30 @@ low_of n m h = grind (arith, nat_tests)
 pub high_of : (n m : ℕ) → (nat_le 8 n && nat_le 8 m && nat_le n m) ≡ true → n ≤ m
 high_of n m h = grind (arith, nat_tests)
 
+front_command : (count : ℕ) (area command after : List ℕ) → IsCommand command → area ≡ command ++ after
+    → first_commands (suc count) area ≡ command ∷ first_commands count after
+unfolding first_commands
+front_command count area c after p e =
+    let size : u32_le_at area 4 ≡ length c = size_in_front area c after p e in
+    let long : length c ≤ length area = omega (arith, ap length e, length-append c after) in
+    let test = fits_in (length c) (length area) p.long long in
+    let front : take (length c) area ≡ c = ap (take (length c)) e ∙ take-append_seam c after in
+    let behind : drop (length c) area ≡ after = ap (drop (length c)) e ∙ drop-append_seam c after in
+    rw (size, test, front, behind) refl
+
 cut_front : (count : ℕ) (cs : List (List ℕ)) (rest area : List ℕ) → length cs ≡ count → AllByRecursion IsCommand cs → area ≡ concat cs ++ rest → first_commands count area ≡ cs
 unfolding first_commands
 cut_front zero [] rest area h p e = refl
 cut_front zero (c ∷ cs) rest area h p e = absurd (omega arith)
 cut_front (suc count) [] rest area h p e = absurd (omega arith)
 cut_front (suc count) (c ∷ cs) rest area h p e =
-    let split : area ≡ c ++ (concat cs ++ rest) = e ∙ append_assoc c (concat cs) rest in
-    let size : u32_le_at area 4 ≡ length c = size_in_front area c (concat cs ++ rest) p.0 split in
-    let long : length c ≤ length area = omega (arith, ap length split, length-append c (concat cs ++ rest)) in
-    let low : 8 ≤ length c = p.0.long in
-    let test = fits_in (length c) (length area) low long in
-    let front : take (length c) area ≡ c = ap (take (length c)) split ∙ take-append_seam c (concat cs ++ rest) in
-    let after : drop (length c) area ≡ concat cs ++ rest = ap (drop (length c)) split ∙ drop-append_seam c (concat cs ++ rest) in
-    let more = cut_front count cs rest (drop (length c) area) (omega arith) p.1 after in
-    rw (size, test, front, more) refl
+    front_command count area c (concat cs ++ rest) p.0 (e ∙ append_assoc c (concat cs) rest)
+    ∙ ap (λ commands. c ∷ commands) (cut_front count cs rest (concat cs ++ rest) (omega arith) p.1 refl)
 
 -- the first of the commands that are left
 pub one_command : (count : ℕ) (area command after : List ℕ) → IsCommand command → area ≡ command ++ after → 0 < count → first_commands count area ≡ command ∷ first_commands (count - 1) after
-unfolding first_commands
 one_command zero area c after p e h = absurd (omega arith)
-one_command (suc count) area c after p e h =
-    let size : u32_le_at area 4 ≡ length c = size_in_front area c after p e in
-    let long : length c ≤ length area = omega (arith, ap length e, length-append c after) in
-    let test = fits_in (length c) (length area) p.long long in
-    let front : take (length c) area ≡ c = ap (take (length c)) e ∙ take-append_seam c after in
-    let behind : drop (length c) area ≡ after = ap (drop (length c)) e ∙ drop-append_seam c after in
-    rw (size, test, front, behind, sub-one) refl
+one_command (suc count) area c after p e h = rw sub-one (front_command count area c after p e)
 
 -- where none is left
 pub no_command : (count : ℕ) (area : List ℕ) → count ≡ 0 → first_commands count area ≡ []
@@ -62,14 +60,13 @@ no_command count area h = rw h refl
 pub not_a_command : (count : ℕ) (area : List ℕ) → HasNoCommand area → first_commands count area ≡ []
 unfolding first_commands
 not_a_command zero area none = refl
-not_a_command (suc count) area none = elim_test (nat_le 8 (u32_le_at area 4) && nat_le 8 (length area) && nat_le (u32_le_at area 4) (length area)) refl
-  where
-    elim_test : (b : Bool) → (nat_le 8 (u32_le_at area 4) && nat_le 8 (length area) && nat_le (u32_le_at area 4) (length area)) ≡ b → cond b (take (u32_le_at area 4) area ∷ first_commands count (drop (u32_le_at area 4) area)) [] ≡ []
-    elim_test false h = refl
-    elim_test true h =
-        let low : 8 ≤ u32_le_at area 4 = low_of (u32_le_at area 4) (length area) h in
-        let high : u32_le_at area 4 ≤ length area = high_of (u32_le_at area 4) (length area) h in
-        absurd (none (take (u32_le_at area 4) area) (drop (u32_le_at area 4) area) (command_of_size area (u32_le_at area 4) refl low high) (sym (take-append-drop (u32_le_at area 4) area)))
+not_a_command (suc count) area none = elim (cases_Bool (nat_le 8 (u32_le_at area 4) && nat_le 8 (length area) && nat_le (u32_le_at area 4) (length area))) [
+  | inl h ↦
+      let low : 8 ≤ u32_le_at area 4 = low_of (u32_le_at area 4) (length area) h in
+      let high : u32_le_at area 4 ≤ length area = high_of (u32_le_at area 4) (length area) h in
+      absurd (none (take (u32_le_at area 4) area) (drop (u32_le_at area 4) area) (command_of_size area (u32_le_at area 4) refl low high) (sym (take-append-drop (u32_le_at area 4) area)))
+  | inr h ↦ rw h refl
+]
 
 pub ruleset of_commands = (one_command, no_command, not_a_command)
 

@@ -1,5 +1,5 @@
 -- Load commands by their kinds, one by one.
-use Rattle.std.proofs.Common.{◌≡◌, ℕ, ◌+◌, Bool, true, false, cond, List, ◌∷◌, length, refl}
+use Rattle.std.proofs.Common.{◌≡◌, ℕ, ◌+◌, Bool, true, false, cond, List, ◌∷◌, length, arith}
 use Rattle.std.specs.List.{filter_map, cons_option}
 use Rattle.macho_image.specs.Commands.{SegmentRecord, is_segment, is_uuid, is_symtab}
 use Rattle.macho_image.specs.Contents.{uuid_bytes, symtab_fields}
@@ -17,7 +17,4 @@ segments-cons offset command commands =
     by_kind : (s u t : Bool) (rest : List SegmentRecord)
         → cons_option (segment_of (cond s (Segment (record { offset = offset; bytes = command })) (cond u (Uuid (uuid_bytes command)) (cond t (Symtab (symtab_fields command)) Other)))) rest
         ≡ cond s (record { offset = offset; bytes = command } ∷ rest) rest
-    by_kind true u t rest = refl
-    by_kind false true t rest = refl
-    by_kind false false true rest = refl
-    by_kind false false false rest = refl
+    by_kind s u t rest = grind arith

@@ -1,6 +1,7 @@
 -- Commands and sections have room in an image, so there are not too many of them.
 use Rattle.std.proofs.Common.{◌≡◌, ℕ, zero, suc, ◌+◌, ◌*◌, ◌≤◌, Bool, true, false, cond, nat_le, ◌&&◌, List, [], ◌∷◌, ◌++◌, length, take, drop, refl, arith, length-append, length-drop, length-take}
 use Rattle.std.specs.List.{concat, AllByRecursion, filter_map, flat_map}
+use Rattle.std.proofs.lemmas.Bool.{cond_both}
 use Rattle.macho_image.specs.Layout.{u32_le_at, command_bytes, ncmds}
 use Rattle.macho_image.specs.Commands.{SegmentRecord, HasRoom, is_segment, first_commands, commands}
 use Rattle.macho_image.specs.Kinds.{load_commands_from, segment_of}
@@ -13,29 +14,27 @@ use Rattle.macho_image.proofs.SectionPlaces.{length-sections_in}
 length-first_commands : (count : ℕ) (area : List ℕ) → length (concat (first_commands count area)) ≤ length area
 unfolding first_commands
 length-first_commands zero area = omega arith
-length-first_commands (suc count) area = by_test (nat_le 8 (u32_le_at area 4) && nat_le 8 (length area) && nat_le (u32_le_at area 4) (length area)) refl (length-first_commands count (drop (u32_le_at area 4) area))
-  where
-    by_test : (b : Bool) → (nat_le 8 (u32_le_at area 4) && nat_le 8 (length area) && nat_le (u32_le_at area 4) (length area)) ≡ b
-        → length (concat (first_commands count (drop (u32_le_at area 4) area))) ≤ length (drop (u32_le_at area 4) area)
-        → length (concat (cond b (take (u32_le_at area 4) area ∷ first_commands count (drop (u32_le_at area 4) area)) [])) ≤ length area
-    by_test false e below = omega arith
-    by_test true e below =
-        let high : u32_le_at area 4 ≤ length area = high_of (u32_le_at area 4) (length area) e in
-        omega (arith, below, length-append (take (u32_le_at area 4) area) (concat (first_commands count (drop (u32_le_at area 4) area))), length-take (u32_le_at area 4) area, length-drop (u32_le_at area 4) area)
+length-first_commands (suc count) area =
+    cond_both (nat_le 8 (u32_le_at area 4) && nat_le 8 (length area) && nat_le (u32_le_at area 4) (length area))
+    (take (u32_le_at area 4) area ∷ first_commands count (drop (u32_le_at area 4) area)) [] (λ cs. length (concat cs) ≤ length area)
+    (λ e.
+    let high : u32_le_at area 4 ≤ length area = high_of (u32_le_at area 4) (length area) e in
+    omega (arith, length-first_commands count (drop (u32_le_at area 4) area), length-append (take (u32_le_at area 4) area) (concat (first_commands count (drop (u32_le_at area 4) area))), length-take (u32_le_at area 4) area, length-drop (u32_le_at area 4) area))
+    (λ e. omega arith)
 
 -- sections have room in their commands
 sections_fit : (offset : ℕ) (cs : List (List ℕ)) → AllByRecursion HasRoom cs → 80 * length (flat_map sections_in (filter_map segment_of (load_commands_from offset cs))) ≤ length (concat cs)
 unfolding load_commands_from
 sections_fit offset [] h = omega arith
 sections_fit offset (c ∷ cs) h =
-    rw (segments-cons offset c cs) (by_kind (is_segment c) refl (filter_map segment_of (load_commands_from (offset + length c) cs)) (sections_fit (offset + length c) cs h.1))
-  where
-    by_kind : (b : Bool) → is_segment c ≡ b → (rest : List SegmentRecord) → 80 * length (flat_map sections_in rest) ≤ length (concat cs)
-        → 80 * length (flat_map sections_in (cond b (record { offset = offset; bytes = c } ∷ rest) rest)) ≤ length (c ++ concat cs)
-    by_kind false e rest below = omega (arith, below, length-append c (concat cs))
-    by_kind true e rest below =
-        let segment : SegmentRecord = record { offset = offset; bytes = c } in
-        omega (arith, below, h.0.sections e, length-sections_in segment, length-append c (concat cs), length-append (sections_in segment) (flat_map sections_in rest))
+    let segment : SegmentRecord = record { offset = offset; bytes = c } in
+    let rest = filter_map segment_of (load_commands_from (offset + length c) cs) in
+    let below = sections_fit (offset + length c) cs h.1 in
+    let both = length-append c (concat cs) in
+    rw (segments-cons offset c cs)
+    (cond_both (is_segment c) (segment ∷ rest) rest (λ segments. 80 * length (flat_map sections_in segments) ≤ length (c ++ concat cs))
+    (λ e. omega (arith, below, both, h.0.sections e, length-sections_in segment, length-append (sections_in segment) (flat_map sections_in rest)))
+    (λ e. omega (arith, below, both)))
 
 -- each command has eight bytes
 commands_fit : (cs : List (List ℕ)) → AllByRecursion HasRoom cs → 8 * length cs ≤ length (concat cs)

@@ -3,7 +3,8 @@ use Rattle.std.proofs.Common.{◌≡◌, ℕ, zero, suc, ◌+◌, ◌*◌, ◌�
 use Rattle.std.specs.Prelude.{Contains}
 use Rattle.std.specs.List.{concat, AllByRecursion, filter_map, flat_map}
 use Rattle.std.proofs.lemmas.List.{drop-drop, drop-append-le, take-append-drop, take_at, drop_at}
-use Rattle.std.proofs.lemmas.List.Elements.{All-contains, All-from_recursion}
+use Rattle.std.proofs.lemmas.List.Elements.{All-contains, All-from_recursion, recursion_from_All, All-append}
+use Rattle.std.proofs.lemmas.Bool.{cond_both}
 use Rattle.macho_image.specs.Layout.{u32_le_at, ncmds, sizeofcmds, command_bytes}
 use Rattle.macho_image.specs.Commands.{SegmentRecord, HasRoom, first_commands, commands, is_segment, nsects}
 use Rattle.macho_image.specs.Kinds.{load_commands_from, segment_of, segments}
@@ -24,17 +25,14 @@ segments_stand : (image : List ℕ) (offset : ℕ) (cs : List (List ℕ)) (tail 
 unfolding load_commands_from
 segments_stand image offset [] tail room stands = tt
 segments_stand image offset (c ∷ cs) tail room stands =
-    rw (segments-cons offset c cs) (by_kind (is_segment c) refl (filter_map segment_of (load_commands_from (offset + length c) cs)) (segments_stand image (offset + length c) cs tail room.1 next))
-  where
-    here : drop offset image ≡ c ++ (concat cs ++ tail)
-    here = stands ∙ append_assoc c (concat cs) tail
-
-    next : drop (offset + length c) image ≡ concat cs ++ tail
-    next = sym (drop-drop (length c) offset image) ∙ ap (drop (length c)) here ∙ drop_at c (concat cs ++ tail) (length c) refl
-
-    by_kind : (b : Bool) → is_segment c ≡ b → (rest : List SegmentRecord) → AllByRecursion (IsSegmentOf image) rest → AllByRecursion (IsSegmentOf image) (cond b (record { offset = offset; bytes = c } ∷ rest) rest)
-    by_kind false e rest more = more
-    by_kind true e rest more = (record { rest = concat cs ++ tail; stands = here; room = room.0.sections e }, more)
+    let here : drop offset image ≡ c ++ (concat cs ++ tail) = stands ∙ append_assoc c (concat cs) tail in
+    let next : drop (offset + length c) image ≡ concat cs ++ tail =
+    sym (drop-drop (length c) offset image) ∙ ap (drop (length c)) here ∙ drop_at c (concat cs ++ tail) (length c) refl in
+    let rest = filter_map segment_of (load_commands_from (offset + length c) cs) in
+    let more = segments_stand image (offset + length c) cs tail room.1 next in
+    rw (segments-cons offset c cs)
+    (cond_both (is_segment c) (record { offset = offset; bytes = c } ∷ rest) rest (AllByRecursion (IsSegmentOf image))
+    (λ e. (record { rest = concat cs ++ tail; stands = here; room = room.0.sections e }, more)) (λ e. more))
 
 -- sections that stand one behind another
 records_stand : (image : List ℕ) (count offset : ℕ) (bytes rest : List ℕ) → 80 * count ≤ length bytes → drop offset image ≡ bytes ++ rest
@@ -62,27 +60,21 @@ sections_in-stand image segment is =
 -- and of several
 all_stand : (image : List ℕ) (segments : List SegmentRecord) → AllByRecursion (IsSegmentOf image) segments → AllByRecursion (IsSectionOf image) (flat_map sections_in segments)
 all_stand image [] h = tt
-all_stand image (segment ∷ segments) h = both (sections_in segment) (sections_in-stand image segment h.0) (all_stand image segments h.1)
-  where
-    both : (xs : List SectionRecord) → AllByRecursion (IsSectionOf image) xs → AllByRecursion (IsSectionOf image) (flat_map sections_in segments) → AllByRecursion (IsSectionOf image) (xs ++ flat_map sections_in segments)
-    both [] p q = q
-    both (x ∷ xs) p q = (p.0, both xs p.1 q)
+all_stand image (segment ∷ segments) h =
+    recursion_from_All _ _ (All-append (IsSectionOf image) (sections_in segment) (flat_map sections_in segments)
+    (All-from_recursion _ _ (sections_in-stand image segment h.0)) (All-from_recursion _ _ (all_stand image segments h.1)))
 
 -- the commands that are cut from bytes begin them
 front_of : (count : ℕ) (area : List ℕ) → (rest : List ℕ) × (area ≡ concat (first_commands count area) ++ rest)
 unfolding first_commands
 front_of zero area = (area, refl)
 front_of (suc count) area =
-    by_test (nat_le 8 (u32_le_at area 4) && nat_le 8 (length area) && nat_le (u32_le_at area 4) (length area)) (front_of count (drop (u32_le_at area 4) area))
-  where
-    by_test : (b : Bool) → (rest : List ℕ) × (drop (u32_le_at area 4) area ≡ concat (first_commands count (drop (u32_le_at area 4) area)) ++ rest)
-        → (rest : List ℕ) × (area ≡ concat (cond b (take (u32_le_at area 4) area ∷ first_commands count (drop (u32_le_at area 4) area)) []) ++ rest)
-    by_test false below = (area, refl)
-    by_test true below = (
-      below.0,
-      sym (take-append-drop (u32_le_at area 4) area) ∙ ap (λ bytes. take (u32_le_at area 4) area ++ bytes) below.1
-          ∙ sym (append_assoc (take (u32_le_at area 4) area) (concat (first_commands count (drop (u32_le_at area 4) area))) below.0),
-    )
+    let size = u32_le_at area 4 in
+    let below = front_of count (drop size area) in
+    cond_both (nat_le 8 size && nat_le 8 (length area) && nat_le size (length area)) (take size area ∷ first_commands count (drop size area)) []
+    (λ cs. (rest : List ℕ) × (area ≡ concat cs ++ rest))
+    (λ e. (below.0, sym (take-append-drop size area) ∙ ap (λ bytes. take size area ++ bytes) below.1 ∙ sym (append_assoc (take size area) (concat (first_commands count (drop size area))) below.0)))
+    (λ e. (area, refl))
 
 module _ (image : List ℕ) (room : AllByRecursion HasRoom (commands image)) where
   each_segment : AllByRecursion (IsSegmentOf image) (segments image)

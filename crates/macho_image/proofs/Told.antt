@@ -1,22 +1,21 @@
 -- What is known of each image: how long it is, that its commands have no fault, and that its UUID has sixteen bytes.
-use Rattle.std.proofs.Common.{◌≡◌, ℕ, zero, suc, ◌+◌, ◌^◌, ◌<◌, ◌≤◌, Bool, true, false, cond, nat_lt, ◌||◌, List, [], ◌∷◌, ◌++◌, length, Option, Some, None, refl, sym, ap, ◌∙◌, inr, arith, append_assoc, length-append, length-take, length-drop, unwrap_or}
+use Rattle.std.proofs.Common.{◌≡◌, ℕ, zero, suc, ◌+◌, ◌^◌, ◌<◌, ◌≤◌, Bool, true, false, cond, nat_lt, ◌||◌, List, [], ◌∷◌, ◌++◌, length, Option, Some, None, refl, sym, ap, ◌∙◌, inl, inr, arith, append_assoc, length-append, length-take, length-drop, unwrap_or}
 use Rattle.std.specs.List.{concat, AllByRecursion, list_any, find, starts_with}
 use Rattle.std.specs.Option.{option_map}
 use Rattle.std.specs.Prelude.{nat_eq, Contains, slice_index_or}
-use Rattle.std.proofs.lemmas.Option.{none-some}
 use Rattle.std.proofs.lemmas.List.{append-nil}
 use Rattle.std.proofs.lemmas.List.Folds.{concat-append}
+use Rattle.std.proofs.lemmas.Bool.{ltb-false, cases_Bool, or_parts}
 use Rattle.macho_image.specs.Layout.{magic, sizeofcmds, ncmds, command_bytes}
 use Rattle.macho_image.specs.Commands.{IsCommand, IsFront, HasRoom, commands, is_uuid, is_symtab}
 use Rattle.macho_image.specs.Fault.{header_fault, command_fault, IsImage}
 use Rattle.macho_image.specs.Contents.{uuid_bytes, uuid_of, symtab_fields, symtab_of}
 use Rattle.macho_image.specs.declared.fault.ImageFault.{ImageFault}
-use Rattle.macho_image.proofs.CommandFaults.{not_taken, not_below, passes_tests, room_of}
+use Rattle.macho_image.proofs.CommandFaults.{not_taken, passes_tests, none_or_some, room_of}
 use Rattle.macho_image.proofs.Images.{first_commands-front}
 
 not_untaken : {A : Type 0} (b : Bool) (fault : A) (o : Option A) → cond b o (Some fault) ≡ None → (b ≡ true) × (o ≡ None)
-not_untaken true fault o h = (refl, h)
-not_untaken false fault o h = absurd (none-some fault (sym h))
+not_untaken b fault o h = grind arith
 
 -- bytes without a fault in the header are at least as long as it and the commands, and not too long
 pub record HasHeader (bytes : List ℕ) : Type 0 where
@@ -30,11 +29,11 @@ has_header bytes fine =
     let second = not_untaken (starts_with nat_eq bytes magic) _ _ first.1 in
     let third = not_taken (nat_lt (length bytes) 32) _ _ second.1 in
     let fourth = not_taken (nat_lt (length bytes) (32 + sizeofcmds bytes)) _ _ third.1 in
-    let small : length bytes ≤ 4294967295 = not_below _ _ first.0 in
+    let small : length bytes ≤ 4294967295 = ltb-false _ _ first.0 in
     record {
       small = omega arith;
-      header = not_below _ _ third.0;
-      commands = not_below _ _ fourth.0;
+      header = ltb-false _ _ third.0;
+      commands = ltb-false _ _ fourth.0;
     }
 
 pub length-image : (image : List ℕ) → IsImage image → length image < 2 ^ 32
@@ -59,20 +58,14 @@ front_to area count before after command front = record {
 -- no command of an image has a fault
 pub command_fault-image : (image : List ℕ) → IsImage image → (before after : List (List ℕ)) (command : List ℕ) → commands image ≡ before ++ command ∷ after
     → command_fault (length before) (list_any is_uuid before) (list_any is_symtab before) command ≡ None
-command_fault-image image sound before after command split = none_of (command_fault (length before) (list_any is_uuid before) (list_any is_symtab before) command) refl
-  where
-    same : sound.commands ≡ before ++ command ∷ after
-    same = sym (first_commands-front (ncmds image) (command_bytes image) sound.commands sound.sound.1) ∙ split
-
-    front : IsFront (command_bytes image) (ncmds image) (before ++ command ∷ after)
-    front = rw same at sound.sound.1
-
-    below : length before < ncmds image
-    below = omega (arith, front.number, length-append before (command ∷ after))
-
-    none_of : (o : Option ImageFault) → command_fault (length before) (list_any is_uuid before) (list_any is_symtab before) command ≡ o → command_fault (length before) (list_any is_uuid before) (list_any is_symtab before) command ≡ None
-    none_of None e = e
-    none_of (Some fault) e = absurd (sound.sound.0 (length before) below fault (inr (before, command, front_to (command_bytes image) (ncmds image) before after command front, e)))
+command_fault-image image sound before after command split =
+    let same : sound.commands ≡ before ++ command ∷ after = sym (first_commands-front (ncmds image) (command_bytes image) sound.commands sound.sound.1) ∙ split in
+    let front : IsFront (command_bytes image) (ncmds image) (before ++ command ∷ after) = rw same at sound.sound.1 in
+    let below : length before < ncmds image = omega (arith, front.number, length-append before (command ∷ after)) in
+    elim (none_or_some (command_fault (length before) (list_any is_uuid before) (list_any is_symtab before) command)) [
+      | inl fine ↦ fine
+      | inr e ↦ absurd (sound.sound.0 (length before) below e.0 (inr (before, command, front_to (command_bytes image) (ncmds image) before after command front, e.1)))
+    ]
 
 -- what passes first stands between others
 pub record FirstBetween (p : List ℕ → Bool) (xs : List (List ℕ)) : Type 0 where
@@ -84,17 +77,13 @@ pub record FirstBetween (p : List ℕ → Bool) (xs : List (List ℕ)) : Type 0 
   pub found : find p xs ≡ Some command
 
 first_between : (p : List ℕ → Bool) (xs : List (List ℕ)) → list_any p xs ≡ true → FirstBetween p xs
-first_between p [] h = absurd (false_true h)
-  where
-    false_true : false ≡ true → ⊥
-    false_true e = cc
-first_between p (y ∷ ys) h = by_test (p y) refl (first_between p ys)
-  where
-    by_test : (b : Bool) → p y ≡ b → (list_any p ys ≡ true → FirstBetween p ys) → FirstBetween p (y ∷ ys)
-    by_test true e below = record { before = []; command = y; after = ys; split = refl; passes = e; found = rw e refl }
-    by_test false e below =
-        let more = below (rw e at h) in
-        record { before = y ∷ more.before; command = more.command; after = more.after; split = ap (λ s. y ∷ s) more.split; passes = more.passes; found = rw e more.found }
+first_between p [] h = cc h
+first_between p (y ∷ ys) h = elim (cases_Bool (p y)) [
+  | inl e ↦ record { before = []; command = y; after = ys; split = refl; passes = e; found = rw e refl }
+  | inr e ↦
+      let more = first_between p ys (rw e at h) in
+      record { before = y ∷ more.before; command = more.command; after = more.after; split = ap (λ s. y ∷ s) more.split; passes = more.passes; found = rw e more.found }
+]
 
 -- the UUID of an image has sixteen bytes
 pub uuid_of-length : (image : List ℕ) → IsImage image → length (uuid_of image) ≡ 16
@@ -102,7 +91,7 @@ uuid_of-length image sound =
     let same : sound.commands ≡ commands image = sym (first_commands-front (ncmds image) (command_bytes image) sound.commands sound.sound.1) in
     let first = first_between is_uuid (commands image) (rw same at sound.has_uuid) in
     let fine = command_fault-image image sound first.before first.after first.command first.split in
-    let long : 24 ≤ length first.command = not_below _ _ (rw first.passes at (passes_tests _ _ _ first.command fine).uuid) in
+    let long : 24 ≤ length first.command = ltb-false _ _ (rw first.passes at (passes_tests _ _ _ first.command fine).uuid) in
     rw first.found (simp (length-take, length-drop) (omega arith))
 
 -- what a list contains stands between others
@@ -117,15 +106,8 @@ split_contained (y ∷ ys) x (suc k) h e =
 find_behind : (p : List ℕ → Bool) (before after : List (List ℕ)) (x : List ℕ) → list_any p before ≡ false → p x ≡ true → find p (before ++ x ∷ after) ≡ Some x
 find_behind p [] after x none passes = rw passes refl
 find_behind p (y ∷ before) after x none passes =
-    let parts = neither (p y) (list_any p before) none in
+    let parts = or_parts (p y) (list_any p before) none in
     rw parts.0 (find_behind p before after x parts.1 passes)
-  where
-    neither : (a b : Bool) → (a || b) ≡ false → (a ≡ false) × (b ≡ false)
-    neither false b h = (refl, h)
-    neither true b h = absurd (true_false h)
-      where
-        true_false : true ≡ false → ⊥
-        true_false e = cc
 
 -- so the UUID of an image is that of any LC_UUID in it, and likewise the symbol table
 pub uuid_of-any : (image command : List ℕ) → IsImage image → Contains (commands image) command → is_uuid command ≡ true → uuid_of image ≡ uuid_bytes command
@@ -144,13 +126,10 @@ symtab_of-any image command sound contained symtab =
 
 -- each command of an image has room for what its kind holds
 pub commands-room : (image : List ℕ) → IsImage image → AllByRecursion HasRoom (commands image)
-commands-room image sound = each_room [] (commands image) refl whole
+commands-room image sound = each_room [] (commands image) refl (rw same at sound.sound.1.each)
   where
     same : sound.commands ≡ commands image
     same = sym (first_commands-front (ncmds image) (command_bytes image) sound.commands sound.sound.1)
-
-    whole : AllByRecursion IsCommand (commands image)
-    whole = rw same at sound.sound.1.each
 
     each_room : (before after : List (List ℕ)) → commands image ≡ before ++ after → AllByRecursion IsCommand after → AllByRecursion HasRoom after
     each_room before [] split h = tt

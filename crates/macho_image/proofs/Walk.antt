@@ -2,7 +2,7 @@
 use Rattle.std.proofs.Common.{◌≡◌, ℕ, ◌+◌, ◌<◌, Bool, true, false, cond, ◌||◌, List, [], ◌∷◌, ◌++◌, length, Option, Some, None, refl, sym, ap, ◌∙◌, inl, inr, arith, append_assoc, length-append, below_more, subst}
 use Rattle.std.specs.List.{concat, AllByRecursion, list_any, find}
 use Rattle.std.specs.Option.{option_map, option_or, is_some}
-use Rattle.std.proofs.lemmas.List.{append-nil}
+use Rattle.std.proofs.lemmas.List.{append-nil, same_from_push}
 use Rattle.std.proofs.lemmas.List.Folds.{concat-append, find-append}
 use Rattle.macho_image.specs.Commands.{IsCommand, IsFront, HasRoom, is_uuid, is_symtab}
 use Rattle.macho_image.specs.Inner.{HasNoCommand, AreContents}
@@ -13,7 +13,6 @@ use Rattle.macho_image.specs.declared.fault.ImageFault.TheVariants.{BadCommand}
 use Rattle.macho_image.specs.declared.symtab_command.Symtab.{Symtab}
 use Rattle.macho_image.proofs.Fronts.{fronts_agree, one_front}
 use Rattle.macho_image.proofs.CommandFaults.{room_of}
-use Rattle.std.proofs.lemmas.Option.{none-some}
 
 -- Before this place stand commands without a fault, the rest is behind them, and they say this.
 pub record Reached (area : List ℕ) (index : ℕ) (rest : List ℕ) (uuid : Option (List ℕ)) (symtab : Option Symtab) : Type 0 where
@@ -29,10 +28,7 @@ pub record Reached (area : List ℕ) (index : ℕ) (rest : List ℕ) (uuid : Opt
 -- what is found in a list is there
 pub is_some-found : {X : Type 0} (f : List ℕ → X) (p : List ℕ → Bool) (xs : List (List ℕ)) → is_some (option_map f (find p xs)) ≡ list_any p xs
 is_some-found f p [] = refl
-is_some-found f p (x ∷ xs) = elim (p x) as (λ b. is_some (option_map f (cond b (Some x) (find p xs))) ≡ (b || list_any p xs)) [
-  | true ↦ refl
-  | false ↦ is_some-found f p xs
-]
+is_some-found f p (x ∷ xs) = grind (arith, is_some-found f p xs)
 
 -- what two lists say, the first one first
 found-append : {X : Type 0} (f : List ℕ → X) (p : List ℕ → Bool) (xs ys : List (List ℕ)) → option_map f (find p (xs ++ ys)) ≡ option_or (option_map f (find p xs)) (option_map f (find p ys))
@@ -45,16 +41,6 @@ found-append f p xs ys = ap (option_map f) (find-append p xs ys) ∙ elim (find 
 each_more : (P : List ℕ → Type 0) (xs : List (List ℕ)) (x : List ℕ) → AllByRecursion P xs → P x → AllByRecursion P (xs ++ x ∷ [])
 each_more P [] x h p = (p, tt)
 each_more P (y ∷ xs) x h p = (h.0, each_more P xs x h.1 p)
-
--- the last one of a list
-pub last_same : (xs ys : List (List ℕ)) (x y : List ℕ) → length xs ≡ length ys → xs ++ x ∷ [] ≡ ys ++ y ∷ [] → (xs ≡ ys) × (x ≡ y)
-last_same [] [] x y h e = (refl, cc)
-last_same [] (b ∷ ys) x y h e = absurd (omega arith)
-last_same (a ∷ xs) [] x y h e = absurd (omega arith)
-last_same (a ∷ xs) (b ∷ ys) x y h e =
-    let below = last_same xs ys x y (omega arith) (cc) in
-    let heads : a ≡ b = cc in
-    (cc (heads, below.0), below.1)
 
 module _ (area : List ℕ) (index : ℕ) (rest : List ℕ) (uuid : Option (List ℕ)) (symtab : Option Symtab) (reached : Reached area index rest uuid symtab) where
   -- what was seen, as a list has it
@@ -103,7 +89,7 @@ module _ (area : List ℕ) (index : ℕ) (rest : List ℕ) (uuid : Option (List 
         reached.before,
         command,
         front_more,
-        ap (λ b. command_fault index b (list_any is_symtab reached.before) command) (sym seen_uuid) ∙ ap (λ b. command_fault index (is_some uuid) b command) (sym seen_symtab) ∙ e,
+        cc (seen_uuid, seen_symtab, e),
       ),
     )
 
@@ -111,7 +97,7 @@ module _ (area : List ℕ) (index : ℕ) (rest : List ℕ) (uuid : Option (List 
     this_one : (xs : List (List ℕ)) (x : List ℕ) → IsFront area (index + 1) (xs ++ x ∷ []) → (reached.before ≡ xs) × (command ≡ x)
     this_one xs x front =
         let same = one_front area (index + 1) (reached.before ++ command ∷ []) (xs ++ x ∷ []) front_more front in
-        last_same reached.before xs command x (omega (arith, reached.number, front.number, length-append xs (x ∷ []))) same
+        same_from_push reached.before xs command x same
 
     -- a command without a fault leads on
     pub reached_next : command_fault index (is_some uuid) (is_some symtab) command ≡ None
@@ -126,11 +112,7 @@ module _ (area : List ℕ) (index : ℕ) (rest : List ℕ) (uuid : Option (List 
         | inl none ↦ none.0 (reached.before ++ command ∷ [], front_more)
         | inr at ↦
             let same = this_one at.0 at.1 at.2 in
-            let clear : command_fault index (list_any is_uuid at.0) (list_any is_symtab at.0) at.1 ≡ None =
-            ap (λ xs. command_fault index (list_any is_uuid xs) (list_any is_symtab xs) at.1) (sym same.0)
-            ∙ ap (λ x. command_fault index (list_any is_uuid reached.before) (list_any is_symtab reached.before) x) (sym same.1)
-            ∙ ap (λ b. command_fault index b (list_any is_symtab reached.before) command) (sym seen_uuid) ∙ ap (λ b. command_fault index (is_some uuid) b command) (sym seen_symtab) ∙ fine in
-            none-some fault (sym clear ∙ at.3)
+            cc (same.0, same.1, seen_uuid, seen_symtab, fine, at.3)
       ]);
       room = each_more HasRoom reached.before command reached.room (room_of index (is_some uuid) (is_some symtab) command whole.long fine);
       uuid_is = ap (λ o. option_or o (uuid_among (command ∷ []))) reached.uuid_is ∙ sym (found-append uuid_bytes is_uuid reached.before (command ∷ []));
