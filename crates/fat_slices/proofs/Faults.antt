@@ -1,6 +1,6 @@
 -- Which fault counts, and that there is one or none.
 use Rattle.std.proofs.Common.{◌≡◌, ℕ, zero, suc, ◌+◌, ◌<◌, ◌≤◌, Bool, true, false, List, length, refl, sym, ap, ◌∙◌, ◌⊎◌, inl, inr, arith}
-use Rattle.std.proofs.lemmas.Bool.{cases_lt, both_ways}
+use Rattle.std.proofs.lemmas.Bool.{cases_lt, cases_order, cases_Bool, true_from_ne_false}
 use Rattle.fat_slices.specs.Kind.{kind_of, is_fat}
 use Rattle.fat_slices.specs.Layout.{nfat_arch, table_end, arch_at}
 use Rattle.fat_slices.specs.Fault.{IsOutside, IsTooLarge, Applies, number, entry, IsFatFault, IsUniversal}
@@ -18,149 +18,77 @@ record IsClear (file : List ℕ) (k : ℕ) : Type 0 where
   small : 6 < k → HasNone (IsTooLarge file) (nfat_arch file)
 
 none_below : (file : List ℕ) (k : ℕ) → IsClear file k → (other : FatFault) → number other < k → Applies file other → ⊥
-none_below file k clear NotUniversal low wrong = both_ways (is_fat (kind_of file)) wrong (clear.kind low)
+none_below file k clear NotUniversal low wrong = cc (wrong, clear.kind low)
 none_below file k clear HeaderTruncated low wrong = let h = clear.header low in absurd (omega arith)
 none_below file k clear (TooManyArches n) low wrong = let h = clear.few low in absurd (omega (arith, wrong.1))
 none_below file k clear TableTruncated low wrong = let h = clear.table low in absurd (omega arith)
 none_below file k clear (SliceOutside i) low wrong = clear.inside low i wrong.0 wrong.1
 none_below file k clear (TooLarge i) low wrong = clear.small low i wrong.0 wrong.1
 
--- a fault that is of no entry
-alone : (file : List ℕ) (fault : FatFault) → entry fault ≡ 0 → IsClear file (number fault) → Applies file fault → IsFatFault file fault
-alone file fault e clear applies = record {
+-- the first that applies
+first_applies : (file : List ℕ) (fault : FatFault) → Applies file fault → IsClear file (number fault)
+    → ((other : FatFault) → number other ≡ number fault → entry other < entry fault → Applies file other → ⊥) → IsFatFault file fault
+first_applies file fault applies clear earlier = record {
   applies = applies;
   first = λ other before wrong. elim before [
     | inl low ↦ none_below file (number fault) clear other low wrong
-    | inr same ↦ absurd (omega (arith, same.1))
+    | inr same ↦ earlier other same.0 same.1 wrong
   ];
 }
 
 pub not_universal : (file : List ℕ) → is_fat (kind_of file) ≡ false → IsFatFault file NotUniversal
-not_universal file wrong =
-    alone file NotUniversal refl (record {
-      kind = λ h. absurd (omega arith);
-      header = λ h. absurd (omega arith);
-      few = λ h. absurd (omega arith);
-      table = λ h. absurd (omega arith);
-      inside = λ h. absurd (omega arith);
-      small = λ h. absurd (omega arith);
-    }) wrong
+not_universal file wrong = first_applies file NotUniversal wrong (grind arith) (λ other e low. absurd (omega arith))
 
 pub header_truncated : (file : List ℕ) → is_fat (kind_of file) ≡ true → length file < 8 → IsFatFault file HeaderTruncated
-header_truncated file kind wrong =
-    alone file HeaderTruncated refl (record {
-      kind = λ h. kind;
-      header = λ h. absurd (omega arith);
-      few = λ h. absurd (omega arith);
-      table = λ h. absurd (omega arith);
-      inside = λ h. absurd (omega arith);
-      small = λ h. absurd (omega arith);
-    }) wrong
+header_truncated file kind wrong = first_applies file HeaderTruncated wrong (grind arith) (λ other e low. absurd (omega arith))
 
 pub too_many_arches : (file : List ℕ) (n : ℕ) → is_fat (kind_of file) ≡ true → 8 ≤ length file → n ≡ nfat_arch file → 32 < n → IsFatFault file (TooManyArches n)
 too_many_arches file n kind header e wrong =
-    alone file (TooManyArches n) refl (record {
-      kind = λ h. kind;
-      header = λ h. header;
-      few = λ h. absurd (omega arith);
-      table = λ h. absurd (omega arith);
-      inside = λ h. absurd (omega arith);
-      small = λ h. absurd (omega arith);
-    }) (e, omega arith)
+    first_applies file (TooManyArches n) (e, omega arith) (grind arith) (λ other e low. absurd (omega arith))
 
 pub table_truncated : (file : List ℕ) → is_fat (kind_of file) ≡ true → 8 ≤ length file → nfat_arch file ≤ 32 → length file < table_end file → IsFatFault file TableTruncated
-table_truncated file kind header few wrong =
-    alone file TableTruncated refl (record {
-      kind = λ h. kind;
-      header = λ h. header;
-      few = λ h. few;
-      table = λ h. absurd (omega arith);
-      inside = λ h. absurd (omega arith);
-      small = λ h. absurd (omega arith);
-    }) wrong
+table_truncated file kind header few wrong = first_applies file TableTruncated wrong (grind arith) (λ other e low. absurd (omega arith))
+
+-- a table has none of the faults that are of no entry
+clear_upto : (file : List ℕ) (k : ℕ) → HasTable file → (5 < k → HasNone (IsOutside file) (nfat_arch file)) → (6 < k → HasNone (IsTooLarge file) (nfat_arch file)) → IsClear file k
+clear_upto file k room inside small =
+    record { kind = λ h. room.kind; header = λ h. room.header; few = λ h. room.few; table = λ h. room.table; inside = inside; small = small }
 
 -- a fault of the same number, of an entry before the first
 earlier_outside : (file : List ℕ) (i : ℕ) → IsFirst (IsOutside file) (nfat_arch file) i → (other : FatFault) → number other ≡ 5 → entry other < i → Applies file other → ⊥
 earlier_outside file i first (SliceOutside j) e low wrong = first.first j low wrong.1
-earlier_outside file i first NotUniversal e low wrong = absurd (omega arith)
-earlier_outside file i first HeaderTruncated e low wrong = absurd (omega arith)
-earlier_outside file i first (TooManyArches n) e low wrong = absurd (omega arith)
-earlier_outside file i first TableTruncated e low wrong = absurd (omega arith)
-earlier_outside file i first (TooLarge j) e low wrong = absurd (omega arith)
+earlier_outside file i first other e low wrong = absurd (omega arith)
 
 earlier_too_large : (file : List ℕ) (i : ℕ) → IsFirst (IsTooLarge file) (nfat_arch file) i → (other : FatFault) → number other ≡ 6 → entry other < i → Applies file other → ⊥
 earlier_too_large file i first (TooLarge j) e low wrong = first.first j low wrong.1
-earlier_too_large file i first NotUniversal e low wrong = absurd (omega arith)
-earlier_too_large file i first HeaderTruncated e low wrong = absurd (omega arith)
-earlier_too_large file i first (TooManyArches n) e low wrong = absurd (omega arith)
-earlier_too_large file i first TableTruncated e low wrong = absurd (omega arith)
-earlier_too_large file i first (SliceOutside j) e low wrong = absurd (omega arith)
+earlier_too_large file i first other e low wrong = absurd (omega arith)
 
 pub slice_outside : (file : List ℕ) (i : ℕ) → HasTable file → IsFirst (IsOutside file) (nfat_arch file) i → IsFatFault file (SliceOutside i)
-slice_outside file i room wrong = record {
-  applies = (wrong.below, wrong.holds);
-  first = λ other before applies. elim before [
-    | inl low ↦ none_below file 5 (record {
-      kind = λ h. room.kind;
-      header = λ h. room.header;
-      few = λ h. room.few;
-      table = λ h. room.table;
-      inside = λ h. absurd (omega arith);
-      small = λ h. absurd (omega arith);
-    }) other low applies
-    | inr same ↦ earlier_outside file i wrong other same.0 same.1 applies
-  ];
-}
+slice_outside file i room wrong =
+    first_applies file (SliceOutside i) (wrong.below, wrong.holds) (clear_upto file 5 room (λ h. absurd (omega arith)) (λ h. absurd (omega arith)))
+    (earlier_outside file i wrong)
 
 pub too_large : (file : List ℕ) (i : ℕ) → HasTable file → HasNone (IsOutside file) (nfat_arch file) → IsFirst (IsTooLarge file) (nfat_arch file) i → IsFatFault file (TooLarge i)
-too_large file i room inside wrong = record {
-  applies = (wrong.below, wrong.holds);
-  first = λ other before applies. elim before [
-    | inl low ↦ none_below file 6 (record {
-      kind = λ h. room.kind;
-      header = λ h. room.header;
-      few = λ h. room.few;
-      table = λ h. room.table;
-      inside = λ h. inside;
-      small = λ h. absurd (omega arith);
-    }) other low applies
-    | inr same ↦ earlier_too_large file i wrong other same.0 same.1 applies
-  ];
-}
+too_large file i room inside wrong =
+    first_applies file (TooLarge i) (wrong.below, wrong.holds) (clear_upto file 6 room (λ h. inside) (λ h. absurd (omega arith))) (earlier_too_large file i wrong)
 
 -- no fault is left
 below_seven : (fault : FatFault) → number fault < 7
-below_seven NotUniversal = omega arith
-below_seven HeaderTruncated = omega arith
-below_seven (TooManyArches n) = omega arith
-below_seven TableTruncated = omega arith
-below_seven (SliceOutside i) = omega arith
-below_seven (TooLarge i) = omega arith
+below_seven fault = grind arith
 
 pub universal : (file : List ℕ) → HasTable file → HasNone (IsOutside file) (nfat_arch file) → HasNone (IsTooLarge file) (nfat_arch file) → IsUniversal file
 universal file room inside small = record {
-  none = λ fault wrong. none_below file 7 (record {
-    kind = λ h. room.kind;
-    header = λ h. room.header;
-    few = λ h. room.few;
-    table = λ h. room.table;
-    inside = λ h. inside;
-    small = λ h. small;
-  }) fault (below_seven fault) wrong;
+  none = λ fault wrong. none_below file 7 (clear_upto file 7 room (λ h. inside) (λ h. small)) fault (below_seven fault) wrong;
 }
 
 -- what no fault leaves
 pub table_of : (file : List ℕ) → IsUniversal file → HasTable file
 table_of file sound = record {
-  kind = by_kind (is_fat (kind_of file)) refl;
+  kind = true_from_ne_false (is_fat (kind_of file)) (λ e. sound.none NotUniversal e);
   header = elim (cases_lt (length file) 8) [ inl low ↦ absurd (sound.none HeaderTruncated low) | inr high ↦ high ];
   few = elim (cases_lt 32 (nfat_arch file)) [ inl high ↦ absurd (sound.none (TooManyArches (nfat_arch file)) (refl, high)) | inr low ↦ low ];
   table = elim (cases_lt (length file) (table_end file)) [ inl low ↦ absurd (sound.none TableTruncated low) | inr high ↦ high ];
 }
-  where
-    by_kind : (b : Bool) → is_fat (kind_of file) ≡ b → is_fat (kind_of file) ≡ true
-    by_kind true e = e
-    by_kind false e = absurd (sound.none NotUniversal e)
 
 pub inside_of : (file : List ℕ) (i : ℕ) → IsUniversal file → i < nfat_arch file → (arch_at file i).offset + (arch_at file i).size ≤ length file
 inside_of file i sound h =
@@ -187,22 +115,13 @@ same_applied file (TooLarge i) (TooLarge j) n e p q = ap TooLarge e
 same_applied file f g n e p q = absurd (omega arith)
 
 pub one_fat_fault : (file : List ℕ) (f g : FatFault) → IsFatFault file f → IsFatFault file g → f ≡ g
-one_fat_fault file f g p q = elim (cases_lt (number f) (number g)) [
-  | inl low ↦ absurd (q.first f (inl low) p.applies)
-  | inr above ↦ elim (cases_lt (number g) (number f)) [
-    | inl low ↦ absurd (p.first g (inl low) q.applies)
-    | inr below ↦ by_entry (omega arith)
+one_fat_fault file f g p q = elim (cases_order (number f) (number g)) [
+  | inl n ↦ elim (cases_order (entry f) (entry g)) [
+    | inl e ↦ same_applied file f g n e p.applies q.applies
+    | inr apart ↦ elim apart [ inl low ↦ absurd (q.first f (inr (n, low)) p.applies) | inr low ↦ absurd (p.first g (inr (sym n, low)) q.applies) ]
   ]
+  | inr apart ↦ elim apart [ inl low ↦ absurd (q.first f (inl low) p.applies) | inr low ↦ absurd (p.first g (inl low) q.applies) ]
 ]
-  where
-    by_entry : number f ≡ number g → f ≡ g
-    by_entry n = elim (cases_lt (entry f) (entry g)) [
-      | inl low ↦ absurd (q.first f (inr (n, low)) p.applies)
-      | inr above ↦ elim (cases_lt (entry g) (entry f)) [
-        | inl low ↦ absurd (p.first g (inr (sym n, low)) q.applies)
-        | inr below ↦ same_applied file f g n (omega arith) p.applies q.applies
-      ]
-    ]
 
 pub no_fat_fault : (file : List ℕ) (f : FatFault) → IsUniversal file → IsFatFault file f → ⊥
 no_fat_fault file f sound fault = sound.none f fault.applies
@@ -225,7 +144,19 @@ is_less : (a b : ℕ) → (a < b) ⊎ (a < b → ⊥)
 is_less a b = elim (cases_lt a b) [ inl low ↦ inl low | inr high ↦ inr (λ low. absurd (omega arith)) ]
 
 pub universal_or_fault : (file : List ℕ) → IsUniversal file ⊎ ((fault : FatFault) × IsFatFault file fault)
-universal_or_fault file = by_kind (is_fat (kind_of file)) refl
+universal_or_fault file = elim (cases_Bool (is_fat (kind_of file))) [
+  | inl kind ↦ elim (cases_lt (length file) 8) [
+    | inl short ↦ inr (HeaderTruncated, header_truncated file kind short)
+    | inr header ↦ elim (cases_lt 32 (nfat_arch file)) [
+      | inl many ↦ inr (TooManyArches (nfat_arch file), too_many_arches file (nfat_arch file) kind header refl many)
+      | inr few ↦ elim (cases_lt (length file) (table_end file)) [
+        | inl cut ↦ inr (TableTruncated, table_truncated file kind header few cut)
+        | inr table ↦ by_room (record { kind = kind; header = header; few = few; table = table })
+      ]
+    ]
+  ]
+  | inr wrong ↦ inr (NotUniversal, not_universal file wrong)
+]
   where
     by_room : HasTable file → IsUniversal file ⊎ ((fault : FatFault) × IsFatFault file fault)
     by_room room = elim (first_or_none (IsOutside file) (λ i. is_less (length file) ((arch_at file i).offset + (arch_at file i).size)) (nfat_arch file)) [
@@ -233,18 +164,5 @@ universal_or_fault file = by_kind (is_fat (kind_of file)) refl
       | inr inside ↦ elim (first_or_none (IsTooLarge file) (λ i. is_less 4294967295 (arch_at file i).size) (nfat_arch file)) [
         | inl large ↦ inr (TooLarge large.0, too_large file large.0 room inside large.1)
         | inr small ↦ inl (universal file room inside small)
-      ]
-    ]
-
-    by_kind : (b : Bool) → is_fat (kind_of file) ≡ b → IsUniversal file ⊎ ((fault : FatFault) × IsFatFault file fault)
-    by_kind false e = inr (NotUniversal, not_universal file e)
-    by_kind true e = elim (cases_lt (length file) 8) [
-      | inl short ↦ inr (HeaderTruncated, header_truncated file e short)
-      | inr header ↦ elim (cases_lt 32 (nfat_arch file)) [
-        | inl many ↦ inr (TooManyArches (nfat_arch file), too_many_arches file (nfat_arch file) e header refl many)
-        | inr few ↦ elim (cases_lt (length file) (table_end file)) [
-          | inl cut ↦ inr (TableTruncated, table_truncated file e header few cut)
-          | inr table ↦ by_room (record { kind = e; header = header; few = few; table = table })
-        ]
       ]
     ]
