@@ -1,3 +1,3 @@
 pub mod Gains
 pub mod Known
-mod Taken
+pub mod Taken

@@ -1,55 +1,44 @@
 -- Frames by their lines, and the first line that is none.
-use Rattle.std.proofs.Common.{◌≡◌, ◌∙◌, sym, ap, ap₂, refl, ℕ, ◌+◌, List, [], ◌∷◌, ◌++◌, map}
+use Rattle.std.proofs.Common.{◌≡◌, ◌∙◌, sym, ap, ap₂, refl, ℕ, ◌+◌, List, [], ◌∷◌, ◌++◌, map, arith}
 use Rattle.std.proofs.Common.{Option, Some, None, Result, Ok, Err}
+use Rattle.std.proofs.lemmas.List.{append-nil}
 use Rattle.archive_words.specs.Lines.{Line, counting}
 use Rattle.crash_frames.specs.Frames.{AreFrames, IsFirstFault, IsFrames, frame_then, frames_in, frames_of, line_frame, onto}
 use Rattle.crash_frames.specs.declared.frame.Frame.{Frame}
+use Rattle.crash_frames.proofs.Sequels.{behind, behind-nil}
 
 -- ---- lines that are frames
 
--- a frame, and those behind it, are these
-record IsOnto (o : Option Frame) (r : Result (List Frame) ℕ) (frames : List Frame) : Type 0 where
-  frame : Frame
-  rest : List Frame
-  means : o ≡ Some frame
-  read : r ≡ Ok rest
-  made : frames ≡ frame ∷ rest
-
-then_ok : (before : ℕ) (o : Option Frame) (r : Result (List Frame) ℕ) (frames : List Frame) → frame_then before o r ≡ Ok frames → IsOnto o r frames
-then_ok before None r frames h = cc
-then_ok before (Some frame) (Ok rest) frames h = record { frame = frame; rest = rest; means = refl; read = refl; made = cc }
-then_ok before (Some frame) (Err line) frames h = cc
+-- a frame, and those behind it
+meant_then : (before : ℕ) (o : Option Frame) (os : List (Option Frame)) (r : Result (List Frame) ℕ) (frames : List Frame)
+    → frame_then before o r ≡ Ok frames → ((rest : List Frame) → r ≡ Ok rest → os ≡ map Some rest) → o ∷ os ≡ map Some frames
+meant_then before None os r frames h further = cc
+meant_then before (Some frame) os (Ok rest) frames h further =
+    let made : frames ≡ frame ∷ rest = cc in
+    rw made (ap (λ os. Some frame ∷ os) (further rest refl))
+meant_then before (Some frame) os (Err line) frames h further = cc
 
 meant : (lines : List (ℕ × Line)) (frames : List Frame) → frames_in lines ≡ Ok frames → AreFrames lines frames
 meant [] [] h = refl
 meant [] (frame ∷ frames) h = cc
-meant (line ∷ lines) frames h =
-    let o = then_ok line.0 (line_frame line.1) (frames_in lines) frames h in
-    ap₂ (λ a b. a ∷ b) o.means (meant lines o.rest o.read) ∙ ap (map Some) (sym o.made)
+meant (line ∷ lines) frames h = meant_then line.0 (line_frame line.1) _ (frames_in lines) frames h (λ rest e. meant lines rest e)
+
+behind-cons : (frame : Frame) (front : List Frame) (r : Result (List Frame) ℕ) → onto frame (behind front r) ≡ behind (frame ∷ front) r
+behind-cons frame front r = grind arith
 
 -- what stands behind lines that are frames
-abbrev onto_all : List Frame → Result (List Frame) ℕ → Result (List Frame) ℕ
-onto_all [] r = r
-onto_all (frame ∷ frames) r = onto frame (onto_all frames r)
-
-front_said : (front behind : List (ℕ × Line)) (frames : List Frame) → AreFrames front frames
-    → frames_in (front ++ behind) ≡ onto_all frames (frames_in behind)
-front_said [] behind [] h = refl
-front_said [] behind (frame ∷ frames) h = cc
-front_said (line ∷ front) behind [] h = cc
-front_said (line ∷ front) behind (frame ∷ frames) h =
+front_said : (front further : List (ℕ × Line)) (frames : List Frame) → AreFrames front frames
+    → frames_in (front ++ further) ≡ behind frames (frames_in further)
+front_said [] further [] h = sym (behind-nil (frames_in further))
+front_said [] further (frame ∷ frames) h = cc
+front_said (line ∷ front) further [] h = cc
+front_said (line ∷ front) further (frame ∷ frames) h =
     let first : line_frame line.1 ≡ Some frame = cc in
-    let further : map (λ l. line_frame l.1) front ≡ map Some frames = cc in
-    ap₂ (λ o r. frame_then line.0 o r) first (front_said front behind frames further)
+    let others : map (λ l. line_frame l.1) front ≡ map Some frames = cc in
+    ap₂ (λ o r. frame_then line.0 o r) first (front_said front further frames others) ∙ behind-cons frame frames (frames_in further)
 
 said : (lines : List (ℕ × Line)) (frames : List Frame) → AreFrames lines frames → frames_in lines ≡ Ok frames
-said [] [] h = refl
-said [] (frame ∷ frames) h = cc
-said (line ∷ lines) [] h = cc
-said (line ∷ lines) (frame ∷ frames) h =
-    let first : line_frame line.1 ≡ Some frame = cc in
-    let further : map (λ l. line_frame l.1) lines ≡ map Some frames = cc in
-    ap₂ (λ o r. frame_then line.0 o r) first (said lines frames further)
+said lines frames h = ap frames_in (sym (append-nil lines)) ∙ front_said lines [] frames h ∙ ap Ok (append-nil frames)
 
 pub frames_lines : (bytes : List ℕ) (frames : List Frame) → frames_of bytes ≡ Ok frames → IsFrames bytes frames
 frames_lines bytes frames h = meant (counting bytes) frames h
@@ -91,10 +80,6 @@ faulty_in : (lines : List (ℕ × Line)) (number : ℕ) → frames_in lines ≡ 
 faulty_in [] number h = cc
 faulty_in (line ∷ lines) number h = first_faulty line lines number (line_frame line.1) (frames_in lines) refl h (faulty_in lines number)
 
-onto_all-err : (frames : List Frame) (number : ℕ) → onto_all frames (Err number) ≡ Err number
-onto_all-err [] number = refl
-onto_all-err (frame ∷ frames) number = ap (onto frame) (onto_all-err frames number)
-
 pub fault_lines : (bytes : List ℕ) (line : ℕ) → frames_of bytes ≡ Err line → IsFirstFault bytes line
 fault_lines bytes line h =
     let f = faulty_in (counting bytes) line h in
@@ -102,8 +87,5 @@ fault_lines bytes line h =
 
 pub fault_said : (bytes : List ℕ) (line : ℕ) → IsFirstFault bytes line → frames_of bytes ≡ Err line
 fault_said bytes line is =
-    ap frames_in is.lines
-    ∙ front_said is.before (is.faulty ∷ is.behind) is.frames is.good
-    ∙ ap (λ o. onto_all is.frames (frame_then is.faulty.0 o (frames_in is.behind))) is.bad
-    ∙ ap (λ n. onto_all is.frames (Err n)) (sym is.number)
-    ∙ onto_all-err is.frames line
+    ap frames_in is.lines ∙ front_said is.before (is.faulty ∷ is.behind) is.frames is.good
+    ∙ ap (λ o. behind is.frames (frame_then is.faulty.0 o (frames_in is.behind))) is.bad ∙ ap Err (sym is.number)

@@ -12,8 +12,7 @@ behind front (Ok frames) = Ok (front ++ frames)
 behind front (Err line) = Err line
 
 pub behind-nil : (r : Result (List Frame) ℕ) → behind [] r ≡ r
-behind-nil (Ok frames) = refl
-behind-nil (Err line) = refl
+behind-nil r = grind arith
 
 behind-onto : (front : List Frame) (frame : Frame) (r : Result (List Frame) ℕ) → behind front (onto frame r) ≡ behind (front ++ frame ∷ []) r
 behind-onto front frame (Ok frames) = ap Ok (sym (append_assoc front (frame ∷ []) frames))

@@ -1,5 +1,5 @@
 -- Which fault counts, and that there is one or none.
-use Rattle.std.proofs.Common.{◌≡◌, ℕ, zero, suc, ◌+◌, ◌<◌, ◌≤◌, Bool, true, false, List, length, refl, sym, ap, ◌∙◌, ◌⊎◌, inl, inr, arith}
+use Rattle.std.proofs.Common.{◌≡◌, ℕ, zero, suc, ◌+◌, ◌<◌, ◌≤◌, true, false, List, length, refl, sym, ap, ◌∙◌, ◌⊎◌, inl, inr, arith}
 use Rattle.std.proofs.lemmas.Bool.{cases_lt, cases_order, cases_Bool, true_from_ne_false}
 use Rattle.fat_slices.specs.Kind.{kind_of, is_fat}
 use Rattle.fat_slices.specs.Layout.{nfat_arch, table_end, arch_at}
@@ -18,12 +18,7 @@ record IsClear (file : List ℕ) (k : ℕ) : Type 0 where
   small : 6 < k → HasNone (IsTooLarge file) (nfat_arch file)
 
 none_below : (file : List ℕ) (k : ℕ) → IsClear file k → (other : FatFault) → number other < k → Applies file other → ⊥
-none_below file k clear NotUniversal low wrong = cc (wrong, clear.kind low)
-none_below file k clear HeaderTruncated low wrong = let h = clear.header low in absurd (omega arith)
-none_below file k clear (TooManyArches n) low wrong = let h = clear.few low in absurd (omega (arith, wrong.1))
-none_below file k clear TableTruncated low wrong = let h = clear.table low in absurd (omega arith)
-none_below file k clear (SliceOutside i) low wrong = clear.inside low i wrong.0 wrong.1
-none_below file k clear (TooLarge i) low wrong = clear.small low i wrong.0 wrong.1
+none_below file k clear other low wrong = grind arith
 
 -- the first that applies
 first_applies : (file : List ℕ) (fault : FatFault) → Applies file fault → IsClear file (number fault)
@@ -50,7 +45,8 @@ pub table_truncated : (file : List ℕ) → is_fat (kind_of file) ≡ true → 8
 table_truncated file kind header few wrong = first_applies file TableTruncated wrong (grind arith) (λ other e low. absurd (omega arith))
 
 -- a table has none of the faults that are of no entry
-clear_upto : (file : List ℕ) (k : ℕ) → HasTable file → (5 < k → HasNone (IsOutside file) (nfat_arch file)) → (6 < k → HasNone (IsTooLarge file) (nfat_arch file)) → IsClear file k
+clear_upto : (file : List ℕ) (k : ℕ) → HasTable file → (5 < k → HasNone (IsOutside file) (nfat_arch file))
+    → (6 < k → HasNone (IsTooLarge file) (nfat_arch file)) → IsClear file k
 clear_upto file k room inside small =
     record { kind = λ h. room.kind; header = λ h. room.header; few = λ h. room.few; table = λ h. room.table; inside = inside; small = small }
 
@@ -65,12 +61,13 @@ earlier_too_large file i first other e low wrong = absurd (omega arith)
 
 pub slice_outside : (file : List ℕ) (i : ℕ) → HasTable file → IsFirst (IsOutside file) (nfat_arch file) i → IsFatFault file (SliceOutside i)
 slice_outside file i room wrong =
-    first_applies file (SliceOutside i) (wrong.below, wrong.holds) (clear_upto file 5 room (λ h. absurd (omega arith)) (λ h. absurd (omega arith)))
-    (earlier_outside file i wrong)
+    first_applies file (SliceOutside i) (wrong.below, wrong.holds)
+    (clear_upto file 5 room (λ h. absurd (omega arith)) (λ h. absurd (omega arith))) (earlier_outside file i wrong)
 
 pub too_large : (file : List ℕ) (i : ℕ) → HasTable file → HasNone (IsOutside file) (nfat_arch file) → IsFirst (IsTooLarge file) (nfat_arch file) i → IsFatFault file (TooLarge i)
 too_large file i room inside wrong =
-    first_applies file (TooLarge i) (wrong.below, wrong.holds) (clear_upto file 6 room (λ h. inside) (λ h. absurd (omega arith))) (earlier_too_large file i wrong)
+    first_applies file (TooLarge i) (wrong.below, wrong.holds)
+    (clear_upto file 6 room (λ h. inside) (λ h. absurd (omega arith))) (earlier_too_large file i wrong)
 
 -- no fault is left
 below_seven : (fault : FatFault) → number fault < 7
@@ -118,9 +115,11 @@ pub one_fat_fault : (file : List ℕ) (f g : FatFault) → IsFatFault file f →
 one_fat_fault file f g p q = elim (cases_order (number f) (number g)) [
   | inl n ↦ elim (cases_order (entry f) (entry g)) [
     | inl e ↦ same_applied file f g n e p.applies q.applies
-    | inr apart ↦ elim apart [ inl low ↦ absurd (q.first f (inr (n, low)) p.applies) | inr low ↦ absurd (p.first g (inr (sym n, low)) q.applies) ]
+    | inr (inl low) ↦ absurd (q.first f (inr (n, low)) p.applies)
+    | inr (inr low) ↦ absurd (p.first g (inr (sym n, low)) q.applies)
   ]
-  | inr apart ↦ elim apart [ inl low ↦ absurd (q.first f (inl low) p.applies) | inr low ↦ absurd (p.first g (inl low) q.applies) ]
+  | inr (inl low) ↦ absurd (q.first f (inl low) p.applies)
+  | inr (inr low) ↦ absurd (p.first g (inl low) q.applies)
 ]
 
 pub no_fat_fault : (file : List ℕ) (f : FatFault) → IsUniversal file → IsFatFault file f → ⊥

@@ -1,12 +1,8 @@
 -- What it takes that a command has no fault.
-use Rattle.std.proofs.Common.{◌≡◌, ℕ, ◌+◌, ◌*◌, ◌≤◌, Bool, true, false, cond, nat_lt, ◌&&◌, List, length, Option, Some, None, ◌⊎◌, inl, inr, refl, arith}
+use Rattle.std.proofs.Common.{◌≡◌, ℕ, ◌+◌, ◌*◌, ◌≤◌, Bool, false, nat_lt, ◌&&◌, List, length, Option, Some, None, ◌⊎◌, inl, inr, refl, arith}
 use Rattle.std.proofs.lemmas.Bool.{ltb-false}
 use Rattle.macho_image.specs.Commands.{HasRoom, is_segment, nsects, is_uuid, is_symtab}
 use Rattle.macho_image.specs.Fault.{command_fault}
-
--- a choice that gives nothing did not take the fault
-pub not_taken : {A : Type 0} (b : Bool) (fault : A) (o : Option A) → cond b (Some fault) o ≡ None → (b ≡ false) × (o ≡ None)
-not_taken b fault o h = grind arith
 
 -- none of the tests of a command was met
 pub record PassesTests (has_uuid has_symtab : Bool) (command : List ℕ) : Type 0 where
@@ -17,13 +13,7 @@ pub record PassesTests (has_uuid has_symtab : Bool) (command : List ℕ) : Type 
   pub one_symtab : (is_symtab command && has_symtab) ≡ false
 
 pub passes_tests : (index : ℕ) (has_uuid has_symtab : Bool) (command : List ℕ) → command_fault index has_uuid has_symtab command ≡ None → PassesTests has_uuid has_symtab command
-passes_tests index has_uuid has_symtab command fine =
-    let first = not_taken (is_segment command && nat_lt (length command) (72 + 80 * nsects command)) _ _ fine in
-    let second = not_taken (is_uuid command && nat_lt (length command) 24) _ _ first.1 in
-    let third = not_taken (is_uuid command && has_uuid) _ _ second.1 in
-    let fourth = not_taken (is_symtab command && nat_lt (length command) 24) _ _ third.1 in
-    let fifth = not_taken (is_symtab command && has_symtab) _ _ fourth.1 in
-    record { segment = first.0; uuid = second.0; one_uuid = third.0; symtab = fourth.0; one_symtab = fifth.0 }
+passes_tests index has_uuid has_symtab command fine = grind arith
 
 -- there is no fault or one
 pub none_or_some : {A : Type 0} (o : Option A) → (o ≡ None) ⊎ ((x : A) × (o ≡ Some x))

@@ -1,14 +1,14 @@
 -- Bytes have one fault, or are an image.
-use Rattle.std.proofs.Common.{◌≡◌, ℕ, zero, suc, ◌+◌, ◌≤◌, nat_le, ◌&&◌, Bool, true, false, cond, List, [], ◌∷◌, ◌++◌, length, take, drop, Some, refl, sym, ap, ◌∙◌, inl, inr, arith, length-append, append_assoc}
+use Rattle.std.proofs.Common.{◌≡◌, ℕ, zero, suc, ◌+◌, nat_le, ◌&&◌, List, [], ◌∷◌, ◌++◌, length, take, drop, refl, sym, ap, ◌∙◌, inl, inr, arith, append_assoc}
 use Rattle.std.specs.List.{concat, list_any}
 use Rattle.std.proofs.lemmas.List.{take-append-drop, same_from_push}
-use Rattle.std.proofs.lemmas.Bool.{cases_lt, cases_Bool}
+use Rattle.std.proofs.lemmas.Bool.{cases_Bool, cases_order}
 use Rattle.macho_image.specs.Layout.{u32_le_at, ncmds, command_bytes}
-use Rattle.macho_image.specs.Commands.{IsFront, first_commands, is_uuid, is_symtab}
-use Rattle.macho_image.specs.Fault.{command_fault, IsFaultAt, NoneBelow, IsFirstFault, IsImageFault, IsImage}
+use Rattle.macho_image.specs.Commands.{IsFront, first_commands, is_uuid}
+use Rattle.macho_image.specs.Fault.{IsFaultAt, NoneBelow, IsFirstFault, IsImageFault, IsImage}
 use Rattle.macho_image.specs.declared.fault.ImageFault.{ImageFault}
 use Rattle.macho_image.proofs.Fronts.{one_front, command_of_size}
-use Rattle.macho_image.proofs.Images.{low_of, high_of}
+use Rattle.macho_image.proofs.Images.{fits_of}
 
 -- at one place there is one fault
 same_at : (area : List ℕ) (i : ℕ) (f g : ImageFault) → IsFaultAt area i f → IsFaultAt area i g → f ≡ g
@@ -22,14 +22,10 @@ same_at area i f g (inr p) (inr q) =
 
 -- the first is one
 same_first : (area : List ℕ) (count : ℕ) (f g : ImageFault) → IsFirstFault area count f → IsFirstFault area count g → f ≡ g
-same_first area count f g p q = elim (cases_lt p.0 q.0) [
-  | inl below ↦ absurd (q.2 p.0 below f p.3)
-  | inr above ↦ elim (cases_lt q.0 p.0) [
-    | inl below ↦ absurd (p.2 q.0 below g q.3)
-    | inr at ↦
-        let same : p.0 ≡ q.0 = omega arith in
-        same_at area q.0 f g (rw same at p.3) q.3
-  ]
+same_first area count f g p q = elim (cases_order p.0 q.0) [
+  | inl same ↦ same_at area q.0 f g (rw same at p.3) q.3
+  | inr (inl below) ↦ absurd (q.2 p.0 below f p.3)
+  | inr (inr below) ↦ absurd (p.2 q.0 below g q.3)
 ]
 
 none_first : (area : List ℕ) (count : ℕ) (f : ImageFault) → NoneBelow area count → IsFirstFault area count f → ⊥
@@ -59,13 +55,12 @@ unfolding first_commands
 front_of-first_commands zero area h = record { number = refl; each = tt; rest = area; begins = refl }
 front_of-first_commands (suc count) area h = elim (cases_Bool (nat_le 8 (u32_le_at area 4) && nat_le 8 (length area) && nat_le (u32_le_at area 4) (length area))) [
   | inl e ↦
-      let low : 8 ≤ u32_le_at area 4 = low_of (u32_le_at area 4) (length area) e in
-      let high : u32_le_at area 4 ≤ length area = high_of (u32_le_at area 4) (length area) e in
+      let fits = fits_of (u32_le_at area 4) (length area) e in
       let all : length (take (u32_le_at area 4) area ∷ first_commands count (drop (u32_le_at area 4) area)) ≡ suc count = rw e at h in
       let more = front_of-first_commands count (drop (u32_le_at area 4) area) (omega (arith, all)) in
       rw e (record {
         number = all;
-        each = (command_of_size area (u32_le_at area 4) refl low high, more.each);
+        each = (command_of_size area (u32_le_at area 4) refl fits.0 fits.1, more.each);
         rest = more.rest;
         begins = sym (take-append-drop (u32_le_at area 4) area) ∙ ap (λ s. take (u32_le_at area 4) area ++ s) more.begins ∙ sym (append_assoc (take (u32_le_at area 4) area) (concat (first_commands count (drop (u32_le_at area 4) area))) more.rest);
       })

@@ -1,5 +1,5 @@
 -- What the walk over the commands shows of the whole image.
-use Rattle.std.proofs.Common.{◌≡◌, ℕ, zero, suc, ◌<◌, ◌≤◌, Bool, true, false, cond, nat_le, ◌&&◌, List, [], ◌∷◌, ◌++◌, length, take, drop, Option, Some, None, refl, sym, ap, ◌∙◌, inl, inr, arith, append_assoc, length-append, unwrap_or, sub-one, ◌-◌}
+use Rattle.std.proofs.Common.{◌≡◌, ℕ, zero, suc, ◌<◌, ◌≤◌, true, nat_le, ◌&&◌, List, [], ◌∷◌, ◌++◌, length, take, drop, Option, Some, None, refl, sym, ap, ◌∙◌, inl, inr, arith, append_assoc, length-append, unwrap_or, sub-one, ◌-◌}
 use Rattle.std.specs.List.{concat, AllByRecursion}
 use Rattle.std.specs.Option.{is_some}
 use Rattle.std.proofs.lemmas.List.{take-append-drop}
@@ -20,11 +20,8 @@ use Rattle.macho_image.proofs.Walk.{is_some-found}
 fits_in : (n m : ℕ) → 8 ≤ n → n ≤ m → (nat_le 8 n && nat_le 8 m && nat_le n m) ≡ true
 fits_in n m low high = grind (arith, nat_tests)
 
-pub low_of : (n m : ℕ) → (nat_le 8 n && nat_le 8 m && nat_le n m) ≡ true → 8 ≤ n
-low_of n m h = grind (arith, nat_tests)
-
-pub high_of : (n m : ℕ) → (nat_le 8 n && nat_le 8 m && nat_le n m) ≡ true → n ≤ m
-high_of n m h = grind (arith, nat_tests)
+pub fits_of : (n m : ℕ) → (nat_le 8 n && nat_le 8 m && nat_le n m) ≡ true → (8 ≤ n) × (n ≤ m)
+fits_of n m h = grind (arith, nat_tests)
 
 front_command : (count : ℕ) (area command after : List ℕ) → IsCommand command → area ≡ command ++ after
     → first_commands (suc count) area ≡ command ∷ first_commands count after
@@ -62,9 +59,8 @@ unfolding first_commands
 not_a_command zero area none = refl
 not_a_command (suc count) area none = elim (cases_Bool (nat_le 8 (u32_le_at area 4) && nat_le 8 (length area) && nat_le (u32_le_at area 4) (length area))) [
   | inl h ↦
-      let low : 8 ≤ u32_le_at area 4 = low_of (u32_le_at area 4) (length area) h in
-      let high : u32_le_at area 4 ≤ length area = high_of (u32_le_at area 4) (length area) h in
-      absurd (none (take (u32_le_at area 4) area) (drop (u32_le_at area 4) area) (command_of_size area (u32_le_at area 4) refl low high) (sym (take-append-drop (u32_le_at area 4) area)))
+      let fits = fits_of (u32_le_at area 4) (length area) h in
+      absurd (none (take (u32_le_at area 4) area) (drop (u32_le_at area 4) area) (command_of_size area (u32_le_at area 4) refl fits.0 fits.1) (sym (take-append-drop (u32_le_at area 4) area)))
   | inr h ↦ rw h refl
 ]
 

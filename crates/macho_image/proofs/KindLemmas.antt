@@ -1,5 +1,5 @@
 -- Load commands by their kinds, one by one.
-use Rattle.std.proofs.Common.{◌≡◌, ℕ, ◌+◌, Bool, true, false, cond, List, ◌∷◌, length, arith}
+use Rattle.std.proofs.Common.{◌≡◌, ℕ, ◌+◌, Bool, cond, List, ◌∷◌, length, arith}
 use Rattle.std.specs.List.{filter_map, cons_option}
 use Rattle.macho_image.specs.Commands.{SegmentRecord, is_segment, is_uuid, is_symtab}
 use Rattle.macho_image.specs.Contents.{uuid_bytes, symtab_fields}

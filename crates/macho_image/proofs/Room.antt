@@ -1,12 +1,12 @@
 -- Commands and sections have room in an image, so there are not too many of them.
-use Rattle.std.proofs.Common.{◌≡◌, ℕ, zero, suc, ◌+◌, ◌*◌, ◌≤◌, Bool, true, false, cond, nat_le, ◌&&◌, List, [], ◌∷◌, ◌++◌, length, take, drop, refl, arith, length-append, length-drop, length-take}
+use Rattle.std.proofs.Common.{ℕ, zero, suc, ◌+◌, ◌*◌, ◌≤◌, nat_le, ◌&&◌, List, [], ◌∷◌, ◌++◌, length, take, drop, arith, length-append, length-drop, length-take}
 use Rattle.std.specs.List.{concat, AllByRecursion, filter_map, flat_map}
 use Rattle.std.proofs.lemmas.Bool.{cond_both}
 use Rattle.macho_image.specs.Layout.{u32_le_at, command_bytes, ncmds}
 use Rattle.macho_image.specs.Commands.{SegmentRecord, HasRoom, is_segment, first_commands, commands}
 use Rattle.macho_image.specs.Kinds.{load_commands_from, segment_of}
 use Rattle.macho_image.specs.Sections.{sections_in, sections}
-use Rattle.macho_image.proofs.Images.{high_of}
+use Rattle.macho_image.proofs.Images.{fits_of}
 use Rattle.macho_image.proofs.KindLemmas.{segments-cons}
 use Rattle.macho_image.proofs.SectionPlaces.{length-sections_in}
 
@@ -17,9 +17,7 @@ length-first_commands zero area = omega arith
 length-first_commands (suc count) area =
     cond_both (nat_le 8 (u32_le_at area 4) && nat_le 8 (length area) && nat_le (u32_le_at area 4) (length area))
     (take (u32_le_at area 4) area ∷ first_commands count (drop (u32_le_at area 4) area)) [] (λ cs. length (concat cs) ≤ length area)
-    (λ e.
-    let high : u32_le_at area 4 ≤ length area = high_of (u32_le_at area 4) (length area) e in
-    omega (arith, length-first_commands count (drop (u32_le_at area 4) area), length-append (take (u32_le_at area 4) area) (concat (first_commands count (drop (u32_le_at area 4) area))), length-take (u32_le_at area 4) area, length-drop (u32_le_at area 4) area))
+    (λ e. omega (arith, fits_of (u32_le_at area 4) (length area) e, length-first_commands count (drop (u32_le_at area 4) area), length-append (take (u32_le_at area 4) area) (concat (first_commands count (drop (u32_le_at area 4) area))), length-take (u32_le_at area 4) area, length-drop (u32_le_at area 4) area))
     (λ e. omega arith)
 
 -- sections have room in their commands

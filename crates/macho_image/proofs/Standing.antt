@@ -1,5 +1,5 @@
 -- The segments and the sections of an image stand there at their places.
-use Rattle.std.proofs.Common.{◌≡◌, ℕ, zero, suc, ◌+◌, ◌*◌, ◌≤◌, ◌&&◌, nat_le, Bool, true, false, cond, List, [], ◌∷◌, ◌++◌, length, take, drop, refl, sym, ap, ◌∙◌, arith, append_assoc, length-append, length-drop}
+use Rattle.std.proofs.Common.{◌≡◌, ℕ, zero, suc, ◌+◌, ◌*◌, ◌≤◌, ◌&&◌, nat_le, List, [], ◌∷◌, ◌++◌, length, take, drop, refl, sym, ap, ◌∙◌, arith, append_assoc, length-append, length-drop}
 use Rattle.std.specs.Prelude.{Contains}
 use Rattle.std.specs.List.{concat, AllByRecursion, filter_map, flat_map}
 use Rattle.std.proofs.lemmas.List.{drop-drop, drop-append-le, take-append-drop, take_at, drop_at}

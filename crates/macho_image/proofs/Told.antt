@@ -1,21 +1,18 @@
 -- What is known of each image: how long it is, that its commands have no fault, and that its UUID has sixteen bytes.
-use Rattle.std.proofs.Common.{◌≡◌, ℕ, zero, suc, ◌+◌, ◌^◌, ◌<◌, ◌≤◌, Bool, true, false, cond, nat_lt, ◌||◌, List, [], ◌∷◌, ◌++◌, length, Option, Some, None, refl, sym, ap, ◌∙◌, inl, inr, arith, append_assoc, length-append, length-take, length-drop, unwrap_or}
-use Rattle.std.specs.List.{concat, AllByRecursion, list_any, find, starts_with}
+use Rattle.std.proofs.Common.{◌≡◌, ℕ, ◌+◌, ◌^◌, ◌<◌, ◌≤◌, Bool, true, false, List, [], ◌∷◌, ◌++◌, length, Some, None, refl, sym, ap, ◌∙◌, inl, inr, arith, append_assoc, length-append, length-take, length-drop, unwrap_or, take, drop, ◌&&◌}
+use Rattle.std.specs.List.{concat, AllByRecursion, list_any, find}
 use Rattle.std.specs.Option.{option_map}
-use Rattle.std.specs.Prelude.{nat_eq, Contains, slice_index_or}
-use Rattle.std.proofs.lemmas.List.{append-nil}
+use Rattle.std.specs.Prelude.{Contains, slice_index_or}
+use Rattle.std.proofs.lemmas.List.{append-nil, drop_more, take-append-drop}
 use Rattle.std.proofs.lemmas.List.Folds.{concat-append}
 use Rattle.std.proofs.lemmas.Bool.{ltb-false, cases_Bool, or_parts}
-use Rattle.macho_image.specs.Layout.{magic, sizeofcmds, ncmds, command_bytes}
+use Rattle.std.proofs.lemmas.Bool.Decides.{nat_tests}
+use Rattle.macho_image.specs.Layout.{sizeofcmds, ncmds, command_bytes}
 use Rattle.macho_image.specs.Commands.{IsCommand, IsFront, HasRoom, commands, is_uuid, is_symtab}
 use Rattle.macho_image.specs.Fault.{header_fault, command_fault, IsImage}
 use Rattle.macho_image.specs.Contents.{uuid_bytes, uuid_of, symtab_fields, symtab_of}
-use Rattle.macho_image.specs.declared.fault.ImageFault.{ImageFault}
-use Rattle.macho_image.proofs.CommandFaults.{not_taken, passes_tests, none_or_some, room_of}
+use Rattle.macho_image.proofs.CommandFaults.{passes_tests, none_or_some, room_of}
 use Rattle.macho_image.proofs.Images.{first_commands-front}
-
-not_untaken : {A : Type 0} (b : Bool) (fault : A) (o : Option A) → cond b o (Some fault) ≡ None → (b ≡ true) × (o ≡ None)
-not_untaken b fault o h = grind arith
 
 -- bytes without a fault in the header are at least as long as it and the commands, and not too long
 pub record HasHeader (bytes : List ℕ) : Type 0 where
@@ -24,17 +21,7 @@ pub record HasHeader (bytes : List ℕ) : Type 0 where
   pub commands : 32 + sizeofcmds bytes ≤ length bytes
 
 pub has_header : (bytes : List ℕ) → header_fault bytes ≡ None → HasHeader bytes
-has_header bytes fine =
-    let first = not_taken (nat_lt 4294967295 (length bytes)) _ _ fine in
-    let second = not_untaken (starts_with nat_eq bytes magic) _ _ first.1 in
-    let third = not_taken (nat_lt (length bytes) 32) _ _ second.1 in
-    let fourth = not_taken (nat_lt (length bytes) (32 + sizeofcmds bytes)) _ _ third.1 in
-    let small : length bytes ≤ 4294967295 = ltb-false _ _ first.0 in
-    record {
-      small = omega arith;
-      header = ltb-false _ _ third.0;
-      commands = ltb-false _ _ fourth.0;
-    }
+has_header bytes fine = grind (arith, nat_tests)
 
 pub length-image : (image : List ℕ) → IsImage image → length image < 2 ^ 32
 length-image image sound = (has_header image sound.header).small
@@ -96,11 +83,8 @@ uuid_of-length image sound =
 
 -- what a list contains stands between others
 split_contained : (xs : List (List ℕ)) (x : List ℕ) (k : ℕ) → k < length xs → slice_index_or xs k x ≡ x → (before : List (List ℕ)) × (after : List (List ℕ)) × (xs ≡ before ++ x ∷ after)
-split_contained [] x k h e = absurd (omega arith)
-split_contained (y ∷ ys) x zero h e = ([], ys, ap (λ z. z ∷ ys) e)
-split_contained (y ∷ ys) x (suc k) h e =
-    let more = split_contained ys x k (omega arith) e in
-    (y ∷ more.0, more.1, ap (λ s. y ∷ s) more.2)
+split_contained xs x k h e =
+    (take k xs, drop (k + 1) xs, sym (take-append-drop k xs) ∙ ap (λ s. take k xs ++ s) (drop_more xs k x h ∙ ap (λ y. y ∷ drop (k + 1) xs) e))
 
 -- what passes behind others that do not is found
 find_behind : (p : List ℕ → Bool) (before after : List (List ℕ)) (x : List ℕ) → list_any p before ≡ false → p x ≡ true → find p (before ++ x ∷ after) ≡ Some x
@@ -109,20 +93,25 @@ find_behind p (y ∷ before) after x none passes =
     let parts = or_parts (p y) (list_any p before) none in
     rw parts.0 (find_behind p before after x parts.1 passes)
 
+-- and so is what a list contains, where nothing before it passes
+found_alone : (p : List ℕ → Bool) (xs : List (List ℕ)) (x : List ℕ) → Contains xs x → p x ≡ true
+    → ((before after : List (List ℕ)) → xs ≡ before ++ x ∷ after → (p x && list_any p before) ≡ false) → find p xs ≡ Some x
+found_alone p xs x contained passes alone =
+    let split = split_contained xs x contained.0 contained.1 contained.2 in
+    ap (find p) split.2 ∙ find_behind p split.0 split.1 x (rw passes at (alone split.0 split.1 split.2)) passes
+
 -- so the UUID of an image is that of any LC_UUID in it, and likewise the symbol table
 pub uuid_of-any : (image command : List ℕ) → IsImage image → Contains (commands image) command → is_uuid command ≡ true → uuid_of image ≡ uuid_bytes command
 uuid_of-any image command sound contained uuid =
-    let split = split_contained (commands image) command contained.0 contained.1 contained.2 in
-    let passes = passes_tests _ _ _ command (command_fault-image image sound split.0 split.1 command split.2) in
-    let alone : list_any is_uuid split.0 ≡ false = rw uuid at passes.one_uuid in
-    ap (λ o. unwrap_or (option_map uuid_bytes o) []) (ap (find is_uuid) split.2 ∙ find_behind is_uuid split.0 split.1 command alone uuid)
+    ap (λ o. unwrap_or (option_map uuid_bytes o) [])
+    (found_alone is_uuid (commands image) command contained uuid
+    (λ before after split. (passes_tests _ _ _ command (command_fault-image image sound before after command split)).one_uuid))
 
 pub symtab_of-any : (image command : List ℕ) → IsImage image → Contains (commands image) command → is_symtab command ≡ true → symtab_of image ≡ Some (symtab_fields command)
 symtab_of-any image command sound contained symtab =
-    let split = split_contained (commands image) command contained.0 contained.1 contained.2 in
-    let passes = passes_tests _ _ _ command (command_fault-image image sound split.0 split.1 command split.2) in
-    let alone : list_any is_symtab split.0 ≡ false = rw symtab at passes.one_symtab in
-    ap (λ o. option_map symtab_fields o) (ap (find is_symtab) split.2 ∙ find_behind is_symtab split.0 split.1 command alone symtab)
+    ap (option_map symtab_fields)
+    (found_alone is_symtab (commands image) command contained symtab
+    (λ before after split. (passes_tests _ _ _ command (command_fault-image image sound before after command split)).one_symtab))
 
 -- each command of an image has room for what its kind holds
 pub commands-room : (image : List ℕ) → IsImage image → AllByRecursion HasRoom (commands image)

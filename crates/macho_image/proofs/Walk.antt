@@ -1,5 +1,5 @@
 -- How far a walk over the load commands has come, and what it shows where it ends.
-use Rattle.std.proofs.Common.{◌≡◌, ℕ, ◌+◌, ◌<◌, Bool, true, false, cond, ◌||◌, List, [], ◌∷◌, ◌++◌, length, Option, Some, None, refl, sym, ap, ◌∙◌, inl, inr, arith, append_assoc, length-append, below_more, subst}
+use Rattle.std.proofs.Common.{◌≡◌, ℕ, ◌+◌, ◌<◌, Bool, List, [], ◌∷◌, ◌++◌, length, Option, Some, None, refl, sym, ap, ◌∙◌, inl, inr, arith, append_assoc, length-append, below_more, subst}
 use Rattle.std.specs.List.{concat, AllByRecursion, list_any, find}
 use Rattle.std.specs.Option.{option_map, option_or, is_some}
 use Rattle.std.proofs.lemmas.List.{append-nil, same_from_push}
@@ -32,10 +32,7 @@ is_some-found f p (x ∷ xs) = grind (arith, is_some-found f p xs)
 
 -- what two lists say, the first one first
 found-append : {X : Type 0} (f : List ℕ → X) (p : List ℕ → Bool) (xs ys : List (List ℕ)) → option_map f (find p (xs ++ ys)) ≡ option_or (option_map f (find p xs)) (option_map f (find p ys))
-found-append f p xs ys = ap (option_map f) (find-append p xs ys) ∙ elim (find p xs) as (λ o. option_map f (option_or o (find p ys)) ≡ option_or (option_map f o) (option_map f (find p ys))) [
-  | None ↦ refl
-  | Some x ↦ refl
-]
+found-append f p xs ys = ap (option_map f) (find-append p xs ys) ∙ grind arith
 
 -- one more command
 each_more : (P : List ℕ → Type 0) (xs : List (List ℕ)) (x : List ℕ) → AllByRecursion P xs → P x → AllByRecursion P (xs ++ x ∷ [])

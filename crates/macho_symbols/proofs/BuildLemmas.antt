@@ -16,37 +16,24 @@ use Rattle.macho_symbols.specs.Overlaps.{IsAt, IsFirstRow, IsFirstRowOrNone}
 use Rattle.macho_symbols.specs.Rows.{Precedes, IsBeside, AreFirsts}
 use Rattle.macho_symbols.specs.Halving.{AreSorted}
 use Rattle.macho_symbols.specs.declared.candidate.Candidate.{Candidate}
-
-picked : (pick : ℕ → Option Candidate) (rows more : List Candidate) (o : Option Candidate) (key : ℕ) (keys : List ℕ)
-    → o ≡ pick key → more ≡ rows ++ option_to_list o → more ++ filter_map pick keys ≡ rows ++ filter_map pick (key ∷ keys)
-picked pick rows more None key keys told new =
-    ap (λ rs. rs ++ filter_map pick keys) (new ∙ append-nil rows) ∙ ap (λ o. rows ++ cons_option o (filter_map pick keys)) told
-picked pick rows more (Some row) key keys told new =
-    ap (λ rs. rs ++ filter_map pick keys) new ∙ append_assoc rows (row ∷ []) (filter_map pick keys) ∙ ap (λ o. rows ++ cons_option o (filter_map pick keys)) told
+use Rattle.macho_symbols.proofs.Members.{option_front}
 
 -- one key more
 pub row_added : (pick : ℕ → Option Candidate) (keys : List ℕ) (i : ℕ) (rows more : List Candidate) (o : Option Candidate) (d : ℕ)
     → o ≡ pick (slice_index_or keys i d) → more ≡ rows ++ option_to_list o → i < length keys
     → more ++ filter_map pick (drop (i + 1) keys) ≡ rows ++ filter_map pick (drop i keys)
 row_added pick keys i rows more o d told new l =
-    picked pick rows more o (slice_index_or keys i d) (drop (i + 1) keys) told new ∙ sym (at_drop_more (λ ks. rows ++ filter_map pick ks) keys i d l)
+    let rest = filter_map pick (drop (i + 1) keys) in
+    ap (λ rs. rs ++ rest) new ∙ append_assoc rows (option_to_list o) rest ∙ ap (λ xs. rows ++ xs) (sym (option_front o rest))
+    ∙ ap (λ o. rows ++ cons_option o rest) told ∙ sym (at_drop_more (λ ks. rows ++ filter_map pick ks) keys i d l)
 
 -- after the last key
 pub rows_end : (pick : ℕ → Option Candidate) (keys : List ℕ) (i : ℕ) (rows all : List Candidate) → length keys ≤ i → rows ++ filter_map pick (drop i keys) ≡ all → rows ≡ all
 rows_end pick keys i rows all l e = sym (append-nil rows) ∙ sym (at_drop_all (λ ks. rows ++ filter_map pick ks) keys i l) ∙ e
 
 -- by section and value
-far : (a b c : Candidate) → Precedes a b → Precedes b c ⊎ IsBeside b c → Precedes a c
-far a b c (inl l) (inl (inl m)) = inl (omega (arith, l, m))
-far a b c (inl l) (inl (inr m)) = inl (omega (arith, l, m.0))
-far a b c (inl l) (inr m) = inl (omega (arith, l, m.0))
-far a b c (inr l) (inl (inl m)) = inl (omega (arith, l.0, m))
-far a b c (inr l) (inl (inr m)) = inr (l.0 ∙ m.0, omega (arith, l.1, m.1))
-far a b c (inr l) (inr m) = inr (l.0 ∙ m.0, omega (arith, l.1, m.1))
-
-beside_first : (a b c : Candidate) → IsBeside a b → Precedes b c → Precedes a c
-beside_first a b c s (inl l) = inl (omega (arith, s.0, l))
-beside_first a b c s (inr l) = inr (s.0 ∙ l.0, omega (arith, s.1, l.1))
+far : (a b c d : Candidate) → IsBeside a b → Precedes b c → Precedes c d ⊎ IsBeside c d → Precedes a d
+far a b c d s p q = grind arith
 
 no_row : Candidate
 no_row = record { value = 0; strx = 0; sect = 0; external = false }
@@ -59,7 +46,12 @@ pub cut_next : (rows : List Candidate) (index end : ℕ) → AreSorted rows → 
     → ((k : ℕ) (d : Candidate) → index ≤ k → k < end → IsBeside (slice_index_or rows k d) (slice_index_or rows index d))
     → ((d : Candidate) → end < length rows → IsBeside (slice_index_or rows end d) (slice_index_or rows index d) → ⊥)
     → IsCut rows end
-cut_next rows index end sorted cut some within beside other i j d l m h = by_place (cases_lt i index)
+cut_next rows index end sorted cut some within beside other i j d l m h = elim (cases_lt i index) [
+  | inl k ↦ cut i j d k (omega (arith, some, m)) h
+  | inr k ↦
+      far (slice_index_or rows i d) (slice_index_or rows index d) (slice_index_or rows end d) (slice_index_or rows j d) (beside i d k l) onward
+      (from_end (cases_lt end j))
+]
   where
     onward : Precedes (slice_index_or rows index d) (slice_index_or rows end d)
     onward = elim (sorted index end d some (omega (arith, m, h))) [ inl p ↦ p | inr b ↦ absurd (other d (omega (arith, m, h)) (sym b.0, sym b.1)) ]
@@ -69,12 +61,6 @@ cut_next rows index end sorted cut some within beside other i j d l m h = by_pla
     from_end (inr k) =
         let same : end ≡ j = omega (arith, m, k) in
         inr (ap (λ n. (slice_index_or rows n d).sect) same, ap (λ n. (slice_index_or rows n d).value) same)
-
-    by_place : (i < index) ⊎ (index ≤ i) → Precedes (slice_index_or rows i d) (slice_index_or rows j d)
-    by_place (inl k) = cut i j d k (omega (arith, some, m)) h
-    by_place (inr k) =
-        beside_first (slice_index_or rows i d) (slice_index_or rows index d) (slice_index_or rows j d) (beside i d k l)
-        (far (slice_index_or rows index d) (slice_index_or rows end d) (slice_index_or rows j d) onward (from_end (cases_lt end j)))
 
 -- in a piece of a list
 in_piece : (rows : List Candidate) (index size : ℕ) (c : Candidate) → Contains (take size (drop index rows)) c
@@ -141,13 +127,12 @@ firsts_next strings rows firsts index size row cut beside first are = record {
     by_last : (i j : ℕ) (d : Candidate) → i < j → j < length (firsts ++ row ∷ []) → (j < length firsts) ⊎ (length firsts ≤ j)
         → Precedes (slice_index_or (firsts ++ row ∷ []) i d) (slice_index_or (firsts ++ row ∷ []) j d)
     by_last i j d l h (inl k) =
-        subst (λ x. Precedes x (slice_index_or (firsts ++ row ∷ []) j d)) (sym (get_or_append_left firsts (row ∷ []) d i (omega (arith, l, k))))
-        (subst (Precedes (slice_index_or firsts i d)) (sym (get_or_append_left firsts (row ∷ []) d j k)) (are.falling i j d l k))
+        rw (get_or_append_left firsts (row ∷ []) d i (omega (arith, l, k)), get_or_append_left firsts (row ∷ []) d j k) (are.falling i j d l k)
     by_last i j d l h (inr k) =
         let at_end : length firsts ≡ j = omega (arith, h, k, length-append firsts (row ∷ [])) in
         let earlier : i < length firsts = omega (arith, l, at_end) in
-        subst (λ x. Precedes x (slice_index_or (firsts ++ row ∷ []) j d)) (sym (get_or_append_left firsts (row ∷ []) d i earlier))
-        (subst (Precedes (slice_index_or firsts i d)) (sym (get_or_push firsts row d j at_end)) (before_row (slice_index_or firsts i d) (Contains-get_or firsts i d earlier)))
+        rw (get_or_append_left firsts (row ∷ []) d i earlier, get_or_push firsts row d j at_end)
+        (before_row (slice_index_or firsts i d) (Contains-get_or firsts i d earlier))
 
 -- the first of some rows, of which there is one
 pub first_found : (strings : List ℕ) (rows : List Candidate) (o : Option Candidate) (d : Candidate) → 0 < length rows

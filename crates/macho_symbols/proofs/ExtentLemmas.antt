@@ -2,8 +2,9 @@
 use Rattle.std.proofs.Common.{◌≡◌, ℕ, zero, suc, ◌+◌, ◌-◌, ◌<◌, ◌≤◌, false, List, [], ◌∷◌, ◌++◌, length, map, take, refl, sym, ap, ◌∙◌, subst, arith, append_assoc, Option, Some, None, slice_index_or, slice_get}
 use Rattle.std.specs.List.{AllByRecursion}
 use Rattle.std.specs.Option.{option_map, option_map_or}
-use Rattle.std.proofs.lemmas.Option.{none-some, slice_get-map, slice_get-get_or, slice_get_past}
+use Rattle.std.proofs.lemmas.Option.{none-some, slice_get-map, slice_get-get_or, slice_get_past, same_Some, slice_get_within, get_or_from_slice_get}
 use Rattle.std.proofs.lemmas.List.{length-map, length-take, append-nil}
+use Rattle.std.proofs.lemmas.List.Elements.{All-from_recursion}
 use Rattle.macho_image.specs.Sections.{SectionRecord, IsSectionOf, section_at, sections, section_of, is_inside}
 use Rattle.macho_symbols.specs.Symbols.{is_in_section}
 use Rattle.macho_symbols.specs.Halving.{is_within}
@@ -16,14 +17,10 @@ get-take (suc n) [] i h = refl
 get-take (suc n) (x ∷ xs) zero h = refl
 get-take (suc n) (x ∷ xs) (suc i) h = get-take n xs i (omega arith)
 
-some_same : {X : Type 0} (x y : X) → Some x ≡ Some y → x ≡ y
-some_same x y e = cc
-
 -- what holds of each item holds of the one at a place
 all_at : {X : Type 0} (P : X → Type 0) (xs : List X) (i : ℕ) (x : X) → AllByRecursion P xs → slice_get xs i ≡ Some x → P x
-all_at P [] i x all e = absurd (none-some x e)
-all_at P (y ∷ ys) zero x all e = subst P (some_same y x e) all.0
-all_at P (y ∷ ys) (suc i) x all e = all_at P ys i x all.1 e
+all_at P xs i x all e =
+    subst P (get_or_from_slice_get xs i x x e) (All-from_recursion P xs all i x (slice_get_within xs i x e))
 
 module _ (image : List ℕ) (extents : List Extent) (are : AreExtents image extents) where
   -- a section stands at its number less one
@@ -46,8 +43,7 @@ module _ (image : List ℕ) (extents : List Extent) (are : AreExtents image exte
       ap (λ n. option_map_or (is_inside address) (section_of image n) false) next ∙ by_section (section_of image (suc i)) (slice_index_or extents i d) (there i d l)
     where
       by_section : (o : Option SectionRecord) (e : Extent) → option_map extent_of o ≡ Some e → option_map_or (is_inside address) o false ≡ is_within address e
-      by_section None e h = absurd (none-some e h)
-      by_section (Some s) e h = ap (is_within address) (some_same (extent_of s) e h)
+      by_section o e h = grind arith
 
   -- no section has a greater number
   pub section_past : (number : ℕ) → length extents < number → number < 256 → section_of image number ≡ None
@@ -55,8 +51,7 @@ module _ (image : List ℕ) (extents : List Extent) (are : AreExtents image exte
   section_past (suc i) l m = by_section (section_of image (suc i)) (extent_at i (omega arith) ∙ slice_get_past extents i (omega arith))
     where
       by_section : (o : Option SectionRecord) → option_map extent_of o ≡ None → o ≡ None
-      by_section None h = refl
-      by_section (Some s) h = absurd (none-some (extent_of s) (sym h))
+      by_section o h = grind arith
 
   -- the section of a number stands in the image at the place of its extent
   pub record IsThere (number : ℕ) (extent : Extent) : Type 0 where
@@ -73,7 +68,7 @@ module _ (image : List ℕ) (extents : List Extent) (are : AreExtents image exte
       by_section : (o : Option SectionRecord) (e : Extent) → slice_get (sections image) i ≡ o → option_map extent_of o ≡ Some e → IsThere (suc i) e
       by_section None e at h = absurd (none-some e h)
       by_section (Some s) e at h =
-          let same : s.offset ≡ e.offset = ap (λ x. x.offset) (some_same (extent_of s) e h) in
+          let same : s.offset ≡ e.offset = ap (λ x. x.offset) (same_Some (extent_of s) e h) in
           let stands = all_at (IsSectionOf image) (sections image) i s are.each at in
           record {
             room = omega (arith, same, stands.room);
@@ -85,14 +80,10 @@ pub extent_added : (all extents more : List Extent) (extent : Extent) (n m : ℕ
     → extents ++ map extent_of (take n before) ≡ all → m + 1 ≡ n → before ≡ section ∷ after
     → extent ≡ extent_of section → more ≡ extents ++ extent ∷ [] → more ++ map extent_of (take m after) ≡ all
 extent_added all extents more extent n m section before after so_far counted step is new =
+    let next : n ≡ suc m = omega (arith, counted) in
+    let front : take n before ≡ section ∷ take m after = rw (next, step) refl in
     ap (λ xs. xs ++ map extent_of (take m after)) new ∙ append_assoc extents (extent ∷ []) (map extent_of (take m after))
     ∙ ap (λ e. extents ++ (e ∷ map extent_of (take m after))) is ∙ sym (ap (λ ss. extents ++ map extent_of ss) front) ∙ so_far
-  where
-    next : n ≡ suc m
-    next = omega (arith, counted)
-
-    front : take n before ≡ section ∷ take m after
-    front = ap (λ k. take k before) next ∙ ap (take (suc m)) step
 
 -- none is left
 pub extents_all : (all extents : List Extent) (n : ℕ) (left : List SectionRecord) → extents ++ map extent_of (take n left) ≡ all → (0 < n → left ≡ []) → extents ≡ all

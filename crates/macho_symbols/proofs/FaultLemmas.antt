@@ -1,5 +1,5 @@
 -- One symbol fault, or none.
-use Rattle.std.proofs.Common.{◌≡◌, ℕ, ◌+◌, ◌*◌, ◌≤◌, ◌&&◌, List, length, ◌⊎◌, inl, inr, refl, sym, ◌∙◌, Option, Some, None, arith, nat_lt, cond}
+use Rattle.std.proofs.Common.{◌≡◌, ℕ, ◌+◌, ◌*◌, ◌≤◌, ◌&&◌, List, length, ◌⊎◌, inl, inr, refl, Option, Some, None, arith, nat_lt, cond}
 use Rattle.std.proofs.lemmas.Bool.Decides.{nat_tests}
 use Rattle.macho_symbols.specs.Symbols.{table_of}
 use Rattle.macho_symbols.specs.Fault.{symbol_fault, IsSymbolFault, HasSymbols}
@@ -14,16 +14,10 @@ some_fault image = by_cases (symbol_fault image) refl
     by_cases (Some f) e = inr (f, e)
 
 pub one_fault : (image : List ℕ) (f g : SymbolFault) → IsSymbolFault image f → IsSymbolFault image g → f ≡ g
-one_fault image f g h k = same f g (sym h ∙ k)
-  where
-    same : (f g : SymbolFault) → Some f ≡ Some g → f ≡ g
-    same f g e = cc
+one_fault image f g h k = cc (h, k)
 
 pub no_fault : (image : List ℕ) (f : SymbolFault) → HasSymbols image → IsSymbolFault image f → ⊥
-no_fault image f h k = differ (sym h.fine ∙ k)
-  where
-    differ : None ≡ Some f → ⊥
-    differ e = cc
+no_fault image f h k = cc (h.fine, k)
 
 -- the entries lie in the image
 pub symbols_fit : (image : List ℕ) → HasSymbols image → 16 * (table_of image).nsyms ≤ length image

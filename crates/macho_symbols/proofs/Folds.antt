@@ -1,9 +1,7 @@
 -- What one pass over some candidates keeps of them.
-use Rattle.std.proofs.Common.{◌≡◌, ◌≢◌, ◌+◌, ◌<◌, ◌≤◌, ◌==◌, ◌&&◌, ◌||◌, ◌⊎◌, inl, inr, ℕ, Bool, true, false, cond, nat_lt, List, Option, Some, None, refl, sym, ap, ◌∙◌, arith, subst}
-use Rattle.std.specs.declared.cmp.Ordering.TheVariants.{Less}
-use Rattle.std.proofs.lemmas.Bool.{cases_lt}
+use Rattle.std.proofs.Common.{◌≡◌, ◌+◌, ◌<◌, ◌≤◌, ◌⊎◌, inl, inr, ℕ, Bool, true, false, cond, List, Option, Some, None, refl, sym, ap, ◌∙◌, arith, subst}
+use Rattle.std.proofs.lemmas.Bool.{cases_lt, cond_both}
 use Rattle.std.proofs.lemmas.Bool.Decides.{nat_tests}
-use Rattle.macho_symbols.specs.Nearest.{tuple_cmp}
 use Rattle.macho_symbols.specs.Overlaps.{IsAt, IsFirstRowOrNone, cut_cmp, first_cut, IsFirstBy, begins_before, IsFirstCutOrNone, is_tied, stands_before, stands_behind, widened, ends_with, AreEnds, AreEndsOrNone}
 use Rattle.macho_symbols.specs.Views.{tuple_of}
 use Rattle.macho_symbols.specs.declared.candidate.Candidate.{Candidate}
@@ -15,29 +13,23 @@ use Rattle.macho_symbols.proofs.Beginnings.{cuts_total}
 abbrev pub IsBelow : (ℕ → Option Candidate) → ℕ → Candidate → Type 0
 IsBelow at n c = (i : ℕ) × (i < n) × (at i ≡ Some c)
 
-none_some : (c : Candidate) → None ≡ Some c → ⊥
-none_some c h = cc
-
-some_same : (b c : Candidate) → Some b ≡ Some c → b ≡ c
-some_same b c h = cc
-
 -- it has the last of these numbers or a lesser one
 pub below_or_last : (at : ℕ → Option Candidate) (n : ℕ) (c : Candidate) → IsBelow at (n + 1) c → IsBelow at n c ⊎ (at n ≡ Some c)
 below_or_last at n c h = elim (cases_lt h.0 n) [ inl l ↦ inl (h.0, l, h.2) | inr l ↦ inr (ap at (omega (arith, h.1, l)) ∙ h.2) ]
 
 -- what has a number has the single one
 at_start : (at : ℕ → Option Candidate) → ((i : ℕ) → 1 ≤ i → at i ≡ None) → (c : Candidate) → IsAt at c → at 0 ≡ Some c
-at_start at none c h = elim (cases_lt h.0 1) [ inl l ↦ ap at (omega (arith, l)) ∙ h.1 | inr l ↦ absurd (none_some c (sym (none h.0 l) ∙ h.1)) ]
+at_start at none c h = elim (cases_lt h.0 1) [ inl l ↦ ap at (omega (arith, l)) ∙ h.1 | inr l ↦ cc (none h.0 l, h.1) ]
 
 -- the first of those of a single number
 pub one_number : (strings : List ℕ) (at : ℕ → Option Candidate) → ((i : ℕ) → 1 ≤ i → at i ≡ None) → (o : Option Candidate) → at 0 ≡ o
     → IsFirstRowOrNone strings (IsAt at) o
-one_number strings at none None e = λ c h. none_some c (sym e ∙ at_start at none c h)
+one_number strings at none None e = λ c h. cc (e, at_start at none c h)
 one_number strings at none (Some r) e = record {
   member = (0, e);
   first = λ c h.
-      let row = tuple_of strings r in
-      subst (λ x. tuple_cmp (tuple_of strings x) row ≢ Less) (some_same r c (sym e ∙ at_start at none c h)) (not_less row row (upto_itself row));
+      let same : c ≡ r = cc (e, at_start at none c h) in
+      rw same (not_less (tuple_of strings r) (tuple_of strings r) (upto_itself (tuple_of strings r)));
 }
 
 -- what is true of what is kept, and goes on from each to the next, is true at the end
@@ -47,25 +39,22 @@ module _ {S : Type 0} (step : Option S → Candidate → Option S) (Good : (Cand
     (at : ℕ → Option Candidate) (n : ℕ) (s : Option S) (h : Good (IsBelow at n) s) where
   pub next_some : (r : Option S) (x : Candidate) → at n ≡ Some x → r ≡ step s x → Good (IsBelow at (n + 1)) r
   next_some r x e told =
-      subst (Good (IsBelow at (n + 1))) (sym told) (same (λ c. IsBelow at n c ⊎ (x ≡ c)) (IsBelow at (n + 1)) (step s x) there back (more (IsBelow at n) s x h))
-    where
-      there : (c : Candidate) → IsBelow at n c ⊎ (x ≡ c) → IsBelow at (n + 1) c
-      there c (inl k) = (k.0, omega (arith, k.1), k.2)
-      there c (inr i) = (n, omega arith, e ∙ ap Some i)
-
-      back : (c : Candidate) → IsBelow at (n + 1) c → IsBelow at n c ⊎ (x ≡ c)
-      back c k = elim (below_or_last at n c k) [ inl l ↦ inl l | inr i ↦ inr (some_same x c (sym e ∙ i)) ]
+      rw told
+      (same (λ c. IsBelow at n c ⊎ (x ≡ c)) (IsBelow at (n + 1)) (step s x)
+      (λ c q. elim q [ inl k ↦ (k.0, omega (arith, k.1), k.2) | inr i ↦ (n, omega arith, e ∙ ap Some i) ])
+      (λ c k. elim (below_or_last at n c k) [ inl l ↦ inl l | inr i ↦ inr (cc (e, i)) ])
+      (more (IsBelow at n) s x h))
 
   pub next_none : (r : Option S) → at n ≡ None → r ≡ s → Good (IsBelow at (n + 1)) r
   next_none r e told =
-      subst (Good (IsBelow at (n + 1))) (sym told)
+      rw told
       (same (IsBelow at n) (IsBelow at (n + 1)) s (λ c k. (k.0, omega (arith, k.1), k.2))
-      (λ c k. elim (below_or_last at n c k) [ inl l ↦ l | inr i ↦ absurd (none_some c (sym e ∙ i)) ]) h)
+      (λ c k. elim (below_or_last at n c k) [ inl l ↦ l | inr i ↦ absurd (cc (e, i)) ]) h)
 
   pub at_end : ((i : ℕ) → n ≤ i → at i ≡ None) → Good (IsAt at) s
   at_end none =
       same (IsBelow at n) (IsAt at) s (λ c k. (k.0, k.2))
-      (λ c k. elim (cases_lt k.0 n) [ inl l ↦ (k.0, l, k.1) | inr l ↦ absurd (none_some c (sym (none k.0 l) ∙ k.1)) ]) h
+      (λ c k. elim (cases_lt k.0 n) [ inl l ↦ (k.0, l, k.1) | inr l ↦ absurd (cc (none k.0 l, k.1)) ]) h
 
 -- the same ones have the same first
 first_same : (before : Candidate → Candidate → Bool) (P Q : Candidate → Type 0) (b : Candidate) → ((c : Candidate) → P c → Q c) → ((c : Candidate) → Q c → P c)
@@ -82,11 +71,10 @@ module _ (before : Candidate → Candidate → Bool) (itself : (c : Candidate) �
   first_one none = record { member = inr refl; first = λ c q. elim q [ inl p ↦ absurd (none c p) | inr e ↦ not_before_it c e ] }
 
   first_more : (b : Candidate) → IsFirstBy before P b → IsFirstBy before (λ c. P c ⊎ (x ≡ c)) (cond (before x b) x b)
-  first_more b h = by_test (before x b) refl
-    where
-      by_test : (t : Bool) → before x b ≡ t → IsFirstBy before (λ c. P c ⊎ (x ≡ c)) (cond t x b)
-      by_test true e = record { member = inr refl; first = λ c q. elim q [ inl p ↦ earlier c b x (h.first c p) e | inr i ↦ not_before_it c i ] }
-      by_test false e = record { member = inl h.member; first = λ c q. elim q [ inl p ↦ h.first c p | inr i ↦ subst (λ y. before y b ≡ false) i e ] }
+  first_more b h =
+      cond_both (before x b) x b (IsFirstBy before (λ c. P c ⊎ (x ≡ c)))
+      (λ e. record { member = inr refl; first = λ c q. elim q [ inl p ↦ earlier c b x (h.first c p) e | inr i ↦ not_before_it c i ] })
+      (λ e. record { member = inl h.member; first = λ c q. elim q [ inl p ↦ h.first c p | inr i ↦ subst (λ y. before y b ≡ false) i e ] })
 
 module _ (strings : List ℕ) (size : ℕ) where
   pub cut_same : (P Q : Candidate → Type 0) (s : Option Candidate) → ((c : Candidate) → P c → Q c) → ((c : Candidate) → Q c → P c)
@@ -106,25 +94,14 @@ module _ (strings : List ℕ) (size : ℕ) where
   cut_more P (Some b) x h = first_more (begins_before strings size) before_itself before_next P x b h
 
 -- places in order
-same_place : (p s : ℕ) → (nat_lt p p || ((p == p) && nat_lt s s)) ≡ false
-same_place p s = grind (arith, nat_tests)
-
-lesser_place : (p q r s t u : ℕ) → (nat_lt p q || ((p == q) && nat_lt s t)) ≡ false → (nat_lt r q || ((r == q) && nat_lt u t)) ≡ true
-    → (nat_lt p r || ((p == r) && nat_lt s u)) ≡ false
-lesser_place p q r s t u h k = grind (arith, nat_tests)
-
-greater_place : (p q r s t u : ℕ) → (nat_lt q p || ((p == q) && nat_lt s t)) ≡ false → (nat_lt q r || ((r == q) && nat_lt u t)) ≡ true
-    → (nat_lt r p || ((p == r) && nat_lt s u)) ≡ false
-greater_place p q r s t u h k = grind (arith, nat_tests)
-
 stands_itself : (c : Candidate) → stands_before c c ≡ false
-stands_itself c = same_place c.strx c.sect
+stands_itself c = grind (arith, nat_tests)
 
 stands_next : (c b x : Candidate) → stands_before c b ≡ false → stands_before x b ≡ true → stands_before c x ≡ false
-stands_next c b x = lesser_place c.strx b.strx x.strx c.sect b.sect x.sect
+stands_next c b x h k = grind (arith, nat_tests)
 
 stands_next_behind : (c b x : Candidate) → stands_behind c b ≡ false → stands_behind x b ≡ true → stands_behind c x ≡ false
-stands_next_behind c b x = greater_place c.strx b.strx x.strx c.sect b.sect x.sect
+stands_next_behind c b x h k = grind (arith, nat_tests)
 
 -- the ends of some and one more
 ends_more : (P : Candidate → Type 0) (s : Option Ends) (x : Candidate) → AreEndsOrNone P s → AreEnds (λ c. P c ⊎ (x ≡ c)) (widened s x)
@@ -154,17 +131,11 @@ module _ (strings : List ℕ) (start size : ℕ) (best : Candidate) where
 
   pub tied_more : (P : Candidate → Type 0) (s : Option Ends) (x : Candidate) → AreEndsOrNone (Tied P) s
       → AreEndsOrNone (Tied (λ c. P c ⊎ (x ≡ c))) (ends_with strings start size best s x)
-  tied_more P s x h = by_test (is_tied strings start size best x) refl
-    where
-      true_false : true ≡ false → ⊥
-      true_false i = cc
-
-      by_test : (t : Bool) → is_tied strings start size best x ≡ t → AreEndsOrNone (Tied (λ c. P c ⊎ (x ≡ c))) (cond t (Some (widened s x)) s)
-      by_test true e = ends_same (λ c. Tied P c ⊎ (x ≡ c)) (Tied (λ c. P c ⊎ (x ≡ c))) (Some (widened s x))
-          (λ c q. elim q [ inl p ↦ (inl p.0, p.1) | inr i ↦ (inr i, ap (is_tied strings start size best) (sym i) ∙ e) ])
-          (λ c q. elim q.0 [ inl p ↦ inl (p, q.1) | inr i ↦ inr i ])
-          (ends_more (Tied P) s x h)
-      by_test false e = ends_same (Tied P) (Tied (λ c. P c ⊎ (x ≡ c))) s
-          (λ c q. (inl q.0, q.1))
-          (λ c q. elim q.0 [ inl p ↦ (p, q.1) | inr i ↦ absurd (true_false (sym q.1 ∙ ap (is_tied strings start size best) (sym i) ∙ e)) ])
-          h
+  tied_more P s x h =
+      cond_both (is_tied strings start size best x) (Some (widened s x)) s (AreEndsOrNone (Tied (λ c. P c ⊎ (x ≡ c))))
+      (λ e. ends_same (λ c. Tied P c ⊎ (x ≡ c)) (Tied (λ c. P c ⊎ (x ≡ c))) (Some (widened s x))
+      (λ c q. elim q [ inl p ↦ (inl p.0, p.1) | inr i ↦ (inr i, ap (is_tied strings start size best) (sym i) ∙ e) ])
+      (λ c q. elim q.0 [ inl p ↦ inl (p, q.1) | inr i ↦ inr i ])
+      (ends_more (Tied P) s x h))
+      (λ e. ends_same (Tied P) (Tied (λ c. P c ⊎ (x ≡ c))) s (λ c q. (inl q.0, q.1))
+      (λ c q. elim q.0 [ inl p ↦ (p, q.1) | inr i ↦ absurd (cc (q.1, ap (is_tied strings start size best) i, e)) ]) h)

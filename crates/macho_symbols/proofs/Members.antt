@@ -1,10 +1,16 @@
 -- Which entries the candidates are.
-use Rattle.std.proofs.Common.{◌≡◌, ℕ, zero, suc, ◌*◌, ◌<◌, List, [], ◌∷◌, take, drop, Option, Some, None, refl, sym, ap, ◌∙◌, arith, Contains, slice_get}
+use Rattle.std.proofs.Common.{◌≡◌, ℕ, zero, suc, ◌*◌, ◌<◌, List, [], ◌∷◌, ◌++◌, take, drop, Option, Some, None, refl, ap, ◌∙◌, arith, Contains, slice_get}
 use Rattle.std.proofs.lemmas.List.{drop-drop}
 use Rattle.std.proofs.lemmas.Option.{slice_get_within}
 use Rattle.std.specs.List.{filter_map, cons_option}
+use Rattle.std.specs.Option.{option_to_list}
 use Rattle.macho_symbols.specs.Symbols.{Tuple, table_of, entries, entry_of, candidate_in, candidates}
 use Rattle.macho_symbols.proofs.EntryLemmas.{length-entries, entry_at}
+
+-- an element that there may be stands in front
+pub option_front : {Y : Type 0} (o : Option Y) (ys : List Y) → cons_option o ys ≡ option_to_list o ++ ys
+option_front None ys = refl
+option_front (Some y) ys = refl
 
 module _ {X Y : Type 0} (f : X → Option Y) where
   -- some element gives c
@@ -45,10 +51,7 @@ candidate_from image c h =
     let es = entries (table_of image).nsyms (drop (table_of image).symoff image) in
     let g = member_from (candidate_in image) es c h in
     let within : g.0 < (table_of image).nsyms = omega (arith, slice_get_within es g.0 g.1 g.2, length-entries (table_of image).nsyms (drop (table_of image).symoff image)) in
-    (g.0, within, ap (candidate_in image) (some_same (entry_of image g.0) g.1 (sym (entry_is image g.0 within) ∙ g.2)) ∙ g.3)
-  where
-    some_same : (a b : List ℕ) → Some a ≡ Some b → a ≡ b
-    some_same a b e = cc
+    (g.0, within, ap (candidate_in image) (cc (entry_is image g.0 within, g.2)) ∙ g.3)
 
 pub candidate_to : (image : List ℕ) (i : ℕ) (c : Tuple) → i < (table_of image).nsyms → candidate_in image (entry_of image i) ≡ Some c → Contains (candidates image) c
 unfolding candidates

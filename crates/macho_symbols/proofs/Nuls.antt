@@ -1,7 +1,7 @@
 -- The first NUL at or behind a place of a string table, and the name that it ends.
-use Rattle.std.proofs.Common.{◌≡◌, ◌+◌, ◌-◌, ◌*◌, ◌<◌, ◌≤◌, ◌⊎◌, inl, inr, ℕ, zero, suc, List, [], ◌∷◌, ◌++◌, length, take, drop, slice_index, refl, sym, ap, ◌∙◌, arith, length-append, length-take, length-drop}
+use Rattle.std.proofs.Common.{◌≡◌, ◌+◌, ◌-◌, ◌*◌, ◌<◌, ◌≤◌, inl, inr, ℕ, List, [], ◌∷◌, ◌++◌, length, take, drop, slice_index, sym, ap, ◌∙◌, arith, length-append, length-take, length-drop}
 use Rattle.std.proofs.lemmas.Bool.{cases_lt}
-use Rattle.std.proofs.lemmas.List.{drop-drop, take_all}
+use Rattle.std.proofs.lemmas.List.{drop-drop, take_all, get_or_append_left, get_or_push}
 use Rattle.macho_symbols.specs.NulPlaces.{nul_from}
 use Rattle.macho_symbols.proofs.Pieces.{before}
 use Rattle.macho_symbols.proofs.Overlaps.{before_drop, before_take}
@@ -33,17 +33,6 @@ pub record NulPlacesTo (strings places : List ℕ) (index known : ℕ) : Type 0 
   pub each : (block : ℕ) → block < length places → slice_index places block ≡ nul_from strings (4096 * block)
   pub last : (earlier : ℕ) × (earlier ≤ index) × (known ≡ nul_from strings earlier)
 
-index_kept : (xs : List ℕ) (y i : ℕ) → i < length xs → slice_index (xs ++ y ∷ []) i ≡ slice_index xs i
-index_kept [] y i h = absurd (omega (arith, h))
-index_kept (x ∷ xs) y zero h = refl
-index_kept (x ∷ xs) y (suc i) h = index_kept xs y i (omega (arith, h))
-
-index_pushed : (xs : List ℕ) (y i : ℕ) → i ≡ length xs → slice_index (xs ++ y ∷ []) i ≡ y
-index_pushed [] y zero h = refl
-index_pushed [] y (suc i) h = absurd (omega (arith, h))
-index_pushed (x ∷ xs) y zero h = absurd (omega (arith, h))
-index_pushed (x ∷ xs) y (suc i) h = index_pushed xs y i (omega (arith, h))
-
 pub nul_places_none : (strings : List ℕ) (known : ℕ) → known ≡ length (before strings) → NulPlacesTo strings [] 0 known
 nul_places_none strings known h =
     record { at = omega arith; each = λ block l. absurd (omega (arith, l)); last = (0, omega arith, omega (arith, h)) }
@@ -53,16 +42,14 @@ pub nul_places_pushed : (strings places : List ℕ) (index known next : ℕ) →
 nul_places_pushed strings places index known next p h =
     record {
       at = omega (arith, p.at, length-append places (next ∷ []));
-      each = λ block l. by_block block (cases_lt block (length places)) l;
+      each = λ block l. elim (cases_lt block (length places)) [
+        | inl b ↦ get_or_append_left places (next ∷ []) 0 block b ∙ p.each block b
+        | inr b ↦
+            let here : block ≡ length places = omega (arith, b, l, length-append places (next ∷ [])) in
+            get_or_push places next 0 block (sym here) ∙ h ∙ ap (nul_from strings) (omega (arith, here, p.at))
+      ];
       last = (index, omega arith, h);
     }
-  where
-    by_block : (block : ℕ) → (block < length places) ⊎ (length places ≤ block) → block < length (places ++ next ∷ [])
-        → slice_index (places ++ next ∷ []) block ≡ nul_from strings (4096 * block)
-    by_block block (inl b) l = index_kept places next block b ∙ p.each block b
-    by_block block (inr b) l =
-        let here : block ≡ length places = omega (arith, b, l, length-append places (next ∷ [])) in
-        index_pushed places next block here ∙ h ∙ ap (nul_from strings) (omega (arith, here, p.at))
 
 -- all that there is from a place on tells the same
 pub nul_in_all : (strings : List ℕ) (index size : ℕ) → size ≡ length (drop index strings)

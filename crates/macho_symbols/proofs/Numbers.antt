@@ -1,5 +1,5 @@
 -- Numbers of sections, one after another.
-use Rattle.std.proofs.Common.{◌≡◌, ℕ, zero, suc, ◌+◌, ◌-◌, ◌<◌, ◌≤◌, List, [], ◌∷◌, length, drop, ◌⊎◌, inl, inr, subst, refl, ap, ◌∙◌, Some, None, Option, MatchOption, arith, slice_get, slice_index_or, slice_set, get_or-set_same, get_or-set_other}
+use Rattle.std.proofs.Common.{◌≡◌, ℕ, zero, suc, ◌+◌, ◌-◌, ◌<◌, List, [], ◌∷◌, length, drop, inl, inr, subst, refl, ap, ◌∙◌, Some, None, Option, MatchOption, arith, slice_get, slice_index_or, slice_set, get_or-set_same, get_or-set_other}
 use Rattle.std.proofs.lemmas.Bool.{cases_lt}
 use Rattle.std.specs.Option.{option_map}
 use Rattle.macho_image.specs.Sections.{SectionRecord, sections, section_of}
@@ -29,12 +29,12 @@ next_number image n before after r table above room rest step told =
     let both = drawn section_view (sections image) (n - 1) r after (rw rest at step) in
     let next : suc (n - 1) ≡ n + 1 - 1 = omega arith in
     let at_n : option_map section_view (slice_index_or (slice_set table n r) n None) ≡ section_of image n =
-    ap (option_map section_view) (get_or-set_same table n r None room) ∙ both.0 ∙ section_of-at image n above in
-    (both.1 ∙ ap (λ m. drop m (sections image)) next, λ k h. by_place at_n k h (cases_lt k n))
-  where
-    by_place : option_map section_view (slice_index_or (slice_set table n r) n None) ≡ section_of image n → (k : ℕ) → k < n + 1 → ((k < n) ⊎ (n ≤ k))
-        → option_map section_view (slice_index_or (slice_set table n r) k None) ≡ section_of image k
-    by_place at_n k h (inl before) = ap (option_map section_view) (get_or-set_other table n k r None (λ same. absurd (omega (arith, same)))) ∙ told k before
-    by_place at_n k h (inr behind) =
-        let same : n ≡ k = omega arith in
-        subst (λ k. option_map section_view (slice_index_or (slice_set table n r) k None) ≡ section_of image k) same at_n
+    ap (option_map section_view) (get_or-set_same table n r None room) ∙ both.0 ∙ section_of-at image n above in (
+      both.1 ∙ ap (λ m. drop m (sections image)) next,
+      λ k h. elim (cases_lt k n) [
+        | inl before ↦ ap (option_map section_view) (get_or-set_other table n k r None (λ same. absurd (omega (arith, same)))) ∙ told k before
+        | inr behind ↦
+            let same : n ≡ k = omega (arith, h, behind) in
+            subst (λ k. option_map section_view (slice_index_or (slice_set table n r) k None) ≡ section_of image k) same at_n
+      ],
+    )

@@ -1,8 +1,8 @@
 -- The order of candidates is total, and those that come neither before nor after each other are the same.
-use Rattle.std.proofs.Common.{◌≡◌, ◌≢◌, ℕ, Bool, true, false, List, Option, Some, None, refl, sym, ap, ◌∙◌}
-use Rattle.std.specs.Ordering.{ordering_then, ordering_reverse, nat_cmp, bool_cmp, is_lt, is_gt}
+use Rattle.std.proofs.Common.{◌≡◌, ◌≢◌, ℕ, Bool, true, false, List, Option, Some, None, refl, ap, arith}
+use Rattle.std.specs.Ordering.{ordering_then, nat_cmp, bool_cmp, is_lt, is_gt}
 use Rattle.std.specs.declared.cmp.Ordering.{Ordering}
-use Rattle.std.specs.declared.cmp.Ordering.TheVariants.{Less, Equal, Greater}
+use Rattle.std.specs.declared.cmp.Ordering.TheVariants.{Less, Equal}
 use Rattle.std.specs.Cmp.{IsTotalOrder, bool_cmp_total}
 use Rattle.std.specs.Cmp.Lexicographic.{slice_cmp}
 use Rattle.std.proofs.lemmas.Cmp.{upto, tied_itself, nat_cmp_total, on_total, then_total, back_total, lists_total}
@@ -12,28 +12,13 @@ use Rattle.macho_symbols.specs.Nearest.{tuple_cmp, IsNearest}
 
 module _ {K : Type 0} (R : K → K → Ordering) (total : IsTotalOrder R) where
   pub upto_other : (c d : K) → is_lt (R c d) ≡ false → is_gt (R d c) ≡ false
-  upto_other c d h = by_cases (R c d) (R d c) (total.antisymm d c) h
-    where
-      by_cases : (o p : Ordering) → p ≡ ordering_reverse o → is_lt o ≡ false → is_gt p ≡ false
-      by_cases Less p e h = absurd (cc h)
-      by_cases Equal p e h = ap is_gt e
-      by_cases Greater p e h = ap is_gt e
+  upto_other c d h = grind (arith, total.antisymm d c)
 
   pub not_before : (c d : K) → is_gt (R d c) ≡ false → is_lt (R c d) ≡ false
-  not_before c d h = by_cases (R d c) (R c d) (total.antisymm c d) h
-    where
-      by_cases : (o p : Ordering) → p ≡ ordering_reverse o → is_gt o ≡ false → is_lt p ≡ false
-      by_cases Less p e h = ap is_lt e
-      by_cases Equal p e h = ap is_lt e
-      by_cases Greater p e h = absurd (cc h)
+  not_before c d h = grind (arith, total.antisymm c d)
 
   pub upto_less : (c d : K) → is_lt (R c d) ≡ true → is_gt (R c d) ≡ false
-  upto_less c d h = by_cases (R c d) h
-    where
-      by_cases : (o : Ordering) → is_lt o ≡ true → is_gt o ≡ false
-      by_cases Less h = refl
-      by_cases Equal h = refl
-      by_cases Greater h = absurd (cc h)
+  upto_less c d h = grind arith
 
   pub not_itself : (c : K) → is_lt (R c c) ≡ false
   not_itself c = ap is_lt (tied_itself total c)
@@ -56,43 +41,29 @@ pub upto_itself : (c : Tuple) → UpTo c c
 upto_itself c = ap is_gt (tied_itself tuples_total c)
 
 pub not_less : (c d : Tuple) → UpTo c d → tuple_cmp d c ≢ Less
-not_less c d h less = true_false (sym (ap is_lt less) ∙ not_before tuple_cmp tuples_total d c h)
-  where
-    true_false : true ≡ false → ⊥
-    true_false i = cc
+not_less c d h less = cc (not_before tuple_cmp tuples_total d c h, ap is_lt less)
 
 pub both_equal : (o p : Ordering) → ordering_then o p ≡ Equal → (o ≡ Equal) × (p ≡ Equal)
-both_equal Less p h = absurd (cc h)
-both_equal Equal p h = (refl, h)
-both_equal Greater p h = absurd (cc h)
+both_equal o p h = grind arith
 
 pub exact_flags : (b c : Bool) → bool_cmp b c ≡ Equal → b ≡ c
-exact_flags false false h = refl
-exact_flags false true h = absurd (cc h)
-exact_flags true false h = absurd (cc h)
-exact_flags true true h = refl
+exact_flags b c h = grind arith
 
 pub exact_tuples : (c d : Tuple) → tuple_cmp c d ≡ Equal → c ≡ d
 exact_tuples c d h =
     let first = both_equal (nat_cmp d.value c.value) _ h in
     let second = both_equal (bool_cmp d.external c.external) _ first.1 in
     let third = both_equal (slice_cmp nat_cmp c.name d.name) _ second.1 in
-    let value : c.value ≡ d.value = sym (exact_unsigned d.value c.value first.0) in
-    let external : c.external ≡ d.external = sym (exact_flags d.external c.external second.0) in
-    let name : c.name ≡ d.name = exact_bytes c.name d.name third.0 in
-    let sect : c.sect ≡ d.sect = exact_unsigned c.sect d.sect third.1 in
-    ap (λ v. record { value = v; external = c.external; name = c.name; sect = c.sect }) value
-    ∙ ap (λ e. record { value = d.value; external = e; name = c.name; sect = c.sect }) external
-    ∙ ap (λ n. record { value = d.value; external = d.external; name = n; sect = c.sect }) name
-    ∙ ap (λ s. record { value = d.value; external = d.external; name = d.name; sect = s }) sect
+    grind (
+      arith,
+      exact_unsigned d.value c.value first.0,
+      exact_flags d.external c.external second.0,
+      exact_bytes c.name d.name third.0,
+      exact_unsigned c.sect d.sect third.1,
+    )
 
 neither : (c d : Tuple) → tuple_cmp c d ≢ Less → tuple_cmp d c ≢ Less → c ≡ d
-neither c d h k = exact_tuples c d (by_cases (tuple_cmp c d) (tuple_cmp d c) (tuples_total.antisymm d c) h k)
-  where
-    by_cases : (o p : Ordering) → p ≡ ordering_reverse o → o ≢ Less → p ≢ Less → o ≡ Equal
-    by_cases Less p e h k = absurd (h refl)
-    by_cases Equal p e h k = refl
-    by_cases Greater p e h k = absurd (k e)
+neither c d h k = exact_tuples c d (grind (arith, tuples_total.antisymm d c))
 
 pub nearest_once : (image : List ℕ) (address : ℕ) (found other : Option Tuple) → IsNearest image address found → IsNearest image address other → found ≡ other
 nearest_once image address None None h k = refl

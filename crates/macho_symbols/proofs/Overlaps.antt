@@ -1,16 +1,18 @@
 -- Names that overlap: of three that begin alike and near each other, the middle one is never the least.
-use Rattle.std.proofs.Common.{◌≡◌, ◌+◌, ◌*◌, ◌-◌, ◌<◌, ◌≤◌, ◌==◌, ◌⊎◌, inl, inr, ℕ, zero, suc, Bool, true, false, cond, List, [], ◌∷◌, ◌++◌, length, take, drop, refl, sym, ap, ◌∙◌, arith, append_assoc, length-append, length-take, length-drop}
+use Rattle.std.proofs.Common.{◌≡◌, ◌+◌, ◌*◌, ◌-◌, ◌<◌, ◌≤◌, ◌==◌, ◌⊎◌, inl, inr, ℕ, zero, suc, List, [], ◌∷◌, ◌++◌, length, take, drop, refl, sym, ap, ◌∙◌, arith, append_assoc, length-append, length-take, length-drop, ◌≢◌}
 use Rattle.std.specs.Ordering.{ordering_then, ordering_reverse, nat_cmp}
 use Rattle.std.specs.declared.cmp.Ordering.{Ordering}
 use Rattle.std.specs.declared.cmp.Ordering.TheVariants.{Less, Equal, Greater}
 use Rattle.std.specs.Cmp.{IsTotalOrder}
 use Rattle.std.specs.Cmp.Lexicographic.{slice_cmp}
 use Rattle.std.proofs.lemmas.Cmp.{tied_itself, nat_cmp_total, lists_total}
-use Rattle.std.proofs.lemmas.List.{append-nil, take-append-drop, take-take, drop-take, drop-drop, take_at}
+use Rattle.std.proofs.lemmas.List.{append-nil, take-append-drop, take-take, drop-drop, take_at}
 use Rattle.std.proofs.lemmas.Bool.Decides.{nat_tests}
 use Rattle.std.proofs.lemmas.Map.Lookups.{exact_bytes}
+use Rattle.std.proofs.lemmas.Bool.{cases_Bool}
+use Rattle.std.proofs.Math.Seq.{take-add}
 use Rattle.macho_symbols.specs.Symbols.{name_of}
-use Rattle.macho_symbols.proofs.Pieces.{before, before_nul, before_other}
+use Rattle.macho_symbols.proofs.Pieces.{before, before_nul, before_other, before_on}
 
 abbrev cmp : List ℕ → List ℕ → Ordering
 cmp xs ys = slice_cmp nat_cmp xs ys
@@ -63,18 +65,12 @@ one_power (suc n) u v h =
 same_size : (xs ys : List ℕ) → xs ++ ys ≡ ys ++ xs → length xs ≡ length ys → xs ≡ ys
 same_size xs ys h l = sym (take_at xs ys (length xs) refl) ∙ ap (take (length xs)) h ∙ take_at ys xs (length xs) (sym l)
 
-times_back : (m n : ℕ) → m * n ≡ n * m
-times_back m n = omega arith
-
 -- have a power in common
 common_power : (u v : List ℕ) → u ++ v ≡ v ++ u → power (length v) u ≡ power (length u) v
 common_power u v h =
     same_size (power (length v) u) (power (length u) v)
     (one_power (length v) u (power (length u) v) (sym (one_power (length u) v u (sym h))))
-    (length-power (length v) u ∙ times_back (length v) (length u) ∙ sym (length-power (length u) v))
-
-not_below_itself : (z : List ℕ) → cmp z z ≡ Less → ⊥
-not_below_itself z h = let e : cmp z z ≡ Equal = tied_itself names_total z in cc
+    (omega (arith, length-power (length v) u, length-power (length u) v))
 
 -- so one of them does not raise what the other one lowers
 middle : (u v z : List ℕ) → u ++ v ≡ v ++ u → 0 < length u → 0 < length v → cmp (v ++ z) (u ++ (v ++ z)) ≡ Less → cmp (v ++ z) z ≡ Less → ⊥
@@ -87,13 +83,10 @@ middle (a ∷ us) (b ∷ vs) z h l m up down =
     let raised : cmp z (u ++ z) ≡ Less = sym (behind_same v z (u ++ z)) ∙ ap (cmp (v ++ z)) (sym turned) ∙ up in
     let same : onto (length v) u z ≡ onto (length u) v z =
     onto_power (length v) u z ∙ ap (λ xs. xs ++ z) (common_power u v h) ∙ sym (onto_power (length u) v z) in
-    not_below_itself z
-    (names_total.trans z (onto (length v) u z) z (rising (length vs) u z raised) (ap (λ xs. cmp xs z) same ∙ falling (length us) v z down))
-
-two_pieces : (m n : ℕ) (xs : List ℕ) → take m xs ++ take n (drop m xs) ≡ take (m + n) xs
-two_pieces m n xs =
-    ap (λ ys. ys ++ take n (drop m xs)) (sym (take-take m (m + n) xs (omega arith))) ∙ ap (λ ys. take m (take (m + n) xs) ++ ys) (sym (drop-take m n xs))
-    ∙ take-append-drop m (take (m + n) xs)
+    cc (
+      tied_itself names_total z,
+      names_total.trans z (onto (length v) u z) z (rising (length vs) u z raised) (ap (λ xs. cmp xs z) same ∙ falling (length us) v z down),
+    )
 
 shorter : (m n : ℕ) (xs ys : List ℕ) → m ≤ n → take n xs ≡ take n ys → take m xs ≡ take m ys
 shorter m n xs ys l e = sym (take-take m n xs l) ∙ ap (take m) e ∙ take-take m n ys l
@@ -114,11 +107,9 @@ module _ (xs : List ℕ) (size d e : ℕ) (some : 0 < d) (more : 0 < e) (near : 
 
   swapped : take d xs ++ take e ys ≡ take e ys ++ take d xs
   swapped =
-      two_pieces d e xs ∙ shorter (d + e) size xs ys near first ∙ ap (λ n. take n ys) turn ∙ sym (two_pieces e d ys)
+      let turn : d + e ≡ e + d = omega arith in
+      sym (take-add d e xs) ∙ shorter (d + e) size xs ys near first ∙ ap (λ n. take n ys) turn ∙ take-add e d ys
       ∙ ap (λ ws. take e ys ++ ws) (sym (shorter d size xs zs (omega arith) (first ∙ second)))
-    where
-      turn : d + e ≡ e + d
-      turn = omega arith
 
   not_least : cmp ys xs ≡ Less → cmp ys zs ≡ Less → ⊥
   not_least up down =
@@ -128,51 +119,35 @@ module _ (xs : List ℕ) (size d e : ℕ) (some : 0 < d) (more : 0 < e) (near : 
       (ap (λ ws. cmp ws (take d xs ++ ws)) (sym cut_second) ∙ ap (cmp ys) (sym cut) ∙ up)
       (ap (λ ws. cmp ws zs) (sym cut_second) ∙ down)
 
-  longer : ys ≡ xs → ⊥
-  longer same = omega (arith, long, ap length same, length-drop d xs)
-
-  longer_second : ys ≡ zs → ⊥
-  longer_second same = omega (arith, long_second, ap length same, length-drop e ys)
-
   -- the middle one of three is greater than the first or than the last
   three_lists : (cmp xs ys ≡ Less) ⊎ (cmp zs ys ≡ Less)
-  three_lists = by_first (cmp ys xs) refl
+  three_lists =
+      let told = either (cmp ys xs) (cmp ys zs) (λ i. omega (arith, long, ap length (exact_bytes ys xs i), length-drop d xs))
+      (λ i. omega (arith, long_second, ap length (exact_bytes ys zs i), length-drop e ys)) not_least in
+      elim told [ inl h ↦ inl (reversed ys xs h) | inr h ↦ inr (reversed ys zs h) ]
     where
-      by_last : cmp ys xs ≡ Less → (o : Ordering) → cmp ys zs ≡ o → (cmp xs ys ≡ Less) ⊎ (cmp zs ys ≡ Less)
-      by_last up Less f = absurd (not_least up f)
-      by_last up Equal f = absurd (longer_second (exact_bytes ys zs f))
-      by_last up Greater f = inr (reversed ys zs f)
-
-      by_first : (o : Ordering) → cmp ys xs ≡ o → (cmp xs ys ≡ Less) ⊎ (cmp zs ys ≡ Less)
-      by_first Less f = by_last f (cmp ys zs) refl
-      by_first Equal f = absurd (longer (exact_bytes ys xs f))
-      by_first Greater f = inl (reversed ys xs f)
+      either : (o p : Ordering) → o ≢ Equal → p ≢ Equal → (o ≡ Less → p ≡ Less → ⊥) → (o ≡ Greater) ⊎ (p ≡ Greater)
+      either o p h k less = grind arith
 
 pub before_drop : (k : ℕ) (xs : List ℕ) → k ≤ length (before xs) → before (drop k xs) ≡ drop k (before xs)
 before_drop zero xs h = refl
 before_drop (suc k) [] h = refl
-before_drop (suc k) (b ∷ bs) h = by_nul (b == 0) refl (before_drop k bs)
-  where
-    by_nul : (t : Bool) → (b == 0) ≡ t → (k ≤ length (before bs) → before (drop k bs) ≡ drop k (before bs)) → before (drop k bs) ≡ drop (suc k) (before (b ∷ bs))
-    by_nul true e rest = absurd (omega (arith, h, ap length (before_nul b bs e)))
-    by_nul false e rest = rest (omega (arith, h, ap length (before_other b bs e))) ∙ sym (ap (drop (suc k)) (before_other b bs e))
+before_drop (suc k) (b ∷ bs) h =
+    let on = before_on b bs k h in
+    before_drop k bs on.1 ∙ sym (ap (drop (suc k)) (before_other b bs on.0))
 
 -- the first bytes of a name
 pub before_take : (n : ℕ) (xs : List ℕ) → before (take n xs) ≡ take n (before xs)
 before_take zero xs = refl
 before_take (suc n) [] = refl
-before_take (suc n) (b ∷ bs) = by_nul (b == 0) refl (before_take n bs)
-  where
-    by_nul : (t : Bool) → (b == 0) ≡ t → before (take n bs) ≡ take n (before bs) → before (b ∷ take n bs) ≡ take (suc n) (before (b ∷ bs))
-    by_nul true e rest = before_nul b (take n bs) e ∙ sym (ap (take (suc n)) (before_nul b bs e))
-    by_nul false e rest = before_other b (take n bs) e ∙ ap (λ xs. b ∷ xs) rest ∙ sym (ap (take (suc n)) (before_other b bs e))
+before_take (suc n) (b ∷ bs) = elim (cases_Bool (b == 0)) [
+  | inl e ↦ before_nul b (take n bs) e ∙ sym (ap (take (suc n)) (before_nul b bs e))
+  | inr e ↦ before_other b (take n bs) e ∙ ap (λ xs. b ∷ xs) (before_take n bs) ∙ sym (ap (take (suc n)) (before_other b bs e))
+]
 
 -- a name that begins behind the first byte of the string table
 pub name_behind : (strings : List ℕ) (p : ℕ) → 0 < p → name_of strings p ≡ before (drop p strings)
-name_behind strings p h = ap (λ t. cond t [] (before (drop p strings))) (not_zero p h)
-  where
-    not_zero : (n : ℕ) → 0 < n → (n == 0) ≡ false
-    not_zero n h = grind (arith, nat_tests)
+name_behind strings p h = grind (arith, nat_tests)
 
 -- a name from within another one
 name_within : (strings : List ℕ) (p d : ℕ) → 0 < p → d ≤ length (name_of strings p) → name_of strings (p + d) ≡ drop d (name_of strings p)
@@ -181,8 +156,7 @@ name_within strings p d h l =
     name_behind strings (p + d) (omega arith) ∙ ap before (sym (drop-drop d p strings)) ∙ before_drop d (drop p strings) (omega (arith, l, ap length at_p)) ∙ ap (drop d) (sym at_p)
 
 not_first : (strings : List ℕ) (p : ℕ) → 0 < length (name_of strings p) → 0 < p
-not_first strings zero h = absurd (omega (arith, h))
-not_first strings (suc p) h = omega arith
+not_first strings p h = grind (arith, nat_tests)
 
 -- so is it with names, which stand one in another where they begin alike and near each other
 pub three_names : (strings : List ℕ) (size p q r : ℕ) → p < q → q < r → r ≤ p + size → size ≤ length (name_of strings p)

@@ -1,11 +1,11 @@
 -- Entries that are candidates where they have names, and the rows that come of their keys.
-use Rattle.std.proofs.Common.{◌≡◌, ◌==◌, bit_and, ℕ, ◌+◌, ◌<◌, ◌≤◌, zero, suc, nat_lt, length, Bool, true, false, ◌&&◌, ◌↔◌, ◌⊎◌, inl, inr, List, [], ◌∷◌, drop, Option, Some, None, refl, sym, ap, ◌∙◌, arith, Contains, slice_get}
+use Rattle.std.proofs.Common.{◌≡◌, ◌==◌, bit_and, ℕ, ◌+◌, ◌<◌, ◌≤◌, zero, suc, nat_lt, length, Bool, true, ◌&&◌, ◌↔◌, inl, inr, List, [], ◌∷◌, drop, Option, Some, None, refl, sym, ap, ◌∙◌, arith, Contains, slice_get}
 use Rattle.std.specs.List.{filter_map}
 use Rattle.std.specs.Option.{option_map_or}
 use Rattle.std.specs.List.Sorted.{IsPermutation}
-use Rattle.std.proofs.lemmas.Bool.{cases_lt}
+use Rattle.std.proofs.lemmas.Bool.{cases_lt, and_parts}
 use Rattle.std.proofs.lemmas.List.Sorted.{Contains-permutation}
-use Rattle.std.proofs.lemmas.Option.{slice_get-get_or, slice_get_within}
+use Rattle.std.proofs.lemmas.Option.{slice_get-get_or, slice_get_within, cond_some}
 use Rattle.macho_symbols.specs.Symbols.{is_candidate, is_in_section, name_in, entries_of}
 use Rattle.macho_symbols.specs.Nlist.{n_type, n_sect, n_value}
 use Rattle.macho_symbols.specs.Views.{row_in, rows_of}
@@ -14,9 +14,7 @@ use Rattle.macho_symbols.specs.declared.candidate.Candidate.{Candidate}
 use Rattle.macho_symbols.proofs.Members.{member_from, member_to}
 
 all_four : (a b c n : Bool) → ((a && b && c) && n) ≡ (a && b && c && n)
-all_four true true c n = refl
-all_four true false c n = refl
-all_four false b c n = refl
+all_four a b c n = grind arith
 
 -- a candidate is in its place and has a name
 pub candidate_parts : (image entry : List ℕ) (placed named : Bool) → placed ≡ is_placed image entry → named ≡ nat_lt 0 (length (name_in image entry))
@@ -24,34 +22,21 @@ pub candidate_parts : (image entry : List ℕ) (placed named : Bool) → placed 
 unfolding is_candidate is_placed
 candidate_parts image entry placed named p n = ap (λ b. b && named) p ∙ ap (λ b. is_placed image entry && b) n ∙ all_four (bit_and (n_type entry) 0xe0 == 0) (bit_and (n_type entry) 0x0e == 0x0e) (is_in_section image (n_sect entry) (n_value entry)) (nat_lt 0 (length (name_in image entry)))
 
-first_holds : (p n : Bool) → (p && n) ≡ true → p ≡ true
-first_holds true n h = refl
-first_holds false n h = h
-
 -- the entry of a row is in its place
 row_placed : (image entry : List ℕ) (r : Candidate) → row_in image entry ≡ Some r → is_placed image entry ≡ true
 unfolding row_in
 row_placed image entry r h =
-    first_holds (is_placed image entry) (nat_lt 0 (length (name_in image entry)))
-    (candidate_parts image entry _ _ refl refl ∙ by_test (is_candidate image entry) refl)
-  where
-    by_test : (t : Bool) → is_candidate image entry ≡ t → is_candidate image entry ≡ true
-    by_test true e = e
-    by_test false e = absurd (none_some (sym (rw e refl) ∙ h))
-      where
-        none_some : None ≡ Some r → ⊥
-        none_some i = cc
+    (and_parts _ _ (candidate_parts image entry _ _ refl refl ∙ (cond_some (is_candidate image entry) _ r h).0)).0
+
+-- where a choice gives something, there is what it is made of
+pub chosen : {A B : Type 0} (f : A → Option B) (o : Option A) (y : B) → option_map_or f o None ≡ Some y
+    → (x : A) × (o ≡ Some x) × (f x ≡ Some y)
+chosen f None y h = cc h
+chosen f (Some x) y h = (x, refl, h)
 
 -- the entry of an index that gives a row
 pub at_index : (image : List ℕ) (i : ℕ) (r : Candidate) → row_at image i ≡ Some r → (entry : List ℕ) × (slice_get (entries_of image) i ≡ Some entry) × (row_in image entry ≡ Some r)
-at_index image i r h = by_entry (slice_get (entries_of image) i) refl
-  where
-    by_entry : (o : Option (List ℕ)) → slice_get (entries_of image) i ≡ o → (entry : List ℕ) × (slice_get (entries_of image) i ≡ Some entry) × (row_in image entry ≡ Some r)
-    by_entry None e = absurd (none_some (sym (ap (λ o. option_map_or (row_in image) o None) e) ∙ h))
-      where
-        none_some : None ≡ Some r → ⊥
-        none_some k = cc
-    by_entry (Some entry) e = (entry, e, sym (ap (λ o. option_map_or (row_in image) o None) e) ∙ h)
+at_index image i r = chosen (row_in image) (slice_get (entries_of image) i) r
 
 -- the rows of keys among which each entry is that may be a candidate
 pub rows_of_keys : (image keys : List ℕ) → HasEach image keys → (r : Candidate) → Contains (filter_map (λ key. row_at image (index_in key)) keys) r ↔ Contains (rows_of image) r
@@ -85,18 +70,14 @@ HasEachBelow image below keys = (i : ℕ) (entry : List ℕ) → i < below → s
 pub each_step : (image keys more : List ℕ) (index : ℕ) (entry : List ℕ) → slice_get (entries_of image) index ≡ Some entry
     → HasEachBelow image index keys → ((key : ℕ) → Contains keys key → Contains more key)
     → (is_placed image entry ≡ true → (key : ℕ) × Contains more key × (index_in key ≡ index)) → HasEachBelow image (index + 1) more
-each_step image keys more index entry at each others own i e l h placed = by_place (cases_lt i index)
-  where
-    by_place : (i < index) ⊎ (index ≤ i) → (key : ℕ) × Contains more key × (index_in key ≡ i)
-    by_place (inl k) = let w = each i e k h placed in (w.0, others w.0 w.1, w.2)
-    by_place (inr k) =
-        let same : index ≡ i = omega (arith, l, k) in
-        let is : e ≡ entry = one (sym h ∙ ap (slice_get (entries_of image)) (sym same) ∙ at) in
-        let w = own (ap (is_placed image) (sym is) ∙ placed) in
-        (w.0, w.1, w.2 ∙ same)
-      where
-        one : Some e ≡ Some entry → e ≡ entry
-        one j = cc
+each_step image keys more index entry at each others own i e l h placed = elim (cases_lt i index) [
+  | inl k ↦ let w = each i e k h placed in (w.0, others w.0 w.1, w.2)
+  | inr k ↦
+      let same : index ≡ i = omega (arith, l, k) in
+      let is : e ≡ entry = cc (h, at, ap (slice_get (entries_of image)) same) in
+      let w = own (ap (is_placed image) (sym is) ∙ placed) in
+      (w.0, w.1, w.2 ∙ same)
+]
 
 pub each_end : (image keys : List ℕ) (index : ℕ) → length (entries_of image) ≤ index → HasEachBelow image index keys → HasEach image keys
 each_end image keys index l each i entry h placed = each i entry (omega (arith, l, slice_get_within (entries_of image) i entry h)) h placed

@@ -1,12 +1,11 @@
 -- Rows in order, cut at a section and an address.
-use Rattle.std.proofs.Common.{◌≡◌, ◌≢◌, ℕ, ◌<◌, ◌≤◌, ◌&&◌, ◌||◌, ◌==◌, true, false, nat_lt, List, length, refl, sym, ap, ◌∙◌, ◌⊎◌, inl, inr, arith, slice_index_or, subst, Contains}
-use Rattle.std.specs.Ordering.{is_lt, ordering_then, nat_cmp, bool_cmp, MatchOrdering}
-use Rattle.std.specs.Cmp.Lexicographic.{slice_cmp}
+use Rattle.std.proofs.Common.{◌≡◌, ◌≢◌, ℕ, ◌<◌, ◌≤◌, ◌&&◌, ◌||◌, ◌==◌, true, false, nat_lt, List, length, sym, ap, ◌∙◌, ◌⊎◌, inl, inr, arith, slice_index_or, subst, Contains}
+use Rattle.std.specs.Ordering.{is_lt, ordering_then, nat_cmp}
 use Rattle.std.specs.declared.cmp.Ordering.{Ordering}
-use Rattle.std.specs.declared.cmp.Ordering.TheVariants.{Less, Equal, Greater}
+use Rattle.std.specs.declared.cmp.Ordering.TheVariants.{Less}
 use Rattle.std.specs.List.Sorted.{IsPartitionedBy, IsPartitionPoint, IsSortedBy}
 use Rattle.std.specs.Cmp.{IsStrictWeakOrder}
-use Rattle.std.proofs.lemmas.Cmp.{ranked, nat_cmp_total, on_total, then_total, back_total}
+use Rattle.std.proofs.lemmas.Cmp.{nat_cmp_total, on_total, then_total, back_total}
 use Rattle.std.proofs.lemmas.List.Sorted.{ranks_by, sorted_far}
 use Rattle.std.proofs.lemmas.List.Elements.{Contains-get_or}
 use Rattle.std.proofs.lemmas.List.{get_or_default}
@@ -23,31 +22,13 @@ use Rattle.macho_symbols.proofs.RowMembers.{row_to, row_from}
 pub places_total : IsStrictWeakOrder (λ r s. is_lt (place_cmp r s))
 places_total = ranks_by (then_total (on_total (λ c. c.sect) nat_cmp_total) (back_total (on_total (λ c. c.value) nat_cmp_total))) (λ r. r)
 
--- the first part of an order decides
-low_first : (x y : ℕ) (o p : Ordering) → MatchOrdering o (x < y) (x ≡ y) (y < x) → is_lt (ordering_then o p) ≡ false → (y < x) ⊎ ((y ≡ x) × (is_lt p ≡ false))
-low_first x y Less p m h = absurd (cc h)
-low_first x y Equal p m h = inr (sym m, h)
-low_first x y Greater p m h = inl m
-
 -- what does not come before a row has a later section, or the same one and no greater value
 in_order : (r s : Candidate) → is_lt (place_cmp s r) ≡ false → Precedes r s ⊎ IsBeside r s
-in_order r s h = by_section (low_first s.sect r.sect (nat_cmp s.sect r.sect) _ (ranked s.sect r.sect (nat_cmp s.sect r.sect) refl) h)
-  where
-    by_value : (o : Ordering) → r.sect ≡ s.sect → MatchOrdering o (r.value < s.value) (r.value ≡ s.value) (s.value < r.value) → is_lt o ≡ false → Precedes r s ⊎ IsBeside r s
-    by_value Less e m k = absurd (cc k)
-    by_value Equal e m k = inr (e, m)
-    by_value Greater e m k = inl (inr (e, m))
-
-    by_section : (r.sect < s.sect) ⊎ ((r.sect ≡ s.sect) × (is_lt (nat_cmp r.value s.value) ≡ false)) → Precedes r s ⊎ IsBeside r s
-    by_section (inl l) = inl (inl l)
-    by_section (inr e) = by_value (nat_cmp r.value s.value) e.0 (ranked r.value s.value (nat_cmp r.value s.value) refl) e.1
+in_order r s h = grind (arith, nat_tests)
 
 pub rows_sorted : (rows : List Candidate) → IsSortedBy (λ r s. is_lt (place_cmp r s)) rows → AreSorted rows
 rows_sorted rows ordered i j d h l =
     in_order (slice_index_or rows i d) (slice_index_or rows j d) (sorted_far (λ r s. is_lt (place_cmp r s)) places_total rows ordered i j d (omega arith) l)
-
-true_false : true ≡ false → ⊥
-true_false h = cc
 
 not_before_own : (n a s v : ℕ) → s ≡ n → v ≤ a → (nat_lt s n || ((s == n) && nat_lt a v)) ≡ false
 not_before_own n a s v e l = grind (arith, nat_tests)
@@ -60,12 +41,10 @@ above_number n a s v e h = grind (arith, nat_tests)
 
 -- a greater value comes first
 greater_first : (c d : Tuple) → c.value < d.value → tuple_cmp c d ≢ Less
-greater_first c d h = by_rank (nat_cmp d.value c.value) (ranked d.value c.value (nat_cmp d.value c.value) refl)
+greater_first c d h = above d.value c.value _ h
   where
-    by_rank : (o : Ordering) → MatchOrdering o (d.value < c.value) (d.value ≡ c.value) (c.value < d.value) → ordering_then o (ordering_then (bool_cmp d.external c.external) (ordering_then (slice_cmp nat_cmp c.name d.name) (nat_cmp c.sect d.sect))) ≢ Less
-    by_rank Less m = absurd (omega (arith, h, m))
-    by_rank Equal m = absurd (omega (arith, h, m))
-    by_rank Greater m = λ e. cc e
+    above : (m n : ℕ) (o : Ordering) → n < m → ordering_then (nat_cmp m n) o ≢ Less
+    above m n o h e = grind (arith, nat_tests)
 
 -- the row of the section and the value of a candidate
 record HasRow (strings : List ℕ) (rows : List Candidate) (c : Tuple) : Type 0 where
@@ -95,15 +74,12 @@ module _ (image : List ℕ) (rows : List Candidate) (are : AreRows image rows) w
       (point : IsPartitionPoint (λ r. is_before number address r ≡ true) (λ r. is_before number address r ≡ false) rows index) where
     -- a candidate of the section that is not above the address has its row at the place or behind
     behind : (c : Tuple) (w : HasRow (strings_of image) rows c) (d : Candidate) → c.sect ≡ number → c.value ≤ address → index ≤ w.at
-    behind c w d s v = by_place (cases_lt w.at index)
-      where
-        row : Candidate
-        row = slice_index_or rows w.at d
-
-        by_place : (w.at < index) ⊎ (index ≤ w.at) → index ≤ w.at
-        by_place (inr l) = l
-        by_place (inl l) =
-            absurd (true_false (sym (point.0 w.at d (omega arith) l) ∙ not_before_own number address row.sect row.value (w.sect d ∙ s) (omega (arith, w.value d, v))))
+    behind c w d s v = elim (cases_lt w.at index) [
+      | inl l ↦
+          let row = slice_index_or rows w.at d in
+          cc (point.0 w.at d (omega arith) l, not_before_own number address row.sect row.value (w.sect d ∙ s) (omega (arith, w.value d, v)))
+      | inr l ↦ l
+    ]
 
     pub found_at_place : (e : Candidate) → index < length rows → (slice_index_or rows index e).sect ≡ number
         → IsFirst (λ c. Contains (candidates image) c × (c.sect ≡ number) × (c.value ≤ address)) (tuple_of (strings_of image) (slice_index_or rows index e))
@@ -114,22 +90,19 @@ module _ (image : List ℕ) (rows : List Candidate) (are : AreRows image rows) w
         s,
         not_above number address row.sect row.value s (point.1 index e (omega arith) l),
       );
-      first = λ c h. let w = row_of c h.0 in by_place c h.1 w (behind c w e h.1 h.2) (cases_lt index w.at);
+      first = λ c h. let w = row_of c h.0 in elim (cases_lt index w.at) [
+        | inl k ↦ elim (are.falling index w.at e k w.within) [
+          | inl p ↦ absurd (omega (arith, p, w.sect e, h.1, s))
+          | inr p ↦ greater_first c (tuple_of (strings_of image) row) (omega (arith, p.1, w.value e))
+        ]
+        | inr k ↦
+            let same : w.at ≡ index = omega (arith, k, behind c w e h.1 h.2) in
+            subst (λ i. tuple_cmp c (tuple_of (strings_of image) (slice_index_or rows i e)) ≢ Less) same (w.first e)
+      ];
     }
       where
         row : Candidate
         row = slice_index_or rows index e
-
-        by_place : (c : Tuple) → c.sect ≡ number → (w : HasRow (strings_of image) rows c) → index ≤ w.at → (index < w.at) ⊎ (w.at ≤ index)
-            → tuple_cmp c (tuple_of (strings_of image) row) ≢ Less
-        by_place c n w m (inr k) =
-            let same : w.at ≡ index = omega arith in
-            subst (λ i. tuple_cmp c (tuple_of (strings_of image) (slice_index_or rows i e)) ≢ Less) same (w.first e)
-        by_place c n w m (inl k) = by_value (are.falling index w.at e k w.within)
-          where
-            by_value : Precedes row (slice_index_or rows w.at e) → tuple_cmp c (tuple_of (strings_of image) row) ≢ Less
-            by_value (inl p) = absurd (omega (arith, p, w.sect e, n, s))
-            by_value (inr p) = greater_first c (tuple_of (strings_of image) row) (omega (arith, p.1, w.value e))
 
     pub none_at_end : length rows ≤ index → (c : Tuple) → Contains (candidates image) c × (c.sect ≡ number) × (c.value ≤ address) → ⊥
     none_at_end l c h =
@@ -138,38 +111,29 @@ module _ (image : List ℕ) (rows : List Candidate) (are : AreRows image rows) w
 
     pub none_at_place : (e : Candidate) → index < length rows → (slice_index_or rows index e).sect ≢ number
         → (c : Tuple) → Contains (candidates image) c × (c.sect ≡ number) × (c.value ≤ address) → ⊥
-    none_at_place e l s c h = by_place (cases_lt index w.at)
-      where
-        row : Candidate
-        row = slice_index_or rows index e
-
-        beyond : number < row.sect
-        beyond = above_number number address row.sect row.value s (point.1 index e (omega arith) l)
-
-        w : HasRow (strings_of image) rows c
-        w = row_of c h.0
-
-        by_order : Precedes row (slice_index_or rows w.at e) → ⊥
-        by_order (inl p) = omega (arith, p, beyond, w.sect e, h.1)
-        by_order (inr p) = omega (arith, p.0, beyond, w.sect e, h.1)
-
-        by_place : (index < w.at) ⊎ (w.at ≤ index) → ⊥
-        by_place (inl k) = by_order (are.falling index w.at e k w.within)
-        by_place (inr k) =
-            let same : w.at ≡ index = omega (arith, k, behind c w e h.1 h.2) in
-            s (ap (λ i. (slice_index_or rows i e).sect) (sym same) ∙ w.sect e ∙ h.1)
+    none_at_place e l s c h =
+        let row = slice_index_or rows index e in
+        let beyond : number < row.sect = above_number number address row.sect row.value s (point.1 index e (omega arith) l) in
+        let w = row_of c h.0 in
+        elim (cases_lt index w.at) [
+          | inl k ↦ elim (are.falling index w.at e k w.within) [
+            | inl p ↦ omega (arith, p, beyond, w.sect e, h.1)
+            | inr p ↦ omega (arith, p.0, beyond, w.sect e, h.1)
+          ]
+          | inr k ↦
+              let same : w.at ≡ index = omega (arith, k, behind c w e h.1 h.2) in
+              s (ap (λ i. (slice_index_or rows i e).sect) (sym same) ∙ w.sect e ∙ h.1)
+        ]
 
 -- rows before come before the others
 pub partitioned : (rows : List Candidate) (number address : ℕ) → AreFalling rows → IsPartitionedBy (is_before number address) rows
-partitioned rows number address fall i j d h l before = by_place (cases_lt i j)
+partitioned rows number address fall i j d h l before = elim (cases_lt i j) [
+  | inl k ↦
+      more number address (slice_index_or rows i d).sect (slice_index_or rows j d).sect (slice_index_or rows i d).value (slice_index_or rows j d).value (fall i j d k l) before
+  | inr k ↦
+      let same : j ≡ i = omega arith in
+      subst (λ n. is_before number address (slice_index_or rows n d) ≡ true) same before
+]
   where
     more : (n a s t u v : ℕ) → (s < t) ⊎ ((s ≡ t) × (v < u)) → (nat_lt t n || ((t == n) && nat_lt a v)) ≡ true → (nat_lt s n || ((s == n) && nat_lt a u)) ≡ true
-    more n a s t u v (inl l) h = grind (arith, nat_tests)
-    more n a s t u v (inr e) h = grind (arith, nat_tests)
-
-    by_place : (i < j) ⊎ (j ≤ i) → is_before number address (slice_index_or rows i d) ≡ true
-    by_place (inl k) =
-        more number address (slice_index_or rows i d).sect (slice_index_or rows j d).sect (slice_index_or rows i d).value (slice_index_or rows j d).value (fall i j d k l) before
-    by_place (inr k) =
-        let same : j ≡ i = omega arith in
-        subst (λ n. is_before number address (slice_index_or rows n d) ≡ true) same before
+    more n a s t u v p h = grind (arith, nat_tests)

@@ -1,7 +1,7 @@
 -- Rows and the candidates that they are.
-use Rattle.std.proofs.Common.{◌≡◌, ◌≢◌, ◌≤◌, ℕ, length, Bool, true, false, cond, List, Option, Some, None, refl, sym, ap, ◌∙◌, subst, Contains}
+use Rattle.std.proofs.Common.{◌≡◌, ◌≢◌, ◌≤◌, ℕ, length, Bool, true, cond, List, Option, Some, None, refl, sym, ap, ◌∙◌, subst, Contains, arith}
 use Rattle.std.specs.Option.{option_map, option_map_or}
-use Rattle.std.proofs.lemmas.Option.{slice_get_past}
+use Rattle.std.proofs.lemmas.Option.{slice_get_past, cond_some}
 use Rattle.std.specs.declared.cmp.Ordering.TheVariants.{Less}
 use Rattle.macho_symbols.specs.Symbols.{Tuple, strings_of, is_candidate, tuple_in, name_in, candidate_in, candidates, entries_of}
 use Rattle.macho_symbols.specs.Nearest.{tuple_cmp, can_stand_for, StandsFor, IsNearest}
@@ -10,32 +10,26 @@ use Rattle.macho_symbols.specs.Halving.{row_at, standing_at}
 use Rattle.macho_symbols.specs.Overlaps.{IsAt, IsFirstRowOrNone}
 use Rattle.macho_symbols.specs.declared.candidate.Candidate.{Candidate}
 use Rattle.macho_symbols.proofs.Members.{member_from, member_to}
-use Rattle.macho_symbols.proofs.Placed.{at_index}
+use Rattle.macho_symbols.proofs.Placed.{chosen, at_index}
 
 -- a row tells the candidate of its entry
 row_told : (image entry : List ℕ) → option_map (tuple_of (strings_of image)) (row_in image entry) ≡ candidate_in image entry
 unfolding row_in candidate_in tuple_in tuple_of name_in
-row_told image entry = by_test (is_candidate image entry) refl
+row_told image entry = of_choice (tuple_of (strings_of image)) _ (is_candidate image entry)
   where
-    by_test : (t : Bool) → is_candidate image entry ≡ t → option_map (tuple_of (strings_of image)) (row_in image entry) ≡ candidate_in image entry
-    by_test true e = rw e refl
-    by_test false e = rw e refl
+    of_choice : {A B : Type 0} (f : A → B) (x : A) (t : Bool) → option_map f (cond t (Some x) None) ≡ cond t (Some (f x)) None
+    of_choice f x t = grind arith
 
 some_row : (image entry : List ℕ) (r : Candidate) → row_in image entry ≡ Some r → candidate_in image entry ≡ Some (tuple_of (strings_of image) r)
 some_row image entry r h = sym (row_told image entry) ∙ ap (option_map (tuple_of (strings_of image))) h
 
+-- what a mapped option comes from
+mapped : {A B : Type 0} (f : A → B) (o : Option A) (y : B) → option_map f o ≡ Some y → (x : A) × (o ≡ Some x) × (f x ≡ y)
+mapped f None y h = cc h
+mapped f (Some x) y h = (x, refl, cc h)
+
 row_of_entry : (image entry : List ℕ) (c : Tuple) → candidate_in image entry ≡ Some c → (r : Candidate) × (row_in image entry ≡ Some r) × (tuple_of (strings_of image) r ≡ c)
-row_of_entry image entry c h = by_row (row_in image entry) refl
-  where
-    by_row : (o : Option Candidate) → row_in image entry ≡ o → (r : Candidate) × (row_in image entry ≡ Some r) × (tuple_of (strings_of image) r ≡ c)
-    by_row None e = absurd (none_some (ap (option_map (tuple_of (strings_of image))) (sym e) ∙ row_told image entry ∙ h))
-      where
-        none_some : None ≡ Some c → ⊥
-        none_some i = cc
-    by_row (Some r) e = (r, e, same (sym (some_row image entry r e) ∙ h))
-      where
-        same : Some (tuple_of (strings_of image) r) ≡ Some c → tuple_of (strings_of image) r ≡ c
-        same i = cc
+row_of_entry image entry c h = mapped (tuple_of (strings_of image)) (row_in image entry) c (row_told image entry ∙ h)
 
 pub row_to : (image : List ℕ) (r : Candidate) → Contains (rows_of image) r → Contains (candidates image) (tuple_of (strings_of image) r)
 unfolding rows_of candidates
@@ -64,22 +58,10 @@ module _ (image : List ℕ) (address : ℕ) where
   standing_row o = option_map_or (λ c. cond (can_stand_for image address (tuple_of (strings_of image) c)) (Some c) None) o None
 
   standing_parts : (o : Option Candidate) (r : Candidate) → standing_row o ≡ Some r → (o ≡ Some r) × (can_stand_for image address (tuple_of (strings_of image) r) ≡ true)
-  standing_parts None r h = absurd (none_some h)
-    where
-      none_some : None ≡ Some r → ⊥
-      none_some i = cc
-  standing_parts (Some c) r h = by_test (can_stand_for image address (tuple_of (strings_of image) c)) refl h
-    where
-      by_test : (t : Bool) → can_stand_for image address (tuple_of (strings_of image) c) ≡ t → cond t (Some c) None ≡ Some r
-          → (Some c ≡ Some r) × (can_stand_for image address (tuple_of (strings_of image) r) ≡ true)
-      by_test true e i = (i, subst (λ x. can_stand_for image address (tuple_of (strings_of image) x) ≡ true) (same i) e)
-        where
-          same : Some c ≡ Some r → c ≡ r
-          same j = cc
-      by_test false e i = absurd (none_some i)
-        where
-          none_some : None ≡ Some r → ⊥
-          none_some j = cc
+  standing_parts o r h =
+      let w = chosen (λ c. cond (can_stand_for image address (tuple_of (strings_of image) c)) (Some c) None) o r h in
+      let p = cond_some (can_stand_for image address (tuple_of (strings_of image) w.0)) w.0 r w.2 in
+      (w.1 ∙ ap Some p.1, rw (← p.1) p.0)
 
   standing_from : (c : Tuple) → StandsFor image address c → (r : Candidate) × IsAt (standing_at image address) r × (tuple_of (strings_of image) r ≡ c)
   standing_from c h =

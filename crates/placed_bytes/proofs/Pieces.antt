@@ -1,7 +1,8 @@
 -- Bytes that are taken piece by piece.
-use Rattle.std.proofs.Common.{◌≡◌, ℕ, ◌+◌, ◌≤◌, subst, List, ◌++◌, length, take, drop, Option, Some, None, sym, ap, ◌∙◌, length-append, length-take, append_assoc, arith}
-use Rattle.std.proofs.lemmas.List.{length-take-le, drop-drop, take-take, take-append-le}
-use Rattle.std.proofs.Math.Seq.{take-add, take-append-add}
+use Rattle.std.proofs.Common.{◌≡◌, ℕ, ◌+◌, ◌≤◌, subst, List, ◌++◌, length, take, drop, Option, Some, None, sym, ap, ◌∙◌, length-append}
+use Rattle.std.proofs.lemmas.List.{length-take-le, drop-drop}
+use Rattle.std.proofs.Math.Seq.{take-add}
+use Rattle.byte_device.proofs.Taken.{take-behind}
 use Rattle.placed_bytes.specs.Places.{Stands, TakenAt}
 
 -- the first bytes stand at a place, and behind them n more do
@@ -14,24 +15,10 @@ stands_more (Some all) at n front piece bound first next =
     ∙ ap (λ (t : List ℕ). t ++ take n (drop (length front) (drop at all))) first
     ∙ ap (λ (t : List ℕ). front ++ t) (ap (take n) (drop-drop (length front) at all) ∙ sym next.bytes)
 
--- `piece` was written past the first `at` bytes of a buffer of `len` bytes
-pub length_past : (xs piece after rest : List ℕ) (at len n : ℕ) → at ≤ length xs → at + n ≤ len → n ≤ length piece → at + n ≤ length (take len (take at xs ++ (piece ++ after) ++ rest))
-length_past xs piece after rest at len n in_front in_len in_piece =
-    omega (arith, length-take len (take at xs ++ (piece ++ after) ++ rest), length-append (take at xs ++ (piece ++ after)) rest, length-append (take at xs) (piece ++ after), length-append piece after, length-take at xs)
-
-take_past : (xs piece after rest : List ℕ) (at len n : ℕ) → at ≤ length xs → at + n ≤ len → n ≤ length piece → take (at + n) (take len (take at xs ++ (piece ++ after) ++ rest)) ≡ take at xs ++ take n piece
-take_past xs piece after rest at len n in_front in_len in_piece =
-    let front = take at xs in
-    take-take (at + n) len (front ++ (piece ++ after) ++ rest) in_len
-    ∙ ap (λ (t : List ℕ). take (at + n) t) (append_assoc front (piece ++ after) rest ∙ ap (λ (t : List ℕ). front ++ t) (append_assoc piece after rest))
-    ∙ ap (λ (k : ℕ). take (k + n) (front ++ (piece ++ (after ++ rest)))) (sym (length-take-le at xs in_front))
-    ∙ take-append-add front (piece ++ (after ++ rest)) n
-    ∙ ap (λ (t : List ℕ). front ++ t) (take-append-le n piece (after ++ rest) in_piece)
-
 -- so that they stand there with those before
 pub stands_past : (whole now : Option (List ℕ)) (place : ℕ) (old xs piece after rest : List ℕ) (at len n : ℕ) → at ≤ length xs → at + n ≤ len → n ≤ length piece → take at xs ≡ take at old → Stands whole place (take at old) → now ≡ whole → TakenAt now (place + at) n piece
     → Stands whole place (take (at + n) (take len (take at xs ++ (piece ++ after) ++ rest)))
 stands_past whole now place old xs piece after rest at len n in_front in_len in_piece front first keeps next =
     let long : length (take at xs) ≡ at = length-take-le at xs in_front in
-    subst (Stands whole place) (sym (take_past xs piece after rest at len n in_front in_len in_piece))
+    subst (Stands whole place) (sym (take-behind xs piece after rest at len n in_front in_len in_piece))
     (stands_more whole place n (take at xs) piece in_piece (subst (Stands whole place) (sym front) first) (subst (λ (k : ℕ). TakenAt whole (place + k) n piece) (sym long) (subst (λ (w : Option (List ℕ)). TakenAt w (place + at) n piece) keeps next)))

@@ -1,23 +1,16 @@
-use Rattle.std.proofs.Common.{◌≡◌, ◌≢◌, ◌∙◌, ◌==◌, ◌<◌, ◌≤◌, ℕ, List, Bool, true, false, not, nat_eq, ap, sym, arith, take, drop, length, length-take, length-drop}
+use Rattle.std.proofs.Common.{◌≡◌, ◌≢◌, ◌∙◌, ◌==◌, ◌<◌, ◌≤◌, ℕ, List, true, false, not, nat_eq, ap, sym, arith, take, drop, length, length-take, length-drop}
 use Rattle.std.specs.List.{before_first, position_or_len}
 use Rattle.std.specs.Ordering.{nat_cmp}
 use Rattle.std.specs.Cmp.Lexicographic.{slice_cmp, pointwise, bytes_decides}
+use Rattle.std.proofs.lemmas.Bool.{not-true, not-false}
 use Rattle.macho_symbols.proofs.Pieces.{pieces_differ, pieces_same, names_same}
 use Rattle.macho_symbols.proofs.name.Name.compare.Goals as goal
 
 apart : (xs ys : List ℕ) → not (pointwise nat_eq xs ys) ≡ true → xs ≢ ys
-apart xs ys h e = by_test (pointwise nat_eq xs ys) h ((bytes_decides xs ys).1 e)
-  where
-    by_test : (b : Bool) → not b ≡ true → b ≡ true → ⊥
-    by_test true h e = cc
-    by_test false h e = cc
+apart xs ys h e = cc (not-true _ h, (bytes_decides xs ys).1 e)
 
 alike : (xs ys : List ℕ) → not (pointwise nat_eq xs ys) ≡ false → xs ≡ ys
-alike xs ys h = (bytes_decides xs ys).0 (by_test (pointwise nat_eq xs ys) h)
-  where
-    by_test : (b : Bool) → not b ≡ false → b ≡ true
-    by_test true h = cc
-    by_test false h = cc
+alike xs ys h = (bytes_decides xs ys).0 (not-false _ h)
 
 pub returns-then-ne : goal.returns-then-ne
 returns-then-ne c =
