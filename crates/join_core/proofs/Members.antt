@@ -1,10 +1,10 @@
 -- Sets that are made of lists: neither order nor repeats count.
-use Rattle.std.proofs.Common.{◌≡◌, true, ◌||◌, List, [], ◌∷◌, sym, ◌∙◌, ◌↔◌, arith}
+use Rattle.std.proofs.Common.{◌≡◌, true, List, [], ◌∷◌, sym, ◌∙◌, ◌↔◌, arith}
 use Rattle.std.specs.declared.cmp.Ordering.{Ordering}
 use Rattle.std.specs.Ordering.{eq_by_cmp}
 use Rattle.std.specs.Cmp.{IsTotalOrder, Equal-is, both_ways}
 use Rattle.std.specs.List.{Contains, fold}
-use Rattle.std.specs.FinSet.{FinSet, from_list, contains, insert, union, IsAntisymmetric, contains-from_list, contains-insert, contains-union, same_set}
+use Rattle.std.specs.FinSet.{FinSet, from_list, insert, union, IsAntisymmetric, contains-from_list, contains-insert, contains-union, same_set}
 use Rattle.std.proofs.lemmas.Cmp.{eq_by_cmp_equiv}
 use Rattle.std.proofs.lemmas.Map.Views.{list_any-from_Contains, Contains-from_any}
 use Rattle.join_core.proofs.Subset.{union_empty}
