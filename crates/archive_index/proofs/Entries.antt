@@ -1,5 +1,5 @@
 -- Entries as values and as bytes.
-use Rattle.std.proofs.Common.{◌≡◌, ℕ, ◌+◌, ◌-◌, ◌<◌, ◌^◌, zero, suc, Bool, true, false, cond, List, [], ◌∷◌, ◌++◌, length, map, take, drop, get_or, refl, sym, ap, ◌∙◌, subst, arith, length-append, length-drop, append_assoc}
+use Rattle.std.proofs.Common.{◌≡◌, ℕ, ◌+◌, ◌-◌, ◌<◌, ◌^◌, zero, suc, Bool, cond, List, [], ◌∷◌, ◌++◌, length, map, take, drop, get_or, refl, sym, ap, ◌∙◌, subst, arith, length-append, length-drop, append_assoc}
 use Rattle.std.specs.Prelude.{slice_set}
 use Rattle.std.specs.Int.{w64, to_be_bytes, from_be_bytes}
 use Rattle.std.specs.List.{AllByRecursion}
@@ -36,12 +36,10 @@ laid_place (x ∷ xs) off len k e p q =
 -- ---- the entry of a record's row
 
 tag_of_slice : (b : Bool) → tag_byte (cond b Dsym Image) ≡ 2
-tag_of_slice true = refl
-tag_of_slice false = refl
+tag_of_slice b = grind arith
 
 kind_of_slice : (b : Bool) → dsym_byte (cond b Dsym Image) ≡ cond b 1 0
-kind_of_slice true = refl
-kind_of_slice false = refl
+kind_of_slice b = grind arith
 
 row_entry_of : (a : Operation) → IsOperation a → tag_byte (row_of a).state ∷ (key_bytes (row_of a).key ++ (row_of a).digest.0) ≡ entry (record_bytes a)
 row_entry_of (Admit slice) valid = ap (λ (n : ℕ). n ∷ (key_bytes (key_of slice) ++ sha256 slice)) (tag_of_slice (is_dsym_image slice)) ∙ sym (admission_entry slice valid)

@@ -1,11 +1,12 @@
 -- The entries of records that stand one after another.
-use Rattle.std.proofs.Common.{◌≡◌, ℕ, ◌+◌, ◌-◌, ◌<◌, ◌^◌, Bool, true, false, cond, ◌&&◌, ◌||◌, eqb, List, [], ◌∷◌, ◌++◌, length, map, take, drop, get_or, refl, sym, ap, ◌∙◌, inl, inr, arith, length-append, nat_le}
+use Rattle.std.proofs.Common.{◌≡◌, ℕ, ◌+◌, ◌-◌, ◌<◌, ◌^◌, Bool, true, cond, ◌&&◌, ◌||◌, eqb, List, [], ◌∷◌, ◌++◌, length, map, take, drop, get_or, sym, ap, ◌∙◌, inl, inr, arith, length-append, nat_le}
 use Rattle.std.specs.Int.{w64, to_be_bytes, from_be_bytes}
 use Rattle.std.specs.List.{concat, AllByRecursion}
 use Rattle.std.proofs.Math.ListN.{get_or-append}
 use Rattle.std.proofs.Math.Seq.{take-append_seam, drop-append_seam, drop-append-add, get_or-append_right}
 use Rattle.std.proofs.lemmas.List.{map-append, take_all, drop-drop}
-use Rattle.std.proofs.lemmas.Bool.{le-leb}
+use Rattle.std.proofs.lemmas.Bool.{le-leb, and_from}
+use Rattle.std.proofs.lemmas.Bool.Decides.{nat_tests}
 use Rattle.std.proofs.lemmas.Nat.{from_be_bytes-to_be_bytes_8}
 use Rattle.macho_image.specs.Contents.{is_dsym_image}
 use Rattle.archive_core.specs.Record.{IsRecord, Admits, Retires}
@@ -36,9 +37,6 @@ entries_more before after e records r offset grown of at are =
 -- ---- the parts of an entry
 
 module _ (offset : ℕ) (r : List ℕ) (is : IsRecord r) where
-  tail_of : List ℕ
-  tail_of = kind_byte r ∷ (to_be_bytes w64 offset ++ to_be_bytes w64 (length r))
-
   front_long : length (entry r) ≡ 57
   front_long = length-entry r is
 
@@ -87,13 +85,8 @@ tag_is offset r (inr b) = first_of offset r (inr b) ∙ ap (λ (x : List ℕ). g
 
 -- ---- the entry of a record is one of an index
 
-both_true : (a b : Bool) → a ≡ true → b ≡ true → (a && b) ≡ true
-both_true true b p q = q
-both_true false b p q = absurd cc
-
 kind_admitted : (b : Bool) (k t : ℕ) → k ≡ cond b 1 0 → t ≡ 2 → (eqb k 0 || (eqb k 1 && eqb t 2)) ≡ true
-kind_admitted true k t p q = rw (p, q) refl
-kind_admitted false k t p q = rw p refl
+kind_admitted b k t p q = grind (arith, nat_tests)
 
 module _ (offset : ℕ) (r : List ℕ) where
   admitted_entry : Admits r → IsPlacedEntry (placed_entry offset r)
@@ -107,7 +100,7 @@ module _ (offset : ℕ) (r : List ℕ) where
         kind = kind_admitted (is_dsym_image (drop 33 r)) (get_or (placed_entry offset r) 57 0) (get_or (placed_entry offset r) 0 0) kind tag;
         length_is =
             (λ i. cond (eqb (tag i) 2) (nat_le 33 (length_is offset r is i) && nat_le (length_is offset r is i) (33 + largest_slice)) (eqb (length_is offset r is i) 57))
-            ∙ both_true (nat_le 33 (length r)) (nat_le (length r) (33 + largest_slice)) (le-leb 33 (length r) (omega (arith, ap length a.is, length-admission_record a.slice a.valid))) (le-leb (length r) (33 + largest_slice) (omega (arith, record_short r is)));
+            ∙ and_from (nat_le 33 (length r)) (nat_le (length r) (33 + largest_slice)) (le-leb 33 (length r) (omega (arith, ap length a.is, length-admission_record a.slice a.valid))) (le-leb (length r) (33 + largest_slice) (omega (arith, record_short r is)));
       }
 
   retired_entry : Retires r → IsPlacedEntry (placed_entry offset r)

@@ -6,7 +6,7 @@ use Rattle.std.specs.List.{concat}
 use Rattle.std.specs.Str.{bytes_eq}
 use Rattle.std.specs.Ordering.{nat_cmp, is_lt}
 use Rattle.std.specs.Cmp.Lexicographic.{slice_cmp}
-use Rattle.std.proofs.lemmas.Bool.{ltb-false}
+use Rattle.std.proofs.lemmas.Bool.{ltb-false, not-false}
 use Rattle.std.proofs.lemmas.List.{take_all, length-take-le, take-append-drop, take-append-le, drop-append-le, drop-drop, get_or-take}
 use Rattle.std.proofs.lemmas.Slice.Eq.{bytes_eq-Decides}
 use Rattle.archive_records.specs.Fault.{is_end}
@@ -25,15 +25,7 @@ abbrev pub done : Bool → Result Bool IndexFaultKind
 done end = Ok end
 
 passed : (b : Bool) (kind : IndexFaultKind) (r : Result Bool IndexFaultKind) (x : Bool) → cond b (failed kind) r ≡ done x → (b ≡ false) × (r ≡ done x)
-passed true kind r x e = absurd cc
-passed false kind r x e = (refl, e)
-
-ends_apart : done true ≡ done false → ⊥
-ends_apart e = cc
-
-not_false : (b : Bool) → not b ≡ false → b ≡ true
-not_false true e = refl
-not_false false e = absurd cc
+passed b kind r x e = grind arith
 
 -- no test of an end record answers that an entry is there
 end_no_entry : (count : ℕ) (rest : List ℕ) → test_end count rest ≡ done false → ⊥
@@ -42,7 +34,7 @@ end_no_entry count rest e =
     let a = passed (nat_lt (length rest) 9) Truncated _ false e in
     let b = passed (not (bytes_eq (take 9 rest) (end_record count))) BadCount _ false a.1 in
     let c = passed (nat_lt 9 (length rest)) Trailing (done true) false b.1 in
-    ends_apart c.1
+    cc (c.1)
 
 -- nor one of an entry that the end record is
 entry_no_end : (last rest : List ℕ) → test_entry last rest ≡ done true → ⊥
@@ -53,7 +45,7 @@ entry_no_end last rest e =
     let c = passed (not (has_kind rest)) BadKind _ true b.1 in
     let d = passed (not (has_length rest)) BadLength _ true c.1 in
     let f = passed (not (is_lt (slice_cmp nat_cmp last (take 74 rest)))) NotAscending (done false) true d.1 in
-    ends_apart (sym f.1)
+    cc (f.1)
 
 -- an entry is next
 pub record IsNextEntry (last rest : List ℕ) : Type 0 where
@@ -86,11 +78,11 @@ entry_tested last rest e =
       long = long;
       is = record {
         long = length-take-le 74 rest long;
-        tag = (λ i. eqb (tag i) 1 || eqb (tag i) 2) ∙ not_false (has_tag rest) a.0;
-        kind = (λ i. eqb (kind i) 0 || (eqb (kind i) 1 && eqb (tag i) 2)) ∙ not_false (has_kind rest) c.0;
-        length_is = (λ i. let n : ℕ = from_be_bytes w64 (part i) in cond (eqb (tag i) 2) (nat_le 33 n && nat_le n (33 + largest_slice)) (eqb n 57)) ∙ not_false (has_length rest) d.0;
+        tag = (λ i. eqb (tag i) 1 || eqb (tag i) 2) ∙ not-false (has_tag rest) a.0;
+        kind = (λ i. eqb (kind i) 0 || (eqb (kind i) 1 && eqb (tag i) 2)) ∙ not-false (has_kind rest) c.0;
+        length_is = (λ i. let n : ℕ = from_be_bytes w64 (part i) in cond (eqb (tag i) 2) (nat_le 33 n && nat_le n (33 + largest_slice)) (eqb n 57)) ∙ not-false (has_length rest) d.0;
       };
-      above = not_false (is_lt (slice_cmp nat_cmp last (take 74 rest))) f.0;
+      above = not-false (is_lt (slice_cmp nat_cmp last (take 74 rest))) f.0;
     }
 
 pub next_entry : (last : List ℕ) (count : ℕ) (rest : List ℕ) → next last count rest ≡ done false → IsNextEntry last rest
@@ -109,7 +101,7 @@ end_tested count rest e =
     let a = passed (nat_lt (length rest) 9) Truncated _ true e in
     let b = passed (not (bytes_eq (take 9 rest) (end_record count))) BadCount _ true a.1 in
     let c = passed (nat_lt 9 (length rest)) Trailing (done true) true b.1 in
-    sym (take_all 9 rest (ltb-false 9 (length rest) c.0)) ∙ (bytes_eq-Decides (take 9 rest) (end_record count)).0 (not_false (bytes_eq (take 9 rest) (end_record count)) b.0)
+    sym (take_all 9 rest (ltb-false 9 (length rest) c.0)) ∙ (bytes_eq-Decides (take 9 rest) (end_record count)).0 (not-false (bytes_eq (take 9 rest) (end_record count)) b.0)
 
 pub next_end : (last : List ℕ) (count : ℕ) (rest : List ℕ) → next last count rest ≡ done true → rest ≡ end_record count
 unfolding next
@@ -124,14 +116,11 @@ next_end last count rest e =
 abbrev pub IsOfTests : Result Bool IndexFaultKind → Type 0
 IsOfTests r = (kind : IndexFaultKind) → r ≡ failed kind → (kind ≢ Device) × (kind ≢ OutOfMemory)
 
-same_kind : (k l : IndexFaultKind) → failed k ≡ failed l → k ≡ l
-same_kind k l e = cc
-
 of_done : (b : Bool) → IsOfTests (done b)
 of_done b kind e = absurd cc
 
 of_cond : (b : Bool) (kind : IndexFaultKind) (r : Result Bool IndexFaultKind) → (kind ≢ Device) × (kind ≢ OutOfMemory) → IsOfTests r → IsOfTests (cond b (failed kind) r)
-of_cond true kind r known rest = λ other e. (λ h. known.0 (same_kind kind other e ∙ h), λ h. known.1 (same_kind kind other e ∙ h))
+of_cond true kind r known rest = λ other e. (λ h. known.0 cc, λ h. known.1 cc)
 of_cond false kind r known rest = rest
 
 pub of_tests : (last : List ℕ) (count : ℕ) (rest : List ℕ) → IsOfTests (next last count rest)
