@@ -1,5 +1,5 @@
 -- Records that the entries of a content's index name.
-use Rattle.std.proofs.Common.{◌≡◌, ℕ, ◌+◌, ◌<◌, ◌≤◌, ◌^◌, true, ◌&&◌, List, [], ◌∷◌, ◌++◌, length, take, drop, get_or, refl, sym, ap, ◌∙◌, subst, inl, inr, arith, length-append, length-drop, append_assoc}
+use Rattle.std.proofs.Common.{◌≡◌, ℕ, zero, suc, ◌+◌, ◌<◌, ◌≤◌, ◌^◌, true, ◌&&◌, List, [], ◌∷◌, ◌++◌, length, take, drop, get_or, refl, sym, ap, ◌∙◌, subst, inl, inr, arith, length-append, length-drop, append_assoc}
 use Rattle.std.specs.List.{AllZip, Contains, concat}
 use Rattle.std.specs.Str.{bytes_eq}
 use Rattle.std.specs.Cmp.{both_ways}
@@ -9,7 +9,7 @@ use Rattle.std.specs.FinSet.{same_set}
 use Rattle.std.proofs.Math.Seq.{take-append_seam, drop-append_seam}
 use Rattle.std.proofs.lemmas.Bool.{and_parts}
 use Rattle.std.proofs.lemmas.List.Elements.{Contains-get_or, AllZip-get_or, length_all_zip}
-use Rattle.std.proofs.lemmas.List.{take-append-le, drop-append-le, take-append-drop}
+use Rattle.std.proofs.lemmas.List.{take-append-le, drop-append-le, take-append-drop, get_or_default}
 use Rattle.std.specs.Int.{w64, to_be_bytes}
 use Rattle.sha2.specs.Sha256.{sha256}
 use Rattle.join_core.specs.Listing.{listing}
@@ -20,7 +20,7 @@ use Rattle.archive_core.specs.Content.{Operations, IsContent, is_admission, cont
 use Rattle.archive_core.specs.Part.{is_under, part}
 use Rattle.archive_core.specs.Summary.{Entries, entry}
 use Rattle.archive_core.proofs.Made.{bytes_same}
-use Rattle.archive_core.proofs.Members.{in_cons, in_front, in_rest, in_filter, to_filter, in_listing}
+use Rattle.archive_core.proofs.Members.{in_filter, to_filter, in_listing}
 use Rattle.archive_core.proofs.Entries.{entry_tells, retirement_of_entry, admission_entry, retirement_entry, length-entry}
 use Rattle.archive_core.proofs.Records.{length-key_of}
 use Rattle.archive_core.proofs.Picked.{contains_part, part_content}
@@ -35,15 +35,6 @@ use Rattle.archive_index.proofs.Sums.{nonempty}
 
 -- ---- what an entry of an index is of
 
--- a record of these, which stands at its place in the text, and its entry
-record IsPlacedIn (rs : List (List ℕ)) (text e : List ℕ) : Type 0 where
-  r : List ℕ
-  offset : ℕ
-  member : Contains rs r
-  entry_is : e ≡ placed_entry offset r
-  stands : take (length r) (drop offset text) ≡ r
-  within : offset + length r ≤ length text
-
 stands_there : (front r more text : List ℕ) → text ≡ front ++ (r ++ more) → take (length r) (drop (length front) text) ≡ r
 stands_there front r more text e =
     ap (λ (t : List ℕ). take (length r) (drop (length front) t)) e
@@ -57,38 +48,21 @@ module _ (text rest : List ℕ) where
   next_text : (front r : List ℕ) (rs : List (List ℕ)) → text ≡ front ++ (concat (r ∷ rs) ++ rest) → text ≡ (front ++ r) ++ (concat rs ++ rest)
   next_text front r rs e = step_text front r rs e ∙ sym (append_assoc front r (concat rs ++ rest))
 
-  abbrev placed_here : (k : ℕ) (front r : List ℕ) (rs : List (List ℕ)) → k ≡ length front → text ≡ front ++ (concat (r ∷ rs) ++ rest) → IsPlacedIn (r ∷ rs) text (placed_entry k r)
-  placed_here k front r rs at e = record {
-    r = r;
-    offset = k;
-    member = in_front r rs;
-    entry_is = refl;
-    stands = ap (λ (n : ℕ). take (length r) (drop n text)) at ∙ stands_there front r (concat rs ++ rest) text (step_text front r rs e);
-    within = omega (arith, at, ap length (step_text front r rs e), length-append front (r ++ (concat rs ++ rest)), length-append r (concat rs ++ rest));
-  }
+  -- where a record stands, and its entry
+  placed_at : (k : ℕ) (front : List ℕ) (rs : List (List ℕ)) (j : ℕ) → k ≡ length front → text ≡ front ++ (concat rs ++ rest) → j < length rs
+      → (offset : ℕ) × (get_or (placed_entries k rs) j [] ≡ placed_entry offset (get_or rs j [])) × (take (length (get_or rs j [])) (drop offset text) ≡ get_or rs j []) × (offset + length (get_or rs j []) ≤ length text)
+  placed_at k front [] j at whole lt = absurd (omega arith)
+  placed_at k front (r ∷ rs) zero at whole lt = (
+    k,
+    refl,
+    ap (λ (n : ℕ). take (length r) (drop n text)) at ∙ stands_there front r (concat rs ++ rest) text (step_text front r rs whole),
+    omega (arith, at, ap length (step_text front r rs whole), length-append front (r ++ (concat rs ++ rest)), length-append r (concat rs ++ rest)),
+  )
+  placed_at k front (r ∷ rs) (suc j) at whole lt = placed_at (k + length r) (front ++ r) rs j (omega (arith, at, length-append front r)) (next_text front r rs whole) (omega arith)
 
-  placed_later : (r e : List ℕ) (rs : List (List ℕ)) → IsPlacedIn rs text e → IsPlacedIn (r ∷ rs) text e
-  placed_later r e rs p = record { r = p.r; offset = p.offset; member = in_rest r rs p.r p.member; entry_is = p.entry_is; stands = p.stands; within = p.within }
-
-  from_placed : (k : ℕ) (front e : List ℕ) (rs : List (List ℕ)) → k ≡ length front → text ≡ front ++ (concat rs ++ rest) → Contains (placed_entries k rs) e → IsPlacedIn rs text e
-  from_placed k front e [] at whole (i, lt, is) = absurd (omega arith)
-  from_placed k front e (r ∷ rs) at whole h = elim (in_cons (placed_entry k r) (placed_entries (k + length r) rs) e h) [
-    | inl one ↦ subst (IsPlacedIn (r ∷ rs) text) one (placed_here k front r rs at whole)
-    | inr more ↦ placed_later r e rs (from_placed (k + length r) (front ++ r) e rs (omega (arith, at, length-append front r)) (next_text front r rs whole) more)
-  ]
-
-  -- each of the records has an entry
-  to_placed : (k : ℕ) (front q : List ℕ) (rs : List (List ℕ)) → k ≡ length front → text ≡ front ++ (concat rs ++ rest) → Contains rs q
-      → (e : List ℕ) × Contains (placed_entries k rs) e × (offset : ℕ) × (e ≡ placed_entry offset q) × (take (length q) (drop offset text) ≡ q) × (offset + length q ≤ length text)
-  to_placed k front q [] at whole (i, lt, is) = absurd (omega arith)
-  to_placed k front q (r ∷ rs) at whole h = elim (in_cons r rs q h) [
-    | inl is ↦
-        let p = placed_here k front r rs at whole in
-        (placed_entry k r, in_front (placed_entry k r) (placed_entries (k + length r) rs), k, ap (placed_entry k) is, subst (λ (x : List ℕ). take (length x) (drop k text) ≡ x) is p.stands, subst (λ (x : List ℕ). k + length x ≤ length text) is p.within)
-    | inr more ↦
-        let found = to_placed (k + length r) (front ++ r) q rs (omega (arith, at, length-append front r)) (next_text front r rs whole) more in
-        (found.0, in_rest (placed_entry k r) (placed_entries (k + length r) rs) found.0 found.1, found.2, found.3, found.4, found.5)
-  ]
+length_placed : (k : ℕ) (rs : List (List ℕ)) → length (placed_entries k rs) ≡ length rs
+length_placed k [] = refl
+length_placed k (r ∷ rs) = ap suc (length_placed (k + length r) rs)
 
 written_is : (o : Operations) → written o ≡ magic ++ (concat (listing o) ++ end_record (set.len o))
 unfolding written
@@ -106,16 +80,29 @@ pub record IsEntryIn (o : Operations) (e : List ℕ) : Type 0 where
 pub entry_in : (o : Operations) (e : List ℕ) → set.contains (index o) e ≡ true → IsEntryIn o e
 unfolding index
 entry_in o e h =
-    let p = from_placed (written o) (end_record (set.len o)) 8 magic e (listing o) refl (written_is o) ((in_made (placed_entries 8 (listing o)) e).1 h) in
-    record { r = p.r; offset = p.offset; member = (in_listing nat_list_cmp_total bytes_same o p.r).0 p.member; entry_is = p.entry_is; stands = p.stands; within = p.within }
+    let there = (in_made (placed_entries 8 (listing o)) e).1 h in
+    let within : there.0 < length (listing o) = omega (arith, there.1, length_placed 8 (listing o)) in
+    let p = placed_at (written o) (end_record (set.len o)) 8 magic (listing o) there.0 refl (written_is o) within in
+    record {
+      r = get_or (listing o) there.0 [];
+      offset = p.0;
+      member = (in_listing nat_list_cmp_total bytes_same o (get_or (listing o) there.0 [])).0 (Contains-get_or (listing o) there.0 [] within);
+      entry_is = sym there.2 ∙ get_or_default (placed_entries 8 (listing o)) there.0 e [] there.1 ∙ p.1;
+      stands = p.2;
+      within = p.3;
+    }
 
 -- the entry of a record of the content
 pub entry_for : (o : Operations) (r : List ℕ) → set.contains o r ≡ true
     → (e : List ℕ) × (set.contains (index o) e ≡ true) × (offset : ℕ) × (e ≡ placed_entry offset r) × (take (length r) (drop offset (written o)) ≡ r) × (offset + length r ≤ length (written o))
 unfolding index
 entry_for o r h =
-    let p = to_placed (written o) (end_record (set.len o)) 8 magic r (listing o) refl (written_is o) ((in_listing nat_list_cmp_total bytes_same o r).1 h) in
-    (p.0, (in_made (placed_entries 8 (listing o)) p.0).0 p.1, p.2, p.3, p.4, p.5)
+    let there = (in_listing nat_list_cmp_total bytes_same o r).1 h in
+    let es = placed_entries 8 (listing o) in
+    let p = placed_at (written o) (end_record (set.len o)) 8 magic (listing o) there.0 refl (written_is o) there.1 in
+    let is : get_or (listing o) there.0 [] ≡ r = get_or_default (listing o) there.0 [] r there.1 ∙ there.2 in
+    let within : there.0 < length es = omega (arith, there.1, length_placed 8 (listing o)) in
+    (get_or es there.0 [], (in_made es (get_or es there.0 [])).0 (Contains-get_or es there.0 [] within), p.0, p.1 ∙ ap (placed_entry p.0) is, rw is at p.2, rw is at p.3)
 
 -- each names a record that is there
 pub named_there : (o : Operations) (e : List ℕ) → IsContent o → length (written o) < 2 ^ 64 → set.contains (index o) e ≡ true → (r : List ℕ) × IsNamedBy (written o) e r

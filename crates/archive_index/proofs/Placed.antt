@@ -3,8 +3,8 @@ use Rattle.std.proofs.Common.{◌≡◌, ℕ, ◌+◌, ◌-◌, ◌<◌, ◌^◌
 use Rattle.std.specs.Int.{w64, to_be_bytes, from_be_bytes}
 use Rattle.std.specs.List.{concat, AllByRecursion}
 use Rattle.std.proofs.Math.ListN.{get_or-append}
-use Rattle.std.proofs.Math.Seq.{take-append_seam, drop-append_seam, drop-append-add, get_or-append_right}
-use Rattle.std.proofs.lemmas.List.{map-append, take_all, drop-drop}
+use Rattle.std.proofs.Math.Seq.{take-append_seam, drop-append_seam, drop-append-add}
+use Rattle.std.proofs.lemmas.List.{map-append, take_all, take_at, get_or_at, drop-drop}
 use Rattle.std.proofs.lemmas.Bool.{le-leb, and_from}
 use Rattle.std.proofs.lemmas.Bool.Decides.{nat_tests}
 use Rattle.std.proofs.lemmas.Nat.{from_be_bytes-to_be_bytes_8}
@@ -36,47 +36,52 @@ entries_more before after e records r offset grown of at are =
 
 -- ---- the parts of an entry
 
-module _ (offset : ℕ) (r : List ℕ) (is : IsRecord r) where
-  front_long : length (entry r) ≡ 57
-  front_long = length-entry r is
+-- a byte and two numbers behind a front of 57 bytes
+module _ (front : List ℕ) (kind offset len : ℕ) (long : length front ≡ 57) where
+  abbrev laid : List ℕ
+  laid = front ++ (kind ∷ (to_be_bytes w64 offset ++ to_be_bytes w64 len))
 
+  behind : drop 58 laid ≡ to_be_bytes w64 offset ++ to_be_bytes w64 len
+  behind = ap (λ (n : ℕ). drop (n + 1) laid) (sym long) ∙ drop-append-add front (kind ∷ (to_be_bytes w64 offset ++ to_be_bytes w64 len)) 1
+
+  pub offset_laid : offset < 2 ^ 64 → offset_in laid ≡ offset
+  offset_laid fits = ap (from_be_bytes w64) (ap (take 8) behind ∙ take-append_seam (to_be_bytes w64 offset) (to_be_bytes w64 len)) ∙ from_be_bytes-to_be_bytes_8 offset fits
+
+  pub length_laid : len < 2 ^ 64 → length_in laid ≡ len
+  length_laid fits =
+      ap (from_be_bytes w64)
+      (ap (take 8) (sym (drop-drop 8 58 laid) ∙ ap (drop 8) behind ∙ drop-append_seam (to_be_bytes w64 offset) (to_be_bytes w64 len))
+      ∙ take_all 8 (to_be_bytes w64 len) (omega arith))
+      ∙ from_be_bytes-to_be_bytes_8 len fits
+
+module _ (offset : ℕ) (r : List ℕ) (is : IsRecord r) where
   pub entry_front : take 57 (placed_entry offset r) ≡ entry r
   unfolding placed_entry
-  entry_front = ap (λ (n : ℕ). take n (entry r ++ (kind_byte r ∷ (to_be_bytes w64 offset ++ to_be_bytes w64 (length r))))) (sym front_long) ∙ take-append_seam (entry r) (kind_byte r ∷ (to_be_bytes w64 offset ++ to_be_bytes w64 (length r)))
+  entry_front = take_at (entry r) (kind_byte r ∷ (to_be_bytes w64 offset ++ to_be_bytes w64 (length r))) 57 (length-entry r is)
 
   pub entry_long : length (placed_entry offset r) ≡ 74
   unfolding placed_entry
-  entry_long = omega (arith, front_long, length-append (entry r) (kind_byte r ∷ (to_be_bytes w64 offset ++ to_be_bytes w64 (length r))), length-append (to_be_bytes w64 offset) (to_be_bytes w64 (length r)))
+  entry_long = omega (arith, length-entry r is, length-append (entry r) (kind_byte r ∷ (to_be_bytes w64 offset ++ to_be_bytes w64 (length r))), length-append (to_be_bytes w64 offset) (to_be_bytes w64 (length r)))
 
   first_of : get_or (placed_entry offset r) 0 0 ≡ get_or (entry r) 0 0
   unfolding placed_entry
-  first_of = get_or-append (entry r) (kind_byte r ∷ (to_be_bytes w64 offset ++ to_be_bytes w64 (length r))) 0 0 (omega (arith, front_long))
+  first_of = get_or-append (entry r) (kind_byte r ∷ (to_be_bytes w64 offset ++ to_be_bytes w64 (length r))) 0 0 (omega (arith, length-entry r is))
 
   pub kind_of : get_or (placed_entry offset r) 57 0 ≡ kind_byte r
   unfolding placed_entry
-  kind_of = get_or-append_right (entry r) (kind_byte r ∷ (to_be_bytes w64 offset ++ to_be_bytes w64 (length r))) 57 0 (omega (arith, front_long)) ∙ (let none : 57 - length (entry r) ≡ 0 = omega (arith, front_long) in ap (λ (n : ℕ). get_or (kind_byte r ∷ (to_be_bytes w64 offset ++ to_be_bytes w64 (length r))) n 0) none)
-
-  behind_of : drop 58 (placed_entry offset r) ≡ to_be_bytes w64 offset ++ to_be_bytes w64 (length r)
-  unfolding placed_entry
-  behind_of = ap (λ (n : ℕ). drop (n + 1) (entry r ++ (kind_byte r ∷ (to_be_bytes w64 offset ++ to_be_bytes w64 (length r))))) (sym front_long) ∙ drop-append-add (entry r) (kind_byte r ∷ (to_be_bytes w64 offset ++ to_be_bytes w64 (length r))) 1
-
-  pub offset_bytes : take 8 (drop 58 (placed_entry offset r)) ≡ to_be_bytes w64 offset
-  offset_bytes = ap (take 8) behind_of ∙ take-append_seam (to_be_bytes w64 offset) (to_be_bytes w64 (length r))
-
-  length_bytes : take 8 (drop 66 (placed_entry offset r)) ≡ to_be_bytes w64 (length r)
-  length_bytes =
-      ap (take 8) (sym (drop-drop 8 58 (placed_entry offset r)) ∙ ap (drop 8) behind_of ∙ drop-append_seam (to_be_bytes w64 offset) (to_be_bytes w64 (length r)))
-      ∙ take_all 8 (to_be_bytes w64 (length r)) (omega arith)
+  kind_of = get_or_at (entry r) (kind_byte r) (to_be_bytes w64 offset ++ to_be_bytes w64 (length r)) 0 57 (length-entry r is)
 
   pub offset_is : offset < 2 ^ 64 → offset_in (placed_entry offset r) ≡ offset
-  offset_is fits = ap (from_be_bytes w64) offset_bytes ∙ from_be_bytes-to_be_bytes_8 offset fits
+  unfolding placed_entry
+  offset_is fits = offset_laid (entry r) (kind_byte r) offset (length r) (length-entry r is) fits
 
 pub record_short : (r : List ℕ) → IsRecord r → length r < 33 + 2 ^ 32
 record_short r (inl a) = omega (arith, ap length a.is, length-admission_record a.slice a.valid, short_slice a.slice a.valid)
 record_short r (inr b) = omega (arith, ap length b.is, length-retirement_record b.key b.digest b.is_key b.long)
 
 pub length_is : (offset : ℕ) (r : List ℕ) → IsRecord r → length_in (placed_entry offset r) ≡ length r
-length_is offset r is = ap (from_be_bytes w64) (length_bytes offset r is) ∙ from_be_bytes-to_be_bytes_8 (length r) (omega (arith, record_short r is))
+unfolding placed_entry
+length_is offset r is = length_laid (entry r) (kind_byte r) offset (length r) (length-entry r is) (omega (arith, record_short r is))
 
 -- the tag of an entry is that of its record
 pub tag_is : (offset : ℕ) (r : List ℕ) → IsRecord r → get_or (placed_entry offset r) 0 0 ≡ get_or r 0 0
