@@ -1,7 +1,6 @@
 -- Lexicographic comparison, part by part.
 use Rattle.std.proofs.Common.{◌≡◌, ℕ, true, false, List, [], ◌∷◌, ◌++◌, length, refl, sym, ap, ◌∙◌, arith}
 use Rattle.std.specs.declared.cmp.Ordering.{Ordering}
-use Rattle.std.specs.declared.cmp.Ordering.TheVariants.{Less, Equal, Greater}
 use Rattle.std.specs.Ordering.{ordering_then, is_ne, nat_cmp}
 use Rattle.std.specs.Cmp.Lexicographic.{slice_cmp}
 use Rattle.std.proofs.Common.{length-append}
@@ -10,9 +9,7 @@ use Rattle.archive_core.specs.declared.keys.SliceKey.{SliceKey}
 
 -- `then` groups either way
 pub then_assoc : (a b c : Ordering) → ordering_then (ordering_then a b) c ≡ ordering_then a (ordering_then b c)
-then_assoc Less b c = refl
-then_assoc Equal b c = refl
-then_assoc Greater b c = refl
+then_assoc a b c = grind arith
 
 -- parts of one length come first
 pub slice_cmp-append : (xs ys us vs : List ℕ) → length xs ≡ length ys → slice_cmp nat_cmp (xs ++ us) (ys ++ vs) ≡ ordering_then (slice_cmp nat_cmp xs ys) (slice_cmp nat_cmp us vs)
@@ -35,11 +32,7 @@ length_key_bytes k h = length-append k.uuid _ ∙ omega (arith, h)
 
 -- where the first parts differ the rest does not count, and else it alone
 pub then_unequal : (a b : Ordering) → is_ne a ≡ true → ordering_then a b ≡ a
-then_unequal Less b h = refl
-then_unequal Equal b h = cc
-then_unequal Greater b h = refl
+then_unequal a b h = grind arith
 
 pub then_equal : (a b : Ordering) → is_ne a ≡ false → ordering_then a b ≡ b
-then_equal Less b h = cc
-then_equal Equal b h = refl
-then_equal Greater b h = cc
+then_equal a b h = grind arith

@@ -1,7 +1,7 @@
 -- The entries of admissions and retirements, and what records have one entry.
-use Rattle.std.proofs.Common.{◌≡◌, ℕ, List, [], ◌∷◌, ◌++◌, length, take, drop, refl, sym, ap, arith, ◌∙◌, inl, inr, append_assoc, length-append}
+use Rattle.std.proofs.Common.{◌≡◌, ℕ, List, ◌∷◌, ◌++◌, length, take, drop, refl, sym, ap, arith, ◌∙◌, inl, inr, append_assoc, length-append}
 use Rattle.std.specs.Int.{w64, to_be_bytes}
-use Rattle.std.proofs.Math.Seq.{drop-append_seam}
+use Rattle.std.proofs.lemmas.List.{take_at, drop_at}
 use Rattle.sha2.specs.Sha256.{sha256}
 use Rattle.sha2.proofs.Facts256.{length-sha256}
 use Rattle.archive_core.specs.Key.{key_bytes}
@@ -12,29 +12,17 @@ use Rattle.archive_core.proofs.Records.{same_parts, length-key_of, length-retire
 use Rattle.archive_core.specs.Content.{key_and_digest, covering}
 use Rattle.archive_core.specs.Summary.{entry}
 
--- an admission's record up to its slice
-front : List ℕ → List ℕ
-front s = 2 ∷ (key_bytes (key_of s) ++ to_be_bytes w64 (length s))
-
-front_long : (s : List ℕ) → IsValid s → length (front s) ≡ 33
-unfolding front
-front_long s valid = omega (arith, length-append (key_bytes (key_of s)) (to_be_bytes w64 (length s)), length-key_of s valid)
-
-split : (s : List ℕ) → admission_record s ≡ front s ++ s
-unfolding admission front
-split s = ap (λ l. 2 ∷ l) (sym (append_assoc (key_bytes (key_of s)) (to_be_bytes w64 (length s)) s))
-
 -- the slice, read back from the record
 pub slice_of : (s : List ℕ) → IsValid s → drop 33 (admission_record s) ≡ s
-slice_of s valid = ap (drop 33) (split s) ∙ ap (λ n. drop n (front s ++ s)) (sym (front_long s valid)) ∙ drop-append_seam (front s) s
-
-take_front : (a b : List ℕ) → take (length a) (a ++ b) ≡ a
-take_front [] b = refl
-take_front (x ∷ a) b = ap (λ l. x ∷ l) (take_front a b)
+unfolding admission
+slice_of s valid =
+    let front : List ℕ = key_bytes (key_of s) ++ to_be_bytes w64 (length s) in
+    ap (drop 32) (sym (append_assoc (key_bytes (key_of s)) (to_be_bytes w64 (length s)) s))
+    ∙ drop_at front s 32 (omega (arith, length-append (key_bytes (key_of s)) (to_be_bytes w64 (length s)), length-key_of s valid))
 
 key_at : (s : List ℕ) → IsValid s → take 24 (drop 1 (admission_record s)) ≡ key_bytes (key_of s)
 unfolding admission
-key_at s valid = ap (λ n. take n (key_bytes (key_of s) ++ (to_be_bytes w64 (length s) ++ s))) (sym (length-key_of s valid)) ∙ take_front (key_bytes (key_of s)) (to_be_bytes w64 (length s) ++ s)
+key_at s valid = take_at (key_bytes (key_of s)) (to_be_bytes w64 (length s) ++ s) 24 (length-key_of s valid)
 
 -- an admission's key and digest, read back from the record
 pub admission_parts : (s : List ℕ) → IsValid s → key_and_digest (admission_record s) ≡ key_bytes (key_of s) ++ sha256 s
@@ -56,32 +44,25 @@ retirement_entry key digest = refl
 
 -- an entry has as many bytes as a retirement's record
 pub length-entry : (r : List ℕ) → IsRecord r → length (entry r) ≡ 57
-length-entry r (inl a) = ap (λ (s : List ℕ). length (entry s)) a.is ∙ ap length (admission_entry a.slice a.valid) ∙ long
-  where
-    long : length (2 ∷ (key_bytes (key_of a.slice) ++ sha256 a.slice)) ≡ 57
-    long = omega (arith, length-append (key_bytes (key_of a.slice)) (sha256 a.slice), length-key_of a.slice a.valid, length-sha256 a.slice)
+length-entry r (inl a) =
+    ap (λ (s : List ℕ). length (entry s)) a.is ∙ ap length (admission_entry a.slice a.valid)
+    ∙ omega (arith, length-append (key_bytes (key_of a.slice)) (sha256 a.slice), length-key_of a.slice a.valid, length-sha256 a.slice)
 length-entry r (inr b) = ap (λ (s : List ℕ). length (entry s)) b.is ∙ ap length (retirement_entry b.key b.digest) ∙ length-retirement_record b.key b.digest b.is_key b.long
-
--- no entry is of both kinds
-apart : (x y : List ℕ) → 2 ∷ x ≡ 1 ∷ y → ⊥
-apart x y h = cc
 
 -- the entry of a retirement is of no other record
 pub retirement_of_entry : (key : SliceKey) (digest r : List ℕ) → IsRecord r → entry r ≡ entry (retirement_record key digest) → r ≡ retirement_record key digest
-retirement_of_entry key digest r (inl a) e =
-    absurd (apart _ _ (sym (admission_entry a.slice a.valid) ∙ ap entry (sym a.is) ∙ e ∙ retirement_entry key digest))
-retirement_of_entry key digest r (inr b) e = b.is ∙ sym (retirement_entry b.key b.digest) ∙ ap entry (sym b.is) ∙ e ∙ retirement_entry key digest
+retirement_of_entry key digest r (inl a) e = cc (admission_entry a.slice a.valid, a.is, retirement_entry key digest)
+retirement_of_entry key digest r (inr b) e = cc (b.is, retirement_entry b.key b.digest, retirement_entry key digest)
 
 -- the entry of an admission is of admissions alone, under the same key and of slices with the same SHA-256
 pub admissions_of_entry : (slice r : List ℕ) → IsValid slice → IsRecord r → entry r ≡ entry (admission_record slice)
     → (other : Admits r) × (key_bytes (key_of other.slice) ≡ key_bytes (key_of slice)) × (sha256 other.slice ≡ sha256 slice)
 admissions_of_entry slice r valid (inl a) e =
-    let same : 2 ∷ (key_bytes (key_of a.slice) ++ sha256 a.slice) ≡ 2 ∷ (key_bytes (key_of slice) ++ sha256 slice) =
-    sym (admission_entry a.slice a.valid) ∙ ap entry (sym a.is) ∙ e ∙ admission_entry slice valid in
-    let parts = same_parts (key_bytes (key_of a.slice)) (key_bytes (key_of slice)) (sha256 a.slice) (sha256 slice) (length-key_of a.slice a.valid ∙ sym (length-key_of slice valid)) (ap (drop 1) same) in
+    let same : key_bytes (key_of a.slice) ++ sha256 a.slice ≡ key_bytes (key_of slice) ++ sha256 slice =
+    cc (admission_entry a.slice a.valid, a.is, admission_entry slice valid) in
+    let parts = same_parts (key_bytes (key_of a.slice)) (key_bytes (key_of slice)) (sha256 a.slice) (sha256 slice) (length-key_of a.slice a.valid ∙ sym (length-key_of slice valid)) same in
     (a, parts.0, parts.1)
-admissions_of_entry slice r valid (inr b) e =
-    absurd (apart _ _ (sym (admission_entry slice valid) ∙ sym e ∙ ap entry b.is ∙ retirement_entry b.key b.digest))
+admissions_of_entry slice r valid (inr b) e = cc (admission_entry slice valid, b.is, retirement_entry b.key b.digest)
 
 -- records with one entry are one, where the slices that they admit are told apart by their SHA-256
 pub entry_tells : (r s : List ℕ) → IsRecord r → IsRecord s → entry r ≡ entry s

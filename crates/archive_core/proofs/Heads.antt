@@ -7,9 +7,6 @@ use Rattle.std.specs.Int.{w32, to_be_bytes}
 use Rattle.archive_core.specs.Key.{key_bytes}
 use Rattle.archive_core.specs.declared.keys.SliceKey.{SliceKey}
 
-pub three : (a b c d e f : List ℕ) → a ≡ d → b ≡ e → c ≡ f → a ++ (b ++ c) ≡ d ++ (e ++ f)
-three a b c d e f p q r = cc
-
 pub two : (tag : ℕ) (a b d e : List ℕ) → a ≡ d → b ≡ e → tag ∷ (a ++ b) ≡ tag ∷ (d ++ e)
 two tag a b d e p q = cc
 
@@ -37,7 +34,7 @@ read_key bytes key u a b =
     let d16 : drop 17 bytes ≡ drop 16 xs = sym (drop-drop 16 1 bytes) in
     let d20 : drop 21 bytes ≡ drop 4 (drop 16 xs) = sym (drop-drop 4 17 bytes) ∙ ap (drop 4) d16 in
     let whole : take 24 xs ≡ take 16 xs ++ (take 4 (drop 16 xs) ++ take 4 (drop 4 (drop 16 xs))) = take-add 16 8 xs ∙ ap (λ (t : List ℕ). take 16 xs ++ t) (take-add 4 4 (drop 16 xs)) in
-    three _ _ _ _ _ _ u (a ∙ ap (take 4) d16) (b ∙ ap (take 4) d20) ∙ sym whole
+    cc (u, a, b, d16, d20, whole)
 
 -- the last part of a record is laid behind its tag and its key
 pub laid_behind : (tag : ℕ) (key rest part : List ℕ) (k : ℕ) → length key ≡ 24 → length rest ≡ k → take 25 (tag ∷ (key ++ rest)) ++ (part ++ drop k (drop 25 (tag ∷ (key ++ rest)))) ≡ tag ∷ (key ++ part)

@@ -10,18 +10,14 @@ use Rattle.join_core.proofs.Merge.{from_list_permuted, from_list_append}
 use Rattle.join_core.specs.Bound.{IsLeastAbove, IsTowards}
 use Rattle.archive_core.specs.Record.{record_bytes}
 use Rattle.archive_core.specs.Content.{Operations, content_of, IsMade, IsContent, IsBelow, IsTakenInPart, with_records, joined as joined_of}
+use Rattle.archive_core.specs.Order.{joined_least}
 use Rattle.archive_core.specs.declared.operations.Operation.{Operation}
 use Rattle.archive_core.proofs.Made.{bytes_same, made_again, made_empty, joined_made_right, below_reflexive, below_transitive, below_antisymmetric, made_antisymmetric, below_left, below_right, joined_below, joined_content}
 use Rattle.archive_core.proofs.Taken.{taken_are_joined, below_taken}
 
 -- what both make is the least above both
 pub joined : (o p m : Operations) → IsContent o → IsContent p → m ≡ joined_of o p → IsLeastAbove IsContent IsBelow o p m
-joined o p m a b e = rw e (record {
-  content = joined_content o p a b;
-  left = below_left o p;
-  right = below_right o p;
-  least = λ w _ f g. joined_below o p w f g;
-})
+joined o p m a b e = rw e (joined_least o p a b)
 
 -- under the laws of an archive, the least above both is what both make
 pub least_is_joined : (content : Operations → Type 0) (below : Operations → Operations → Type 0) → ((o : Operations) → content o ↔ IsContent o) → ((o p : Operations) → below o p ↔ IsBelow o p)

@@ -9,10 +9,9 @@ use Rattle.std.proofs.lemmas.Cmp.{eq_by_cmp_equiv}
 use Rattle.std.proofs.lemmas.Map.Views.{list_any-from_Contains, Contains-from_any}
 use Rattle.join_core.specs.Listing.{listing}
 use Rattle.join_core.proofs.Listing.{any_listing}
-use mathlib.Core.Bool.{true≢false}
-use Rattle.std.specs.declared.cmp.Ordering.TheVariants.{Less, Equal, Greater}
+use Rattle.std.specs.declared.cmp.Ordering.TheVariants.{Less}
 use Rattle.std.specs.List.Sorted.{IsSorted, IsStrictlySortedBy}
-use Rattle.std.proofs.lemmas.List.Elements.{All-from_recursion, All-contains, All-contains_itself, All-filter, filter_passes, Contains-append_left, Contains-append_right, Contains-append_cases}
+use Rattle.std.proofs.lemmas.List.Elements.{All-from_recursion, recursion_from_All, All-weaker, All-contains, All-contains_itself, All-filter, filter_passes, Contains-append_left, Contains-append_right, Contains-append_cases}
 
 module _ {K : Type 0} {R : K → K → Ordering} (o : IsTotalOrder R) (same : IsAntisymmetric R) where
   one_key : (x y : K) → eq_by_cmp R x y ≡ true → x ≡ y
@@ -25,11 +24,18 @@ module _ {K : Type 0} {R : K → K → Ordering} (o : IsTotalOrder R) (same : Is
     λ h. Contains-from_any one_key k (listing s) (any_listing o s k ∙ h),
   )
 
+  -- a set that is made of a list has what the list has
+  pub in_made : (xs : List K) (k : K) → Contains xs k ↔ (contains (from_list {R = R} xs) k ≡ true)
+  in_made xs k = (
+    λ h. contains-from_list o xs k ∙ list_any-from_Contains (eq_by_cmp_equiv o) k xs h,
+    λ h. Contains-from_any one_key k xs (sym (contains-from_list o xs k) ∙ h),
+  )
+
   -- a list that is put in order has what it had
   pub in_order : (xs : List K) (k : K) → Contains (listing (from_list {R = R} xs)) k ↔ Contains xs k
   in_order xs k = (
-    λ h. Contains-from_any one_key k xs (sym (contains-from_list o xs k) ∙ (in_listing (from_list xs) k).0 h),
-    λ h. (in_listing (from_list xs) k).1 (contains-from_list o xs k ∙ list_any-from_Contains (eq_by_cmp_equiv o) k xs h),
+    λ h. (in_made xs k).1 ((in_listing (from_list xs) k).0 h),
+    λ h. (in_listing (from_list xs) k).1 ((in_made xs k).0 h),
   )
 
 module _ {X : Type 0} where
@@ -63,25 +69,25 @@ module _ {X : Type 0} where
       behind true i = in_rest x (filter p xs) a i
       behind false i = i
 
-  -- a list whose keys ascend ascends by its keys
-  pub ascending_by : {K : Type 0} (R : K → K → Ordering) (f : X → K) (xs : List X) → IsStrictlySortedBy R (map f xs) → IsStrictlySortedBy (on f R) xs
+  -- what follows from a fact at each element follows along a list
+  pub along : (P Q : X → Type 0) → ((x : X) → P x → Q x) → (xs : List X) → AllByRecursion P xs → AllByRecursion Q xs
+  along P Q f xs h = recursion_from_All Q xs (All-weaker P Q f xs (All-from_recursion P xs h))
+
+  -- among elements that have a fact, an order that follows from another ascends where that does
+  pub ascending_finer : (P : X → Type 0) (R S : X → X → Ordering) → ((x y : X) → P x → P y → R x y ≡ Less → S x y ≡ Less) → (xs : List X) → AllByRecursion P xs → IsStrictlySortedBy R xs → IsStrictlySortedBy S xs
   unfolding IsStrictlySortedBy
-  ascending_by R f [] h = tt
-  ascending_by R f (x ∷ xs) h = (each xs h.0, ascending_by R f xs h.1)
+  ascending_finer P R S finer [] have up = tt
+  ascending_finer P R S finer (x ∷ xs) have up = (each xs have.1 up.0, ascending_finer P R S finer xs have.1 up.1)
     where
-      each : (ys : List X) → AllByRecursion (λ k. R (f x) k ≡ Less) (map f ys) → AllByRecursion (λ y. R (f x) (f y) ≡ Less) ys
-      each [] g = tt
-      each (y ∷ ys) g = (g.0, each ys g.1)
+      each : (ys : List X) → AllByRecursion P ys → AllByRecursion (λ y. R x y ≡ Less) ys → AllByRecursion (λ y. S x y ≡ Less) ys
+      each [] h g = tt
+      each (y ∷ ys) h g = (finer x y have.0 h.0 g.0, each ys h.1 g.1)
 
   -- elements that differ by one test differ by a finer one
   pub distinct_finer : (d e : X → X → Bool) → ((x y : X) → d x y ≡ false → e x y ≡ false) → (xs : List X) → IsDistinct d xs → IsDistinct e xs
   unfolding IsDistinct
   distinct_finer d e finer [] h = tt
-  distinct_finer d e finer (x ∷ xs) h = (each xs h.0, distinct_finer d e finer xs h.1)
-    where
-      each : (ys : List X) → AllByRecursion (λ y. d x y ≡ false) ys → AllByRecursion (λ y. e x y ≡ false) ys
-      each [] g = tt
-      each (y ∷ ys) g = (finer x y g.0, each ys g.1)
+  distinct_finer d e finer (x ∷ xs) h = (along _ (λ y. e x y ≡ false) (finer x) xs h.0, distinct_finer d e finer xs h.1)
 
   module _ {R : X → X → Ordering} (o : IsTotalOrder R) where
     -- a sorted list of different elements ascends strictly
@@ -91,62 +97,41 @@ module _ {X : Type 0} where
     ascending_from_distinct (x ∷ []) up h = (tt, tt)
     ascending_from_distinct (x ∷ y ∷ ys) up h =
         let rest = ascending_from_distinct (y ∷ ys) (λ k d low high. simp add-one (simp add-one at (up (k + 1) d (omega arith) (omega arith)))) h.1 in
-        let first : R x y ≡ Less = less (R x y) refl (up 0 x (omega arith) (omega arith)) h.0.0 in
-        ((first, below_all ys first rest.0), rest)
+        let first : R x y ≡ Less = less (R x y) (R y x) (o.antisymm y x) (up 0 x (omega arith) (omega arith)) h.0.0 in
+        ((first, along _ (λ z. R x z ≡ Less) (λ z. o.trans x y z first) ys rest.0), rest)
       where
-        less : (r : Ordering) → R x y ≡ r → is_lt (R y x) ≡ false → eq_by_cmp R x y ≡ false → R x y ≡ Less
-        less Less e low untied = e
-        less Equal e low untied = absurd (true≢false (sym (ap is_eq e) ∙ untied))
-        less Greater e low untied = absurd (true≢false (sym (ap is_lt (o.antisymm y x ∙ ap ordering_reverse e)) ∙ low))
-
-        below_all : (zs : List X) → R x y ≡ Less → AllByRecursion (λ z. R y z ≡ Less) zs → AllByRecursion (λ z. R x z ≡ Less) zs
-        below_all [] lt g = tt
-        below_all (z ∷ zs) lt g = (o.trans x y z lt g.0, below_all zs lt g.1)
+        less : (r s : Ordering) → s ≡ ordering_reverse r → is_lt s ≡ false → is_eq r ≡ false → r ≡ Less
+        less r s e low untied = grind arith
 
     -- two ascending lists with the same members are one
     pub one_with_members : (xs ys : List X) → IsStrictlySortedBy R xs → IsStrictlySortedBy R ys → ((a : X) → Contains xs a → Contains ys a) → ((a : X) → Contains ys a → Contains xs a) → xs ≡ ys
     unfolding IsStrictlySortedBy
     one_with_members [] [] up_xs up_ys to back = refl
-    one_with_members [] (y ∷ ys) up_xs up_ys to back = absurd (nowhere y (back y (in_front y ys)))
-      where
-        nowhere : (a : X) → Contains [] a → ⊥
-        nowhere a (k, lt, e) = omega arith
-    one_with_members (x ∷ xs) [] up_xs up_ys to back = absurd (nowhere x (to x (in_front x xs)))
-      where
-        nowhere : (a : X) → Contains [] a → ⊥
-        nowhere a (k, lt, e) = omega arith
+    one_with_members [] (y ∷ ys) up_xs up_ys to back = let none = back y (in_front y ys) in absurd (omega arith)
+    one_with_members (x ∷ xs) [] up_xs up_ys to back = let none = to x (in_front x xs) in absurd (omega arith)
     one_with_members (x ∷ xs) (y ∷ ys) up_xs up_ys to back = λ i. head i ∷ one_with_members xs ys up_xs.1 up_ys.1 to_rest back_rest i
       where
-        unequal : (a : X) → R a a ≡ Less → ⊥
-        unequal a lt = apart (sym lt ∙ tied_itself o a)
-          where
-            apart : Less ≡ Equal → ⊥
-            apart e = cc
-
         above : (z a : X) (zs : List X) → AllByRecursion (λ w. R z w ≡ Less) zs → Contains zs a → R z a ≡ Less
         above z a zs all there = All-contains (λ w. R z w ≡ Less) zs a (All-from_recursion (λ w. R z w ≡ Less) zs all) there
-
-        both_ways : R y x ≡ Less → R x y ≡ Less → ⊥
-        both_ways l m = unequal x (o.trans x y x m l)
 
         head : x ≡ y
         head = elim (in_cons y ys x (to x (in_front x xs))) [
           | inl e ↦ sym e
           | inr there ↦ elim (in_cons x xs y (back y (in_front y ys))) [
             | inl e ↦ e
-            | inr here ↦ absurd (both_ways (above y x ys up_ys.0 there) (above x y xs up_xs.0 here))
+            | inr here ↦ cc (tied_itself o x, o.trans x y x (above x y xs up_xs.0 here) (above y x ys up_ys.0 there))
           ]
         ]
 
         to_rest : (a : X) → Contains xs a → Contains ys a
         to_rest a h = elim (in_cons y ys a (to a (in_rest x xs a h))) [
-          | inl e ↦ absurd (unequal a (subst (λ z. R z a ≡ Less) (head ∙ e) (above x a xs up_xs.0 h)))
+          | inl e ↦ absurd (cc (tied_itself o a, head, above x a xs up_xs.0 h))
           | inr there ↦ there
         ]
 
         back_rest : (a : X) → Contains ys a → Contains xs a
         back_rest a h = elim (in_cons x xs a (back a (in_rest y ys a h))) [
-          | inl e ↦ absurd (unequal a (subst (λ z. R z a ≡ Less) (sym head ∙ e) (above y a ys up_ys.0 h)))
+          | inl e ↦ absurd (cc (tied_itself o a, head, above y a ys up_ys.0 h))
           | inr there ↦ there
         ]
 
@@ -181,12 +166,18 @@ module _ {X Y : Type 0} where
     | inr there ↦ Contains-append_right (f x) (flat_map f xs) b (to_flat_map f xs a b there g)
   ]
 
+  along_map : (P : Y → Type 0) (f : X → Y) (xs : List X) → AllByRecursion P (map f xs) ↔ AllByRecursion (λ x. P (f x)) xs
+  along_map P f [] = (λ h. h, λ h. h)
+  along_map P f (x ∷ xs) = let more = along_map P f xs in (λ h. (h.0, more.0 h.1), λ h. (h.0, more.1 h.1))
+
+  -- a list whose keys ascend ascends by its keys
+  pub ascending_by : (R : Y → Y → Ordering) (f : X → Y) (xs : List X) → IsStrictlySortedBy R (map f xs) → IsStrictlySortedBy (on f R) xs
+  unfolding IsStrictlySortedBy
+  ascending_by R f [] h = tt
+  ascending_by R f (x ∷ xs) h = ((along_map (λ y. R (f x) y ≡ Less) f xs).0 h.0, ascending_by R f xs h.1)
+
   -- the values ascend where the list does by them
   pub ascending_map : (R : Y → Y → Ordering) (f : X → Y) (xs : List X) → IsStrictlySortedBy (on f R) xs → IsStrictlySortedBy R (map f xs)
   unfolding IsStrictlySortedBy
   ascending_map R f [] h = tt
-  ascending_map R f (x ∷ xs) h = (each xs h.0, ascending_map R f xs h.1)
-    where
-      each : (ys : List X) → AllByRecursion (λ y. R (f x) (f y) ≡ Less) ys → AllByRecursion (λ k. R (f x) k ≡ Less) (map f ys)
-      each [] g = tt
-      each (y ∷ ys) g = (g.0, each ys g.1)
+  ascending_map R f (x ∷ xs) h = ((along_map (λ y. R (f x) y ≡ Less) f xs).1 h.0, ascending_map R f xs h.1)

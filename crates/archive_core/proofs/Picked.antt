@@ -1,9 +1,9 @@
 -- What a part of a content answers.
-use Rattle.std.proofs.Common.{◌≡◌, ℕ, Bool, true, false, ◌&&◌, List, [], ◌∷◌, ◌++◌, length, take, refl, sym, ap, ◌∙◌, append_assoc}
+use Rattle.std.proofs.Common.{◌≡◌, ℕ, Bool, true, ◌&&◌, List, [], ◌++◌, length, take, refl, sym, ap, ◌∙◌, append_assoc}
 use Rattle.std.specs.Str.{bytes_eq}
 use Rattle.std.specs.FinSet as set
 use Rattle.std.specs.FinSet.{contains-retain}
-use Rattle.std.proofs.lemmas.List.{append-nil}
+use Rattle.std.proofs.lemmas.List.{append-nil, take_at}
 use Rattle.std.proofs.lemmas.Slice.Eq.{bytes_eq-Decides}
 use Rattle.std.specs.Int.{w32, w64, to_be_bytes}
 use Rattle.sha2.specs.Sha256.{sha256}
@@ -20,17 +20,12 @@ use Rattle.archive_core.specs.declared.keys.SliceKey.{SliceKey}
 use Rattle.archive_core.specs.declared.lookup.Where.{Where}
 use Rattle.archive_core.specs.declared.operations.Operation.{Operation}
 use Rattle.archive_core.specs.declared.operations.Operation.TheVariants.{Admit, Retire}
-use Rattle.archive_core.proofs.Made.{bytes_same, made_part}
-use Rattle.archive_core.proofs.Answering.{both}
+use Rattle.archive_core.proofs.Made.{bytes_same, made_part, and_left, and_true}
 
 -- ---- what begins so
 
-front_of : (front rest : List ℕ) → take (length front) (front ++ rest) ≡ front
-front_of [] rest = refl
-front_of (x ∷ front) rest = ap (λ (t : List ℕ). x ∷ t) (front_of front rest)
-
 begins : (front bytes rest : List ℕ) → bytes ≡ front ++ rest → bytes_eq front (take (length front) bytes) ≡ true
-begins front bytes rest e = (bytes_eq-Decides front (take (length front) bytes)).1 (sym (ap (take (length front)) e ∙ front_of front rest))
+begins front bytes rest e = (bytes_eq-Decides front (take (length front) bytes)).1 (sym (ap (take (length front)) e ∙ take_at front rest (length front) refl))
 
 pub admission_under : (front rest slice : List ℕ) → key_bytes (key_of slice) ≡ front ++ rest → is_under front (admission_record slice) ≡ true
 unfolding is_under admission
@@ -57,13 +52,10 @@ live_alike front rest o p key slice e same live = record {
 -- ---- answers
 
 module _ (o p : Operations) (key : SliceKey) (same : AreAlikeUnder (key_bytes key) o p) where
-  whole : key_bytes key ≡ key_bytes key ++ []
-  whole = sym (append-nil (key_bytes key))
-
   answering_alike : (slice : List ℕ) → IsAnswering o key slice → IsAnswering p key slice
   answering_alike slice is = record {
-    live = live_alike (key_bytes key) [] o p key slice whole same is.live;
-    companions_first = λ companion live. is.companions_first companion (live_alike (key_bytes key) [] p o key companion whole (alike_back (key_bytes key) o p same) live);
+    live = live_alike (key_bytes key) [] o p key slice (sym (append-nil (key_bytes key))) same is.live;
+    companions_first = λ companion live. is.companions_first companion (live_alike (key_bytes key) [] p o key companion (sym (append-nil (key_bytes key))) (alike_back (key_bytes key) o p same) live);
   }
 
 are_alike : (o p : Operations) (key : SliceKey) (slices : List (List ℕ)) → AreAlikeUnder (key_bytes key) o p → AreAnswering o key slices → AreAnswering p key slices
@@ -144,12 +136,8 @@ names_alike o p name rows same is = record {
 pub contains_part : (o : Operations) (picks : List ℕ → Bool) (r : List ℕ) → set.contains (part o picks) r ≡ (set.contains o r && picks r)
 contains_part o picks r = contains-retain o picks r (λ x e. ap picks (sym (bytes_same r x e)))
 
-and_true : (a b : Bool) → b ≡ true → (a && b) ≡ a
-and_true true b h = h
-and_true false b h = refl
-
 pub part_alike : (o : Operations) (picks : List ℕ → Bool) (front : List ℕ) → ((r : List ℕ) → is_under front r ≡ true → picks r ≡ true) → AreAlikeUnder front (part o picks) o
-part_alike o picks front all = λ r h. contains_part o picks r ∙ and_true (set.contains o r) (picks r) (all r h)
+part_alike o picks front all = λ r h. cc (contains_part o picks r, all r h, and_true (set.contains o r))
 
 pub part_content : (o : Operations) (picks : List ℕ → Bool) → IsContent o → IsContent (part o picks)
 part_content o picks content = record {
@@ -158,4 +146,4 @@ part_content o picks content = record {
 }
   where
     within : (r : List ℕ) → set.contains (part o picks) r ≡ true → set.contains o r ≡ true
-    within r h = (both (set.contains o r) (picks r) (sym (contains_part o picks r) ∙ h)).0
+    within r h = and_left (set.contains o r) (picks r) (sym (contains_part o picks r) ∙ h)

@@ -1,7 +1,7 @@
 -- Records: how long they are, that none begins another, and that each stands for one operation.
-use Rattle.std.proofs.Common.{◌≡◌, ℕ, ◌+◌, ◌^◌, ◌<◌, List, [], ◌∷◌, ◌++◌, length, refl, sym, ap, ◌∙◌, inl, inr, arith, append_assoc, length-append, w32, w64}
+use Rattle.std.proofs.Common.{◌≡◌, ℕ, ◌+◌, ◌^◌, ◌<◌, List, [], ◌++◌, length, take, drop, refl, sym, ap, ◌∙◌, inl, inr, arith, append_assoc, length-append, w32, w64}
 use Rattle.std.specs.Int.{to_be_bytes, from_be_bytes}
-use Rattle.std.proofs.lemmas.List.{append-nil}
+use Rattle.std.proofs.lemmas.List.{append-nil, take_at, drop_at, nil_from_length}
 use Rattle.std.proofs.lemmas.Nat.{from_be_bytes-to_be_bytes_4, from_be_bytes-to_be_bytes_8}
 use Rattle.macho_image.proofs.Told.{uuid_of-length, length-image}
 use Rattle.archive_core.specs.Key.{IsKey, key_bytes}
@@ -14,19 +14,10 @@ use Rattle.archive_core.proofs.Compare.{length_key_bytes}
 
 -- texts whose first parts are as long fall into the same parts
 pub same_parts : (a b x y : List ℕ) → length a ≡ length b → a ++ x ≡ b ++ y → (a ≡ b) × (x ≡ y)
-same_parts [] [] x y long e = (refl, e)
-same_parts [] (c ∷ b) x y long e = absurd (omega arith)
-same_parts (d ∷ a) [] x y long e = absurd (omega arith)
-same_parts (d ∷ a) (c ∷ b) x y long e =
-    let head : d ≡ c = cc in
-    let tail : a ++ x ≡ b ++ y = cc in
-    let more = same_parts a b x y (omega arith) tail in
-    (cc (head, more.0), more.1)
-
--- a text of no bytes is empty
-nothing : (xs : List ℕ) → length xs ≡ 0 → xs ≡ []
-nothing [] h = refl
-nothing (x ∷ xs) h = absurd (omega arith)
+same_parts a b x y long e = (
+  sym (take_at a x (length a) refl) ∙ ap (take (length a)) e ∙ take_at b y (length a) (sym long),
+  sym (drop_at a x (length a) refl) ∙ ap (drop (length a)) e ∙ drop_at b y (length a) (sym long),
+)
 
 -- the key of a slice has 24 bytes in its record
 pub length-key_of : (slice : List ℕ) → IsValid slice → length (key_bytes (key_of slice)) ≡ 24
@@ -54,25 +45,16 @@ same_admissions a b rest valid_a valid_b e =
     let short_a : length a < 2 ^ 32 = length-image a valid_a.image in
     let short_b : length b < 2 ^ 32 = length-image b valid_b.image in
     let long : length b ≡ length a = sym (from_be_bytes-to_be_bytes_8 (length b) (omega arith)) ∙ ap (from_be_bytes w64) parts.0 ∙ from_be_bytes-to_be_bytes_8 (length a) (omega arith) in
-    let none : rest ≡ [] = nothing rest (omega (arith, long, ap length parts.1, length-append a rest)) in
+    let none : rest ≡ [] = nil_from_length rest (omega (arith, long, ap length parts.1, length-append a rest)) in
     (parts.1 ∙ ap (λ s. a ++ s) none ∙ append-nil a, none)
 
 -- no record begins another
 pub no_record_begins : (r s rest : List ℕ) → IsRecord r → IsRecord s → s ≡ r ++ rest → rest ≡ []
-no_record_begins r s rest (inl a) (inl b) e = (same_admissions a.slice b.slice rest a.valid b.valid (behind_tag (sym b.is ∙ e ∙ ap (λ t. t ++ rest) a.is))).1
-  where
-    behind_tag : 2 ∷ admission b.slice ≡ 2 ∷ (admission a.slice ++ rest) → admission b.slice ≡ admission a.slice ++ rest
-    behind_tag h = cc
-no_record_begins r s rest (inl a) (inr b) e = absurd (apart (sym b.is ∙ e ∙ ap (λ t. t ++ rest) a.is))
-  where
-    apart : 1 ∷ (key_bytes b.key ++ b.digest) ≡ 2 ∷ (admission a.slice ++ rest) → ⊥
-    apart h = cc
-no_record_begins r s rest (inr a) (inl b) e = absurd (apart (sym b.is ∙ e ∙ ap (λ t. t ++ rest) a.is))
-  where
-    apart : 2 ∷ admission b.slice ≡ 1 ∷ ((key_bytes a.key ++ a.digest) ++ rest) → ⊥
-    apart h = cc
+no_record_begins r s rest (inl a) (inl b) e = (same_admissions a.slice b.slice rest a.valid b.valid (cc (a.is, b.is))).1
+no_record_begins r s rest (inl a) (inr b) e = cc (a.is, b.is)
+no_record_begins r s rest (inr a) (inl b) e = cc (a.is, b.is)
 no_record_begins r s rest (inr a) (inr b) e =
-    nothing rest (omega (arith, length-retirement_record a.key a.digest a.is_key a.long, length-retirement_record b.key b.digest b.is_key b.long, ap length a.is, ap length b.is, ap length e, length-append r rest))
+    nil_from_length rest (omega (arith, length-retirement_record a.key a.digest a.is_key a.long, length-retirement_record b.key b.digest b.is_key b.long, ap length a.is, ap length b.is, ap length e, length-append r rest))
 
 -- keys with the same bytes are the same
 one_key : (k l : SliceKey) → IsKey k → IsKey l → key_bytes k ≡ key_bytes l → k ≡ l
@@ -86,25 +68,13 @@ one_key k l is_k is_l e =
 
 -- different operations have different records
 pub one_operation : (a b : Operation) → IsOperation a → IsOperation b → record_bytes a ≡ record_bytes b → a ≡ b
-one_operation (Admit a) (Admit b) valid_a valid_b e = ap Admit (sym (same_admissions a b [] valid_a valid_b (behind_tag e)).0)
-  where
-    behind_tag : 2 ∷ admission a ≡ 2 ∷ admission b → admission b ≡ admission a ++ []
-    behind_tag h = let same : admission a ≡ admission b = cc in sym same ∙ sym (append-nil (admission a))
-one_operation (Admit a) (Retire l e) valid_a is_b h = absurd (apart h)
-  where
-    apart : 2 ∷ admission a ≡ 1 ∷ (key_bytes l ++ e.0) → ⊥
-    apart h = cc
-one_operation (Retire k d) (Admit b) is_a valid_b h = absurd (apart h)
-  where
-    apart : 1 ∷ (key_bytes k ++ d.0) ≡ 2 ∷ admission b → ⊥
-    apart h = cc
+one_operation (Admit a) (Admit b) valid_a valid_b e = ap Admit (sym (same_admissions a b [] valid_a valid_b (cc (append-nil (admission a)))).0)
+one_operation (Admit a) (Retire l e) valid_a is_b h = cc
+one_operation (Retire k d) (Admit b) is_a valid_b h = cc
 one_operation (Retire k d) (Retire l e) is_a is_b h =
-    let parts = same_parts (key_bytes k) (key_bytes l) d.0 e.0 (length_key_bytes k is_a.0.uuid ∙ sym (length_key_bytes l is_b.0.uuid)) (behind_tag h) in
+    let parts = same_parts (key_bytes k) (key_bytes l) d.0 e.0 (length_key_bytes k is_a.0.uuid ∙ sym (length_key_bytes l is_b.0.uuid)) (cc (h)) in
     let key : k ≡ l = one_key k l is_a.0 is_b.0 parts.0 in
     λ i. Retire (key i) (record { 0 = parts.1 i })
-  where
-    behind_tag : 1 ∷ (key_bytes k ++ d.0) ≡ 1 ∷ (key_bytes l ++ e.0) → key_bytes k ++ d.0 ≡ key_bytes l ++ e.0
-    behind_tag h = cc
 
 -- each operation has a record
 pub record_of_operation : (a : Operation) → IsOperation a → IsRecord (record_bytes a)

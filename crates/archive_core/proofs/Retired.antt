@@ -1,18 +1,19 @@
 -- What searches among retirements find, and what is there with one more.
-use Rattle.std.proofs.Common.{◌≡◌, ℕ, zero, suc, ◌+◌, ◌==◌, Bool, true, false, ◌||◌, cond, List, [], ◌∷◌, ◌++◌, length, length-drop, get_or, take, drop, Result, Ok, Err, refl, sym, ap, subst, ◌∙◌, arith, inl, inr, ◌⊎◌}
-use Rattle.std.proofs.lemmas.Bool.{false≢true, cases_lt, eqb-true}
+use Rattle.std.proofs.Common.{◌≡◌, ℕ, zero, suc, ◌+◌, ◌==◌, Bool, true, false, ◌||◌, cond, List, [], ◌∷◌, ◌++◌, length, length-drop, get_or, take, drop, Result, Ok, Err, refl, sym, ap, ◌∙◌, arith, inl, inr, ◌⊎◌}
+use Rattle.std.proofs.lemmas.Bool.{false≢true, cases_lt}
+use Rattle.std.proofs.lemmas.Bool.Decides.{nat_tests}
+use Rattle.std.proofs.lemmas.Cmp.{eq_by_cmp_equiv}
 use Rattle.std.proofs.lemmas.List.{take_at, take-append-drop}
 use Rattle.std.proofs.lemmas.List.Folds.{list_any-append}
 use Rattle.std.proofs.lemmas.List.Sorted.{searchable_from_sorted}
 use Rattle.std.proofs.lemmas.Map.Keys.{Less-from_sorted}
-use Rattle.std.proofs.lemmas.Map.Views.{Contains-from_any}
 use Rattle.std.specs.Prelude.{is_ok}
 use Rattle.std.specs.declared.cmp.Ordering.{Ordering}
-use Rattle.std.specs.declared.cmp.Ordering.TheVariants.{Less, Equal, Greater}
-use Rattle.std.specs.Ordering.{nat_cmp, eq_by_cmp, is_eq, is_gt, is_lt, ordering_reverse}
-use Rattle.std.specs.Cmp.{tied_itself, nat_cmp_is, nat_cmp_total}
+use Rattle.std.specs.declared.cmp.Ordering.TheVariants.{Less, Equal}
+use Rattle.std.specs.Ordering.{nat_cmp, eq_by_cmp, is_eq, is_gt, is_lt, ordering_reverse, ordering_then}
+use Rattle.std.specs.Cmp.{tied_itself, nat_cmp_total}
 use Rattle.std.specs.Cmp.Lexicographic.{slice_cmp, nat_list_cmp_total}
-use Rattle.std.specs.List.{AllByRecursion, Contains, list_all, list_any}
+use Rattle.std.specs.List.{AllByRecursion, list_all, list_any}
 use Rattle.std.specs.List.Sorted.{IsStrictlySortedBy, IsBinarySearchResult, IsSearchInRange, IsSortedBy}
 use Rattle.std.specs.FinSet as set
 use Rattle.std.specs.FinSet.{contains, contains-from_list, contains-insert, from_list, from_list_push, same_set}
@@ -22,7 +23,7 @@ use Rattle.archive_core.specs.declared.keys.SliceKey.{SliceKey}
 use Rattle.archive_core.specs.Key.{key_bytes}
 use Rattle.archive_core.specs.Record.{retirement_record}
 use Rattle.archive_core.proofs.Made.{and_left, and_right, bytes_same, by_test, or_left}
-use Rattle.archive_core.proofs.Taken.{tied_is}
+use Rattle.archive_core.proofs.Members.{in_made}
 
 abbrev order : List ℕ → List ℕ → Ordering
 order = slice_cmp nat_cmp
@@ -38,88 +39,50 @@ begins_below zero x y h = refl
 begins_below (suc n) [] [] h = refl
 begins_below (suc n) [] (b ∷ bs) h = refl
 begins_below (suc n) (a ∷ ass) [] h = absurd cc
-begins_below (suc n) (a ∷ ass) (b ∷ bs) h = by (nat_cmp a b) refl (begins_below n ass bs)
+begins_below (suc n) (a ∷ ass) (b ∷ bs) h = below (nat_cmp a b) (nat_cmp b a) (order ass bs) (order (take n bs) (take n ass)) (nat_cmp_total.antisymm b a) h (begins_below n ass bs)
   where
-    reversed : (o : Ordering) → nat_cmp a b ≡ o → nat_cmp b a ≡ ordering_reverse o
-    reversed o e = nat_cmp_total.antisymm b a ∙ ap ordering_reverse e
-
-    greater : Greater ≡ Less → ⊥
-    greater c = cc
-
-    by : (o : Ordering) → nat_cmp a b ≡ o → (order ass bs ≡ Less → is_lt (order (take n bs) (take n ass)) ≡ false) → is_lt (order (b ∷ take n bs) (a ∷ take n ass)) ≡ false
-    by Less e rest = rw (reversed Less e) refl
-    by Equal e rest = rw (reversed Equal e) (rest (rw e at h))
-    by Greater e rest = absurd (greater (rw e at h))
+    below : (p q r s : Ordering) → q ≡ ordering_reverse p → ordering_then p r ≡ Less → (r ≡ Less → is_lt s ≡ false) → is_lt (ordering_then q s) ≡ false
+    below p q r s turned h rest = grind arith
 
 fronts_sorted : (n : ℕ) (xs : List (List ℕ)) → IsStrictlySortedBy order xs → IsSortedBy (λ x y. is_lt (order (take n x) (take n y))) xs
 fronts_sorted n xs h i d _ lt = begins_below n _ _ (Less-from_sorted order xs i (i + 1) d h (omega arith) lt)
-
-among : (xs : List (List ℕ)) (r : List ℕ) → contains (set_of xs) r ≡ true → Contains xs r
-among xs r h = Contains-from_any tied_is r xs (sym (contains-from_list nat_list_cmp_total xs r) ∙ h)
 
 -- a search by how they begin finds one where one is there
 pub front_there : (xs : List (List ℕ)) (front : List ℕ) (r : Result ℕ ℕ) → IsStrictlySortedBy order xs → IsSearchInRange r (length xs) → IsBinarySearchResult (λ x. order (take 25 x) front) xs r
     → (c : List ℕ) → take 25 c ≡ front → contains (set_of xs) c ≡ true → is_ok r ≡ true
 front_there xs front (Ok i) up lt at c e h = refl
 front_there xs front (Err i) up le parted c e h =
-    let found = among xs c h in
+    let found = (in_made nat_list_cmp_total bytes_same xs c).1 h in
     let parts = parted (searchable_from_sorted nat_list_cmp_total (take 25) xs front (fronts_sorted 25 xs up)) in
     let tied : order (take 25 (get_or xs found.0 c)) front ≡ Equal = ap (λ (t : List ℕ). order (take 25 t) front) found.2 ∙ ap (λ (t : List ℕ). order t front) e ∙ tied_itself nat_list_cmp_total front in
     elim (cases_lt found.0 i) [
-      | inl lt ↦ absurd (less (sym tied ∙ parts.0 found.0 c (omega arith) lt))
-      | inr ge ↦ absurd (greater (sym tied ∙ parts.1 found.0 c ge found.1))
+      | inl lt ↦ cc (parts.0 found.0 c (omega arith) lt)
+      | inr ge ↦ cc (parts.1 found.0 c ge found.1)
     ]
-  where
-    less : Equal ≡ Less → ⊥
-    less q = cc
-
-    greater : Equal ≡ Greater → ⊥
-    greater q = cc
 
 -- what is at most another does not begin with more
 begins_at_most : (n : ℕ) (x y : List ℕ) → is_gt (order x y) ≡ false → is_lt (order (take n y) (take n x)) ≡ false
-begins_at_most n x y h = by (order x y) refl
-  where
-    below_none : (a b : List ℕ) → a ≡ b → is_lt (order b a) ≡ false
-    below_none a b e = ap (λ (t : List ℕ). is_lt (order b t)) e ∙ ap is_lt (tied_itself nat_list_cmp_total b)
-
-    by : (o : Ordering) → order x y ≡ o → is_lt (order (take n y) (take n x)) ≡ false
-    by Less e = begins_below n x y e
-    by Equal e = below_none (take n x) (take n y) (ap (take n) (bytes_same x y e))
-    by Greater e = absurd (false≢true (sym h ∙ ap is_gt e))
+begins_at_most n x y h = grind (arith, begins_below n x y, bytes_same x y, tied_itself nat_list_cmp_total (take n y))
 
 -- what lies between two that begin alike begins so
 pub begins_between : (n : ℕ) (low x high front : List ℕ) → take n low ≡ front → take n high ≡ front → is_gt (order low x) ≡ false → is_gt (order x high) ≡ false → is_eq (order (take n x) front) ≡ true
-begins_between n low x high front l h above below = by (order (take n x) front) refl
+begins_between n low x high front l h above below = between (order (take n x) front) (order front (take n x)) (nat_list_cmp_total.antisymm front (take n x))
     (ap (λ (t : List ℕ). is_lt (order (take n x) t)) (sym l) ∙ begins_at_most n low x above)
     (ap (λ (t : List ℕ). is_lt (order t (take n x))) (sym h) ∙ begins_at_most n x high below)
   where
-    by : (o : Ordering) → order (take n x) front ≡ o → is_lt (order (take n x) front) ≡ false → is_lt (order front (take n x)) ≡ false → is_eq (order (take n x) front) ≡ true
-    by Less e not_less not_more = absurd (false≢true (sym not_less ∙ ap is_lt e))
-    by Equal e not_less not_more = ap is_eq e
-    by Greater e not_less not_more = absurd (false≢true (sym not_more ∙ ap is_lt (nat_list_cmp_total.antisymm front (take n x) ∙ ap ordering_reverse e)))
+    between : (o p : Ordering) → p ≡ ordering_reverse o → is_lt o ≡ false → is_lt p ≡ false → is_eq o ≡ true
+    between o p turned not_less not_more = grind arith
 
 -- no bytes are below as many zeros
 zeros_least : (zeros rest : List ℕ) → length zeros ≡ length rest → list_all (λ n. n == 0) zeros ≡ true → is_gt (order zeros rest) ≡ false
 zeros_least [] [] long zero_each = refl
 zeros_least [] (b ∷ bs) long zero_each = refl
 zeros_least (a ∷ ass) [] long zero_each = absurd (omega (arith, long))
-zeros_least (a ∷ ass) (b ∷ bs) long zero_each = by (nat_cmp a b) refl (zeros_least ass bs (omega (arith, long)) (and_right (a == 0) _ zero_each))
+zeros_least (a ∷ ass) (b ∷ bs) long zero_each =
+    first (order ass bs) (and_left (a == 0) _ zero_each) (zeros_least ass bs (omega (arith, long)) (and_right (a == 0) _ zero_each))
   where
-    equal_greater : Equal ≡ Greater → ⊥
-    equal_greater e = cc
-
-    less_greater : Less ≡ Greater → ⊥
-    less_greater e = cc
-
-    greater_none : (n : ℕ) → nat_cmp 0 n ≡ Greater → ⊥
-    greater_none zero e = equal_greater (nat_cmp_is 0 0 Equal refl ∙ e)
-    greater_none (suc n) e = less_greater (nat_cmp_is 0 (suc n) Less (omega arith) ∙ e)
-
-    by : (o : Ordering) → nat_cmp a b ≡ o → is_gt (order ass bs) ≡ false → is_gt (order (a ∷ ass) (b ∷ bs)) ≡ false
-    by Less e rest = rw e refl
-    by Equal e rest = rw e rest
-    by Greater e rest = absurd (greater_none b (ap (λ (n : ℕ). nat_cmp n b) (sym (eqb-true a 0 (and_left (a == 0) _ zero_each))) ∙ e))
+    first : (r : Ordering) → (a == 0) ≡ true → is_gt r ≡ false → is_gt (ordering_then (nat_cmp a b) r) ≡ false
+    first r none rest = grind (arith, nat_tests)
 
 same_front : (front x y : List ℕ) → order (front ++ x) (front ++ y) ≡ order x y
 same_front [] x y = refl
@@ -165,29 +128,14 @@ held_by ks k = sym (contains-from_list nat_list_cmp_total ks k)
 -- one more in the first is one more in both
 pub first_more : (xs ys zs : List (List ℕ)) (x : List ℕ) → set_of zs ≡ set.insert (set_of xs) x → set_of (zs ++ ys) ≡ set.insert (set_of (xs ++ ys)) x
 first_more xs ys zs x more = same_set nat_list_cmp_total bytes_same _ _ (λ q.
-    in_both zs ys q ∙ ap (λ s. contains s q || contains (set_of ys) q) more
-    ∙ ap (λ b. b || contains (set_of ys) q) (contains-insert nat_list_cmp_total (set_of xs) x q)
-    ∙ joined (eq_by_cmp order q x) (contains (set_of xs) q) (contains (set_of ys) q)
-    ∙ ap (λ b. eq_by_cmp order q x || b) (sym (in_both xs ys q))
-    ∙ sym (contains-insert nat_list_cmp_total (set_of (xs ++ ys)) x q))
-  where
-    joined : (a b c : Bool) → ((a || b) || c) ≡ (a || (b || c))
-    joined true b c = refl
-    joined false b c = refl
+    let grown : contains (set_of zs) q ≡ contains (set.insert (set_of xs) x) q = ap (λ s. contains s q) more in
+    grind (arith, in_both zs ys q, in_both xs ys q, contains-insert nat_list_cmp_total (set_of xs) x q, contains-insert nat_list_cmp_total (set_of (xs ++ ys)) x q))
 
 -- so is one more in the second
 pub second_more : (xs ys zs : List (List ℕ)) (x : List ℕ) → set_of zs ≡ set.insert (set_of ys) x → set_of (xs ++ zs) ≡ set.insert (set_of (xs ++ ys)) x
 second_more xs ys zs x more = same_set nat_list_cmp_total bytes_same _ _ (λ q.
-    in_both xs zs q ∙ ap (λ s. contains (set_of xs) q || contains s q) more
-    ∙ ap (λ b. contains (set_of xs) q || b) (contains-insert nat_list_cmp_total (set_of ys) x q)
-    ∙ turned (contains (set_of xs) q) (eq_by_cmp order q x) (contains (set_of ys) q)
-    ∙ ap (λ b. eq_by_cmp order q x || b) (sym (in_both xs ys q))
-    ∙ sym (contains-insert nat_list_cmp_total (set_of (xs ++ ys)) x q))
-  where
-    turned : (a b c : Bool) → (a || (b || c)) ≡ (b || (a || c))
-    turned true true c = refl
-    turned true false c = refl
-    turned false b c = refl
+    let grown : contains (set_of zs) q ≡ contains (set.insert (set_of ys) x) q = ap (λ s. contains s q) more in
+    grind (arith, in_both xs zs q, in_both xs ys q, contains-insert nat_list_cmp_total (set_of ys) x q, contains-insert nat_list_cmp_total (set_of (xs ++ ys)) x q))
 
 -- ---- one less
 
@@ -202,8 +150,8 @@ sorted_front (x ∷ xs) y up = (all_front (λ z. order x z ≡ Less) xs y up.0, 
 
 -- what ascends still does without the last
 pub sorted_without : (old new : List (List ℕ)) (r : List ℕ) → (new ≡ old) ⊎ (old ≡ new ++ r ∷ []) → IsStrictlySortedBy order old → IsStrictlySortedBy order new
-sorted_without old new r (inl same) up = subst (λ (t : List (List ℕ)). IsStrictlySortedBy order t) (sym same) up
-sorted_without old new r (inr more) up = sorted_front new r (subst (λ (t : List (List ℕ)). IsStrictlySortedBy order t) more up)
+sorted_without old new r (inl same) up = rw same up
+sorted_without old new r (inr more) up = sorted_front new r (rw more at up)
 
 -- with the record itself all are there that were
 pub others_stay : (old new ys : List (List ℕ)) (r : List ℕ) → (new ≡ old) ⊎ (old ≡ new ++ r ∷ []) → set.insert (set_of (new ++ ys)) r ≡ set.insert (set_of (old ++ ys)) r
@@ -217,16 +165,5 @@ others_stay old new ys r (inr more) =
 pub inserted : (old new : List (List ℕ)) (k : List ℕ)
     → ((q : List ℕ) → list_any (λ x. eq_by_cmp order q x) new ≡ cond (eq_by_cmp order k q) true (list_any (λ x. eq_by_cmp order q x) old)) → set_of new ≡ set.insert (set_of old) k
 inserted old new k each = same_set nat_list_cmp_total bytes_same _ _ (λ q.
-    contains-from_list nat_list_cmp_total new q
-    ∙ each q
-    ∙ ap (λ b. cond (eq_by_cmp order k q) true b) (sym (contains-from_list nat_list_cmp_total old q))
-    ∙ by_either q (eq_by_cmp order k q) (eq_by_cmp order q k) (contains (set_of old) q) (turned k q) (turned q k)
-    ∙ sym (contains-insert nat_list_cmp_total (set_of old) k q))
-  where
-    turned : (a b : List ℕ) → eq_by_cmp order a b ≡ true → eq_by_cmp order b a ≡ true
-    turned a b t = ap (λ x. eq_by_cmp order b x) (tied_is a b t) ∙ ap is_eq (tied_itself nat_list_cmp_total b)
-
-    by_either : (q : List ℕ) (a b c : Bool) → (a ≡ true → b ≡ true) → (b ≡ true → a ≡ true) → cond a true c ≡ (b || c)
-    by_either q true b c f g = sym (or_left b c (f refl))
-    by_either q false true c f g = absurd (false≢true (g refl))
-    by_either q false false c f g = refl
+    let turned : eq_by_cmp order k q ≡ eq_by_cmp order q k = (eq_by_cmp_equiv nat_list_cmp_total).symm k q in
+    grind (arith, contains-from_list nat_list_cmp_total new q, each q, contains-from_list nat_list_cmp_total old q, contains-insert nat_list_cmp_total (set_of old) k q))

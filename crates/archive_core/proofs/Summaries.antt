@@ -1,60 +1,30 @@
 -- The members of summaries and deltas, and what a delta brings to a content.
-use Rattle.std.proofs.Common.{◌≡◌, ◌↔◌, ℕ, Bool, true, false, ◌||◌, ◌&&◌, not, if◌then◌else◌, List, [], ◌∷◌, map, drop, refl, sym, ap, ◌∙◌, inl, inr}
-use mathlib.Core.Bool.{true≢false}
-use Rattle.std.specs.List.{list_any, filter}
-use Rattle.std.specs.Ordering.{nat_cmp, eq_by_cmp, is_eq}
-use Rattle.std.specs.Cmp.{Equal-is, tied_itself}
-use Rattle.std.specs.Cmp.Lexicographic.{slice_cmp, nat_list_cmp_total}
+use Rattle.std.proofs.Common.{◌≡◌, ◌↔◌, ℕ, true, false, ◌||◌, ◌&&◌, not, if◌then◌else◌, List, ◌∷◌, map, drop, sym, ap, ◌∙◌, inl, inr, arith}
+use Rattle.std.specs.List.{filter}
+use Rattle.std.specs.Cmp.Lexicographic.{nat_list_cmp_total}
 use Rattle.std.specs.FinSet as set
-use Rattle.std.specs.FinSet.{contains-from_list, contains-retain, contains-union}
+use Rattle.std.specs.FinSet.{contains-retain, contains-union}
 use Rattle.join_core.specs.Listing.{listing}
-use Rattle.join_core.proofs.Listing.{any_listing}
 use Rattle.join_core.proofs.Retain.{listing_retain}
 use Rattle.archive_core.specs.Record.{IsRecord}
 use Rattle.archive_core.specs.Content.{Operations, is_admission, key_and_digest, covering, is_covered, IsMade, IsContent, IsBelow, joined}
 use Rattle.archive_core.specs.Summary.{Entries, entry, summary, is_known, delta, DigestsTell}
-use Rattle.archive_core.proofs.Made.{bytes_same, either, by_test, or_left, or_right, and_left, and_right, below_subset, below_made_known, below_left, below_right, below_transitive, joined_below, made_part}
-use Rattle.archive_core.proofs.Answering.{both}
+use Rattle.archive_core.proofs.Members.{in_listing, in_made, in_map, to_map}
+use Rattle.archive_core.proofs.Made.{bytes_same, by_test, and_left, below_subset, below_made_known, below_left, below_right, below_transitive, joined_below, made_part}
 use Rattle.archive_core.proofs.Entries.{entry_tells, retirement_entry}
 
-or_true : (a : Bool) → (a || true) ≡ true
-or_true true = refl
-or_true false = refl
-
-abbrev is_same : List ℕ → List ℕ → Bool
-is_same = eq_by_cmp (slice_cmp nat_cmp)
-
-same_is : (r s : List ℕ) → is_same r s ≡ true → r ≡ s
-same_is r s h = bytes_same r s ((Equal-is (slice_cmp nat_cmp r s)).0 h)
-
 -- an entry of the summary is that of a member
-from_entry : (e : List ℕ) (rs : List (List ℕ)) → list_any (is_same e) (map entry rs) ≡ true → (r : List ℕ) × (list_any (is_same r) rs ≡ true) × (entry r ≡ e)
-from_entry e [] h = absurd (true≢false (sym h))
-from_entry e (x ∷ rs) h =
-    elim (is_same e (entry x)) as (λ b. is_same e (entry x) ≡ b → (b || list_any (is_same e) (map entry rs)) ≡ true → (r : List ℕ) × (list_any (is_same r) (x ∷ rs) ≡ true) × (entry r ≡ e)) [
-      | true ↦ λ one _. (x, ap (λ b. is_eq b || list_any (is_same x) rs) (tied_itself nat_list_cmp_total x), sym (same_is e (entry x) one))
-      | false ↦ λ _ rest. let found : (r : List ℕ) × (list_any (is_same r) rs ≡ true) × (entry r ≡ e) = from_entry e rs rest in
-          (found.0, ap (λ b. is_same found.0 x || b) found.1 ∙ or_true (is_same found.0 x), found.2)
-    ] refl h
-
 pub member_of_entry : (o : Operations) (e : List ℕ) → set.contains (summary o) e ≡ true → (r : List ℕ) × (set.contains o r ≡ true) × (entry r ≡ e)
 unfolding summary
 member_of_entry o e h =
-    let found : (r : List ℕ) × (list_any (is_same r) (listing o) ≡ true) × (entry r ≡ e) = from_entry e (listing o) (sym (contains-from_list nat_list_cmp_total (map entry (listing o)) e) ∙ h) in
-    (found.0, sym (any_listing nat_list_cmp_total o found.0) ∙ found.1, found.2)
+    let found = in_map entry (listing o) e ((in_made nat_list_cmp_total bytes_same (map entry (listing o)) e).1 h) in
+    (found.0, (in_listing nat_list_cmp_total bytes_same o found.0).0 found.1, sym found.2)
 
 -- a member's entry is one of the summary
-to_entry : (r : List ℕ) (rs : List (List ℕ)) → list_any (is_same r) rs ≡ true → list_any (is_same (entry r)) (map entry rs) ≡ true
-to_entry r [] h = absurd (true≢false (sym h))
-to_entry r (x ∷ rs) h =
-    elim (is_same r x) as (λ b. is_same r x ≡ b → (b || list_any (is_same r) rs) ≡ true → (is_same (entry r) (entry x) || list_any (is_same (entry r)) (map entry rs)) ≡ true) [
-      | true ↦ λ one _. ap (λ y. is_same (entry r) (entry y) || list_any (is_same (entry r)) (map entry rs)) (sym (same_is r x one)) ∙ ap (λ b. is_eq b || list_any (is_same (entry r)) (map entry rs)) (tied_itself nat_list_cmp_total (entry r))
-      | false ↦ λ _ rest. ap (λ b. is_same (entry r) (entry x) || b) (to_entry r rs rest) ∙ or_true (is_same (entry r) (entry x))
-    ] refl h
-
 pub entry_of_member : (o : Operations) (r : List ℕ) → set.contains o r ≡ true → set.contains (summary o) (entry r) ≡ true
 unfolding summary
-entry_of_member o r h = contains-from_list nat_list_cmp_total (map entry (listing o)) (entry r) ∙ to_entry r (listing o) (any_listing nat_list_cmp_total o r ∙ h)
+entry_of_member o r h =
+    (in_made nat_list_cmp_total bytes_same (map entry (listing o)) (entry r)).0 (to_map entry (listing o) r ((in_listing nat_list_cmp_total bytes_same o r).1 h))
 
 -- a summary has the entries of the members, and no other
 pub summary_is : (o : Operations) (e : List ℕ) → (set.contains (summary o) e ≡ true) ↔ ((r : List ℕ) × (set.contains o r ≡ true) × (entry r ≡ e))
@@ -71,7 +41,7 @@ contains_delta o s r = contains-retain o (λ x. not (set.contains s (entry x))) 
 
 -- a delta is a part of its content
 delta_part : (o : Operations) (s : Entries) (r : List ℕ) → set.contains (delta o s) r ≡ true → set.contains o r ≡ true
-delta_part o s r h = (both (set.contains o r) (not (set.contains s (entry r))) (sym (contains_delta o s r) ∙ h)).0
+delta_part o s r h = and_left (set.contains o r) (not (set.contains s (entry r))) (sym (contains_delta o s r) ∙ h)
 
 pub delta_below : (o : Operations) (s : Entries) → IsBelow (delta o s) o
 delta_below o s = below_subset (delta o s) o (delta_part o s)
@@ -102,38 +72,24 @@ unfolding entry
 entry_of_covered r a = ap (λ b. 1 ∷ drop 1 (if b then 2 ∷ key_and_digest r else r)) a
 
 entry_of_retirement : (r : List ℕ) → IsRecord r → is_admission r ≡ false → 1 ∷ drop 1 (entry r) ≡ r
-entry_of_retirement r (inl admits) n = absurd (true≢false (ap is_admission (sym admits.is) ∙ n))
-entry_of_retirement r (inr retires) n =
-    ap (λ x. 1 ∷ drop 1 (entry x)) retires.is
-    ∙ ap (λ x. 1 ∷ drop 1 x) (retirement_entry retires.key retires.digest)
-    ∙ sym retires.is
+entry_of_retirement r (inl admits) n = cc (ap is_admission admits.is)
+entry_of_retirement r (inr retires) n = cc (retires.is, retirement_entry retires.key retires.digest)
 
 known_there : (o p : Operations) (r : List ℕ) → IsContent o → IsContent p → DigestsTell o p → set.contains o r ≡ true → is_known p (entry r) ≡ true → (set.contains p r || is_covered p r) ≡ true
 known_there o p r a b tells in_o known =
-    either _ (set.contains (summary p) (entry r)) (set.contains p (1 ∷ drop 1 (entry r)))
-    (λ named. or_left _ _ (named_there o p r a b tells in_o named))
-    (λ retired. by_test _ (is_admission r)
-    (λ is. or_right (set.contains p r) _ (ap (λ c. c && set.contains p (covering r)) is ∙ ap (set.contains p) (sym (entry_of_covered r is)) ∙ retired))
-    (λ no. or_left _ _ (ap (set.contains p) (sym (entry_of_retirement r (a.records r in_o) no)) ∙ retired)))
-    known
+    grind (arith, named_there o p r a b tells in_o, entry_of_covered r, entry_of_retirement r (a.records r in_o))
 
 -- what is in a content or covered there is so in a greater one
 known_more : (p q : Operations) (r : List ℕ) → (set.contains p r || is_covered p r) ≡ true → (set.contains (set.union p q) r || is_covered (set.union p q) r) ≡ true
 known_more p q r known =
-    let members : (x : List ℕ) → set.contains p x ≡ true → set.contains (set.union p q) x ≡ true = λ x h. contains-union nat_list_cmp_total p q x ∙ or_left _ _ h in
-    either _ (set.contains p r) (is_covered p r)
-    (λ there. or_left _ _ (members r there))
-    (λ covered. or_right (set.contains (set.union p q) r) _ (ap (λ c. c && set.contains (set.union p q) (covering r)) (and_left _ _ covered) ∙ members (covering r) (and_right _ _ covered)))
-    known
+    grind (arith, contains-union nat_list_cmp_total p q r, contains-union nat_list_cmp_total p q (covering r))
 
 -- an operation is known, or in the delta
 known_or_in_delta : (o p : Operations) (s : Entries) → IsContent o → IsContent p → DigestsTell o p → ((e : List ℕ) → set.contains s e ≡ true → is_known p e ≡ true)
     → (r : List ℕ) → set.contains o r ≡ true → (set.contains (set.union p (delta o s)) r || is_covered (set.union p (delta o s)) r) ≡ true
 known_or_in_delta o p s a b tells has r in_o = by_test _ (set.contains s (entry r))
     (λ named. known_more p (delta o s) r (known_there o p r a b tells in_o (has (entry r) named)))
-    (λ missing.
-    let there : set.contains (delta o s) r ≡ true = contains_delta o s r ∙ ap (λ c. c && not (set.contains s (entry r))) in_o ∙ ap not missing in
-    or_left _ _ (contains-union nat_list_cmp_total p (delta o s) r ∙ or_right _ _ there))
+    (λ missing. grind (arith, contains_delta o s r, contains-union nat_list_cmp_total p (delta o s) r))
 
 -- a content to which each entry of a summary is known, joined with the delta against that summary, is above what the delta was made of
 pub brought_above : (o p : Operations) (s : Entries) → IsContent o → IsContent p → DigestsTell o p → ((e : List ℕ) → set.contains s e ≡ true → is_known p e ≡ true) → IsBelow o (joined p (delta o s))

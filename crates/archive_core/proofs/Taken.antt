@@ -1,8 +1,8 @@
 -- What operations give that are taken one after another, and what a retirement keeps out.
-use Rattle.std.proofs.Common.{◌≡◌, ◌↔◌, ℕ, suc, ◌+◌, ◌≤◌, if◌then◌else◌, List, [], ◌∷◌, Bool, true, false, ◌||◌, ◌&&◌, length, map, refl, sym, ap, ◌∙◌, subst, arith}
+use Rattle.std.proofs.Common.{◌≡◌, ◌↔◌, ℕ, suc, ◌+◌, ◌≤◌, if◌then◌else◌, List, [], ◌∷◌, true, false, ◌||◌, ◌&&◌, length, map, refl, sym, ap, ◌∙◌, inl, inr, subst, arith}
 use Rattle.std.specs.Prelude.{not, fold, Contains}
-use mathlib.Core.Bool.{true≢false}
-use Rattle.std.specs.Ordering.{nat_cmp, eq_by_cmp, is_eq}
+use Rattle.std.proofs.lemmas.Bool.{true≢false, cases_Bool, or_parts}
+use Rattle.std.specs.Ordering.{nat_cmp, eq_by_cmp}
 use Rattle.std.specs.Cmp.{Equal-is, tied_itself}
 use Rattle.std.specs.Cmp.Lexicographic.{slice_cmp, nat_list_cmp_total}
 use Rattle.std.specs.FinSet as set
@@ -15,7 +15,7 @@ use Rattle.archive_core.specs.Record.{record_bytes, retirement_record}
 use Rattle.archive_core.specs.Content.{Operations, is_admission, covering, is_covered, content_of, IsMade, IsContent, IsBelow, with_record, with_records, changes, new_among, joined, HaveSameMembers, IsLive, IsTakenInPart}
 use Rattle.archive_core.specs.declared.operations.Operation.{Operation}
 use Rattle.archive_core.specs.declared.keys.SliceKey.{SliceKey}
-use Rattle.archive_core.proofs.Made.{bytes_same, made_of_uncovered, uncovered_of_made, either, or_left, or_right, by_test, contains_made, IsAlike, made_alike, made_is_alike, alike_insert, joined_made_right, made_again, below_reflexive, below_transitive, below_made}
+use Rattle.archive_core.proofs.Made.{bytes_same, made_of_uncovered, uncovered_of_made, either, or_right, by_test, contains_made, IsAlike, made_alike, made_is_alike, alike_insert, joined_made_right, made_again, below_reflexive, below_transitive, below_made}
 
 -- an operation that is there, or covered there, changes nothing, and another one changes the content
 pub known_changes : (o : Operations) (r : List ℕ) → (set.contains o r || is_covered o r) ≡ true → changes o r ≡ false
@@ -33,22 +33,12 @@ tied_is q r h = bytes_same q r ((Equal-is (slice_cmp nat_cmp q r)).0 h)
 pub apart : (q r : List ℕ) → is_admission q ≡ false → is_admission r ≡ true → eq_by_cmp (slice_cmp nat_cmp) q r ≡ false
 apart q r n a = by_test _ (eq_by_cmp (slice_cmp nat_cmp) q r) (λ t. absurd (true≢false (sym a ∙ ap is_admission (sym (tied_is q r t)) ∙ n))) (λ f. f)
 
-both_parts : (a b : Bool) → (a && b) ≡ true → (a ≡ true) × (b ≡ true)
-both_parts true b h = (refl, h)
-both_parts false b h = absurd (true≢false (sym h))
-
 -- with a covered admission a set is alike
 alike_covered : (o : Operations) (r : List ℕ) → is_covered o r ≡ true → IsAlike (set.insert o r) o
-alike_covered o r c =
-    let parts = both_parts (is_admission r) (set.contains o (covering r)) c in
-    record {
-      retirements = λ q n. contains-insert nat_list_cmp_total o r q ∙ ap (λ b. b || set.contains o q) (apart q r n parts.0);
-      live = λ q a free. by_test _ (eq_by_cmp (slice_cmp nat_cmp) q r)
-          (λ t.
-          let there : set.contains (set.insert o r) (covering q) ≡ true = contains-insert nat_list_cmp_total o r (covering q) ∙ or_right _ _ (ap (λ p. set.contains o (covering p)) (tied_is q r t) ∙ parts.1) in
-          absurd (true≢false (sym there ∙ free)))
-          (λ f. contains-insert nat_list_cmp_total o r q ∙ ap (λ b. b || set.contains o q) f);
-    }
+alike_covered o r c = record {
+  retirements = λ q n. grind (arith, contains-insert nat_list_cmp_total o r q, apart q r n);
+  live = λ q a free. grind (arith, contains-insert nat_list_cmp_total o r q, contains-insert nat_list_cmp_total o r (covering q), tied_is q r);
+}
 
 -- so an operation that is there or covered there leaves the content
 pub with_known : (o : Operations) (r : List ℕ) → IsMade o → (set.contains o r || is_covered o r) ≡ true → with_record o r ≡ o
@@ -59,30 +49,19 @@ with_known o r is h = either (with_record o r ≡ o) (set.contains o r) (is_cove
 
 -- no operation covers itself
 pub still_uncovered : (o : Operations) (r : List ℕ) → is_covered o r ≡ false → is_covered (set.insert o r) r ≡ false
-still_uncovered o r h = by_test (is_covered (set.insert o r) r ≡ false) (is_admission r)
-    (λ a.
-    ap (λ b. is_admission r && b) (contains-insert nat_list_cmp_total o r (covering r) ∙ ap (λ b. b || set.contains o (covering r)) (apart (covering r) r refl a)) ∙ h)
-    (λ n. ap (λ b. b && set.contains (set.insert o r) (covering r)) n)
+still_uncovered o r h = grind (arith, contains-insert nat_list_cmp_total o r (covering r), apart (covering r) r refl)
 
 -- and another one is there afterwards
 pub contains_with : (o : Operations) (r : List ℕ) → is_covered o r ≡ false → set.contains (with_record o r) r ≡ true
 contains_with o r h =
-    contains_made (set.insert o r) r
-    ∙ ap (λ b. set.contains (set.insert o r) r && not b) (still_uncovered o r h)
-    ∙ ap (λ b. b && true) (contains-insert nat_list_cmp_total o r r ∙ ap (λ c. is_eq c || set.contains o r) (tied_itself nat_list_cmp_total r))
-
-same_by : (o : Operations) (r : List ℕ) (known : Bool) → IsMade o → (set.contains o r || is_covered o r) ≡ known → (not known ≡ false) ↔ (with_record o r ≡ o)
-same_by o r true is h = (λ _. with_known o r is h, λ _. refl)
-same_by o r false is h = (
-  λ e. absurd (true≢false e),
-  λ same.
-      let free : is_covered o r ≡ false = by_test _ (is_covered o r) (λ c. absurd (true≢false (sym (or_right (set.contains o r) _ c) ∙ h))) (λ c. c) in
-      absurd (true≢false (sym (or_left _ (is_covered o r) (ap (λ s. set.contains s r) (sym same) ∙ contains_with o r free)) ∙ h)),
-)
+    cc (contains_made (set.insert o r) r, still_uncovered o r h, contains-insert nat_list_cmp_total o r r, tied_itself nat_list_cmp_total r)
 
 pub unchanged_same : (o : Operations) (r : List ℕ) → IsMade o → (changes o r ≡ false) ↔ (with_record o r ≡ o)
 unfolding changes
-unchanged_same o r is = same_by o r (set.contains o r || is_covered o r) is refl
+unchanged_same o r is = (
+  λ e. with_known o r is (grind arith),
+  λ same. grind (arith, contains_with o r, ap (λ s. set.contains s r) same),
+)
 
 -- operations taken one after another make what all together make
 with_made : (o : Operations) (rs : List (List ℕ)) → with_records (content_of o) rs ≡ content_of (fold set.insert o rs)
@@ -143,17 +122,10 @@ pub never_live_again : (o p : Operations) (key : SliceKey) (slice : List ℕ) �
 never_live_again o p key slice retired below live = true≢false (sym (below.retirements (retirement_record key (sha256 slice)) refl retired) ∙ live.kept)
 
 -- of records no more are new than there are
-one_at_most : (changed : Bool) → (if changed then 1 else 0) ≤ 1
-one_at_most true = omega arith
-one_at_most false = omega arith
-
 pub new_within : (o : Operations) (rs : List (List ℕ)) → new_among o rs ≤ length rs
 unfolding new_among
 new_within o [] = omega arith
-new_within o (r ∷ rs) =
-    let one = one_at_most (changes o r) in
-    let more = new_within (with_record o r) rs in
-    omega arith
+new_within o (r ∷ rs) = grind (arith, new_within (with_record o r) rs)
 
 pub new_in_turn : (o : Operations) (r : List ℕ) (rs : List (List ℕ)) → new_among o (r ∷ rs) ≡ (if changes o r then 1 else 0) + new_among (with_record o r) rs
 unfolding new_among
@@ -195,30 +167,17 @@ covers_no_more o r q a = ap (λ b. is_admission q && b) (contains-insert nat_lis
 -- so with one that is not covered a content makes itself
 pub made_with_admission : (o : Operations) (r : List ℕ) → IsMade o → is_admission r ≡ true → is_covered o r ≡ false → IsMade (set.insert o r)
 made_with_admission o r content_of a free = made_of_uncovered (set.insert o r) (λ q h.
-    covers_no_more o r q a
-    ∙ either (is_covered o q ≡ false) (eq_by_cmp (slice_cmp nat_cmp) q r) (set.contains o q)
-    (λ t. ap (is_covered o) (tied_is q r t) ∙ free)
-    (λ there. uncovered_of_made o content_of q there)
-    (sym (contains-insert nat_list_cmp_total o r q) ∙ h))
+    grind (arith, covers_no_more o r q a, tied_is q r, uncovered_of_made o content_of q, contains-insert nat_list_cmp_total o r q))
 
 -- and each one that changes the content brings one member more
 pub len_with : (o : Operations) (r : List ℕ) → IsMade o → is_admission r ≡ true → set.len (with_record o r) ≡ set.len o + (if changes o r then 1 else 0)
-len_with o r content_of a = by_known (set.contains o r || is_covered o r) refl
-  where
-    or_none_left : (x y : Bool) → (x || y) ≡ false → x ≡ false
-    or_none_left true y h = absurd (true≢false h)
-    or_none_left false y h = refl
-
-    or_none_right : (x y : Bool) → (x || y) ≡ false → y ≡ false
-    or_none_right true y h = absurd (true≢false h)
-    or_none_right false y h = h
-
-    by_known : (b : Bool) → (set.contains o r || is_covered o r) ≡ b → set.len (with_record o r) ≡ set.len o + (if changes o r then 1 else 0)
-    by_known true e = ap set.len (with_known o r content_of e) ∙ rw (known_changes o r e) (omega arith)
-    by_known false e =
-        let absent : set.contains o r ≡ false = or_none_left (set.contains o r) (is_covered o r) e in
-        let free : is_covered o r ≡ false = or_none_right (set.contains o r) (is_covered o r) e in
-        ap set.len (made_with_admission o r content_of a free) ∙ set.len-insert nat_list_cmp_total o r ∙ rw (absent, new_changes o r absent free) (omega arith)
+len_with o r content_of a = elim (cases_Bool (set.contains o r || is_covered o r)) [
+  | inl e ↦ ap set.len (with_known o r content_of e) ∙ rw (known_changes o r e) (omega arith)
+  | inr e ↦
+      let parts = or_parts (set.contains o r) (is_covered o r) e in
+      ap set.len (made_with_admission o r content_of a parts.1) ∙ set.len-insert nat_list_cmp_total o r
+      ∙ rw (parts.0, new_changes o r parts.0 parts.1) (omega arith)
+]
 
 pub grown : (o : Operations) (rs : List (List ℕ)) → IsMade o → ((r : List ℕ) → Contains rs r → is_admission r ≡ true) → set.len (with_records o rs) ≡ set.len o + new_among o rs
 grown o [] content_of all = omega (arith, new_of_none o)

@@ -1,14 +1,12 @@
 -- Operations that are told: all of a content that have a fact, in an order.
-use Rattle.std.proofs.Common.{◌≡◌, ◌↔◌, ℕ, Bool, true, false, ◌||◌, List, [], ◌∷◌, map, filter, refl, sym, ap, ◌∙◌, inl, inr, arith, subst}
-use mathlib.Core.Bool.{true≢false}
+use Rattle.std.proofs.Common.{◌≡◌, ◌↔◌, ℕ, Bool, true, false, List, [], ◌∷◌, map, filter, refl, sym, ap, ◌∙◌, arith, subst}
 use Rattle.std.specs.declared.cmp.Ordering.{Ordering}
-use Rattle.std.specs.declared.cmp.Ordering.TheVariants.{Less, Equal, Greater}
 use Rattle.std.specs.Ordering.{nat_cmp, eq_by_cmp, is_eq, on, ordering_then}
-use Rattle.std.specs.Cmp.{IsTotalOrder, Equal-is, tied_itself, nat_cmp_total, on_total, then_total}
+use Rattle.std.specs.Cmp.{IsTotalOrder, nat_cmp_total, on_total, then_total}
 use Rattle.std.specs.Cmp.Lexicographic.{slice_cmp, nat_list_cmp_total, on_texts}
-use Rattle.std.specs.List.{AllByRecursion, Contains, list_any}
+use Rattle.std.specs.List.{AllByRecursion, Contains}
 use Rattle.std.specs.List.Sorted.{IsSorted, IsStrictlySortedBy, IsPermutation}
-use Rattle.std.specs.FinSet.{from_list, contains, contains-from_list}
+use Rattle.std.specs.FinSet.{from_list, contains}
 use Rattle.std.proofs.lemmas.Cmp.{eq_by_cmp_equiv}
 use Rattle.std.proofs.lemmas.List.Elements.{All-from_recursion, All-contains}
 use Rattle.std.proofs.lemmas.List.Kept.{IsStrictlySortedBy-filter}
@@ -24,7 +22,7 @@ use Rattle.archive_core.proofs.Records.{one_operation}
 use Rattle.archive_core.proofs.Words.{live_in_content}
 use Rattle.archive_core.specs.Lists.{list_cmp, IsListed, IsList}
 use Rattle.archive_core.proofs.Made.{bytes_same}
-use Rattle.archive_core.proofs.Members.{in_cons, in_front, in_rest, in_filter, to_filter, ascending_by, distinct_finer, ascending_from_distinct}
+use Rattle.archive_core.proofs.Members.{in_made, in_filter, to_filter, in_map, to_map, ascending_by, distinct_finer, ascending_from_distinct}
 
 -- the order of rows is a total order
 pub find_total : IsTotalOrder find_cmp
@@ -32,9 +30,7 @@ find_total = then_total (on_total (λ operation. (key_in operation).arch) (then_
 
 -- what the second order tells apart is not tied
 pub untied : (r s : Ordering) → is_eq s ≡ false → is_eq (ordering_then r s) ≡ false
-untied Less s h = refl
-untied Equal s h = h
-untied Greater s h = refl
+untied r s h = grind arith
 
 -- operations that the order of rows ties have one record
 pub untied_records : (a b : Operation) → eq_by_cmp (on record_bytes (slice_cmp nat_cmp)) a b ≡ false → eq_by_cmp find_cmp a b ≡ false
@@ -42,32 +38,14 @@ untied_records a b = untied (arch_cmp (key_in a).arch (key_in b).arch) (slice_cm
 
 -- an operation among others has its record among theirs
 pub record_there : (operations : List Operation) (a : Operation) → Contains operations a → contains (from_list {R = slice_cmp nat_cmp} (map record_bytes operations)) (record_bytes a) ≡ true
-record_there operations a h = contains-from_list nat_list_cmp_total (map record_bytes operations) (record_bytes a) ∙ among operations h
-  where
-    or_right : (p q : Bool) → q ≡ true → (p || q) ≡ true
-    or_right true q g = refl
-    or_right false q g = g
-
-    among : (xs : List Operation) → Contains xs a → list_any (eq_by_cmp (slice_cmp nat_cmp) (record_bytes a)) (map record_bytes xs) ≡ true
-    among [] (k, lt, e) = absurd (omega arith)
-    among (x ∷ xs) h = elim (in_cons x xs a h) [
-      | inl e ↦ ap (λ y. (eq_by_cmp (slice_cmp nat_cmp) (record_bytes a) (record_bytes y)) || (list_any (eq_by_cmp (slice_cmp nat_cmp) (record_bytes a)) (map record_bytes xs))) e ∙ ap (λ r. is_eq r || (list_any (eq_by_cmp (slice_cmp nat_cmp) (record_bytes a)) (map record_bytes xs))) (tied_itself nat_list_cmp_total (record_bytes a))
-      | inr there ↦ or_right (eq_by_cmp (slice_cmp nat_cmp) (record_bytes a) (record_bytes x)) _ (among xs there)
-    ]
+record_there operations a h = (in_made nat_list_cmp_total bytes_same (map record_bytes operations) (record_bytes a)).0 (to_map record_bytes operations a h)
 
 -- and where its record is among theirs, it is one of them
 pub operation_there : (operations : List Operation) (a : Operation) → AllByRecursion IsOperation operations → IsOperation a → contains (from_list {R = slice_cmp nat_cmp} (map record_bytes operations)) (record_bytes a) ≡ true → Contains operations a
-operation_there operations a known is_a h = among operations known (sym (contains-from_list nat_list_cmp_total (map record_bytes operations) (record_bytes a)) ∙ h)
-  where
-    among : (xs : List Operation) → AllByRecursion IsOperation xs → list_any (eq_by_cmp (slice_cmp nat_cmp) (record_bytes a)) (map record_bytes xs) ≡ true → Contains xs a
-    among [] all g = absurd (true≢false (sym g))
-    among (x ∷ xs) all g = at (eq_by_cmp (slice_cmp nat_cmp) (record_bytes a) (record_bytes x)) refl g (among xs all.1)
-      where
-        at : (b : Bool) → eq_by_cmp (slice_cmp nat_cmp) (record_bytes a) (record_bytes x) ≡ b → (b || list_any (eq_by_cmp (slice_cmp nat_cmp) (record_bytes a)) (map record_bytes xs)) ≡ true → (list_any (eq_by_cmp (slice_cmp nat_cmp) (record_bytes a)) (map record_bytes xs) ≡ true → Contains xs a) → Contains (x ∷ xs) a
-        at true e _ _ =
-            let same : record_bytes x ≡ record_bytes a = sym (bytes_same (record_bytes a) (record_bytes x) ((Equal-is (slice_cmp nat_cmp (record_bytes a) (record_bytes x))).0 e)) in
-            subst (Contains (x ∷ xs)) (one_operation x a all.0 is_a same) (in_front x xs)
-        at false e rest more = in_rest x xs a (more rest)
+operation_there operations a known is_a h =
+    let found = in_map record_bytes operations (record_bytes a) ((in_made nat_list_cmp_total bytes_same (map record_bytes operations) (record_bytes a)).1 h) in
+    let is_one = All-contains IsOperation operations found.0 (All-from_recursion IsOperation operations known) found.1 in
+    subst (Contains operations) (sym (one_operation a found.0 is_a is_one found.2)) found.1
 
 -- operations that are told: all that have a fact, strictly ascending
 pub record AreTold (R : Operation → Operation → Ordering) (P : Operation → Type 0) (told : List Operation) : Type 0 where
@@ -88,10 +66,9 @@ module _ (o : Operations) (R : Operation → Operation → Ordering) (total : Is
     where
       to : (a : Operation) → Contains told a → IsOperation a × P a
       to a h =
-          let kept = in_filter test operations a (Contains-permutation told (filter test operations) a (IsPermutation-sym (filter test operations) told permuted) h) in (
-            All-contains IsOperation operations a (All-from_recursion IsOperation operations held.are) kept.0,
-            by_test a (All-contains IsOperation operations a (All-from_recursion IsOperation operations held.are) kept.0) (ap (λ s. contains s (record_bytes a)) (sym is) ∙ record_there operations a kept.0) kept.1,
-          )
+          let kept = in_filter test operations a (Contains-permutation told (filter test operations) a (IsPermutation-sym (filter test operations) told permuted) h) in
+          let known = All-contains IsOperation operations a (All-from_recursion IsOperation operations held.are) kept.0 in
+          (known, by_test a known (ap (λ s. contains s (record_bytes a)) (sym is) ∙ record_there operations a kept.0) kept.1)
 
       back : (a : Operation) → IsOperation a × P a → Contains told a
       back a h =

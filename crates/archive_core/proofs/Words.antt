@@ -1,7 +1,6 @@
 -- Contents and their order, in the words of slices.
 use Rattle.std.proofs.Common.{◌≡◌, ℕ, List, true, false, ◌||◌, refl, sym, ap, ◌∙◌, inl, inr}
 use Rattle.std.specs.Prelude.{◌⊎◌}
-use mathlib.Core.Bool.{true≢false}
 use Rattle.std.specs.FinSet.{contains}
 use Rattle.sha2.specs.Sha256.{sha256}
 use Rattle.archive_core.specs.Valid.{key_of, IsValid}
@@ -43,20 +42,18 @@ pub below_of_words : (o p : Operations) → IsContent o
     → ((slice : List ℕ) → IsLive o (key_of slice) slice → IsLive p (key_of slice) slice ⊎ (contains p (retirement_record (key_of slice) (sha256 slice)) ≡ true))
     → IsBelow o p
 below_of_words o p content retired lives = record {
-  retirements = λ r n h. of_retirement r n h (content.records r h);
-  live = λ r a h _. of_admission r a h (content.records r h);
+  retirements = λ r n h. elim (content.records r h) [
+    | inl admits ↦ cc (ap is_admission admits.is)
+    | inr retires ↦ ap (contains p) retires.is ∙ retired retires.key retires.digest (ap (contains o) (sym retires.is) ∙ h)
+  ];
+  live = λ r a h _. elim (content.records r h) [
+    | inl admits ↦
+        ap (λ x. contains p x || contains p (covering x)) admits.is
+        ∙ of_live admits.slice admits.valid (lives admits.slice (live_in_content o admits.slice content admits.valid (ap (contains o) (sym admits.is) ∙ h)))
+    | inr retires ↦ cc (ap is_admission retires.is)
+  ];
 }
   where
-    of_retirement : (r : List ℕ) → is_admission r ≡ false → contains o r ≡ true → IsRecord r → contains p r ≡ true
-    of_retirement r n h (inl admits) = absurd (true≢false (ap is_admission (sym admits.is) ∙ n))
-    of_retirement r n h (inr retires) = ap (contains p) retires.is ∙ retired retires.key retires.digest (ap (contains o) (sym retires.is) ∙ h)
-
     of_live : (slice : List ℕ) → IsValid slice → IsLive p (key_of slice) slice ⊎ (contains p (retirement_record (key_of slice) (sha256 slice)) ≡ true) → (contains p (admission_record slice) || contains p (covering (admission_record slice))) ≡ true
     of_live slice valid (inl live) = or_left _ _ live.admitted
     of_live slice valid (inr covered) = or_right _ _ (ap (contains p) (covering_admission slice valid) ∙ covered)
-
-    of_admission : (r : List ℕ) → is_admission r ≡ true → contains o r ≡ true → IsRecord r → (contains p r || contains p (covering r)) ≡ true
-    of_admission r a h (inl admits) =
-        ap (λ x. contains p x || contains p (covering x)) admits.is
-        ∙ of_live admits.slice admits.valid (lives admits.slice (live_in_content o admits.slice content admits.valid (ap (contains o) (sym admits.is) ∙ h)))
-    of_admission r a h (inr retires) = absurd (true≢false (sym a ∙ ap is_admission retires.is))

@@ -2,11 +2,12 @@
 use Rattle.std.proofs.Common.{◌≡◌, ℕ, true, List, [], ◌∷◌, ◌++◌, length, refl, sym, ap, ◌∙◌, arith}
 use Rattle.std.specs.Ordering.{is_lt}
 use Rattle.std.specs.declared.cmp.Ordering.{Ordering}
-use Rattle.std.specs.declared.cmp.Ordering.TheVariants.{Less, Equal, Greater}
+use Rattle.std.specs.declared.cmp.Ordering.TheVariants.{Less}
 use Rattle.std.specs.Cmp.Lexicographic.{nat_list_cmp_total}
 use Rattle.std.specs.List.{AllByRecursion, concat}
 use Rattle.std.specs.List.Sorted.{IsStrictlySortedBy}
 use Rattle.std.specs.FinSet as set
+use Rattle.std.proofs.lemmas.List.Elements.{All-from_recursion, recursion_from_All, All-weaker}
 use Rattle.join_core.specs.Listing.{listing}
 use Rattle.join_core.proofs.Listing.{any_listing, listed, listing_ascending}
 use Rattle.archive_core.specs.Summary.{Entries}
@@ -18,14 +19,11 @@ use Rattle.archive_index.specs.Index.{AreIndexEntries, AreIndexed}
 use Rattle.archive_index.specs.Text.{AreAscending, IsIndexWhole, index_magic, index_text}
 use Rattle.archive_index.proofs.Kept.{are_listed}
 
-less_is : (o : Ordering) → is_lt o ≡ true → o ≡ Less
-less_is Less e = refl
-less_is Equal e = absurd cc
-less_is Greater e = absurd cc
+along_list : (P Q : List ℕ → Type 0) → ((x : List ℕ) → P x → Q x) → (xs : List (List ℕ)) → AllByRecursion P xs → AllByRecursion Q xs
+along_list P Q f xs h = recursion_from_All Q xs (All-weaker P Q f xs (All-from_recursion P xs h))
 
-all_below : (low x : List ℕ) (xs : List (List ℕ)) → order low x ≡ Less → AllByRecursion (λ y. order x y ≡ Less) xs → AllByRecursion (λ y. order low y ≡ Less) xs
-all_below low x [] e h = tt
-all_below low x (y ∷ ys) e h = (nat_list_cmp_total.trans low x y e h.0, all_below low x ys e h.1)
+less_is : (o : Ordering) → is_lt o ≡ true → o ≡ Less
+less_is o e = grind arith
 
 -- entries that ascend are strictly sorted, and above what they are above
 pub sorted_entries : (low : List ℕ) (xs : List (List ℕ)) → AreAscending low xs → AllByRecursion (λ y. order low y ≡ Less) xs × IsStrictlySortedBy order xs
@@ -34,7 +32,7 @@ sorted_entries low [] a = (tt, tt)
 sorted_entries low (x ∷ xs) a =
     let rest = sorted_entries x xs a.2 in
     let lt = less_is (order low x) a.1 in
-    ((lt, all_below low x xs lt rest.0), rest)
+    ((lt, along_list (λ y. order x y ≡ Less) (λ y. order low y ≡ Less) (λ y. nat_list_cmp_total.trans low x y lt) xs rest.0), rest)
 
 entries_are : (low : List ℕ) (xs : List (List ℕ)) → AreAscending low xs → AllByRecursion IsPlacedEntry xs
 entries_are low [] a = tt
@@ -53,15 +51,11 @@ above_empty : (x : List ℕ) → IsPlacedEntry x → order [] x ≡ Less
 above_empty [] r = absurd (omega (arith, r.long))
 above_empty (b ∷ bs) r = refl
 
-all_above_empty : (xs : List (List ℕ)) → AllByRecursion IsPlacedEntry xs → AllByRecursion (λ y. order [] y ≡ Less) xs
-all_above_empty [] r = tt
-all_above_empty (x ∷ xs) r = (above_empty x r.0, all_above_empty xs r.1)
-
 -- the members of a set of entries ascend
 pub ascending_members : (s : Entries) → AreIndexEntries s → AreAscending [] (listing s)
 ascending_members s are =
     let each : AllByRecursion IsPlacedEntry (listing s) = along IsPlacedEntry (listing s) (λ q e. are q (sym (any_listing nat_list_cmp_total s q) ∙ e)) in
-    ascending_sorted [] (listing s) each (all_above_empty (listing s) each) (listed nat_list_cmp_total bytes_same s).ascending
+    ascending_sorted [] (listing s) each (along_list IsPlacedEntry (λ y. order [] y ≡ Less) above_empty (listing s) each) (listed nat_list_cmp_total bytes_same s).ascending
 
 -- entries that ascend are the members of their set, in their order
 pub listing_is : (xs : List (List ℕ)) → AreAscending [] xs → listing (set.from_list {R = order} xs) ≡ xs

@@ -1,11 +1,10 @@
 -- Entries as values and as bytes.
-use Rattle.std.proofs.Common.{◌≡◌, ℕ, ◌+◌, ◌-◌, ◌<◌, ◌^◌, zero, suc, Bool, true, false, cond, List, [], ◌∷◌, ◌++◌, length, map, take, drop, get_or, refl, sym, ap, ◌∙◌, subst, arith, length-append, length-drop, append_assoc}
+use Rattle.std.proofs.Common.{◌≡◌, ℕ, ◌+◌, ◌-◌, ◌<◌, ◌^◌, zero, suc, Bool, cond, List, [], ◌∷◌, ◌++◌, length, map, take, drop, get_or, refl, sym, ap, ◌∙◌, subst, arith, length-append, length-drop, append_assoc}
 use Rattle.std.specs.Prelude.{slice_set}
-use Rattle.std.specs.Int.{w64, to_be_bytes, from_be_bytes}
+use Rattle.std.specs.Int.{w64, to_be_bytes}
 use Rattle.std.specs.List.{AllByRecursion}
-use Rattle.std.proofs.Math.Seq.{take-append_seam, drop-append_seam, drop-append-add, drop-cons}
+use Rattle.std.proofs.Math.Seq.{drop-cons}
 use Rattle.std.proofs.lemmas.List.{take_all, take-append-drop, drop-drop}
-use Rattle.std.proofs.lemmas.Nat.{from_be_bytes-to_be_bytes_8}
 use borrow.Rule.Slice.PartMut.{put_mid}
 use Rattle.sha2.specs.Sha256.{sha256}
 use Rattle.macho_image.specs.Contents.{is_dsym_image}
@@ -22,6 +21,7 @@ use Rattle.archive_core.proofs.Entries.{admission_entry, retirement_entry, slice
 use Rattle.archive_core.proofs.Heads.{laid_last}
 use Rattle.archive_reading.specs.InnerRows.{IsRowOf}
 use Rattle.archive_index.specs.declared.entry.PlacedEntry.{PlacedEntry}
+use Rattle.archive_index.proofs.Placed.{offset_laid, length_laid}
 use Rattle.archive_index.specs.Entry.{kind_byte, placed_entry, placed_bytes, tag_byte, dsym_byte, length_in, offset_in}
 
 -- ---- laid in place
@@ -36,12 +36,10 @@ laid_place (x ∷ xs) off len k e p q =
 -- ---- the entry of a record's row
 
 tag_of_slice : (b : Bool) → tag_byte (cond b Dsym Image) ≡ 2
-tag_of_slice true = refl
-tag_of_slice false = refl
+tag_of_slice b = grind arith
 
 kind_of_slice : (b : Bool) → dsym_byte (cond b Dsym Image) ≡ cond b 1 0
-kind_of_slice true = refl
-kind_of_slice false = refl
+kind_of_slice b = grind arith
 
 row_entry_of : (a : Operation) → IsOperation a → tag_byte (row_of a).state ∷ (key_bytes (row_of a).key ++ (row_of a).digest.0) ≡ entry (record_bytes a)
 row_entry_of (Admit slice) valid = ap (λ (n : ℕ). n ∷ (key_bytes (key_of slice) ++ sha256 slice)) (tag_of_slice (is_dsym_image slice)) ∙ sym (admission_entry slice valid)
@@ -79,30 +77,21 @@ read_entry bytes e long tag key digest kind offset len = (λ i. (tag i ∷ (key 
 
 -- ---- the length in an entry
 
-pub length_of_bytes : (e : PlacedEntry) → length (placed_bytes e) ≡ 74 → e.length < 2 ^ 64 → length_in (placed_bytes e) ≡ e.length
+front_long : (e : PlacedEntry) → length (placed_bytes e) ≡ 74 → length (tag_byte e.row.state ∷ (key_bytes e.row.key ++ e.row.digest.0)) ≡ 57
 unfolding placed_bytes
-length_of_bytes e long fits =
+front_long e long =
     let front : List ℕ = tag_byte e.row.state ∷ (key_bytes e.row.key ++ e.row.digest.0) in
     let tail : List ℕ = dsym_byte e.row.state ∷ (to_be_bytes w64 e.offset ++ to_be_bytes w64 e.length) in
-    let is : length front ≡ 57 = omega (arith, long, length-append front tail, length-append (to_be_bytes w64 e.offset) (to_be_bytes w64 e.length)) in
-    ap (from_be_bytes w64)
-    (ap (λ (n : ℕ). take 8 (drop (n + 9) (front ++ tail))) (sym is)
-    ∙ ap (take 8) (drop-append-add front tail 9 ∙ drop-append_seam (dsym_byte e.row.state ∷ to_be_bytes w64 e.offset) (to_be_bytes w64 e.length))
-    ∙ take_all 8 (to_be_bytes w64 e.length) (omega arith))
-    ∙ from_be_bytes-to_be_bytes_8 e.length fits
+    omega (arith, long, length-append front tail, length-append (to_be_bytes w64 e.offset) (to_be_bytes w64 e.length))
+
+pub length_of_bytes : (e : PlacedEntry) → length (placed_bytes e) ≡ 74 → e.length < 2 ^ 64 → length_in (placed_bytes e) ≡ e.length
+unfolding placed_bytes
+length_of_bytes e long fits = length_laid (tag_byte e.row.state ∷ (key_bytes e.row.key ++ e.row.digest.0)) (dsym_byte e.row.state) e.offset e.length (front_long e long) fits
 
 -- and the offset
 pub offset_of_bytes : (e : PlacedEntry) → length (placed_bytes e) ≡ 74 → e.offset < 2 ^ 64 → offset_in (placed_bytes e) ≡ e.offset
 unfolding placed_bytes
-offset_of_bytes e long fits =
-    let front : List ℕ = tag_byte e.row.state ∷ (key_bytes e.row.key ++ e.row.digest.0) in
-    let tail : List ℕ = dsym_byte e.row.state ∷ (to_be_bytes w64 e.offset ++ to_be_bytes w64 e.length) in
-    let is : length front ≡ 57 = omega (arith, long, length-append front tail, length-append (to_be_bytes w64 e.offset) (to_be_bytes w64 e.length)) in
-    ap (from_be_bytes w64)
-    (ap (λ (n : ℕ). take 8 (drop (n + 1) (front ++ tail))) (sym is)
-    ∙ ap (take 8) (drop-append-add front tail 1)
-    ∙ take-append_seam (to_be_bytes w64 e.offset) (to_be_bytes w64 e.length))
-    ∙ from_be_bytes-to_be_bytes_8 e.offset fits
+offset_of_bytes e long fits = offset_laid (tag_byte e.row.state ∷ (key_bytes e.row.key ++ e.row.digest.0)) (dsym_byte e.row.state) e.offset e.length (front_long e long) fits
 
 -- what holds of each entry's bytes
 pub each_of : (P : List ℕ → Type 0) (entries : List PlacedEntry) (i : ℕ) (e : PlacedEntry) → AllByRecursion P (map placed_bytes entries) → i < length entries → e ≡ get_or entries i e → P (placed_bytes e)

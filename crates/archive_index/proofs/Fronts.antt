@@ -3,7 +3,6 @@ use Rattle.std.proofs.Common.{◌≡◌, ◌≢◌, ℕ, ◌+◌, ◌<◌, true,
 use Rattle.std.specs.Prelude.{Ok}
 use Rattle.std.specs.Int.{w64, from_be_bytes}
 use Rattle.std.specs.List.{concat}
-use Rattle.std.specs.Str.{bytes_eq}
 use Rattle.std.specs.Ordering.{nat_cmp, is_lt}
 use Rattle.std.specs.Cmp.Lexicographic.{slice_cmp}
 use Rattle.std.proofs.Math.ListN.{get_or-append}
@@ -56,18 +55,12 @@ module _ (e rest : List ℕ) (is : IsPlacedEntry e) where
       rw (le-ltb (length (e ++ rest)) 1 (omega arith), no_end_there, tag_there, le-ltb (length (e ++ rest)) 74 (omega arith), kind_there, length_there, front_is, above) refl
 
 -- the end record of the number is the next where nothing is after it
-same_itself : (xs : List ℕ) → bytes_eq xs xs ≡ true
-same_itself xs = (bytes_eq-Decides xs xs).1 refl
-
 pub end_next : (last : List ℕ) (count : ℕ) → next last count (end_record count) ≡ Ok true
 unfolding next test_end
 end_next last count =
     let nine : length (end_record count) ≡ 9 = length-end_record count in
     let whole : take 9 (end_record count) ≡ end_record count = take_all 9 (end_record count) (omega (arith, nine)) in
-    rw (le-ltb (length (end_record count)) 1 (omega (arith, nine)), end-is_end count, le-ltb (length (end_record count)) 9 (omega (arith, nine)), whole, same_itself (end_record count), le-ltb 9 (length (end_record count)) (omega (arith, nine))) refl
-
-no_entry : true ≡ false → ⊥
-no_entry e = cc
+    rw (le-ltb (length (end_record count)) 1 (omega (arith, nine)), end-is_end count, le-ltb (length (end_record count)) 9 (omega (arith, nine)), whole, (bytes_eq-Decides (end_record count) (end_record count)).1 refl, le-ltb 9 (length (end_record count)) (omega (arith, nine))) refl
 
 -- A text begins with entries, up to where no entry is next, in one way.
 pub one_front : (low : List ℕ) (xs ys : List (List ℕ)) (n m : ℕ) (s r t : List ℕ) → AreAscending low xs → AreAscending low ys → s ≡ concat xs ++ r → s ≡ concat ys ++ t
@@ -80,7 +73,4 @@ one_front low (x ∷ xs) [] n m s r t a b p q u v =
 one_front low (x ∷ xs) (y ∷ ys) n m s r t a b p q u v =
     let parts = same_parts x y (concat xs ++ r) (concat ys ++ t) (a.0.long ∙ sym b.0.long) (sym (append_assoc x (concat xs) r) ∙ sym p ∙ q ∙ append_assoc y (concat ys) t) in
     let rest = one_front x xs ys n m (concat xs ++ r) r t a.2 (subst (λ (l : List ℕ). AreAscending l ys) (sym parts.0) b.2) refl parts.1 u (subst (λ (l : List ℕ). next (last_of l ys) m t ≢ Ok false) (sym parts.0) v) in
-    (both x y xs ys parts.0 rest.0, rest.1)
-  where
-    both : (a b : List ℕ) (rs ss : List (List ℕ)) → a ≡ b → rs ≡ ss → a ∷ rs ≡ b ∷ ss
-    both a b rs ss p q = cc
+    (cc (parts.0, rest.0), rest.1)

@@ -1,60 +1,39 @@
 -- Records that the entries of a content's index name.
-use Rattle.std.proofs.Common.{◌≡◌, ℕ, ◌+◌, ◌<◌, ◌≤◌, ◌^◌, Bool, true, false, ◌||◌, ◌&&◌, List, [], ◌∷◌, ◌++◌, length, take, drop, refl, sym, ap, ◌∙◌, subst, inl, inr, arith, length-append, length-drop, append_assoc}
-use Rattle.std.specs.List.{AllZip, concat, list_any}
-use Rattle.std.specs.Ordering.{eq_by_cmp, is_eq}
+use Rattle.std.proofs.Common.{◌≡◌, ℕ, zero, suc, ◌+◌, ◌<◌, ◌≤◌, ◌^◌, true, ◌&&◌, List, [], ◌∷◌, ◌++◌, length, take, drop, get_or, refl, sym, ap, ◌∙◌, subst, inl, inr, arith, length-append, length-drop, append_assoc}
+use Rattle.std.specs.List.{AllZip, Contains, concat}
 use Rattle.std.specs.Str.{bytes_eq}
-use Rattle.std.specs.Cmp.{Equal-is, tied_itself, both_ways}
+use Rattle.std.specs.Cmp.{both_ways}
 use Rattle.std.specs.Cmp.Lexicographic.{nat_list_cmp_total}
 use Rattle.std.specs.FinSet as set
-use Rattle.std.specs.FinSet.{contains-from_list, contains-retain, same_set}
+use Rattle.std.specs.FinSet.{same_set}
 use Rattle.std.proofs.Math.Seq.{take-append_seam, drop-append_seam}
-use Rattle.std.proofs.lemmas.List.{take-append-le, drop-append-le, take-append-drop}
+use Rattle.std.proofs.lemmas.Bool.{and_parts}
+use Rattle.std.proofs.lemmas.List.Elements.{Contains-get_or, AllZip-get_or, length_all_zip}
+use Rattle.std.proofs.lemmas.List.{take-append-le, drop-append-le, take-append-drop, get_or_default}
 use Rattle.std.specs.Int.{w64, to_be_bytes}
 use Rattle.sha2.specs.Sha256.{sha256}
 use Rattle.join_core.specs.Listing.{listing}
-use Rattle.join_core.proofs.Listing.{any_listing}
-use Rattle.join_core.proofs.Retain.{listing_retain}
 use Rattle.archive_core.specs.Key.{key_bytes}
 use Rattle.archive_core.specs.Valid.{IsValid, key_of}
 use Rattle.archive_core.specs.Record.{IsRecord, admission, admission_record}
 use Rattle.archive_core.specs.Content.{Operations, IsContent, is_admission, content_of}
 use Rattle.archive_core.specs.Part.{is_under, part}
 use Rattle.archive_core.specs.Summary.{Entries, entry}
-use Rattle.archive_core.proofs.Made.{bytes_same, or_left, or_right, and_left, and_right}
+use Rattle.archive_core.proofs.Made.{bytes_same}
+use Rattle.archive_core.proofs.Members.{in_filter, to_filter, in_listing}
 use Rattle.archive_core.proofs.Entries.{entry_tells, retirement_of_entry, admission_entry, retirement_entry, length-entry}
 use Rattle.archive_core.proofs.Records.{length-key_of}
 use Rattle.archive_core.proofs.Picked.{contains_part, part_content}
 use Rattle.archive_records.specs.Kind.{magic}
 use Rattle.archive_records.specs.Text.{written, end_record}
-use Rattle.archive_records.proofs.Contents.{order, containing}
 use Rattle.archive_index.specs.Entry.{placed_entry, length_in, offset_in}
 use Rattle.archive_index.specs.Index.{index, placed_entries}
 use Rattle.archive_index.specs.Places.{IsNamedBy, AreNamed, entries_under, TellsFound}
+use Rattle.archive_index.proofs.Kept.{in_made}
 use Rattle.archive_index.proofs.Placed.{entry_front, length_is, offset_is}
 use Rattle.archive_index.proofs.Sums.{nonempty}
 
-abbrev is_same : List ℕ → List ℕ → Bool
-is_same = eq_by_cmp order
-
-same_is : (r s : List ℕ) → is_same r s ≡ true → r ≡ s
-same_is r s h = bytes_same r s ((Equal-is (order r s)).0 h)
-
-here : (x : List ℕ) (xs : List (List ℕ)) → list_any (is_same x) (x ∷ xs) ≡ true
-here x xs = or_left _ _ (ap is_eq (tied_itself nat_list_cmp_total x))
-
-no_truth : false ≡ true → ⊥
-no_truth e = cc
-
 -- ---- what an entry of an index is of
-
--- a record of these, which stands at its place in the text, and its entry
-record IsPlacedIn (rs : List (List ℕ)) (text e : List ℕ) : Type 0 where
-  r : List ℕ
-  offset : ℕ
-  member : list_any (is_same r) rs ≡ true
-  entry_is : e ≡ placed_entry offset r
-  stands : take (length r) (drop offset text) ≡ r
-  within : offset + length r ≤ length text
 
 stands_there : (front r more text : List ℕ) → text ≡ front ++ (r ++ more) → take (length r) (drop (length front) text) ≡ r
 stands_there front r more text e =
@@ -69,42 +48,21 @@ module _ (text rest : List ℕ) where
   next_text : (front r : List ℕ) (rs : List (List ℕ)) → text ≡ front ++ (concat (r ∷ rs) ++ rest) → text ≡ (front ++ r) ++ (concat rs ++ rest)
   next_text front r rs e = step_text front r rs e ∙ sym (append_assoc front r (concat rs ++ rest))
 
-  abbrev placed_here : (k : ℕ) (front r : List ℕ) (rs : List (List ℕ)) → k ≡ length front → text ≡ front ++ (concat (r ∷ rs) ++ rest) → IsPlacedIn (r ∷ rs) text (placed_entry k r)
-  placed_here k front r rs at e = record {
-    r = r;
-    offset = k;
-    member = here r rs;
-    entry_is = refl;
-    stands = ap (λ (n : ℕ). take (length r) (drop n text)) at ∙ stands_there front r (concat rs ++ rest) text (step_text front r rs e);
-    within = omega (arith, at, ap length (step_text front r rs e), length-append front (r ++ (concat rs ++ rest)), length-append r (concat rs ++ rest));
-  }
+  -- where a record stands, and its entry
+  placed_at : (k : ℕ) (front : List ℕ) (rs : List (List ℕ)) (j : ℕ) → k ≡ length front → text ≡ front ++ (concat rs ++ rest) → j < length rs
+      → (offset : ℕ) × (get_or (placed_entries k rs) j [] ≡ placed_entry offset (get_or rs j [])) × (take (length (get_or rs j [])) (drop offset text) ≡ get_or rs j []) × (offset + length (get_or rs j []) ≤ length text)
+  placed_at k front [] j at whole lt = absurd (omega arith)
+  placed_at k front (r ∷ rs) zero at whole lt = (
+    k,
+    refl,
+    ap (λ (n : ℕ). take (length r) (drop n text)) at ∙ stands_there front r (concat rs ++ rest) text (step_text front r rs whole),
+    omega (arith, at, ap length (step_text front r rs whole), length-append front (r ++ (concat rs ++ rest)), length-append r (concat rs ++ rest)),
+  )
+  placed_at k front (r ∷ rs) (suc j) at whole lt = placed_at (k + length r) (front ++ r) rs j (omega (arith, at, length-append front r)) (next_text front r rs whole) (omega arith)
 
-  placed_later : (r e : List ℕ) (rs : List (List ℕ)) → IsPlacedIn rs text e → IsPlacedIn (r ∷ rs) text e
-  placed_later r e rs p = record { r = p.r; offset = p.offset; member = or_right (is_same p.r r) _ p.member; entry_is = p.entry_is; stands = p.stands; within = p.within }
-
-  from_placed : (k : ℕ) (front e : List ℕ) (rs : List (List ℕ)) → k ≡ length front → text ≡ front ++ (concat rs ++ rest) → list_any (is_same e) (placed_entries k rs) ≡ true → IsPlacedIn rs text e
-  from_placed k front e [] at whole h = absurd (no_truth h)
-  from_placed k front e (r ∷ rs) at whole h =
-      elim (is_same e (placed_entry k r)) as (λ b. is_same e (placed_entry k r) ≡ b → (b || list_any (is_same e) (placed_entries (k + length r) rs)) ≡ true → IsPlacedIn (r ∷ rs) text e) [
-        | true ↦ λ one _. subst (IsPlacedIn (r ∷ rs) text) (sym (same_is e (placed_entry k r) one)) (placed_here k front r rs at whole)
-        | false ↦ λ _ more. placed_later r e rs (from_placed (k + length r) (front ++ r) e rs (omega (arith, at, length-append front r)) (next_text front r rs whole) more)
-      ] refl h
-
-  -- each of the records has an entry
-  to_placed : (k : ℕ) (front q : List ℕ) (rs : List (List ℕ)) → k ≡ length front → text ≡ front ++ (concat rs ++ rest) → list_any (is_same q) rs ≡ true
-      → (e : List ℕ) × (list_any (is_same e) (placed_entries k rs) ≡ true) × (offset : ℕ) × (e ≡ placed_entry offset q) × (take (length q) (drop offset text) ≡ q) × (offset + length q ≤ length text)
-  to_placed k front q [] at whole h = absurd (no_truth h)
-  to_placed k front q (r ∷ rs) at whole h =
-      elim (is_same q r) as (λ b. is_same q r ≡ b → (b || list_any (is_same q) rs) ≡ true
-      → (e : List ℕ) × (list_any (is_same e) (placed_entries k (r ∷ rs)) ≡ true) × (offset : ℕ) × (e ≡ placed_entry offset q) × (take (length q) (drop offset text) ≡ q) × (offset + length q ≤ length text)) [
-        | true ↦ λ one _.
-            let p = placed_here k front r rs at whole in
-            let is : r ≡ q = sym (same_is q r one) in
-            (placed_entry k r, here (placed_entry k r) (placed_entries (k + length r) rs), k, ap (placed_entry k) is, subst (λ (x : List ℕ). take (length x) (drop k text) ≡ x) is p.stands, subst (λ (x : List ℕ). k + length x ≤ length text) is p.within)
-        | false ↦ λ _ more.
-            let found = to_placed (k + length r) (front ++ r) q rs (omega (arith, at, length-append front r)) (next_text front r rs whole) more in
-            (found.0, or_right (is_same found.0 (placed_entry k r)) _ found.1, found.2, found.3, found.4, found.5)
-      ] refl h
+length_placed : (k : ℕ) (rs : List (List ℕ)) → length (placed_entries k rs) ≡ length rs
+length_placed k [] = refl
+length_placed k (r ∷ rs) = ap suc (length_placed (k + length r) rs)
 
 written_is : (o : Operations) → written o ≡ magic ++ (concat (listing o) ++ end_record (set.len o))
 unfolding written
@@ -122,16 +80,29 @@ pub record IsEntryIn (o : Operations) (e : List ℕ) : Type 0 where
 pub entry_in : (o : Operations) (e : List ℕ) → set.contains (index o) e ≡ true → IsEntryIn o e
 unfolding index
 entry_in o e h =
-    let p = from_placed (written o) (end_record (set.len o)) 8 magic e (listing o) refl (written_is o) (sym (contains-from_list nat_list_cmp_total (placed_entries 8 (listing o)) e) ∙ h) in
-    record { r = p.r; offset = p.offset; member = sym (any_listing nat_list_cmp_total o p.r) ∙ p.member; entry_is = p.entry_is; stands = p.stands; within = p.within }
+    let there = (in_made (placed_entries 8 (listing o)) e).1 h in
+    let within : there.0 < length (listing o) = omega (arith, there.1, length_placed 8 (listing o)) in
+    let p = placed_at (written o) (end_record (set.len o)) 8 magic (listing o) there.0 refl (written_is o) within in
+    record {
+      r = get_or (listing o) there.0 [];
+      offset = p.0;
+      member = (in_listing nat_list_cmp_total bytes_same o (get_or (listing o) there.0 [])).0 (Contains-get_or (listing o) there.0 [] within);
+      entry_is = sym there.2 ∙ get_or_default (placed_entries 8 (listing o)) there.0 e [] there.1 ∙ p.1;
+      stands = p.2;
+      within = p.3;
+    }
 
 -- the entry of a record of the content
 pub entry_for : (o : Operations) (r : List ℕ) → set.contains o r ≡ true
     → (e : List ℕ) × (set.contains (index o) e ≡ true) × (offset : ℕ) × (e ≡ placed_entry offset r) × (take (length r) (drop offset (written o)) ≡ r) × (offset + length r ≤ length (written o))
 unfolding index
 entry_for o r h =
-    let p = to_placed (written o) (end_record (set.len o)) 8 magic r (listing o) refl (written_is o) (any_listing nat_list_cmp_total o r ∙ h) in
-    (p.0, contains-from_list nat_list_cmp_total (placed_entries 8 (listing o)) p.0 ∙ p.1, p.2, p.3, p.4, p.5)
+    let there = (in_listing nat_list_cmp_total bytes_same o r).1 h in
+    let es = placed_entries 8 (listing o) in
+    let p = placed_at (written o) (end_record (set.len o)) 8 magic (listing o) there.0 refl (written_is o) there.1 in
+    let is : get_or (listing o) there.0 [] ≡ r = get_or_default (listing o) there.0 [] r there.1 ∙ there.2 in
+    let within : there.0 < length es = omega (arith, there.1, length_placed 8 (listing o)) in
+    (get_or es there.0 [], (in_made es (get_or es there.0 [])).0 (Contains-get_or es there.0 [] within), p.0, p.1 ∙ ap (placed_entry p.0) is, rw is at p.2, rw is at p.3)
 
 -- each names a record that is there
 pub named_there : (o : Operations) (e : List ℕ) → IsContent o → length (written o) < 2 ^ 64 → set.contains (index o) e ≡ true → (r : List ℕ) × IsNamedBy (written o) e r
@@ -166,32 +137,19 @@ own_record o text e r content p n tells =
 
 -- ---- what is named together
 
-zip_left : (P : List ℕ → List ℕ → Type 0) (xs ys : List (List ℕ)) (e : List ℕ) → AllZip P xs ys → list_any (is_same e) xs ≡ true → (y : List ℕ) × (list_any (is_same y) ys ≡ true) × P e y
-zip_left P [] [] e z h = absurd (no_truth h)
-zip_left P [] (y ∷ ys) e z h = absurd z
-zip_left P (x ∷ xs) [] e z h = absurd z
-zip_left P (x ∷ xs) (y ∷ ys) e z h =
-    elim (is_same e x) as (λ b. is_same e x ≡ b → (b || list_any (is_same e) xs) ≡ true → (q : List ℕ) × (list_any (is_same q) (y ∷ ys) ≡ true) × P e q) [
-      | true ↦ λ one _. (y, here y ys, subst (λ (t : List ℕ). P t y) (sym (same_is e x one)) z.0)
-      | false ↦ λ _ more. let found = zip_left P xs ys e z.1 more in (found.0, or_right (is_same found.0 y) _ found.1, found.2)
-    ] refl h
+zip_left : (P : List ℕ → List ℕ → Type 0) (xs ys : List (List ℕ)) (e : List ℕ) → AllZip P xs ys → Contains xs e → (y : List ℕ) × Contains ys y × P e y
+zip_left P xs ys e z (k, lt, is) = (get_or ys k [], Contains-get_or ys k [] (omega (arith, length_all_zip P xs ys z)), subst (λ (x : List ℕ). P x (get_or ys k [])) is (AllZip-get_or P xs ys k e [] z lt))
 
-zip_right : (P : List ℕ → List ℕ → Type 0) (xs ys : List (List ℕ)) (q : List ℕ) → AllZip P xs ys → list_any (is_same q) ys ≡ true → (x : List ℕ) × (list_any (is_same x) xs ≡ true) × P x q
-zip_right P [] [] q z h = absurd (no_truth h)
-zip_right P [] (y ∷ ys) q z h = absurd z
-zip_right P (x ∷ xs) [] q z h = absurd z
-zip_right P (x ∷ xs) (y ∷ ys) q z h =
-    elim (is_same q y) as (λ b. is_same q y ≡ b → (b || list_any (is_same q) ys) ≡ true → (e : List ℕ) × (list_any (is_same e) (x ∷ xs) ≡ true) × P e q) [
-      | true ↦ λ one _. (x, here x xs, subst (λ (t : List ℕ). P x t) (sym (same_is q y one)) z.0)
-      | false ↦ λ _ more. let found = zip_right P xs ys q z.1 more in (found.0, or_right (is_same found.0 x) _ found.1, found.2)
-    ] refl h
+zip_right : (P : List ℕ → List ℕ → Type 0) (xs ys : List (List ℕ)) (q : List ℕ) → AllZip P xs ys → Contains ys q → (x : List ℕ) × Contains xs x × P x q
+zip_right P xs ys q z (k, lt, is) =
+    let within : k < length xs = omega (arith, length_all_zip P xs ys z) in
+    (get_or xs k [], Contains-get_or xs k [] within, subst (P (get_or xs k [])) is (AllZip-get_or P xs ys k [] q z within))
 
 -- an entry under a front
-any_under : (front : List ℕ) (s : Entries) (e : List ℕ) → list_any (is_same e) (entries_under front s) ≡ (set.contains s e && is_under front e)
-any_under front s e =
-    ap (list_any (is_same e)) (sym (listing_retain nat_list_cmp_total bytes_same (is_under front) s))
-    ∙ any_listing nat_list_cmp_total (set.retain s (is_under front)) e
-    ∙ contains-retain s (is_under front) e (λ x t. ap (is_under front) (sym (bytes_same e x t)))
+in_under : (front : List ℕ) (s : Entries) (e : List ℕ) → Contains (entries_under front s) e → (set.contains s e ≡ true) × (is_under front e ≡ true)
+in_under front s e h =
+    let kept = in_filter (is_under front) (listing s) e h in
+    ((in_listing nat_list_cmp_total bytes_same s e).0 kept.0, kept.1)
 
 key_front : (n : ℕ) (slice : List ℕ) → n ≤ 24 → IsValid slice → take n (drop 1 (admission_record slice)) ≡ take n (key_bytes (key_of slice))
 unfolding admission
@@ -221,34 +179,31 @@ under_same front offset r short is = ap (bytes_eq front) (front_same (length fro
 
 module _ (front : List ℕ) (o : Operations) (text : List ℕ) (records : List (List ℕ)) (short : length front ≤ 24) (content : IsContent o)
     (named : AllZip (IsNamedBy text) (entries_under front (index o)) records)
-    (own : (e r : List ℕ) → list_any (is_same r) records ≡ true → (p : IsEntryIn o e) → IsNamedBy text e r → r ≡ p.r) where
-  into_part : (q : List ℕ) → list_any (is_same q) records ≡ true → set.contains (part o (is_under front)) q ≡ true
+    (own : (e r : List ℕ) → Contains records r → (p : IsEntryIn o e) → IsNamedBy text e r → r ≡ p.r) where
+  into_part : (q : List ℕ) → Contains records q → set.contains (part o (is_under front)) q ≡ true
   into_part q h =
       let found = zip_right (IsNamedBy text) (entries_under front (index o)) records q named h in
       let e = found.0 in
-      let there : (set.contains (index o) e && is_under front e) ≡ true = sym (any_under front (index o) e) ∙ found.1 in
-      let p = entry_in o e (and_left _ _ there) in
+      let there = in_under front (index o) e found.1 in
+      let p = entry_in o e there.0 in
       let is : q ≡ p.r = own e q h p found.2 in
-      let under : is_under front q ≡ true = ap (is_under front) is ∙ sym (under_same front p.offset p.r short (content.records p.r p.member)) ∙ ap (is_under front) (sym p.entry_is) ∙ and_right _ _ there in
+      let under : is_under front q ≡ true = ap (is_under front) is ∙ sym (under_same front p.offset p.r short (content.records p.r p.member)) ∙ ap (is_under front) (sym p.entry_is) ∙ there.1 in
       contains_part o (is_under front) q ∙ (λ i. (ap (set.contains o) is ∙ p.member) i && under i)
 
-  from_part : (q : List ℕ) → set.contains (part o (is_under front)) q ≡ true → list_any (is_same q) records ≡ true
+  from_part : (q : List ℕ) → set.contains (part o (is_under front)) q ≡ true → Contains records q
   from_part q h =
-      let both : (set.contains o q && is_under front q) ≡ true = sym (contains_part o (is_under front) q) ∙ h in
-      let member = and_left _ _ both in
-      let isq = content.records q member in
-      let found = entry_for o q member in
+      let both = and_parts (set.contains o q) (is_under front q) (sym (contains_part o (is_under front) q) ∙ h) in
+      let found = entry_for o q both.0 in
       let e = found.0 in
-      let under : is_under front e ≡ true = ap (is_under front) found.3 ∙ under_same front found.2 q short isq ∙ and_right _ _ both in
-      let there : list_any (is_same e) (entries_under front (index o)) ≡ true = any_under front (index o) e ∙ (λ i. found.1 i && under i) in
+      let under : is_under front e ≡ true = ap (is_under front) found.3 ∙ under_same front found.2 q short (content.records q both.0) ∙ both.1 in
+      let there = to_filter (is_under front) (listing (index o)) e ((in_listing nat_list_cmp_total bytes_same (index o) e).1 found.1) under in
       let zipped = zip_left (IsNamedBy text) (entries_under front (index o)) records e named there in
-      let p : IsEntryIn o e = record { r = q; offset = found.2; member = member; entry_is = found.3; stands = found.4; within = found.5 } in
-      let is : zipped.0 ≡ q = own e zipped.0 zipped.1 p zipped.2 in
-      subst (λ (x : List ℕ). list_any (is_same x) records ≡ true) is zipped.1
+      let p : IsEntryIn o e = record { r = q; offset = found.2; member = both.0; entry_is = found.3; stands = found.4; within = found.5 } in
+      subst (Contains records) (own e zipped.0 zipped.1 p zipped.2) zipped.1
 
   pub records_are : set.from_list records ≡ part o (is_under front)
   records_are = same_set nat_list_cmp_total bytes_same (set.from_list records) (part o (is_under front)) (λ q.
-      both_ways _ _ (λ h. into_part q (sym (contains-from_list nat_list_cmp_total records q) ∙ h)) (λ h. contains-from_list nat_list_cmp_total records q ∙ from_part q h))
+      both_ways _ _ (λ h. into_part q ((in_made records q).1 h)) (λ h. (in_made records q).0 (from_part q h)))
 
   pub content_is : content_of (set.from_list records) ≡ part o (is_under front)
   content_is = ap content_of records_are ∙ (part_content o (is_under front) content).itself
@@ -260,4 +215,4 @@ right front o p short content fits n = n.made ∙ content_is front o (written o)
 -- over any text, where digests tell
 pub of_the_index : (front text : List ℕ) (o p : Operations) → length front ≤ 24 → IsContent o → (n : AreNamed front (index o) text p) → TellsFound o n.records → p ≡ part o (is_under front)
 of_the_index front text o p short content n tells = n.made ∙ content_is front o text n.records short content n.named (λ e r there q named.
-    own_record o text e r content q named (λ a b in_o rb same. tells a b in_o (containing n.records (admission_record b) (subst (λ (x : List ℕ). list_any (is_same x) n.records ≡ true) rb there)) same))
+    own_record o text e r content q named (λ a b in_o rb same. tells a b in_o (subst (Contains n.records) rb there) same))

@@ -1,27 +1,18 @@
 -- What comes of reading a whole input as an index.
-use Rattle.std.proofs.Common.{◌≡◌, ◌≢◌, ℕ, List, Option, Some, None, Result, Ok, Err, ◌⊎◌, refl, sym, ◌∙◌, subst, inl, inr}
+use Rattle.std.proofs.Common.{◌≡◌, ◌≢◌, ℕ, List, Option, Some, None, Result, Ok, Err, ◌⊎◌, sym, ◌∙◌, subst, inl, inr, arith}
 use Rattle.std.specs.Prelude.{IfSome, IfOk, IfErr}
 use Rattle.std.specs.Io.KnownBytes.{IsAtEnd}
 use Rattle.archive_core.specs.Summary.{Entries}
 use Rattle.archive_index.specs.declared.fault.IndexFault.{IndexFault}
 use Rattle.archive_index.specs.declared.fault.IndexFaultKind.{IndexFaultKind}
-use Rattle.archive_index.specs.declared.fault.IndexFaultKind.TheVariants.{BadMagic, Truncated, BadTag, BadKind, BadLength, NotAscending, BadCount, Trailing, Device, OutOfMemory}
+use Rattle.archive_index.specs.declared.fault.IndexFaultKind.TheVariants.{Device, OutOfMemory}
 use Rattle.archive_index.specs.Index.{AreIndexEntries}
 use Rattle.archive_index.specs.Text.{IsIndexFault, IsOfIndexMachine, index_text}
 use Rattle.archive_index.specs.Reading.{ReadsIndex}
 use Rattle.archive_index.proofs.Faults.{no_fault}
 
 wanted_or : (kind : IndexFaultKind) → (kind ≡ OutOfMemory) ⊎ (kind ≢ OutOfMemory)
-wanted_or BadMagic = inr (λ e. cc)
-wanted_or Truncated = inr (λ e. cc)
-wanted_or BadTag = inr (λ e. cc)
-wanted_or BadKind = inr (λ e. cc)
-wanted_or BadLength = inr (λ e. cc)
-wanted_or NotAscending = inr (λ e. cc)
-wanted_or BadCount = inr (λ e. cc)
-wanted_or Trailing = inr (λ e. cc)
-wanted_or Device = inr (λ e. cc)
-wanted_or OutOfMemory = inl refl
+wanted_or kind = grind arith
 
 text_of : (a : Option (List ℕ)) (text : List ℕ) (s : Entries) → IfSome a (λ t. text ≡ t) → text ≡ index_text s → IfSome a (λ t. t ≡ index_text s)
 text_of None text s whole is = tt

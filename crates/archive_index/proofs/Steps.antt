@@ -1,5 +1,5 @@
 -- What the tests of what stands next say of it.
-use Rattle.std.proofs.Common.{◌≡◌, ◌≢◌, ℕ, ◌+◌, ◌*◌, ◌<◌, ◌≤◌, Bool, true, false, not, cond, ◌||◌, ◌&&◌, eqb, List, [], ◌∷◌, ◌++◌, length, take, drop, get_or, refl, sym, ap, ◌∙◌, arith, length-append, length-drop, append_assoc, nat_le}
+use Rattle.std.proofs.Common.{◌≡◌, ◌≢◌, ℕ, ◌+◌, ◌*◌, ◌<◌, ◌≤◌, Bool, true, false, not, cond, ◌||◌, ◌&&◌, eqb, List, [], ◌∷◌, ◌++◌, length, take, drop, get_or, refl, sym, ap, ◌∙◌, arith, length-append, append_assoc, nat_le}
 use Rattle.std.specs.Prelude.{Result, Ok, Err, nat_lt}
 use Rattle.std.specs.Int.{w64, from_be_bytes}
 use Rattle.std.specs.List.{concat}
@@ -7,7 +7,7 @@ use Rattle.std.specs.Str.{bytes_eq}
 use Rattle.std.specs.Ordering.{nat_cmp, is_lt}
 use Rattle.std.specs.Cmp.Lexicographic.{slice_cmp}
 use Rattle.std.proofs.lemmas.Bool.{ltb-false}
-use Rattle.std.proofs.lemmas.List.{take_all, length-take-le, take-append-drop, take-append-le, drop-append-le, drop-drop, get_or-take}
+use Rattle.std.proofs.lemmas.List.{take_all, take-take, drop-take, length-take-le, take-append-drop, drop-drop, get_or-take}
 use Rattle.std.proofs.lemmas.Slice.Eq.{bytes_eq-Decides}
 use Rattle.archive_records.specs.Fault.{is_end}
 use Rattle.archive_records.specs.Layout.{largest_slice}
@@ -25,35 +25,16 @@ abbrev pub done : Bool → Result Bool IndexFaultKind
 done end = Ok end
 
 passed : (b : Bool) (kind : IndexFaultKind) (r : Result Bool IndexFaultKind) (x : Bool) → cond b (failed kind) r ≡ done x → (b ≡ false) × (r ≡ done x)
-passed true kind r x e = absurd cc
-passed false kind r x e = (refl, e)
+passed b kind r x e = grind arith
 
-ends_apart : done true ≡ done false → ⊥
-ends_apart e = cc
+-- what the tests of an end record say where none fails
+end_passes : (a b c x : Bool) → cond a (failed Truncated) (cond (not b) (failed BadCount) (cond c (failed Trailing) (done true))) ≡ done x → (b ≡ true) × (c ≡ false) × (x ≡ true)
+end_passes a b c x e = grind arith
 
-not_false : (b : Bool) → not b ≡ false → b ≡ true
-not_false true e = refl
-not_false false e = absurd cc
-
--- no test of an end record answers that an entry is there
-end_no_entry : (count : ℕ) (rest : List ℕ) → test_end count rest ≡ done false → ⊥
-unfolding test_end
-end_no_entry count rest e =
-    let a = passed (nat_lt (length rest) 9) Truncated _ false e in
-    let b = passed (not (bytes_eq (take 9 rest) (end_record count))) BadCount _ false a.1 in
-    let c = passed (nat_lt 9 (length rest)) Trailing (done true) false b.1 in
-    ends_apart c.1
-
--- nor one of an entry that the end record is
-entry_no_end : (last rest : List ℕ) → test_entry last rest ≡ done true → ⊥
-unfolding test_entry
-entry_no_end last rest e =
-    let a = passed (not (has_tag rest)) BadTag _ true e in
-    let b = passed (nat_lt (length rest) 74) Truncated _ true a.1 in
-    let c = passed (not (has_kind rest)) BadKind _ true b.1 in
-    let d = passed (not (has_length rest)) BadLength _ true c.1 in
-    let f = passed (not (is_lt (slice_cmp nat_cmp last (take 74 rest)))) NotAscending (done false) true d.1 in
-    ends_apart (sym f.1)
+-- and those of an entry
+entry_passes : (a b c d f x : Bool) → cond (not a) (failed BadTag) (cond b (failed Truncated) (cond (not c) (failed BadKind) (cond (not d) (failed BadLength) (cond (not f) (failed NotAscending) (done false))))) ≡ done x
+    → (a ≡ true) × (b ≡ false) × (c ≡ true) × (d ≡ true) × (f ≡ true) × (x ≡ false)
+entry_passes a b c d f x e = grind arith
 
 -- an entry is next
 pub record IsNextEntry (last rest : List ℕ) : Type 0 where
@@ -61,44 +42,40 @@ pub record IsNextEntry (last rest : List ℕ) : Type 0 where
   pub is : IsPlacedEntry (take 74 rest)
   pub above : is_lt (slice_cmp nat_cmp last (take 74 rest)) ≡ true
 
-length_part : (rest : List ℕ) → 74 ≤ length rest → take 8 (drop 66 (take 74 rest)) ≡ take 8 (drop 66 rest)
-length_part rest long =
-    let parts : rest ≡ take 74 rest ++ drop 74 rest = sym (take-append-drop 74 rest) in
-    let front : length (take 74 rest) ≡ 74 = length-take-le 74 rest long in
-    sym (ap (λ (t : List ℕ). take 8 (drop 66 t)) parts
-    ∙ ap (take 8) (drop-append-le 66 (take 74 rest) (drop 74 rest) (omega (arith, front)))
-    ∙ take-append-le 8 (drop 66 (take 74 rest)) (drop 74 rest) (omega (arith, front, length-drop 66 (take 74 rest))))
+length_part : (rest : List ℕ) → take 8 (drop 66 (take 74 rest)) ≡ take 8 (drop 66 rest)
+length_part rest = ap (take 8) (drop-take 66 8 rest) ∙ take-take 8 8 (drop 66 rest) (omega arith)
 
 entry_tested : (last rest : List ℕ) → test_entry last rest ≡ done false → IsNextEntry last rest
 unfolding test_entry
 entry_tested last rest e =
-    let a = passed (not (has_tag rest)) BadTag _ false e in
-    let b = passed (nat_lt (length rest) 74) Truncated _ false a.1 in
-    let c = passed (not (has_kind rest)) BadKind _ false b.1 in
-    let d = passed (not (has_length rest)) BadLength _ false c.1 in
-    let f = passed (not (is_lt (slice_cmp nat_cmp last (take 74 rest)))) NotAscending (done false) false d.1 in
-    let long : 74 ≤ length rest = ltb-false (length rest) 74 b.0 in
+    let p = entry_passes (has_tag rest) (nat_lt (length rest) 74) (has_kind rest) (has_length rest) (is_lt (slice_cmp nat_cmp last (take 74 rest))) false e in
+    let long : 74 ≤ length rest = ltb-false (length rest) 74 p.1 in
     let at : (i : ℕ) → i < 74 → get_or (take 74 rest) i 0 ≡ get_or rest i 0 = λ i lt. get_or-take 74 rest i 0 lt in
     let tag = at 0 (omega arith) in
     let kind = at 57 (omega arith) in
-    let part = length_part rest long in
+    let part = length_part rest in
     record {
       long = long;
       is = record {
         long = length-take-le 74 rest long;
-        tag = (λ i. eqb (tag i) 1 || eqb (tag i) 2) ∙ not_false (has_tag rest) a.0;
-        kind = (λ i. eqb (kind i) 0 || (eqb (kind i) 1 && eqb (tag i) 2)) ∙ not_false (has_kind rest) c.0;
-        length_is = (λ i. let n : ℕ = from_be_bytes w64 (part i) in cond (eqb (tag i) 2) (nat_le 33 n && nat_le n (33 + largest_slice)) (eqb n 57)) ∙ not_false (has_length rest) d.0;
+        tag = (λ i. eqb (tag i) 1 || eqb (tag i) 2) ∙ p.0;
+        kind = (λ i. eqb (kind i) 0 || (eqb (kind i) 1 && eqb (tag i) 2)) ∙ p.2;
+        length_is = (λ i. let n : ℕ = from_be_bytes w64 (part i) in cond (eqb (tag i) 2) (nat_le 33 n && nat_le n (33 + largest_slice)) (eqb n 57)) ∙ p.3;
       };
-      above = not_false (is_lt (slice_cmp nat_cmp last (take 74 rest))) f.0;
+      above = p.4;
     }
+
+-- no test of an end record answers that an entry is there
+no_entry : (count : ℕ) (rest : List ℕ) → test_end count rest ≡ done false → ⊥
+unfolding test_end
+no_entry count rest e = cc ((end_passes (nat_lt (length rest) 9) (bytes_eq (take 9 rest) (end_record count)) (nat_lt 9 (length rest)) false e).2)
 
 pub next_entry : (last : List ℕ) (count : ℕ) (rest : List ℕ) → next last count rest ≡ done false → IsNextEntry last rest
 unfolding next
 next_entry last count rest e =
     let a = passed (nat_lt (length rest) 1) Truncated _ false e in
     elim (is_end rest) as (λ b. cond b (test_end count rest) (test_entry last rest) ≡ done false → IsNextEntry last rest) [
-      | true ↦ λ h. absurd (end_no_entry count rest h)
+      | true ↦ λ h. absurd (no_entry count rest h)
       | false ↦ λ h. entry_tested last rest h
     ] a.1
 
@@ -106,10 +83,13 @@ next_entry last count rest e =
 end_tested : (count : ℕ) (rest : List ℕ) → test_end count rest ≡ done true → rest ≡ end_record count
 unfolding test_end
 end_tested count rest e =
-    let a = passed (nat_lt (length rest) 9) Truncated _ true e in
-    let b = passed (not (bytes_eq (take 9 rest) (end_record count))) BadCount _ true a.1 in
-    let c = passed (nat_lt 9 (length rest)) Trailing (done true) true b.1 in
-    sym (take_all 9 rest (ltb-false 9 (length rest) c.0)) ∙ (bytes_eq-Decides (take 9 rest) (end_record count)).0 (not_false (bytes_eq (take 9 rest) (end_record count)) b.0)
+    let p = end_passes (nat_lt (length rest) 9) (bytes_eq (take 9 rest) (end_record count)) (nat_lt 9 (length rest)) true e in
+    sym (take_all 9 rest (ltb-false 9 (length rest) p.1)) ∙ (bytes_eq-Decides (take 9 rest) (end_record count)).0 p.0
+
+-- nor one of an entry that the end record is
+no_end : (last rest : List ℕ) → test_entry last rest ≡ done true → ⊥
+unfolding test_entry
+no_end last rest e = cc ((entry_passes (has_tag rest) (nat_lt (length rest) 74) (has_kind rest) (has_length rest) (is_lt (slice_cmp nat_cmp last (take 74 rest))) true e).5)
 
 pub next_end : (last : List ℕ) (count : ℕ) (rest : List ℕ) → next last count rest ≡ done true → rest ≡ end_record count
 unfolding next
@@ -117,21 +97,18 @@ next_end last count rest e =
     let a = passed (nat_lt (length rest) 1) Truncated _ true e in
     elim (is_end rest) as (λ b. cond b (test_end count rest) (test_entry last rest) ≡ done true → rest ≡ end_record count) [
       | true ↦ λ h. end_tested count rest h
-      | false ↦ λ h. absurd (entry_no_end last rest h)
+      | false ↦ λ h. absurd (no_end last rest h)
     ] a.1
 
 -- no test blames the machine
 abbrev pub IsOfTests : Result Bool IndexFaultKind → Type 0
 IsOfTests r = (kind : IndexFaultKind) → r ≡ failed kind → (kind ≢ Device) × (kind ≢ OutOfMemory)
 
-same_kind : (k l : IndexFaultKind) → failed k ≡ failed l → k ≡ l
-same_kind k l e = cc
-
 of_done : (b : Bool) → IsOfTests (done b)
 of_done b kind e = absurd cc
 
 of_cond : (b : Bool) (kind : IndexFaultKind) (r : Result Bool IndexFaultKind) → (kind ≢ Device) × (kind ≢ OutOfMemory) → IsOfTests r → IsOfTests (cond b (failed kind) r)
-of_cond true kind r known rest = λ other e. (λ h. known.0 (same_kind kind other e ∙ h), λ h. known.1 (same_kind kind other e ∙ h))
+of_cond true kind r known rest = λ other e. (λ h. known.0 cc, λ h. known.1 cc)
 of_cond false kind r known rest = rest
 
 pub of_tests : (last : List ℕ) (count : ℕ) (rest : List ℕ) → IsOfTests (next last count rest)

@@ -3,15 +3,17 @@ use Rattle.std.proofs.Common.{◌≡◌, ℕ, ◌+◌, ◌<◌, ◌^◌, Bool, t
 use Rattle.std.specs.List.{sum_by, concat, list_any}
 use Rattle.std.specs.Ordering.{eq_by_cmp, is_eq, match_ordering}
 use Rattle.std.specs.declared.cmp.Ordering.TheVariants.{Less, Equal, Greater}
-use Rattle.std.specs.Cmp.{Equal-is, alike_right}
+use Rattle.std.specs.Cmp.{alike_right}
 use Rattle.std.specs.Cmp.Lexicographic.{nat_list_cmp_total}
 use Rattle.std.specs.FinSet as set
 use Rattle.std.specs.FinSet.{contains-from_list, same_set}
+use Rattle.std.proofs.Math.Bool.{or_self_left}
 use Rattle.std.proofs.lemmas.List.Sums.{sum_by-cons}
 use Rattle.join_core.specs.Listing.{listing, put, ascending_of}
 use Rattle.join_core.proofs.Listing.{ascending_ascending_of, one_listing}
 use Rattle.archive_core.specs.Record.{IsRecord}
 use Rattle.archive_core.specs.Content.{Operations, IsContent}
+use Rattle.archive_core.proofs.Taken.{tied_is}
 use Rattle.archive_records.specs.declared.format.Format.TheVariants.{Archive}
 use Rattle.archive_records.specs.Text.{InOrder, written, end_record}
 use Rattle.archive_records.specs.Kind.{magic}
@@ -25,21 +27,12 @@ use Rattle.archive_index.proofs.Placed.{length_is, offset_is}
 abbrev is_same : List ℕ → List ℕ → Bool
 is_same = eq_by_cmp order
 
-swap : (a b c : Bool) → (a || (b || c)) ≡ (b || (a || c))
-swap true true c = refl
-swap true false c = refl
-swap false b c = refl
-
-twice : (a c : Bool) → (a || c) ≡ (a || (a || c))
-twice true c = refl
-twice false c = refl
-
 any_put : (q k : List ℕ) (xs : List (List ℕ)) → list_any (is_same q) (put order k xs) ≡ (is_same q k || list_any (is_same q) xs)
 any_put q k [] = refl
 any_put q k (x ∷ xs) = elim (order k x) as (λ r. order k x ≡ r → list_any (is_same q) (match_ordering r (k ∷ x ∷ xs) (x ∷ xs) (x ∷ put order k xs)) ≡ (is_same q k || (is_same q x || list_any (is_same q) xs))) [
   | Less ↦ λ _. refl
-  | Equal ↦ λ e. twice (is_same q x) _ ∙ ap (λ r. is_eq r || (is_same q x || list_any (is_same q) xs)) (sym (alike_right nat_list_cmp_total k x q e))
-  | Greater ↦ λ _. ap (λ b. is_same q x || b) (any_put q k xs) ∙ swap (is_same q x) (is_same q k) (list_any (is_same q) xs)
+  | Equal ↦ λ e. cc (alike_right nat_list_cmp_total k x q e, or_self_left (is_same q x) (list_any (is_same q) xs))
+  | Greater ↦ λ _. grind (arith, any_put q k xs)
 ] refl
 
 any_ascending_of : (q : List ℕ) (ks : List (List ℕ)) → list_any (is_same q) (ascending_of order ks) ≡ list_any (is_same q) ks
@@ -58,14 +51,11 @@ sum_put : (f : List ℕ → ℕ) (k : List ℕ) (xs : List (List ℕ)) → list_
 sum_put f k [] none = sum_by-cons f k []
 sum_put f k (x ∷ xs) none = elim (order k x) as (λ r. order k x ≡ r → sum_by f (match_ordering r (k ∷ x ∷ xs) (x ∷ xs) (x ∷ put order k xs)) ≡ f k + sum_by f (x ∷ xs)) [
   | Less ↦ λ _. sum_by-cons f k (x ∷ xs)
-  | Equal ↦ λ e. absurd (true_false (sym (ap (λ r. is_eq r || list_any (is_same k) xs) e) ∙ none))
+  | Equal ↦ λ e. cc
   | Greater ↦ λ e.
       let rest : sum_by f (put order k xs) ≡ f k + sum_by f xs = sum_put f k xs (sym (ap (λ r. is_eq r || list_any (is_same k) xs) e) ∙ none) in
       omega (arith, sum_by-cons f x (put order k xs), sum_by-cons f x xs, rest)
 ] refl
-  where
-    true_false : true ≡ false → ⊥
-    true_false e = cc
 
 -- keys of which none comes twice
 abbrev AreApart : List (List ℕ) → Type 0
@@ -80,14 +70,8 @@ sum_ascending f (x ∷ xs) a =
 -- ---- entries of records at places
 
 pub nonempty : (r : List ℕ) → IsRecord r → 0 < length r
-nonempty [] (inl a) = absurd (empty a.is)
-  where
-    empty : {x : ℕ} {xs : List ℕ} → [] ≡ x ∷ xs → ⊥
-    empty e = cc
-nonempty [] (inr b) = absurd (empty b.is)
-  where
-    empty : {x : ℕ} {xs : List ℕ} → [] ≡ x ∷ xs → ⊥
-    empty e = cc
+nonempty [] (inl a) = cc (a.is)
+nonempty [] (inr b) = cc (b.is)
 nonempty (x ∷ r) is = omega arith
 
 -- those behind a place are of other places
@@ -96,8 +80,7 @@ others low k j r [] is a lt fits = refl
 others low k j r (x ∷ rs) is a lt fits =
     elim (is_same (placed_entry k r) (placed_entry j x)) as (λ b. is_same (placed_entry k r) (placed_entry j x) ≡ b → (b || list_any (is_same (placed_entry k r)) (placed_entries (j + length x) rs)) ≡ false) [
       | true ↦ λ e.
-          let same : placed_entry k r ≡ placed_entry j x = bytes_same (placed_entry k r) (placed_entry j x) ((Equal-is (order (placed_entry k r) (placed_entry j x))).0 e) in
-          absurd (omega (arith, offset_is k r is (omega (arith, length-append x (concat rs))), offset_is j x a.0 (omega (arith, length-append x (concat rs))), ap offset_in same))
+          absurd (omega (arith, offset_is k r is (omega (arith, length-append x (concat rs))), offset_is j x a.0 (omega (arith, length-append x (concat rs))), ap offset_in (tied_is (placed_entry k r) (placed_entry j x) e)))
       | false ↦ λ _. others x k (j + length x) r rs is a.2 (omega arith) (omega (arith, length-append x (concat rs)))
     ] refl
 

@@ -1,6 +1,6 @@
 -- Each finite set has one ascending list of its members.
-use Rattle.std.proofs.Common.{◌≡◌, Bool, true, false, ◌||◌, List, [], ◌∷◌, length, refl, sym, ap, ◌∙◌}
-use mathlib.Core.Bool.{true≢false}
+use Rattle.std.proofs.Common.{◌≡◌, true, false, ◌||◌, List, [], ◌∷◌, length, refl, sym, ap, ◌∙◌, arith}
+use Rattle.std.proofs.Math.Bool.{or_self_left}
 use Rattle.std.specs.declared.cmp.Ordering.{Ordering}
 use Rattle.std.specs.declared.cmp.Ordering.TheVariants.{Less, Equal, Greater}
 use Rattle.std.specs.Ordering.{eq_by_cmp, is_eq, ordering_reverse, match_ordering}
@@ -10,12 +10,7 @@ use Rattle.std.specs.List.Sorted.{IsStrictlySortedBy}
 use Rattle.std.specs.FinSet as set
 use Rattle.std.specs.FinSet.{FinSet, from_list, contains, items, IsAntisymmetric, contains-from_list, contains-items, same_set}
 use Rattle.join_core.specs.Listing.{IsListing, put, ascending_of, listing}
-use Rattle.join_core.proofs.Place.{none_tied, len_listed}
-
--- what follows from a fact at each key follows along a list
-along : {K : Type 0} (P Q : K → Type 0) → ((x : K) → P x → Q x) → (xs : List K) → AllByRecursion P xs → AllByRecursion Q xs
-along P Q f [] h = tt
-along P Q f (x ∷ xs) h = (f x h.0, along P Q f xs h.1)
+use Rattle.join_core.proofs.Place.{along, none_tied, len_listed}
 
 module _ {K : Type 0} {R : K → K → Ordering} (o : IsTotalOrder R) where
   along_put : (P : K → Type 0) (k : K) (xs : List K) → P k → AllByRecursion P xs → AllByRecursion P (put R k xs)
@@ -42,22 +37,13 @@ module _ {K : Type 0} {R : K → K → Ordering} (o : IsTotalOrder R) where
   ascending_ascending_of [] = tt
   ascending_ascending_of (k ∷ ks) = ascending_put k (ascending_of R ks) (ascending_ascending_of ks)
 
-  swap : (a b c : Bool) → (a || (b || c)) ≡ (b || (a || c))
-  swap true true c = refl
-  swap true false c = refl
-  swap false b c = refl
-
-  twice : (a c : Bool) → (a || c) ≡ (a || (a || c))
-  twice true c = refl
-  twice false c = refl
-
   -- with the same members, and the key
   any_put : (q k : K) (xs : List K) → list_any (eq_by_cmp R q) (put R k xs) ≡ (eq_by_cmp R q k || list_any (eq_by_cmp R q) xs)
   any_put q k [] = refl
   any_put q k (x ∷ xs) = elim (R k x) as (λ r. R k x ≡ r → list_any (eq_by_cmp R q) (match_ordering r (k ∷ x ∷ xs) (x ∷ xs) (x ∷ put R k xs)) ≡ (eq_by_cmp R q k || (eq_by_cmp R q x || list_any (eq_by_cmp R q) xs))) [
     | Less ↦ λ _. refl
-    | Equal ↦ λ e. twice (eq_by_cmp R q x) _ ∙ ap (λ r. is_eq r || (eq_by_cmp R q x || list_any (eq_by_cmp R q) xs)) (sym (alike_right o k x q e))
-    | Greater ↦ λ _. ap (λ b. eq_by_cmp R q x || b) (any_put q k xs) ∙ swap (eq_by_cmp R q x) (eq_by_cmp R q k) (list_any (eq_by_cmp R q) xs)
+    | Equal ↦ λ e. cc (alike_right o k x q e, or_self_left (eq_by_cmp R q x) (list_any (eq_by_cmp R q) xs))
+    | Greater ↦ λ _. grind (arith, any_put q k xs)
   ] refl
 
   any_ascending_of : (q : K) (ks : List K) → list_any (eq_by_cmp R q) (ascending_of R ks) ≡ list_any (eq_by_cmp R q) ks
@@ -88,10 +74,10 @@ module _ {K : Type 0} {R : K → K → Ordering} (o : IsTotalOrder R) where
     pub one_ascending : (xs ys : List K) → IsStrictlySortedBy R xs → IsStrictlySortedBy R ys → ((q : K) → list_any (eq_by_cmp R q) xs ≡ list_any (eq_by_cmp R q) ys) → xs ≡ ys
     unfolding IsStrictlySortedBy
     one_ascending [] [] a b e = refl
-    one_ascending [] (y ∷ ys) a b e = absurd (true≢false (sym (e y ∙ itself y ys)))
-    one_ascending (x ∷ xs) [] a b e = absurd (true≢false (sym (sym (e x) ∙ itself x xs)))
+    one_ascending [] (y ∷ ys) a b e = cc (e y, itself y ys)
+    one_ascending (x ∷ xs) [] a b e = cc (e x, itself x xs)
     one_ascending (x ∷ xs) (y ∷ ys) a b e = elim (R x y) as (λ r. R x y ≡ r → x ∷ xs ≡ y ∷ ys) [
-      | Less ↦ λ l. absurd (true≢false (sym (itself x xs) ∙ e x ∙ first_none x y ys l b.0))
+      | Less ↦ λ l. cc (itself x xs, e x, first_none x y ys l b.0)
       | Equal ↦ λ t.
           let head : x ≡ y = same x y t in
           let rest : (q : K) → list_any (eq_by_cmp R q) xs ≡ list_any (eq_by_cmp R q) ys = λ q.
@@ -103,7 +89,7 @@ module _ {K : Type 0} {R : K → K → Ordering} (o : IsTotalOrder R) where
                 sym (ap (λ c. c || list_any (eq_by_cmp R q) xs) h) ∙ e q ∙ ap (λ c. c || list_any (eq_by_cmp R q) ys) (ap (eq_by_cmp R q) (sym head) ∙ h)
           ] refl in
           λ i. head i ∷ one_ascending xs ys a.1 b.1 rest i
-      | Greater ↦ λ g. absurd (true≢false (sym (itself y ys) ∙ sym (e y) ∙ first_none y x xs (o.antisymm y x ∙ ap ordering_reverse g) a.0))
+      | Greater ↦ λ g. cc (itself y ys, e y, first_none y x xs (o.antisymm y x ∙ ap ordering_reverse g) a.0)
     ] refl
 
     -- a set has no listing but this one

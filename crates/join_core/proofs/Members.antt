@@ -1,18 +1,13 @@
 -- Sets that are made of lists: neither order nor repeats count.
-use Rattle.std.proofs.Common.{◌≡◌, Bool, true, false, ◌||◌, List, [], ◌∷◌, refl, sym, ap, ◌∙◌, ◌↔◌}
+use Rattle.std.proofs.Common.{◌≡◌, true, List, [], ◌∷◌, sym, ◌∙◌, ◌↔◌, arith}
 use Rattle.std.specs.declared.cmp.Ordering.{Ordering}
 use Rattle.std.specs.Ordering.{eq_by_cmp}
 use Rattle.std.specs.Cmp.{IsTotalOrder, Equal-is, both_ways}
 use Rattle.std.specs.List.{Contains, fold}
-use Rattle.std.specs.FinSet.{FinSet, from_list, contains, insert, union, IsAntisymmetric, contains-from_list, contains-insert, contains-union, same_set}
+use Rattle.std.specs.FinSet.{FinSet, from_list, insert, union, IsAntisymmetric, contains-from_list, contains-insert, contains-union, same_set}
 use Rattle.std.proofs.lemmas.Cmp.{eq_by_cmp_equiv}
 use Rattle.std.proofs.lemmas.Map.Views.{list_any-from_Contains, Contains-from_any}
 use Rattle.join_core.proofs.Subset.{union_empty}
-
-shifted : (a b c : Bool) → ((a || b) || c) ≡ (b || (a || c))
-shifted true true c = refl
-shifted true false c = refl
-shifted false b c = refl
 
 module _ {K : Type 0} {R : K → K → Ordering} (o : IsTotalOrder R) (same : IsAntisymmetric R) where
   -- keys that the order ties are one
@@ -29,10 +24,7 @@ module _ {K : Type 0} {R : K → K → Ordering} (o : IsTotalOrder R) (same : Is
   -- a key goes into either part of a union
   union_either : (s t : FinSet R) (k : K) → union (insert s k) t ≡ union s (insert t k)
   union_either s t k = same_set o same _ _ (λ q.
-      contains-union o (insert s k) t q
-      ∙ ap (λ b. b || contains t q) (contains-insert o s k q)
-      ∙ shifted (eq_by_cmp R q k) (contains s q) (contains t q)
-      ∙ sym (contains-union o s (insert t k) q ∙ ap (λ b. contains s q || b) (contains-insert o t k q)))
+      grind (arith, contains-union o (insert s k) t q, contains-insert o s k q, contains-union o s (insert t k) q, contains-insert o t k q))
 
   -- putting in keys, one after another, gives the union with their set
   pub inserts_are_union : (s : FinSet R) (ks : List K) → fold insert s ks ≡ union s (from_list ks)

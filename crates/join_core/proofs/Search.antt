@@ -16,12 +16,7 @@ use Rattle.std.proofs.lemmas.List.{get_or-map, get_or_default}
 use Rattle.std.proofs.lemmas.Bool.Decides.{nat_tests}
 use Rattle.std.proofs.Math.ListN.{get_or-map as get_or-map_at, length-map}
 use Rattle.std.specs.List.Sorted.{IsNonDecreasingBy}
-use Rattle.join_core.proofs.Place.{along_take, along_drop, ascending_insert}
-
--- what follows from a fact at each key follows along a list
-map_along : {K : Type 0} (P Q : K → Type 0) → ((x : K) → P x → Q x) → (xs : List K) → AllByRecursion P xs → AllByRecursion Q xs
-map_along P Q f [] h = tt
-map_along P Q f (x ∷ xs) h = (f x h.0, map_along P Q f xs h.1)
+use Rattle.join_core.proofs.Place.{along, along_take, along_drop, ascending_insert}
 
 -- no key passes a test that each fails
 none : {K : Type 0} (p : K → Bool) (xs : List K) → AllByRecursion (λ x. p x ≡ false) xs → list_any p xs ≡ false
@@ -31,9 +26,6 @@ none p (x ∷ xs) h = ap (λ b. b || list_any p xs) h.0 ∙ none p xs h.1
 module _ {K : Type 0} {R : K → K → Ordering} (o : IsTotalOrder R) where
   turned : (x y : K) → R x y ≡ Less → R y x ≡ Greater
   turned x y h = o.antisymm y x ∙ ap ordering_reverse h
-
-  turned_back : (x y : K) → R x y ≡ Greater → R y x ≡ Less
-  turned_back x y h = o.antisymm y x ∙ ap ordering_reverse h
 
   sorted_by : (ks : List K) → IsStrictlySortedBy R ks → IsSortedBy (λ x y. is_lt (R x y)) ks
   sorted_by ks h i d _ lt = ap is_lt (turned _ _ (Less-from_sorted R ks i (i + 1) d h (omega arith) lt))
@@ -47,7 +39,7 @@ module _ {K : Type 0} {R : K → K → Ordering} (o : IsTotalOrder R) where
   searched ks k (Err i) up le parted =
       let parts = parted (searchable_from_sorted o (λ x. x) ks k (sorted_by ks up)) in
       let before : AllByRecursion (λ x. R x k ≡ Less) (take i ks) = along_take (λ x. R x k ≡ Less) ks i (λ j d lt _. parts.0 j d (omega arith) lt) in
-      let after : AllByRecursion (λ x. R k x ≡ Less) (drop i ks) = along_drop (λ x. R k x ≡ Less) ks i (λ j d ge lt. turned_back _ k (parts.1 j d ge lt)) in
+      let after : AllByRecursion (λ x. R k x ≡ Less) (drop i ks) = along_drop (λ x. R k x ≡ Less) ks i (λ j d ge lt. o.antisymm k _ ∙ ap ordering_reverse (parts.1 j d ge lt)) in
       record {
         present = tt;
         absent = record {
@@ -56,8 +48,8 @@ module _ {K : Type 0} {R : K → K → Ordering} (o : IsTotalOrder R) where
               contains-from_list o ks k
               ∙ ap (list_any (eq_by_cmp R k)) (sym (take-append-drop i ks))
               ∙ list_any-append (eq_by_cmp R k) (take i ks) (drop i ks)
-              ∙ (λ t. none (eq_by_cmp R k) (take i ks) (map_along _ (λ x. eq_by_cmp R k x ≡ false) (λ x h. ap is_eq (turned x k h)) (take i ks) before) t
-              || none (eq_by_cmp R k) (drop i ks) (map_along _ (λ x. eq_by_cmp R k x ≡ false) (λ x h. ap is_eq h) (drop i ks) after) t);
+              ∙ (λ t. none (eq_by_cmp R k) (take i ks) (along _ (λ x. eq_by_cmp R k x ≡ false) (λ x h. ap is_eq (turned x k h)) (take i ks) before) t
+              || none (eq_by_cmp R k) (drop i ks) (along _ (λ x. eq_by_cmp R k x ≡ false) (λ x h. ap is_eq h) (drop i ks) after) t);
         };
       }
 

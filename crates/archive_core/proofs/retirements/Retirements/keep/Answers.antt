@@ -11,8 +11,8 @@ use Rattle.archive_core.proofs.retirements.Retirements.keep.Goals as goal
 -- among those that ascend
 pub returns-in_default-clause-kept : goal.returns-in_default-clause-kept
 returns-in_default-clause-kept c =
-    let here = in_first c.self.inside.ascending.items c.self.inside.others.keys c.args.self.now c.args.retirement c.self.view_is (rw c.deref.ensures.value at c.in_default.ensures.found.present) in
-    sym (insert_present nat_list_cmp_total bytes_same (set.from_list c.args.self.now) c.args.retirement here)
+    sym (insert_present nat_list_cmp_total bytes_same (set.from_list c.args.self.now) c.args.retirement
+    (in_first c.self.inside.ascending.items c.self.inside.others.keys c.args.self.now c.args.retirement c.self.view_is (rw c.deref.ensures.value at c.in_default.ensures.found.present)))
 
 pub returns-in_default-clause-first : goal.returns-in_default-clause-first
 returns-in_default-clause-first c =
@@ -28,22 +28,19 @@ returns-then-at-len-clause-kept c =
 pub returns-then-at-len-clause-first : goal.returns-then-at-len-clause-first
 returns-then-at-len-clause-first c =
     let keys = c.self.inside.others.keys in
-    let none = rw c.deref.ensures.value at c.in-Err.ensures.found.absent.absent in
-    c.in_ok-insert.ensures.added ∙ ap not (held_by keys c.args.retirement ∙ sym (in_second c.self.inside.ascending.items keys c.args.self.now c.args.retirement c.self.view_is none))
+    c.in_ok-insert.ensures.added ∙ ap not (held_by keys c.args.retirement ∙ sym (in_second c.self.inside.ascending.items keys c.args.self.now c.args.retirement c.self.view_is (rw c.deref.ensures.value at c.in-Err.ensures.found.absent.absent)))
 
 -- above them, and among the others
 pub returns-then-contains-clause-kept : goal.returns-then-contains-clause-kept
 returns-then-contains-clause-kept c =
     let keys = c.self.inside.others.keys in
-    let none = rw c.deref.ensures.value at c.in-Err.ensures.found.absent.absent in
-    let here = in_second c.self.inside.ascending.items keys c.args.self.now c.args.retirement c.self.view_is none ∙ sym (held_by keys c.args.retirement) ∙ sym c.contains.ensures ∙ c.if-contains.true in
+    let here = in_second c.self.inside.ascending.items keys c.args.self.now c.args.retirement c.self.view_is (rw c.deref.ensures.value at c.in-Err.ensures.found.absent.absent) ∙ sym (held_by keys c.args.retirement) ∙ sym c.contains.ensures ∙ c.if-contains.true in
     sym (insert_present nat_list_cmp_total bytes_same (set.from_list c.args.self.now) c.args.retirement here)
 
 pub returns-then-contains-clause-first : goal.returns-then-contains-clause-first
 returns-then-contains-clause-first c =
     let keys = c.self.inside.others.keys in
-    let none = rw c.deref.ensures.value at c.in-Err.ensures.found.absent.absent in
-    sym (ap not (in_second c.self.inside.ascending.items keys c.args.self.now c.args.retirement c.self.view_is none ∙ sym (held_by keys c.args.retirement) ∙ sym c.contains.ensures ∙ c.if-contains.true))
+    sym (ap not (in_second c.self.inside.ascending.items keys c.args.self.now c.args.retirement c.self.view_is (rw c.deref.ensures.value at c.in-Err.ensures.found.absent.absent) ∙ sym (held_by keys c.args.retirement) ∙ sym c.contains.ensures ∙ c.if-contains.true))
 
 -- above them, and new
 pub returns-clause-kept : goal.returns-clause-kept
@@ -57,5 +54,4 @@ returns-clause-kept c =
 pub returns-clause-first : goal.returns-clause-first
 returns-clause-first c =
     let keys = c.self.inside.others.keys in
-    let none = rw c.deref.ensures.value at c.in-Err.ensures.found.absent.absent in
-    sym (ap not (in_second c.self.inside.ascending.items keys c.args.self.now c.args.retirement c.self.view_is none ∙ sym (held_by keys c.args.retirement) ∙ sym c.contains.ensures ∙ c.if-contains.false))
+    sym (ap not (in_second c.self.inside.ascending.items keys c.args.self.now c.args.retirement c.self.view_is (rw c.deref.ensures.value at c.in-Err.ensures.found.absent.absent) ∙ sym (held_by keys c.args.retirement) ∙ sym c.contains.ensures ∙ c.if-contains.false))
