@@ -1,5 +1,6 @@
 -- A record as the bytes of a retirement or of an admission.
 use Rattle.std.proofs.Common.{◌≡◌, ℕ, suc, ◌+◌, ◌<◌, ◌≤◌, eqb, false, List, [], ◌∷◌, ◌++◌, ◌^◌, length, get_or, take, drop, Option, Some, None, Ok, refl, sym, ap, ◌∙◌, subst, arith, inl, inr, ◌⊎◌, length-append, length-drop}
+use Rattle.std.proofs.lemmas.Bool.Decides.{nat_tests}
 use Rattle.std.proofs.lemmas.Bool.{cases_Bool, cases_lt, eqb-true, false≢true}
 use Rattle.std.proofs.lemmas.List.{take_all, take_at, drop_at, length-take, get_or-take, get_or-drop, get_or_past, take-append-drop, drop-drop}
 use Rattle.std.proofs.lemmas.Nat.{be_bytes_4, be_bytes_8, from_be_bytes-to_be_bytes_8}
@@ -12,7 +13,7 @@ use Rattle.archive_core.specs.declared.slices.SliceFacts.{SliceFacts}
 use Rattle.archive_core.proofs.Compare.{length_key_bytes}
 use Rattle.archive_core.proofs.Records.{length-key_of}
 use Rattle.archive_records.specs.declared.fault.RecordFaultKind.{RecordFaultKind}
-use Rattle.archive_records.specs.declared.fault.RecordFaultKind.TheVariants.{BadMagic, Truncated, BadTag, TooLarge, NotAscending, BadSlice, KeyMismatch, BadCount, Trailing, Device, OutOfMemory, Covered}
+use Rattle.archive_records.specs.declared.fault.RecordFaultKind.TheVariants.{BadSlice, KeyMismatch}
 use Rattle.archive_records.specs.Layout.{head_length, slice_length, admission_body, body_length, framed}
 use Rattle.archive_records.specs.Kind.{IsItem, kind_of, admission_length}
 use Rattle.archive_records.specs.Entry.{IsEntry}
@@ -97,19 +98,7 @@ record-slice r (BadSlice fault) (inl a) f = no_slice_fault a.slice fault a.valid
 record-slice r (BadSlice fault) (inr t) f = one_two r t f.0
 record-slice r KeyMismatch (inl a) f = let p = parts-of r a in f.2 (p.key ∙ ap (λ (s : List ℕ). key_bytes (key_of s)) (sym p.slice_is))
 record-slice r KeyMismatch (inr t) f = one_two r t f.0
-record-slice r BadMagic i f = f
-record-slice r Truncated i f = f
-record-slice r BadTag i f = f
-record-slice r TooLarge i f = f
-record-slice r NotAscending i f = f
-record-slice r BadCount i f = f
-record-slice r Trailing i f = f
-record-slice r Device i f = f
-record-slice r OutOfMemory i f = f
-record-slice r Covered i f = f
-
-cons_both : (a b : ℕ) (xs ys : List ℕ) → a ≡ b → xs ≡ ys → a ∷ xs ≡ b ∷ ys
-cons_both a b xs ys p q = cc
+record-slice r _ i f = f
 
 -- whole bytes with an admission's tag, a slice and its key are an admission's record
 pub admits : (bytes : List ℕ) → (get_or bytes 0 0 ≡ 2) × (slice_length bytes + 33 ≡ length bytes) → IsValid (drop 33 bytes) → take 24 (drop 1 bytes) ≡ key_bytes (key_of (drop 33 bytes)) → IsBytes bytes → Admits bytes
@@ -126,8 +115,7 @@ admits (b ∷ bs) p valid key fits =
     record {
       slice = slice;
       valid = valid;
-      is = cons_both b 2 bs (key_bytes (key_of slice) ++ (to_be_bytes w64 (length slice) ++ slice)) p.0
-          (sym (ap (λ (t : List ℕ). t ++ (to_be_bytes w64 (length slice) ++ slice)) (sym key) ∙ ap (λ (t : List ℕ). take 24 bs ++ t) rest ∙ take-append-drop 24 bs));
+      is = cc (p.0, sym (ap (λ (t : List ℕ). t ++ (to_be_bytes w64 (length slice) ++ slice)) (sym key) ∙ ap (λ (t : List ℕ). take 24 bs ++ t) rest ∙ take-append-drop 24 bs));
     }
 
 -- where something was found, or nothing was to be found, it is a record
@@ -136,10 +124,8 @@ record-found bytes None t = inr t
 record-found bytes (Some facts) a = inl a.0
 
 pub item-found : (file : Format) (item : List ℕ) (found : Option SliceFacts) → IsFoundIn (kind_of file) item found → IsItem file item
-item-found Archive item found is = record-found item found is
-item-found OldArchive item found is = record-found item found is
-item-found Operations item found is = record-found item found is
 item-found Summary item found is = is.0
+item-found _ item found is = record-found item found is
 
 pub long-retirement : (bytes : List ℕ) → Retires bytes → length bytes ≡ 57
 long-retirement bytes t = (parts-retires bytes t).long
@@ -154,16 +140,11 @@ long-admission bytes a = omega (arith, (parts-of bytes a).long)
 pub tagged_is : (tag : ℕ) (bytes : List ℕ) (key : SliceKey) (digest : List ℕ) → length bytes ≡ 57 → get_or bytes 0 0 ≡ tag → key_bytes key ≡ take 24 (drop 1 bytes) → digest ≡ take 32 (drop 25 bytes) → tag ∷ (key_bytes key ++ digest) ≡ bytes
 tagged_is tag [] key digest long is k d = absurd (omega arith)
 tagged_is tag (b ∷ bs) key digest long is k d =
-    cons_both tag b (key_bytes key ++ digest) bs (sym is)
-    (ap (λ (t : List ℕ). t ++ digest) k ∙ ap (λ (t : List ℕ). take 24 bs ++ t) (d ∙ take_all 32 (drop 24 bs) (omega (arith, length-drop 24 bs))) ∙ take-append-drop 24 bs)
+    cc (is, ap (λ (t : List ℕ). t ++ digest) k ∙ ap (λ (t : List ℕ). take 24 bs ++ t) (d ∙ take_all 32 (drop 24 bs) (omega (arith, length-drop 24 bs))) ∙ take-append-drop 24 bs)
 
 -- an entry without a retirement's tag has an admission's
 pub other_tag : (bytes : List ℕ) → IsEntry bytes → (get_or bytes 0 0 ≡ 1 → ⊥) → get_or bytes 0 0 ≡ 2
-other_tag bytes is other = by is.tag
-  where
-    by : (get_or bytes 0 0 ≡ 1) ⊎ (get_or bytes 0 0 ≡ 2) → get_or bytes 0 0 ≡ 2
-    by (inl one) = absurd (other one)
-    by (inr two) = two
+other_tag bytes is other = grind arith
 
 -- the key and the digest make the retirement's record
 pub retired_is : (bytes : List ℕ) (key : SliceKey) (digest : List ℕ) → length bytes ≡ 57 → get_or bytes 0 0 ≡ 1 → key_bytes key ≡ take 24 (drop 1 bytes) → digest ≡ take 32 (drop 25 bytes) → retirement_record key digest ≡ bytes
@@ -193,25 +174,20 @@ module _ (file : Format) (head : admission_length file ≡ 33) (behind : (bytes 
       framed-whole file r 57 (omega arith) (ap (head_length file) p.tag) (omega arith) (omega (arith, body)) (omega (arith, body)) ∙ ap (λ (n : ℕ). Ok n) (omega (arith, body))
 
 -- an entry is whole, and no end record
-by_tag-framed : (item : List ℕ) → (get_or item 0 0 ≡ 1) ⊎ (get_or item 0 0 ≡ 2) → length item ≡ 57 → framed Summary item ≡ Ok (length item)
-unfolding head_length
-by_tag-framed item (inl one) long =
-    let body : body_length Summary item ≡ 0 = body_one Summary item one in
-    framed-whole Summary item 57 (omega arith) (ap (head_length Summary) one) (omega arith) (omega (arith, body)) (omega (arith, body)) ∙ ap (λ (n : ℕ). Ok n) (omega (arith, body))
-by_tag-framed item (inr two) long =
-    let body : body_length Summary item ≡ 0 = body_two Summary item two in
-    framed-whole Summary item 57 (omega arith) (ap (head_length Summary) two) (omega arith) (omega (arith, body)) (omega (arith, body)) ∙ ap (λ (n : ℕ). Ok n) (omega (arith, body))
+by_tag-framed : (item : List ℕ) (tag : ℕ) → get_or item 0 0 ≡ tag → head_length Summary tag ≡ Some 57 → body_length Summary item ≡ 0 → length item ≡ 57 → framed Summary item ≡ Ok (length item)
+by_tag-framed item tag is head body long =
+    framed-whole Summary item 57 (omega arith) (ap (head_length Summary) is ∙ head) (omega arith) (omega (arith, body)) (omega (arith, body)) ∙ ap (λ (n : ℕ). Ok n) (omega (arith, body))
 
 pub entry-framed : (item : List ℕ) → IsEntry item → framed Summary item ≡ Ok (length item)
-entry-framed item is = by_tag-framed item is.tag is.long
-
-by_tag-no_end : (item : List ℕ) → (get_or item 0 0 ≡ 1) ⊎ (get_or item 0 0 ≡ 2) → is_end item ≡ false
-unfolding is_end
-by_tag-no_end item (inl one) = rw one refl
-by_tag-no_end item (inr two) = rw two refl
+unfolding head_length
+entry-framed item is = elim is.tag [
+  | inl one ↦ by_tag-framed item 1 one refl (body_one Summary item one) is.long
+  | inr two ↦ by_tag-framed item 2 two refl (body_two Summary item two) is.long
+]
 
 entry-no_end : (item : List ℕ) → IsEntry item → is_end item ≡ false
-entry-no_end item is = by_tag-no_end item is.tag
+unfolding is_end
+entry-no_end item is = elim is.tag [ inl one ↦ rw one refl | inr two ↦ rw two refl ]
 
 -- whole bytes of a summary that are no end record are an entry
 pub entry-of : (bytes : List ℕ) → framed Summary bytes ≡ Ok (length bytes) → is_end bytes ≡ false → IsEntry bytes
@@ -225,38 +201,26 @@ entry-of bytes whole no_end =
 
 -- an item is whole, is no end record, and is not refused for what it holds
 pub item-framed : (file : Format) (item : List ℕ) → IsItem file item → framed file item ≡ Ok (length item)
-item-framed Archive item is = record-framed Archive refl (λ bytes. refl) item is
-item-framed OldArchive item is = framed_old item ∙ record-framed Archive refl (λ bytes. refl) item is
-item-framed Operations item is = record-framed Operations refl (λ bytes. refl) item is
 item-framed Summary item is = entry-framed item is
+item-framed file item is = record-framed file refl (λ bytes. refl) item is
 
 pub item-no_end : (file : Format) (item : List ℕ) → IsItem file item → is_end item ≡ false
-item-no_end Archive item is = record-item item is
-item-no_end OldArchive item is = record-item item is
-item-no_end Operations item is = record-item item is
 item-no_end Summary item is = entry-no_end item is
+item-no_end _ item is = record-item item is
 
 pub item-refused : (file : Format) (item : List ℕ) (kind : RecordFaultKind) → IsItem file item → Refuses file item kind → ⊥
-item-refused Archive item kind is refused = record-slice item kind is refused
-item-refused OldArchive item kind is refused = record-slice item kind is refused
-item-refused Operations item kind is refused = record-slice item kind is refused
 item-refused Summary item kind is refused = refused
+item-refused _ item kind is refused = record-slice item kind is refused
 
 -- what is refused is a slice
 pub refused_slice : (file : Format) (bytes : List ℕ) (kind : RecordFaultKind) → Refuses file bytes kind → RefusesSlice bytes kind
-refused_slice Archive bytes kind refused = refused
-refused_slice OldArchive bytes kind refused = refused
-refused_slice Operations bytes kind refused = refused
 refused_slice Summary bytes kind refused = absurd refused
+refused_slice _ bytes kind refused = refused
 
 -- whole records of operations are framed as in an archive
 same_head : (tag head : ℕ) → (tag ≡ 3 → ⊥) → head_length Operations tag ≡ Some head → head_length Archive tag ≡ Some head
 unfolding head_length
-same_head tag head other e =
-    elim (cases_Bool (eqb tag 3)) [
-      | inl three ↦ absurd (other (eqb-true _ _ three))
-      | inr below ↦ rw below (rw below at e)
-    ]
+same_head tag head other e = grind (arith, nat_tests)
 
 operations_framed : (bytes : List ℕ) → framed Operations bytes ≡ Ok (length bytes) → is_end bytes ≡ false → framed Archive bytes ≡ Ok (length bytes)
 unfolding is_end body_length
@@ -266,9 +230,9 @@ operations_framed bytes whole no_end =
     framed-whole Archive bytes h.head h.one tag h.long h.small (omega (arith, h.is)) ∙ ap done (sym h.is)
 
 pub archive_framed : (file : Format) → (file ≡ Archive) ⊎ (file ≡ OldArchive) ⊎ (file ≡ Operations) → (bytes : List ℕ) → framed file bytes ≡ Ok (length bytes) → is_end bytes ≡ false → framed Archive bytes ≡ Ok (length bytes)
-archive_framed file (inl is) bytes whole no_end = subst (λ (f : Format). framed f bytes ≡ Ok (length bytes)) is whole
-archive_framed file (inr (inl is)) bytes whole no_end = sym (framed_old bytes) ∙ subst (λ (f : Format). framed f bytes ≡ Ok (length bytes)) is whole
-archive_framed file (inr (inr is)) bytes whole no_end = operations_framed bytes (subst (λ (f : Format). framed f bytes ≡ Ok (length bytes)) is whole) no_end
+archive_framed file (inl is) bytes whole no_end = rw is at whole
+archive_framed file (inr (inl is)) bytes whole no_end = sym (framed_old bytes) ∙ rw is at whole
+archive_framed file (inr (inr is)) bytes whole no_end = operations_framed bytes (rw is at whole) no_end
 
 -- whole bytes with a retirement's tag are a retirement's record
 retires_with : (bytes : List ℕ) (key : SliceKey) → framed Archive bytes ≡ Ok (length bytes) → get_or bytes 0 0 ≡ 1 → key_bytes key ≡ take 24 (drop 1 bytes) → IsKey key → Retires bytes
@@ -280,7 +244,7 @@ retires_with (b ∷ bs) key f tag k w =
       digest = drop 24 bs;
       is_key = w;
       long = omega (arith, length-drop 24 bs);
-      is = cons_both b 1 bs (key_bytes key ++ drop 24 bs) tag (sym (ap (λ (t : List ℕ). t ++ drop 24 bs) k ∙ take-append-drop 24 bs));
+      is = cc (tag, ap (λ (t : List ℕ). t ++ drop 24 bs) k ∙ take-append-drop 24 bs);
     }
 
 be_small : (bs : List ℕ) → length bs ≡ 4 → IsBytes bs → from_be_bytes w32 bs < 2 ^ 32

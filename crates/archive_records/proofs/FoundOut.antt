@@ -13,7 +13,7 @@ use Rattle.archive_core.specs.Content.{is_admission, covering, is_covered}
 use Rattle.archive_core.specs.Record.{IsRecord, Admits, Retires, retirement_record}
 use Rattle.archive_core.proofs.Words.{covered_slice}
 use Rattle.archive_records.specs.declared.format.Format.{Format}
-use Rattle.archive_records.specs.declared.format.Format.TheVariants.{Archive, OldArchive, Operations, Summary}
+use Rattle.archive_records.specs.declared.format.Format.TheVariants.{Summary}
 use Rattle.archive_records.specs.Entry.{IsEntry}
 use Rattle.archive_records.specs.Kind.{kind_of}
 use Rattle.archive_records.specs.Reader.{set_of, Keeps, IsFound as IsFoundOf, IsFoundIn, IsFoundOfLast}
@@ -46,17 +46,10 @@ retired_entry bytes is (inl a) = absurd (no_admission_entry bytes is a)
 retired_entry bytes is (inr t) = t
 
 pub found_last : (file : Format) (bytes : List ℕ) (found : Option SliceFacts) → IsFoundIn (kind_of file) bytes found → IsFoundOfLast bytes found
-found_last Archive bytes None is = λ _. is
-found_last Archive bytes (Some facts) is = is
-found_last OldArchive bytes None is = λ _. is
-found_last OldArchive bytes (Some facts) is = is
-found_last Operations bytes None is = λ _. is
-found_last Operations bytes (Some facts) is = is
 found_last Summary bytes None is = retired_entry bytes is.0
-found_last Summary bytes (Some facts) is = absurd (some_none is.1)
-  where
-    some_none : Some facts ≡ None → ⊥
-    some_none e = cc
+found_last Summary bytes (Some facts) is = absurd (cc is.1)
+found_last _ bytes None is = λ _. is
+found_last _ bytes (Some facts) is = is
 
 -- where nothing was read, nothing is to be found out
 pub nothing_last : (bytes : List ℕ) → bytes ≡ [] → IsFoundOfLast bytes None

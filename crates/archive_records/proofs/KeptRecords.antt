@@ -6,6 +6,7 @@ use Rattle.std.proofs.lemmas.List.Elements.{Contains-append_left, Contains-appen
 use Rattle.std.specs.List.{Contains, filter}
 use Rattle.archive_core.specs.Content.{is_admission, covering, is_covered}
 use Rattle.archive_core.specs.Record.{IsRecord}
+use Rattle.archive_core.proofs.Members.{in_filter}
 use Rattle.archive_records.specs.declared.format.Format.TheVariants.{Archive}
 use Rattle.archive_records.specs.Kind.{may_follow}
 use Rattle.archive_records.specs.Text.{InOrder, last_of, kept}
@@ -19,17 +20,6 @@ use Rattle.archive_records.proofs.Ascending.{below-trans, all_above, up_to_last,
 filter_same : (p q : List ℕ → Bool) (xs : List (List ℕ)) → ((r : List ℕ) → Contains xs r → p r ≡ q r) → filter p xs ≡ filter q xs
 filter_same p q [] h = refl
 filter_same p q (x ∷ xs) h = ap (λ b. cond b (x ∷ filter p xs) (filter p xs)) (h x (here x xs)) ∙ ap (λ (t : List (List ℕ)). cond (q x) (x ∷ t) t) (filter_same p q xs (λ r c. h r (later x r xs c)))
-
-from_filter : (p : List ℕ → Bool) (xs : List (List ℕ)) (z : List ℕ) → Contains (filter p xs) z → Contains xs z
-from_filter p [] z c = c
-from_filter p (x ∷ xs) z c = by (p x) (λ d. from_filter p xs z d) c
-  where
-    by : (b : Bool) → (Contains (filter p xs) z → Contains xs z) → Contains (cond b (x ∷ filter p xs) (filter p xs)) z → Contains (x ∷ xs) z
-    by true rest d = elim (Contains-append_cases (x ∷ []) (filter p xs) z d) [
-      | inl a ↦ Contains-append_left (x ∷ []) xs z a
-      | inr b ↦ later x z xs (rest b)
-    ]
-    by false rest d = later x z xs (rest d)
 
 filter_one : (p : List ℕ → Bool) (x : List ℕ) (b : Bool) → p x ≡ b → filter p (x ∷ []) ≡ cond b (x ∷ []) []
 filter_one p x b e = ap (λ c. cond c (x ∷ []) []) e
@@ -45,7 +35,7 @@ kept_none = refl
 
 pub from_kept : (out : List (List ℕ)) (z : List ℕ) → Contains (kept out) z → Contains out z
 unfolding kept
-from_kept out z c = from_filter (free_in out) out z c
+from_kept out z c = (in_filter (free_in out) out z c).0
 
 -- what stands behind covers none of them
 module _ (out more : List (List ℕ)) (a : InOrder Archive [] (out ++ more)) (o : InOrder Archive [] out) where
@@ -65,7 +55,7 @@ module _ (out more : List (List ℕ)) (a : InOrder Archive [] (out ++ more)) (o 
   kept_more = filter-append (free_in (out ++ more)) out more ∙ ap (λ (t : List (List ℕ)). t ++ behind) (filter_same (free_in (out ++ more)) (free_in out) out (λ r c. ap not (covers_alike r c)))
 
   pub behind_above : (z : List ℕ) → Contains behind z → may_follow Archive (last_of [] out) z ≡ true
-  behind_above z c = all_above (last_of [] out) z more (InOrder-behind [] out more a) (from_filter (free_in (out ++ more)) more z c)
+  behind_above z c = all_above (last_of [] out) z more (InOrder-behind [] out more a) (in_filter (free_in (out ++ more)) more z c).0
 
 -- one record more is written
 pub kept_push : (out : List (List ℕ)) (x : List ℕ) → InOrder Archive [] (out ++ x ∷ []) → is_covered (set_of (out ++ x ∷ [])) x ≡ false → kept (out ++ x ∷ []) ≡ kept out ++ x ∷ []

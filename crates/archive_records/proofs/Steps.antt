@@ -116,16 +116,10 @@ module _ (file : Format) where
 
   -- what came where the device failed, or memory ran out, decides no fault
   pub undecided_there : (a b c : Option (List ℕ)) (records : List (List ℕ)) (before : Position) (fault : RecordFault) → HasRead file a b records before → (s : StopsAt b c before fault) → IsOfMachine fault.kind → IsCutAtMost file (magic_of file ++ (concat records ++ s.rest))
-  undecided_there a b c records before fault h s (inl device) = elim (s.fails (λ memory. device_memory (sym device ∙ memory))) [
+  undecided_there a b c records before fault h s (inl device) = elim (s.fails (λ memory. cc)) [
     | inl f ↦ cut_off file records h.ordered h.apart (omega (arith, h.count_is, s.few)) s.rest (device_seen file (last_of [] records) (length records) s.rest fault.kind (next_there a b records before s.rest (seen_as fault.kind) h f) device)
-    | inr e ↦ absurd (device_covered (sym device ∙ e.kind_is))
+    | inr e ↦ absurd (cc (device, e.kind_is))
   ]
-    where
-      device_memory : Device ≡ OutOfMemory → ⊥
-      device_memory e = cc
-
-      device_covered : Device ≡ Covered → ⊥
-      device_covered e = cc
   undecided_there a b c records before fault h s (inr memory) = elim (s.wanted memory) [
     | inl f ↦ cut_off file records h.ordered h.apart (omega (arith, h.count_is, s.few)) s.rest (next_there a b records before s.rest Truncated h f)
     | inr w ↦
@@ -208,38 +202,23 @@ step_refused a b before last bytes kind is taken few item follows (inr c) = (
       follows = subst (λ (f : Format). may_follow f before.last bytes ≡ true) c.1 follows;
       covered = c.2;
     });
-    wanted = λ memory. absurd (covered_memory (sym c.0 ∙ memory));
+    wanted = λ memory. absurd (cc (c.0, memory));
     offset_is = refl;
     few = few;
   },
   λ _. inl (item, is),
 )
-  where
-    covered_memory : Covered ≡ OutOfMemory → ⊥
-    covered_memory h = cc
 
 pub refused_blames : {R : Type 0} (left : R → Option (List ℕ)) (failures : R → ℕ) (old new : R) (before : Position) (bytes : List ℕ) (kind : RecordFaultKind) → failures new ≡ failures old → IsRefusedBy before bytes kind → Blames left failures old new kind
 refused_blames left failures old new before bytes kind unfailed (inl e) = subst (Blames left failures old new) (sym e.0) (memory_blames left failures old new unfailed)
-refused_blames left failures old new before bytes kind unfailed (inr c) = subst (Blames left failures old new) (sym c.0) ((λ e. absurd (no_device e)), (λ _. unfailed), λ e. absurd (no_end e))
-  where
-    no_device : Covered ≡ Device → ⊥
-    no_device e = cc
-
-    no_end : Covered ≡ Truncated → ⊥
-    no_end e = cc
+refused_blames left failures old new before bytes kind unfailed (inr c) = subst (Blames left failures old new) (sym c.0) (λ e. cc, (λ _. unfailed), λ e. cc)
 
 -- what comes next is never bytes too many
 pub step-never_trailing : (a b : Option (List ℕ)) (before : Position) (fault : RecordFault) → StopsAt a b before fault → fault.kind ≢ Trailing
-step-never_trailing a b before fault s trailing = elim (s.fails (λ memory. no_memory (sym trailing ∙ memory))) [
+step-never_trailing a b before fault s trailing = elim (s.fails (λ memory. cc)) [
   | inl f ↦ never_trailing before.file before.last before.count s.rest fault.kind f trailing
-  | inr c ↦ no_cover (sym trailing ∙ c.kind_is)
+  | inr c ↦ cc (trailing, c.kind_is)
 ]
-  where
-    no_memory : Trailing ≡ OutOfMemory → ⊥
-    no_memory h = cc
-
-    no_cover : Trailing ≡ Covered → ⊥
-    no_cover h = cc
 
 -- ---- behind an end record
 

@@ -7,7 +7,7 @@ use Rattle.archive_records.specs.declared.fault.RecordFaultKind.{RecordFaultKind
 use Rattle.archive_records.specs.declared.fault.RecordFaultKind.TheVariants.{Truncated, Trailing, Device, OutOfMemory}
 use Rattle.archive_records.specs.declared.fault.RecordFault.{RecordFault}
 use Rattle.archive_records.specs.declared.format.Format.{Format}
-use Rattle.archive_records.specs.declared.format.Format.TheVariants.{Archive, OldArchive, Operations, Summary}
+use Rattle.archive_records.specs.declared.format.Format.TheVariants.{Archive, Operations}
 use Rattle.archive_records.specs.Kind.{magic_of, may_follow}
 use Rattle.archive_records.specs.Text.{ending, InOrder, AreApart, last_of}
 use Rattle.archive_records.specs.Fault.{next, next_by, FailsNext, IsUnended, IsCutAtMost}
@@ -20,14 +20,7 @@ use Rattle.archive_records.proofs.Apart.{covered_alike, push_apart}
 use Rattle.archive_records.proofs.Exact.{one_fault, no_fault}
 
 pub no_machine : IsOfMachine Trailing → ⊥
-no_machine (inl e) = device e
-  where
-    device : Trailing ≡ Device → ⊥
-    device h = cc
-no_machine (inr e) = memory e
-  where
-    memory : Trailing ≡ OutOfMemory → ⊥
-    memory h = cc
+no_machine e = grind arith
 
 -- what stops for want of memory inside a record is seen as cut off
 pub memory_seen : (file : Format) (last : List ℕ) (count : ℕ) (bytes : List ℕ) (kind : RecordFaultKind) → FailsNext file last count bytes (seen_as kind) → kind ≡ OutOfMemory → FailsNext file last count bytes Truncated
@@ -39,24 +32,18 @@ device_seen file last count bytes kind f e = subst (λ (k : RecordFaultKind). Fa
 -- what is kept as it has to be is no fault
 pub kept_uncovered : (file : Format) (old new : List (List ℕ)) (dropped : Bool) (x : List ℕ) → KeepsIn file old new dropped x → file ≡ Archive → is_covered (set_of old) x ≡ false
 kept_uncovered Archive old new dropped x k is = k.0.tells ∙ k.1
-kept_uncovered OldArchive old new dropped x k is = absurd cc
-kept_uncovered Operations old new dropped x k is = absurd cc
-kept_uncovered Summary old new dropped x k is = absurd cc
+kept_uncovered _ old new dropped x k is = absurd cc
 
 -- a record that is not covered stands apart with those before it
 pub apart_whole : (file : Format) (retired records : List (List ℕ)) (x : List ℕ) → InOrder file [] records → may_follow file (last_of [] records) x ≡ true → AreApart file records → AreRetired file retired records → (file ≡ Archive → is_covered (set_of retired) x ≡ false) → AreApart file (records ++ x ∷ [])
 apart_whole Archive retired records x a b is are free = push_apart records x a b is (sym (covered_alike (set_of retired) (set_of records) x are) ∙ free refl)
-apart_whole OldArchive retired records x a b is are free = tt
-apart_whole Operations retired records x a b is are free = tt
-apart_whole Summary retired records x a b is are free = tt
+apart_whole _ retired records x a b is are free = tt
 
 -- operations end where nothing is left
 ended_or_not : (file : Format) (n : ℕ) (rest : List ℕ) → (rest ≡ ending file n) ⊎ IsUnended file rest
-ended_or_not Archive n rest = inr tt
-ended_or_not OldArchive n rest = inr tt
-ended_or_not Summary n rest = inr tt
 ended_or_not Operations n [] = inl refl
 ended_or_not Operations n (x ∷ rest) = inr (λ e. cc)
+ended_or_not _ n rest = inr tt
 
 nothing_more : (file : Format) (low : List ℕ) (count : ℕ) → next file low count [] ≡ Err Truncated
 unfolding next

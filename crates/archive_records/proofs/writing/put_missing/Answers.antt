@@ -1,10 +1,8 @@
-use Rattle.std.proofs.Common.{◌<◌, ◌≡◌, ◌+◌, ℕ, Ok, Err, length, take, drop, arith}
+use Rattle.std.proofs.Common.{◌<◌, ◌≡◌, ◌+◌, Ok, Err, length, take, drop, arith}
 use Rattle.std.proofs.lemmas.List.{take_all}
 use Rattle.join_core.specs.Listing.{listing}
-use Rattle.byte_device.proofs.Gains.{puts_along, puts_then}
 use Rattle.archive_core.specs.Record.{lent_bytes}
 use Rattle.archive_records.specs.Text.{missing}
-use Rattle.archive_records.specs.declared.writing.Sizes.{Sizes}
 use Rattle.archive_records.proofs.Blamed.{failed}
 use Rattle.archive_records.proofs.Puts.{length_written, missing_parts, missing_puts, missing_count, few_missing, stops_among}
 use Rattle.archive_records.proofs.writing.put_missing.Goals as goal
