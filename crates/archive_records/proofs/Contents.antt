@@ -23,7 +23,7 @@ use Rattle.archive_records.proofs.Holds.{holds}
 use Rattle.archive_records.proofs.Forms.{item-framed}
 use Rattle.archive_records.proofs.Puts.{bytes_same, length_written}
 use Rattle.archive_records.specs.declared.format.Format.{Format}
-use Rattle.archive_records.specs.declared.format.Format.TheVariants.{Archive, Operations as Operations_file, Summary}
+use Rattle.archive_records.specs.declared.format.Format.TheVariants.{Archive, Summary}
 
 abbrev pub order : List ℕ → List ℕ → Ordering
 order = slice_cmp nat_cmp
@@ -31,8 +31,7 @@ order = slice_cmp nat_cmp
 -- in each file with an end record items ascend
 ascends : (file : Format) → end_length file ≡ Some 9 → (o : Ordering) → allows file o ≡ is_lt o
 unfolding allows
-ascends Operations_file end o = cc
-ascends _ end o = refl
+ascends file end o = grind arith
 
 all_below : (low x : List ℕ) (xs : List (List ℕ)) → order low x ≡ Less → AllByRecursion (λ y. order x y ≡ Less) xs → AllByRecursion (λ y. order low y ≡ Less) xs
 all_below low x [] e h = tt

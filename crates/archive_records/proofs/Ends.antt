@@ -45,8 +45,7 @@ module _ (file : Format) (end : end_length file ≡ Some 9) where
   next_end low n lt = next-is file (end_record n) 9 low n (framed_end n) ∙ rw (end-is_end n, eq-eqb _ _ (number_of_end n lt)) refl
 
 pub counted : (file : Format) → end_length file ≡ Some 9 → (n : ℕ) → ending file n ≡ end_record n
-counted Operations end n = cc
-counted _ end n = refl
+counted file end n = grind arith
 
 pub counted_unended : (file : Format) → end_length file ≡ Some 9 → (rest : List ℕ) → IsUnended file rest
 counted_unended Operations end rest = absurd (cc end)

@@ -4,7 +4,7 @@ use Rattle.std.proofs.lemmas.Bool.Decides.{nat_tests}
 use Rattle.archive_records.specs.declared.format.Format.{Format}
 use Rattle.archive_records.specs.declared.format.Format.TheVariants.{Operations, Summary}
 use Rattle.archive_records.specs.declared.fault.RecordFaultKind.{RecordFaultKind}
-use Rattle.archive_records.specs.declared.fault.RecordFaultKind.TheVariants.{BadMagic, Truncated, TooLarge, NotAscending, BadSlice, KeyMismatch, BadCount, Trailing, Device, OutOfMemory, Covered}
+use Rattle.archive_records.specs.declared.fault.RecordFaultKind.TheVariants.{BadMagic, Truncated, TooLarge, NotAscending, BadSlice, KeyMismatch, BadCount, Trailing, OutOfMemory, Covered}
 use Rattle.archive_records.specs.declared.fault.RecordFault.{RecordFault}
 use Rattle.archive_core.specs.declared.faults.SliceFault.{SliceFault}
 use Rattle.archive_records.specs.Layout.{head_length, body_length, framed, framed_behind}
@@ -112,7 +112,3 @@ never_key text fault f = (summary_faults text fault f).2
 -- want of memory says that the reader did not fail
 pub memory_blames : {R : Type 0} (left : R → Option (List ℕ)) (failures : R → ℕ) (old new : R) → failures new ≡ failures old → Blames left failures old new OutOfMemory
 memory_blames left failures old new unfailed = (λ e. cc, (λ _. unfailed), λ e. cc)
-
--- an input that ended is no failing device
-pub not_device : (kind : RecordFaultKind) → kind ≡ Truncated → kind ≢ Device
-not_device kind truncated device = cc

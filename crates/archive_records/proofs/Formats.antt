@@ -1,5 +1,5 @@
 -- Formats of one kind: the two versions of archives differ in their magics alone, as far as records go.
-use Rattle.std.proofs.Common.{◌≡◌, ◌≢◌, ℕ, ◌<◌, List, [], ◌∷◌, ◌++◌, length, refl, sym, ap, ◌∙◌, arith, inl, lit≤}
+use Rattle.std.proofs.Common.{◌≡◌, ◌≢◌, ℕ, ◌<◌, List, [], ◌∷◌, ◌++◌, length, refl, sym, ◌∙◌, arith, inl, lit≤}
 use Rattle.std.specs.Prelude.{take}
 use Rattle.archive_records.specs.declared.fault.RecordFaultKind.{RecordFaultKind}
 use Rattle.archive_records.specs.declared.fault.RecordFaultKind.TheVariants.{BadMagic, Trailing}
@@ -49,8 +49,7 @@ follows_of OldArchive is a b = follows_old a b
 follows_of _ is a b = cc
 
 pub ending_of : (f : Format) → kind_of f ≡ Archive_text → (n : ℕ) → ending f n ≡ end_record n
-ending_of Operations is n = cc
-ending_of _ is n = refl
+ending_of f is n = grind arith
 
 -- ---- magics
 
@@ -62,8 +61,7 @@ pub same_fronts : (f g : Format) → kind_of f ≡ kind_of g → (n : ℕ) → n
 same_fronts f g e n h = grind (arith, same_front)
 
 pub length-magic : (f : Format) → length (magic_of f) ≡ 8
-length-magic Archive = refl
-length-magic _ = refl
+length-magic f = grind arith
 
 -- bytes that are no magic, or not as one begins, are no file's first
 pub other_magic : (f : Format) (bytes : List ℕ) → length bytes ≡ 8 → bytes ≢ magic_of f → StopsInMagic f bytes BadMagic
@@ -75,9 +73,7 @@ other_front f bytes short other = inl (length bytes, omega (arith, short), omega
 -- the eighth byte of a magic tells its format
 pub format_magic : (f : Format) → kind_of f ≡ Archive_text → (text rest : List ℕ) → text ≡ magic_of f ++ rest → archive_format text ≡ f
 unfolding archive_format
-format_magic Archive is text rest e = ap (λ (t : List ℕ). archive_format t) e
-format_magic OldArchive is text rest e = ap (λ (t : List ℕ). archive_format t) e
-format_magic _ is text rest e = absurd (cc is)
+format_magic f is text rest e = grind arith
 
 -- operations and summaries have one format each
 pub operations_form : (f : Format) → kind_of f ≡ Operations_text → f ≡ Operations

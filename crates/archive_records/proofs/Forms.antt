@@ -7,7 +7,7 @@ use Rattle.std.proofs.lemmas.Nat.{be_bytes_4, be_bytes_8, from_be_bytes-to_be_by
 use Rattle.std.specs.Int.{w32, w64, from_be_bytes, to_be_bytes}
 use Rattle.archive_core.specs.Key.{IsKey, key_bytes}
 use Rattle.archive_core.specs.Valid.{IsValid, key_of}
-use Rattle.archive_core.specs.Record.{admission, admission_record, retirement_record, Admits, Retires, IsRecord}
+use Rattle.archive_core.specs.Record.{admission, admission_record, Admits, Retires, IsRecord}
 use Rattle.archive_core.specs.declared.keys.SliceKey.{SliceKey}
 use Rattle.archive_core.specs.declared.slices.SliceFacts.{SliceFacts}
 use Rattle.archive_core.proofs.Compare.{length_key_bytes}
@@ -18,7 +18,7 @@ use Rattle.archive_records.specs.Layout.{head_length, slice_length, admission_bo
 use Rattle.archive_records.specs.Kind.{IsItem, kind_of, admission_length}
 use Rattle.archive_records.specs.Entry.{IsEntry}
 use Rattle.archive_records.specs.Fault.{is_end, RefusesSlice, Refuses}
-use Rattle.archive_records.specs.Reader.{IsFound, IsFoundIn}
+use Rattle.archive_records.specs.Reader.{IsFoundIn}
 use Rattle.archive_records.proofs.Formats.{framed_old}
 use Rattle.archive_records.proofs.Framed.{framed-whole}
 use Rattle.archive_core.proofs.Heads.{read_key}
@@ -119,13 +119,10 @@ admits (b ∷ bs) p valid key fits =
     }
 
 -- where something was found, or nothing was to be found, it is a record
-record-found : (bytes : List ℕ) (found : Option SliceFacts) → IsFound bytes found → IsRecord bytes
-record-found bytes None t = inr t
-record-found bytes (Some facts) a = inl a.0
-
 pub item-found : (file : Format) (item : List ℕ) (found : Option SliceFacts) → IsFoundIn (kind_of file) item found → IsItem file item
 item-found Summary item found is = is.0
-item-found _ item found is = record-found item found is
+item-found _ item None is = inr is
+item-found _ item (Some facts) is = inl is.0
 
 pub long-retirement : (bytes : List ℕ) → Retires bytes → length bytes ≡ 57
 long-retirement bytes t = (parts-retires bytes t).long
@@ -145,10 +142,6 @@ tagged_is tag (b ∷ bs) key digest long is k d =
 -- an entry without a retirement's tag has an admission's
 pub other_tag : (bytes : List ℕ) → IsEntry bytes → (get_or bytes 0 0 ≡ 1 → ⊥) → get_or bytes 0 0 ≡ 2
 other_tag bytes is other = grind arith
-
--- the key and the digest make the retirement's record
-pub retired_is : (bytes : List ℕ) (key : SliceKey) (digest : List ℕ) → length bytes ≡ 57 → get_or bytes 0 0 ≡ 1 → key_bytes key ≡ take 24 (drop 1 bytes) → digest ≡ take 32 (drop 25 bytes) → retirement_record key digest ≡ bytes
-retired_is bytes key digest long tag k d = tagged_is 1 bytes key digest long tag k d
 
 -- the slice of an admission's record, and its record again
 pub admitted_valid : (bytes : List ℕ) → Admits bytes → IsValid (drop 33 bytes)

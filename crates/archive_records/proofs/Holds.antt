@@ -1,5 +1,5 @@
 -- A whole record at the front of bytes, and what follows from it.
-use Rattle.std.proofs.Common.{◌≡◌, ℕ, ◌+◌, ◌≤◌, Bool, true, false, eqb, List, length, get_or, take, Some, Result, Ok, Err, refl, ap, ◌∙◌, arith, inl, inr, ◌⊎◌}
+use Rattle.std.proofs.Common.{◌≡◌, ℕ, ◌+◌, ◌≤◌, Bool, true, false, eqb, List, length, get_or, take, Some, Result, Ok, Err, refl, ap, ◌∙◌, arith}
 use Rattle.std.proofs.lemmas.Bool.Decides.{nat_tests}
 use Rattle.archive_records.specs.declared.fault.RecordFaultKind.{RecordFaultKind}
 use Rattle.archive_records.specs.Layout.{head_length, admission_body, body_length, record_count, largest_slice, framed, framed_behind}
@@ -36,21 +36,17 @@ module _ (file : Format) where
   unfolding framed framed_behind
   holds bytes n e = grind (arith, nat_tests)
 
-  tag_nine : (tag head : ℕ) → head_length file tag ≡ Some head → 9 ≤ head
-  unfolding head_length
-  tag_nine tag head e = grind arith
-
-  tag_three : (tag head : ℕ) → tag ≡ 3 → head_length file tag ≡ Some head → head ≡ 9
-  unfolding head_length
-  tag_three tag head three e = grind (arith, nat_tests)
-
   pub Holds-nine : (bytes : List ℕ) (n : ℕ) → Holds bytes n → 9 ≤ n
-  Holds-nine bytes n h = omega (arith, tag_nine (get_or bytes 0 0) h.head h.tag, h.is)
+  unfolding head_length
+  Holds-nine bytes n h =
+      let tag = h.tag in
+      let is = h.is in
+      grind arith
 
   pub Holds-end : (bytes : List ℕ) (n : ℕ) → Holds bytes n → get_or bytes 0 0 ≡ 3 → n ≡ 9
-  unfolding body_length
+  unfolding head_length body_length
   Holds-end bytes n h three =
-      let head : h.head ≡ 9 = tag_three (get_or bytes 0 0) h.head three h.tag in
+      let tag = h.tag in
       let is = h.is in
       grind (arith, nat_tests)
 
@@ -78,28 +74,22 @@ module _ (file : Format) where
 
   -- a record by its tag
 
-  tag_one : (tag head : ℕ) → tag ≡ 1 → head_length file tag ≡ Some head → head ≡ 57
-  unfolding head_length
-  tag_one tag head one e = grind (arith, nat_tests)
-
   pub tag_two : (tag head : ℕ) → tag ≡ 2 → head_length file tag ≡ Some head → head ≡ admission_length file
   unfolding head_length
   tag_two tag head two e = grind (arith, nat_tests)
 
-  tag_of : (tag head : ℕ) → head_length file tag ≡ Some head → eqb tag 3 ≡ false → (tag ≡ 1) ⊎ (tag ≡ 2)
-  unfolding head_length
-  tag_of tag head e item = grind (arith, nat_tests)
-
   pub whole-retirement : (bytes : List ℕ) → framed file bytes ≡ Ok (length bytes) → get_or bytes 0 0 ≡ 1 → length bytes ≡ 57
+  unfolding head_length body_length
   whole-retirement bytes e one =
       let h = holds bytes (length bytes) e in
-      omega (arith, tag_one (get_or bytes 0 0) h.head one h.tag, body_one file bytes one, h.is)
+      let tag = h.tag in
+      let is = h.is in
+      grind (arith, nat_tests)
 
   pub whole-admission : (bytes : List ℕ) → framed file bytes ≡ Ok (length bytes) → is_end bytes ≡ false → (get_or bytes 0 0 ≡ 1 → ⊥) → (get_or bytes 0 0 ≡ 2) × (admission_body file bytes + admission_length file ≡ length bytes)
-  unfolding is_end
+  unfolding is_end head_length body_length
   whole-admission bytes e item not_one =
       let h = holds bytes (length bytes) e in
-      elim (tag_of (get_or bytes 0 0) h.head h.tag item) [
-        | inl one ↦ absurd (not_one one)
-        | inr two ↦ (two, omega (arith, tag_two (get_or bytes 0 0) h.head two h.tag, body_two file bytes two, h.is))
-      ]
+      let tag = h.tag in
+      let is = h.is in
+      grind (arith, nat_tests)

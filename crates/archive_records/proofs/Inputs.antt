@@ -177,29 +177,21 @@ module _ (file : Format) where
       let whole : t ≡ magic_of file ++ (concat records ++ (rest ++ ys)) = s.1.taken ∙ append_assoc (magic_of file) (concat records ++ rest) ys ∙ ap (λ (x : List ℕ). magic_of file ++ x) (append_assoc (concat records) rest ys) in
       inr (records, record { ordered = s.1.ordered; apart = s.1.apart; rest = rest ++ ys; whole = whole }, s.1.few, unended_grows file rest ys (s.1.unended known), grown_behind records rest ys fault ended (record_stop records rest fault known s.1.stops))
 
-  few_fault : (t : List ℕ) (fault : RecordFault) → FewFault t fault → IsFaultOf file t fault
-  unfolding FewFault
-  few_fault t fault (inl m) = inl m
-  few_fault t fault (inr f) = inr (f.0, f.1, f.3, f.4)
-
   -- the fault is that of the whole input
   pub fault_in : (t : List ℕ) (b : Option (List ℕ)) (fault : RecordFault) → HasStoppedIn file (Some t) b fault → (fault.kind ≡ Truncated → IsAtEnd b) → IsOfText fault.kind → IsFaultOf file t fault
-  fault_in t b fault s ended known = few_fault t fault (stopped_few t b fault s ended known)
-
-  -- a text is not refused
-  not_refused : (t : List ℕ) (xs : List (List ℕ)) (more : List ℕ) (fault : RecordFault) → InOrder file [] xs → AreApart file xs → t ≡ text_of file xs ++ more → (file ≡ Operations_file → more ≡ []) → (fault.kind ≡ Trailing → more ≡ []) → FewFault t fault → ⊥
   unfolding FewFault
-  not_refused t xs more fault ordered apart e alone all (inl m) =
-      no_magic_fault file t ((concat xs ++ ending file (length xs)) ++ more) fault.kind (e ∙ append_assoc (magic_of file) (concat xs ++ ending file (length xs)) more) m.0
-  not_refused t xs more fault ordered apart e alone all (inr f) =
-      let few = f.2 in
-      no_fault_behind file t xs more ordered apart e alone f.0 f.1 fault (λ _ same. omega arith) all f.3 f.4
+  fault_in t b fault s ended known = elim (stopped_few t b fault s ended known) [ inl m ↦ inl m | inr f ↦ inr (f.0, f.1, f.3, f.4) ]
 
+  -- a text is refused by the machine alone
   pub machine_alone : (t : List ℕ) (b : Option (List ℕ)) (xs : List (List ℕ)) (more : List ℕ) (fault : RecordFault) → HasStoppedIn file (Some t) b fault → (fault.kind ≡ Truncated → IsAtEnd b) → InOrder file [] xs → AreApart file xs → t ≡ text_of file xs ++ more
       → (file ≡ Operations_file → more ≡ []) → (fault.kind ≡ Trailing → more ≡ []) → (fault.kind ≡ Device) ⊎ (fault.kind ≡ OutOfMemory)
+  unfolding FewFault
   machine_alone t b xs more fault s ended ordered apart e alone all =
       elim (of_text fault.kind) [
-        | inl known ↦ absurd (not_refused t xs more fault ordered apart e alone all (stopped_few t b fault s ended known))
+        | inl known ↦ elim (stopped_few t b fault s ended known) [
+          | inl m ↦ absurd (no_magic_fault file t ((concat xs ++ ending file (length xs)) ++ more) fault.kind (e ∙ append_assoc (magic_of file) (concat xs ++ ending file (length xs)) more) m.0)
+          | inr f ↦ let few = f.2 in absurd (no_fault_behind file t xs more ordered apart e alone f.0 f.1 fault (λ _ same. omega arith) all f.3 f.4)
+        ]
         | inr machine ↦ machine
       ]
 

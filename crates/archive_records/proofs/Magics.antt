@@ -45,9 +45,7 @@ module _ (text : List ℕ) where
       (b.0, b.1, b.2, no_other b.0 b.1 b.3 Archive refl, no_other b.0 b.1 b.3 OldArchive refl)
 
   bad_in : (f : Format) → kind_of f ≡ Archive_text → (n : ℕ) → take n text ≢ take n magic → take n text ≢ take n old_magic → take n text ≢ take n (magic_of f)
-  bad_in Archive is n a b = a
-  bad_in OldArchive is n a b = b
-  bad_in _ is n a b = absurd (cc is)
+  bad_in f is n a b = grind arith
 
   pub is_bad : (n : ℕ) × (n ≤ 8) × (n ≤ length text) × (take n text ≢ take n magic) × (take n text ≢ take n old_magic) → IsFault text (record { kind = BadMagic; offset = 0 })
   unfolding format

@@ -24,7 +24,7 @@ use Rattle.archive_records.proofs.Forms.{item-found, item-no_end}
 use Rattle.archive_records.proofs.Grown.{next-ok-grows}
 use Rattle.archive_records.proofs.Ends.{is_three, ending_is, ended_is, end-is_end, length-end_record, next_end, counted, counted_unended}
 use Rattle.archive_records.proofs.Longest.{is_end-grows}
-use Rattle.archive_records.proofs.Undecided.{no_machine, device_seen, apart_whole, cut_text, cut_off, cut_behind}
+use Rattle.archive_records.proofs.Undecided.{no_machine, apart_whole, cut_text, cut_off, cut_behind}
 use Rattle.archive_records.specs.declared.format.Format.{Format}
 use Rattle.archive_records.specs.declared.format.Format.TheVariants.{Archive}
 
@@ -71,12 +71,6 @@ module _ (file : Format) where
         retired_are = subst (λ (t : List (List ℕ)). AreRetired file t records) (sym e.retired_is) h.retired_are;
       }
 
-  -- what one item more makes decides no fault
-  whole_undecided : (a b c : Option (List ℕ)) (records : List (List ℕ)) (before after : Position) → HasRead file a b records before → Passes b c before after → IsCutAtMost file (magic_of file ++ (concat records ++ after.last))
-  whole_undecided a b c records before after h p =
-      let read = HasRead-grows a b c records before after h p in
-      cut_behind file records after.last read.ordered read.apart (omega (arith, h.count_is, p.count_is, p.few))
-
   -- want of memory where the record that was read is taken
   pub Stopped-unkept : (a b c : Option (List ℕ)) (records : List (List ℕ)) (before after : Position) → HasRead file a b records before → Passes b c before after → Stopped file a c records (record { kind = OutOfMemory; offset = before.offset })
   Stopped-unkept a b c records before after h p = record {
@@ -87,7 +81,9 @@ module _ (file : Format) where
     few = omega (arith, h.count_is, p.count_is, p.few);
     unended = λ known. absurd (known.1 refl);
     stops = inl (h.offset_is, λ known. absurd (known refl));
-    undecided = λ _. whole_undecided a b c records before after h p;
+    undecided = λ _.
+        let read = HasRead-grows a b c records before after h p in
+        cut_behind file records after.last read.ordered read.apart (omega (arith, h.count_is, p.count_is, p.few));
   }
 
   -- what is covered is covered by one of the records
@@ -117,7 +113,7 @@ module _ (file : Format) where
   -- what came where the device failed, or memory ran out, decides no fault
   pub undecided_there : (a b c : Option (List ℕ)) (records : List (List ℕ)) (before : Position) (fault : RecordFault) → HasRead file a b records before → (s : StopsAt b c before fault) → IsOfMachine fault.kind → IsCutAtMost file (magic_of file ++ (concat records ++ s.rest))
   undecided_there a b c records before fault h s (inl device) = elim (s.fails (λ memory. cc)) [
-    | inl f ↦ cut_off file records h.ordered h.apart (omega (arith, h.count_is, s.few)) s.rest (device_seen file (last_of [] records) (length records) s.rest fault.kind (next_there a b records before s.rest (seen_as fault.kind) h f) device)
+    | inl f ↦ cut_off file records h.ordered h.apart (omega (arith, h.count_is, s.few)) s.rest (rw device at (next_there a b records before s.rest (seen_as fault.kind) h f))
     | inr e ↦ absurd (cc (device, e.kind_is))
   ]
   undecided_there a b c records before fault h s (inr memory) = elim (s.wanted memory) [

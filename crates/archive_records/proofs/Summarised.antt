@@ -21,11 +21,11 @@ use Rattle.archive_core.proofs.Entries.{admission_entry, retirement_entry, lengt
 use Rattle.archive_core.proofs.Summaries.{member_of_entry}
 use Rattle.archive_records.specs.declared.entry.Entry.{Entry}
 use Rattle.archive_records.specs.Entry.{entry_bytes, IsEntry, AreEntries}
-use Rattle.archive_records.specs.declared.format.Format.TheVariants.{Archive}
+use Rattle.archive_records.specs.declared.format.Format.TheVariants.{Archive, Summary}
 use Rattle.archive_records.specs.Text.{InOrder}
 use Rattle.archive_records.specs.Reader.{AreListed}
 use Rattle.archive_records.proofs.Puts.{bytes_same}
-use Rattle.archive_records.proofs.Contents.{order, along, each, same_bytes, InOrder-listing}
+use Rattle.archive_records.proofs.Contents.{order, along, each, items_of, same_bytes, sorted-entries, InOrder-listing}
 
 -- the entry of a record
 tag_of : (r : List ℕ) → IsRecord r → (get_or (entry r) 0 0 ≡ 1) ⊎ (get_or (entry r) 0 0 ≡ 2)
@@ -111,6 +111,10 @@ module _ (gathered moved kept : List Entry) (permuted : IsPermutation gathered m
     ascending = sorted_bytes kept (subst (IsStrictlySortedBy (λ x y. order (entry_bytes x) (entry_bytes y))) (sym once) (IsStrictlySortedBy-dedup (on_total entry_bytes nat_list_cmp_total) (λ x y. refl) moved sorted));
     are = along IsEntry (map entry_bytes kept) (λ q e. AreEntries-listed (map entry_bytes gathered) all q (contains-from_list nat_list_cmp_total (map entry_bytes gathered) q ∙ sym (any_kept (eq_by_cmp order q)) ∙ e));
   }
+
+-- entries that ascend may be kept
+pub AreListed-ordered : (xs : List (List ℕ)) → InOrder Summary [] xs → AreListed xs
+AreListed-ordered xs a = record { ascending = (sorted-entries [] xs a).1; are = items_of Summary [] xs a }
 
 -- ---- the entries of a content
 

@@ -3,8 +3,7 @@ use Rattle.std.proofs.Common.{◌≡◌, ℕ, ◌<◌, ◌^◌, Bool, true, fals
 use Rattle.std.proofs.lemmas.List.{append-nil}
 use Rattle.std.specs.List.{concat}
 use Rattle.archive_core.specs.Content.{is_covered}
-use Rattle.archive_records.specs.declared.fault.RecordFaultKind.{RecordFaultKind}
-use Rattle.archive_records.specs.declared.fault.RecordFaultKind.TheVariants.{Truncated, Trailing, Device, OutOfMemory}
+use Rattle.archive_records.specs.declared.fault.RecordFaultKind.TheVariants.{Truncated, Trailing}
 use Rattle.archive_records.specs.declared.fault.RecordFault.{RecordFault}
 use Rattle.archive_records.specs.declared.format.Format.{Format}
 use Rattle.archive_records.specs.declared.format.Format.TheVariants.{Archive, Operations}
@@ -13,7 +12,7 @@ use Rattle.archive_records.specs.Text.{ending, InOrder, AreApart, last_of}
 use Rattle.archive_records.specs.Fault.{next, next_by, FailsNext, IsUnended, IsCutAtMost}
 use Rattle.archive_records.specs.Front.{IsGoodFront, front_length}
 use Rattle.archive_records.specs.Reading.{IsOfMachine}
-use Rattle.archive_records.specs.Reader.{set_of, KeepsIn, AreRetired, seen_as}
+use Rattle.archive_records.specs.Reader.{set_of, KeepsIn, AreRetired}
 use Rattle.archive_records.proofs.Framed.{framed-empty}
 use Rattle.archive_records.proofs.Puts.{concat-push}
 use Rattle.archive_records.proofs.Apart.{covered_alike, push_apart}
@@ -21,13 +20,6 @@ use Rattle.archive_records.proofs.Exact.{one_fault, no_fault}
 
 pub no_machine : IsOfMachine Trailing → ⊥
 no_machine e = grind arith
-
--- what stops for want of memory inside a record is seen as cut off
-pub memory_seen : (file : Format) (last : List ℕ) (count : ℕ) (bytes : List ℕ) (kind : RecordFaultKind) → FailsNext file last count bytes (seen_as kind) → kind ≡ OutOfMemory → FailsNext file last count bytes Truncated
-memory_seen file last count bytes kind f e = subst (λ (k : RecordFaultKind). FailsNext file last count bytes (seen_as k)) e f
-
-pub device_seen : (file : Format) (last : List ℕ) (count : ℕ) (bytes : List ℕ) (kind : RecordFaultKind) → FailsNext file last count bytes (seen_as kind) → kind ≡ Device → FailsNext file last count bytes Truncated
-device_seen file last count bytes kind f e = subst (λ (k : RecordFaultKind). FailsNext file last count bytes (seen_as k)) e f
 
 -- what is kept as it has to be is no fault
 pub kept_uncovered : (file : Format) (old new : List (List ℕ)) (dropped : Bool) (x : List ℕ) → KeepsIn file old new dropped x → file ≡ Archive → is_covered (set_of old) x ≡ false

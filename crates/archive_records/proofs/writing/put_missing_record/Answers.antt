@@ -1,4 +1,4 @@
-use Rattle.std.proofs.Common.{false, true, refl, sym, ap, arith, ◌∙◌}
+use Rattle.std.proofs.Common.{refl, sym, ap, arith, ◌∙◌}
 use Rattle.std.specs.FinSet as set
 use Rattle.byte_device.proofs.Known.{Appends-none}
 use Rattle.archive_core.specs.Record.{lent_bytes}

@@ -7,7 +7,7 @@ use Rattle.archive_records.proofs.FaultKinds.{cut_off, memory_blames}
 use Rattle.archive_records.proofs.Forms.{item-found}
 use Rattle.archive_records.proofs.FoundOut.{found_last, nothing_last}
 use Rattle.archive_records.proofs.Steps.{step_passes, step_refused, refused_blames}
-use Rattle.archive_records.proofs.Undecided.{memory_seen, kept_uncovered}
+use Rattle.archive_records.proofs.Undecided.{kept_uncovered}
 use Rattle.archive_records.proofs.reader.RecordReader.advance_beside.Goals as goal
 
 abbrev shared_of : Option (Bor (List (List ℕ))) → Option (List (List ℕ))
@@ -70,7 +70,7 @@ returns-in-Err g c =
         taken = c.read_next.ensures.taken;
         unended = c.in-Err.ensures.unended;
         fails = λ _. inl c.in-Err.ensures.fails;
-        wanted = λ memory. inl (memory_seen c.self.inside.file c.self.inside.buffer.bytes.items c.self.inside.count (bytes_so_far c.read_next.new.buffer) c.in-Err.kind c.in-Err.ensures.fails memory);
+        wanted = λ memory. inl (rw memory at c.in-Err.ensures.fails);
         offset_is = refl;
         few = c.self.invariant.0.few;
       },
