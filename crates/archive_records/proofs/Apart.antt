@@ -128,10 +128,6 @@ retired_none _ retired e = tt
 pub covered_alike : (o p : Operations) (x : List ℕ) → RetireAlike o p → is_covered o x ≡ is_covered p x
 covered_alike o p x alike = ap (λ b. is_admission x && b) (alike (key_and_digest x))
 
-pub apart_more : (file : Format) (old new records : List (List ℕ)) (dropped : Bool) (x : List ℕ) → InOrder file [] records → may_follow file (last_of [] records) x ≡ true → AreApart file records → AreRetired file old records → KeepsIn file old new dropped x → AreApart file (records ++ x ∷ [])
-apart_more Archive old new records dropped x a b is are k = push_apart records x a b is (sym (covered_alike (set_of old) (set_of records) x are) ∙ k.0.tells ∙ k.1)
-apart_more _ old new records dropped x a b is are k = tt
-
 -- what tells whether one record more is covered tells it of the last one
 drops_with : (old new records : List (List ℕ)) (dropped : Bool) (x : List ℕ) → RetireAlike (set_of old) (set_of records) → Keeps old new dropped x → dropped ≡ is_covered (set_of (records ++ x ∷ [])) (last_of [] (records ++ x ∷ []))
 drops_with old new records dropped x are k = sym k.tells ∙ covered_alike (set_of old) (set_of records) x are ∙ sym (covered_push records x) ∙ ap (λ (r : List ℕ). is_covered (set_of (records ++ x ∷ [])) r) (sym (last_of-push [] records x))

@@ -74,8 +74,7 @@ covered_behind Archive records rest kind f = takes_covered records rest f.1
 covered_behind _ records rest kind f = absurd f
 
 covered_kind : (file : Format) (records : List (List ℕ)) (rest : List ℕ) (kind : RecordFaultKind) → FailsBehind file records rest kind → kind ≡ Covered
-covered_kind Archive records rest kind f = f.0
-covered_kind _ records rest kind f = absurd f
+covered_kind file records rest kind f = grind arith
 
 -- and no good front goes on with it
 covered_stops : (file : Format) (records : List (List ℕ)) (rest : List ℕ) (kind : RecordFaultKind) → FailsBehind file records rest kind → Goes file records rest → ⊥

@@ -14,7 +14,7 @@ use Rattle.archive_core.proofs.Compare.{length_key_bytes}
 use Rattle.archive_core.proofs.Records.{length-key_of}
 use Rattle.archive_records.specs.declared.fault.RecordFaultKind.{RecordFaultKind}
 use Rattle.archive_records.specs.declared.fault.RecordFaultKind.TheVariants.{BadSlice, KeyMismatch}
-use Rattle.archive_records.specs.Layout.{head_length, slice_length, admission_body, body_length, framed}
+use Rattle.archive_records.specs.Layout.{head_length, slice_length, admission_body, body_length, framed, framed_behind}
 use Rattle.archive_records.specs.Kind.{IsItem, kind_of, admission_length}
 use Rattle.archive_records.specs.Entry.{IsEntry}
 use Rattle.archive_records.specs.Fault.{is_end, RefusesSlice, Refuses}
@@ -22,7 +22,7 @@ use Rattle.archive_records.specs.Reader.{IsFoundIn}
 use Rattle.archive_records.proofs.Formats.{framed_old}
 use Rattle.archive_records.proofs.Framed.{framed-whole}
 use Rattle.archive_core.proofs.Heads.{read_key}
-use Rattle.archive_records.proofs.Holds.{holds, done, body_one, body_two, whole-retirement, whole-admission}
+use Rattle.archive_records.proofs.Holds.{body_one, body_two, whole-retirement, whole-admission}
 use Rattle.archive_records.proofs.SliceFacts.{short_slice, no_slice_fault}
 use Rattle.archive_records.specs.declared.format.Format.{Format}
 use Rattle.archive_records.specs.declared.format.Format.TheVariants.{Archive, OldArchive, Operations, Summary}
@@ -211,16 +211,9 @@ refused_slice Summary bytes kind refused = absurd refused
 refused_slice _ bytes kind refused = refused
 
 -- whole records of operations are framed as in an archive
-same_head : (tag head : ℕ) → (tag ≡ 3 → ⊥) → head_length Operations tag ≡ Some head → head_length Archive tag ≡ Some head
-unfolding head_length
-same_head tag head other e = grind (arith, nat_tests)
-
 operations_framed : (bytes : List ℕ) → framed Operations bytes ≡ Ok (length bytes) → is_end bytes ≡ false → framed Archive bytes ≡ Ok (length bytes)
-unfolding is_end body_length
-operations_framed bytes whole no_end =
-    let h = holds Operations bytes (length bytes) whole in
-    let tag : head_length Archive (get_or bytes 0 0) ≡ Some h.head = same_head (get_or bytes 0 0) h.head (λ three. false≢true (sym no_end ∙ ap (λ (t : ℕ). eqb t 3) three)) h.tag in
-    framed-whole Archive bytes h.head h.one tag h.long h.small (omega (arith, h.is)) ∙ ap done (sym h.is)
+unfolding framed framed_behind head_length is_end body_length
+operations_framed bytes whole no_end = grind (arith, nat_tests)
 
 pub archive_framed : (file : Format) → (file ≡ Archive) ⊎ (file ≡ OldArchive) ⊎ (file ≡ Operations) → (bytes : List ℕ) → framed file bytes ≡ Ok (length bytes) → is_end bytes ≡ false → framed Archive bytes ≡ Ok (length bytes)
 archive_framed file (inl is) bytes whole no_end = rw is at whole

@@ -1,8 +1,9 @@
 -- What stands at the front of bytes, test by test.
-use Rattle.std.proofs.Common.{◌≡◌, ◌⊎◌, ℕ, ◌+◌, ◌<◌, ◌≤◌, false, List, ◌++◌, length, get_or, take, drop, Some, None, Ok, Err, refl, sym, ap, ◌∙◌, arith, inl, inr, length-append, length-drop, eq-eqb, eqb}
+use Rattle.std.proofs.Common.{◌≡◌, ◌⊎◌, ℕ, ◌+◌, ◌<◌, ◌≤◌, List, ◌++◌, length, get_or, take, drop, Some, None, Ok, Err, refl, sym, ap, ◌∙◌, arith, length-append, length-drop}
 use Rattle.std.proofs.lemmas.List.{get_or_append_left, drop-append-le, take-append-le}
 use Rattle.std.specs.Int.{w64, from_be_bytes}
-use Rattle.std.proofs.lemmas.Bool.{le-ltb, lt-ltb, eqb-true, cases_Bool}
+use Rattle.std.proofs.lemmas.Bool.Decides.{nat_tests}
+use Rattle.std.proofs.lemmas.Bool.{le-ltb, lt-ltb}
 use Rattle.archive_records.specs.declared.fault.RecordFaultKind.{RecordFaultKind}
 use Rattle.archive_records.specs.declared.fault.RecordFaultKind.TheVariants.{Truncated, BadTag, TooLarge}
 use Rattle.archive_records.specs.Layout.{head_length, admission_body, body_length, slice_length, largest_slice, framed, framed_behind}
@@ -13,14 +14,6 @@ use Rattle.archive_records.specs.declared.format.Format.TheVariants.{Archive, Ol
 
 pub same_tag : (bytes more : List ℕ) → 1 ≤ length bytes → get_or (bytes ++ more) 0 0 ≡ get_or bytes 0 0
 same_tag bytes more le = get_or_append_left bytes more 0 0 le
-
-body-is : (file : Format) (bytes : List ℕ) → get_or bytes 0 0 ≡ 2 → body_length file bytes ≡ admission_body file bytes
-unfolding body_length
-body-is file bytes e = rw (eq-eqb _ _ e) refl
-
-body-none : (file : Format) (bytes : List ℕ) → eqb (get_or bytes 0 0) 2 ≡ false → body_length file bytes ≡ 0
-unfolding body_length
-body-none file bytes e = rw e refl
 
 slice_kept : (bytes more : List ℕ) → 33 ≤ length bytes → slice_length (bytes ++ more) ≡ slice_length bytes
 unfolding slice_length
@@ -57,16 +50,11 @@ module _ (file : Format) where
   framed-whole bytes head le h long small le' = framed-tag bytes head le h ∙ rw (le-ltb _ _ long, le-ltb _ _ small, le-ltb _ _ le') refl
 
   pub same_body : (bytes more : List ℕ) (head : ℕ) → 1 ≤ length bytes → head_length file (get_or bytes 0 0) ≡ Some head → head ≤ length bytes → body_length file (bytes ++ more) ≡ body_length file bytes
-  unfolding head_length
+  unfolding head_length body_length
   same_body bytes more head le h long =
       let tag : get_or (bytes ++ more) 0 0 ≡ get_or bytes 0 0 = same_tag bytes more le in
-      elim (cases_Bool (eqb (get_or bytes 0 0) 2)) [
-        | inl same ↦
-            let two : get_or bytes 0 0 ≡ 2 = eqb-true _ _ same in
-            let whole : admission_length file ≡ head = cc (sym (ap (head_length file) two) ∙ h) in
-            body-is file (bytes ++ more) (tag ∙ two) ∙ admission_kept file bytes more (omega arith) ∙ sym (body-is file bytes two)
-        | inr other ↦ body-none file (bytes ++ more) (ap (λ (t : ℕ). eqb t 2) tag ∙ other) ∙ sym (body-none file bytes other)
-      ]
+      let kept : admission_length file ≤ length bytes → admission_body file (bytes ++ more) ≡ admission_body file bytes = admission_kept file bytes more in
+      grind (arith, nat_tests)
 
   -- a part of a record that came
 

@@ -27,12 +27,11 @@ operations_in low (r ∷ rs) h =
 -- of one list only
 pub one_list : (xs ys : List Operation) → All IsOperation xs → All IsOperation ys → map record_bytes xs ≡ map record_bytes ys → xs ≡ ys
 one_list [] [] p q e = refl
-one_list [] (y ∷ ys) p q e = absurd cc
-one_list (x ∷ xs) [] p q e = absurd cc
 one_list (x ∷ xs) (y ∷ ys) p q e =
     let head : record_bytes x ≡ record_bytes y = cc e in
     let tail : map record_bytes xs ≡ map record_bytes ys = cc e in
     cc (one_operation x y (All-head IsOperation x xs p) (All-head IsOperation y ys q) head, one_list xs ys (All-tail IsOperation x xs p) (All-tail IsOperation y ys q) tail)
+one_list _ _ p q e = absurd (cc e)
 
 -- ---- their text
 

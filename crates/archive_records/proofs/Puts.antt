@@ -148,7 +148,4 @@ length_one s r h = ap length (missing_one s r h)
 
 -- of one record at most one is missing
 pub few_missing : (s : Entries) (r : List ℕ) → length (missing s (r ∷ [])) ≤ 1
-few_missing s r = elim (set.contains s (entry r)) as (λ b. length (cond (not b) (r ∷ []) []) ≤ 1) [
-  | true ↦ omega arith
-  | false ↦ omega arith
-]
+few_missing s r = grind arith

@@ -15,7 +15,7 @@ use Rattle.archive_records.specs.Reading.{Blames, IsOfMachine}
 use Rattle.archive_records.specs.declared.next.NextRecord.{NextRecord}
 use Rattle.archive_records.specs.declared.next.NextRecord.TheVariants.{End, Item}
 use Rattle.archive_records.specs.Reader.{HoldsNext, IsStep, StepsTo, bytes_so_far, Position, set_of, RetireAlike, KeepsIn, AreRetired, IsCoveredThere, Passes, Finishes, StopsAt, HasWhole, HasRead, HasReadAll, Stopped, StoppedWith, IsEnded, seen_as}
-use Rattle.archive_records.proofs.Apart.{apart_more, retired_more, drops_more, covered_alike, last_of-push}
+use Rattle.archive_records.proofs.Apart.{retired_more, drops_more, covered_alike, last_of-push}
 use Rattle.archive_records.proofs.Puts.{concat-push}
 use Rattle.archive_records.specs.declared.buffer.Buffer.{Buffer}
 use Rattle.archive_records.proofs.Holds.{next-above, next-framed}
@@ -24,7 +24,7 @@ use Rattle.archive_records.proofs.Forms.{item-found, item-no_end}
 use Rattle.archive_records.proofs.Grown.{next-ok-grows}
 use Rattle.archive_records.proofs.Ends.{is_three, ending_is, ended_is, end-is_end, length-end_record, next_end, counted, counted_unended}
 use Rattle.archive_records.proofs.Longest.{is_end-grows}
-use Rattle.archive_records.proofs.Undecided.{no_machine, apart_whole, cut_text, cut_off, cut_behind}
+use Rattle.archive_records.proofs.Undecided.{no_machine, kept_uncovered, apart_whole, cut_text, cut_off, cut_behind}
 use Rattle.archive_records.specs.declared.format.Format.{Format}
 use Rattle.archive_records.specs.declared.format.Format.TheVariants.{Archive}
 
@@ -49,7 +49,7 @@ module _ (file : Format) where
         file_is = p.file_is ∙ h.file_is;
         taken = subst (λ (t : List ℕ). Consumes a c (magic_of file ++ t)) (sym (concat-push records bytes)) (taken_more a b c (magic_of file) (concat records) bytes h.taken p.taken);
         ordered = InOrder-push [] records bytes h.ordered (subst (λ (f : Format). IsItem f bytes) h.file_is p.item) follows;
-        apart = apart_more file before.retired after.retired records after.dropped bytes h.ordered follows h.apart h.retired_are kept;
+        apart = apart_whole file before.retired records bytes h.ordered follows h.apart h.retired_are (kept_uncovered file before.retired after.retired after.dropped bytes kept);
         last_is = sym (last_of-push [] records bytes);
         count_is = omega (arith, p.count_is, h.count_is, length-append records (bytes ∷ []));
         offset_is = omega (arith, p.offset_is, h.offset_is, ap length (concat-push records bytes), length-append (concat records) bytes);
