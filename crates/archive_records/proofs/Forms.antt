@@ -1,7 +1,7 @@
 -- A record as the bytes of a retirement or of an admission.
-use Rattle.std.proofs.Common.{◌≡◌, ℕ, suc, ◌+◌, ◌<◌, ◌≤◌, eqb, false, List, [], ◌∷◌, ◌++◌, ◌^◌, length, get_or, take, drop, Option, Some, None, Ok, refl, sym, ap, ◌∙◌, subst, arith, inl, inr, ◌⊎◌, length-append, length-drop}
+use Rattle.std.proofs.Common.{lit≤, ◌≡◌, ℕ, suc, ◌+◌, ◌<◌, ◌≤◌, false, List, [], ◌∷◌, ◌++◌, ◌^◌, length, get_or, take, drop, Option, Some, None, Ok, refl, sym, ap, ◌∙◌, subst, arith, inl, inr, ◌⊎◌, length-append, length-drop}
 use Rattle.std.proofs.lemmas.Bool.Decides.{nat_tests}
-use Rattle.std.proofs.lemmas.Bool.{cases_Bool, cases_lt, eqb-true, false≢true}
+use Rattle.std.proofs.lemmas.Bool.{cases_lt}
 use Rattle.std.proofs.lemmas.List.{take_all, take_at, drop_at, length-take, get_or-take, get_or-drop, get_or_past, take-append-drop, drop-drop}
 use Rattle.std.proofs.lemmas.Nat.{be_bytes_4, be_bytes_8, from_be_bytes-to_be_bytes_8}
 use Rattle.std.specs.Int.{w32, w64, from_be_bytes, to_be_bytes}
@@ -14,15 +14,14 @@ use Rattle.archive_core.proofs.Compare.{length_key_bytes}
 use Rattle.archive_core.proofs.Records.{length-key_of}
 use Rattle.archive_records.specs.declared.fault.RecordFaultKind.{RecordFaultKind}
 use Rattle.archive_records.specs.declared.fault.RecordFaultKind.TheVariants.{BadSlice, KeyMismatch}
-use Rattle.archive_records.specs.Layout.{head_length, slice_length, admission_body, body_length, framed, framed_behind}
+use Rattle.archive_records.specs.Layout.{head_length, slice_length, largest_slice, admission_body, body_length, framed, framed_behind}
 use Rattle.archive_records.specs.Kind.{IsItem, kind_of, admission_length}
 use Rattle.archive_records.specs.Entry.{IsEntry}
 use Rattle.archive_records.specs.Fault.{is_end, RefusesSlice, Refuses}
 use Rattle.archive_records.specs.Reader.{IsFoundIn}
-use Rattle.archive_records.proofs.Formats.{framed_old}
 use Rattle.archive_records.proofs.Framed.{framed-whole}
 use Rattle.archive_core.proofs.Heads.{read_key}
-use Rattle.archive_records.proofs.Holds.{body_one, body_two, whole-retirement, whole-admission}
+use Rattle.archive_records.proofs.Holds.{body_one, body_two, whole-retirement}
 use Rattle.archive_records.proofs.SliceFacts.{short_slice, no_slice_fault}
 use Rattle.archive_records.specs.declared.format.Format.{Format}
 use Rattle.archive_records.specs.declared.format.Format.TheVariants.{Archive, OldArchive, Operations, Summary}
@@ -89,15 +88,12 @@ unfolding is_end
 record-item r (inl a) = rw (parts-of r a).tag refl
 record-item r (inr t) = rw (parts-retires r t).tag refl
 
-one_two : (r : List ℕ) → Retires r → get_or r 0 0 ≡ 2 → ⊥
-one_two r t two = omega (arith, (parts-retires r t).tag)
-
 -- its slice is not refused
 record-slice : (r : List ℕ) (kind : RecordFaultKind) → IsRecord r → RefusesSlice r kind → ⊥
 record-slice r (BadSlice fault) (inl a) f = no_slice_fault a.slice fault a.valid (rw (parts-of r a).slice_is at f.1)
-record-slice r (BadSlice fault) (inr t) f = one_two r t f.0
+record-slice r (BadSlice fault) (inr t) f = omega (arith, (parts-retires r t).tag, f.0)
 record-slice r KeyMismatch (inl a) f = let p = parts-of r a in f.2 (p.key ∙ ap (λ (s : List ℕ). key_bytes (key_of s)) (sym p.slice_is))
-record-slice r KeyMismatch (inr t) f = one_two r t f.0
+record-slice r KeyMismatch (inr t) f = omega (arith, (parts-retires r t).tag, f.0)
 record-slice r _ i f = f
 
 -- whole bytes with an admission's tag, a slice and its key are an admission's record
@@ -150,47 +146,33 @@ admitted_valid bytes a = subst IsValid (sym (parts-of bytes a).slice_is) a.valid
 pub admitted_is : (bytes slice : List ℕ) → Admits bytes → slice ≡ drop 33 bytes → admission_record slice ≡ bytes
 admitted_is bytes slice a e = ap admission_record (e ∙ (parts-of bytes a).slice_is) ∙ sym a.is
 
+item_whole : (file : Format) (item : List ℕ) (head body : ℕ) → head_length file (get_or item 0 0) ≡ Some head → body_length file item ≡ body → length item ≡ head + body → 1 ≤ head → body ≤ largest_slice → framed file item ≡ Ok (length item)
+item_whole file item head body tag is long one small = framed-whole file item head (omega arith) tag (omega arith) (omega arith) (omega arith) ∙ ap (λ (n : ℕ). Ok n) (omega arith)
+
 -- a record is whole where its slice stands behind an admission's head
-module _ (file : Format) (head : admission_length file ≡ 33) (behind : (bytes : List ℕ) → admission_body file bytes ≡ slice_length bytes) where
-  record-framed : (r : List ℕ) → IsRecord r → framed file r ≡ Ok (length r)
-  unfolding head_length
-  record-framed r (inl a) =
-      let p = parts-of r a in
-      let long = p.long in
-      let body : body_length file r ≡ length a.slice = body_two file r p.tag ∙ behind r ∙ p.number in
-      let short = short_slice a.slice a.valid in
-      framed-whole file r 33 (omega arith) (ap (head_length file) p.tag ∙ ap (λ (n : ℕ). Some n) head) (omega arith) (omega (arith, body)) (omega (arith, body)) ∙ ap (λ (n : ℕ). Ok n) (omega (arith, body))
-  record-framed r (inr t) =
-      let p = parts-retires r t in
-      let long = p.long in
-      let body : body_length file r ≡ 0 = body_one file r p.tag in
-      framed-whole file r 57 (omega arith) (ap (head_length file) p.tag) (omega arith) (omega (arith, body)) (omega (arith, body)) ∙ ap (λ (n : ℕ). Ok n) (omega (arith, body))
+record-framed : (file : Format) → admission_length file ≡ 33 → ((bytes : List ℕ) → admission_body file bytes ≡ slice_length bytes) → (r : List ℕ) → IsRecord r → framed file r ≡ Ok (length r)
+unfolding head_length
+record-framed file head behind r (inl a) =
+    let p = parts-of r a in
+    let short = short_slice a.slice a.valid in
+    item_whole file r 33 (length a.slice) (ap (head_length file) p.tag ∙ ap (λ (n : ℕ). Some n) head) (body_two file r p.tag ∙ behind r ∙ p.number) p.long (lit≤ tt) (omega arith)
+record-framed file head behind r (inr t) =
+    let p = parts-retires r t in
+    item_whole file r 57 0 (ap (head_length file) p.tag) (body_one file r p.tag) p.long (lit≤ tt) (lit≤ tt)
 
 -- an entry is whole, and no end record
-by_tag-framed : (item : List ℕ) (tag : ℕ) → get_or item 0 0 ≡ tag → head_length Summary tag ≡ Some 57 → body_length Summary item ≡ 0 → length item ≡ 57 → framed Summary item ≡ Ok (length item)
-by_tag-framed item tag is head body long =
-    framed-whole Summary item 57 (omega arith) (ap (head_length Summary) is ∙ head) (omega arith) (omega (arith, body)) (omega (arith, body)) ∙ ap (λ (n : ℕ). Ok n) (omega (arith, body))
-
 pub entry-framed : (item : List ℕ) → IsEntry item → framed Summary item ≡ Ok (length item)
-unfolding head_length
-entry-framed item is = elim is.tag [
-  | inl one ↦ by_tag-framed item 1 one refl (body_one Summary item one) is.long
-  | inr two ↦ by_tag-framed item 2 two refl (body_two Summary item two) is.long
-]
+unfolding framed framed_behind head_length body_length
+entry-framed item is = grind (arith, nat_tests)
 
 entry-no_end : (item : List ℕ) → IsEntry item → is_end item ≡ false
 unfolding is_end
-entry-no_end item is = elim is.tag [ inl one ↦ rw one refl | inr two ↦ rw two refl ]
+entry-no_end item is = grind (arith, nat_tests)
 
 -- whole bytes of a summary that are no end record are an entry
 pub entry-of : (bytes : List ℕ) → framed Summary bytes ≡ Ok (length bytes) → is_end bytes ≡ false → IsEntry bytes
-entry-of bytes whole no_end =
-    elim (cases_Bool (eqb (get_or bytes 0 0) 1)) [
-      | inl one ↦ let tag = eqb-true _ _ one in record { tag = inl tag; long = whole-retirement Summary bytes whole tag }
-      | inr other ↦
-          let form = whole-admission Summary bytes whole no_end (λ tag. false≢true (sym other ∙ ap (λ (x : ℕ). eqb x 1) tag)) in
-          record { tag = inr form.0; long = omega (arith, form.1) }
-    ]
+unfolding framed framed_behind head_length is_end body_length
+entry-of bytes whole no_end = grind (arith, nat_tests)
 
 -- an item is whole, is no end record, and is not refused for what it holds
 pub item-framed : (file : Format) (item : List ℕ) → IsItem file item → framed file item ≡ Ok (length item)
@@ -210,15 +192,10 @@ pub refused_slice : (file : Format) (bytes : List ℕ) (kind : RecordFaultKind) 
 refused_slice Summary bytes kind refused = absurd refused
 refused_slice _ bytes kind refused = refused
 
--- whole records of operations are framed as in an archive
-operations_framed : (bytes : List ℕ) → framed Operations bytes ≡ Ok (length bytes) → is_end bytes ≡ false → framed Archive bytes ≡ Ok (length bytes)
-unfolding framed framed_behind head_length is_end body_length
-operations_framed bytes whole no_end = grind (arith, nat_tests)
-
+-- whole records of operations are framed as in an archive, of either version
 pub archive_framed : (file : Format) → (file ≡ Archive) ⊎ (file ≡ OldArchive) ⊎ (file ≡ Operations) → (bytes : List ℕ) → framed file bytes ≡ Ok (length bytes) → is_end bytes ≡ false → framed Archive bytes ≡ Ok (length bytes)
-archive_framed file (inl is) bytes whole no_end = rw is at whole
-archive_framed file (inr (inl is)) bytes whole no_end = sym (framed_old bytes) ∙ rw is at whole
-archive_framed file (inr (inr is)) bytes whole no_end = operations_framed bytes (rw is at whole) no_end
+unfolding framed framed_behind head_length is_end body_length
+archive_framed file is bytes whole no_end = grind (arith, nat_tests)
 
 -- whole bytes with a retirement's tag are a retirement's record
 retires_with : (bytes : List ℕ) (key : SliceKey) → framed Archive bytes ≡ Ok (length bytes) → get_or bytes 0 0 ≡ 1 → key_bytes key ≡ take 24 (drop 1 bytes) → IsKey key → Retires bytes
