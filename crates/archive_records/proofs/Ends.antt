@@ -52,12 +52,9 @@ counted_unended Operations end rest = absurd (cc end)
 counted_unended _ end rest = tt
 
 -- an operations file has none
-no_tag : (tag head : ℕ) → tag ≡ 3 → head_length Operations tag ≡ Some head → ⊥
-unfolding head_length
-no_tag tag head three e = grind (arith, nat_tests)
-
 pub no_end : (bytes : List ℕ) (n : ℕ) → framed Operations bytes ≡ Ok n → get_or bytes 0 0 ≡ 3 → ⊥
-no_end bytes n e three = let h = holds Operations bytes n e in no_tag (get_or bytes 0 0) h.head three h.tag
+unfolding head_length
+no_end bytes n e three = let tag = (holds Operations bytes n e).tag in grind (arith, nat_tests)
 
 is_end_record : (bytes : List ℕ) (count : ℕ) → length bytes ≡ 9 → get_or bytes 0 0 ≡ 3 → record_count bytes ≡ count → IsBytes bytes → bytes ≡ end_record count
 unfolding record_count end_record

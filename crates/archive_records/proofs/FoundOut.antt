@@ -1,6 +1,7 @@
 -- What the retirements that were read say of a record, and what was found out of it.
-use Rattle.std.proofs.Common.{◌≡◌, ℕ, Bool, true, false, ◌&&◌, ◌||◌, List, [], ◌∷◌, length, get_or, drop, sym, ap, subst, ◌∙◌, arith, inl, inr}
-use Rattle.std.proofs.lemmas.Bool.{false≢true, eqb-true}
+use Rattle.std.proofs.Common.{◌≡◌, ℕ, Bool, true, false, ◌||◌, List, [], ◌∷◌, length, get_or, drop, sym, ap, subst, ◌∙◌, arith, inl, inr}
+use Rattle.std.proofs.lemmas.Bool.Decides.{nat_tests}
+use Rattle.std.proofs.lemmas.Bool.{false≢true}
 use Rattle.sha2.specs.Sha256.{sha256}
 use Rattle.std.specs.Prelude.{is_some}
 use Rattle.std.specs.Cmp.Lexicographic.{nat_list_cmp_total}
@@ -9,7 +10,7 @@ use Rattle.std.specs.Prelude.{Option, None, Some}
 use Rattle.macho_image.proofs.Told.{has_header}
 use Rattle.archive_core.specs.declared.slices.SliceFacts.{SliceFacts}
 use Rattle.archive_core.specs.Valid.{IsValid, key_of}
-use Rattle.archive_core.specs.Content.{is_admission, covering, is_covered}
+use Rattle.archive_core.specs.Content.{is_covered}
 use Rattle.archive_core.specs.Record.{IsRecord, Admits, Retires, retirement_record}
 use Rattle.archive_core.proofs.Words.{covered_slice}
 use Rattle.archive_records.specs.declared.format.Format.{Format}
@@ -22,12 +23,9 @@ use Rattle.archive_records.proofs.Contents.{same_bytes}
 use Rattle.archive_records.proofs.KeptRecords.{long_record}
 use Rattle.archive_records.proofs.Apart.{is_false, same_as}
 
-no_admission : (x : List ℕ) → get_or x 0 0 ≡ 1 → is_admission x ≡ false
-no_admission x e = is_false (is_admission x) (λ a. absurd (omega (arith, e, eqb-true (get_or x 0 0) 2 a)))
-
 -- a retirement is not covered
 pub uncovered_retirement : (old : List (List ℕ)) (x : List ℕ) → get_or x 0 0 ≡ 1 → is_covered (set_of old) x ≡ false
-uncovered_retirement old x tag = ap (λ b. b && contains (set_of old) (covering x)) (no_admission x tag)
+uncovered_retirement old x tag = grind (arith, nat_tests)
 
 -- an admission is covered where the retirement of its slice is there
 pub covered_admission : (old : List (List ℕ)) (bytes slice : List ℕ) → Admits bytes → slice ≡ drop 33 bytes → contains (set_of old) (retirement_record (key_of slice) (sha256 slice)) ≡ is_covered (set_of old) bytes

@@ -154,20 +154,6 @@ step_to file last count left buffer (Item found) h = record {
   follows = next-follows file last count (bytes_so_far buffer) h.0.is_next (item-found file (bytes_so_far buffer) found h.1);
 }
 
--- a step, by what it read over the last record
-pub step_passes : (a b : Option (List ℕ)) (before after : Position) (bytes : List ℕ) → after.last ≡ bytes → Consumes a b bytes → IsItem before.file bytes → may_follow before.file before.last bytes ≡ true
-    → after.file ≡ before.file → after.count ≡ before.count + 1 → after.offset ≡ before.offset + length after.last → after.count < 2 ^ 63 → KeepsIn before.file before.retired after.retired after.dropped bytes → Passes a b before after
-step_passes a b before after bytes is taken item follows file count offset few kept = record {
-  taken = subst (Consumes a b) (sym is) taken;
-  item = subst (IsItem before.file) (sym is) item;
-  follows = subst (λ (t : List ℕ). may_follow before.file before.last t ≡ true) (sym is) follows;
-  file_is = file;
-  count_is = count;
-  offset_is = offset;
-  few = few;
-  kept = subst (KeepsIn before.file before.retired after.retired after.dropped) (sym is) kept;
-}
-
 -- why an item is refused by the retirements before it
 abbrev pub IsRefusedBy : Position → List ℕ → RecordFaultKind → Type 0
 IsRefusedBy before bytes kind = ((kind ≡ OutOfMemory) × (is_covered (set_of before.retired) bytes ≡ false)) ⊎ ((kind ≡ Covered) × (before.file ≡ Archive) × (is_covered (set_of before.retired) bytes ≡ true))

@@ -1,5 +1,5 @@
 -- What was taken decides no fault.
-use Rattle.std.proofs.Common.{◌≡◌, ℕ, ◌<◌, ◌^◌, Bool, true, false, List, [], ◌∷◌, ◌++◌, length, Err, refl, sym, ap, ◌∙◌, subst, arith, inl, inr, ◌⊎◌, length-append, lit≤}
+use Rattle.std.proofs.Common.{◌≡◌, ℕ, ◌<◌, ◌^◌, Bool, true, false, List, [], ◌∷◌, ◌++◌, length, refl, sym, ap, ◌∙◌, subst, arith, inl, inr, ◌⊎◌, length-append}
 use Rattle.std.proofs.lemmas.List.{append-nil}
 use Rattle.std.specs.List.{concat}
 use Rattle.archive_core.specs.Content.{is_covered}
@@ -9,11 +9,11 @@ use Rattle.archive_records.specs.declared.format.Format.{Format}
 use Rattle.archive_records.specs.declared.format.Format.TheVariants.{Archive, Operations}
 use Rattle.archive_records.specs.Kind.{magic_of, may_follow}
 use Rattle.archive_records.specs.Text.{ending, InOrder, AreApart, last_of}
-use Rattle.archive_records.specs.Fault.{next, next_by, FailsNext, IsUnended, IsCutAtMost}
+use Rattle.archive_records.specs.Fault.{next, FailsNext, IsUnended, IsCutAtMost}
 use Rattle.archive_records.specs.Front.{IsGoodFront, front_length}
 use Rattle.archive_records.specs.Reading.{IsOfMachine}
 use Rattle.archive_records.specs.Reader.{set_of, KeepsIn, AreRetired}
-use Rattle.archive_records.proofs.Framed.{framed-empty}
+use Rattle.archive_records.specs.Layout.{framed}
 use Rattle.archive_records.proofs.Puts.{concat-push}
 use Rattle.archive_records.proofs.Apart.{covered_alike, push_apart}
 use Rattle.archive_records.proofs.Exact.{one_fault, no_fault}
@@ -37,10 +37,6 @@ ended_or_not Operations n [] = inl refl
 ended_or_not Operations n (x ∷ rest) = inr (λ e. cc)
 ended_or_not _ n rest = inr tt
 
-nothing_more : (file : Format) (low : List ℕ) (count : ℕ) → next file low count [] ≡ Err Truncated
-unfolding next
-nothing_more file low count = ap (λ r. next_by file r low count []) (framed-empty file [] (lit≤ tt))
-
 module _ (file : Format) (records : List (List ℕ)) (ordered : InOrder file [] records) (apart : AreApart file records) (few : length records < 2 ^ 64) where
   -- a text has no fault
   pub cut_text : (rest : List ℕ) → rest ≡ ending file (length records) → IsCutAtMost file (magic_of file ++ (concat records ++ rest))
@@ -59,7 +55,8 @@ module _ (file : Format) (records : List (List ℕ)) (ordered : InOrder file [] 
 
 -- nor has it another where a whole item came that may stand there
 pub cut_behind : (file : Format) (records : List (List ℕ)) (item : List ℕ) → InOrder file [] (records ++ item ∷ []) → AreApart file (records ++ item ∷ []) → length records < 2 ^ 63 → IsCutAtMost file (magic_of file ++ (concat records ++ item))
+unfolding next framed
 cut_behind file records item ordered apart few =
     let same : concat (records ++ item ∷ []) ++ [] ≡ concat records ++ item = append-nil (concat (records ++ item ∷ [])) ∙ concat-push records item in
     subst (λ (t : List ℕ). IsCutAtMost file (magic_of file ++ t)) same
-    (cut_off file (records ++ item ∷ []) ordered apart (omega (arith, few, length-append records (item ∷ []))) [] (inl (nothing_more file (last_of [] (records ++ item ∷ [])) (length (records ++ item ∷ [])))))
+    (cut_off file (records ++ item ∷ []) ordered apart (omega (arith, few, length-append records (item ∷ []))) [] (inl refl))
