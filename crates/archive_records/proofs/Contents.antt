@@ -28,11 +28,6 @@ use Rattle.archive_records.specs.declared.format.Format.TheVariants.{Archive, Su
 abbrev pub order : List ℕ → List ℕ → Ordering
 order = slice_cmp nat_cmp
 
--- in each file with an end record items ascend
-ascends : (file : Format) → end_length file ≡ Some 9 → (o : Ordering) → allows file o ≡ is_lt o
-unfolding allows
-ascends file end o = grind arith
-
 all_below : (low x : List ℕ) (xs : List (List ℕ)) → order low x ≡ Less → AllByRecursion (λ y. order x y ≡ Less) xs → AllByRecursion (λ y. order low y ≡ Less) xs
 all_below low x [] e h = tt
 all_below low x (y ∷ ys) e h = (nat_list_cmp_total.trans low x y e h.0, all_below low x ys e h.1)
@@ -63,12 +58,12 @@ items_of file low (x ∷ xs) a = (a.0, items_of file x xs a.2)
 -- a file whose items ascend
 module _ (file : Format) (end : end_length file ≡ Some 9) where
   below_is : (a b : List ℕ) → may_follow file a b ≡ true → order a b ≡ Less
-  unfolding may_follow
-  below_is a b e = let lt = ascends file end (order a b) in grind arith
+  unfolding may_follow allows
+  below_is a b e = grind arith
 
   is_below : (a b : List ℕ) → order a b ≡ Less → may_follow file a b ≡ true
-  unfolding may_follow
-  is_below a b e = ascends file end (order a b) ∙ ap is_lt e
+  unfolding may_follow allows
+  is_below a b e = grind arith
 
   -- items that ascend are strictly sorted, and above what they are above
   sorted_items : (low : List ℕ) (xs : List (List ℕ)) → InOrder file low xs → AllByRecursion (λ y. order low y ≡ Less) xs × IsStrictlySortedBy order xs

@@ -1,5 +1,5 @@
 -- Each text has one content, or one fault.
-use Rattle.std.proofs.Common.{◌≡◌, ◌≢◌, ℕ, ◌<◌, ◌≤◌, ◌^◌, true, List, [], ◌∷◌, ◌++◌, length, get_or, take, drop, refl, sym, ap, ◌∙◌, subst, arith, inl, inr, append_assoc, length-append, lit≤}
+use Rattle.std.proofs.Common.{◌≡◌, ◌≢◌, ℕ, ◌<◌, ◌≤◌, ◌^◌, true, List, [], ◌∷◌, ◌++◌, length, Ok, get_or, take, drop, refl, sym, ap, ◌∙◌, subst, arith, inl, inr, append_assoc, length-append, lit≤}
 use Rattle.std.proofs.lemmas.List.{append-nil, take-append-le, append_cancel_left, take-take, get_or-take}
 use Rattle.std.specs.List.{concat}
 use Rattle.archive_records.specs.declared.fault.RecordFaultKind.{RecordFaultKind}
@@ -7,7 +7,7 @@ use Rattle.archive_records.specs.declared.fault.RecordFaultKind.TheVariants.{Bad
 use Rattle.archive_records.specs.declared.fault.RecordFault.{RecordFault}
 use Rattle.archive_records.specs.Kind.{magic_of}
 use Rattle.archive_records.specs.Text.{end_record, ending, text_of, InOrder, AreApart, last_of}
-use Rattle.archive_records.specs.Fault.{is_end, FailsNext, IsCoveredNext, FailsBehind, Fails, IsTrailing, RefusesSlice, Refuses, IsMagicFault, IsUnended, IsFaultBehind, IsFaultOf}
+use Rattle.archive_records.specs.Fault.{is_end, next, FailsNext, IsCoveredNext, FailsBehind, Fails, IsTrailing, RefusesSlice, Refuses, IsMagicFault, IsUnended, IsFaultBehind, IsFaultOf}
 use Rattle.archive_records.specs.Front.{IsGoodFront, IsLongestFront}
 use Rattle.archive_records.proofs.SliceFacts.{no_slice_fault, one_slice_fault}
 use Rattle.archive_records.proofs.Formats.{length-magic}
@@ -22,9 +22,7 @@ use Rattle.archive_records.specs.declared.format.Format.TheVariants.{Archive, Op
 
 -- a refused slice is an admission's
 refused_tag : (r : List ℕ) (kind : RecordFaultKind) → RefusesSlice r kind → get_or r 0 0 ≡ 2
-refused_tag r (BadSlice fault) f = f.0
-refused_tag r KeyMismatch f = f.0
-refused_tag r _ f = absurd f
+refused_tag r kind f = grind arith
 
 one_refusal : (r : List ℕ) (j k : RecordFaultKind) → RefusesSlice r j → RefusesSlice r k → j ≡ k
 one_refusal r (BadSlice f) (BadSlice g) a b = let e = one_slice_fault (drop 33 r) f g a.1 b.1 in λ i. BadSlice (e i)
@@ -56,14 +54,18 @@ ending_stops : (file : Format) (low : List ℕ) (n : ℕ) (more : List ℕ) → 
 ending_stops Operations_file low n more alone t = nothing_taken Operations_file low (subst (Takes Operations_file low) (alone refl) t)
 ending_stops file low n more alone t = end-stops file low (end_record n ++ more) (end_more n more) t
 
+-- where an end record stands no test fails
+end_fails : (file : Format) (low : List ℕ) (count : ℕ) (rest : List ℕ) (kind : RecordFaultKind) → next file low count rest ≡ Ok 9 → is_end rest ≡ true → FailsNext file low count rest kind → ⊥
+end_fails file low count rest kind whole end (inl e) = no_both 9 kind (sym whole ∙ e)
+end_fails file low count rest kind whole end (inr f) =
+    let nine : f.0 ≡ 9 = cc (f.1, whole) in
+    let two = refused_tag (take f.0 rest) kind (refused_slice file (take f.0 rest) kind f.2) in
+    let same : get_or (take f.0 rest) 0 0 ≡ get_or rest 0 0 = get_or-take f.0 rest 0 0 (omega arith) in
+    omega (arith, is_three rest end)
+
 no_fails : (file : Format) (low : List ℕ) (n : ℕ) (more : List ℕ) (kind : RecordFaultKind) → (file ≢ Operations_file → n < 2 ^ 64) → (file ≡ Operations_file → more ≡ []) → IsUnended file (ending file n ++ more) → FailsNext file low n (ending file n ++ more) kind → ⊥
 no_fails Operations_file low n more kind few alone unended f = unended (alone refl)
-no_fails file low n more kind few alone unended (inl e) = no_both 9 kind (sym (next-ok-grows file low n (end_record n) more 9 (next_end file refl low n (few (λ h. cc)))) ∙ e)
-no_fails file low n more kind few alone unended (inr f) =
-    let nine : f.0 ≡ 9 = cc (f.1, next-ok-grows file low n (end_record n) more 9 (next_end file refl low n (few (λ h. cc)))) in
-    let two = refused_tag (take f.0 (end_record n ++ more)) kind (refused_slice file (take f.0 (end_record n ++ more)) kind f.2) in
-    let same : get_or (take f.0 (end_record n ++ more)) 0 0 ≡ get_or (end_record n ++ more) 0 0 = get_or-take f.0 (end_record n ++ more) 0 0 (omega arith) in
-    omega (arith, is_three (end_record n ++ more) (end_more n more))
+no_fails file low n more kind few alone unended f = end_fails file low n (end_record n ++ more) kind (next-ok-grows file low n (end_record n) more 9 (next_end file refl low n (few (λ h. cc)))) (end_more n more) f
 
 -- what is covered stands there
 takes_covered : (records : List (List ℕ)) (rest : List ℕ) → IsCoveredNext records rest → Takes Archive (last_of [] records) rest
@@ -123,14 +125,6 @@ module _ (file : Format) where
       let n : a.0 ≡ b.0 = cc (a.1, b.1) in
       one_refusal (take b.0 rest) j k (refused_slice file (take b.0 rest) j (subst (λ (m : ℕ). Refuses file (take m rest) j) n a.2)) (refused_slice file (take b.0 rest) k b.2)
 
-  no_fault_and_more : (last : List ℕ) (count : ℕ) (rest : List ℕ) (kind : RecordFaultKind) → FailsNext file last count rest kind → IsTrailing file last count rest → ⊥
-  no_fault_and_more last count rest kind (inl a) t = no_both 9 kind (sym t.whole ∙ a)
-  no_fault_and_more last count rest kind (inr a) t =
-      let nine : a.0 ≡ 9 = cc (a.1, t.whole) in
-      let two = refused_tag (take a.0 rest) kind (refused_slice file (take a.0 rest) kind a.2) in
-      let same : get_or (take a.0 rest) 0 0 ≡ get_or rest 0 0 = get_or-take a.0 rest 0 0 (omega arith) in
-      omega (arith, is_three rest t.end)
-
   same_fails : (records : List (List ℕ)) (rest : List ℕ) (j k : RecordFaultKind) → Fails file records rest j → Fails file records rest k → j ≡ k
   same_fails records rest j k (inl a) (inl b) = same_kind (last_of [] records) (length records) rest j k a b
   same_fails records rest j k (inl a) (inr b) = absurd (fault-stops file (last_of [] records) (length records) rest j a (covered_behind file records rest k b))
@@ -138,7 +132,7 @@ module _ (file : Format) where
   same_fails records rest j k (inr a) (inr b) = covered_kind file records rest j a ∙ sym (covered_kind file records rest k b)
 
   fails_and_more : (records : List (List ℕ)) (rest : List ℕ) (kind : RecordFaultKind) → Fails file records rest kind → IsTrailing file (last_of [] records) (length records) rest → ⊥
-  fails_and_more records rest kind (inl a) t = no_fault_and_more (last_of [] records) (length records) rest kind a t
+  fails_and_more records rest kind (inl a) t = end_fails file (last_of [] records) (length records) rest kind t.whole t.end a
   fails_and_more records rest kind (inr a) t = end-stops file (last_of [] records) rest t.end (covered_behind file records rest kind a)
 
   one_behind : (records : List (List ℕ)) (rest : List ℕ) (f g : RecordFault) → IsFaultBehind file records rest f → IsFaultBehind file records rest g → f ≡ g

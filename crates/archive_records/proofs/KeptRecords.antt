@@ -4,6 +4,7 @@ use Rattle.std.proofs.lemmas.Bool.{false≢true}
 use Rattle.std.proofs.lemmas.List.{append-nil}
 use Rattle.std.proofs.lemmas.List.Elements.{Contains-append_left, Contains-append_cases, filter-append}
 use Rattle.std.specs.List.{Contains, filter}
+use Rattle.std.specs.FinSet.{contains}
 use Rattle.archive_core.specs.Content.{is_admission, covering, is_covered}
 use Rattle.archive_core.specs.Record.{IsRecord}
 use Rattle.archive_core.proofs.Members.{in_filter}
@@ -12,7 +13,7 @@ use Rattle.archive_records.specs.Kind.{may_follow}
 use Rattle.archive_records.specs.Text.{InOrder, last_of, kept}
 use Rattle.archive_records.specs.Reader.{set_of}
 use Rattle.archive_records.proofs.Forms.{long-retirement, long-admission}
-use Rattle.archive_records.proofs.Apart.{in_set, from_set, and_first, and_second, both_true, one_test, covering_below}
+use Rattle.archive_records.proofs.Apart.{in_set, from_set, and_same, one_test, covering_below}
 use Rattle.archive_records.proofs.Ascending.{below-trans, all_above, up_to_last, InOrder-behind, InOrder-front, here, later}
 
 -- ---- filters
@@ -40,12 +41,12 @@ from_kept out z c = (in_filter (free_in out) out z c).0
 -- what stands behind covers none of them
 module _ (out more : List (List ℕ)) (a : InOrder Archive [] (out ++ more)) (o : InOrder Archive [] out) where
   covers_alike : (r : List ℕ) → Contains out r → is_covered (set_of (out ++ more)) r ≡ is_covered (set_of out) r
-  covers_alike r c = one_test (is_covered (set_of (out ++ more)) r) (is_covered (set_of out) r)
-      (λ h. both_true (is_admission r) _ (and_first _ _ h) (elim (Contains-append_cases out more (covering r) (from_set (out ++ more) (covering r) (and_second _ _ h))) [
+  covers_alike r c = and_same (is_admission r) (contains (set_of (out ++ more)) (covering r)) (contains (set_of out) (covering r)) (λ a'. one_test (contains (set_of (out ++ more)) (covering r)) (contains (set_of out) (covering r))
+      (λ h. elim (Contains-append_cases out more (covering r) (from_set (out ++ more) (covering r) h)) [
         | inl d ↦ in_set out (covering r) d
-        | inr d ↦ absurd (false≢true (sym (up_to_last [] r out o c) ∙ below-trans (last_of [] out) (covering r) r (all_above (last_of [] out) (covering r) more (InOrder-behind [] out more a) d) (covering_below r (and_first _ _ h))))
-      ]))
-      (λ h. both_true (is_admission r) _ (and_first _ _ h) (in_set (out ++ more) (covering r) (Contains-append_left out more (covering r) (from_set out (covering r) (and_second _ _ h)))))
+        | inr d ↦ absurd (false≢true (sym (up_to_last [] r out o c) ∙ below-trans (last_of [] out) (covering r) r (all_above (last_of [] out) (covering r) more (InOrder-behind [] out more a) d) (covering_below r a')))
+      ])
+      (λ h. in_set (out ++ more) (covering r) (Contains-append_left out more (covering r) (from_set out (covering r) h))))
 
   abbrev pub behind : List (List ℕ)
   behind = filter (free_in (out ++ more)) more

@@ -30,16 +30,10 @@ putting-preserved g c =
       put = missing_puts s xs c.putting.i _ lt c.record_at.ensures _ _ _ _ _ _ _ (Ok c.in_ok-sizes.sizes) c.putting.invariant.put c.in_ok-sizes.ensures.puts;
     }
 
-pub returns-clause-puts : goal.returns-clause-puts
-returns-clause-puts g c =
+pub returns : goal.returns
+returns g c =
     let xs = listing (g.A.Join.content c.args.archive.now) in
     let all : take c.putting.i xs ≡ xs = take_all c.putting.i xs (omega (arith, length_written (g.A.Join.content c.args.archive.now), c.len-i-end.ensures.len, c.putting-test.false)) in
     let put = c.putting.invariant.put in
-    rw all at put
-
-pub returns-clause-records : goal.returns-clause-records
-returns-clause-records g c =
-    let xs = listing (g.A.Join.content c.args.archive.now) in
-    let all : take c.putting.i xs ≡ xs = take_all c.putting.i xs (omega (arith, length_written (g.A.Join.content c.args.archive.now), c.len-i-end.ensures.len, c.putting-test.false)) in
     let count = c.putting.invariant.count in
-    rw all at count
+    record { puts = rw all at put; records = rw all at count; short = omega arith }
